@@ -1,0 +1,17 @@
+use Rattle.std.proofs.Common.{◌≡◌, ◌∙◌, ap, ap₂, codes, true}
+use Rattle.std.proofs.lemmas.Result.{IfOk-weaker}
+use Rattle.clap.specs.Words.{App, app_of, new_app, with_subcommand}
+use Rattle.clap.specs.Simple.{app_of_fields, on_top}
+use Rattle.cli.specs.CommandLine as line
+use Rattle.cli.proofs.arguments.command.Goals as goal
+
+pub returns : goal.returns
+returns c =
+    let named : app_of c.about.result ≡ new_app (codes "clim") = ap app_of_fields c.about.ensures ∙ c.new.ensures.app in
+    let versioned : app_of c.after_help.result ≡ on_top (λ s. record s { has_version = true }) (new_app (codes "clim")) =
+    ap app_of_fields c.after_help.ensures ∙ ap app_of_fields c.version.ensures ∙ ap (on_top (λ s. record s { has_version = true })) named in
+    let alone : app_of c.subcommand_required.result ≡ line.without_subcommands =
+    ap app_of_fields c.subcommand_required.ensures ∙ ap (on_top (λ s. record s { subcommand_required = true }))
+    (ap app_of_fields c.disable_help_subcommand.ensures ∙ ap (on_top (λ s. record s { disable_help_subcommand = true })) versioned) in
+    let given = c.in_ok-command.ensures in
+    IfOk-weaker c.subcommand.result _ _ (λ r adds. adds.shape given.local ∙ ap₂ with_subcommand alone (ap (λ (a : App). a.top) given.app)) c.subcommand.ensures

@@ -1,0 +1,24 @@
+-- What the words of a command line ask for, by what `clap` gives for them.
+use Rattle.std.specs.Prelude.{◌≡◌, ◌↔◌, IsTrue, List, Option, Some, None, codes, if◌then◌else◌, option_map}
+use Rattle.std.specs.Str.{bytes_eq}
+use Rattle.clap.specs.Words.{Row, Text, first_of, one_of, subcommand_of}
+use Rattle.cli.specs.CommandLine.{clim}
+use Rattle.cli.specs.declared.asked.Ask.{Ask}
+use Rattle.cli.specs.declared.asked.Subcommand.{Subcommand}
+use Rattle.cli.specs.declared.asked.Subcommand.TheVariants.{Root}
+
+-- the word of a subcommand
+abbrev pub name_of : Subcommand → Text
+name_of Root = codes "root"
+
+-- the subcommand that a word names
+abbrev pub subcommand_named : Text → Option Subcommand
+subcommand_named word = if bytes_eq word (name_of Root) then Some Root else None
+
+-- the words name the subcommand, and give it the flag and the values
+pub record Gives (words : List Text) (ask : Ask) : Type 0 where
+  -- what `clap` gives for each argument of the subcommand
+  pub rows : List Row
+  pub subcommand : subcommand_of clim words ≡ Some (name_of ask.subcommand, rows)
+  pub bare : IsTrue ask.bare ↔ (one_of (codes "bare") rows ≡ Some (codes "true"))
+  pub file : option_map (λ word. word.now) ask.file ≡ first_of (codes "FILE") rows

@@ -1,0 +1,33 @@
+-- The command line of the program, in the words of `clap`: what each command is called, and which
+-- arguments it takes.
+use Rattle.std.specs.Prelude.{Some, true, codes}
+use Rattle.clap.specs.Words.{App, Rule, new_app, new_rule, with_rule, with_subcommand}
+use Rattle.clap.specs.Simple.{on_top}
+use Rattle.clap.specs.declared.builder.action.ArgAction.TheVariants.{Set, SetTrue}
+
+-- `FILE`, one word, which must be there
+abbrev pub file : Rule
+file = record (new_rule (codes "FILE")) { action = Some Set; required = true }
+
+-- `--bare`, a flag, which must be there
+abbrev pub bare : Rule
+bare = record (new_rule (codes "bare")) {
+  long = Some (codes "bare");
+  action = Some SetTrue;
+  required = true;
+}
+
+-- `root --bare FILE`
+abbrev pub root : App
+root = with_rule (with_rule (new_app (codes "root")) file) bare
+
+-- `clim SUBCOMMAND ..`, where the subcommand must be there and `help` is none
+abbrev pub without_subcommands : App
+without_subcommands = on_top (λ s. record s {
+  has_version = true;
+  disable_help_subcommand = true;
+  subcommand_required = true;
+}) (new_app (codes "clim"))
+
+abbrev pub clim : App
+clim = with_subcommand without_subcommands root.top

@@ -1,0 +1,53 @@
+//! The command line, and what its words ask for.
+ghost use Rattle.std.specs.Prelude.{◌≡◌, IfOk, IsSome, map};
+ghost use Rattle.clap.specs.Words.{FailsBy, app_of, fault_of};
+ghost use Rattle.cli.specs.Asked.{Gives};
+ghost use Rattle.cli.specs.CommandLine.{clim};
+
+use crate::asked::{Ask, Subcommand};
+use crate::subcommands::print_root;
+use clap::{Command, Error};
+use std::alloc::{AllocError, Global};
+
+/// Reads the words of a command line, the program's name first.
+///
+/// # Errors
+///
+/// The error that `clap` makes of words that the command line does not take, and of a request for
+/// help or the version (`use_stderr` tells them apart); want of memory is of the kind `OutOfMemory`.
+/// Its `Display` is the text for the user.
+pub fn ask<'a>(alloc: Global, words: &'a [&'a str]) -> Result<Ask<'a>, Error>
+    ensures given { IfOk result (Gives (map (λ word. word.now) words.entry.now)) }
+    ensures file { IfOk result (λ ask. IsSome ask.file) }
+    ensures refused { FailsBy (fault_of clim (map (λ word. word.now) words.entry.now)) result }
+{
+    let matches = command(alloc)?.try_get_matches_from(words)?;
+    let (name, given) = matches.subcommand().unwrap();
+    Ok(Ask {
+        subcommand: Subcommand::named(name).unwrap(),
+        bare: given.get_one::<bool>("bare") == Some(true),
+        file: given.get_str("FILE"),
+    })
+}
+
+/// The command line as `clap` reads it and shows it in help.
+fn command<'a>(alloc: Global) -> Result<Command<'a>, AllocError>
+    ensures { IfOk result (λ command. app_of command ≡ clim) }
+{
+    Command::new(alloc, "clim")
+        .about("Reads, checks and writes the metadata of .NET assemblies (ECMA-335, Partition II)")
+        .version("0.1.0")
+        .after_help(STATUSES)
+        .disable_help_subcommand(true)
+        .subcommand_required(true)
+        .subcommand(print_root::command(alloc)?)
+}
+
+const STATUSES: &str = "\
+'clim <COMMAND> --help' has an example of each command.
+
+Exit status:
+  0  done
+  1  FILE breaks a rule of the standard, told as 'fault LAYER CODE at OFFSET: NAME'
+  2  the words ask for nothing that clim does; FILE was not read
+  3  a file or the output could not be read or written, or memory ran out";

@@ -1,0 +1,32 @@
+ghost use Rattle.std.specs.Prelude.{◌≡◌, None, Some};
+ghost use Rattle.cli.specs.Asked.{subcommand_named};
+
+/// What the words of a command line ask for.
+#[derive(Clone, Copy, Debug, PartialEq, Eq)]
+pub struct Ask<'a> {
+    /// What is to be done.
+    pub subcommand: Subcommand,
+    /// Whether the file is a metadata root, and no PE file.
+    pub bare: bool,
+    /// The file to read, as its word has it.
+    pub file: Option<&'a str>,
+}
+
+/// What the program can do with a file, each by a word of its own.
+#[derive(Clone, Copy, Debug, PartialEq, Eq)]
+pub enum Subcommand {
+    /// `root`: print the metadata root's version and its directory of streams.
+    Root,
+}
+
+impl Subcommand {
+    /// The subcommand that a word names.
+    pub fn named(word: &str) -> Option<Subcommand>
+        ensures { result ≡ subcommand_named word.now }
+    {
+        match word {
+            "root" => Some(Subcommand::Root),
+            _ => None,
+        }
+    }
+}

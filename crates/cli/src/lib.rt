@@ -1,0 +1,26 @@
+//! The program `clim`, but for collecting its words.
+//!
+//! [`ask`] reads the words of a command line; its contract says that the subcommand,
+//! flags and values are those that `clap` gives for them. [`go`] is the whole run: it reads the
+//! words and the file, prints, and answers the status that the process is to end with. What it
+//! prints is shown by tests and not proved.
+//!
+//! ```text
+//! let status = go(&rt, &["clim", "root", "--bare", "one_module.root"], &mut out, &mut err);
+//! // `out` holds "version v4.0.30319\nstream 80 40 #~\n..", `err` nothing, and `status` is 0
+//! ```
+#![tactic(auto)]
+
+mod arguments;
+mod asked;
+mod failure;
+mod program;
+mod shown;
+mod subcommands;
+
+pub use arguments::ask;
+pub use asked::{Ask, Subcommand};
+pub use program::{go, refuse_words};
+
+#[cfg(test)]
+mod tests;

@@ -1,0 +1,93 @@
+ghost use Rattle.std.specs.Prelude.{IsSome};
+
+use crate::arguments::ask;
+use crate::asked::{Ask, Subcommand};
+use crate::failure::Failure;
+use crate::subcommands::print_root;
+use clap::error::ErrorKind;
+use std::alloc::Global;
+use std::io;
+use std::io::{BufWriter, Write};
+use std::rt::Files;
+
+/// Runs the program on its words, its name first, and answers the status to end with:
+///
+/// - 0: it did what was asked, or printed its help or version;
+/// - 1: the file breaks a rule of the standard, told as `fault LAYER CODE at OFFSET: NAME`;
+/// - 2: the words ask for nothing that the program does; no file was read;
+/// - 3: the file could not be read, `out` could not be written, or memory was refused.
+///
+/// Results go to `out`, and only once all of the file was read; what went wrong goes to `err`. An
+/// `err` that can't be written changes nothing.
+pub fn go<R: Files + AllocGlobal, W: Write, E: Write>(
+    rt: &R,
+    words: &[&str],
+    out: &mut W,
+    err: &mut E,
+) -> u8 {
+    match ask(rt.alloc(), &*words) {
+        Ok(ask) => status(run(rt, ask, out), err),
+        Err(told) => tell(rt.alloc(), &told, out, err),
+    }
+}
+
+/// Tells why the words of the command line could not be collected, and answers the status to end
+/// with: 2 where a word is not UTF-8, so that it names nothing, and 3 where memory was refused.
+pub fn refuse_words<E: Write>(error: &io::Error, err: &mut E) -> u8 {
+    if error.kind() == io::ErrorKind::OutOfMemory {
+        return status(Err(Failure::OutOfMemory), err);
+    }
+    let _ = writeln!(err, "error: an argument is not UTF-8");
+    2
+}
+
+/// The status of an outcome, told first where it is a failure.
+fn status<E: Write>(outcome: Result<(), Failure<'_>>, err: &mut E) -> u8 {
+    match outcome {
+        Ok(()) => 0,
+        Err(failure) => {
+            let _ = writeln!(err, "{failure}");
+            failure.status()
+        }
+    }
+}
+
+/// Tells what `clap` answered in place of matches: a usage fault, or help or the version.
+fn tell<W: Write, E: Write>(alloc: Global, told: &clap::Error, out: &mut W, err: &mut E) -> u8 {
+    if told.kind() == ErrorKind::OutOfMemory {
+        return status(Err(Failure::OutOfMemory), err);
+    }
+    if told.use_stderr() {
+        let _ = write!(err, "{told}");
+        return 2;
+    }
+    status(print_told(alloc, told, out), err)
+}
+
+fn run<'a, R: Files + AllocGlobal, W: Write>(
+    rt: &R,
+    ask: Ask<'a>,
+    out: &mut W,
+) -> Result<(), Failure<'a>>
+    requires { IsSome ask.file }
+{
+    let file = ask.file.unwrap();
+    match ask.subcommand {
+        Subcommand::Root => print_root::run(rt, file, out),
+    }
+}
+
+/// Prints the help or the version.
+fn print_told<W: Write>(
+    alloc: Global,
+    told: &clap::Error,
+    out: &mut W,
+) -> Result<(), Failure<'static>> {
+    write_told(alloc, told, out).map_err(|error| Failure::of_printing(&error))
+}
+
+fn write_told<W: Write>(alloc: Global, told: &clap::Error, out: &mut W) -> io::Result<()> {
+    let mut out = BufWriter::new(alloc, out)?;
+    write!(out, "{told}")?;
+    out.flush()
+}

@@ -1,0 +1,4 @@
+pub mod DemandLemmas
+pub mod NumberLemmas
+pub mod PackedLemmas
+pub mod SignedLemmas

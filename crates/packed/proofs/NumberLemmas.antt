@@ -1,0 +1,19 @@
+-- The number of the bytes at a place.
+use Rattle.std.proofs.Common.{◌≡◌, ℕ, zero, suc, ◌+◌, ◌≤◌, List, [], ◌∷◌, length, take, drop, refl, arith, length-drop}
+use Rattle.byteorder.specs.Endian.{little_from, little_number}
+use Rattle.byteorder.specs.Numbers.{little_from-cons}
+use Rattle.packed.specs.Number.{little_endian}
+use Rattle.packed.specs.Places.{part}
+
+-- `byteorder` reads the number of the first bytes
+little_from-number : (count : ℕ) (bytes : List ℕ) → count ≤ length bytes → little_from 0 count bytes ≡ little_endian (take count bytes)
+little_from-number zero bytes h = refl
+little_from-number (suc count) [] h = absurd (omega arith)
+little_from-number (suc count) (byte ∷ bytes) h =
+    let rest = little_from-number count bytes (omega arith) in
+    let moved = little_from-cons 0 count byte bytes in
+    rw (moved, rest) refl
+
+-- what `byteorder` reads behind a place is the number at that place
+pub little_number_part : (whole : List ℕ) (place count : ℕ) → place + count ≤ length whole → little_number count (drop place whole) ≡ little_endian (part whole place count)
+little_number_part whole place count h = little_from-number count (drop place whole) (omega (arith, length-drop place whole))

@@ -1,0 +1,64 @@
+-- Packed numbers (ECMA-335 II.23.2): one, two or four bytes, high byte first, by how great the number is. A longer form than
+-- is needed spells a number too.
+use Rattle.std.specs.Prelude.{◌≡◌, ℕ, ◌+◌, ◌-◌, ◌*◌, ◌/◌, ◌%◌, ◌^◌, ◌<◌, ◌⊎◌, ℤ, pos, ◌≤ℤ◌, ◌<ℤ◌, List, [], ◌∷◌, Bool, not, ◌&&◌, nat_lt, int_lt, neg_ℤ, unsigned_abs, if◌then◌else◌}
+use Rattle.std.specs.Int.{int_rem_euclid}
+
+-- the bytes of a number in each form: of n itself, of 0x8000 + n, and of 0xC0000000 + n, high byte first
+abbrev pub one_byte : ℕ → List ℕ
+one_byte n = n ∷ []
+
+abbrev pub two_bytes : ℕ → List ℕ
+two_bytes n = (0x80 + n / 2 ^ 8) ∷ (n % 2 ^ 8) ∷ []
+
+abbrev pub four_bytes : ℕ → List ℕ
+four_bytes n = (0xC0 + n / 2 ^ 24) ∷ (n / 2 ^ 16 % 2 ^ 8) ∷ (n / 2 ^ 8 % 2 ^ 8) ∷ (n % 2 ^ 8) ∷ []
+
+abbrev pub IsOneByte : ℕ → List ℕ → Type 0
+IsOneByte n bytes = (n < 2 ^ 7) × (bytes ≡ one_byte n)
+
+abbrev pub IsTwoBytes : ℕ → List ℕ → Type 0
+IsTwoBytes n bytes = (n < 2 ^ 14) × (bytes ≡ two_bytes n)
+
+abbrev pub IsFourBytes : ℕ → List ℕ → Type 0
+IsFourBytes n bytes = (n < 2 ^ 29) × (bytes ≡ four_bytes n)
+
+-- the bytes spell the number, in one of the three forms
+abbrev pub IsPacked : ℕ → List ℕ → Type 0
+IsPacked n bytes = IsOneByte n bytes ⊎ (IsTwoBytes n bytes ⊎ IsFourBytes n bytes)
+
+-- the shortest form of a number below 2^29
+abbrev pub short_unsigned : ℕ → List ℕ
+short_unsigned n = if nat_lt n (2 ^ 7) then one_byte n else (if nat_lt n (2 ^ 14) then two_bytes n else four_bytes n)
+
+-- the number is one of w bits of two's complement: at least -2^(w-1) and below 2^(w-1)
+pub record FitsBits (w : ℕ) (z : ℤ) : Type 0 where
+  pub low : neg_ℤ (pos (2 ^ (w - 1))) ≤ℤ z
+  pub high : z <ℤ pos (2 ^ (w - 1))
+
+-- those bits: the number modulo 2^w
+abbrev pub twos_complement : ℕ → ℤ → ℕ
+twos_complement w z = unsigned_abs (int_rem_euclid z (pos (2 ^ w)))
+
+-- w bits, rotated left by one
+abbrev pub rotated : ℕ → ℕ → ℕ
+rotated w u = 2 * u % 2 ^ w + u / 2 ^ (w - 1)
+
+-- what stands in the form of w bits for a signed number
+abbrev pub signed_bits : ℕ → ℤ → ℕ
+signed_bits w z = rotated w (twos_complement w z)
+
+-- the bytes spell the signed number: its 7, 14 or 29 bits, rotated left by one, in the form of as many bits
+abbrev pub IsPackedSigned : ℤ → List ℕ → Type 0
+IsPackedSigned z bytes =
+    (FitsBits 7 z × IsOneByte (signed_bits 7 z) bytes)
+    ⊎ ((FitsBits 14 z × IsTwoBytes (signed_bits 14 z) bytes) ⊎ (FitsBits 29 z × IsFourBytes (signed_bits 29 z) bytes))
+
+-- the same two bounds, as a test
+abbrev pub fits_bits : ℕ → ℤ → Bool
+fits_bits w z = not (int_lt z (neg_ℤ (pos (2 ^ (w - 1))))) && int_lt z (pos (2 ^ (w - 1)))
+
+-- the shortest form of a signed number of 29 bits: the first that its bits fit
+abbrev pub short_signed : ℤ → List ℕ
+short_signed z =
+    if fits_bits 7 z then one_byte (signed_bits 7 z)
+    else (if fits_bits 14 z then two_bytes (signed_bits 14 z) else four_bytes (signed_bits 29 z))

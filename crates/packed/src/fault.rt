@@ -1,0 +1,82 @@
+ghost use Rattle.std.specs.Prelude.{◌≡◌};
+ghost use Rattle.packed.specs.Demand.{fault};
+ghost use Rattle.packed.specs.Codes.{name_of};
+
+use crate::code::FaultCode;
+
+/// The first demand that some bytes do not meet, and where.
+#[derive(Clone, Copy, Debug, PartialEq, Eq)]
+pub struct Fault {
+    /// The layer that poses the demand: the hundreds of its code.
+    pub layer: u8,
+    /// The number of the demand.
+    pub code: u16,
+    /// Where the demand is not met, counted in the bytes that were handed in.
+    pub offset: u64,
+}
+
+impl Fault {
+    /// The fault of a demand at a place.
+    pub fn new(code: FaultCode, offset: u64) -> Fault
+        ensures { result ≡ fault code offset }
+    {
+        let code = code.number();
+        Fault {
+            layer: (code / 100) as u8,
+            code,
+            offset,
+        }
+    }
+
+    /// The name of the demand, empty where no demand has this code.
+    pub fn name(&self) -> &'static str
+        ensures { result.now ≡ name_of self.now.code }
+    {
+        match self.code {
+            101 => "TooLong",
+            102 => "DosHeader",
+            103 => "PeSignature",
+            104 => "OptionalHeader",
+            105 => "Pe32PlusSize",
+            106 => "Magic",
+            107 => "Directories",
+            108 => "Sections",
+            201 => "NoCliHeader",
+            202 => "CliAddress",
+            203 => "CliSize",
+            204 => "MetadataAddress",
+            301 => "RootSignature",
+            302 => "Version",
+            303 => "StreamCount",
+            304 => "StreamHeader",
+            305 => "StreamRange",
+            306 => "DuplicateStream",
+            307 => "Uncompressed",
+            308 => "NoTables",
+            401 => "TablesHeader",
+            402 => "TablesVersion",
+            403 => "HeapSizes",
+            404 => "UnknownTable",
+            405 => "RowCounts",
+            406 => "RowCount",
+            407 => "TablesShort",
+            501 => "BadString",
+            502 => "BadUtf8",
+            503 => "BadBlob",
+            504 => "BadGuid",
+            505 => "BadTag",
+            506 => "BadIndex",
+            507 => "BadList",
+            508 => "BadUserString",
+            601 => "NotSorted",
+            602 => "BadRun",
+            603 => "NoOwner",
+            604 => "NestedOrder",
+            701 => "BadSignature",
+            702 => "SignatureIndex",
+            801 => "EntryPoint",
+            901 => "TooLarge",
+            _ => "",
+        }
+    }
+}

@@ -1,0 +1,104 @@
+ghost use Rattle.std.specs.Prelude.{◌≡◌, ◌<◌, ◌≤◌, ◌^◌, ◌++◌, ◌∷◌, [], List, ℕ, length, take, IfSome, IsSomeAnd, MatchOption, OnOk, OnErr};
+ghost use Rattle.packed.specs.Front.{unsigned_at};
+ghost use Rattle.packed.specs.Packed.{IsPacked, one_byte, two_bytes, four_bytes, short_unsigned};
+
+use std::alloc::AllocError;
+
+/// The first byte, and those behind it.
+fn first(bytes: &[u8]) -> Option<(u32, &[u8])>
+    ensures cases { MatchOption result (bytes.now ≡ []) (λ split. bytes.now ≡ split.0 ∷ split.1.now) }
+    ensures byte { IfSome result (λ split. split.0 < 2 ^ 8) }
+{
+    let (byte, rest) = bytes.split_first()?;
+    Some((u32::from(*byte), rest))
+}
+
+/// The packed unsigned number at the front.
+#[tactic(auto, unfolding(crate::specs::Front::unsigned_at))]
+fn unsigned(bytes: &[u8]) -> Option<(u32, usize)>
+    ensures { result ≡ unsigned_at bytes.now }
+{
+    let (a, rest) = first(bytes)?;
+    if a < 0x80 {
+        return Some((a, 1));
+    }
+    if a < 0xC0 {
+        let (b, _) = first(rest)?;
+        return Some(((a - 0x80) * 0x100 + b, 2));
+    }
+    if a < 0xE0 {
+        let (b, rest) = first(rest)?;
+        let (c, rest) = first(rest)?;
+        let (d, _) = first(rest)?;
+        let high = (a - 0xC0) * 0x100_0000 + b * 0x1_0000;
+        return Some((high + c * 0x100 + d, 4));
+    }
+    None
+}
+
+/// Reads the packed unsigned number at the front (II.23.2): the number, below 2^29, and how many
+/// bytes spell it, which may be more than the shortest form has.
+///
+/// `None` where the bytes end within the number, and where the first byte is 0xE0 or more.
+pub fn read_unsigned(bytes: &[u8]) -> Option<(u32, usize)>
+    ensures found { IfSome result (λ read. (read.1 ≤ length bytes.now) × IsPacked read.0 (take read.1 bytes.now)) }
+    ensures only { (n : ℕ) (front rest : List ℕ) → bytes.now ≡ front ++ rest → IsPacked n front
+        → IsSomeAnd result (λ read. (read.0 ≡ n) × (read.1 ≡ length front)) }
+    ensures value { result ≡ unsigned_at bytes.now }
+{
+    unsigned(bytes)
+}
+
+/// How many bytes the shortest form of a number has: 1, 2 or 4.
+pub fn unsigned_len(number: u32) -> usize
+    requires { number < 2 ^ 29 }
+    ensures { result ≡ length (short_unsigned number) }
+{
+    match number {
+        0..0x80 => 1,
+        0x80..0x4000 => 2,
+        _ => 4,
+    }
+}
+
+/// The form of one byte.
+pub(crate) fn in_one_byte(number: u32) -> [u8; 1]
+    requires { number < 2 ^ 7 }
+    ensures { result ≡ one_byte number }
+{
+    [number as u8]
+}
+
+/// The form of two bytes.
+pub(crate) fn in_two_bytes(number: u32) -> [u8; 2]
+    requires { number < 2 ^ 14 }
+    ensures { result ≡ two_bytes number }
+{
+    [(0x80 + number / 0x100) as u8, (number % 0x100) as u8]
+}
+
+/// The form of four bytes.
+pub(crate) fn in_four_bytes(number: u32) -> [u8; 4]
+    requires { number < 2 ^ 29 }
+    ensures { result ≡ four_bytes number }
+{
+    [
+        (0xC0 + number / 0x100_0000) as u8,
+        (number / 0x1_0000 % 0x100) as u8,
+        (number / 0x100 % 0x100) as u8,
+        (number % 0x100) as u8,
+    ]
+}
+
+/// Appends the shortest form of a number (II.23.2). Where memory is refused the bytes stay as they were.
+pub fn put_unsigned(bytes: &mut Vec<u8>, number: u32) -> Result<(), AllocError>
+    requires { number < 2 ^ 29 }
+    ensures ok { OnOk result (bytes.new.items ≡ bytes.old.items ++ short_unsigned number) }
+    ensures err { OnErr result (bytes.new.items ≡ bytes.old.items) }
+{
+    match number {
+        0..0x80 => bytes.extend_from_slice(&in_one_byte(number)),
+        0x80..0x4000 => bytes.extend_from_slice(&in_two_bytes(number)),
+        _ => bytes.extend_from_slice(&in_four_bytes(number)),
+    }
+}

@@ -1,0 +1,11 @@
+use Rattle.std.proofs.Common.{◌≡◌}
+use Rattle.packed.proofs.DemandLemmas.{HoldBefore}
+use Rattle.root.specs.Directory.{header_place}
+use Rattle.root.specs.Demands.{demands_of_header}
+use Rattle.root.proofs.walk.check_headers.Given as goal
+
+abbrev pub invariant-loop-number : goal.invariant-loop-number
+invariant-loop-number l = record {
+  place : l.place ≡ header_place l.bytes l.number;
+  holds : HoldBefore (demands_of_header l.bytes) 0 l.number;
+}

@@ -1,0 +1,17 @@
+-- What a root that was read is, by its fields.
+use Rattle.std.specs.Prelude.{◌≡◌, ℕ, ◌≤◌, ◌<◌, ◌^◌, length}
+use Rattle.root.specs.declared.root.Root.TheInside.{Inside}
+use Rattle.root.specs.Directory.{header_place, header_number, headers_before}
+use Rattle.root.specs.Root.{EndsWithin}
+use Rattle.root.specs.Shown.{AllShow}
+use Rattle.root.specs.Streams.{Directory}
+
+abbrev pub root_of : Inside → Directory
+root_of root = record { bytes = root.bytes.now; version = root.version.now; headers = headers_before root.bytes.now root.count }
+
+-- its headers stand, and each stream of the standard ends within it
+pub record IsChecked (root : Inside) : Type 0 where
+  pub small : length root.bytes.now ≤ 2 ^ 30
+  pub start : root.start ≡ header_place root.bytes.now 0
+  pub shows : AllShow root.bytes.now root.count
+  pub within : (i : ℕ) → i < root.count → EndsWithin (length root.bytes.now) (header_number root.bytes.now i)

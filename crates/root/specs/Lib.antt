@@ -1,0 +1,8 @@
+pub mod Checked
+pub mod Demands
+pub mod Directory
+pub mod Rest
+pub mod Root
+pub mod Shown
+pub mod Streams
+pub mod Views

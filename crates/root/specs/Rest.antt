@@ -1,0 +1,17 @@
+-- What is left of the stream headers, by the fields of the iterator.
+use Rattle.std.specs.Prelude.{◌≡◌, ◌≤◌, ◌^◌, List, length, drop}
+use Rattle.root.specs.declared.headers.Headers.TheInside.{Inside}
+use Rattle.root.specs.Directory.{header_place, headers_before}
+use Rattle.root.specs.Shown.{AllShow}
+use Rattle.root.specs.Streams.{Header}
+
+-- the headers from the next one on
+abbrev pub rest_of : Inside → List Header
+rest_of headers = drop headers.next (headers_before headers.bytes.now headers.count)
+
+-- the next header begins at the place that the iterator has come to
+pub record IsOnTheWay (headers : Inside) : Type 0 where
+  pub small : length headers.bytes.now ≤ 2 ^ 30
+  pub place : headers.place ≡ header_place headers.bytes.now headers.next
+  pub within : headers.next ≤ headers.count
+  pub shows : AllShow headers.bytes.now headers.count

@@ -1,0 +1,78 @@
+ghost use Rattle.std.specs.Prelude.{◌≡◌, ◌+◌, ◌≤◌, ◌^◌, length, IfSome, IfNone, IfOk};
+ghost use Rattle.packed.specs.Demand.{Answers};
+ghost use Rattle.root.specs.Demands.{HasVersion, demands_of_front};
+ghost use Rattle.root.specs.Directory.{version_length, version_of, header_count, header_place};
+
+use crate::header::nul_in;
+use packed::{Fault, FaultCode, u16_at, u32_at};
+use simdutf8::basic;
+
+/// The most bytes of a root.
+const LIMIT: usize = 1 << 30;
+
+/// The most bytes of a version.
+const VERSION_LIMIT: usize = 254;
+
+/// The version in its field of so many bytes, where one stands there.
+fn read_version(bytes: &[u8], len: usize) -> Option<&str>
+    requires room { 16 ≤ length bytes.now }
+    requires len { len ≡ version_length bytes.now }
+    ensures found { IfSome result (λ version. HasVersion bytes.now × (version.now ≡ version_of bytes.now)) }
+    ensures none { IfNone result (HasVersion bytes.now → ⊥) }
+{
+    if len % 4 != 0 || bytes.len() - 16 < len {
+        return None;
+    }
+    let (_, rest) = bytes.split_at(16);
+    let (field, _) = rest.split_at(len);
+    let end = nul_in(field)?;
+    if end > VERSION_LIMIT {
+        return None;
+    }
+    let (version, _) = field.split_at(end);
+    let version = basic::from_utf8(version).ok()?;
+    Some(version)
+}
+
+/// The fields of a root before its stream headers.
+#[derive(Clone, Copy)]
+pub struct Front<'a> {
+    /// The version.
+    pub version: &'a str,
+    /// Where the first stream header begins.
+    pub start: usize,
+    /// How many stream headers there are.
+    pub count: usize,
+}
+
+/// Reads the fields of a root before its stream headers.
+pub fn read_front(bytes: &[u8]) -> Result<Front<'_>, Fault>
+    ensures answers { Answers (demands_of_front bytes.now) result }
+    ensures version { IfOk result (λ front. front.version.now ≡ version_of bytes.now) }
+    ensures start { IfOk result (λ front. front.start ≡ header_place bytes.now 0) }
+    ensures count { IfOk result (λ front. front.count ≡ header_count bytes.now) }
+    ensures small { IfOk result (λ _. length bytes.now ≤ 2 ^ 30) }
+{
+    if bytes.len() > LIMIT {
+        return Err(Fault::new(FaultCode::TooLong, 0));
+    }
+    if bytes.len() < 16 {
+        return Err(Fault::new(FaultCode::RootSignature, 0));
+    }
+    let (signature, _) = bytes.split_at(4);
+    if signature != b"BSJB".as_slice() {
+        return Err(Fault::new(FaultCode::RootSignature, 0));
+    }
+    let len = u32_at(bytes, 12) as usize;
+    let Some(version) = read_version(bytes, len) else {
+        return Err(Fault::new(FaultCode::Version, 12));
+    };
+    if bytes.len() - 16 - len < 4 {
+        return Err(Fault::new(FaultCode::StreamCount, (16 + len) as u64));
+    }
+    Ok(Front {
+        version,
+        start: 20 + len,
+        count: u16_at(bytes, 18 + len) as usize,
+    })
+}

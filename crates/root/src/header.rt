@@ -1,0 +1,69 @@
+ghost use Rattle.std.specs.Prelude.{position, ◌==◌, ◌≡◌, ◌+◌, ◌*◌, ◌^◌, ◌<◌, ◌≤◌, length, IfSome, IfNone};
+ghost use Rattle.root.specs.Demands.{HasHeader};
+ghost use Rattle.root.specs.Directory.{before_nul, header_at, header_length};
+ghost use Rattle.root.specs.Views.{view};
+
+use packed::u32_at;
+
+/// A stream header (II.24.2.2), of whatever name.
+#[derive(Clone, Copy, Debug, PartialEq, Eq)]
+pub struct StreamHeader<'a> {
+    /// Where the header begins, counted from the root's begin.
+    pub place: usize,
+    /// Where the stream begins, counted from the root's begin.
+    pub offset: u32,
+    /// How many bytes the stream has.
+    pub size: u32,
+    /// The stream's name: ASCII of at most 32 characters, without the NUL that ends it.
+    pub name: &'a str,
+}
+
+/// The most characters of a stream's name.
+const NAME_LIMIT: usize = 32;
+
+/// Where the first NUL stands.
+pub fn nul_in(bytes: &[u8]) -> Option<usize>
+    ensures { result ≡ position (λ byte. byte == 0) bytes.now }
+{
+    bytes.iter().position(|byte| *byte == 0)
+}
+
+/// The header at a place, where one stands there.
+pub fn read_header(bytes: &[u8], place: usize) -> Option<StreamHeader<'_>>
+    requires { length bytes.now ≤ 2 ^ 30 }
+    ensures found { IfSome result (λ header. HasHeader bytes.now place × (view header ≡ header_at bytes.now place)) }
+    ensures end { IfSome result (λ header. place + header_length (view header) ≤ length bytes.now) }
+    ensures none { IfNone result (HasHeader bytes.now place → ⊥) }
+{
+    if place > bytes.len() || bytes.len() - place < 8 {
+        return None;
+    }
+    let (_, field) = bytes.split_at(place + 8);
+    let len = nul_in(field)?;
+    if len > NAME_LIMIT || field.len() < (len + 4) / 4 * 4 {
+        return None;
+    }
+    let (name, _) = field.split_at(len);
+    let name = std::str::from_utf8(name).ok()?;
+    if !name.is_ascii() {
+        return None;
+    }
+    Some(StreamHeader {
+        place,
+        offset: u32_at(bytes, place),
+        size: u32_at(bytes, place + 4),
+        name,
+    })
+}
+
+impl StreamHeader<'_> {
+    ghost use Rattle.root.specs.Views.{view};
+
+    /// Where the header ends, with its fill.
+    pub(crate) fn end(&self) -> usize
+        requires { self.now.place + header_length (view self.now) ≤ 2 ^ 30 }
+        ensures { result ≡ self.now.place + header_length (view self.now) }
+    {
+        self.place + 8 + (self.name.len() + 4) / 4 * 4
+    }
+}

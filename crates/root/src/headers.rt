@@ -1,0 +1,65 @@
+ghost use Rattle.std.specs.Prelude.{◌≡◌, ◌≤◌, ◌^◌, length, List};
+ghost use Rattle.std.specs.Iterator.{YieldsFirstBy, item_count};
+ghost use Rattle.root.specs.Directory.{header_place, headers_before};
+ghost use Rattle.root.specs.Shown.{AllShow};
+ghost use Rattle.root.specs.Streams.{Header};
+ghost use Rattle.root.specs.Views.{view};
+
+use crate::header::{StreamHeader, read_header};
+use std::marker::Model;
+
+/// The stream headers of a root in their order, those of other names too; made by `Root::headers`.
+#[derive(Drop)]
+pub struct Headers<'a> {
+    bytes: &'a [u8],
+    place: usize,
+    next: usize,
+    count: usize,
+}
+
+impl<'a> Model for Headers<'a> {
+    ghost use Rattle.std.specs.Prelude.{List};
+    ghost use Rattle.root.specs.Streams.{Header};
+
+    ghost Value = { List Header };
+
+    ghost use Rattle.root.specs.Rest.{rest_of, IsOnTheWay};
+
+    ghost view = { rest_of };
+
+    ghost invariant = { IsOnTheWay };
+}
+
+impl<'a> Headers<'a> {
+    pub(crate) fn new(bytes: &'a [u8], start: usize, count: usize) -> Headers<'a>
+        requires small { length bytes.now ≤ 2 ^ 30 }
+        requires start { start ≡ header_place bytes.now 0 }
+        requires shows { AllShow bytes.now count }
+        ensures { result ≡ headers_before bytes.now count }
+    {
+        Headers {
+            bytes,
+            place: start,
+            next: 0,
+            count,
+        }
+    }
+}
+
+impl<'a> Iterator for Headers<'a> {
+    type Item = StreamHeader<'a>;
+
+    ghost next_gives = { YieldsFirstBy view (λ rest. rest) };
+
+    ghost remaining = { item_count (λ rest. rest) };
+
+    fn next(&mut self) -> Option<StreamHeader<'a>> {
+        if self.next == self.count {
+            return None;
+        }
+        let header = read_header(self.bytes, self.place)?;
+        self.place = header.end();
+        self.next += 1;
+        Some(header)
+    }
+}

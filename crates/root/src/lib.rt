@@ -1,0 +1,30 @@
+//! The metadata root and its directory of streams (ECMA-335 II.24.2.1 and II.24.2.2).
+//!
+//! [`read_root`] answers a [`Root`] exactly where the bytes are a metadata root, and else the fault
+//! of the first demand that they do not meet, with the place in these bytes. A root shows its
+//! version, the five streams of the standard and all stream headers, each as a part of the bytes
+//! that were handed in. Nothing here takes memory.
+//!
+//! ```text
+//! let root = read_root(bytes)?;
+//! root.version() == "v4.0.30319"
+//! root.stream(Kind::Tables) == Some(&bytes[80..120])
+//! for header in root.headers() { .. }
+//! ```
+#![tactic(auto)]
+
+mod front;
+mod header;
+mod headers;
+mod kind;
+mod root;
+mod walk;
+
+pub use header::StreamHeader;
+pub use headers::Headers;
+pub use kind::Kind;
+pub use packed::{Fault, FaultCode};
+pub use root::{Root, read_root};
+
+#[cfg(test)]
+mod tests;

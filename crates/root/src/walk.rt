@@ -1,0 +1,97 @@
+ghost use Rattle.std.specs.Prelude.{◌≡◌, ◌+◌, ◌≤◌, ◌^◌, length, IfOk};
+ghost use Rattle.std.specs.Option.{option_map};
+ghost use Rattle.packed.specs.Demand.{Answers, demands_from};
+ghost use Rattle.root.specs.Demands.{demands_of_header, demands_of_tables};
+ghost use Rattle.root.specs.Directory.{header_count, header_length, header_number, header_place, headers_before};
+ghost use Rattle.root.specs.Shown.{AllShow};
+ghost use Rattle.root.specs.Streams.{named, stream_name};
+ghost use Rattle.root.specs.Views.{view};
+
+use crate::header::{StreamHeader, read_header};
+use crate::kind::Kind;
+use packed::{Fault, FaultCode};
+
+/// The first of so many headers that names a stream.
+pub fn find_header<'a>(
+    bytes: &'a [u8],
+    start: usize,
+    count: usize,
+    kind: Kind,
+) -> Option<StreamHeader<'a>>
+    requires small { length bytes.now ≤ 2 ^ 30 }
+    requires start { start ≡ header_place bytes.now 0 }
+    requires shows { AllShow bytes.now count }
+    ensures { option_map view result ≡ named (stream_name kind) (headers_before bytes.now count) }
+{
+    let mut place = start;
+    for _ in 0..count {
+        let header = read_header(bytes, place)?;
+        if header.name == kind.name() {
+            return Some(header);
+        }
+        place = header.end();
+    }
+    None
+}
+
+/// The header of a number at its place, where it meets what is demanded of it.
+fn check_header<'a>(
+    bytes: &'a [u8],
+    start: usize,
+    number: usize,
+    place: usize,
+) -> Result<StreamHeader<'a>, Fault>
+    requires small { length bytes.now ≤ 2 ^ 30 }
+    requires start { start ≡ header_place bytes.now 0 }
+    requires shows { AllShow bytes.now number }
+    requires place { place ≡ header_place bytes.now number }
+    ensures answers { Answers (demands_of_header bytes.now number) result }
+    ensures header { IfOk result (λ header. view header ≡ header_number bytes.now number) }
+    ensures end { IfOk result (λ header. place + header_length (view header) ≤ length bytes.now) }
+{
+    let Some(header) = read_header(bytes, place) else {
+        return Err(Fault::new(FaultCode::StreamHeader, place as u64));
+    };
+    if let Some(kind) = Kind::of(header.name) {
+        if header.offset as usize + header.size as usize > bytes.len() {
+            return Err(Fault::new(FaultCode::StreamRange, place as u64));
+        }
+        if find_header(bytes, start, number, kind).is_some() {
+            return Err(Fault::new(FaultCode::DuplicateStream, place as u64));
+        }
+    }
+    if header.name == "#-" {
+        return Err(Fault::new(FaultCode::Uncompressed, place as u64));
+    }
+    Ok(header)
+}
+
+/// Whether each of the root's headers meets what is demanded of it.
+#[tactic(auto, using(packed::proofs::DemandLemmas::before_none, packed::proofs::DemandLemmas::before_all, crate::proofs::WalkLemmas::shows_from_before))]
+pub fn check_headers(bytes: &[u8], start: usize, count: usize) -> Result<(), Fault>
+    requires small { length bytes.now ≤ 2 ^ 30 }
+    requires start { start ≡ header_place bytes.now 0 }
+    requires count { count ≡ header_count bytes.now }
+    ensures { Answers (demands_from (demands_of_header bytes.now) 0 (header_count bytes.now)) result }
+{
+    let mut place = start;
+    for number in 0..count {
+        let header = check_header(bytes, start, number, place)?;
+        place = header.end();
+    }
+    Ok(())
+}
+
+/// Whether one of the root's headers names the tables.
+pub fn check_tables(bytes: &[u8], start: usize, count: usize) -> Result<(), Fault>
+    requires small { length bytes.now ≤ 2 ^ 30 }
+    requires start { start ≡ header_place bytes.now 0 }
+    requires count { count ≡ header_count bytes.now }
+    requires shows { AllShow bytes.now (header_count bytes.now) }
+    ensures { Answers (demands_of_tables bytes.now) result }
+{
+    if find_header(bytes, start, count, Kind::Tables).is_none() {
+        return Err(Fault::new(FaultCode::NoTables, (start - 2) as u64));
+    }
+    Ok(())
+}
