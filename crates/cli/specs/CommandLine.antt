@@ -9,15 +9,11 @@ use Rattle.clap.specs.declared.builder.action.ArgAction.TheVariants.{Set, SetTru
 abbrev pub file : Rule
 file = record (new_rule (codes "FILE")) { action = Some Set; required = true }
 
--- `--bare`, a flag, which must be there
+-- `--bare`, a flag
 abbrev pub bare : Rule
-bare = record (new_rule (codes "bare")) {
-  long = Some (codes "bare");
-  action = Some SetTrue;
-  required = true;
-}
+bare = record (new_rule (codes "bare")) { long = Some (codes "bare"); action = Some SetTrue }
 
--- `root --bare FILE`
+-- `root [--bare] FILE`
 abbrev pub root : App
 root = with_rule (with_rule (new_app (codes "root")) file) bare
 

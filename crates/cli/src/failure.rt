@@ -17,6 +17,7 @@ pub(crate) enum Failure<'a> {
 }
 
 impl<'a> Failure<'a> {
+    /// What a refused read of the file is.
     pub(crate) fn of_reading(error: &io::Error, file: &'a str) -> Failure<'a> {
         match error.kind() {
             ErrorKind::OutOfMemory => Failure::OutOfMemory,
@@ -24,6 +25,7 @@ impl<'a> Failure<'a> {
         }
     }
 
+    /// What a refused write to the output is.
     pub(crate) fn of_printing(error: &io::Error) -> Failure<'a> {
         match error.kind() {
             ErrorKind::OutOfMemory => Failure::OutOfMemory,

@@ -73,7 +73,7 @@ fn run<'a, R: Files + AllocGlobal, W: Write>(
 {
     let file = ask.file.unwrap();
     match ask.subcommand {
-        Subcommand::Root => print_root::run(rt, file, out),
+        Subcommand::Root => print_root::run(rt, file, ask.bare, out),
     }
 }
 

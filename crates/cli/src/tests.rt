@@ -42,13 +42,82 @@ fn answer(rt: &HostRuntime, words: &[&str]) -> Result<(u8, String, String), Fail
     Ok((status, out, err))
 }
 
-/// The first `len` bytes of the sample, with `bytes` in place of those from `place` on.
-fn sample_with(alloc: Global, len: usize, place: usize, bytes: &[u8]) -> Result<Vec<u8>, Fail> {
-    let mut sample: Vec<u8> = SAMPLE.iter().copied().take(len).collect(alloc)?;
-    for (old, new) in sample.iter_mut().skip(place).zip(bytes) {
+/// Puts bytes over those that stand at a place.
+fn put(file: &mut [u8], place: usize, bytes: &[u8]) {
+    for (old, new) in file.iter_mut().skip(place).zip(bytes) {
         *old = *new;
     }
-    Ok(sample)
+}
+
+/// A PE32 file of 1024 bytes, whose metadata is the sample.
+fn image(alloc: Global) -> Result<Vec<u8>, Fail> {
+    let parts: [(usize, &[u8]); 12] = [
+        (0x000, b"MZ"),
+        (0x03C, &[0x80]),
+        (0x080, b"PE\0\0"),
+        (0x086, &[1]),
+        (0x094, &[0xE0]),
+        (0x098, &[0x0B, 0x01]),
+        (0x0F4, &[16]),
+        (0x168, &[0x08, 0x20, 0, 0, 0x48]),
+        (0x184, &[0, 0x20, 0, 0, 0, 0x02, 0, 0, 0, 0x02]),
+        (0x208, &[0x48, 0, 0, 0, 2, 0, 5, 0, 0x50, 0x20, 0, 0, 0x90]),
+        (0x218, &[1]),
+        (0x250, &SAMPLE),
+    ];
+    let mut file = vec![in alloc; 0u8; 1024]?;
+    for (place, bytes) in parts {
+        put(&mut file, place, bytes);
+    }
+    Ok(file)
+}
+
+/// What is told of a file's first `len` bytes, some of them changed, and with which status.
+#[derive(Clone, Copy)]
+struct Case<'a> {
+    len: usize,
+    place: usize,
+    bytes: &'a [u8],
+    status: u8,
+    told: &'a str,
+}
+
+impl<'a> Case<'a> {
+    const fn new(len: usize, place: usize, bytes: &'a [u8], status: u8, told: &'a str) -> Self {
+        Case {
+            len,
+            place,
+            bytes,
+            status,
+            told,
+        }
+    }
+}
+
+/// What the program answers to a case of a file, by the words before the file's name, where that is
+/// not what is told of the case.
+fn other_answer(
+    rt: &HostRuntime,
+    words: &[&str],
+    sample: &[u8],
+    case: &Case,
+) -> Result<Option<String>, Fail> {
+    let mut file: Vec<u8> = sample.iter().copied().take(case.len).collect(rt.alloc())?;
+    put(&mut file, case.place, case.bytes);
+    fs::write(rt, "a.file", file.as_slice())?;
+    let mut words: Vec<&str> = words.to_vec(rt.alloc())?;
+    words.push("a.file")?;
+    let (status, out, err) = answer(rt, &words)?;
+    fs::remove_file(rt, "a.file")?;
+    let (want_out, want_err) = if case.status == 0 {
+        (case.told, "")
+    } else {
+        ("", case.told)
+    };
+    if status == case.status && out.as_str() == want_out && err.as_str() == want_err {
+        return Ok(None);
+    }
+    Ok(Some(format!(in rt.alloc(); "{status}: {out}{err}")?))
 }
 
 #[test]
@@ -65,29 +134,23 @@ stream 80 40 #~
 stream 120 8 \\x01\\x22\\x5c\\x7f ~!s
 stream 128 16 #GUID
 ";
-    let rows: [(usize, usize, &[u8], u8, &str); 11] = [
-        (144, 0, b"", 0, LINES),
-        (144, 17, b"\xC3\xA9", 0, version),
-        (144, 52, b"\x01\"\\\x7F ~!", 0, name),
-        (144, 41, b"-", 1, "fault 3 307 at 32: Uncompressed\n"),
-        (144, 41, b"x", 1, "fault 3 308 at 30: NoTables\n"),
-        (0, 0, b"", 1, "fault 3 301 at 0: RootSignature\n"),
-        (27, 0, b"", 1, "fault 3 302 at 12: Version\n"),
-        (31, 0, b"", 1, "fault 3 303 at 28: StreamCount\n"),
-        (40, 0, b"", 1, "fault 3 304 at 32: StreamHeader\n"),
-        (119, 0, b"", 1, "fault 3 305 at 32: StreamRange\n"),
-        (143, 0, b"", 1, "fault 3 305 at 64: StreamRange\n"),
+    let cases = [
+        Case::new(144, 0, b"", 0, LINES),
+        Case::new(144, 17, b"\xC3\xA9", 0, version),
+        Case::new(144, 52, b"\x01\"\\\x7F ~!", 0, name),
+        Case::new(144, 41, b"-", 1, "fault 3 307 at 32: Uncompressed\n"),
+        Case::new(144, 41, b"x", 1, "fault 3 308 at 30: NoTables\n"),
+        Case::new(0, 0, b"", 1, "fault 3 301 at 0: RootSignature\n"),
+        Case::new(27, 0, b"", 1, "fault 3 302 at 12: Version\n"),
+        Case::new(31, 0, b"", 1, "fault 3 303 at 28: StreamCount\n"),
+        Case::new(40, 0, b"", 1, "fault 3 304 at 32: StreamHeader\n"),
+        Case::new(119, 0, b"", 1, "fault 3 305 at 32: StreamRange\n"),
+        Case::new(143, 0, b"", 1, "fault 3 305 at 64: StreamRange\n"),
     ];
-    for (len, place, bytes, status, told) in rows {
-        let file = sample_with(rt.alloc(), len, place, bytes)?;
-        fs::write(&rt, "a.root", file.as_slice())?;
-        let (got, out, err) = answer(&rt, &["clim", "root", "--bare", "a.root"])?;
-        let (want_out, want_err) = if status == 0 { (told, "") } else { ("", told) };
-        assert_eq!(rt; got, status, "of {len} bytes, changed at {place}");
-        assert!(rt; out.as_str() == want_out, "{out}");
-        assert!(rt; err.as_str() == want_err, "{err}");
+    for case in &cases {
+        let words = ["clim", "root", "--bare"];
+        assert_eq!(rt; other_answer(&rt, &words, &SAMPLE, case)?, None);
     }
-    fs::remove_file(&rt, "a.root")?;
     let (status, out, err) = answer(&rt, &["clim", "root", "--bare", "a.root"])?;
     assert_eq!(rt; status, 3);
     assert!(rt; out.is_empty());
@@ -95,10 +158,55 @@ stream 128 16 #GUID
     Ok(())
 }
 
+#[test]
+fn prints_an_image_or_its_fault(rt: HostRuntime) -> Result<(), Fail> {
+    let lines = "\
+cli 2.5 flags 00000001 entry 00000000 root 592 144
+version v4.0.30319
+stream 80 40 #~
+stream 120 8 #Strings
+stream 128 16 #GUID
+";
+    let cases = [
+        Case::new(1024, 0, b"", 0, lines),
+        Case::new(736, 0, b"", 0, lines),
+        Case::new(0, 0, b"", 1, "fault 1 102 at 0: DosHeader\n"),
+        Case::new(2, 0, b"", 1, "fault 1 102 at 0: DosHeader\n"),
+        Case::new(63, 0, b"", 1, "fault 1 102 at 0: DosHeader\n"),
+        Case::new(64, 0, b"", 1, "fault 1 103 at 60: PeSignature\n"),
+        Case::new(152, 0, b"", 1, "fault 1 104 at 148: OptionalHeader\n"),
+        Case::new(1024, 148, &[215], 1, "fault 1 104 at 148: OptionalHeader\n"),
+        Case::new(
+            1024,
+            152,
+            &[0x0B, 0x02],
+            1,
+            "fault 1 105 at 148: Pe32PlusSize\n",
+        ),
+        Case::new(1024, 152, &[0x0C], 1, "fault 1 106 at 152: Magic\n"),
+        Case::new(1024, 244, &[14], 1, "fault 1 107 at 244: Directories\n"),
+        Case::new(1024, 134, &[16], 0, lines),
+        Case::new(1024, 134, &[17], 1, "fault 1 108 at 134: Sections\n"),
+        Case::new(376, 0, b"", 1, "fault 1 108 at 134: Sections\n"),
+        Case::new(1024, 364, &[0], 1, "fault 2 201 at 360: NoCliHeader\n"),
+        Case::new(1024, 364, &[71], 1, "fault 2 202 at 360: CliAddress\n"),
+        Case::new(591, 0, b"", 1, "fault 2 202 at 360: CliAddress\n"),
+        Case::new(1024, 520, &[71], 1, "fault 2 203 at 520: CliSize\n"),
+        Case::new(735, 0, b"", 1, "fault 2 204 at 528: MetadataAddress\n"),
+        Case::new(1024, 592, b"X", 1, "fault 3 301 at 592: RootSignature\n"),
+        Case::new(1024, 633, b"-", 1, "fault 3 307 at 624: Uncompressed\n"),
+    ];
+    let sample = image(rt.alloc())?;
+    for case in &cases {
+        assert_eq!(rt; other_answer(&rt, &["clim", "root"], &sample, case)?, None);
+    }
+    Ok(())
+}
+
 /// The file named lacks: a status of 2 shows that it was not looked for.
 #[test]
-fn tells_what_the_words_lack_and_helps(rt: HostRuntime) -> Result<(), Fail> {
-    let refused: [(&[&str], &str); 14] = [
+fn tells_what_the_words_lack(rt: HostRuntime) -> Result<(), Fail> {
+    let refused: [(&[&str], &str); 13] = [
         (&[], "Usage: clim <COMMAND>"),
         (&["clim"], "Usage: clim <COMMAND>"),
         (&["clim", "lacks"], "unrecognized subcommand 'lacks'"),
@@ -111,8 +219,7 @@ fn tells_what_the_words_lack_and_helps(rt: HostRuntime) -> Result<(), Fail> {
             &["clim", "--bare", "root", "lacks"],
             "unexpected argument '--bare'",
         ),
-        (&["clim", "root"], "Usage: clim root --bare <FILE>"),
-        (&["clim", "root", "lacks"], "  --bare\n"),
+        (&["clim", "root"], "Usage: clim root <FILE>"),
         (&["clim", "root", "--bare"], "  <FILE>\n"),
         (
             &["clim", "root", "--bare", "--bare", "lacks"],
@@ -138,6 +245,11 @@ fn tells_what_the_words_lack_and_helps(rt: HostRuntime) -> Result<(), Fail> {
         assert!(rt; out.is_empty());
         assert!(rt; err.contains(told), "{err}");
     }
+    Ok(())
+}
+
+#[test]
+fn helps(rt: HostRuntime) -> Result<(), Fail> {
     let helped: [(&[&str], &[&str]); 4] = [
         (
             &["clim", "--help"],
@@ -145,7 +257,10 @@ fn tells_what_the_words_lack_and_helps(rt: HostRuntime) -> Result<(), Fail> {
         ),
         (
             &["clim", "root", "--help"],
-            &["Usage: clim root --bare <FILE>", "\n  $ clim root --bare "],
+            &[
+                "Usage: clim root [OPTIONS] <FILE>",
+                "\n  $ clim root --bare ",
+            ],
         ),
         (&["clim", "root", "-h"], &["<FILE>  ", LINES_IN_HELP]),
         (&["clim", "--version"], &["clim 0.1.0\n"]),

@@ -295,6 +295,11 @@ answers_found root (Ok d) all is =
     subst P (sym is) (all.0, refl, root_from_demands root all)
 answers_found root (Err found) fails is = tt
 
+pub answers_all : (root : List ℕ) (r : Result Directory Fault) → Answers (demands_of_root root) r → IfOk r (λ d. d ≡ directory_of root)
+    → IfOk r (λ d. AllHold (demands_of_root root) × (d ≡ directory_of root))
+answers_all root (Ok d) all is = (all, is)
+answers_all root (Err found) fails is = tt
+
 pub answers_only : (root version : List ℕ) (headers : List Header) (r : Result Directory Fault) → Answers (demands_of_root root) r → IfOk r (λ d. d ≡ directory_of root)
     → Meets root version headers → IsOkAnd r (λ d. (d.version ≡ version) × (d.headers ≡ headers))
 answers_only root version headers (Ok d) all is meets = (ap (λ (e : Directory). e.version) is ∙ meets.version_is, ap (λ (e : Directory). e.headers) is ∙ meets.headers_are)

@@ -1,4 +1,4 @@
-ghost use Rattle.std.specs.Prelude.{◌≡◌, ◌+◌, ◌≤◌, ◌^◌, length, IfSome, IfNone, IfOk};
+ghost use Rattle.std.specs.Prelude.{◌≡◌, ◌+◌, ◌≤◌, ◌^◌, length, IfSome, IfNone, IfOk, IfErr};
 ghost use Rattle.packed.specs.Demand.{Answers};
 ghost use Rattle.root.specs.Demands.{HasVersion, demands_of_front};
 ghost use Rattle.root.specs.Directory.{version_length, version_of, header_count, header_place};
@@ -52,6 +52,8 @@ pub fn read_front(bytes: &[u8]) -> Result<Front<'_>, Fault>
     ensures start { IfOk result (λ front. front.start ≡ header_place bytes.now 0) }
     ensures count { IfOk result (λ front. front.count ≡ header_count bytes.now) }
     ensures small { IfOk result (λ _. length bytes.now ≤ 2 ^ 30) }
+    ensures room { IfOk result (λ front. front.start ≤ length bytes.now) }
+    ensures within { IfErr result (λ fault. fault.offset ≤ length bytes.now) }
 {
     if bytes.len() > LIMIT {
         return Err(Fault::new(FaultCode::TooLong, 0));

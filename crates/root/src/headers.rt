@@ -31,6 +31,7 @@ impl<'a> Model for Headers<'a> {
 }
 
 impl<'a> Headers<'a> {
+    /// So many headers, the first of which begins at `start`.
     pub(crate) fn new(bytes: &'a [u8], start: usize, count: usize) -> Headers<'a>
         requires small { length bytes.now ≤ 2 ^ 30 }
         requires start { start ≡ header_place bytes.now 0 }

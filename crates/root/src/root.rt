@@ -1,6 +1,6 @@
 ghost use Rattle.std.specs.Prelude.{◌≡◌, ◌+◌, ◌≤◌, ◌^◌, List, ℕ, length, IfOk, IfErr, IsOkAnd, Option, Some, None};
 ghost use Rattle.std.specs.Option.{option_map};
-ghost use Rattle.packed.specs.Demand.{Answers, FirstToFail};
+ghost use Rattle.packed.specs.Demand.{AllHold, Answers, FirstToFail};
 ghost use Rattle.root.specs.Demands.{demands_of_root};
 ghost use Rattle.root.specs.Directory.{directory_of};
 ghost use Rattle.root.specs.Root.{IsRoot};
@@ -74,6 +74,7 @@ impl<'a> Root<'a> {
 fn check_root(bytes: &[u8]) -> Result<Root<'_>, Fault>
     ensures answers { Answers (demands_of_root bytes.now) result }
     ensures root { IfOk result (λ root. root ≡ directory_of bytes.now) }
+    ensures within { IfErr result (λ fault. fault.offset ≤ length bytes.now) }
 {
     let front = read_front(bytes)?;
     check_headers(bytes, front.start, front.count)?;
@@ -97,8 +98,12 @@ pub fn read_root(bytes: &[u8]) -> Result<Root<'_>, Fault>
     // A root is read, with its one version and its one list of stream headers.
     ensures only { (version : List ℕ) (headers : List Header) → length bytes.now ≤ 2 ^ 30 → IsRoot bytes.now version headers
         → IsOkAnd result (λ root. (root.version ≡ version) × (root.headers ≡ headers)) }
+    // What is read meets all demands, and says what stands in the fields.
+    ensures all { IfOk result (λ root. AllHold (demands_of_root bytes.now) × (root ≡ directory_of bytes.now)) }
     // A fault is that of the first demand that fails.
     ensures first { IfErr result (FirstToFail (demands_of_root bytes.now)) }
+    // Its place is one of these bytes, or their end.
+    ensures within { IfErr result (λ fault. fault.offset ≤ length bytes.now) }
 {
     check_root(bytes)
 }

@@ -1,4 +1,4 @@
-ghost use Rattle.std.specs.Prelude.{◌≡◌, ◌+◌, ◌≤◌, ◌^◌, length, IfOk};
+ghost use Rattle.std.specs.Prelude.{◌≡◌, ◌+◌, ◌≤◌, ◌^◌, length, IfOk, IfErr};
 ghost use Rattle.std.specs.Option.{option_map};
 ghost use Rattle.packed.specs.Demand.{Answers, demands_from};
 ghost use Rattle.root.specs.Demands.{demands_of_header, demands_of_tables};
@@ -45,9 +45,11 @@ fn check_header<'a>(
     requires start { start ≡ header_place bytes.now 0 }
     requires shows { AllShow bytes.now number }
     requires place { place ≡ header_place bytes.now number }
+    requires room { place ≤ length bytes.now }
     ensures answers { Answers (demands_of_header bytes.now number) result }
     ensures header { IfOk result (λ header. view header ≡ header_number bytes.now number) }
     ensures end { IfOk result (λ header. place + header_length (view header) ≤ length bytes.now) }
+    ensures within { IfErr result (λ fault. fault.offset ≤ length bytes.now) }
 {
     let Some(header) = read_header(bytes, place) else {
         return Err(Fault::new(FaultCode::StreamHeader, place as u64));
@@ -67,12 +69,14 @@ fn check_header<'a>(
 }
 
 /// Whether each of the root's headers meets what is demanded of it.
-#[tactic(auto, using(packed::proofs::DemandLemmas::before_none, packed::proofs::DemandLemmas::before_all, crate::proofs::WalkLemmas::shows_from_before))]
+#[tactic(auto, using(packed::proofs::DemandLemmas::before_none, packed::proofs::DemandLemmas::before_all))]
 pub fn check_headers(bytes: &[u8], start: usize, count: usize) -> Result<(), Fault>
     requires small { length bytes.now ≤ 2 ^ 30 }
     requires start { start ≡ header_place bytes.now 0 }
     requires count { count ≡ header_count bytes.now }
-    ensures { Answers (demands_from (demands_of_header bytes.now) 0 (header_count bytes.now)) result }
+    requires room { start ≤ length bytes.now }
+    ensures answers { Answers (demands_from (demands_of_header bytes.now) 0 (header_count bytes.now)) result }
+    ensures within { IfErr result (λ fault. fault.offset ≤ length bytes.now) }
 {
     let mut place = start;
     for number in 0..count {
@@ -88,7 +92,9 @@ pub fn check_tables(bytes: &[u8], start: usize, count: usize) -> Result<(), Faul
     requires start { start ≡ header_place bytes.now 0 }
     requires count { count ≡ header_count bytes.now }
     requires shows { AllShow bytes.now (header_count bytes.now) }
-    ensures { Answers (demands_of_tables bytes.now) result }
+    requires room { start ≤ length bytes.now }
+    ensures answers { Answers (demands_of_tables bytes.now) result }
+    ensures within { IfErr result (λ fault. fault.offset ≤ length bytes.now) }
 {
     if find_header(bytes, start, count, Kind::Tables).is_none() {
         return Err(Fault::new(FaultCode::NoTables, (start - 2) as u64));

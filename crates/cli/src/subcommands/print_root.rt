@@ -1,12 +1,18 @@
-//! `clim root`: the version and the directory of streams of a metadata root.
-ghost use Rattle.std.specs.Prelude.{◌≡◌, IfOk, false};
+//! `clim root`: the CLI header of a PE file, and the version and the directory of streams of its metadata root.
+ghost use Rattle.std.specs.Prelude.{◌≡◌, ◌≤◌, IfOk, IfErr, false, length, slice_range};
 ghost use Rattle.clap.specs.Words.{app_of};
 ghost use Rattle.clap.specs.declared.Command.TheViews.{out-Command as fields_of};
 ghost use Rattle.cli.specs.CommandLine as line;
+ghost use Rattle.packed.specs.Demand.{FirstToFail, raised};
+ghost use Rattle.root.specs.Demands.{demands_of_root};
+ghost use Rattle.root.specs.Root.{IsRoot};
 
 use crate::failure::Failure;
 use crate::shown::Shown;
 use clap::{Arg, ArgAction, Command};
+use cli_header::{CliHeader, read_cli};
+use packed::Fault;
+use pe::read_pe;
 use root::{Root, read_root};
 use std::alloc::{AllocError, Global};
 use std::io::{BufWriter, Write};
@@ -24,41 +30,84 @@ pub(crate) fn command<'a>(alloc: Global) -> Result<Command<'a>, AllocError>
         .help("The file to read");
     let bare = Arg::new(alloc, "bare")
         .long("bare")
-        .required(true)
         .action(ArgAction::SetTrue)
         .help("FILE is a metadata root and no PE file");
     Command::new(alloc, "root")
-        .about("Prints the version and the stream headers of a metadata root")
+        .about("Prints the CLI header, and the version and the stream headers of the metadata root")
         .after_help(OUTPUT)
         .arg(file)?
         .arg(bare)
 }
 
 const OUTPUT: &str = "\
-The lines are 'version TEXT' and, for each stream header, 'stream OFFSET SIZE NAME' (ECMA-335,
-II.24.2.1 and II.24.2.2). In TEXT and NAME a quote, a backslash and each byte that is not printable
-ASCII stand as \\x and two hexadecimal digits.
+The lines are, of a PE file first, 'cli MAJOR.MINOR flags F entry E root OFFSET SIZE' (ECMA-335,
+II.25.3.3), where F and E are hexadecimal and OFFSET counts in the file; then 'version TEXT' and, for
+each stream header, 'stream OFFSET SIZE NAME' (II.24.2.1 and II.24.2.2), where OFFSET counts in the
+root. A byte of TEXT or NAME that is not printable ASCII, a quote or a backslash stands as \\x and two
+hexadecimal digits. Tables, heaps and signatures are not looked at.
 
-Example:
+Examples:
+  $ clim root one_module.dll
+  cli 2.5 flags 00000001 entry 00000000 root 592 144
+  version v4.0.30319
+  stream 80 40 #~
+  stream 120 8 #Strings
+  stream 128 16 #GUID
   $ clim root --bare one_module.root
   version v4.0.30319
   stream 80 40 #~
   stream 120 8 #Strings
   stream 128 16 #GUID";
 
-/// Prints what stands at the head of the root in `file`: its version, and a line for each stream.
+/// Prints what stands at the head of a file: its CLI header unless it is a bare root, and the
+/// version and the stream headers of its metadata root.
 pub(crate) fn run<'a, R: Files + AllocGlobal, W: Write>(
     rt: &R,
     file: &'a str,
+    bare: bool,
     out: &mut W,
 ) -> Result<(), Failure<'a>> {
     let bytes = fs::read(rt, file).map_err(|error| Failure::of_reading(&error, file))?;
-    let root = read_root(&bytes)?;
-    print(rt.alloc(), &root, out).map_err(|error| Failure::of_printing(&error))
+    let (header, root) = read_heads(&bytes, bare)?;
+    print(rt.alloc(), header.as_ref(), &root, out).map_err(|error| Failure::of_printing(&error))
 }
 
-fn print<W: Write>(alloc: Global, root: &Root<'_>, out: &mut W) -> io::Result<()> {
+/// The CLI header, which a bare root has not, and the metadata root.
+fn read_heads(bytes: &[u8], bare: bool) -> Result<(Option<CliHeader>, Root<'_>), Fault> {
+    if bare {
+        return Ok((None, read_root(bytes)?));
+    }
+    let header = read_cli(&read_pe(bytes)?)?;
+    let root = read_root_at(bytes, header.root.start, header.root.end)?;
+    Ok((Some(header), root))
+}
+
+/// The metadata root in a part of a file. The place of a fault counts in the file.
+fn read_root_at(file: &[u8], start: usize, end: usize) -> Result<Root<'_>, Fault>
+    requires order { start ≤ end }
+    requires within { end ≤ length file.now }
+    ensures found { IfOk result (λ root. IsRoot (slice_range file.now start end) root.version root.headers) }
+    ensures first { IfErr result (FirstToFail (raised start (demands_of_root (slice_range file.now start end)))) }
+{
+    match read_root(&file[start..end]) {
+        Ok(root) => Ok(root),
+        Err(fault) => Err(Fault {
+            offset: start as u64 + fault.offset,
+            ..fault
+        }),
+    }
+}
+
+fn print<W: Write>(
+    alloc: Global,
+    header: Option<&CliHeader>,
+    root: &Root<'_>,
+    out: &mut W,
+) -> io::Result<()> {
     let mut out = BufWriter::new(alloc, out)?;
+    if let Some(header) = header {
+        print_header(header, &mut out)?;
+    }
     let version = Shown(root.version());
     writeln!(out, "version {version}")?;
     for header in root.headers() {
@@ -66,4 +115,14 @@ fn print<W: Write>(alloc: Global, root: &Root<'_>, out: &mut W) -> io::Result<()
         writeln!(out, "stream {offset} {size} {name}")?;
     }
     out.flush()
+}
+
+fn print_header<W: Write>(header: &CliHeader, out: &mut W) -> io::Result<()> {
+    let (major, minor) = (header.major_runtime_version, header.minor_runtime_version);
+    let (flags, entry) = (header.flags, header.entry_point_token);
+    let (offset, size) = (header.root.start, header.metadata.size);
+    writeln!(
+        out,
+        "cli {major}.{minor} flags {flags:08x} entry {entry:08x} root {offset} {size}"
+    )
 }

@@ -18,16 +18,16 @@ pub returns-in_err-check_headers-clause-answers : goal.returns-in_err-check_head
 returns-in_err-check_headers-clause-answers c =
     let p = err_from_is_err_and c.from_residual-in_err-check_headers.result c.from_residual-in_err-check_headers.ensures.1 in
     rw (p.1, p.2) (fails_back (demands_of_front c.args.bytes.now) _ _ c.in_ok-front.ensures.answers
-    (fails_front (demands_from (demands_of_header c.args.bytes.now) 0 (header_count c.args.bytes.now)) (demands_of_tables c.args.bytes.now) _ c.in_err-check_headers.ensures))
+    (fails_front (demands_from (demands_of_header c.args.bytes.now) 0 (header_count c.args.bytes.now)) (demands_of_tables c.args.bytes.now) _ c.in_err-check_headers.ensures.answers))
 
 pub check_tables-requires-clause-shows : goal.check_tables-requires-clause-shows
-check_tables-requires-clause-shows c = shows_from_all c.args.bytes.now (header_count c.args.bytes.now) c.in_ok-check_headers.ensures
+check_tables-requires-clause-shows c = shows_from_all c.args.bytes.now (header_count c.args.bytes.now) c.in_ok-check_headers.ensures.answers
 
 pub returns-in_err-check_tables-clause-answers : goal.returns-in_err-check_tables-clause-answers
 returns-in_err-check_tables-clause-answers c =
     let p = err_from_is_err_and c.from_residual-in_err-check_tables.result c.from_residual-in_err-check_tables.ensures.1 in
     rw (p.1, p.2) (fails_back (demands_of_front c.args.bytes.now) _ _ c.in_ok-front.ensures.answers
-    (fails_back (demands_from (demands_of_header c.args.bytes.now) 0 (header_count c.args.bytes.now)) (demands_of_tables c.args.bytes.now) _ c.in_ok-check_headers.ensures c.in_err-check_tables.ensures))
+    (fails_back (demands_from (demands_of_header c.args.bytes.now) 0 (header_count c.args.bytes.now)) (demands_of_tables c.args.bytes.now) _ c.in_ok-check_headers.ensures.answers c.in_err-check_tables.ensures.answers))
 
 pub invariant_of-result : goal.invariant_of-result
 invariant_of-result c =
@@ -35,11 +35,11 @@ invariant_of-result c =
     record {
       small = c.in_ok-front.ensures.small;
       start = c.in_ok-front.ensures.start;
-      shows = subst Shown (sym c.in_ok-front.ensures.count) (shows_from_all c.args.bytes.now (header_count c.args.bytes.now) c.in_ok-check_headers.ensures);
-      within = within_from_all c.args.bytes.now _ (header_count c.args.bytes.now) c.in_ok-front.ensures.count c.in_ok-check_headers.ensures;
+      shows = subst Shown (sym c.in_ok-front.ensures.count) (shows_from_all c.args.bytes.now (header_count c.args.bytes.now) c.in_ok-check_headers.ensures.answers);
+      within = within_from_all c.args.bytes.now _ (header_count c.args.bytes.now) c.in_ok-front.ensures.count c.in_ok-check_headers.ensures.answers;
     }
 
 pub returns-clause-answers : goal.returns-clause-answers
 returns-clause-answers c =
     all_append (demands_of_front c.args.bytes.now) _ c.in_ok-front.ensures.answers
-    (all_append (demands_from (demands_of_header c.args.bytes.now) 0 (header_count c.args.bytes.now)) (demands_of_tables c.args.bytes.now) c.in_ok-check_headers.ensures c.in_ok-check_tables.ensures)
+    (all_append (demands_from (demands_of_header c.args.bytes.now) 0 (header_count c.args.bytes.now)) (demands_of_tables c.args.bytes.now) c.in_ok-check_headers.ensures.answers c.in_ok-check_tables.ensures.answers)

@@ -1,0 +1,45 @@
+-- The CLI header of an image (ECMA-335 II.25.3.3), as a relation between what the image shows and the header's fields.
+use Rattle.std.specs.Prelude.{◌≡◌, ◌≢◌, ◌+◌, ◌≤◌, List, [], ◌∷◌}
+use Rattle.pe.specs.Fields.{Field, number, StandAt}
+use Rattle.pe.specs.Image.{Image}
+use Rattle.pe.specs.Place.{IsPlace}
+use Rattle.cli_header.specs.declared.header.CliHeader.{CliHeader}
+
+-- the fields of the header in their order, with how many bytes each has
+abbrev pub fields_of : CliHeader → List Field
+fields_of header =
+    number 4 header.cb
+    ∷ number 2 header.major_runtime_version
+    ∷ number 2 header.minor_runtime_version
+    ∷ number 4 header.metadata.rva
+    ∷ number 4 header.metadata.size
+    ∷ number 4 header.flags
+    ∷ number 4 header.entry_point_token
+    ∷ number 4 header.resources.rva
+    ∷ number 4 header.resources.size
+    ∷ number 4 header.strong_name_signature.rva
+    ∷ number 4 header.strong_name_signature.size
+    ∷ number 4 header.code_manager_table.rva
+    ∷ number 4 header.code_manager_table.size
+    ∷ number 4 header.vtable_fixups.rva
+    ∷ number 4 header.vtable_fixups.size
+    ∷ number 4 header.export_address_table_jumps.rva
+    ∷ number 4 header.export_address_table_jumps.size
+    ∷ number 4 header.managed_native_header.rva
+    ∷ number 4 header.managed_native_header.size
+    ∷ []
+
+-- the image's directory names a CLI header
+abbrev pub IsNamed : Image → Type 0
+IsNamed image = (image.cli_directory.0 ≢ 0) × (image.cli_directory.1 ≢ 0)
+
+-- The image has this CLI header: its directory names 72 bytes at least, the fields stand at the place of the first 72
+-- of them, Cb counts 72 bytes at least, and the bytes that MetaData names are the root's.
+pub record IsCliHeader (image : Image) (header : CliHeader) : Type 0 where
+  pub named : IsNamed image
+  pub long : 72 ≤ image.cli_directory.1
+  pub place : IsPlace image image.cli_directory.0 72 header.place
+  pub fields : StandAt image.bytes header.place (fields_of header)
+  pub enough : 72 ≤ header.cb
+  pub root : IsPlace image header.metadata.rva header.metadata.size header.root.start
+  pub root_end : header.root.«end» ≡ header.root.start + header.metadata.size

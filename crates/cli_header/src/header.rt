@@ -1,0 +1,144 @@
+ghost use Rattle.std.specs.Prelude.{◌≡◌, ◌+◌, ◌≤◌, length, IfOk, IfErr, IsOkAnd};
+ghost use Rattle.packed.specs.Demand.{AllHold, Answers, FirstToFail};
+ghost use Rattle.cli_header.specs.Demands.{demands_of_directory, demands_of_cli_header};
+ghost use Rattle.cli_header.specs.Header.{IsCliHeader};
+ghost use Rattle.cli_header.specs.Said.{directory_at, header_place, header_of};
+
+use packed::{Fault, FaultCode, u16_at, u32_at};
+use pe::Pe;
+use std::ops::Range;
+
+/// How many bytes a CLI header has at least.
+const HEADER_SIZE: u32 = 72;
+
+/// An address and how many bytes lie there, as headers name them (II.25.2.3.3).
+///
+/// Both are 0 where there is nothing to name.
+#[derive(Clone, Copy, Debug, PartialEq, Eq)]
+pub struct DataDirectory {
+    /// The relative virtual address of the first byte.
+    pub rva: u32,
+    /// How many bytes there are.
+    pub size: u32,
+}
+
+/// The CLI header of an image (II.25.3.3).
+#[derive(Clone, Debug, PartialEq, Eq, Drop)]
+pub struct CliHeader {
+    /// Where the header begins in the file.
+    pub place: usize,
+    /// How many bytes the header says that it has: 72 at least.
+    pub cb: u32,
+    /// The least version of the runtime that the image needs.
+    pub major_runtime_version: u16,
+    /// The minor part of that version.
+    pub minor_runtime_version: u16,
+    /// The metadata root.
+    pub metadata: DataDirectory,
+    /// Flags that describe the image, one bit each (II.25.3.3.1).
+    pub flags: u32,
+    /// The token of the method where the program begins, or of the file that has it; 0 in a library.
+    pub entry_point_token: u32,
+    /// The resources that the image has.
+    pub resources: DataDirectory,
+    /// The hash of the file by which a loader checks its strong name.
+    pub strong_name_signature: DataDirectory,
+    /// Always 0 in the standard.
+    pub code_manager_table: DataDirectory,
+    /// The tables of function pointers that a loader fills in.
+    pub vtable_fixups: DataDirectory,
+    /// Always 0 in the standard.
+    pub export_address_table_jumps: DataDirectory,
+    /// Always 0 in the standard.
+    pub managed_native_header: DataDirectory,
+    /// Where the metadata root lies in the file, by its directory `metadata`.
+    pub root: Range<usize>,
+}
+
+impl DataDirectory {
+    ghost use Rattle.cli_header.specs.Said.{directory_at};
+
+    /// The directory at a place of a header.
+    fn read(header: &[u8], place: usize) -> DataDirectory
+        requires { place + 8 ≤ length header.now }
+        ensures { result ≡ directory_at header.now place }
+    {
+        DataDirectory {
+            rva: u32_at(header, place),
+            size: u32_at(header, place + 4),
+        }
+    }
+}
+
+/// Where the header that the image's directory names begins in the file.
+fn find_header(pe: &Pe) -> Result<usize, Fault>
+    ensures answers { Answers (demands_of_directory pe.now) result }
+    ensures place { IfOk result (λ place. place ≡ header_place pe.now) }
+    ensures within { IfOk result (λ place. place + 72 ≤ length pe.now.bytes) }
+{
+    let directory = pe.cli_directory_place() as u64;
+    let (rva, size) = pe.cli_directory();
+    if rva == 0 || size == 0 {
+        return Err(Fault::new(FaultCode::NoCliHeader, directory));
+    }
+    if size < HEADER_SIZE {
+        return Err(Fault::new(FaultCode::CliAddress, directory));
+    }
+    let Some(range) = pe.range(rva, HEADER_SIZE) else {
+        return Err(Fault::new(FaultCode::CliAddress, directory));
+    };
+    Ok(range.start)
+}
+
+/// The header that meets all demands, or the fault of the first that is not met.
+fn check_cli(pe: &Pe) -> Result<CliHeader, Fault>
+    ensures answers { Answers (demands_of_cli_header pe.now) result }
+    ensures header { IfOk result (λ header. header ≡ header_of pe.now) }
+{
+    let place = find_header(pe)?;
+    let (_, rest) = pe.bytes().split_at(place);
+    let (header, _) = rest.split_at(HEADER_SIZE as usize);
+    let cb = u32_at(header, 0);
+    if cb < HEADER_SIZE {
+        return Err(Fault::new(FaultCode::CliSize, place as u64));
+    }
+    let metadata = DataDirectory::read(header, 8);
+    let Some(root) = pe.range(metadata.rva, metadata.size) else {
+        return Err(Fault::new(FaultCode::MetadataAddress, (place + 8) as u64));
+    };
+    Ok(CliHeader {
+        place,
+        cb,
+        major_runtime_version: u16_at(header, 4),
+        minor_runtime_version: u16_at(header, 6),
+        metadata,
+        flags: u32_at(header, 16),
+        entry_point_token: u32_at(header, 20),
+        resources: DataDirectory::read(header, 24),
+        strong_name_signature: DataDirectory::read(header, 32),
+        code_manager_table: DataDirectory::read(header, 40),
+        vtable_fixups: DataDirectory::read(header, 48),
+        export_address_table_jumps: DataDirectory::read(header, 56),
+        managed_native_header: DataDirectory::read(header, 64),
+        root,
+    })
+}
+
+/// Reads the CLI header that the image's fifteenth data directory names (II.25.3.3).
+///
+/// There is no memory to want, and the cost is linear in the section headers. What the flags and the
+/// entry point say is not looked at.
+pub fn read_cli(pe: &Pe) -> Result<CliHeader, Fault>
+    // What is read is the image's header.
+    ensures found { IfOk result (λ header. IsCliHeader pe.now header) }
+    // A header is read, and an image has at most one.
+    ensures only { (header : CliHeader) → IsCliHeader pe.now header → IsOkAnd result (λ found. found ≡ header) }
+    // The root lies within the file.
+    ensures root { IfOk result (λ header. (header.root.start ≤ header.root.«end») × (header.root.«end» ≤ length pe.now.bytes)) }
+    // What is read meets all demands, and says what its bytes say.
+    ensures all { IfOk result (λ header. AllHold (demands_of_cli_header pe.now) × (header ≡ header_of pe.now)) }
+    // A fault is that of the first demand that fails.
+    ensures first { IfErr result (FirstToFail (demands_of_cli_header pe.now)) }
+{
+    check_cli(pe)
+}

@@ -1,0 +1,4 @@
+pub mod FieldLemmas
+pub mod ImageLemmas
+pub mod PlaceLemmas
+pub mod SectionLemmas

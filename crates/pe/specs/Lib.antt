@@ -1,0 +1,6 @@
+pub mod Checked
+pub mod Demands
+pub mod Fields
+pub mod Headers
+pub mod Image
+pub mod Place

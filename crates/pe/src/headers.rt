@@ -1,0 +1,147 @@
+ghost use Rattle.std.specs.Prelude.{◌≡◌, ◌+◌, ◌≤◌, ◌^◌, length, IfOk};
+ghost use Rattle.packed.specs.Demand.{Answers};
+ghost use Rattle.pe.specs.Demands.{demands_of_dos_header, demands_of_signature, demands_of_optional_header, demands_of_sections};
+ghost use Rattle.pe.specs.Headers.{lfanew, section_count, sections_place, directory_place, optional_header_size};
+
+use crate::section::SECTION_HEADER_SIZE;
+use packed::{Fault, FaultCode, u16_at, u32_at};
+
+/// The most bytes of a file.
+const LIMIT: usize = 1 << 30;
+
+/// Where the place of the PE signature stands in the MS-DOS header.
+const LFANEW: usize = 0x3C;
+
+/// Where the number of sections stands, counted from the PE signature.
+const SECTION_COUNT: usize = 6;
+
+/// Where the size of the optional header stands, counted from the PE signature.
+const OPTIONAL_HEADER_SIZE: usize = 20;
+
+/// Where the optional header begins, counted from the PE signature.
+pub const OPTIONAL_HEADER: usize = 24;
+
+/// Where the number of data directories stands in PE32, counted from the PE signature.
+const DIRECTORY_COUNT: usize = 116;
+
+/// Where the CLI header's directory stands in PE32, counted from the PE signature.
+const CLI_DIRECTORY: usize = 232;
+
+/// How many bytes more PE32+ has before these two.
+const PE32_PLUS_WIDER: usize = 16;
+
+/// Magic of PE32.
+const PE32: u16 = 0x10B;
+
+/// Magic of PE32+.
+const PE32_PLUS: u16 = 0x20B;
+
+/// The fewest bytes of an optional header: as far as the fifteenth data directory in PE32.
+const PE32_SIZE: usize = 216;
+
+/// The same in PE32+.
+const PE32_PLUS_SIZE: usize = 232;
+
+/// The fewest data directories: the CLI header's is the fifteenth.
+const DIRECTORIES: u32 = 15;
+
+/// Reads the MS-DOS header (II.25.2.1): where the PE signature stands.
+pub fn read_dos_header(bytes: &[u8]) -> Result<usize, Fault>
+    ensures answers { Answers (demands_of_dos_header bytes.now) result }
+    ensures lfanew { IfOk result (λ place. place ≡ lfanew bytes.now) }
+    ensures small { IfOk result (λ _. length bytes.now ≤ 2 ^ 30) }
+{
+    if bytes.len() > LIMIT {
+        return Err(Fault::new(FaultCode::TooLong, 0));
+    }
+    if bytes.len() < LFANEW + 4 {
+        return Err(Fault::new(FaultCode::DosHeader, 0));
+    }
+    let (signature, _) = bytes.split_at(2);
+    if signature != b"MZ".as_slice() {
+        return Err(Fault::new(FaultCode::DosHeader, 0));
+    }
+    Ok(u32_at(bytes, LFANEW) as usize)
+}
+
+/// The fields of the PE file header by which the headers behind it are found (II.25.2.2).
+#[derive(Clone, Copy)]
+pub struct FileHeader {
+    /// How many section headers there are.
+    pub section_count: usize,
+    /// How many bytes the optional header has.
+    pub optional_header_size: usize,
+}
+
+/// Reads the PE file header, where the PE signature stands before it (II.25.2.2).
+pub fn read_file_header(bytes: &[u8], place: usize) -> Result<FileHeader, Fault>
+    requires small { length bytes.now ≤ 2 ^ 30 }
+    requires place { place ≡ lfanew bytes.now }
+    ensures answers { Answers (demands_of_signature bytes.now) result }
+    ensures room { IfOk result (λ _. place + 24 ≤ length bytes.now) }
+    ensures section_count { IfOk result (λ header. header.section_count ≡ section_count bytes.now) }
+    ensures size { IfOk result (λ header. header.optional_header_size ≡ optional_header_size bytes.now) }
+{
+    if bytes.len() < place || bytes.len() - place < OPTIONAL_HEADER {
+        return Err(Fault::new(FaultCode::PeSignature, LFANEW as u64));
+    }
+    let (_, rest) = bytes.split_at(place);
+    let (signature, _) = rest.split_at(4);
+    if signature != b"PE\0\0".as_slice() {
+        return Err(Fault::new(FaultCode::PeSignature, LFANEW as u64));
+    }
+    Ok(FileHeader {
+        section_count: u16_at(bytes, place + SECTION_COUNT) as usize,
+        optional_header_size: u16_at(bytes, place + OPTIONAL_HEADER_SIZE) as usize,
+    })
+}
+
+/// Reads the optional header of so many bytes (II.25.2.3): where the CLI header's directory stands.
+pub fn read_optional_header(bytes: &[u8], place: usize, size: usize) -> Result<usize, Fault>
+    requires small { length bytes.now ≤ 2 ^ 30 }
+    requires place { place ≡ lfanew bytes.now }
+    requires size { size ≡ optional_header_size bytes.now }
+    requires room { place + 24 ≤ length bytes.now }
+    ensures answers { Answers (demands_of_optional_header bytes.now) result }
+    ensures directory { IfOk result (λ directory. directory ≡ directory_place bytes.now) }
+    ensures room { IfOk result (λ directory. directory + 8 ≤ place + 24 + size) }
+    ensures end { IfOk result (λ _. place + 24 + size ≤ length bytes.now) }
+{
+    let size_place = (place + OPTIONAL_HEADER_SIZE) as u64;
+    let start = place + OPTIONAL_HEADER;
+    if size < PE32_SIZE || bytes.len() - start < size {
+        return Err(Fault::new(FaultCode::OptionalHeader, size_place));
+    }
+    let magic = u16_at(bytes, start);
+    if magic == PE32_PLUS && size < PE32_PLUS_SIZE {
+        return Err(Fault::new(FaultCode::Pe32PlusSize, size_place));
+    }
+    if magic != PE32 && magic != PE32_PLUS {
+        return Err(Fault::new(FaultCode::Magic, start as u64));
+    }
+    let wider = if magic == PE32_PLUS {
+        PE32_PLUS_WIDER
+    } else {
+        0
+    };
+    let count_place = place + DIRECTORY_COUNT + wider;
+    if u32_at(bytes, count_place) < DIRECTORIES {
+        return Err(Fault::new(FaultCode::Directories, count_place as u64));
+    }
+    Ok(place + CLI_DIRECTORY + wider)
+}
+
+/// Whether so many section headers end within the file (II.25.3).
+pub fn check_sections(bytes: &[u8], place: usize, start: usize, count: usize) -> Result<(), Fault>
+    requires small { length bytes.now ≤ 2 ^ 30 }
+    requires place { place ≡ lfanew bytes.now }
+    requires start { start ≡ sections_place bytes.now }
+    requires count { count ≡ section_count bytes.now }
+    requires within { start ≤ length bytes.now }
+    ensures { Answers (demands_of_sections bytes.now) result }
+{
+    if (bytes.len() - start) / SECTION_HEADER_SIZE < count {
+        return Err(Fault::new(FaultCode::Sections, (place + SECTION_COUNT) as u64));
+    }
+    Ok(())
+}

@@ -1,0 +1,66 @@
+ghost use Rattle.std.specs.Prelude.{◌≡◌, ◌+◌, ◌*◌, ◌≤◌, length};
+ghost use Rattle.std.specs.List.{find};
+ghost use Rattle.pe.specs.Headers.{section_at, sections_from};
+ghost use Rattle.pe.specs.Place.{has_bytes};
+
+use packed::u32_at;
+
+/// How many bytes a section header has.
+pub const SECTION_HEADER_SIZE: usize = 40;
+
+/// The fields of a section header by which addresses are found in the file (II.25.3).
+#[derive(Clone, Copy)]
+pub struct SectionHeader {
+    /// The address of the section's first byte.
+    pub virtual_address: u32,
+    /// How many bytes of the section the file has.
+    pub size_of_raw_data: u32,
+    /// Where these bytes begin in the file.
+    pub pointer_to_raw_data: u32,
+}
+
+impl SectionHeader {
+    ghost use Rattle.pe.specs.Headers.{section_at};
+    ghost use Rattle.pe.specs.Place.{has_bytes};
+
+    /// The section header at a place.
+    fn read(bytes: &[u8], place: usize) -> SectionHeader
+        requires { place + 40 ≤ length bytes.now }
+        ensures { result ≡ section_at bytes.now place }
+    {
+        SectionHeader {
+            virtual_address: u32_at(bytes, place + 12),
+            size_of_raw_data: u32_at(bytes, place + 16),
+            pointer_to_raw_data: u32_at(bytes, place + 20),
+        }
+    }
+
+    /// Whether so many bytes at an address are among those that the file has of the section.
+    fn has_bytes(self, rva: u32, n: u32) -> bool
+        ensures { result ≡ has_bytes rva n self }
+    {
+        let end = rva as u64 + n as u64;
+        let section_end = self.virtual_address as u64 + self.size_of_raw_data as u64;
+        self.virtual_address <= rva && end <= section_end
+    }
+}
+
+/// The first of so many sections that has these bytes; the section headers begin at `start`.
+pub fn find_section(
+    bytes: &[u8],
+    start: usize,
+    count: usize,
+    rva: u32,
+    n: u32,
+) -> Option<SectionHeader>
+    requires { start + 40 * count ≤ length bytes.now }
+    ensures { result ≡ find (has_bytes rva n) (sections_from bytes.now start count) }
+{
+    for number in 0..count {
+        let section = SectionHeader::read(bytes, start + SECTION_HEADER_SIZE * number);
+        if section.has_bytes(rva, n) {
+            return Some(section);
+        }
+    }
+    None
+}
