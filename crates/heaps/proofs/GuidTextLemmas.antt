@@ -1,0 +1,31 @@
+-- The bytes of a GUID as its text has them.
+use Rattle.std.proofs.Common.{◌≡◌, ℕ, List, [], ◌∷◌, length, Result, Ok, Err, IfOk, Some, refl, ◌∙◌, ap, arith}
+use Rattle.uuid.specs.Parts.{swap_fields}
+use Rattle.uuid.specs.Text.{parsed}
+use Rattle.heaps.specs.GuidText.{as_read}
+
+-- `uuid` swaps the same bytes
+pub swapped_is : (guid : List ℕ) → length guid ≡ 16 → swap_fields guid ≡ as_read guid
+swapped_is ([]) len = absurd (omega arith)
+swapped_is (a ∷ []) len = absurd (omega arith)
+swapped_is (a ∷ b ∷ []) len = absurd (omega arith)
+swapped_is (a ∷ b ∷ c ∷ []) len = absurd (omega arith)
+swapped_is (a ∷ b ∷ c ∷ d ∷ []) len = absurd (omega arith)
+swapped_is (a ∷ b ∷ c ∷ d ∷ e ∷ []) len = absurd (omega arith)
+swapped_is (a ∷ b ∷ c ∷ d ∷ e ∷ f ∷ []) len = absurd (omega arith)
+swapped_is (a ∷ b ∷ c ∷ d ∷ e ∷ f ∷ g ∷ []) len = absurd (omega arith)
+swapped_is (a ∷ b ∷ c ∷ d ∷ e ∷ f ∷ g ∷ h ∷ []) len = absurd (omega arith)
+swapped_is (a ∷ b ∷ c ∷ d ∷ e ∷ f ∷ g ∷ h ∷ i ∷ []) len = absurd (omega arith)
+swapped_is (a ∷ b ∷ c ∷ d ∷ e ∷ f ∷ g ∷ h ∷ i ∷ j ∷ []) len = absurd (omega arith)
+swapped_is (a ∷ b ∷ c ∷ d ∷ e ∷ f ∷ g ∷ h ∷ i ∷ j ∷ k ∷ []) len = absurd (omega arith)
+swapped_is (a ∷ b ∷ c ∷ d ∷ e ∷ f ∷ g ∷ h ∷ i ∷ j ∷ k ∷ l ∷ []) len = absurd (omega arith)
+swapped_is (a ∷ b ∷ c ∷ d ∷ e ∷ f ∷ g ∷ h ∷ i ∷ j ∷ k ∷ l ∷ m ∷ []) len = absurd (omega arith)
+swapped_is (a ∷ b ∷ c ∷ d ∷ e ∷ f ∷ g ∷ h ∷ i ∷ j ∷ k ∷ l ∷ m ∷ n ∷ []) len = absurd (omega arith)
+swapped_is (a ∷ b ∷ c ∷ d ∷ e ∷ f ∷ g ∷ h ∷ i ∷ j ∷ k ∷ l ∷ m ∷ n ∷ o ∷ []) len = absurd (omega arith)
+swapped_is (a ∷ b ∷ c ∷ d ∷ e ∷ f ∷ g ∷ h ∷ i ∷ j ∷ k ∷ l ∷ m ∷ n ∷ o ∷ p ∷ []) len = refl
+swapped_is (a ∷ b ∷ c ∷ d ∷ e ∷ f ∷ g ∷ h ∷ i ∷ j ∷ k ∷ l ∷ m ∷ n ∷ o ∷ p ∷ q ∷ rest) len = absurd (omega arith)
+
+-- a copy of a text parses as the text does
+pub copy_parses : {T E : Type 0} (bytes_of : T → List ℕ) (copied : Result T E) (text guid : List ℕ) → IfOk copied (λ t. bytes_of t ≡ text) → parsed text ≡ Some guid → IfOk copied (λ t. parsed (bytes_of t) ≡ Some guid)
+copy_parses bytes_of (Ok t) text guid same is = ap parsed same ∙ is
+copy_parses bytes_of (Err e) text guid same is = tt

@@ -1,0 +1,9 @@
+use Rattle.heaps.specs.Distinct.{distinct}
+use Rattle.heaps.proofs.MemberLemmas.{distinct-push, in_distinct, in_from_contains, contains_from_in}
+use Rattle.heaps.proofs.laws.pooled_are_distinct.Goals as goal
+
+pub returns-clause-more : goal.returns-clause-more
+returns-clause-more c = distinct-push
+
+pub returns-clause-each : goal.returns-clause-each
+returns-clause-each c = λ used value there some. contains_from_in (distinct used) value (in_distinct used value (in_from_contains used value there) some)

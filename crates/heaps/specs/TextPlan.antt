@@ -1,0 +1,44 @@
+-- What a strings heap that is planned stands for, and how its bytes and spans hold it.
+use Rattle.std.specs.Prelude.{◌≡◌, ◌==◌, ℕ, ◌+◌, ◌<◌, ◌≤◌, ◌^◌, List, [], ◌∷◌, length, take, drop, if◌then◌else◌}
+use Rattle.std.specs.declared.cmp.Ordering.TheVariants.{Less}
+use Rattle.heaps.specs.declared.text_plan.Span.{Span}
+use Rattle.heaps.specs.Ending.{ending_cmp}
+use Rattle.heaps.specs.TextHeap.{text_heap, text_index, holders, ended}
+use Rattle.heaps.specs.Uses.{span_at}
+
+-- the entries of the heap, and the texts that were planned
+pub record TextPlan : Type 0 where
+  pub entries : List (List ℕ)
+  pub texts : List (List ℕ)
+
+abbrev pub with_front : ℕ → List (List ℕ) → List (List ℕ)
+with_front byte [] = []
+with_front byte (text ∷ texts) = (byte ∷ text) ∷ texts
+
+-- the texts that NULs end
+abbrev pub texts_in : List ℕ → List (List ℕ)
+texts_in [] = []
+texts_in (byte ∷ bytes) = if byte == 0 then [] ∷ texts_in bytes else with_front byte (texts_in bytes)
+
+-- the entries of a heap: the texts after its first byte
+abbrev pub entries_in : List ℕ → List (List ℕ)
+entries_in heap = texts_in (drop 1 heap)
+
+-- the text at a span
+abbrev pub text_in : List ℕ → Span → List ℕ
+text_in heap span = take span.len (drop span.start heap)
+
+-- the heap is that of its entries, and each span is that of a text at its index, in the order of the texts' endings
+pub record IsTextPool (heap : List ℕ) (spans : List Span) : Type 0 where
+  pub whole : heap ≡ text_heap (entries_in heap)
+  pub fits : length heap ≤ 2 ^ 30
+  pub within : (k : ℕ) → k < length spans → (span_at spans k).start + (span_at spans k).len ≤ length heap
+  pub indexes : (k : ℕ) → k < length spans → (span_at spans k).start ≡ text_index (entries_in heap) (text_in heap (span_at spans k))
+  pub rises : (i j : ℕ) → i < j → j < length spans → ending_cmp (text_in heap (span_at spans i)) (text_in heap (span_at spans j)) ≡ Less
+
+-- a span is where a text stands in the heap of the used texts' holders
+pub record IsSpanOf (used : List (List ℕ)) (text : List ℕ) (span : Span) : Type 0 where
+  pub start : span.start ≡ text_index (holders used) text
+  pub len : span.len ≡ length text
+  pub within : span.start + span.len ≤ length (ended (holders used))
+  pub reads : text_in (0 ∷ ended (holders used)) span ≡ text

@@ -1,0 +1,37 @@
+ghost use Rattle.std.specs.Prelude.{◌≡◌, ◌<◌, ◌^◌, ◌++◌, ◌∷◌, [], ◌⊎◌, ℕ, List, length, All, Contains, IsUtf8, Some};
+ghost use Rattle.heaps.specs.BlobHeap.{blob_heap, blob_index};
+ghost use Rattle.heaps.specs.Distinct.{distinct, pooled};
+ghost use Rattle.heaps.specs.Entries.{HasNoNul, IsBlob, IsGuid, IsText, IsUserString};
+ghost use Rattle.heaps.specs.GuidHeap.{guid_heap, guid_index};
+ghost use Rattle.heaps.specs.TextHeap.{holders, text_heap, text_index};
+ghost use Rattle.heaps.specs.Units.{last_byte, user_entry, user_length};
+
+/// A used text is the text of its index in the planned heap, whatever bytes follow that heap.
+pub fn used_text_is_found()
+    ensures { (used : List (List ℕ)) (text rest : List ℕ) → Contains used text → HasNoNul text → IsUtf8 text
+        → IsText (text_heap (holders used) ++ rest) (text_index (holders used) text) text }
+{}
+
+/// A pooled blob is the blob of its index in the heap, whatever bytes follow that heap.
+pub fn pooled_blob_is_found()
+    ensures { (entries : List (List ℕ)) (blob rest : List ℕ) → (blob ≡ []) ⊎ Contains entries blob → length blob < 2 ^ 29
+        → IsBlob (blob_heap entries ++ rest) (blob_index entries blob) blob }
+{}
+
+/// A pooled GUID is the GUID of its index in the heap, whatever bytes follow that heap.
+pub fn pooled_guid_is_found()
+    ensures { (entries : List (List ℕ)) (guid rest : List ℕ) → Contains entries guid → All (λ entry. length entry ≡ 16) entries
+        → IsGuid (guid_heap entries ++ rest) (guid_index entries (Some guid)) (Some guid) }
+{}
+
+/// A user string that was pushed is the one of its offset, whatever bytes follow.
+pub fn pushed_string_is_found()
+    ensures { (heap units rest : List ℕ) → 0 < length heap → user_length units < 2 ^ 29
+        → IsUserString (heap ++ (user_entry units ++ rest)) (length heap) (record { units = units; flag = Some (last_byte units) }) }
+{}
+
+/// Values that are pooled one after another are the distinct ones, and each that is not empty is there.
+pub fn pooled_are_distinct()
+    ensures more { (used : List (List ℕ)) (value : List ℕ) → distinct (used ++ value ∷ []) ≡ pooled (distinct used) value }
+    ensures each { (used : List (List ℕ)) (value : List ℕ) → Contains used value → 0 < length value → Contains (distinct used) value }
+{}

@@ -1,0 +1,51 @@
+//! The heaps of the metadata root (ECMA-335 II.24.2.3 to II.24.2.5): `#Strings`, `#Blob`, `#US` and
+//! `#GUID`.
+//!
+//! [`text`], [`blob`], [`user_string`] and [`guid`] read what stands at an index, in the bytes of the
+//! heap and without memory. They answer it exactly where something stands there, else the
+//! [`HeapFault`] that says what is missing; a heap that is absent is no bytes. [`TextPool`],
+//! [`BlobPool`], [`GuidPool`] and [`UserHeap`] make the heaps that are written: each value once, in
+//! the order of first use, and texts that others end with inside these. `laws.rt` says that what is
+//! pooled is read back.
+//!
+//! ```text
+//! text(b"\0a.dll\0", 1) == Ok("a.dll")
+//! let pool = TextPool::plan(alloc, &["me", "Name"])?;
+//! pool.add("me") == 3 && pool.bytes() == b"\0Name\0"
+//! ```
+#![tactic(auto)]
+
+mod blob_pool;
+mod blobs;
+mod ending;
+mod fault;
+mod first_byte;
+mod guid_format;
+mod guid_pool;
+mod guids;
+mod laws;
+mod pool_error;
+mod strings;
+mod text_plan;
+mod text_pool;
+mod user_heap;
+mod user_strings;
+
+pub use blob_pool::BlobPool;
+pub use blobs::blob;
+pub use fault::HeapFault;
+pub use guid_format::guid_text;
+pub use guid_pool::GuidPool;
+pub use guids::guid;
+pub use laws::{
+    pooled_are_distinct, pooled_blob_is_found, pooled_guid_is_found, pushed_string_is_found,
+    used_text_is_found,
+};
+pub use pool_error::PoolError;
+pub use strings::text;
+pub use text_pool::TextPool;
+pub use user_heap::UserHeap;
+pub use user_strings::{Units, UserString, user_string};
+
+#[cfg(test)]
+mod tests;

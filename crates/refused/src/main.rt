@@ -1,0 +1,50 @@
+//! Every call of `packed` and `heaps` that has an answer for want of memory, once and, where it
+//! gives that answer, once more.
+//!
+//! It is run with each allocation refused in turn. It then ends with status 3 and prints nothing,
+//! where its own buffers had no memory, and else prints what it prints with ample memory. Status 4
+//! says that a call broke a promise: that a refused call changes nothing, or that a call which
+//! takes no memory does not want any.
+#![tactic(auto)]
+
+mod numbers;
+mod pools;
+mod stop;
+
+use crate::stop::Stop;
+use std::alloc::Global;
+use std::process::ExitCode;
+
+fn main(rt: HostRuntime) -> ExitCode {
+    match report(rt.alloc()) {
+        Ok(lines) => {
+            let _ = println!(rt; "{lines}");
+            ExitCode::SUCCESS
+        }
+        Err(Stop::Memory) => ExitCode::from(3),
+        Err(Stop::Broken(promise)) => {
+            let _ = eprintln!(rt; "{promise}");
+            ExitCode::from(4)
+        }
+    }
+}
+
+/// A line for each kind of call.
+fn report(alloc: Global) -> Result<String, Stop> {
+    let mut lines = String::new(alloc);
+    for (name, bytes) in [
+        ("numbers", numbers::spelled(alloc)?),
+        ("texts", pools::texts(alloc)?),
+        ("blobs", pools::blobs(alloc)?),
+        ("guids", pools::guids(alloc)?),
+        ("user strings", pools::user_strings(alloc)?),
+    ] {
+        write!(lines, "{name}")?;
+        for byte in &bytes {
+            write!(lines, " {byte:02x}")?;
+        }
+        lines.push('\n')?;
+    }
+    lines.push_str(pools::guid(alloc)?.as_str())?;
+    Ok(lines)
+}

@@ -1,0 +1,48 @@
+use heaps::PoolError;
+use std::alloc::{AllocError, AllocFailed};
+use std::fmt;
+
+/// Why the program ends early.
+#[derive(Clone, Copy, Debug, PartialEq, Eq)]
+pub enum Stop {
+    /// Memory was refused twice, or to the program itself.
+    Memory,
+    /// A call broke this promise.
+    Broken(&'static str),
+}
+
+/// Goes on where a promise is kept.
+pub fn kept(holds: bool, promise: &'static str) -> Result<(), Stop> {
+    if holds {
+        Ok(())
+    } else {
+        Err(Stop::Broken(promise))
+    }
+}
+
+impl From<AllocError> for Stop {
+    fn from(_: AllocError) -> Stop {
+        Stop::Memory
+    }
+}
+
+impl<T: Drop> From<AllocFailed<T>> for Stop {
+    fn from(_: AllocFailed<T>) -> Stop {
+        Stop::Memory
+    }
+}
+
+impl From<fmt::Error> for Stop {
+    fn from(_: fmt::Error) -> Stop {
+        Stop::Memory
+    }
+}
+
+impl From<PoolError> for Stop {
+    fn from(error: PoolError) -> Stop {
+        match error {
+            PoolError::Memory => Stop::Memory,
+            PoolError::Full => Stop::Broken("a small heap is not full"),
+        }
+    }
+}

@@ -1,0 +1,43 @@
+-- The bytes of numbers, and parts of lists.
+use Rattle.std.proofs.Common.{◌≡◌, ℕ, zero, suc, ◌*◌, ◌/◌, ◌^◌, ◌<◌, List, ◌++◌, take, drop, length, refl, sym, ◌∙◌, ap, append_assoc, arith}
+use Rattle.std.proofs.lemmas.List.{drop_at, take_at}
+use Rattle.std.proofs.Math.Nat.{pow-succ'}
+use Rattle.packed.specs.Number.{little_endian}
+use Rattle.packed.specs.Places.{part}
+use Rattle.schema.specs.LaidOut.{number_bytes}
+
+-- elements of a list, behind those before them
+pub record Follows (whole before here : List ℕ) : Type 0 where
+  pub after : List ℕ
+  pub split : whole ≡ before ++ (here ++ after)
+
+-- what follows within a part follows within the whole, behind more
+pub follows_within : (whole before here fewer inner : List ℕ) → Follows whole before here → Follows here fewer inner → Follows whole (before ++ fewer) inner
+follows_within whole before here fewer inner outside inside =
+    record {
+      after = inside.after ++ outside.after;
+      split = outside.split
+          ∙ ap (λ h. before ++ (h ++ outside.after)) inside.split
+          ∙ ap (λ h. before ++ h) (append_assoc fewer (inner ++ inside.after) outside.after ∙ ap (λ h. fewer ++ h) (append_assoc inner inside.after outside.after))
+          ∙ sym (append_assoc before fewer (inner ++ (inside.after ++ outside.after)));
+    }
+
+-- it stands at the length of what precedes it
+pub part_follows : (whole before here : List ℕ) (place width : ℕ) → Follows whole before here → length before ≡ place → length here ≡ width → part whole place width ≡ here
+part_follows whole before here place width follows long wide =
+    ap (λ w. take width (drop place w)) follows.split
+    ∙ ap (take width) (drop_at before (here ++ follows.after) place long)
+    ∙ take_at here follows.after width wide
+
+pub length-number_bytes : (width number : ℕ) → length (number_bytes width number) ≡ width
+length-number_bytes zero number = refl
+length-number_bytes (suc width) number = ap suc (length-number_bytes width (number / 256))
+
+-- a number within its width is read again
+pub number_again : (width number : ℕ) → number < 256 ^ width → little_endian (number_bytes width number) ≡ number
+number_again zero number fits = omega arith
+number_again (suc width) number fits =
+    let power : 256 ^ suc width ≡ 256 * 256 ^ width = pow-succ' 256 width in
+    let high : number / 256 < 256 ^ width = omega arith in
+    let again = number_again width (number / 256) high in
+    omega arith

@@ -1,0 +1,4 @@
+pub mod BytesLemmas
+pub mod HalvingLemmas
+pub mod PlaceLemmas
+pub mod RowLemmas

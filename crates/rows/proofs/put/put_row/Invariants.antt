@@ -1,0 +1,12 @@
+use Rattle.std.proofs.Common.{◌≡◌, ◌+◌, ◌≤◌, ◌++◌, drop, vec_len, vec_capacity}
+use Rattle.schema.specs.Columns.{columns_of}
+use Rattle.schema.specs.Places.{columns_width}
+use Rattle.schema.specs.LaidOut.{row_bytes}
+use Rattle.rows.proofs.put.put_row.Given as goal
+
+-- with the columns that are left it is the whole row, and there is room for them
+abbrev pub invariant-loop-column : goal.invariant-loop-column
+invariant-loop-column l = record {
+  whole : l.bytes.items ++ row_bytes l.layout (drop l.column (columns_of l.table)) (drop l.column l.numbers) ≡ l.fn.bytes.items ++ row_bytes l.layout (columns_of l.table) l.numbers;
+  room : vec_len l.bytes + columns_width l.layout (drop l.column (columns_of l.table)) ≤ vec_capacity l.bytes;
+}

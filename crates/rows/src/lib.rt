@@ -1,0 +1,25 @@
+//! The rows of the tables in a table stream (ECMA-335 II.22 and II.24.2.6).
+//!
+//! [`Rows`] reads the cells of a stream in place, each in constant time, and [`put_row`] appends a row
+//! as a stream has it: what is written is read again. Where the keys of a table never fall,
+//! [`find_key`] finds the rows with a key by halving, and tells how many keys it read. Only
+//! [`put_row`] takes memory.
+//!
+//! ```text
+//! let rows = Rows::new(stream, Layout::read(stream)?);
+//! rows.place(TableId::Module, 1, 2) == 32
+//! let name = rows.number(TableId::Module, 1, 1);
+//! put_row(&mut bytes, rows.layout(), TableId::Module, &[0, name, 1, 0, 0])?;
+//! ```
+#![tactic(auto)]
+
+mod keys;
+mod put;
+mod rows;
+
+pub use keys::{Found, Keys, find_key};
+pub use put::{put_row, rows_are_read_again};
+pub use rows::Rows;
+
+#[cfg(test)]
+mod tests;

@@ -1,0 +1,58 @@
+ghost use Rattle.std.specs.Prelude.{◌≡◌, ◌<◌, ◌≤◌, ◌+◌, ◌^◌, ◌++◌, ℕ, List, length, slice_index, OnOk, OnErr, IsOk, vec_len, vec_capacity};
+ghost use Rattle.packed.specs.Number.{little_endian};
+ghost use Rattle.packed.specs.Places.{part};
+ghost use Rattle.schema.specs.declared.table.TableId.{TableId as Table};
+ghost use Rattle.schema.specs.Columns.{columns_of};
+ghost use Rattle.schema.specs.Sizes.{Sizes, IsWidth};
+ghost use Rattle.schema.specs.Places.{offset_in_row};
+ghost use Rattle.schema.specs.Cells.{cell_width};
+ghost use Rattle.schema.specs.LaidOut.{FitRow, number_bytes, row_bytes};
+
+use schema::{Layout, TableId};
+use std::alloc::AllocError;
+
+/// Appends a number in so many bytes, the lowest first.
+fn put_number(bytes: &mut Vec<u8>, width: usize, number: u32) -> Result<(), AllocError>
+    requires known { IsWidth width }
+    requires fits { number < 256 ^ width }
+    ensures ok { OnOk result (bytes.new.items ≡ bytes.old.items ++ number_bytes width number) }
+    ensures len { OnOk result (vec_len bytes.new ≡ vec_len bytes.old + width) }
+    ensures capacity { vec_capacity bytes.old ≤ vec_capacity bytes.new }
+    ensures succeeds { vec_len bytes.old + width ≤ vec_capacity bytes.old → IsOk result }
+{
+    match width {
+        1 => bytes.extend_from_slice(&[number as u8]),
+        2 => bytes.extend_from_slice(&(number as u16).to_le_bytes()),
+        _ => bytes.extend_from_slice(&number.to_le_bytes()),
+    }
+}
+
+/// Appends a row of a table, as a table stream of this layout has it (II.24.2.6).
+///
+/// Where memory is refused the bytes stay as they were.
+pub fn put_row(
+    bytes: &mut Vec<u8>,
+    layout: &Layout,
+    table: TableId,
+    numbers: &[u32],
+) -> Result<(), AllocError>
+    // There is one number a column, within the column's width.
+    requires { FitRow layout.now (columns_of table) numbers.now }
+    ensures ok { OnOk result (bytes.new.items ≡ bytes.old.items ++ row_bytes layout.now (columns_of table) numbers.now) }
+    ensures err { OnErr result (bytes.new.items ≡ bytes.old.items) }
+{
+    bytes.reserve(layout.row_width(table))?;
+    for (column, number) in numbers.iter().enumerate() {
+        put_number(bytes, layout.cell_width(table, column), *number)?;
+    }
+    Ok(())
+}
+
+/// A row that [`put_row`] appends is read again, column by column, whatever stands before it and
+/// behind it.
+pub fn rows_are_read_again()
+    ensures { (sizes : Sizes) (table : Table) (numbers before after : List ℕ) → FitRow sizes (columns_of table) numbers
+        → (column : ℕ) → column < length (columns_of table)
+        → little_endian (part (before ++ row_bytes sizes (columns_of table) numbers ++ after)
+        (length before + offset_in_row sizes table column) (cell_width sizes table column)) ≡ slice_index numbers column }
+{}

@@ -1,0 +1,102 @@
+ghost use Rattle.std.specs.Prelude.{◌≡◌, ◌≤◌, ◌<◌, ◌+◌, ◌^◌, length};
+ghost use Rattle.packed.specs.Number.{little_endian};
+ghost use Rattle.packed.specs.Places.{part};
+ghost use Rattle.schema.specs.Sizes.{IsWidth};
+
+use packed::{u16_at, u32_at};
+use schema::{Layout, TableId, cells_stand, tables_end_within, tables_stand};
+use std::marker::Model;
+
+/// The number in so many bytes at a place.
+fn number_of(bytes: &[u8], place: usize, width: usize) -> u32
+    requires known { IsWidth width }
+    requires within { place + width ≤ length bytes.now }
+    ensures value { result ≡ little_endian (part bytes.now place width) }
+    ensures fits { result < 256 ^ width }
+{
+    match width {
+        1 => u32::from(bytes[place]),
+        2 => u32::from(u16_at(bytes, place)),
+        _ => u32_at(bytes, place),
+    }
+}
+
+/// The cells of a table stream, read in place (II.24.2.6).
+///
+/// A cell is named by its table, its row, counted from 1, and its column, counted from 0.
+#[derive(Drop)]
+pub struct Rows<'a> {
+    bytes: &'a [u8],
+    layout: Layout,
+}
+
+impl<'a> Model for Rows<'a> {
+    ghost use Rattle.rows.specs.Cells.{Stream, IsWhole};
+
+    ghost Value = { Stream };
+
+    ghost view = { λ rows. record { bytes = rows.bytes.now; sizes = rows.layout } };
+
+    ghost invariant = { λ rows. IsWhole (record { bytes = rows.bytes.now; sizes = rows.layout }) };
+}
+
+impl<'a> Rows<'a> {
+    ghost use Rattle.std.specs.Prelude.{◌≡◌, ◌≤◌, ◌<◌, ◌+◌, ◌^◌, ℕ, List, length};
+    ghost use Rattle.schema.specs.Columns.{columns_of};
+    ghost use Rattle.schema.specs.Sizes.{count_of};
+    ghost use Rattle.schema.specs.Places.{cell_start};
+    ghost use Rattle.schema.specs.LaidOut.{IsTableStream, IsLaidOut, StandsAt, number_bytes, number_in};
+    ghost use Rattle.schema.specs.Cells.{number_at, cell_width};
+    ghost use Rattle.rows.specs.Cells.{bytes_before};
+
+    /// The rows of a table stream, by the layout that [`Layout::read`] answered for these bytes.
+    pub fn new(bytes: &'a [u8], layout: Layout) -> Rows<'a>
+        requires { IsTableStream bytes.now layout }
+        ensures { result ≡ record { bytes = bytes.now; sizes = layout } }
+    {
+        tables_end_within();
+        Rows { bytes, layout }
+    }
+
+    /// The layout of the stream.
+    pub fn layout(&self) -> &Layout
+        ensures { result.now ≡ self.now.sizes }
+    {
+        &self.layout
+    }
+
+    /// Where a cell begins in the stream.
+    pub fn place(&self, table: TableId, row: u32, column: usize) -> usize
+        requires first { 1 ≤ row }
+        requires last { row ≤ count_of self.now.sizes table }
+        requires column { column < length (columns_of table) }
+        ensures value { result ≡ cell_start self.now.sizes table row column }
+        ensures within { result + cell_width self.now.sizes table column ≤ length self.now.bytes }
+        // It is how many bytes stand before the cell: the header and all cells of lower tables, rows and columns.
+        ensures behind { (numbers : List (List (List ℕ))) → IsLaidOut self.now.bytes self.now.sizes numbers
+            → result ≡ self.now.sizes.body + length (bytes_before self.now.sizes numbers table row column) }
+        // The cell's own bytes stand there.
+        ensures stands { (numbers : List (List (List ℕ))) → IsLaidOut self.now.bytes self.now.sizes numbers
+            → StandsAt self.now.bytes result (number_bytes (cell_width self.now.sizes table column) (number_in numbers table row column)) }
+    {
+        tables_stand();
+        cells_stand();
+        self.layout.cell_start(table, row, column)
+    }
+
+    /// The number of a cell.
+    pub fn number(&self, table: TableId, row: u32, column: usize) -> u32
+        requires first { 1 ≤ row }
+        requires last { row ≤ count_of self.now.sizes table }
+        requires column { column < length (columns_of table) }
+        ensures value { result ≡ number_at self.now.bytes self.now.sizes table row column }
+        // It is the number of every list of rows that is laid out in the stream.
+        ensures cell { (numbers : List (List (List ℕ))) → IsLaidOut self.now.bytes self.now.sizes numbers
+            → result ≡ number_in numbers table row column }
+        ensures fits { result < 256 ^ cell_width self.now.sizes table column }
+    {
+        cells_stand();
+        let place = self.place(table, row, column);
+        number_of(self.bytes, place, self.layout.cell_width(table, column))
+    }
+}

@@ -1,0 +1,10 @@
+pub mod CodedLemmas
+pub mod TableFacts
+pub mod PlaceLemmas
+pub mod BitLemmas
+pub mod HeaderLemmas
+pub mod NumberLemmas
+pub mod CellLemmas
+pub mod StreamLemmas
+pub mod OneLemmas
+pub mod Samples

@@ -1,0 +1,7 @@
+use Rattle.std.proofs.Common.{refl}
+use Rattle.schema.specs.Sizes.{width_of}
+use Rattle.schema.proofs.PlaceLemmas.{width_known}
+use Rattle.schema.proofs.laws.widths_are_known.Goals as goal
+
+pub returns : goal.returns
+returns c = λ sizes column. width_known sizes column (width_of sizes column) refl

@@ -1,0 +1,54 @@
+use Rattle.std.proofs.Common.{ℕ, ◌∙◌, ap, refl, arith, get_or, ltb, lt-ltb, le-ltb, List, length-set}
+use Rattle.std.specs.List.{count_by}
+use Rattle.std.proofs.lemmas.List.{take_all}
+use Rattle.schema.specs.declared.table.TableId.{TableId}
+use Rattle.schema.specs.declared.table.TableId.TheVariants.{Module}
+use Rattle.schema.specs.Tables.{table_number, tables}
+use Rattle.schema.specs.Sizes.{header_size}
+use Rattle.schema.proofs.TableFacts.{length-tables}
+use Rattle.schema.proofs.PlaceLemmas.{number_kept}
+use Rattle.schema.proofs.HeaderLemmas.{place_set, place_clear, counts_are, count_is, same_sizes}
+use Rattle.schema.proofs.layout.Layout.of.Goals as goal
+use Rattle.schema.proofs.layout.Layout.of.Goals.{then-count-gt0, else-count-gt0}
+
+pub loop-position-init : goal.loop-position-init
+loop-position-init c = record { body = refl; small = omega arith; room = refl; listed = λ k h. absurd (omega arith) }
+
+pub loop-position-preserved : goal.loop-position-preserved
+loop-position-preserved c =
+    let counts = c.args.counts.now in
+    let p = c.loop-position.position in
+    let before = c.loop-position.invariant in
+    let number = c.number.ensures.value ∙ ap (λ (listed : List TableId). table_number (get_or listed p Module)) c.all-table-items.ensures.value in
+    let count = ap (λ (n : ℕ). get_or counts n 0) number in
+    let listed = number_kept (λ k. get_or counts (table_number (get_or tables k Module)) 0) c.loop-position.listed p (get_or counts c.number.result 0) (omega arith) count before.listed in
+    elim c.if-count-gt0.branch [
+      | then-count-gt0 w ↦ record {
+        body = w.body-is ∙ place_set (λ table. ltb 0 (get_or counts (table_number table) 0)) p c.loop-position.body (omega arith) before.body (lt-ltb _ _ (omega (arith, count, w.if-count-gt0.true)));
+        small = omega arith;
+        room = length-set _ _ _ ∙ before.room;
+        listed = listed;
+      }
+      | else-count-gt0 w ↦ record {
+        body = w.body-is ∙ place_clear (λ table. ltb 0 (get_or counts (table_number table) 0)) p c.loop-position.body (omega arith) before.body (le-ltb _ _ (omega (arith, count, w.if-count-gt0.false)));
+        small = omega arith;
+        room = length-set _ _ _ ∙ before.room;
+        listed = listed;
+      }
+    ]
+
+pub new-requires : goal.new-requires
+new-requires c =
+    let counts = c.args.counts.now in
+    let listed = counts_are (λ table. get_or counts (table_number table) 0) c.loop-position.listed c.loop-position.invariant.room (λ k h. c.loop-position.invariant.listed k (omega arith)) in
+    record {
+      counts = λ table. rw (count_is (λ t. get_or counts (table_number t) 0) c.loop-position.listed listed table) (c.requires.counts table);
+      body = let small = c.loop-position.invariant.small in omega arith;
+    }
+
+pub returns : goal.returns
+returns c =
+    let counts = c.args.counts.now in
+    let listed = counts_are (λ table. get_or counts (table_number table) 0) c.loop-position.listed c.loop-position.invariant.room (λ k h. c.loop-position.invariant.listed k (omega arith)) in
+    let body = c.loop-position.invariant.body ∙ ap (λ (ts : List TableId). header_size (count_by (λ table. ltb 0 (get_or counts (table_number table) 0)) ts)) (take_all c.loop-position.position tables (omega (arith, length-tables))) in
+    c.new.ensures ∙ same_sizes _ _ listed refl refl body

@@ -1,0 +1,23 @@
+-- The cells of a table stream (ECMA-335 II.24.2.6): where each stands, and how it is read.
+use Rattle.std.specs.Prelude.{◌≡◌, ℕ, ◌^◌, ◌<◌, List}
+use Rattle.packed.specs.Number.{little_endian}
+use Rattle.packed.specs.Places.{part}
+use Rattle.schema.specs.declared.table.TableId.{TableId}
+use Rattle.schema.specs.Columns.{column_at}
+use Rattle.schema.specs.Sizes.{Sizes, width_of}
+use Rattle.schema.specs.Places.{cell_start}
+use Rattle.schema.specs.LaidOut.{number_bytes, number_in, StandsAt}
+
+-- how many bytes a cell takes
+abbrev pub cell_width : Sizes → TableId → ℕ → ℕ
+cell_width sizes table column = width_of sizes (column_at table column)
+
+-- the number that is read at a cell's place
+abbrev pub number_at : List ℕ → Sizes → TableId → ℕ → ℕ → ℕ
+number_at stream sizes table row column = little_endian (part stream (cell_start sizes table row column) (cell_width sizes table column))
+
+-- a cell's number is within its column's width, stands by its bytes where the cell begins, and is what is read there
+pub record HoldsCell (stream : List ℕ) (sizes : Sizes) (numbers : List (List (List ℕ))) (table : TableId) (row column : ℕ) : Type 0 where
+  pub fits : number_in numbers table row column < 256 ^ cell_width sizes table column
+  pub stands : StandsAt stream (cell_start sizes table row column) (number_bytes (cell_width sizes table column) (number_in numbers table row column))
+  pub read : number_at stream sizes table row column ≡ number_in numbers table row column

@@ -1,0 +1,40 @@
+-- Where the fields of a table stream stand (ECMA-335 II.24.2.6), whether or not the bytes are one.
+use Rattle.std.specs.Prelude.{ℕ, Bool, ◌/◌, ◌%◌, ◌^◌, ◌==◌, List, take, map, count_by, if◌then◌else◌, slice_index}
+use Rattle.packed.specs.Number.{little_endian}
+use Rattle.packed.specs.Places.{part}
+use Rattle.schema.specs.declared.table.TableId.{TableId}
+use Rattle.schema.specs.Tables.{table_number, position_of, tables}
+use Rattle.schema.specs.Sizes.{Sizes, header_size}
+
+-- HeapSizes
+abbrev pub heap_sizes_of : List ℕ → ℕ
+heap_sizes_of stream = slice_index stream 6
+
+-- Valid
+abbrev pub valid_of : List ℕ → ℕ
+valid_of stream = little_endian (part stream 8 8)
+
+-- Sorted
+abbrev pub sorted_of : List ℕ → ℕ
+sorted_of stream = little_endian (part stream 16 8)
+
+-- the bit of a table is set
+abbrev pub has_bit : ℕ → TableId → Bool
+has_bit bits table = bits / 2 ^ table_number table % 2 == 1
+
+-- where the count of a table stands, behind those of lower numbers
+abbrev pub count_place : ℕ → TableId → ℕ
+count_place valid table = header_size (count_by (has_bit valid) (take (position_of table) tables))
+
+-- how many rows a table has; one that is not counted has none
+abbrev pub count_in : List ℕ → TableId → ℕ
+count_in stream table = if has_bit (valid_of stream) table then little_endian (part stream (count_place (valid_of stream) table) 4) else 0
+
+-- what the stream says of its tables
+abbrev pub sizes_of : List ℕ → Sizes
+sizes_of stream = record {
+  counts = map (count_in stream) tables;
+  heap_sizes = heap_sizes_of stream;
+  sorted = sorted_of stream;
+  body = header_size (count_by (has_bit (valid_of stream)) tables);
+}

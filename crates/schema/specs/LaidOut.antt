@@ -1,0 +1,90 @@
+-- A table stream (ECMA-335 II.24.2.6), as a relation between its bytes, its sizes and the numbers in its tables.
+use Rattle.std.specs.Prelude.{◌≡◌, ℕ, zero, suc, Bool, false, ◌-◌, ◌/◌, ◌%◌, ◌^◌, ◌<◌, ◌≤◌, List, [], ◌∷◌, ◌++◌, length, map, count_by, sum_by, if◌then◌else◌, slice_index, slice_index_or}
+use Rattle.schema.specs.declared.table.TableId.{TableId}
+use Rattle.schema.specs.declared.column.Column.{Column}
+use Rattle.schema.specs.Tables.{table_number, position_of, tables}
+use Rattle.schema.specs.Columns.{columns_of}
+use Rattle.schema.specs.Sizes.{Sizes, count_of, header_size, width_of}
+
+-- the bytes of a number at a width, the lowest first; a number too great for the width stands by its low bytes
+abbrev pub number_bytes : ℕ → ℕ → List ℕ
+number_bytes zero number = []
+number_bytes (suc width) number = number % 256 ∷ number_bytes width (number / 256)
+
+-- the bytes of a row: of each of its numbers at its column's width
+abbrev pub row_bytes : Sizes → List Column → List ℕ → List ℕ
+row_bytes sizes [] numbers = []
+row_bytes sizes (column ∷ columns) [] = []
+row_bytes sizes (column ∷ columns) (number ∷ numbers) = number_bytes (width_of sizes column) number ++ row_bytes sizes columns numbers
+
+-- a row has one number a column, within its width
+abbrev pub FitRow : Sizes → List Column → List ℕ → Type 0
+FitRow sizes [] [] = Unit {0}
+FitRow sizes [] (number ∷ numbers) = ⊥
+FitRow sizes (column ∷ columns) [] = ⊥
+FitRow sizes (column ∷ columns) (number ∷ numbers) = (number < 256 ^ width_of sizes column) × FitRow sizes columns numbers
+
+-- the bytes of rows, one behind the other
+abbrev pub rows_bytes : Sizes → List Column → List (List ℕ) → List ℕ
+rows_bytes sizes columns [] = []
+rows_bytes sizes columns (row ∷ rows) = row_bytes sizes columns row ++ rows_bytes sizes columns rows
+
+abbrev pub FitRows : Sizes → List Column → List (List ℕ) → Type 0
+FitRows sizes columns [] = Unit {0}
+FitRows sizes columns (row ∷ rows) = FitRow sizes columns row × FitRows sizes columns rows
+
+-- the bytes of tables, one behind the other
+abbrev pub tables_bytes : Sizes → List TableId → List (List (List ℕ)) → List ℕ
+tables_bytes sizes [] numbers = []
+tables_bytes sizes (table ∷ listed) [] = []
+tables_bytes sizes (table ∷ listed) (rows ∷ numbers) = rows_bytes sizes (columns_of table) rows ++ tables_bytes sizes listed numbers
+
+-- there are rows for each of the tables and no others, and they fit
+abbrev pub FitTables : Sizes → List TableId → List (List (List ℕ)) → Type 0
+FitTables sizes [] [] = Unit {0}
+FitTables sizes [] (rows ∷ numbers) = ⊥
+FitTables sizes (table ∷ listed) [] = ⊥
+FitTables sizes (table ∷ listed) (rows ∷ numbers) = FitRows sizes (columns_of table) rows × FitTables sizes listed numbers
+
+-- the bits of the tables that pass a test, as one number
+unfoldable pub bits_of : (TableId → Bool) → List TableId → ℕ
+bits_of test listed = sum_by (λ table. if test table then 2 ^ table_number table else 0) listed
+
+-- the counts of the tables that are counted, each in four bytes
+abbrev pub counts_bytes : (TableId → Bool) → Sizes → List TableId → List ℕ
+counts_bytes counted sizes [] = []
+counts_bytes counted sizes (table ∷ listed) = (if counted table then number_bytes 4 (count_of sizes table) else []) ++ counts_bytes counted sizes listed
+
+-- The bytes are a table stream of these sizes with these numbers, by table, row and column: four reserved bytes; the
+-- version, 2 and 0; HeapSizes; a reserved byte; Valid, which has the bits of the tables that are counted; Sorted; their
+-- counts; all numbers by table, row and column; and a rest. A table that is not counted has no rows.
+pub record IsLaidOut (stream : List ℕ) (sizes : Sizes) (numbers : List (List (List ℕ))) : Type 0 where
+  pub reserved : List ℕ
+  pub reserved_byte : ℕ
+  pub counted : TableId → Bool
+  pub rest : List ℕ
+  pub whole : stream ≡ reserved ++ (2 ∷ 0 ∷ sizes.heap_sizes ∷ reserved_byte ∷ []) ++ number_bytes 8 (bits_of counted tables) ++ number_bytes 8 sizes.sorted
+      ++ counts_bytes counted sizes tables ++ tables_bytes sizes tables numbers ++ rest
+  pub reserved_long : length reserved ≡ 4
+  pub heap_sizes_low : sizes.heap_sizes < 8
+  pub sorted_low : sizes.sorted < 2 ^ 64
+  pub uncounted : (table : TableId) → counted table ≡ false → count_of sizes table ≡ 0
+  pub few : (table : TableId) → count_of sizes table ≤ 0xFFFFFF
+  pub body : sizes.body ≡ header_size (count_by counted tables)
+  pub counts : sizes.counts ≡ map length numbers
+  pub fit : FitTables sizes tables numbers
+
+-- the bytes are a table stream of these sizes
+abbrev pub IsTableStream : List ℕ → Sizes → Type 0
+IsTableStream stream sizes = (numbers : List (List (List ℕ))) × IsLaidOut stream sizes numbers
+
+-- the number of a cell, by table, row from 1 and column from 0
+abbrev pub number_in : List (List (List ℕ)) → TableId → ℕ → ℕ → ℕ
+number_in numbers table row column = slice_index (slice_index_or (slice_index_or numbers (position_of table) []) (row - 1) []) column
+
+-- these bytes stand at a place of a whole: the length of what precedes them
+pub record StandsAt (whole : List ℕ) (place : ℕ) (bytes : List ℕ) : Type 0 where
+  pub before : List ℕ
+  pub after : List ℕ
+  pub split : whole ≡ before ++ bytes ++ after
+  pub long : length before ≡ place

@@ -1,0 +1,11 @@
+pub mod CodedIndexes
+pub mod Columns
+pub mod Demands
+pub mod Header
+pub mod LaidOut
+pub mod Places
+pub mod Sizes
+pub mod Tables
+pub mod Tokens
+pub mod Kept
+pub mod Cells

@@ -1,0 +1,77 @@
+-- What a table stream says of its tables, and the widths of columns that follow (ECMA-335 II.24.2.6).
+use Rattle.std.specs.Prelude.{◌≡◌, ◌⊎◌, ℕ, Bool, true, List, Option, Some, None, map, ◌+◌, ◌*◌, ◌^◌, ◌-◌, ◌/◌, ◌%◌, nat_lt, ◌==◌, if◌then◌else◌, slice_index, count_by}
+use Rattle.std.specs.List.{list_all}
+use Rattle.schema.specs.declared.table.TableId.{TableId}
+use Rattle.schema.specs.declared.coded.Coded.{Coded}
+use Rattle.schema.specs.declared.column.ColumnKind.{ColumnKind}
+use Rattle.schema.specs.declared.column.ColumnKind.TheVariants as kind
+use Rattle.schema.specs.declared.column.Column.{Column}
+use Rattle.schema.specs.Tables.{table_number, position_of, tables}
+use Rattle.schema.specs.CodedIndexes.{tables_of, tag_bits}
+
+-- how many rows each table has, in the order of the tables; HeapSizes; Sorted; and where the first table begins
+pub record Sizes : Type 0 where
+  pub counts : List ℕ
+  pub heap_sizes : ℕ
+  pub sorted : ℕ
+  pub body : ℕ
+
+-- how many rows a table has
+abbrev pub count_of : Sizes → TableId → ℕ
+count_of sizes table = slice_index sizes.counts (position_of table)
+
+-- where the first table begins behind a header with the counts of so many tables
+abbrev pub header_size : ℕ → ℕ
+header_size counted = 24 + 4 * counted
+
+-- the sizes of tables with these counts, by their numbers, where those that have rows are counted and none is said to be in order
+abbrev pub sizes_by_number : List ℕ → ℕ → Sizes
+sizes_by_number counts heap_sizes = record {
+  counts = map (λ table. slice_index counts (table_number table)) tables;
+  heap_sizes = heap_sizes;
+  sorted = 0;
+  body = header_size (count_by (λ table. nat_lt 0 (slice_index counts (table_number table))) tables);
+}
+
+-- an index has two bytes where it may, and else four
+abbrev pub narrow_or_wide : Bool → ℕ
+narrow_or_wide narrow = if narrow then 2 else 4
+
+-- an index into the heap of this bit of HeapSizes has four bytes where the bit is set
+abbrev pub heap_width : Sizes → ℕ → ℕ
+heap_width sizes bit = narrow_or_wide (sizes.heap_sizes / bit % 2 == 0)
+
+-- an index into a table has two bytes where the table has fewer than 2^16 rows
+abbrev pub row_index_width : Sizes → TableId → ℕ
+row_index_width sizes table = narrow_or_wide (nat_lt (count_of sizes table) (2 ^ 16))
+
+-- a table has fewer rows than a limit; a tag that is not used has none
+abbrev pub is_below : Sizes → ℕ → Option TableId → Bool
+is_below sizes limit (Some table) = nat_lt (count_of sizes table) limit
+is_below sizes limit None = true
+
+-- a coded index has two bytes where each of its tables has fewer rows than fit beside the tag
+abbrev pub coded_width : Sizes → Coded → ℕ
+coded_width sizes coded = narrow_or_wide (list_all (is_below sizes (2 ^ (16 - tag_bits coded))) (tables_of coded))
+
+-- how many bytes a column of a kind takes
+abbrev pub kind_width : Sizes → ColumnKind → ℕ
+kind_width sizes kind.U8 = 1
+kind_width sizes kind.Padding = 1
+kind_width sizes kind.U16 = 2
+kind_width sizes kind.U32 = 4
+kind_width sizes kind.Text = heap_width sizes 1
+kind_width sizes kind.Guid = heap_width sizes 2
+kind_width sizes kind.Blob = heap_width sizes 4
+kind_width sizes (kind.Signature signature) = heap_width sizes 4
+kind_width sizes (kind.Row table) = row_index_width sizes table
+kind_width sizes (kind.List table) = row_index_width sizes table
+kind_width sizes (kind.Coded coded) = coded_width sizes coded
+
+-- how many bytes a column takes
+abbrev pub width_of : Sizes → Column → ℕ
+width_of sizes column = kind_width sizes column.kind
+
+-- one, two or four bytes
+abbrev pub IsWidth : ℕ → Type 0
+IsWidth width = (width ≡ 1) ⊎ ((width ≡ 2) ⊎ (width ≡ 4))

@@ -1,0 +1,72 @@
+ghost use Rattle.std.specs.Prelude.{◌≡◌, ◌*◌, ◌-◌, ◌^◌, ◌<◌, ◌≤◌, ℕ, List, length, true, Some, slice_get, slice_index_or};
+ghost use Rattle.packed.specs.Number.{IsNumber};
+ghost use Rattle.schema.specs.declared.table.TableId.{TableId as Table};
+ghost use Rattle.schema.specs.declared.table.TableId.TheVariants.{Module as TheModule};
+ghost use Rattle.schema.specs.declared.column.Column.{Column as TheColumn};
+ghost use Rattle.schema.specs.declared.coded.Coded.{Coded as TheCoded};
+ghost use Rattle.schema.specs.Tables.{table_number, position_of, tables};
+ghost use Rattle.schema.specs.Columns.{columns_of, column_at, key_of, IsReference, MayBeNull};
+ghost use Rattle.schema.specs.CodedIndexes.{tables_of, tag_bits};
+ghost use Rattle.schema.specs.Sizes.{Sizes, count_of, width_of, IsWidth};
+ghost use Rattle.schema.specs.Places.{tables_end};
+ghost use Rattle.schema.specs.LaidOut.{number_bytes, IsLaidOut};
+ghost use Rattle.schema.specs.Cells.{HoldsCell};
+
+/// The tables stand in the order of their numbers, each at its position.
+pub fn tables_stand()
+    ensures count { length tables ≡ 38 }
+    ensures position { (table : Table) → position_of table < 38 }
+    ensures number { (table : Table) → table_number table < 45 }
+    ensures stand { (table : Table) → slice_index_or tables (position_of table) TheModule ≡ table }
+    ensures rise { (lower higher : Table) → position_of lower < position_of higher → table_number lower < table_number higher }
+{}
+
+/// A table has few columns; its key, where it has one, names rows; and a column that may be null has
+/// a number for null.
+pub fn columns_stand()
+    ensures few { (table : Table) → length (columns_of table) ≤ 9 }
+    ensures key { (table : Table) (column : ℕ) → key_of table ≡ Some column → column < length (columns_of table) }
+    ensures reference { (table : Table) (column : ℕ) → key_of table ≡ Some column → IsReference (column_at table column) }
+    ensures null { (table : Table) (column : ℕ) → column < length (columns_of table) → (column_at table column).nullable ≡ true
+        → MayBeNull (column_at table column) }
+{}
+
+/// The tags of a coded index fit beside a row, and each of its tables has one tag.
+pub fn tags_fit()
+    ensures few { (coded : TheCoded) → length (tables_of coded) ≤ 2 ^ tag_bits coded }
+    ensures narrow { (coded : TheCoded) → 2 ^ tag_bits coded * 2 ^ (16 - tag_bits coded) ≡ 2 ^ 16 }
+    ensures wide { (coded : TheCoded) → 2 ^ tag_bits coded * 2 ^ 24 ≤ 2 ^ 32 }
+    ensures one { (coded : TheCoded) (a b : ℕ) (table : Table) → slice_get (tables_of coded) a ≡ Some (Some table)
+        → slice_get (tables_of coded) b ≡ Some (Some table) → a ≡ b }
+{}
+
+/// A column takes one, two or four bytes.
+pub fn widths_are_known()
+    ensures { (sizes : Sizes) (column : TheColumn) → IsWidth (width_of sizes column) }
+{}
+
+/// The bytes of a number that fits them spell it.
+pub fn numbers_are_spelled()
+    ensures { (width number : ℕ) → number < 256 ^ width → IsNumber width (number_bytes width number) number }
+{}
+
+/// The tables of a stream end within it.
+pub fn tables_end_within()
+    ensures { (stream : List ℕ) (sizes : Sizes) (numbers : List (List (List ℕ))) → IsLaidOut stream sizes numbers
+        → tables_end sizes ≤ length stream }
+{}
+
+/// Each cell of a stream begins behind the bytes that precede it, and is read there.
+pub fn cells_stand()
+    ensures { (stream : List ℕ) (sizes : Sizes) (numbers : List (List (List ℕ))) → IsLaidOut stream sizes numbers
+        → (table : Table) (row column : ℕ) → 1 ≤ row → row ≤ count_of sizes table → column < length (columns_of table)
+        → HoldsCell stream sizes numbers table row column }
+{}
+
+/// A stream has one list of sizes and one list of numbers.
+pub fn stream_is_one()
+    ensures sizes { (stream : List ℕ) (sizes others : Sizes) (numbers more : List (List (List ℕ)))
+        → IsLaidOut stream sizes numbers → IsLaidOut stream others more → sizes ≡ others }
+    ensures numbers { (stream : List ℕ) (sizes others : Sizes) (numbers more : List (List (List ℕ)))
+        → IsLaidOut stream sizes numbers → IsLaidOut stream others more → numbers ≡ more }
+{}

@@ -1,0 +1,184 @@
+use crate::column::Column;
+use crate::column_lists::columns;
+use crate::header::Header;
+use crate::place::Place;
+use crate::table::TableId;
+use std::marker::Model;
+
+/// Where every cell of a table stream stands (II.24.2.6).
+///
+/// Widths and places follow from the row counts and HeapSizes. They are worked out once, when a
+/// layout is made, so that each call costs the same whatever the table. A layout has about a
+/// kilobyte and keeps nothing of the stream.
+#[derive(Drop)]
+pub struct Layout {
+    header: Header,
+    places: [Place; 38],
+}
+
+impl Model for Layout {
+    ghost use Rattle.schema.specs.Sizes.{Sizes};
+    ghost use Rattle.schema.specs.Kept.{sizes_kept, ArePlaces};
+
+    ghost Value = { Sizes };
+
+    ghost view = { λ layout. sizes_kept layout.header };
+
+    ghost invariant = { λ layout. ArePlaces (sizes_kept layout.header) layout.places };
+}
+
+impl Header {
+    ghost use Rattle.std.specs.Prelude.{◌≤◌, ◌^◌, ◌≡◌};
+    ghost use Rattle.schema.specs.Places.{table_start};
+    ghost use Rattle.schema.specs.Kept.{sizes_kept, IsPlace};
+
+    /// The place of a table that begins there.
+    fn place(&self, table: TableId, start: usize) -> Place
+        requires low { start ≤ 2 ^ 35 }
+        requires start { start ≡ table_start (sizes_kept self.now) table }
+        ensures { IsPlace (sizes_kept self.now) table result }
+    {
+        let mut offsets = [0; 10];
+        let mut row_width = 0;
+        let columns = columns(table);
+        for (index, column) in columns.iter().enumerate() {
+            offsets[index] = row_width;
+            row_width += self.width(*column) as u8;
+        }
+        offsets[columns.len()] = row_width;
+        Place {
+            start,
+            row_width,
+            offsets,
+        }
+    }
+}
+
+impl Layout {
+    ghost use Rattle.std.specs.Prelude.{◌≡◌, ◌≤◌, ◌<◌, ◌+◌, length, slice_index};
+    ghost use Rattle.schema.specs.declared.table.TableId.{TableId as Table};
+    ghost use Rattle.schema.specs.Tables.{table_number};
+    ghost use Rattle.schema.specs.Columns.{columns_of, column_at};
+    ghost use Rattle.schema.specs.Sizes.{sizes_by_number, count_of, width_of, IsWidth};
+    ghost use Rattle.schema.specs.Places.{row_width, row_start, cell_start, tables_end};
+    ghost use Rattle.schema.specs.Kept.{sizes_kept, AreFew};
+
+    /// The layout of these sizes.
+    pub(crate) fn new(header: Header) -> Layout
+        requires { AreFew (sizes_kept header) }
+        ensures { result ≡ sizes_kept header }
+    {
+        let mut places = [Place {
+            start: 0,
+            row_width: 0,
+            offsets: [0; 10],
+        }; 38];
+        let mut start = header.body;
+        for (position, table) in TableId::all().iter().enumerate() {
+            let place = header.place(*table, start);
+            places[position] = place;
+            start += header.count(*table) as usize * place.row_width as usize;
+        }
+        Layout { header, places }
+    }
+
+    /// The layout of tables with these counts, by their numbers, and this HeapSizes.
+    ///
+    /// The counts of numbers that no table has are not read. The stream counts the tables that have
+    /// rows, and says of none that it is in order.
+    pub fn of(counts: &[u32; 45], heap_sizes: u8) -> Layout
+        requires counts { (table : Table) → slice_index counts.now (table_number table) ≤ 0xFFFFFF }
+        requires heap_sizes { heap_sizes < 8 }
+        ensures { result ≡ sizes_by_number counts.now heap_sizes }
+    {
+        let mut listed = [0; 38];
+        let mut body = 24;
+        for (position, table) in TableId::all().iter().enumerate() {
+            let count = counts[table.number() as usize];
+            listed[position] = count;
+            if count > 0 {
+                body += 4;
+            }
+        }
+        Layout::new(Header {
+            counts: listed,
+            heap_sizes,
+            sorted: 0,
+            body,
+        })
+    }
+
+    /// How many rows a table has.
+    pub fn count(&self, table: TableId) -> u32
+        ensures value { result ≡ count_of self.now table }
+        ensures limit { result ≤ 0xFFFFFF }
+    {
+        let header = &self.header;
+        header.count(table)
+    }
+
+    /// The tables that are said to be in order, as the bits of their numbers.
+    pub fn sorted(&self) -> u64
+        ensures { result ≡ self.now.sorted }
+    {
+        self.header.sorted
+    }
+
+    /// How many bytes a column takes.
+    pub fn width(&self, column: Column) -> usize
+        ensures value { result ≡ width_of self.now column }
+        ensures known { IsWidth result }
+    {
+        let header = &self.header;
+        header.width(column)
+    }
+
+    /// How many bytes a row of a table takes.
+    pub fn row_width(&self, table: TableId) -> usize
+        ensures { result ≡ row_width self.now table }
+    {
+        let place = &self.places[table.position()];
+        place.row_width as usize
+    }
+
+    /// Where a row begins in the stream; behind the last row, where its table ends.
+    pub fn row_start(&self, table: TableId, row: u32) -> usize
+        requires first { 1 ≤ row }
+        requires last { row ≤ count_of self.now table + 1 }
+        ensures { result ≡ row_start self.now table row }
+    {
+        let place = &self.places[table.position()];
+        place.start + (row - 1) as usize * place.row_width as usize
+    }
+
+    /// Where a cell begins in the stream.
+    pub fn cell_start(&self, table: TableId, row: u32, column: usize) -> usize
+        requires first { 1 ≤ row }
+        requires last { row ≤ count_of self.now table }
+        requires column { column < length (columns_of table) }
+        ensures value { result ≡ cell_start self.now table row column }
+        ensures within { result + width_of self.now (column_at table column) ≤ tables_end self.now }
+    {
+        let place = &self.places[table.position()];
+        let offset = place.offsets[column];
+        place.start + (row - 1) as usize * place.row_width as usize + offset as usize
+    }
+
+    /// How many bytes a cell of a column takes.
+    pub fn cell_width(&self, table: TableId, column: usize) -> usize
+        requires { column < length (columns_of table) }
+        ensures value { result ≡ width_of self.now (column_at table column) }
+        ensures known { IsWidth result }
+    {
+        let place = &self.places[table.position()];
+        (place.offsets[column + 1] - place.offsets[column]) as usize
+    }
+
+    /// Where the last table ends.
+    pub(crate) fn end(&self) -> usize
+        ensures { result ≡ tables_end self.now }
+    {
+        let last = TableId::GenericParamConstraint;
+        self.row_start(last, self.count(last) + 1)
+    }
+}

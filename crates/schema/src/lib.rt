@@ -1,0 +1,40 @@
+//! The tables of metadata: what columns they have, and where each cell of a table stream stands
+//! (ECMA-335 II.22 and II.24.2.6).
+//!
+//! [`columns`], [`key`] and [`Coded`] are the standard's tables and lists; [`split`] and [`join`] go
+//! between the number of a coded index and the row that it names, and [`Token`] is a row in four
+//! bytes. [`Layout::read`] answers exactly where bytes are a table stream, and else the fault of the
+//! first demand that they do not meet. A layout then tells widths and places at once, without a
+//! search. Nothing here takes memory.
+//!
+//! ```text
+//! let layout = Layout::read(stream)?;
+//! layout.count(TableId::TypeDef) == 3 && layout.row_width(TableId::TypeDef) == 14
+//! split(Coded::HasCustomAttribute, 46) == Some((TableId::Assembly, 1))
+//! ```
+#![tactic(auto)]
+
+mod coded;
+mod coded_index;
+mod column;
+mod column_lists;
+mod header;
+mod laws;
+mod layout;
+mod place;
+mod read;
+mod table;
+mod token;
+
+pub use coded::Coded;
+pub use coded_index::{join, split};
+pub use column::{Column, ColumnKind, SigKind};
+pub use column_lists::{columns, key};
+pub use laws::{
+    cells_stand, columns_stand, numbers_are_spelled, stream_is_one, tables_end_within,
+    tables_stand, tags_fit, widths_are_known,
+};
+pub use layout::Layout;
+pub use packed::{Fault, FaultCode};
+pub use table::TableId;
+pub use token::Token;

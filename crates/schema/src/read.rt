@@ -1,0 +1,159 @@
+ghost use Rattle.std.specs.Prelude.{◌≡◌, ◌≤◌, ◌↔◌, length, count_by, IsTrue, IfOk};
+ghost use Rattle.packed.specs.Demand.{Answers, demands_from};
+ghost use Rattle.schema.specs.Tables.{tables};
+ghost use Rattle.schema.specs.LaidOut.{bits_of};
+ghost use Rattle.schema.specs.Header.{has_bit, valid_of, count_place, count_in, sizes_of};
+ghost use Rattle.schema.specs.Demands.{NamesTables, demands_of_header, demands_of_count, demands_of_position, demands_of_stream};
+
+use crate::header::Header;
+use crate::layout::Layout;
+use crate::table::TableId;
+use packed::{Fault, FaultCode, u32_at, u64_at};
+
+/// The most rows of a table.
+const ROW_LIMIT: u32 = 0xFF_FFFF;
+
+/// Whether the bit of a table is set.
+fn is_set(bits: u64, table: TableId) -> bool
+    ensures { result ≡ has_bit bits table }
+{
+    bits >> table.number() & 1 == 1
+}
+
+/// Those bits of Valid that are the bits of tables.
+fn table_bits(valid: u64) -> u64
+    ensures { result ≡ bits_of (has_bit valid) tables }
+{
+    let mut bits = 0;
+    for table in TableId::all() {
+        if is_set(valid, *table) {
+            bits += 1 << table.number();
+        }
+    }
+    bits
+}
+
+/// Whether Valid has the bits of tables alone.
+fn names_tables(valid: u64) -> bool
+    ensures { IsTrue result ↔ NamesTables valid }
+{
+    table_bits(valid) == valid
+}
+
+/// How many tables Valid counts.
+fn counted(valid: u64) -> usize
+    ensures value { result ≡ count_by (has_bit valid) tables }
+    ensures limit { result ≤ 38 }
+{
+    TableId::all()
+        .iter()
+        .filter(|table| is_set(valid, **table))
+        .count()
+}
+
+/// Reads Valid, where the fields up to the counts are those of a table stream.
+fn read_valid(bytes: &[u8]) -> Result<u64, Fault>
+    ensures answers { Answers (demands_of_header bytes.now) result }
+    ensures valid { IfOk result (λ valid. valid ≡ valid_of bytes.now) }
+{
+    if bytes.len() < 24 {
+        return Err(Fault::new(FaultCode::TablesHeader, 0));
+    }
+    let (_, rest) = bytes.split_at(4);
+    let (version, _) = rest.split_at(2);
+    if version != [2, 0].as_slice() {
+        return Err(Fault::new(FaultCode::TablesVersion, 4));
+    }
+    if bytes[6] >= 8 {
+        return Err(Fault::new(FaultCode::HeapSizes, 6));
+    }
+    let valid = u64_at(bytes, 8);
+    if !names_tables(valid) {
+        return Err(Fault::new(FaultCode::UnknownTable, 8));
+    }
+    if bytes.len() < 24 + 4 * counted(valid) {
+        return Err(Fault::new(FaultCode::RowCounts, 24));
+    }
+    Ok(valid)
+}
+
+/// Reads the count of a table at its place; that of a table that is not counted is 0.
+fn read_count(bytes: &[u8], valid: u64, table: TableId, place: usize) -> Result<u32, Fault>
+    requires valid { valid ≡ valid_of bytes.now }
+    requires place { place ≡ count_place (valid_of bytes.now) table }
+    requires room { (sizes_of bytes.now).body ≤ length bytes.now }
+    ensures answers { Answers (demands_of_count bytes.now table) result }
+    ensures count { IfOk result (λ count. count ≡ count_in bytes.now table) }
+{
+    if !is_set(valid, table) {
+        return Ok(0);
+    }
+    let count = u32_at(bytes, place);
+    if count > ROW_LIMIT {
+        return Err(Fault::new(FaultCode::RowCount, place as u64));
+    }
+    Ok(count)
+}
+
+/// Reads the counts of all tables.
+fn read_counts(bytes: &[u8], valid: u64) -> Result<[u32; 38], Fault>
+    requires valid { valid ≡ valid_of bytes.now }
+    requires room { (sizes_of bytes.now).body ≤ length bytes.now }
+    ensures answers { Answers (demands_from (demands_of_position bytes.now) 0 38) result }
+    ensures counts { IfOk result (λ counts. counts ≡ (sizes_of bytes.now).counts) }
+{
+    let mut counts = [0; 38];
+    let mut place = 24;
+    for (position, table) in TableId::all().iter().enumerate() {
+        let count = read_count(bytes, valid, *table, place)?;
+        counts[position] = count;
+        if is_set(valid, *table) {
+            place += 4;
+        }
+    }
+    Ok(counts)
+}
+
+/// The layout of a stream that meets all demands, or the fault of the first that is not met.
+fn read_layout(bytes: &[u8]) -> Result<Layout, Fault>
+    ensures answers { Answers (demands_of_stream bytes.now) result }
+    ensures layout { IfOk result (λ layout. layout ≡ sizes_of bytes.now) }
+{
+    let valid = read_valid(bytes)?;
+    let counts = read_counts(bytes, valid)?;
+    let body = 24 + 4 * counted(valid);
+    let layout = Layout::new(Header {
+        counts,
+        heap_sizes: bytes[6],
+        sorted: u64_at(bytes, 16),
+        body,
+    });
+    if layout.end() > bytes.len() {
+        return Err(Fault::new(FaultCode::TablesShort, body as u64));
+    }
+    Ok(layout)
+}
+
+impl Layout {
+    ghost use Rattle.std.specs.Prelude.{◌≡◌, List, ℕ, IfOk, IfErr, IsOkAnd};
+    ghost use Rattle.packed.specs.Demand.{FirstToFail};
+    ghost use Rattle.schema.specs.Sizes.{Sizes};
+    ghost use Rattle.schema.specs.LaidOut.{IsLaidOut, IsTableStream};
+    ghost use Rattle.schema.specs.Demands.{demands_of_stream};
+
+    /// Reads the layout of a table stream (II.24.2.6).
+    ///
+    /// Only the header is looked at, and that the tables end within the bytes: what is in their
+    /// cells is not. Bytes behind the last table are ignored.
+    pub fn read(bytes: &[u8]) -> Result<Layout, Fault>
+        // What is read are the sizes of a table stream, which these bytes are.
+        ensures found { IfOk result (λ layout. IsTableStream bytes.now layout) }
+        // A table stream is read, with its one layout.
+        ensures only { (sizes : Sizes) (numbers : List (List (List ℕ))) → IsLaidOut bytes.now sizes numbers
+            → IsOkAnd result (λ layout. layout ≡ sizes) }
+        // A fault is that of the first demand that fails.
+        ensures first { IfErr result (FirstToFail (demands_of_stream bytes.now)) }
+    {
+        read_layout(bytes)
+    }
+}

@@ -1,0 +1,36 @@
+use crate::table::TableId;
+
+/// A row of a table, as code and the CLI header name it (III.1.9).
+#[derive(Clone, Copy, Debug, PartialEq, Eq)]
+pub struct Token {
+    /// The table.
+    pub table: TableId,
+    /// The row, counted from 1; 0 is null.
+    pub row: u32,
+}
+
+impl Token {
+    ghost use Rattle.std.specs.Prelude.{◌≡◌, ◌≤◌, IfSome};
+    ghost use Rattle.schema.specs.declared.token.Token.{Token as TheToken};
+    ghost use Rattle.schema.specs.Tokens.{IsToken};
+
+    /// The token of a number, `None` where its high byte is the number of no table.
+    pub fn from_u32(number: u32) -> Option<Token>
+        ensures found { IfSome result (λ token. IsToken number token) }
+        ensures only { (token : TheToken) → IsToken number token → result ≡ Some token }
+    {
+        let table = TableId::from_number((number >> 24) as u8)?;
+        Some(Token {
+            table,
+            row: number & 0xFF_FFFF,
+        })
+    }
+
+    /// The number of the token: its table's in the high byte, and its row below.
+    pub fn to_u32(self) -> u32
+        requires { self.row ≤ 0xFFFFFF }
+        ensures { IsToken result self }
+    {
+        (self.table.number() as u32) << 24 | self.row
+    }
+}

@@ -1,0 +1,6 @@
+//! Tests of `schema`, over its public calls alone: widths and layouts on both sides of their limits,
+//! coded indexes, tokens, and each fault of a table stream.
+#![tactic(auto)]
+
+#[cfg(test)]
+mod tests;

@@ -1,0 +1,36 @@
+/* Loaded before a program, refuses the Nth call that asks for memory, N being the value of REFUSE.
+   Where REFUSE_COUNT is set, it tells on descriptor 9 how many such calls there were. */
+#define _GNU_SOURCE
+#include <dlfcn.h>
+#include <stdio.h>
+#include <stdlib.h>
+#include <unistd.h>
+
+static long calls, refuse = -1;
+static void *(*real_malloc)(size_t);
+static void *(*real_realloc)(void *, size_t);
+
+static int refused(void) {
+    if (refuse < 0) {
+        const char *word = getenv("REFUSE");
+        refuse = word ? atol(word) : 0;
+    }
+    return ++calls == refuse;
+}
+
+void *malloc(size_t size) {
+    if (!real_malloc) real_malloc = (void *(*)(size_t))dlsym(RTLD_NEXT, "malloc");
+    return refused() ? NULL : real_malloc(size);
+}
+
+void *realloc(void *block, size_t size) {
+    if (!real_realloc) real_realloc = (void *(*)(void *, size_t))dlsym(RTLD_NEXT, "realloc");
+    return refused() ? NULL : real_realloc(block, size);
+}
+
+__attribute__((destructor)) static void tell(void) {
+    char line[32];
+    if (!getenv("REFUSE_COUNT")) return;
+    int length = snprintf(line, sizeof line, "%ld\n", calls);
+    if (write(9, line, length) != length) _exit(5);
+}
