@@ -1,0 +1,44 @@
+-- Skipping step by step, as loops and tests of depth meet it.
+use Rattle.std.proofs.Common.{◌≡◌, ℕ, zero, suc, ◌+◌, ◌-◌, ◌<◌, ◌≤◌, ◌&&◌, Bool, not, cond, Some, None, is_some, List, [], ◌∷◌, refl, arith}
+use Rattle.std.specs.Prelude.{option_and_then}
+use Rattle.signature_values.specs.Reading.{element_of}
+use Rattle.recogniser.specs.Skips.{Left, Skip, skip_many, skip_core, skip_by, skip_deep, skip_params, skip_slot, is_marked, behind_mark}
+
+next_of : (n k : ℕ) → k < n → n - k ≡ suc (n - (k + 1))
+next_of n k lt = omega arith
+
+pub skip_many_next : (each : Skip) (n k : ℕ) (here : Left) → k < n → skip_many each (n - k) here ≡ option_and_then (skip_many each (n - (k + 1))) (each here)
+unfolding skip_many
+skip_many_next each n k here lt = rw (next_of n k lt) refl
+
+pub skip_many_end : (each : Skip) (n k : ℕ) (here : Left) → n ≤ k → skip_many each (n - k) here ≡ Some here
+unfolding skip_many
+skip_many_end each n k here le = let none : n - k ≡ 0 = omega arith in rw none refl
+
+pub skip_params_next : (counts : List ℕ) (nested : Skip) (allowed : Bool) (n k : ℕ) (here : Left) → k < n → skip_params counts nested allowed (n - k) here ≡ option_and_then (skip_params counts nested (allowed && not (is_marked allowed here)) (n - (k + 1))) (skip_slot counts nested (behind_mark (is_marked allowed here) here))
+unfolding skip_params
+skip_params_next counts nested allowed n k here lt = rw (next_of n k lt) refl
+
+pub skip_params_end : (counts : List ℕ) (nested : Skip) (allowed : Bool) (n k : ℕ) (here : Left) → n ≤ k → skip_params counts nested allowed (n - k) here ≡ Some here
+unfolding skip_params
+skip_params_end counts nested allowed n k here le = let none : n - k ≡ 0 = omega arith in rw none refl
+
+-- a core that may be so deep
+abbrev pub skip_next : List ℕ → ℕ → Skip
+skip_next counts d ([], bad) = None
+skip_next counts d (c ∷ b, bad) = cond (is_some (element_of c)) (Some (b, bad)) (skip_by counts d (skip_core counts d) c (b, bad))
+
+pub skip_core_next : (counts : List ℕ) (d : ℕ) (here : Left) → 0 < d → skip_core counts d here ≡ skip_next counts (d - 1) here
+unfolding skip_core
+skip_core_next counts zero here h = absurd (omega arith)
+skip_core_next counts (suc d) ([], bad) h = refl
+skip_core_next counts (suc d) (c ∷ b, bad) h = let e : suc d - 1 ≡ d = omega arith in rw e refl
+
+pub skip_core_none : (counts : List ℕ) (d : ℕ) (here : Left) → d ≡ 0 → skip_core counts d here ≡ None
+unfolding skip_core
+skip_core_none counts zero here h = refl
+skip_core_none counts (suc d) here h = absurd (omega arith)
+
+pub skip_deep_some : (d : ℕ) (inner : Skip) (here : Left) → 0 < d → skip_deep d inner here ≡ inner here
+skip_deep_some zero inner here h = absurd (omega arith)
+skip_deep_some (suc d) inner here h = refl

@@ -1,0 +1,76 @@
+-- Bytes that are skipped to their end are spelled by a signature, whose tokens were noted.
+use Rattle.std.proofs.Common.{◌≡◌, ℕ, ◌<◌, ◌^◌, Bool, true, false, eqb, Option, Some, None, is_some, IfSome, List, [], ◌∷◌, length, get_or, refl, sym, ap, ◌∙◌}
+use Rattle.std.proofs.Math.Dec.{eqb-suc-zero}
+use Rattle.schema.specs.declared.token.Token.{Token}
+use Rattle.schema.specs.declared.column.SigKind.{SigKind}
+use Rattle.signature_values.specs.Syntax.{Body}
+use Rattle.signature_values.specs.Grammar.{body_parts}
+use Rattle.signature_values.specs.Spells.{Spells, tokens, first_bad}
+use Rattle.signature_values.specs.Reading.{core_at}
+use Rattle.signature_values.specs.Columns.{body_at}
+use Rattle.recogniser.specs.Skips.{Left, passed, skip_core, skip_body, IsWalked}
+use Rattle.recogniser.proofs.Passes.{core_passes, body_passes}
+
+-- the whole signature that bytes begin with is skipped
+abbrev pub skip_all : List ℕ → SigKind → List ℕ → Option Left
+skip_all counts kind b = skip_body counts kind (skip_core counts 128) (b, None)
+
+skipped_is : (counts : List ℕ) (kind : SigKind) (b : List ℕ) → skip_all counts kind b ≡ passed counts None body_parts (body_at kind (core_at 128) b)
+skipped_is counts kind b = body_passes counts (skip_core counts 128) (core_at 128) (core_passes counts 128) kind b None
+
+-- what bytes spell is read from them
+abbrev pub IsRead : Type 0
+IsRead = (kind : SigKind) (signature : Body) (bytes : List ℕ) → Spells kind signature bytes → body_at kind (core_at 128) bytes ≡ Some (signature, [])
+
+-- what is read from bytes to their end they spell
+abbrev pub IsSpelled : Type 0
+IsSpelled =
+    (kind : SigKind) (signature : Body) (bytes : List ℕ) → ((k : ℕ) → get_or bytes k 0 < 2 ^ 8) → length bytes < 2 ^ 29 → body_at kind (core_at 128) bytes ≡ Some (signature, []) → Spells kind signature bytes
+
+-- ---- what is skipped to its end
+
+pub spelled_skipped : IsRead → (counts : List ℕ) (kind : SigKind) (b : List ℕ) (signature : Body) → Spells kind signature b → skip_all counts kind b ≡ Some ([], first_bad counts (tokens signature))
+spelled_skipped read counts kind b signature h =
+    skipped_is counts kind b ∙ ap (λ (o : Option (Body × List ℕ)). passed counts None body_parts o) (read kind signature b h)
+
+pub skipped_spelled : IsSpelled → (counts : List ℕ) (kind : SigKind) (b : List ℕ) (bad : Option Token) → ((k : ℕ) → get_or b k 0 < 2 ^ 8) → length b < 2 ^ 29 → Some ([], bad) ≡ skip_all counts kind b → IsWalked counts kind b bad
+skipped_spelled spelled counts kind b bad each limit e = of_option (body_at kind (core_at 128) b) refl (sym (skipped_is counts kind b) ∙ sym e)
+  where
+    of_option : (o : Option (Body × List ℕ)) → body_at kind (core_at 128) b ≡ o → passed counts None body_parts o ≡ Some ([], bad) → IsWalked counts kind b bad
+    of_option None w h = absurd cc
+    of_option (Some x) w h =
+        let pair : (x.1, first_bad counts (tokens x.0)) ≡ ([], bad) = cc in
+        let same : x.1 ≡ [] = ap (λ (p : List ℕ × Option Token). p.0) pair in
+        let found : first_bad counts (tokens x.0) ≡ bad = ap (λ (p : List ℕ × Option Token). p.1) pair in
+        record { signature = x.0; spells = spelled kind x.0 b each limit (w ∙ ap (λ (t : List ℕ). Some (x.0, t)) same); first = sym found }
+
+is_end : (rest : List ℕ) → eqb (length rest) 0 ≡ true → rest ≡ []
+is_end [] e = refl
+is_end (c ∷ rest) e = absurd (let f = eqb-suc-zero (length rest) in cc)
+
+pub walked : IsSpelled → (counts : List ℕ) (kind : SigKind) (b rest : List ℕ) (bad : Option Token) → ((k : ℕ) → get_or b k 0 < 2 ^ 8) → length b < 2 ^ 29 → Some (rest, bad) ≡ skip_all counts kind b → eqb (length rest) 0 ≡ true → IsWalked counts kind b bad
+walked spelled counts kind b rest bad each limit e empty =
+    skipped_spelled spelled counts kind b bad each limit (ap (λ (t : List ℕ). Some (t, bad)) (sym (is_end rest empty)) ∙ e)
+
+-- what is left behind a signature that is spelled
+left_behind : IsRead → (counts : List ℕ) (kind : SigKind) (b rest : List ℕ) (bad : Option Token) (signature : Body) → Spells kind signature b → Some (rest, bad) ≡ skip_all counts kind b → ◌≡◌ {A = Left} (rest, bad) ([], first_bad counts (tokens signature))
+left_behind read counts kind b rest bad signature spells e = let f = e ∙ spelled_skipped read counts kind b signature spells in cc
+
+pub walked_only : IsRead → (counts : List ℕ) (kind : SigKind) (b rest : List ℕ) (bad : Option Token) → Some (rest, bad) ≡ skip_all counts kind b → (signature : Body) → Spells kind signature b → Some bad ≡ Some (first_bad counts (tokens signature))
+walked_only read counts kind b rest bad e signature spells =
+    ap (λ (q : List ℕ × Option Token). Some q.1) (left_behind read counts kind b rest bad signature spells e)
+
+pub not_at_end : IsRead → (counts : List ℕ) (kind : SigKind) (b rest : List ℕ) (bad : Option Token) → Some (rest, bad) ≡ skip_all counts kind b → eqb (length rest) 0 ≡ false → (signature : Body) → Spells kind signature b → ⊥
+not_at_end read counts kind b rest bad e some signature spells =
+    let none : rest ≡ [] = ap (λ (q : List ℕ × Option Token). q.0) (left_behind read counts kind b rest bad signature spells e) in
+    let f = ap (λ (t : List ℕ). eqb (length t) 0) none in
+    cc
+
+pub refused : IsRead → (counts : List ℕ) (kind : SigKind) (b : List ℕ) → None ≡ skip_all counts kind b → (signature : Body) → Spells kind signature b → ⊥
+refused read counts kind b e signature spells = let f = e ∙ spelled_skipped read counts kind b signature spells in cc
+
+-- ---- recognising, whatever the rows
+
+pub recognised : (counts : List ℕ) (kind : SigKind) (b : List ℕ) (r : Option (Option Token)) (p : Bool) → p ≡ is_some r → IfSome r (IsWalked counts kind b) → ((signature : Body) → Spells kind signature b → r ≡ Some (first_bad counts (tokens signature))) → (p ≡ true → (signature : Body) × Spells kind signature b) × (((signature : Body) × Spells kind signature b) → p ≡ true)
+recognised counts kind b None p e found only = (λ h. absurd cc, λ s. absurd (let f = only s.0 s.1 in cc))
+recognised counts kind b (Some bad) p e found only = (λ h. (found.signature, found.spells), λ s. e)

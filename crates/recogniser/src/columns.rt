@@ -1,0 +1,105 @@
+ghost use Rattle.std.specs.Prelude.{◌≡◌, option_map};
+ghost use Rattle.recogniser.specs.Skips.{left, skip_core, skip_many, skip_slot, skip_typed, skip_local, skip_counted, skip_headed, skip_body};
+
+use crate::index::after_prefixes;
+use crate::rest::{Rest, byte, number};
+use crate::walk::{after_content, after_method, after_ret, after_slot, after_types};
+use schema::SigKind;
+
+/// What is left behind a local variable (II.23.2.6).
+#[tactic(auto, unfolding(crate::specs::Skips::skip_local))]
+fn after_local<'a>(rest: Rest<'a>, depth: u8, counts: &[u32; 45]) -> Option<Rest<'a>>
+    ensures { option_map left result ≡ skip_local counts.now (skip_core counts.now depth) (left rest.entry) }
+{
+    let rest = after_prefixes(rest, counts)?;
+    after_content(rest, depth, counts)
+}
+
+/// What is left behind so many local variables.
+#[tactic(auto, using(crate::proofs::Loops::skip_many_next, crate::proofs::Loops::skip_many_end))]
+fn after_locals<'a>(rest: Rest<'a>, count: u32, depth: u8, counts: &[u32; 45]) -> Option<Rest<'a>>
+    ensures { option_map left result ≡ skip_many (skip_local counts.now (skip_core counts.now depth)) count (left rest.entry) }
+{
+    let mut rest = rest;
+    for done in 0..count {
+        rest = after_local(rest, depth, counts)?;
+    }
+    Some(rest)
+}
+
+/// What is left behind so many parameters of a property.
+#[tactic(auto, using(crate::proofs::Loops::skip_many_next, crate::proofs::Loops::skip_many_end))]
+fn after_slots<'a>(rest: Rest<'a>, count: u32, depth: u8, counts: &[u32; 45]) -> Option<Rest<'a>>
+    ensures { option_map left result ≡ skip_many (skip_slot counts.now (skip_core counts.now depth)) count (left rest.entry) }
+{
+    let mut rest = rest;
+    for done in 0..count {
+        rest = after_slot(rest, depth, counts)?;
+    }
+    Some(rest)
+}
+
+/// What is left behind the local variables of a method, whose first byte was read (II.23.2.6).
+#[tactic(auto, unfolding(crate::specs::Skips::skip_counted))]
+fn after_variables<'a>(rest: Rest<'a>, depth: u8, counts: &[u32; 45]) -> Option<Rest<'a>>
+    ensures { option_map left result ≡ skip_counted (skip_local counts.now (skip_core counts.now depth)) (left rest.entry) }
+{
+    let (count, rest) = number(rest)?;
+    after_locals(rest, count, depth, counts)
+}
+
+/// What is left behind type arguments, whose first byte was read (II.23.2.15).
+#[tactic(auto, unfolding(crate::specs::Skips::skip_counted))]
+fn after_arguments<'a>(rest: Rest<'a>, depth: u8, counts: &[u32; 45]) -> Option<Rest<'a>>
+    ensures { option_map left result ≡ skip_counted (skip_typed counts.now (skip_core counts.now depth)) (left rest.entry) }
+{
+    let (count, rest) = number(rest)?;
+    after_types(rest, count, depth, counts)
+}
+
+/// What is left behind a property, whose first byte was read (II.23.2.5).
+#[tactic(auto, unfolding(crate::specs::Skips::skip_headed))]
+fn after_property<'a>(rest: Rest<'a>, depth: u8, counts: &[u32; 45]) -> Option<Rest<'a>>
+    ensures { option_map left result ≡ skip_headed (skip_slot counts.now (skip_core counts.now depth)) (left rest.entry) }
+{
+    let (count, rest) = number(rest)?;
+    let rest = after_slot(rest, depth, counts)?;
+    after_slots(rest, count, depth, counts)
+}
+
+/// What is left behind the signature at the front, in a column of a kind.
+#[tactic(auto, unfolding(crate::specs::Skips::skip_body))]
+pub fn after_body<'a>(
+    rest: Rest<'a>,
+    kind: SigKind,
+    depth: u8,
+    counts: &[u32; 45],
+) -> Option<Rest<'a>>
+    ensures { option_map left result ≡ skip_body counts.now kind (skip_core counts.now depth) (left rest.entry) }
+{
+    match kind {
+        SigKind::Field => match byte(rest)? {
+            (0x06, rest) => after_slot(rest, depth, counts),
+            _ => None,
+        },
+        SigKind::MethodDef => after_method(rest, false, depth, counts),
+        SigKind::MemberRef => match byte(rest)? {
+            (0x06, rest) => after_slot(rest, depth, counts),
+            _ => after_method(rest, true, depth, counts),
+        },
+        SigKind::StandAlone => match byte(rest)? {
+            (0x06, rest) => after_slot(rest, depth, counts),
+            (0x07, rest) => after_variables(rest, depth, counts),
+            _ => after_method(rest, true, depth, counts),
+        },
+        SigKind::Property => match byte(rest)? {
+            (0x08 | 0x28, rest) => after_property(rest, depth, counts),
+            _ => None,
+        },
+        SigKind::TypeSpec => after_ret(rest, depth, counts),
+        SigKind::Instance => match byte(rest)? {
+            (0x0A, rest) => after_arguments(rest, depth, counts),
+            _ => None,
+        },
+    }
+}

@@ -1,0 +1,53 @@
+ghost use Rattle.std.specs.Prelude.{◌≡◌, ℕ, [], ◌∷◌, option_map, MatchOption, length};
+ghost use Rattle.recogniser.specs.Skips.{left, number_left, skip_number};
+
+use packed::read_unsigned;
+use schema::Token;
+
+/// What is left of a signature behind the part that was walked over.
+#[derive(Clone, Copy)]
+pub struct Rest<'a> {
+    /// The bytes behind that part.
+    pub bytes: &'a [u8],
+    /// The first type index met so far that names no row.
+    pub bad: Option<Token>,
+}
+
+/// The first byte, and what is left behind it.
+pub fn byte(rest: Rest<'_>) -> Option<(u8, Rest<'_>)>
+    ensures { MatchOption result (rest.entry.bytes.now ≡ []) (λ x. (rest.entry.bytes.now ≡ x.0 ∷ x.1.bytes.now) × (x.1.bad ≡ rest.entry.bad)) }
+{
+    let (byte, bytes) = rest.bytes.split_first()?;
+    Some((
+        *byte,
+        Rest {
+            bytes,
+            bad: rest.bad,
+        },
+    ))
+}
+
+/// The packed number at the front, and what is left behind it.
+#[tactic(auto, unfolding(crate::specs::Skips::number_left, signature_values::specs::Reading::number_at))]
+pub fn number(rest: Rest<'_>) -> Option<(u32, Rest<'_>)>
+    ensures { option_map (λ x. (x.0, left x.1)) result ≡ number_left (left rest.entry) }
+{
+    let (number, count) = read_unsigned(rest.bytes)?;
+    let (_, bytes) = rest.bytes.split_at(count);
+    Some((
+        number,
+        Rest {
+            bytes,
+            bad: rest.bad,
+        },
+    ))
+}
+
+/// What is left behind a packed number.
+#[tactic(auto, unfolding(crate::specs::Skips::skip_number))]
+pub fn after_number(rest: Rest<'_>) -> Option<Rest<'_>>
+    ensures { option_map left result ≡ skip_number (left rest.entry) }
+{
+    let (_, rest) = number(rest)?;
+    Some(rest)
+}

@@ -1,0 +1,225 @@
+ghost use Rattle.std.specs.Prelude.{◌≡◌, ◌/◌, ◌%◌, ◌==◌, option_map, is_some};
+ghost use Rattle.signature_values.specs.Reading.{element_of};
+ghost use Rattle.recogniser.specs.Skips.{left, is_marked, behind_mark, skip_core, skip_by, skip_typed, skip_target, skip_instance, skip_many, skip_content, skip_slot, skip_ret, skip_params, skip_generic, skip_method};
+
+use crate::element_type::{
+    ARRAY, BYREF, CLASS, FNPTR, GENERICINST, MVAR, PTR, SENTINEL, SZARRAY, TYPEDBYREF, VALUETYPE,
+    VAR, VOID,
+};
+use crate::index::{after_index, after_modifiers};
+use crate::rest::{Rest, after_number, byte, number};
+use crate::shape::after_shape;
+
+/// Whether a byte spells a type alone (II.23.1.16).
+#[tactic(auto, unfolding(signature_values::specs::Reading::element_of))]
+fn is_element(code: u8) -> bool
+    ensures { result ≡ is_some (element_of code) }
+{
+    matches!(code, 0x02..=0x0E | 0x18 | 0x19 | 0x1C)
+}
+
+/// What is left behind a core that is at most so deep (II.23.2.12).
+#[cycle(walk)]
+#[tactic(auto, using(crate::proofs::Loops::skip_core_next, crate::proofs::Loops::skip_core_none))]
+fn after_core<'a>(rest: Rest<'a>, depth: u8, counts: &[u32; 45]) -> Option<Rest<'a>>
+    ensures { option_map left result ≡ skip_core counts.now depth (left rest.entry) }
+{
+    if depth == 0 {
+        return None;
+    }
+    let (code, rest) = byte(rest)?;
+    if is_element(code) {
+        return Some(rest);
+    }
+    after_code(code, rest, depth - 1, counts)
+}
+
+/// What is left behind a core whose first byte is given, where the types inside it are at most so deep.
+#[cycle(walk)]
+#[tactic(auto, using(crate::proofs::Loops::skip_deep_some), unfolding(crate::specs::Skips::skip_by))]
+fn after_code<'a>(code: u8, rest: Rest<'a>, depth: u8, counts: &[u32; 45]) -> Option<Rest<'a>>
+    ensures { option_map left result ≡ skip_by counts.now depth (skip_core counts.now depth) code (left rest.entry) }
+{
+    match code {
+        PTR => {
+            if depth == 0 {
+                return None;
+            }
+            after_target(rest, depth, counts)
+        }
+        VALUETYPE | CLASS => after_index(rest, counts),
+        VAR | MVAR => after_number(rest),
+        ARRAY => {
+            let rest = after_typed(rest, depth, counts)?;
+            after_shape(rest)
+        }
+        GENERICINST => after_instance(rest, depth, counts),
+        FNPTR => {
+            if depth == 0 {
+                return None;
+            }
+            after_method(rest, true, depth, counts)
+        }
+        SZARRAY => after_typed(rest, depth, counts),
+        _ => None,
+    }
+}
+
+/// What is left behind a type.
+#[cycle(walk)]
+#[tactic(auto, unfolding(crate::specs::Skips::skip_typed))]
+fn after_typed<'a>(rest: Rest<'a>, depth: u8, counts: &[u32; 45]) -> Option<Rest<'a>>
+    ensures { option_map left result ≡ skip_typed counts.now (skip_core counts.now depth) (left rest.entry) }
+{
+    let rest = after_modifiers(rest, counts)?;
+    after_core(rest, depth, counts)
+}
+
+/// What is left behind what a pointer points to.
+#[cycle(walk)]
+#[tactic(auto, unfolding(crate::specs::Skips::skip_target, crate::specs::Skips::skip_void_or))]
+fn after_target<'a>(rest: Rest<'a>, depth: u8, counts: &[u32; 45]) -> Option<Rest<'a>>
+    ensures { option_map left result ≡ skip_target counts.now (skip_core counts.now depth) (left rest.entry) }
+{
+    let rest = after_modifiers(rest, counts)?;
+    match byte(rest)? {
+        (VOID, rest) => Some(rest),
+        _ => after_core(rest, depth, counts),
+    }
+}
+
+/// What is left behind the name and the arguments of a generic type.
+#[cycle(walk)]
+#[tactic(auto, unfolding(crate::specs::Skips::skip_instance, crate::specs::Skips::skip_named, crate::specs::Skips::skip_counted))]
+fn after_instance<'a>(rest: Rest<'a>, depth: u8, counts: &[u32; 45]) -> Option<Rest<'a>>
+    ensures { option_map left result ≡ skip_instance counts.now (skip_core counts.now depth) (left rest.entry) }
+{
+    let (code, rest) = byte(rest)?;
+    if code != VALUETYPE && code != CLASS {
+        return None;
+    }
+    let rest = after_index(rest, counts)?;
+    let (count, rest) = number(rest)?;
+    after_types(rest, count, depth, counts)
+}
+
+/// What is left behind so many types.
+#[cycle(walk)]
+#[tactic(auto, using(crate::proofs::Loops::skip_many_next, crate::proofs::Loops::skip_many_end))]
+pub fn after_types<'a>(
+    rest: Rest<'a>,
+    count: u32,
+    depth: u8,
+    counts: &[u32; 45],
+) -> Option<Rest<'a>>
+    ensures { option_map left result ≡ skip_many (skip_typed counts.now (skip_core counts.now depth)) count (left rest.entry) }
+{
+    let mut rest = rest;
+    for done in 0..count {
+        rest = after_typed(rest, depth, counts)?;
+    }
+    Some(rest)
+}
+
+/// What is left behind what a parameter, a field or a local variable holds (II.23.2.10).
+#[cycle(walk)]
+#[tactic(auto, unfolding(crate::specs::Skips::skip_content))]
+pub fn after_content<'a>(rest: Rest<'a>, depth: u8, counts: &[u32; 45]) -> Option<Rest<'a>>
+    ensures { option_map left result ≡ skip_content counts.now (skip_core counts.now depth) (left rest.entry) }
+{
+    match byte(rest)? {
+        (TYPEDBYREF, rest) => Some(rest),
+        (BYREF, rest) => after_typed(rest, depth, counts),
+        _ => after_core(rest, depth, counts),
+    }
+}
+
+/// What is left behind a parameter or a field.
+#[cycle(walk)]
+#[tactic(auto, unfolding(crate::specs::Skips::skip_slot))]
+pub fn after_slot<'a>(rest: Rest<'a>, depth: u8, counts: &[u32; 45]) -> Option<Rest<'a>>
+    ensures { option_map left result ≡ skip_slot counts.now (skip_core counts.now depth) (left rest.entry) }
+{
+    let rest = after_modifiers(rest, counts)?;
+    after_content(rest, depth, counts)
+}
+
+/// What is left behind a result (II.23.2.11).
+#[cycle(walk)]
+#[tactic(auto, unfolding(crate::specs::Skips::skip_ret, crate::specs::Skips::skip_void_or))]
+pub fn after_ret<'a>(rest: Rest<'a>, depth: u8, counts: &[u32; 45]) -> Option<Rest<'a>>
+    ensures { option_map left result ≡ skip_ret counts.now (skip_core counts.now depth) (left rest.entry) }
+{
+    let rest = after_modifiers(rest, counts)?;
+    match byte(rest)? {
+        (VOID, rest) => Some(rest),
+        _ => after_content(rest, depth, counts),
+    }
+}
+
+/// Whether SENTINEL stands at the front, where it may stand, and what is left behind it.
+fn sentinel(rest: Rest<'_>, allowed: bool) -> (bool, Rest<'_>)
+    ensures marked { result.0 ≡ is_marked allowed (left rest.entry) }
+    ensures rest { left result.1 ≡ behind_mark (is_marked allowed (left rest.entry)) (left rest.entry) }
+{
+    match byte(rest) {
+        Some((SENTINEL, tail)) if allowed => (true, tail),
+        _ => (false, rest),
+    }
+}
+
+/// What is left behind so many parameters, with SENTINEL before one of them where it may stand.
+#[cycle(walk)]
+#[tactic(auto, using(crate::proofs::Loops::skip_params_next, crate::proofs::Loops::skip_params_end))]
+fn after_params<'a>(
+    rest: Rest<'a>,
+    count: u32,
+    allowed: bool,
+    depth: u8,
+    counts: &[u32; 45],
+) -> Option<Rest<'a>>
+    ensures { option_map left result ≡ skip_params counts.now (skip_core counts.now depth) allowed count (left rest.entry) }
+{
+    let mut rest = rest;
+    let mut allowed = allowed;
+    for done in 0..count {
+        let (marked, slot) = sentinel(rest, allowed);
+        allowed = allowed && !marked;
+        rest = after_slot(slot, depth, counts)?;
+    }
+    Some(rest)
+}
+
+/// What is left behind the number of generic parameters, where the first byte of a method has the bit
+/// 0x10 and one stands there.
+#[tactic(auto, unfolding(crate::specs::Skips::skip_generic))]
+fn after_generic(rest: Rest<'_>, code: u8) -> Option<Rest<'_>>
+    ensures { option_map left result ≡ skip_generic (code / 16 % 2 == 1) (left rest.entry) }
+{
+    if code / 16 % 2 == 1 {
+        return after_number(rest);
+    }
+    Some(rest)
+}
+
+/// What is left behind a method, which may have a SENTINEL of its own or not (II.23.2.1 to II.23.2.3).
+#[cycle(walk)]
+#[tactic(auto, unfolding(crate::specs::Skips::skip_method, crate::specs::Skips::skip_call))]
+pub fn after_method<'a>(
+    rest: Rest<'a>,
+    own: bool,
+    depth: u8,
+    counts: &[u32; 45],
+) -> Option<Rest<'a>>
+    ensures { option_map left result ≡ skip_method counts.now own (skip_core counts.now depth) (left rest.entry) }
+{
+    let (code, rest) = byte(rest)?;
+    let kind = code % 16;
+    if code >= 0x80 || (kind >= 6 && kind != 9) {
+        return None;
+    }
+    let rest = after_generic(rest, code)?;
+    let (count, rest) = number(rest)?;
+    let rest = after_ret(rest, depth, counts)?;
+    after_params(rest, count, own && (kind == 1 || kind == 5), depth, counts)
+}

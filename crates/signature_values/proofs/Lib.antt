@@ -1,0 +1,12 @@
+pub mod Readers
+pub mod Unsigned
+pub mod Signed
+pub mod Numbers
+pub mod Lists
+pub mod Leading
+pub mod Codes
+pub mod Contents
+pub mod Methods
+pub mod Cores
+pub mod Bodies
+pub mod Whole

@@ -1,0 +1,9 @@
+pub mod Syntax
+pub mod Views
+pub mod ElementTypes
+pub mod Parts
+pub mod Grammar
+pub mod Limits
+pub mod Spells
+pub mod Reading
+pub mod Columns

@@ -1,0 +1,70 @@
+-- Signatures as clauses see them: what a value says, without where it lies in memory (ECMA-335 II.23.2).
+use Rattle.std.specs.Prelude.{ℕ, ℤ, Bool, Option, List}
+use Rattle.schema.specs.declared.token.Token.{Token}
+use Rattle.signature_values.specs.declared.element.Element.{Element}
+use Rattle.signature_values.specs.declared.types.Modifier.{Modifier}
+use Rattle.signature_values.specs.declared.body.Prefix.{Prefix}
+
+-- the shape of an array (II.23.2.13)
+pub record ArrayShape : Type 0 where
+  pub rank : ℕ
+  pub sizes : List ℕ
+  pub low : List ℤ
+
+mutual
+  -- a type without modifiers before it (II.23.2.12)
+  pub data Core : Type 0 where
+    simple : Element → Core
+    void_pointer : List Modifier → Core
+    pointer : List Modifier → Core → Core
+    vector : Typed → Core
+    array : Typed → ArrayShape → Core
+    class : Token → Core
+    value : Token → Core
+    var : ℕ → Core
+    mvar : ℕ → Core
+    instance : Bool → Token → Types → Core
+    function : Method → Core
+
+  -- modifiers, and the type that they stand before
+  pub data Typed : Type 0 where
+    typed : List Modifier → Core → Typed
+
+  pub data Types : Type 0 where
+    no_types : Types
+    type_then : Typed → Types → Types
+
+  -- what a parameter, a field or a result holds (II.23.2.10)
+  pub data Content : Type 0 where
+    typed_ref : Content
+    plain : Core → Content
+    by_ref : List Modifier → Core → Content
+
+  pub data Slot : Type 0 where
+    slot : List Modifier → Content → Slot
+
+  pub data Slots : Type 0 where
+    no_slots : Slots
+    slot_then : Slot → Slots → Slots
+
+  -- the result of a method (II.23.2.11)
+  pub data Ret : Type 0 where
+    some_ret : Slot → Ret
+    void_ret : List Modifier → Ret
+
+  -- the kind, has-this, explicit-this, the generic parameters, the result, the parameters, and how many of them stand before SENTINEL
+  pub data Method : Type 0 where
+    method : ℕ → Bool → Bool → Option ℕ → Ret → Slots → Option ℕ → Method
+
+-- a local variable (II.23.2.6)
+pub data LocalVariable : Type 0 where
+  local : List Prefix → Content → LocalVariable
+
+-- a whole signature
+pub data Body : Type 0 where
+  field : Slot → Body
+  method_body : Method → Body
+  property : Bool → Slot → List Slot → Body
+  locals : List LocalVariable → Body
+  instance_body : List Typed → Body
+  type_spec : Ret → Body

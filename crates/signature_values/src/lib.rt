@@ -1,0 +1,23 @@
+//! The values of signatures (ECMA-335 II.23.2): what a blob of a signature column says, as Rust types.
+//!
+//! A [`SigBody`] is a whole signature: of a field, a method, a property, local variables, the
+//! arguments of a generic method, or a type. The definitions in `specs/` say which bytes spell
+//! which value in which kind of column, what its shortest spelling is, and which rows of type
+//! tables it names, in the order of the spelling. Reading, checking and writing stand above this
+//! crate, over that one grammar.
+//!
+//! ```text
+//! // 06 08: a field of a 4-byte integer
+//! SigBody::Field(FieldSig(Slot { mods, kind: SlotKind::Plain(Core::Simple(Element::I4)) }))
+//! ```
+#![tactic(auto)]
+
+mod body;
+mod element;
+mod laws;
+mod types;
+
+pub use body::{FieldSig, InstanceSig, Local, LocalsSig, Prefix, PropertySig, SigBody};
+pub use element::Element;
+pub use laws::{indexes_are_read, shortest_spells, signature_is_one, signatures_are_read};
+pub use types::{Core, MethodSig, Modifier, Ret, Shape, Slot, SlotKind, TypeSig};
