@@ -1,0 +1,9 @@
+use Rattle.std.proofs.Common.{ℕ, ◌<◌, All}
+use Rattle.std.proofs.Common.{take}
+use Rattle.heaps.specs.Entries.{HasNoNul}
+use Rattle.heaps.specs.Uses.{bytes_of}
+use Rattle.heaps.specs.Ranking.{used_at}
+use Rattle.bench.proofs.are_plain.Given as goal
+
+abbrev pub invariant-loop-text : goal.invariant-loop-text
+invariant-loop-text l = (k : ℕ) → k < l.text-index → HasNoNul (used_at (bytes_of l.texts) k)
