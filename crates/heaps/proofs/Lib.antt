@@ -2,6 +2,7 @@ pub mod BlobLemmas
 pub mod BlockLemmas
 pub mod DistinctLemmas
 pub mod EndingLemmas
+pub mod EntryLemmas
 pub mod FirstByteLemmas
 pub mod FirstLemmas
 pub mod FoundLemmas
@@ -16,3 +17,4 @@ pub mod TextLemmas
 pub mod UseLemmas
 pub mod UserHeapLemmas
 pub mod UserLemmas
+pub mod WholeLemmas

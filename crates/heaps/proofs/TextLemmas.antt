@@ -18,7 +18,7 @@ ended_from heap index n h in_rest none nul =
     }
 
 module _ (heap : List ℕ) (index : ℕ) (bytes : List ℕ) (e : IsEnded heap index bytes) where
-  rest_is : drop index heap ≡ bytes ++ 0 ∷ e.after
+  pub rest_is : drop index heap ≡ bytes ++ 0 ∷ e.after
   rest_is = ap (drop index) e.whole ∙ drop_at e.before (bytes ++ 0 ∷ e.after) index e.at
 
   pub ended_length : index + length bytes < length heap
@@ -30,7 +30,7 @@ module _ (heap : List ℕ) (index : ℕ) (bytes : List ℕ) (e : IsEnded heap in
   pub none_in : (k : ℕ) → k < length bytes → slice_index (drop index heap) k ≢ 0
   none_in k h z = e.no_nul k 0 h (sym (get_or_append_left bytes (0 ∷ e.after) 0 k h) ∙ ap (λ l. slice_index l k) (sym rest_is) ∙ z)
 
-  bytes_are : (n : ℕ) → n ≡ length bytes → take n (drop index heap) ≡ bytes
+  pub bytes_are : (n : ℕ) → n ≡ length bytes → take n (drop index heap) ≡ bytes
   bytes_are n h = ap (take n) rest_is ∙ take_at bytes (0 ∷ e.after) n (sym h)
 
 -- at most one run of bytes stands ended at an index

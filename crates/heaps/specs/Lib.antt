@@ -10,6 +10,7 @@ pub mod GuidHeap
 pub mod GuidPoolView
 pub mod GuidText
 pub mod Ranking
+pub mod StringsView
 pub mod TextHeap
 pub mod TextPlan
 pub mod TextPoolView

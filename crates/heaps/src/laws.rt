@@ -1,4 +1,4 @@
-ghost use Rattle.std.specs.Prelude.{◌≡◌, ◌<◌, ◌^◌, ◌++◌, ◌∷◌, [], ◌⊎◌, ℕ, List, length, All, Contains, IsUtf8, Some};
+ghost use Rattle.std.specs.Prelude.{◌≡◌, ◌<◌, ◌^◌, ◌++◌, ◌∷◌, [], ◌⊎◌, ℕ, List, length, All, Contains, IsUtf8, Option, Some};
 ghost use Rattle.heaps.specs.BlobHeap.{blob_heap, blob_index};
 ghost use Rattle.heaps.specs.Distinct.{distinct, pooled};
 ghost use Rattle.heaps.specs.Entries.{HasNoNul, IsBlob, IsGuid, IsText, IsUserString};
@@ -34,4 +34,12 @@ pub fn pushed_string_is_found()
 pub fn pooled_are_distinct()
     ensures more { (used : List (List ℕ)) (value : List ℕ) → distinct (used ++ value ∷ []) ≡ pooled (distinct used) value }
     ensures each { (used : List (List ℕ)) (value : List ℕ) → Contains used value → 0 < length value → Contains (distinct used) value }
+{}
+
+/// At an index of a heap stands one text, one blob and one GUID at most.
+pub fn entries_are_one()
+    ensures text { (heap : List ℕ) (index : ℕ) (text other : List ℕ) → IsText heap index text → IsText heap index other → text ≡ other }
+    ensures blob { (heap : List ℕ) (index : ℕ) (blob other : List ℕ) → IsBlob heap index blob → IsBlob heap index other → blob ≡ other }
+    ensures guid { (heap : List ℕ) (index : ℕ) (guid other : Option (List ℕ)) → IsGuid heap index guid → IsGuid heap index other
+        → guid ≡ other }
 {}

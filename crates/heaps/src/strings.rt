@@ -4,8 +4,9 @@ ghost use Rattle.heaps.specs.Demands.{at_place, demands_of_text};
 ghost use Rattle.heaps.specs.Entries.{IsEnded, IsText};
 
 use crate::fault::HeapFault;
-use memchr::memchr;
+use memchr::{memchr, memrchr};
 use simdutf8::basic;
+use std::marker::Model;
 
 /// The bytes from a place up to the next NUL.
 fn ended(heap: &[u8], start: usize) -> Option<&[u8]>
@@ -43,5 +44,80 @@ pub fn text(heap: &[u8], index: u32) -> Result<&str, HeapFault>
     match basic::from_utf8(bytes) {
         Ok(text) => Ok(text),
         Err(_) => Err(HeapFault::BadUtf8),
+    }
+}
+
+/// The bytes of a `#Strings` heap (II.24.2.3), looked at once as a whole.
+///
+/// It answers what the function `text` answers of these bytes. Where all of them are UTF-8, no text
+/// is looked at for that again, and `check` takes constant time; else both read as it does.
+#[derive(Clone, Drop)]
+pub struct Strings<'a> {
+    heap: &'a [u8],
+    /// The heap, where all of it is UTF-8.
+    whole: Option<&'a str>,
+    /// Where the last NUL stands.
+    last_nul: Option<usize>,
+}
+
+impl<'a> Model for Strings<'a> {
+    ghost use Rattle.std.specs.Prelude.{List, ℕ};
+
+    ghost Value = { List ℕ };
+
+    ghost use Rattle.heaps.specs.StringsView.{heap_of, IsKnown};
+
+    ghost view = { heap_of };
+
+    ghost invariant = { IsKnown };
+}
+
+impl<'a> Strings<'a> {
+    /// Looks once at the bytes of a heap, without memory; an absent heap is no bytes.
+    pub fn new(heap: &'a [u8]) -> Strings<'a>
+        ensures { result ≡ heap.now }
+    {
+        Strings {
+            heap,
+            whole: basic::from_utf8(heap).ok(),
+            last_nul: memrchr(0, heap),
+        }
+    }
+
+    /// Whether a text stands at an index; else the fault is that of `text`.
+    pub fn check(&self, index: u32) -> Result<(), HeapFault>
+        ensures answers { (place : ℕ) → Answers (demands_of_text self.now index place) (at_place place result) }
+    {
+        let Some(whole) = self.whole else {
+            text(self.heap, index)?;
+            return Ok(());
+        };
+        let start = index as usize;
+        match self.last_nul {
+            _ if start == 0 => Ok(()),
+            Some(last) if start <= last && whole.is_char_boundary(start) => Ok(()),
+            Some(last) if start <= last => Err(HeapFault::BadUtf8),
+            _ => Err(HeapFault::BadString),
+        }
+    }
+
+    /// The text of an index into the heap, with the faults of the function `text`.
+    pub fn text(&self, index: u32) -> Result<&'a str, HeapFault>
+        ensures found { IfOk result (λ text. IsText self.now index text.now) }
+        ensures only { (text : List ℕ) → IsText self.now index text → IsOkAnd result (λ found. found.now ≡ text) }
+        ensures answers { (place : ℕ) → Answers (demands_of_text self.now index place) (at_place place result) }
+    {
+        let Some(whole) = self.whole else {
+            return text(self.heap, index);
+        };
+        let start = index as usize;
+        if start == 0 {
+            return Ok("");
+        }
+        match ended(self.heap, start) {
+            Some(bytes) if whole.is_char_boundary(start) => Ok(&whole[start..start + bytes.len()]),
+            Some(_) => Err(HeapFault::BadUtf8),
+            None => Err(HeapFault::BadString),
+        }
     }
 }

@@ -1,6 +1,6 @@
 use crate::{
-    BlobPool, GuidPool, HeapFault, PoolError, TextPool, UserHeap, blob, guid, guid_text, text,
-    user_string,
+    BlobPool, GuidPool, HeapFault, PoolError, Strings, TextPool, UserHeap, blob, guid, guid_text,
+    text, user_string,
 };
 use std::test::Fail;
 
@@ -20,12 +20,33 @@ fn reads_texts(rt: HostRuntime) {
     assert_eq!(rt; text(&STRINGS, 7), Ok(""));
     assert_eq!(rt; text(&STRINGS, 8), Err(HeapFault::BadString));
     assert_eq!(rt; text(&STRINGS, u32::MAX), Err(HeapFault::BadString));
-    assert_eq!(rt; text(&[0x41, 0x00], 0), Ok(""));
-    assert_eq!(rt; text(&[], 0), Ok(""));
-    assert_eq!(rt; text(&[], 1), Err(HeapFault::BadString));
-    assert_eq!(rt; text(&[0x00, 0xC3, 0x28, 0x00], 1), Err(HeapFault::BadUtf8));
-    assert_eq!(rt; text(&[0x00, 0xC3, 0x28, 0x00], 2), Ok("("));
-    assert_eq!(rt; text(&[0x00, 0xC3, 0x28], 1), Err(HeapFault::BadString));
+}
+
+#[test]
+fn reads_texts_of_a_whole_heap(rt: HostRuntime) {
+    for (heap, index, found) in [
+        (b"\0N\xC3\xA9\0".as_slice(), 1, Ok("Né")),
+        (b"\0N\xC3\xA9\0".as_slice(), 2, Ok("é")),
+        (b"\0N\xC3\xA9\0".as_slice(), 3, Err(HeapFault::BadUtf8)),
+        (b"\0N\xC3\xA9\0".as_slice(), 4, Ok("")),
+        (b"\0N\xC3\xA9\0".as_slice(), 5, Err(HeapFault::BadString)),
+        (b"\0\xC3(\0".as_slice(), 1, Err(HeapFault::BadUtf8)),
+        (b"\0\xC3(\0".as_slice(), 2, Ok("(")),
+        (b"\0\xC3(".as_slice(), 1, Err(HeapFault::BadString)),
+        (b"\0a\0b".as_slice(), 1, Ok("a")),
+        (b"\0a\0b".as_slice(), 3, Err(HeapFault::BadString)),
+        (b"A\0".as_slice(), 0, Ok("")),
+        (b"".as_slice(), 0, Ok("")),
+        (b"".as_slice(), 1, Err(HeapFault::BadString)),
+    ] {
+        let strings = Strings::new(heap);
+        assert_eq!(rt; strings.text(index), found, "at {index}");
+        for at in 0..8 {
+            let found = text(heap, at);
+            assert_eq!(rt; strings.text(at), found, "at {at}");
+            assert_eq!(rt; strings.check(at), found.map(|_| ()), "at {at}");
+        }
+    }
 }
 
 #[test]

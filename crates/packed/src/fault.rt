@@ -16,6 +16,9 @@ pub struct Fault {
 }
 
 impl Fault {
+    ghost use Rattle.std.specs.Prelude.{◌≡◌, ◌+◌, ◌^◌, ◌<◌};
+    ghost use Rattle.packed.specs.Demand.{raise};
+
     /// The fault of a demand at a place.
     pub fn new(code: FaultCode, offset: u64) -> Fault
         ensures { result ≡ fault code offset }
@@ -25,6 +28,17 @@ impl Fault {
             layer: (code / 100) as u8,
             code,
             offset,
+        }
+    }
+
+    /// The same fault, whose place counts from so many bytes further on.
+    pub fn raised(self, by: u64) -> Fault
+        requires { by + self.offset < 2 ^ 64 }
+        ensures { result ≡ raise by self }
+    {
+        Fault {
+            offset: by + self.offset,
+            ..self
         }
     }
 

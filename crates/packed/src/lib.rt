@@ -14,12 +14,14 @@
 
 mod code;
 mod fault;
+mod laws;
 mod number;
 mod signed;
 mod unsigned;
 
 pub use code::FaultCode;
 pub use fault::Fault;
+pub use laws::numbers_are_read;
 pub use number::{u16_at, u32_at, u64_at};
 pub use signed::{put_signed, read_signed};
 pub use unsigned::{put_unsigned, read_unsigned, unsigned_len};

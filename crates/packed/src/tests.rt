@@ -41,6 +41,12 @@ fn numbers_and_names_each_demand(rt: HostRuntime) {
 }
 
 #[test]
+fn raises_a_fault(rt: HostRuntime) {
+    let fault = Fault::new(FaultCode::Version, 12);
+    assert_eq!(rt; fault.raised(0x200), Fault::new(FaultCode::Version, 0x20C));
+}
+
+#[test]
 fn names_no_other_code(rt: HostRuntime) {
     for code in [
         0, 100, 109, 205, 300, 309, 408, 509, 510, 605, 703, 802, 902, 65535,

@@ -1,4 +1,4 @@
-ghost use Rattle.std.specs.Prelude.{◌≡◌, ◌+◌, ◌≤◌, ◌^◌, length, IfOk};
+ghost use Rattle.std.specs.Prelude.{◌≡◌, ◌+◌, ◌≤◌, ◌^◌, length, IfOk, IfErr};
 ghost use Rattle.packed.specs.Demand.{Answers};
 ghost use Rattle.pe.specs.Demands.{demands_of_dos_header, demands_of_signature, demands_of_optional_header, demands_of_sections};
 ghost use Rattle.pe.specs.Headers.{lfanew, section_count, sections_place, directory_place, optional_header_size};
@@ -50,6 +50,8 @@ pub fn read_dos_header(bytes: &[u8]) -> Result<usize, Fault>
     ensures answers { Answers (demands_of_dos_header bytes.now) result }
     ensures lfanew { IfOk result (λ place. place ≡ lfanew bytes.now) }
     ensures small { IfOk result (λ _. length bytes.now ≤ 2 ^ 30) }
+    ensures room { IfOk result (λ _. 64 ≤ length bytes.now) }
+    ensures within { IfErr result (λ fault. fault.offset ≤ length bytes.now) }
 {
     if bytes.len() > LIMIT {
         return Err(Fault::new(FaultCode::TooLong, 0));
@@ -76,11 +78,13 @@ pub struct FileHeader {
 /// Reads the PE file header, where the PE signature stands before it (II.25.2.2).
 pub fn read_file_header(bytes: &[u8], place: usize) -> Result<FileHeader, Fault>
     requires small { length bytes.now ≤ 2 ^ 30 }
+    requires header { 64 ≤ length bytes.now }
     requires place { place ≡ lfanew bytes.now }
     ensures answers { Answers (demands_of_signature bytes.now) result }
     ensures room { IfOk result (λ _. place + 24 ≤ length bytes.now) }
     ensures section_count { IfOk result (λ header. header.section_count ≡ section_count bytes.now) }
     ensures size { IfOk result (λ header. header.optional_header_size ≡ optional_header_size bytes.now) }
+    ensures within { IfErr result (λ fault. fault.offset ≤ length bytes.now) }
 {
     if bytes.len() < place || bytes.len() - place < OPTIONAL_HEADER {
         return Err(Fault::new(FaultCode::PeSignature, LFANEW as u64));
@@ -106,6 +110,7 @@ pub fn read_optional_header(bytes: &[u8], place: usize, size: usize) -> Result<u
     ensures directory { IfOk result (λ directory. directory ≡ directory_place bytes.now) }
     ensures room { IfOk result (λ directory. directory + 8 ≤ place + 24 + size) }
     ensures end { IfOk result (λ _. place + 24 + size ≤ length bytes.now) }
+    ensures within { IfErr result (λ fault. fault.offset ≤ length bytes.now) }
 {
     let size_place = (place + OPTIONAL_HEADER_SIZE) as u64;
     let start = place + OPTIONAL_HEADER;
@@ -138,7 +143,8 @@ pub fn check_sections(bytes: &[u8], place: usize, start: usize, count: usize) ->
     requires start { start ≡ sections_place bytes.now }
     requires count { count ≡ section_count bytes.now }
     requires within { start ≤ length bytes.now }
-    ensures { Answers (demands_of_sections bytes.now) result }
+    ensures answers { Answers (demands_of_sections bytes.now) result }
+    ensures within { IfErr result (λ fault. fault.offset ≤ length bytes.now) }
 {
     if (bytes.len() - start) / SECTION_HEADER_SIZE < count {
         return Err(Fault::new(FaultCode::Sections, (place + SECTION_COUNT) as u64));

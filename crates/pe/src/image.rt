@@ -1,4 +1,4 @@
-ghost use Rattle.std.specs.Prelude.{◌≡◌, ℕ, ◌+◌, IfOk, IfErr, IfSome, IsOkAnd, IsSomeAnd};
+ghost use Rattle.std.specs.Prelude.{◌≡◌, ℕ, ◌+◌, ◌≤◌, length, IfOk, IfErr, IfSome, IsOkAnd, IsSomeAnd};
 ghost use Rattle.packed.specs.Demand.{AllHold, Answers, FirstToFail};
 ghost use Rattle.pe.specs.Demands.{demands_of_image};
 ghost use Rattle.pe.specs.Headers.{image_of};
@@ -82,6 +82,7 @@ impl<'a> Pe<'a> {
 fn check_image(bytes: &[u8]) -> Result<Pe<'_>, Fault>
     ensures answers { Answers (demands_of_image bytes.now) result }
     ensures image { IfOk result (λ image. image ≡ image_of bytes.now) }
+    ensures within { IfErr result (λ fault. fault.offset ≤ length bytes.now) }
 {
     let lfanew = read_dos_header(bytes)?;
     let header = read_file_header(bytes, lfanew)?;
@@ -109,6 +110,8 @@ pub fn read_pe(bytes: &[u8]) -> Result<Pe<'_>, Fault>
     ensures all { IfOk result (λ image. AllHold (demands_of_image bytes.now) × (image ≡ image_of bytes.now)) }
     // A fault is that of the first demand that fails.
     ensures first { IfErr result (FirstToFail (demands_of_image bytes.now)) }
+    // Its place is one of these bytes, or their end.
+    ensures within { IfErr result (λ fault. fault.offset ≤ length bytes.now) }
 {
     check_image(bytes)
 }

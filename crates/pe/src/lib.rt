@@ -14,9 +14,11 @@
 
 mod headers;
 mod image;
+mod laws;
 mod section;
 
 pub use image::{Pe, read_pe};
+pub use laws::images_are_read;
 pub use packed::{Fault, FaultCode};
 
 #[cfg(test)]

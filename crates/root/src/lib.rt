@@ -17,12 +17,14 @@ mod front;
 mod header;
 mod headers;
 mod kind;
+mod laws;
 mod root;
 mod walk;
 
 pub use header::StreamHeader;
 pub use headers::Headers;
 pub use kind::Kind;
+pub use laws::roots_are_read;
 pub use packed::{Fault, FaultCode};
 pub use root::{Root, read_root};
 

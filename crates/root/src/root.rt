@@ -1,4 +1,4 @@
-ghost use Rattle.std.specs.Prelude.{◌≡◌, ◌+◌, ◌≤◌, ◌^◌, List, ℕ, length, IfOk, IfErr, IsOkAnd, Option, Some, None};
+ghost use Rattle.std.specs.Prelude.{◌≡◌, ◌+◌, ◌≤◌, ◌^◌, List, ℕ, length, IfSome, IfOk, IfErr, IsOkAnd, Option, Some, None};
 ghost use Rattle.std.specs.Option.{option_map};
 ghost use Rattle.packed.specs.Demand.{AllHold, Answers, FirstToFail};
 ghost use Rattle.root.specs.Demands.{demands_of_root};
@@ -52,7 +52,8 @@ impl<'a> Root<'a> {
 
     /// Where a stream lies, counted from the root's begin; `None` where no header names it.
     pub fn stream_place(&self, kind: Kind) -> Option<Range<usize>>
-        ensures { option_map (λ range. (range.start, range.«end»)) result ≡ place_of self.now kind }
+        ensures place { option_map (λ range. (range.start, range.«end»)) result ≡ place_of self.now kind }
+        ensures within { IfSome result (λ range. (range.start ≤ range.«end») × (range.«end» ≤ length self.now.bytes)) }
     {
         let header = find_header(self.bytes, self.start, self.count, kind)?;
         let start = header.offset as usize;

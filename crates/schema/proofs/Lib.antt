@@ -7,4 +7,5 @@ pub mod NumberLemmas
 pub mod CellLemmas
 pub mod StreamLemmas
 pub mod OneLemmas
+pub mod ReadLemmas
 pub mod Samples

@@ -42,7 +42,7 @@ cell_laid stream sizes numbers laid table row column first last within =
     }
 
 -- a row that fits has a number a column
-row_long : (sizes : Sizes) (columns : List Column) (row : List ℕ) → FitRow sizes columns row → length row ≡ length columns
+pub row_long : (sizes : Sizes) (columns : List Column) (row : List ℕ) → FitRow sizes columns row → length row ≡ length columns
 row_long sizes [] [] fit = refl
 row_long sizes [] (number ∷ row) fit = absurd fit
 row_long sizes (column ∷ columns) [] fit = absurd fit

@@ -1,10 +1,12 @@
 -- The cells of a table stream (ECMA-335 II.24.2.6): where each stands, and how it is read.
-use Rattle.std.specs.Prelude.{◌≡◌, ℕ, ◌^◌, ◌<◌, List}
+use Rattle.std.specs.Prelude.{◌≡◌, ℕ, ◌^◌, ◌<◌, List, length, map}
+use Rattle.std.specs.List.{range_with_len}
 use Rattle.packed.specs.Number.{little_endian}
 use Rattle.packed.specs.Places.{part}
 use Rattle.schema.specs.declared.table.TableId.{TableId}
-use Rattle.schema.specs.Columns.{column_at}
-use Rattle.schema.specs.Sizes.{Sizes, width_of}
+use Rattle.schema.specs.Tables.{tables}
+use Rattle.schema.specs.Columns.{columns_of, column_at}
+use Rattle.schema.specs.Sizes.{Sizes, count_of, width_of}
 use Rattle.schema.specs.Places.{cell_start}
 use Rattle.schema.specs.LaidOut.{number_bytes, number_in, StandsAt}
 
@@ -15,6 +17,18 @@ cell_width sizes table column = width_of sizes (column_at table column)
 -- the number that is read at a cell's place
 abbrev pub number_at : List ℕ → Sizes → TableId → ℕ → ℕ → ℕ
 number_at stream sizes table row column = little_endian (part stream (cell_start sizes table row column) (cell_width sizes table column))
+
+-- the numbers that are read of a row, column by column
+abbrev pub row_at : List ℕ → Sizes → TableId → ℕ → List ℕ
+row_at stream sizes table row = map (number_at stream sizes table row) (range_with_len 0 (length (columns_of table)))
+
+-- the numbers that are read of a table, row by row from 1
+abbrev pub rows_at : List ℕ → Sizes → TableId → List (List ℕ)
+rows_at stream sizes table = map (row_at stream sizes table) (range_with_len 1 (count_of sizes table))
+
+-- the numbers that are read of all tables, in the order of the tables
+unfoldable pub numbers_at : List ℕ → Sizes → List (List (List ℕ))
+numbers_at stream sizes = map (rows_at stream sizes) tables
 
 -- a cell's number is within its column's width, stands by its bytes where the cell begins, and is what is read there
 pub record HoldsCell (stream : List ℕ) (sizes : Sizes) (numbers : List (List (List ℕ))) (table : TableId) (row column : ℕ) : Type 0 where

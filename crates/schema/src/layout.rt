@@ -55,7 +55,7 @@ impl Header {
 }
 
 impl Layout {
-    ghost use Rattle.std.specs.Prelude.{◌≡◌, ◌≤◌, ◌<◌, ◌+◌, length, slice_index};
+    ghost use Rattle.std.specs.Prelude.{◌≡◌, ◌≢◌, ◌≤◌, ◌<◌, ◌+◌, ℕ, length, slice_index};
     ghost use Rattle.schema.specs.declared.table.TableId.{TableId as Table};
     ghost use Rattle.schema.specs.Tables.{table_number};
     ghost use Rattle.schema.specs.Columns.{columns_of, column_at};
@@ -115,6 +115,18 @@ impl Layout {
     {
         let header = &self.header;
         header.count(table)
+    }
+
+    /// How many rows each table has, by its number; 0 at a number that no table has.
+    pub fn counts(&self) -> [u32; 45]
+        ensures each { (table : Table) → slice_index result (table_number table) ≡ count_of self.now table }
+        ensures others { (number : ℕ) → ((table : Table) → table_number table ≢ number) → slice_index result number ≡ 0 }
+    {
+        let mut counts = [0; 45];
+        for table in TableId::all() {
+            counts[table.number() as usize] = self.count(*table);
+        }
+        counts
     }
 
     /// The tables that are said to be in order, as the bits of their numbers.

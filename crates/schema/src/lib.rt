@@ -14,6 +14,7 @@
 //! ```
 #![tactic(auto)]
 
+mod bit_laws;
 mod coded;
 mod coded_index;
 mod column;
@@ -23,9 +24,11 @@ mod laws;
 mod layout;
 mod place;
 mod read;
+mod read_laws;
 mod table;
 mod token;
 
+pub use bit_laws::bits_are_known;
 pub use coded::Coded;
 pub use coded_index::{join, split};
 pub use column::{Column, ColumnKind, SigKind};
@@ -36,5 +39,6 @@ pub use laws::{
 };
 pub use layout::Layout;
 pub use packed::{Fault, FaultCode};
+pub use read_laws::{numbers_are_read, streams_are_read};
 pub use table::TableId;
 pub use token::Token;

@@ -1,4 +1,4 @@
-ghost use Rattle.std.specs.Prelude.{◌≡◌, ◌≤◌, ◌↔◌, length, count_by, IsTrue, IfOk};
+ghost use Rattle.std.specs.Prelude.{◌≡◌, ◌<◌, ◌≤◌, ◌↔◌, length, count_by, IsTrue, IfOk, IfErr};
 ghost use Rattle.packed.specs.Demand.{Answers, demands_from};
 ghost use Rattle.schema.specs.Tables.{tables};
 ghost use Rattle.schema.specs.LaidOut.{bits_of};
@@ -55,6 +55,7 @@ fn counted(valid: u64) -> usize
 fn read_valid(bytes: &[u8]) -> Result<u64, Fault>
     ensures answers { Answers (demands_of_header bytes.now) result }
     ensures valid { IfOk result (λ valid. valid ≡ valid_of bytes.now) }
+    ensures within { IfErr result (λ fault. fault.offset < 256) }
 {
     if bytes.len() < 24 {
         return Err(Fault::new(FaultCode::TablesHeader, 0));
@@ -84,6 +85,7 @@ fn read_count(bytes: &[u8], valid: u64, table: TableId, place: usize) -> Result<
     requires room { (sizes_of bytes.now).body ≤ length bytes.now }
     ensures answers { Answers (demands_of_count bytes.now table) result }
     ensures count { IfOk result (λ count. count ≡ count_in bytes.now table) }
+    ensures within { IfErr result (λ fault. fault.offset ≡ place) }
 {
     if !is_set(valid, table) {
         return Ok(0);
@@ -101,6 +103,7 @@ fn read_counts(bytes: &[u8], valid: u64) -> Result<[u32; 38], Fault>
     requires room { (sizes_of bytes.now).body ≤ length bytes.now }
     ensures answers { Answers (demands_from (demands_of_position bytes.now) 0 38) result }
     ensures counts { IfOk result (λ counts. counts ≡ (sizes_of bytes.now).counts) }
+    ensures within { IfErr result (λ fault. fault.offset < 256) }
 {
     let mut counts = [0; 38];
     let mut place = 24;
@@ -118,6 +121,7 @@ fn read_counts(bytes: &[u8], valid: u64) -> Result<[u32; 38], Fault>
 fn read_layout(bytes: &[u8]) -> Result<Layout, Fault>
     ensures answers { Answers (demands_of_stream bytes.now) result }
     ensures layout { IfOk result (λ layout. layout ≡ sizes_of bytes.now) }
+    ensures within { IfErr result (λ fault. fault.offset < 256) }
 {
     let valid = read_valid(bytes)?;
     let counts = read_counts(bytes, valid)?;
@@ -135,7 +139,7 @@ fn read_layout(bytes: &[u8]) -> Result<Layout, Fault>
 }
 
 impl Layout {
-    ghost use Rattle.std.specs.Prelude.{◌≡◌, List, ℕ, IfOk, IfErr, IsOkAnd};
+    ghost use Rattle.std.specs.Prelude.{◌≡◌, ◌<◌, List, ℕ, IfOk, IfErr, IsOkAnd};
     ghost use Rattle.packed.specs.Demand.{FirstToFail};
     ghost use Rattle.schema.specs.Sizes.{Sizes};
     ghost use Rattle.schema.specs.LaidOut.{IsLaidOut, IsTableStream};
@@ -153,6 +157,8 @@ impl Layout {
             → IsOkAnd result (λ layout. layout ≡ sizes) }
         // A fault is that of the first demand that fails.
         ensures first { IfErr result (FirstToFail (demands_of_stream bytes.now)) }
+        // Its place is in the header.
+        ensures within { IfErr result (λ fault. fault.offset < 256) }
     {
         read_layout(bytes)
     }

@@ -1,0 +1,28 @@
+use Rattle.std.proofs.Common.{refl, arith, ◌∙◌, ap, get_or, List, length-set}
+use Rattle.schema.specs.declared.table.TableId.{TableId}
+use Rattle.schema.specs.declared.table.TableId.TheVariants.{Module}
+use Rattle.schema.specs.Tables.{table_number}
+use Rattle.schema.specs.Sizes.{count_of}
+use Rattle.schema.proofs.ReadLemmas.{table_kept, others_kept, no_counts, tables_kept}
+use Rattle.schema.proofs.layout.Layout.counts.Goals as goal
+
+pub loop-table-init : goal.loop-table-init
+loop-table-init c = record { room = refl; each = λ k h. absurd (omega arith); others = λ number none. no_counts 45 number }
+
+pub loop-table-preserved : goal.loop-table-preserved
+loop-table-preserved c =
+    let sizes = c.args.self.now in
+    let before = c.loop-table.invariant in
+    let here = ap (λ (listed : List TableId). get_or listed c.loop-table.table-index Module) c.all-table-items.ensures.value in
+    let number = c.number.ensures.value ∙ ap table_number here in
+    record {
+      room = length-set _ _ _ ∙ before.room;
+      each = table_kept (count_of sizes) c.loop-table.counts c.loop-table.table-index c.number.result c.count.result (omega arith) before.room number (c.count.ensures.value ∙ ap (count_of sizes) here) before.each;
+      others = others_kept c.loop-table.counts _ c.number.result c.count.result c.number.ensures.value before.others;
+    }
+
+pub returns-clause-each : goal.returns-clause-each
+returns-clause-each c = tables_kept (count_of c.args.self.now) c.loop-table.counts (λ k h. c.loop-table.invariant.each k (omega arith))
+
+pub returns-clause-others : goal.returns-clause-others
+returns-clause-others c = c.loop-table.invariant.others

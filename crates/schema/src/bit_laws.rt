@@ -1,0 +1,11 @@
+ghost use Rattle.std.specs.Prelude.{◌≡◌, ◌^◌, ◌<◌, Bool};
+ghost use Rattle.schema.specs.declared.table.TableId.{TableId as Table};
+ghost use Rattle.schema.specs.Tables.{tables};
+ghost use Rattle.schema.specs.LaidOut.{bits_of};
+ghost use Rattle.schema.specs.Header.{has_bit};
+
+/// The bits of the tables that pass a test are set for those and for no other table, and fit eight bytes.
+pub fn bits_are_known()
+    ensures set { (test : Table → Bool) (table : Table) → has_bit (bits_of test tables) table ≡ test table }
+    ensures low { (test : Table → Bool) → bits_of test tables < 2 ^ 64 }
+{}

@@ -1,0 +1,29 @@
+ghost use Rattle.std.specs.Prelude.{◌≡◌, ◌^◌, ◌<◌, ◌≤◌, ℕ, List, length, get_or};
+ghost use Rattle.packed.specs.Demand.{AllHold};
+ghost use Rattle.schema.specs.declared.table.TableId.{TableId as Table};
+ghost use Rattle.schema.specs.Columns.{columns_of};
+ghost use Rattle.schema.specs.Sizes.{Sizes, count_of};
+ghost use Rattle.schema.specs.LaidOut.{number_in, IsLaidOut, IsTableStream};
+ghost use Rattle.schema.specs.Header.{sizes_of};
+ghost use Rattle.schema.specs.Demands.{demands_of_stream};
+ghost use Rattle.schema.specs.Cells.{number_at, numbers_at};
+
+/// A table stream meets all demands and has the sizes that its header says; and bytes that meet all
+/// demands are a table stream of these sizes.
+pub fn streams_are_read()
+    ensures demanded { (stream : List ℕ) (sizes : Sizes) (numbers : List (List (List ℕ))) → IsLaidOut stream sizes numbers
+        → AllHold (demands_of_stream stream) }
+    ensures said { (stream : List ℕ) (sizes : Sizes) (numbers : List (List (List ℕ))) → IsLaidOut stream sizes numbers
+        → sizes ≡ sizes_of stream }
+    ensures found { (stream : List ℕ) → ((k : ℕ) → get_or stream k 0 < 2 ^ 8) → AllHold (demands_of_stream stream)
+        → IsTableStream stream (sizes_of stream) }
+{}
+
+/// The numbers of a stream are those that are read at the places of its cells.
+pub fn numbers_are_read()
+    ensures is { (stream : List ℕ) (sizes : Sizes) (numbers : List (List (List ℕ))) → IsLaidOut stream sizes numbers
+        → numbers ≡ numbers_at stream sizes }
+    ensures each { (stream : List ℕ) (sizes : Sizes) (table : Table) (row column : ℕ) → 1 ≤ row → row ≤ count_of sizes table
+        → column < length (columns_of table)
+        → number_in (numbers_at stream sizes) table row column ≡ number_at stream sizes table row column }
+{}
