@@ -101,7 +101,7 @@ module _ {A : Type 0} (r : Optional A) (starts : List ℕ → Bool) (steps : Ste
       by_item k m b (Some (Some x, c)) h same = ap (λ (t : Option (List A × List ℕ)). option_map (λ y. (x ∷ y.0, y.1)) t) (same c h)
 
   -- the items, from what stands at the front
-  leading_is : (b : List ℕ) → leading_at r b ≡ option_and_then (items_then (leading_at r)) (r b)
+  pub leading_is : (b : List ℕ) → leading_at r b ≡ option_and_then (items_then (leading_at r)) (r b)
   unfolding leading_at leading_within
   leading_is [] = let e = steps.stop [] steps.empty in rw e refl
   leading_is (c ∷ b) = of_item (r (c ∷ b)) (steps.shorter (c ∷ b))
@@ -178,7 +178,7 @@ modifier_stop (c ∷ b) h = at_test (eqb c 0x1F) (eqb c 0x20) h
     at_test false true h = absurd cc
     at_test false false h = refl
 
-modifier_steps : Stepping modifier_at starts_modifier
+pub modifier_steps : Stepping modifier_at starts_modifier
 modifier_steps = record { shorter = modifier_shorter; item = modifier_item; stop = modifier_stop; empty = refl }
 
 -- ---- modifiers and PINNED
@@ -215,7 +215,7 @@ prefix_stop (c ∷ b) h = at_test (eqb c 0x45) h
     at_test true h = absurd cc
     at_test false h = let e = modifier_stop (c ∷ b) h in rw e refl
 
-prefix_steps : Stepping prefix_at starts_prefix
+pub prefix_steps : Stepping prefix_at starts_prefix
 prefix_steps = record { shorter = prefix_shorter; item = prefix_item; stop = prefix_stop; empty = refl }
 
 -- ---- the loops over modifiers, and over modifiers and PINNED

@@ -8,7 +8,7 @@ use Rattle.signature_values.specs.Grammar.{body_parts}
 use Rattle.signature_values.specs.Spells.{Spells, tokens, first_bad}
 use Rattle.signature_values.specs.Reading.{core_at}
 use Rattle.signature_values.specs.Columns.{body_at}
-use Rattle.recogniser.specs.Skips.{Left, passed, skip_core, skip_body, IsWalked}
+use Rattle.recogniser.specs.Skips.{Left, passed, skip_core, skip_body}
 use Rattle.recogniser.proofs.Passes.{core_passes, body_passes}
 
 -- the whole signature that bytes begin with is skipped
@@ -27,28 +27,32 @@ abbrev pub IsSpelled : Type 0
 IsSpelled =
     (kind : SigKind) (signature : Body) (bytes : List ℕ) → ((k : ℕ) → get_or bytes k 0 < 2 ^ 8) → length bytes < 2 ^ 29 → body_at kind (core_at 128) bytes ≡ Some (signature, []) → Spells kind signature bytes
 
+-- some signature is spelled by the bytes, and this is its first type index that names no row
+abbrev pub IsFirstBad : List ℕ → SigKind → List ℕ → Option Token → Type 0
+IsFirstBad counts kind bytes bad = (signature : Body) × Spells kind signature bytes × (bad ≡ first_bad counts (tokens signature))
+
 -- ---- what is skipped to its end
 
 pub spelled_skipped : IsRead → (counts : List ℕ) (kind : SigKind) (b : List ℕ) (signature : Body) → Spells kind signature b → skip_all counts kind b ≡ Some ([], first_bad counts (tokens signature))
 spelled_skipped read counts kind b signature h =
     skipped_is counts kind b ∙ ap (λ (o : Option (Body × List ℕ)). passed counts None body_parts o) (read kind signature b h)
 
-pub skipped_spelled : IsSpelled → (counts : List ℕ) (kind : SigKind) (b : List ℕ) (bad : Option Token) → ((k : ℕ) → get_or b k 0 < 2 ^ 8) → length b < 2 ^ 29 → Some ([], bad) ≡ skip_all counts kind b → IsWalked counts kind b bad
+pub skipped_spelled : IsSpelled → (counts : List ℕ) (kind : SigKind) (b : List ℕ) (bad : Option Token) → ((k : ℕ) → get_or b k 0 < 2 ^ 8) → length b < 2 ^ 29 → Some ([], bad) ≡ skip_all counts kind b → IsFirstBad counts kind b bad
 skipped_spelled spelled counts kind b bad each limit e = of_option (body_at kind (core_at 128) b) refl (sym (skipped_is counts kind b) ∙ sym e)
   where
-    of_option : (o : Option (Body × List ℕ)) → body_at kind (core_at 128) b ≡ o → passed counts None body_parts o ≡ Some ([], bad) → IsWalked counts kind b bad
+    of_option : (o : Option (Body × List ℕ)) → body_at kind (core_at 128) b ≡ o → passed counts None body_parts o ≡ Some ([], bad) → IsFirstBad counts kind b bad
     of_option None w h = absurd cc
     of_option (Some x) w h =
         let pair : (x.1, first_bad counts (tokens x.0)) ≡ ([], bad) = cc in
         let same : x.1 ≡ [] = ap (λ (p : List ℕ × Option Token). p.0) pair in
         let found : first_bad counts (tokens x.0) ≡ bad = ap (λ (p : List ℕ × Option Token). p.1) pair in
-        record { signature = x.0; spells = spelled kind x.0 b each limit (w ∙ ap (λ (t : List ℕ). Some (x.0, t)) same); first = sym found }
+        (x.0, spelled kind x.0 b each limit (w ∙ ap (λ (t : List ℕ). Some (x.0, t)) same), sym found)
 
 is_end : (rest : List ℕ) → eqb (length rest) 0 ≡ true → rest ≡ []
 is_end [] e = refl
 is_end (c ∷ rest) e = absurd (let f = eqb-suc-zero (length rest) in cc)
 
-pub walked : IsSpelled → (counts : List ℕ) (kind : SigKind) (b rest : List ℕ) (bad : Option Token) → ((k : ℕ) → get_or b k 0 < 2 ^ 8) → length b < 2 ^ 29 → Some (rest, bad) ≡ skip_all counts kind b → eqb (length rest) 0 ≡ true → IsWalked counts kind b bad
+pub walked : IsSpelled → (counts : List ℕ) (kind : SigKind) (b rest : List ℕ) (bad : Option Token) → ((k : ℕ) → get_or b k 0 < 2 ^ 8) → length b < 2 ^ 29 → Some (rest, bad) ≡ skip_all counts kind b → eqb (length rest) 0 ≡ true → IsFirstBad counts kind b bad
 walked spelled counts kind b rest bad each limit e empty =
     skipped_spelled spelled counts kind b bad each limit (ap (λ (t : List ℕ). Some (t, bad)) (sym (is_end rest empty)) ∙ e)
 
@@ -71,6 +75,6 @@ refused read counts kind b e signature spells = let f = e ∙ spelled_skipped re
 
 -- ---- recognising, whatever the rows
 
-pub recognised : (counts : List ℕ) (kind : SigKind) (b : List ℕ) (r : Option (Option Token)) (p : Bool) → p ≡ is_some r → IfSome r (IsWalked counts kind b) → ((signature : Body) → Spells kind signature b → r ≡ Some (first_bad counts (tokens signature))) → (p ≡ true → (signature : Body) × Spells kind signature b) × (((signature : Body) × Spells kind signature b) → p ≡ true)
-recognised counts kind b None p e found only = (λ h. absurd cc, λ s. absurd (let f = only s.0 s.1 in cc))
-recognised counts kind b (Some bad) p e found only = (λ h. (found.signature, found.spells), λ s. e)
+pub recognised : (kind : SigKind) (b : List ℕ) (f : Body → Option Token) (r : Option (Option Token)) (p : Bool) → p ≡ is_some r → IfSome r (λ bad. (signature : Body) × Spells kind signature b × (bad ≡ f signature)) → ((signature : Body) → Spells kind signature b → r ≡ Some (f signature)) → (p ≡ true → (signature : Body) × Spells kind signature b) × (((signature : Body) × Spells kind signature b) → p ≡ true)
+recognised kind b f None p e found only = (λ h. absurd cc, λ s. absurd (let f = only s.0 s.1 in cc))
+recognised kind b f (Some bad) p e found only = (λ h. (found.0, found.1), λ s. e)

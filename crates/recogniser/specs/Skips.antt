@@ -1,5 +1,5 @@
 -- What is left of a signature behind its parts, without their values: what private functions compute, in the shape of their code.
-use Rattle.std.specs.Prelude.{◌≡◌, ℕ, zero, suc, ◌==◌, ◌&&◌, ◌/◌, ◌%◌, nat_lt, Bool, true, false, not, if◌then◌else◌, Option, Some, None, option_map, option_and_then, is_some, List, [], ◌∷◌, drop}
+use Rattle.std.specs.Prelude.{ℕ, zero, suc, ◌==◌, ◌&&◌, ◌/◌, ◌%◌, nat_lt, Bool, true, false, not, if◌then◌else◌, Option, Some, None, option_map, option_and_then, is_some, List, [], ◌∷◌, drop}
 use Rattle.std.specs.Option.{option_or}
 use Rattle.schema.specs.declared.token.Token.{Token}
 use Rattle.schema.specs.declared.column.SigKind.{SigKind}
@@ -7,8 +7,7 @@ use Rattle.schema.specs.declared.column.SigKind.TheVariants as column
 use Rattle.signature_values.specs.ElementTypes.{VOID, PTR, BYREF, VALUETYPE, CLASS, VAR, ARRAY, GENERICINST, TYPEDBYREF, FNPTR, SZARRAY, MVAR, SENTINEL}
 use Rattle.signature_values.specs.Parts.{Part, part_tokens}
 use Rattle.signature_values.specs.Grammar.{modifier_parts, modifiers_parts, prefix_parts, prefixes_parts}
-use Rattle.signature_values.specs.Syntax.{Body}
-use Rattle.signature_values.specs.Spells.{Spells, tokens, first_bad}
+use Rattle.signature_values.specs.Spells.{first_bad}
 use Rattle.signature_values.specs.Reading.{number_at, token_of, modifier_at, modifiers_at, prefix_at, prefixes_at, element_of, head_is, is_method_code, takes_sentinel}
 use Rattle.std.specs.List.{flat_map}
 use Rattle.recogniser.specs.declared.rest.Rest.{Rest}
@@ -203,9 +202,3 @@ skip_body counts column.Property nested here =
     skip_behind 0x28 (skip_headed (skip_slot counts nested)) (skip_behind 0x08 (skip_headed (skip_slot counts nested)) skip_nothing) here
 skip_body counts column.TypeSpec nested here = skip_ret counts nested here
 skip_body counts column.Instance nested here = skip_behind 0x0A (skip_counted (skip_typed counts nested)) skip_nothing here
-
--- some signature is spelled by the bytes, and this is its first type index that names no row
-pub record IsWalked (counts : List ℕ) (kind : SigKind) (bytes : List ℕ) (bad : Option Token) : Type 0 where
-  pub signature : Body
-  pub spells : Spells kind signature bytes
-  pub first : bad ≡ first_bad counts (tokens signature)

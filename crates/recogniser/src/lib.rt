@@ -2,7 +2,8 @@
 //!
 //! [`recognise`] says whether the bytes of a blob, all of them, spell a signature that a column of a
 //! kind holds; at most one is spelled so. Of bytes that do, [`index_of_first_bad`] tells the first
-//! type index that names no row. The grammar is that of `signature_values`.
+//! type index that names no row, and [`first_index_without_row`] answers both at once. The grammar is
+//! that of `signature_values`.
 //!
 //! ```text
 //! recognise(&[0x06, 0x08], SigKind::Field) // a field of a 4-byte integer
@@ -11,7 +12,7 @@
 #![tactic(auto)]
 
 mod columns;
-mod element_type;
+pub mod element_type;
 mod index;
 mod rest;
 mod shape;
@@ -19,7 +20,7 @@ mod walk;
 mod whole;
 
 pub use schema::{SigKind, Token};
-pub use whole::{index_of_first_bad, recognise};
+pub use whole::{first_index_without_row, index_of_first_bad, recognise};
 
 #[cfg(test)]
 mod tests;

@@ -1,4 +1,4 @@
-use crate::{SigKind, Token, index_of_first_bad, recognise};
+use crate::{SigKind, Token, first_index_without_row, index_of_first_bad, recognise};
 use schema::TableId;
 use std::alloc::Global;
 use std::test::Fail;
@@ -168,4 +168,25 @@ fn tells_the_first_index_without_a_row(rt: HostRuntime) {
         first_bad(&[0x15, 0x12, 0x04, 0x01, 0x12, 0x0E], SigKind::TypeSpec, 2),
         Some(argument)
     );
+}
+
+#[test]
+fn tells_in_one_pass_what_is_spelled_and_where_no_row_is(rt: HostRuntime) {
+    // A required modifier, row 2 of TypeRef, before a class, row 1 of it.
+    let modified = [0x1F, 0x09, 0x12, 0x05];
+    let second = Token {
+        table: TableId::TypeRef,
+        row: 2,
+    };
+    for (bytes, count, answer) in [
+        (modified.as_slice(), 2, Some(None)),
+        (modified.as_slice(), 1, Some(Some(second))),
+        // The class lacks its index.
+        ([0x1F, 0x09, 0x12].as_slice(), 1, None),
+    ] {
+        assert_eq!(rt;
+            first_index_without_row(bytes, SigKind::TypeSpec, &[count; 45]),
+            answer
+        );
+    }
 }

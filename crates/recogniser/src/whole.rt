@@ -1,12 +1,11 @@
 ghost use Rattle.std.specs.Prelude.{◌≡◌, IsTrue, ◌↔◌, IfSome, Some};
 ghost use Rattle.signature_values.specs.Syntax.{Body};
 ghost use Rattle.signature_values.specs.Spells.{Spells, tokens, first_bad};
-ghost use Rattle.recogniser.specs.Skips.{IsWalked};
 
 use crate::columns::after_body;
 use crate::rest::Rest;
 use schema::{SigKind, Token};
-use signature_values::{signature_is_one, signatures_are_read};
+use signature_values::signatures_are_read;
 
 /// How deep types may nest.
 const DEPTH: u8 = 128;
@@ -17,10 +16,18 @@ const TOO_MANY: usize = 1 << 29;
 /// Tables without rows, for recognising alone: then no row is asked for.
 const NO_ROWS: [u32; 45] = [0; 45];
 
-/// The first type index that names no row, of the signature that bytes, all of them, spell in a column
-/// of a kind; `None` where they spell none.
-fn walk(bytes: &[u8], kind: SigKind, counts: &[u32; 45]) -> Option<Option<Token>>
-    ensures found { IfSome result (IsWalked counts.now kind bytes.now) }
+/// The first type index, in the order of the spelling, that names no row of its table (II.23.2.8), of
+/// the signature that bytes, all of them, spell in a column of this kind; `Some(None)` where each names
+/// one, and `None` where the bytes spell no such signature.
+///
+/// `counts` has the number of rows of each table under the table's number. One pass, without memory: it
+/// answers what [`recognise`] and [`index_of_first_bad`] answer in two.
+pub fn first_index_without_row(
+    bytes: &[u8],
+    kind: SigKind,
+    counts: &[u32; 45],
+) -> Option<Option<Token>>
+    ensures found { IfSome result (λ bad. (signature : Body) × Spells kind signature bytes.now × (bad ≡ first_bad counts.now (tokens signature))) }
     ensures only { (signature : Body) → Spells kind signature bytes.now → result ≡ Some (first_bad counts.now (tokens signature)) }
 {
     signatures_are_read();
@@ -43,8 +50,8 @@ pub fn recognise(bytes: &[u8], kind: SigKind) -> bool
     // No bytes spell two signatures.
     ensures one { (first second : Body) → Spells kind first bytes.now → Spells kind second bytes.now → first ≡ second }
 {
-    signature_is_one();
-    walk(bytes, kind, &NO_ROWS).is_some()
+    signatures_are_read();
+    first_index_without_row(bytes, kind, &NO_ROWS).is_some()
 }
 
 /// The first type index, in the order of the spelling, that names no row of its table (II.23.2.8);
@@ -55,5 +62,5 @@ pub fn index_of_first_bad(bytes: &[u8], kind: SigKind, counts: &[u32; 45]) -> Op
     requires { (signature : Body) × Spells kind signature bytes.now }
     ensures { (signature : Body) → Spells kind signature bytes.now → result ≡ first_bad counts.now (tokens signature) }
 {
-    walk(bytes, kind, counts)?
+    first_index_without_row(bytes, kind, counts)?
 }

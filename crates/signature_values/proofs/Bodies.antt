@@ -14,7 +14,7 @@ use Rattle.signature_values.specs.Spells.{Holds}
 use Rattle.signature_values.specs.Reading.{Reader, change, both, behind, fail, number_at, many_at, counted_at, prefix_at, prefixes_at, typed_at, content_at, slot_at, ret_at, method_at}
 use Rattle.signature_values.specs.Columns.{local_from, local_at, headed_at, property_from, method_or, field_or, property_or, body_at}
 use Rattle.signature_values.proofs.Readers.{IsBytes, Front, Front-append, Front-split, Takes, Reads, IfSome-bind, IfSome-map, IfSome-cond, front_byte, behind_byte, change_reads}
-use Rattle.signature_values.proofs.Numbers.{Any, number_parts, number_reads}
+use Rattle.signature_values.proofs.Numbers.{NumbersAreRead, Any, number_parts, number_reads}
 use Rattle.signature_values.proofs.Lists.{many_found, many_only, counted_parts, counted_reads, TakesMany}
 use Rattle.signature_values.proofs.Leading.{heads, begins-heads, no_prefix, prefix_leads, led_reads}
 use Rattle.signature_values.proofs.Codes.{no, content_no_prefix, behind_other}
@@ -27,7 +27,7 @@ weaken P Q (Some x) h k = k x h
 
 -- ---- a count, a value, and that many further values
 
-module _ {A : Type 0} (r : Reader A) (parts : A → List Part) (Good : A → Type 0) (each : Reads r parts Good) where
+module _ (known : NumbersAreRead) {A : Type 0} (r : Reader A) (parts : A → List Part) (Good : A → Type 0) (each : Reads r parts Good) where
   abbrev pub headed_parts : A × List A → List Part
   headed_parts x = number (length x.1) ∷ (parts x.0 ++ list_parts parts x.1)
 
@@ -38,11 +38,11 @@ module _ {A : Type 0} (r : Reader A) (parts : A → List Part) (Good : A → Typ
   unfolding headed_at both
   headed_reads = record {
     found = λ b h.
-        IfSome-bind (Takes number_parts (λ n. Any n) b) (Takes headed_parts HeadedGood b) (λ n. both r (many_at r n.0) n.1) (number_at b) (number_reads.found b h)
+        IfSome-bind (Takes number_parts (λ n. Any n) b) (Takes headed_parts HeadedGood b) (λ n. both r (many_at r n.0) n.1) (number_at b) ((number_reads known).found b h)
         (λ n tn.
         IfSome-bind (Takes parts Good n.1) (Takes headed_parts HeadedGood b) (λ x. option_map (λ y. ((x.0, y.0), y.1)) (many_at r n.0 x.1)) (r n.1) (each.found n.1 tn.bytes)
         (λ x tx.
-        IfSome-map (TakesMany r parts Good each n.0 x.1) (Takes headed_parts HeadedGood b) (λ y. ((x.0, y.0), y.1)) (many_at r n.0 x.1) (many_found r parts Good each n.0 x.1 tx.bytes)
+        IfSome-map (TakesMany known r parts Good each n.0 x.1) (Takes headed_parts HeadedGood b) (λ y. ((x.0, y.0), y.1)) (many_at r n.0 x.1) (many_found known r parts Good each n.0 x.1 tx.bytes)
         (λ y ty.
         let inner = Front-append (parts x.0) (list_parts parts y.0) n.1 x.1 y.1 tx.front ty.0.front in
         record {
@@ -53,9 +53,9 @@ module _ {A : Type 0} (r : Reader A) (parts : A → List Part) (Good : A → Typ
     only = λ b rest v good f.
         let s = Front-split (number_parts (length v.1)) (parts v.0 ++ list_parts parts v.1) b rest f in
         let t = Front-split (parts v.0) (list_parts parts v.1) s.0 rest s.2 in
-        let e = number_reads.only b s.0 (length v.1) tt s.1 in
+        let e = (number_reads known).only b s.0 (length v.1) tt s.1 in
         let g = each.only s.0 t.0 v.0 good.0 t.1 in
-        let k = many_only r parts Good each v.1 t.0 rest good.1 t.2 in
+        let k = many_only known r parts Good each v.1 t.0 rest good.1 t.2 in
         rw (e, g, k) refl;
   }
 
@@ -124,9 +124,9 @@ method_no n (method kind this explicit generic ret params sentinel) which good =
 abbrev pub IsHeld : ℕ → SigKind → Body → Type 0
 IsHeld d kind s = Holds kind s × IsBodyWithin d s
 
-module _ (d : ℕ) (nested : Reader Core) (cores : Reads nested core_parts (IsCoreWithin d)) (some_depth : 1 ≤ d) where
+module _ (known : NumbersAreRead) (d : ℕ) (nested : Reader Core) (cores : Reads nested core_parts (IsCoreWithin d)) (some_depth : 1 ≤ d) where
   abbrev slots : Reads (slot_at nested) slot_parts (IsSlotWithin d)
-  slots = slot_reads d nested cores some_depth
+  slots = slot_reads known d nested cores some_depth
 
   abbrev held_parts : List Prefix × Content → List Part
   held_parts x = prefixes_parts x.0 ++ content_parts x.1
@@ -137,7 +137,7 @@ module _ (d : ℕ) (nested : Reader Core) (cores : Reads nested core_parts (IsCo
   local_reads : Reads (local_at nested) local_parts (IsLocalWithin d)
   unfolding local_at prefixes_at
   local_reads =
-      change_reads local_from (both prefixes_at (content_at nested)) held_parts IsHeldWithin local_parts (IsLocalWithin d) (λ u good. good) (λ u. refl) back (led_reads prefix_at prefix_parts no_prefix prefix_leads (content_at nested) content_parts (IsContentWithin d) (content_reads d nested cores some_depth) (λ v good. content_no_prefix v))
+      change_reads local_from (both prefixes_at (content_at nested)) held_parts IsHeldWithin local_parts (IsLocalWithin d) (λ u good. good) (λ u. refl) back (led_reads prefix_at prefix_parts no_prefix (prefix_leads known) (content_at nested) content_parts (IsContentWithin d) (content_reads known d nested cores some_depth) (λ v good. content_no_prefix v))
     where
       back : (v : LocalVariable) → IsLocalWithin d v → (u : List Prefix × Content) × IsHeldWithin u × (local_from u ≡ v)
       back (local prefix content) good = ((prefix, content), good, refl)
@@ -145,14 +145,14 @@ module _ (d : ℕ) (nested : Reader Core) (cores : Reads nested core_parts (IsCo
   -- ---- a method alone
 
   abbrev IsOwnMethod : Bool → Body → Type 0
-  IsOwnMethod own (method_body m) = IsMethodOf d nested cores some_depth own m
+  IsOwnMethod own (method_body m) = IsMethodOf known d nested cores some_depth own m
   IsOwnMethod own _ = ⊥
 
   method_or_reads : (own : Bool) → Reads (method_or own nested) body_parts (IsOwnMethod own)
   method_or_reads own =
-      change_reads method_body (method_at own nested) method_parts (IsMethodOf d nested cores some_depth own) body_parts (IsOwnMethod own) (λ u good. good) (λ u. refl) back (method_reads d nested cores some_depth own)
+      change_reads method_body (method_at own nested) method_parts (IsMethodOf known d nested cores some_depth own) body_parts (IsOwnMethod own) (λ u good. good) (λ u. refl) back (method_reads known d nested cores some_depth own)
     where
-      back : (v : Body) → IsOwnMethod own v → (u : Method) × IsMethodOf d nested cores some_depth own u × (method_body u ≡ v)
+      back : (v : Body) → IsOwnMethod own v → (u : Method) × IsMethodOf known d nested cores some_depth own u × (method_body u ≡ v)
       back (method_body m) good = (m, good, refl)
       back _ good = absurd good
 
@@ -188,13 +188,13 @@ module _ (d : ℕ) (nested : Reader Core) (cores : Reads nested core_parts (IsCo
   fine_stand_alone (method_body m) h = h
   fine_stand_alone _ h = absurd h.0
 
-  locals_counted : Reads (counted_at (local_at nested)) (counted_parts (local_at nested) local_parts (IsLocalWithin d) local_reads) (AllByRecursion (IsLocalWithin d))
-  locals_counted = counted_reads (local_at nested) local_parts (IsLocalWithin d) local_reads
+  locals_counted : Reads (counted_at (local_at nested)) (counted_parts known (local_at nested) local_parts (IsLocalWithin d) local_reads) (AllByRecursion (IsLocalWithin d))
+  locals_counted = counted_reads known (local_at nested) local_parts (IsLocalWithin d) local_reads
 
   stand_alone : Reads (body_at column.StandAlone nested) body_parts (IsHeld d column.StandAlone)
   unfolding body_at
   stand_alone =
-      form_reads 0x07 locals (counted_at (local_at nested)) (counted_parts (local_at nested) local_parts (IsLocalWithin d) local_reads) (AllByRecursion (IsLocalWithin d)) locals_counted (field_or nested (method_or true nested)) FieldOrMethod field_or_method (IsHeld d column.StandAlone) (λ u. refl) (λ u good. (tt, good)) fine_stand_alone which
+      form_reads 0x07 locals (counted_at (local_at nested)) (counted_parts known (local_at nested) local_parts (IsLocalWithin d) local_reads) (AllByRecursion (IsLocalWithin d)) locals_counted (field_or nested (method_or true nested)) FieldOrMethod field_or_method (IsHeld d column.StandAlone) (λ u. refl) (λ u good. (tt, good)) fine_stand_alone which
     where
       which : (v : Body) → IsHeld d column.StandAlone v → ((u : List LocalVariable) × AllByRecursion (IsLocalWithin d) u × (locals u ≡ v)) ⊎ (FieldOrMethod v × (heads (no 0x07) (body_parts v) ≡ true))
       which (locals ls) good = inl (ls, good.1, refl)
@@ -205,20 +205,20 @@ module _ (d : ℕ) (nested : Reader Core) (cores : Reads nested core_parts (IsCo
   method_def : Reads (body_at column.MethodDef nested) body_parts (IsHeld d column.MethodDef)
   unfolding body_at
   method_def =
-      change_reads method_body (method_at false nested) method_parts (IsMethodOf d nested cores some_depth false) body_parts (IsHeld d column.MethodDef) (λ u good. (good.2, (good.0, good.1))) (λ u. refl) back (method_reads d nested cores some_depth false)
+      change_reads method_body (method_at false nested) method_parts (IsMethodOf known d nested cores some_depth false) body_parts (IsHeld d column.MethodDef) (λ u good. (good.2, (good.0, good.1))) (λ u. refl) back (method_reads known d nested cores some_depth false)
     where
-      back : (v : Body) → IsHeld d column.MethodDef v → (u : Method) × IsMethodOf d nested cores some_depth false u × (method_body u ≡ v)
+      back : (v : Body) → IsHeld d column.MethodDef v → (u : Method) × IsMethodOf known d nested cores some_depth false u × (method_body u ≡ v)
       back (method_body m) good = (m, (good.1.0, good.1.1, good.0), refl)
       back _ good = absurd good.0
 
   abbrev PropertyParts : Slot × List Slot → List Part
-  PropertyParts x = headed_parts (slot_at nested) slot_parts (IsSlotWithin d) slots x
+  PropertyParts x = headed_parts known (slot_at nested) slot_parts (IsSlotWithin d) slots x
 
   abbrev PropertyGood : Slot × List Slot → Type 0
-  PropertyGood x = HeadedGood (slot_at nested) slot_parts (IsSlotWithin d) slots x
+  PropertyGood x = HeadedGood known (slot_at nested) slot_parts (IsSlotWithin d) slots x
 
   property_inner : Reads (headed_at (slot_at nested)) PropertyParts PropertyGood
-  property_inner = headed_reads (slot_at nested) slot_parts (IsSlotWithin d) slots
+  property_inner = headed_reads known (slot_at nested) slot_parts (IsSlotWithin d) slots
 
   abbrev IsStatic : Body → Type 0
   IsStatic (property false s ss) = IsBodyWithin d (property false s ss)
@@ -249,19 +249,19 @@ module _ (d : ℕ) (nested : Reader Core) (cores : Reads nested core_parts (IsCo
   type_spec_column : Reads (body_at column.TypeSpec nested) body_parts (IsHeld d column.TypeSpec)
   unfolding body_at
   type_spec_column =
-      change_reads type_spec (ret_at nested) ret_parts (IsRetWithin d) body_parts (IsHeld d column.TypeSpec) (λ u good. (tt, good)) (λ u. refl) back (ret_reads d nested cores some_depth)
+      change_reads type_spec (ret_at nested) ret_parts (IsRetWithin d) body_parts (IsHeld d column.TypeSpec) (λ u good. (tt, good)) (λ u. refl) back (ret_reads known d nested cores some_depth)
     where
       back : (v : Body) → IsHeld d column.TypeSpec v → (u : Ret) × IsRetWithin d u × (type_spec u ≡ v)
       back (type_spec r) good = (r, good.1, refl)
       back _ good = absurd good.0
 
   types : Reads (typed_at nested) typed_parts (IsTypedWithin d)
-  types = typed_reads d nested cores
+  types = typed_reads known d nested cores
 
   instance_column : Reads (body_at column.Instance nested) body_parts (IsHeld d column.Instance)
   unfolding body_at
   instance_column =
-      form_reads 0x0A instance_body (counted_at (typed_at nested)) (counted_parts (typed_at nested) typed_parts (IsTypedWithin d) types) (AllByRecursion (IsTypedWithin d)) (counted_reads (typed_at nested) typed_parts (IsTypedWithin d) types) fail Nothing fail_reads (IsHeld d column.Instance) (λ u. refl) (λ u good. (tt, good)) (λ v h. absurd h) which
+      form_reads 0x0A instance_body (counted_at (typed_at nested)) (counted_parts known (typed_at nested) typed_parts (IsTypedWithin d) types) (AllByRecursion (IsTypedWithin d)) (counted_reads known (typed_at nested) typed_parts (IsTypedWithin d) types) fail Nothing fail_reads (IsHeld d column.Instance) (λ u. refl) (λ u good. (tt, good)) (λ v h. absurd h) which
     where
       which : (v : Body) → IsHeld d column.Instance v → ((u : List Typed) × AllByRecursion (IsTypedWithin d) u × (instance_body u ≡ v)) ⊎ (Nothing v × (heads (no 0x0A) (body_parts v) ≡ true))
       which (instance_body ts) good = inl (ts, good.1, refl)

@@ -8,6 +8,7 @@ use Rattle.signature_values.specs.Parts.{Part, byte}
 use Rattle.signature_values.specs.Grammar.{core_parts, typed_parts, content_parts, slot_parts, ret_parts, modifier_parts, modifiers_parts}
 use Rattle.signature_values.specs.Limits.{IsCoreWithin, IsTypedWithin, IsContentWithin, IsSlotWithin, IsRetWithin}
 use Rattle.signature_values.specs.Reading.{Reader, change, both, behind, modifier_at, modifiers_at, typed_at, void_or, target_at, content_at, slot_at, ret_at, ret_from}
+use Rattle.signature_values.proofs.Numbers.{NumbersAreRead}
 use Rattle.signature_values.proofs.Readers.{IsBytes, Front, Takes, Reads, IfSome-map, IfSome-cond, front_byte, behind_byte, change_reads}
 use Rattle.signature_values.proofs.Leading.{heads, begins-heads, no_modifier, modifier_leads, led_reads}
 use Rattle.signature_values.proofs.Codes.{no, core_no_modifier, core_no_void, core_no_ref, core_no_by_ref, content_no_modifier, content_no_void, behind_other}
@@ -44,7 +45,7 @@ module _ {A : Type 0} (r : Reader A) (parts : A → List Part) (Good : A → Typ
   pub void_reads : Reads (void_or r) (void_parts parts) (VoidGood Good)
   void_reads = record { found = void_found; only = void_only }
 
-module _ (d : ℕ) (nested : Reader Core) (cores : Reads nested core_parts (IsCoreWithin d)) where
+module _ (known : NumbersAreRead) (d : ℕ) (nested : Reader Core) (cores : Reads nested core_parts (IsCoreWithin d)) where
   abbrev pub modded_parts : List Modifier × Core → List Part
   modded_parts x = modifiers_parts x.0 ++ core_parts x.1
 
@@ -53,7 +54,7 @@ module _ (d : ℕ) (nested : Reader Core) (cores : Reads nested core_parts (IsCo
 
   pub modded_reads : Reads (both modifiers_at nested) modded_parts ModdedGood
   unfolding modifiers_at
-  modded_reads = led_reads modifier_at modifier_parts no_modifier modifier_leads nested core_parts (IsCoreWithin d) cores (λ v good. core_no_modifier v)
+  modded_reads = led_reads modifier_at modifier_parts no_modifier (modifier_leads known) nested core_parts (IsCoreWithin d) cores (λ v good. core_no_modifier v)
 
   pub typed_reads : Reads (typed_at nested) typed_parts (IsTypedWithin d)
   unfolding typed_at
@@ -76,7 +77,7 @@ module _ (d : ℕ) (nested : Reader Core) (cores : Reads nested core_parts (IsCo
   pub target_reads : Reads (target_at nested) target_parts TargetGood
   unfolding target_at modifiers_at
   target_reads =
-      led_reads modifier_at modifier_parts no_modifier modifier_leads (void_or nested) (void_parts core_parts) (VoidGood (IsCoreWithin d)) (void_reads nested core_parts (IsCoreWithin d) cores (λ x good. core_no_void x)) (λ v good. void_no_modifier v)
+      led_reads modifier_at modifier_parts no_modifier (modifier_leads known) (void_or nested) (void_parts core_parts) (VoidGood (IsCoreWithin d)) (void_reads nested core_parts (IsCoreWithin d) cores (λ x good. core_no_void x)) (λ v good. void_no_modifier v)
 
   module _ (some_depth : 1 ≤ d) where
     content_found : (b : List ℕ) → IsBytes b → IfSome (content_at nested b) (Takes content_parts (IsContentWithin d) b)
@@ -119,7 +120,7 @@ module _ (d : ℕ) (nested : Reader Core) (cores : Reads nested core_parts (IsCo
     pub slot_reads : Reads (slot_at nested) slot_parts (IsSlotWithin d)
     unfolding slot_at modifiers_at
     slot_reads =
-        change_reads (λ x. slot x.0 x.1) (both modifiers_at (content_at nested)) held_parts IsHeldWithin slot_parts (IsSlotWithin d) (λ u good. good) (λ u. refl) back (led_reads modifier_at modifier_parts no_modifier modifier_leads (content_at nested) content_parts (IsContentWithin d) content_reads (λ v good. content_no_modifier v))
+        change_reads (λ x. slot x.0 x.1) (both modifiers_at (content_at nested)) held_parts IsHeldWithin slot_parts (IsSlotWithin d) (λ u good. good) (λ u. refl) back (led_reads modifier_at modifier_parts no_modifier (modifier_leads known) (content_at nested) content_parts (IsContentWithin d) content_reads (λ v good. content_no_modifier v))
       where
         back : (t : Slot) → IsSlotWithin d t → (u : List Modifier × Content) × IsHeldWithin u × (slot u.0 u.1 ≡ t)
         back (slot modifiers content) good = ((modifiers, content), good, refl)
@@ -149,4 +150,4 @@ module _ (d : ℕ) (nested : Reader Core) (cores : Reads nested core_parts (IsCo
     pub ret_reads : Reads (ret_at nested) ret_parts (IsRetWithin d)
     unfolding ret_at modifiers_at
     ret_reads =
-        change_reads ret_from (both modifiers_at (void_or (content_at nested))) result_parts ResultGood ret_parts (IsRetWithin d) ret_good ret_same ret_back (led_reads modifier_at modifier_parts no_modifier modifier_leads (void_or (content_at nested)) (void_parts content_parts) (VoidGood (IsContentWithin d)) (void_reads (content_at nested) content_parts (IsContentWithin d) content_reads (λ x good. content_no_void x)) (λ v good. result_no_modifier v))
+        change_reads ret_from (both modifiers_at (void_or (content_at nested))) result_parts ResultGood ret_parts (IsRetWithin d) ret_good ret_same ret_back (led_reads modifier_at modifier_parts no_modifier (modifier_leads known) (void_or (content_at nested)) (void_parts content_parts) (VoidGood (IsContentWithin d)) (void_reads (content_at nested) content_parts (IsContentWithin d) content_reads (λ x good. content_no_void x)) (λ v good. result_no_modifier v))

@@ -15,7 +15,7 @@ use Rattle.signature_values.specs.Grammar.{named_code, core_parts, typed_parts, 
 use Rattle.signature_values.specs.Limits.{core_depth, types_depth, content_depth, ret_depth, method_depth, IsCore, AreTypes, IsArrayShape, IsCoreWithin, IsTypedWithin}
 use Rattle.signature_values.specs.Reading.{Reader, change, both, deep, number_at, signed_at, index_at, typed_at, target_at, pointer_to, named_at, instance_at, instance_from, counted_at, counted_within, shape_at, shape_from, shape_with, array_at, array_from, method_at, core_by, core_or, core_at, element_of}
 use Rattle.signature_values.proofs.Readers.{IsBytes, Front, Front-append, Front-split, Takes, Reads, IfSome-bind, IfSome-map, IfSome-cond, front_byte, behind_byte}
-use Rattle.signature_values.proofs.Numbers.{Any, number_parts, number_reads, index_parts, index_reads}
+use Rattle.signature_values.proofs.Numbers.{NumbersAreRead, Any, number_parts, number_reads, index_parts, index_reads}
 use Rattle.signature_values.proofs.Lists.{both_reads, counted_reads, counted_parts, within_reads, AtMost}
 use Rattle.signature_values.proofs.Numbers.{signed_parts, signed_reads}
 use Rattle.signature_values.proofs.Codes.{element_found, element_again}
@@ -81,44 +81,44 @@ not_zero : (n : ℕ) → 1 ≤ n → eqb n 0 ≡ false
 not_zero zero h = absurd (omega arith)
 not_zero (suc n) h = eqb-suc-zero n
 
-abbrev sizes_parts : List ℕ → List Part
-sizes_parts ns = counted_parts number_at number_parts (λ n. Any n) number_reads ns
+abbrev sizes_parts : NumbersAreRead → List ℕ → List Part
+sizes_parts known ns = counted_parts known number_at number_parts (λ n. Any n) (number_reads known) ns
 
-abbrev low_parts : List ℤ → List Part
-low_parts zs = counted_parts signed_at signed_parts (λ z. Any z) signed_reads zs
+abbrev low_parts : NumbersAreRead → List ℤ → List Part
+low_parts known zs = counted_parts known signed_at signed_parts (λ z. Any z) (signed_reads known) zs
 
-abbrev bounds_parts : List ℕ × List ℤ → List Part
-bounds_parts x = sizes_parts x.0 ++ low_parts x.1
+abbrev bounds_parts : NumbersAreRead → List ℕ × List ℤ → List Part
+bounds_parts known x = sizes_parts known x.0 ++ low_parts known x.1
 
 abbrev BoundsGood : ℕ → List ℕ × List ℤ → Type 0
 BoundsGood rank x = (length x.0 ≤ rank) × (length x.1 ≤ rank)
 
-bounds_reads : (rank : ℕ) → Reads (both (counted_within number_at rank) (counted_within signed_at rank)) bounds_parts (BoundsGood rank)
-bounds_reads rank = both_reads (counted_within number_at rank) (counted_within signed_at rank) sizes_parts low_parts (AtMost rank) (AtMost rank) (within_reads number_at number_parts number_reads rank) (within_reads signed_at signed_parts signed_reads rank)
+bounds_reads : (known : NumbersAreRead) → (rank : ℕ) → Reads (both (counted_within number_at rank) (counted_within signed_at rank)) (bounds_parts known) (BoundsGood rank)
+bounds_reads known rank = both_reads (counted_within number_at rank) (counted_within signed_at rank) (sizes_parts known) (low_parts known) (AtMost rank) (AtMost rank) (within_reads known number_at number_parts (number_reads known) rank) (within_reads known signed_at signed_parts (signed_reads known) rank)
 
-pub shape_reads : Reads shape_at shape_parts IsArrayShape
+pub shape_reads : NumbersAreRead → Reads shape_at shape_parts IsArrayShape
 unfolding shape_at
-shape_reads = record { found = found; only = only }
+shape_reads known = record { found = found; only = only }
   where
     found : (b : List ℕ) → IsBytes b → IfSome (shape_at b) (Takes shape_parts IsArrayShape b)
     found b h =
-        IfSome-bind (Takes number_parts (λ n. Any n) b) (Takes shape_parts IsArrayShape b) (λ x. shape_from x.0 x.1) (number_at b) (number_reads.found b h)
+        IfSome-bind (Takes number_parts (λ n. Any n) b) (Takes shape_parts IsArrayShape b) (λ x. shape_from x.0 x.1) (number_at b) ((number_reads known).found b h)
         (λ x t.
         IfSome-cond (Takes shape_parts IsArrayShape b) (eqb x.0 0) None (change (shape_with x.0) (both (counted_within number_at x.0) (counted_within signed_at x.0)) x.1) (λ e. tt)
         (λ e.
         let some : x.0 ≢ 0 = eqb-false x.0 0 e in
-        IfSome-map (Takes bounds_parts (BoundsGood x.0) x.1) (Takes shape_parts IsArrayShape b) (λ y. (shape_with x.0 y.0, y.1)) (both (counted_within number_at x.0) (counted_within signed_at x.0) x.1) ((bounds_reads x.0).found x.1 t.bytes)
+        IfSome-map (Takes (bounds_parts known) (BoundsGood x.0) x.1) (Takes shape_parts IsArrayShape b) (λ y. (shape_with x.0 y.0, y.1)) (both (counted_within number_at x.0) (counted_within signed_at x.0) x.1) ((bounds_reads known x.0).found x.1 t.bytes)
         (λ y u. record {
           good = (omega arith, u.good.0, u.good.1);
           bytes = u.bytes;
-          front = Front-append (number_parts x.0) (bounds_parts y.0) b x.1 y.1 t.front u.front;
+          front = Front-append (number_parts x.0) (bounds_parts known y.0) b x.1 y.1 t.front u.front;
         })))
 
     only : (b rest : List ℕ) (v : ArrayShape) → IsArrayShape v → Front (shape_parts v) b rest → shape_at b ≡ Some (v, rest)
     only b rest v good f =
-        let s = Front-split (number_parts v.rank) (bounds_parts (v.sizes, v.low)) b rest f in
-        let e = number_reads.only b s.0 v.rank tt s.1 in
-        let g = (bounds_reads v.rank).only s.0 rest (v.sizes, v.low) (good.1, good.2) s.2 in
+        let s = Front-split (number_parts v.rank) (bounds_parts known (v.sizes, v.low)) b rest f in
+        let e = (number_reads known).only b s.0 v.rank tt s.1 in
+        let g = (bounds_reads known v.rank).only s.0 rest (v.sizes, v.low) (good.1, good.2) s.2 in
         let some : eqb v.rank 0 ≡ false = not_zero v.rank good.0 in
         rw (e, some, g) refl
 
@@ -154,7 +154,7 @@ method_some (method kind this explicit generic ret params sentinel) = omega (ari
     ret_some (void_ret modifiers) = omega arith
     ret_some (some_ret (slot modifiers p)) = content_some p
 
-module _ (d : ℕ) (nested : Reader Core) (cores : Reads nested core_parts (IsCoreWithin d)) where
+module _ (known : NumbersAreRead) (d : ℕ) (nested : Reader Core) (cores : Reads nested core_parts (IsCoreWithin d)) where
   abbrev TakesCore : List ℕ → Core × List ℕ → Type 0
   TakesCore b = Takes core_parts (IsCoreWithin (suc d)) b
 
@@ -178,7 +178,7 @@ module _ (d : ℕ) (nested : Reader Core) (cores : Reads nested core_parts (IsCo
   NameGood x = Any x.0 × Any x.1
 
   abbrev instance_parts : (Bool × Token) × List Typed → List Part
-  instance_parts x = name_parts x.0 ++ counted_parts (typed_at nested) typed_parts (IsTypedWithin d) (typed_reads d nested cores) x.1
+  instance_parts x = name_parts x.0 ++ counted_parts known (typed_at nested) typed_parts (IsTypedWithin d) (typed_reads known d nested cores) x.1
 
   abbrev InstanceGood : (Bool × Token) × List Typed → Type 0
   InstanceGood x = NameGood x.0 × AllByRecursion (IsTypedWithin d) x.1
@@ -186,7 +186,7 @@ module _ (d : ℕ) (nested : Reader Core) (cores : Reads nested core_parts (IsCo
   instance_reads : Reads (instance_at nested) instance_parts InstanceGood
   unfolding instance_at
   instance_reads =
-      both_reads (both named_at index_at) (counted_at (typed_at nested)) name_parts (counted_parts (typed_at nested) typed_parts (IsTypedWithin d) (typed_reads d nested cores)) NameGood (AllByRecursion (IsTypedWithin d)) (both_reads named_at index_at named_parts index_parts (λ b. Any b) (λ t. Any t) named_reads index_reads) (counted_reads (typed_at nested) typed_parts (IsTypedWithin d) (typed_reads d nested cores))
+      both_reads (both named_at index_at) (counted_at (typed_at nested)) name_parts (counted_parts known (typed_at nested) typed_parts (IsTypedWithin d) (typed_reads known d nested cores)) NameGood (AllByRecursion (IsTypedWithin d)) (both_reads named_at index_at named_parts index_parts (λ b. Any b) (λ t. Any t) named_reads (index_reads known)) (counted_reads known (typed_at nested) typed_parts (IsTypedWithin d) (typed_reads known d nested cores))
 
   instance_same : (u : (Bool × Token) × List Typed) → core_parts (instance_from u) ≡ byte 0x15 ∷ instance_parts u
   unfolding named_parts
@@ -204,16 +204,16 @@ module _ (d : ℕ) (nested : Reader Core) (cores : Reads nested core_parts (IsCo
 
   array_reads : Reads (array_at nested) array_parts ArrayGood
   unfolding array_at
-  array_reads = both_reads (typed_at nested) shape_at typed_parts shape_parts (IsTypedWithin d) IsArrayShape (typed_reads d nested cores) shape_reads
+  array_reads = both_reads (typed_at nested) shape_at typed_parts shape_parts (IsTypedWithin d) IsArrayShape (typed_reads known d nested cores) (shape_reads known)
 
   array_good : (u : Typed × ArrayShape) → ArrayGood u → IsCoreWithin (suc d) (array_from u)
   array_good u good = let le = good.0.0 in (omega arith, (good.0.1, good.1))
 
-  pointer_good : (u : List Modifier × Option Core) → 1 ≤ d → TargetGood d nested cores u → IsCoreWithin (suc d) (pointer_to u)
+  pointer_good : (u : List Modifier × Option Core) → 1 ≤ d → TargetGood known d nested cores u → IsCoreWithin (suc d) (pointer_to u)
   pointer_good (modifiers, None) some_depth good = (omega arith, tt)
   pointer_good (modifiers, Some c) some_depth good = let le = good.0 in (omega arith, good.1)
 
-  pointer_same : (u : List Modifier × Option Core) → core_parts (pointer_to u) ≡ byte 0x0F ∷ target_parts d nested cores u
+  pointer_same : (u : List Modifier × Option Core) → core_parts (pointer_to u) ≡ byte 0x0F ∷ target_parts known d nested cores u
   pointer_same (modifiers, None) = refl
   pointer_same (modifiers, Some c) = refl
 
@@ -224,15 +224,15 @@ module _ (d : ℕ) (nested : Reader Core) (cores : Reads nested core_parts (IsCo
   unfolding core_by
   by_found c b h =
       let Q : Core × List ℕ → Type 0 = TakesCore (c ∷ b) in
-      at Q c 0x0F _ _ (λ e. deep_found Q d (change pointer_to (target_at nested)) b (λ some. made pointer_to (target_at nested) (target_parts d nested cores) (TargetGood d nested cores) (target_reads d nested cores) 0x0F (λ u. pointer_good u some) pointer_same c b h e))
-      (at Q c 0x11 _ _ (λ e. made value index_at index_parts (λ t. Any t) index_reads 0x11 (λ u g. leaf (value u) refl tt) (λ u. refl) c b h e)
-      (at Q c 0x12 _ _ (λ e. made class index_at index_parts (λ t. Any t) index_reads 0x12 (λ u g. leaf (class u) refl tt) (λ u. refl) c b h e)
-      (at Q c 0x13 _ _ (λ e. made var number_at number_parts (λ n. Any n) number_reads 0x13 (λ u g. leaf (var u) refl tt) (λ u. refl) c b h e)
+      at Q c 0x0F _ _ (λ e. deep_found Q d (change pointer_to (target_at nested)) b (λ some. made pointer_to (target_at nested) (target_parts known d nested cores) (TargetGood known d nested cores) (target_reads known d nested cores) 0x0F (λ u. pointer_good u some) pointer_same c b h e))
+      (at Q c 0x11 _ _ (λ e. made value index_at index_parts (λ t. Any t) (index_reads known) 0x11 (λ u g. leaf (value u) refl tt) (λ u. refl) c b h e)
+      (at Q c 0x12 _ _ (λ e. made class index_at index_parts (λ t. Any t) (index_reads known) 0x12 (λ u g. leaf (class u) refl tt) (λ u. refl) c b h e)
+      (at Q c 0x13 _ _ (λ e. made var number_at number_parts (λ n. Any n) (number_reads known) 0x13 (λ u g. leaf (var u) refl tt) (λ u. refl) c b h e)
       (at Q c 0x14 _ _ (λ e. made array_from (array_at nested) array_parts ArrayGood array_reads 0x14 array_good (λ u. refl) c b h e)
       (at Q c 0x15 _ _ (λ e. made instance_from (instance_at nested) instance_parts InstanceGood instance_reads 0x15 instance_good instance_same c b h e)
-      (at Q c 0x1B _ _ (λ e. deep_found Q d (change function (method_at true nested)) b (λ some. made function (method_at true nested) method_parts (IsMethodOf d nested cores some true) (method_reads d nested cores some true) 0x1B (λ u g. (let le = g.0 in omega arith, g.1)) (λ u. refl) c b h e))
-      (at Q c 0x1D _ _ (λ e. made vector (typed_at nested) typed_parts (IsTypedWithin d) (typed_reads d nested cores) 0x1D (λ u g. (let le = g.0 in omega arith, g.1)) (λ u. refl) c b h e)
-      (at Q c 0x1E _ _ (λ e. made mvar number_at number_parts (λ n. Any n) number_reads 0x1E (λ u g. leaf (mvar u) refl tt) (λ u. refl) c b h e) tt))))))))
+      (at Q c 0x1B _ _ (λ e. deep_found Q d (change function (method_at true nested)) b (λ some. made function (method_at true nested) method_parts (IsMethodOf known d nested cores some true) (method_reads known d nested cores some true) 0x1B (λ u g. (let le = g.0 in omega arith, g.1)) (λ u. refl) c b h e))
+      (at Q c 0x1D _ _ (λ e. made vector (typed_at nested) typed_parts (IsTypedWithin d) (typed_reads known d nested cores) 0x1D (λ u g. (let le = g.0 in omega arith, g.1)) (λ u. refl) c b h e)
+      (at Q c 0x1E _ _ (λ e. made mvar number_at number_parts (λ n. Any n) (number_reads known) 0x1E (λ u g. leaf (mvar u) refl tt) (λ u. refl) c b h e) tt))))))))
 
   or_found : (c : ℕ) (b : List ℕ) → IsBytes b → (o : Option Element) → IfSome o (λ e. c ≡ element_code e) → IfSome (core_or d nested c o b) (TakesCore (c ∷ b))
   or_found c b h None k = by_found c b h
@@ -253,18 +253,18 @@ module _ (d : ℕ) (nested : Reader Core) (cores : Reads nested core_parts (IsCo
       (element_code e, s.0, s.1, rw (element_again e) (ap (λ (t : List ℕ). Some (simple e, t)) s.2))
   next_only b rest (void_pointer modifiers) good f =
       let le = good.0 in
-      let s = front_byte 0x0F (target_parts d nested cores (modifiers, None)) b rest f in
-      let e = (target_reads d nested cores).only s.0 rest (modifiers, None) tt s.2 in
+      let s = front_byte 0x0F (target_parts known d nested cores (modifiers, None)) b rest f in
+      let e = (target_reads known d nested cores).only s.0 rest (modifiers, None) tt s.2 in
       (0x0F, s.0, s.1, deep_only d (change pointer_to (target_at nested)) s.0 (omega arith) ∙ rw e refl)
   next_only b rest (pointer modifiers to) good f =
       let le = good.0 in
-      let s = front_byte 0x0F (target_parts d nested cores (modifiers, Some to)) b rest f in
-      let e = (target_reads d nested cores).only s.0 rest (modifiers, Some to) (omega arith, good.1) s.2 in
+      let s = front_byte 0x0F (target_parts known d nested cores (modifiers, Some to)) b rest f in
+      let e = (target_reads known d nested cores).only s.0 rest (modifiers, Some to) (omega arith, good.1) s.2 in
       (0x0F, s.0, s.1, deep_only d (change pointer_to (target_at nested)) s.0 (omega (arith, core_some to)) ∙ rw e refl)
   next_only b rest (vector of) good f =
       let le = good.0 in
       let s = front_byte 0x1D (typed_parts of) b rest f in
-      let e = (typed_reads d nested cores).only s.0 rest of (omega arith, good.1) s.2 in
+      let e = (typed_reads known d nested cores).only s.0 rest of (omega arith, good.1) s.2 in
       (0x1D, s.0, s.1, rw e refl)
   next_only b rest (array of shape) good f =
       let le = good.0 in
@@ -273,19 +273,19 @@ module _ (d : ℕ) (nested : Reader Core) (cores : Reads nested core_parts (IsCo
       (0x14, s.0, s.1, rw e refl)
   next_only b rest (class of) good f =
       let s = front_byte 0x12 (index_parts of) b rest f in
-      let e = index_reads.only s.0 rest of tt s.2 in
+      let e = (index_reads known).only s.0 rest of tt s.2 in
       (0x12, s.0, s.1, rw e refl)
   next_only b rest (value of) good f =
       let s = front_byte 0x11 (index_parts of) b rest f in
-      let e = index_reads.only s.0 rest of tt s.2 in
+      let e = (index_reads known).only s.0 rest of tt s.2 in
       (0x11, s.0, s.1, rw e refl)
   next_only b rest (var n) good f =
       let s = front_byte 0x13 (number_parts n) b rest f in
-      let e = number_reads.only s.0 rest n tt s.2 in
+      let e = (number_reads known).only s.0 rest n tt s.2 in
       (0x13, s.0, s.1, rw e refl)
   next_only b rest (mvar n) good f =
       let s = front_byte 0x1E (number_parts n) b rest f in
-      let e = number_reads.only s.0 rest n tt s.2 in
+      let e = (number_reads known).only s.0 rest n tt s.2 in
       (0x1E, s.0, s.1, rw e refl)
   next_only b rest (instance is_value of args) good f =
       let le = good.0 in
@@ -296,23 +296,23 @@ module _ (d : ℕ) (nested : Reader Core) (cores : Reads nested core_parts (IsCo
       let le = good.0 in
       let some : 1 ≤ d = omega (arith, method_some m) in
       let s = front_byte 0x1B (method_parts m) b rest f in
-      let e = (method_reads d nested cores some true).only s.0 rest m (omega arith, good.1, tt) s.2 in
+      let e = (method_reads known d nested cores some true).only s.0 rest m (omega arith, good.1, tt) s.2 in
       (0x1B, s.0, s.1, deep_only d (change function (method_at true nested)) s.0 some ∙ rw e refl)
 
-next_found : (d : ℕ) → Reads (core_at d) core_parts (IsCoreWithin d) → (b : List ℕ) → IsBytes b → IfSome (core_at (suc d) b) (Takes core_parts (IsCoreWithin (suc d)) b)
+next_found : NumbersAreRead → (d : ℕ) → Reads (core_at d) core_parts (IsCoreWithin d) → (b : List ℕ) → IsBytes b → IfSome (core_at (suc d) b) (Takes core_parts (IsCoreWithin (suc d)) b)
 unfolding core_at
-next_found d cores [] h = tt
-next_found d cores (c ∷ b) h = or_found d (core_at d) cores c b h.1 (element_of c) (element_found c)
+next_found known d cores [] h = tt
+next_found known d cores (c ∷ b) h = or_found known d (core_at d) cores c b h.1 (element_of c) (element_found c)
 
-pub core_reads : (d : ℕ) → Reads (core_at d) core_parts (IsCoreWithin d)
+pub core_reads : NumbersAreRead → (d : ℕ) → Reads (core_at d) core_parts (IsCoreWithin d)
 unfolding core_at
-core_reads zero = record {
+core_reads known zero = record {
   found = λ b h. tt;
   only = λ b rest v good f. absurd (omega (arith, good.0, core_some v));
 }
-core_reads (suc d) = record {
-  found = next_found d (core_reads d);
+core_reads known (suc d) = record {
+  found = next_found known d (core_reads known d);
   only = λ b rest v good f.
-      let s = next_only d (core_at d) (core_reads d) b rest v good f in
+      let s = next_only known d (core_at d) (core_reads known d) b rest v good f in
       rw (s.2) (s.3);
 }

@@ -10,7 +10,7 @@ use Rattle.signature_values.specs.Parts.{Part, byte, number, signed, index}
 use Rattle.signature_values.specs.Grammar.{list_parts, modifier_parts, prefix_parts}
 use Rattle.signature_values.specs.Reading.{Reader, Optional, items_then, leading_within, leading_at, index_at, modifier_after, modifier_at, prefix_of, prefix_at, both}
 use Rattle.signature_values.proofs.Readers.{IsBytes, Front, Front-append, Front-split, Takes, Reads, IfSome-bind, IfSome-map, IfSome-cond}
-use Rattle.signature_values.proofs.Numbers.{Any, index_parts, index_reads}
+use Rattle.signature_values.proofs.Numbers.{NumbersAreRead, Any, index_parts, index_reads}
 
 -- the first byte passes the test
 abbrev pub begins : (ℕ → Bool) → List ℕ → Bool
@@ -120,9 +120,9 @@ TakesModifier b p = TakesItem modifier_parts b p
 abbrev modifier_code : Bool → ℕ
 modifier_code b = cond b 0x1F 0x20
 
-after_found : (required : Bool) (c : ℕ) (b : List ℕ) → c ≡ modifier_code required → IsBytes b → IfSome (modifier_after required b) (TakesModifier (c ∷ b))
-after_found required c b e h =
-    IfSome-map (Takes index_parts (λ t. Any t) b) (TakesModifier (c ∷ b)) (λ x. (Some (record { required = required; of = x.0 }), x.1)) (index_at b) (index_reads.found b h)
+after_found : NumbersAreRead → (required : Bool) (c : ℕ) (b : List ℕ) → c ≡ modifier_code required → IsBytes b → IfSome (modifier_after required b) (TakesModifier (c ∷ b))
+after_found known required c b e h =
+    IfSome-map (Takes index_parts (λ t. Any t) b) (TakesModifier (c ∷ b)) (λ x. (Some (record { required = required; of = x.0 }), x.1)) (index_at b) ((index_reads known).found b h)
     (λ x t. record {
       good = tt;
       bytes = t.bytes;
@@ -144,12 +144,12 @@ unfolding modifier_at
 modifier_stop [] h = absurd cc
 modifier_stop (c ∷ b) h = neither (eqb c 0x1F) (eqb c 0x20) _ _ _ h
 
-modifier_found : (b : List ℕ) → IsBytes b → IfSome (modifier_at b) (TakesModifier b)
+modifier_found : NumbersAreRead → (b : List ℕ) → IsBytes b → IfSome (modifier_at b) (TakesModifier b)
 unfolding modifier_at
-modifier_found [] h = (tt, refl)
-modifier_found (c ∷ b) h =
-    IfSome-cond (TakesModifier (c ∷ b)) (eqb c 0x1F) _ _ (λ e. after_found true c b (eqb-true c 0x1F e) h.1)
-    (λ e. IfSome-cond (TakesModifier (c ∷ b)) (eqb c 0x20) _ _ (λ e. after_found false c b (eqb-true c 0x20 e) h.1) (λ e. (h, refl)))
+modifier_found known [] h = (tt, refl)
+modifier_found known (c ∷ b) h =
+    IfSome-cond (TakesModifier (c ∷ b)) (eqb c 0x1F) _ _ (λ e. after_found known true c b (eqb-true c 0x1F e) h.1)
+    (λ e. IfSome-cond (TakesModifier (c ∷ b)) (eqb c 0x20) _ _ (λ e. after_found known false c b (eqb-true c 0x20 e) h.1) (λ e. (h, refl)))
 
 modifier_front : (m : Modifier) (b rest : List ℕ) → Front (modifier_parts m) b rest → (tail : List ℕ) × (b ≡ modifier_code m.required ∷ tail) × Front (index_parts m.of) tail rest
 modifier_front m b rest f = (f.1, rw (f.2, f.3) refl, f.4)
@@ -157,12 +157,12 @@ modifier_front m b rest f = (f.1, rw (f.2, f.3) refl, f.4)
 index_falls : (t : Token) (b rest : List ℕ) → Front (index_parts t) b rest → length rest ≤ length b
 index_falls t b rest f = omega (arith, ap length f.2, length-append f.0 f.1, ap length f.4)
 
-pub modifier_leads : Leads modifier_at modifier_parts no_modifier
-modifier_leads = record {
-  found = modifier_found;
+pub modifier_leads : NumbersAreRead → Leads modifier_at modifier_parts no_modifier
+modifier_leads known = record {
+  found = (modifier_found known);
   only = λ b rest m f.
       let s = modifier_front m b rest f in
-      let e = index_reads.only s.0 rest m.of tt s.2 in
+      let e = (index_reads known).only s.0 rest m.of tt s.2 in
       rw (s.1) (modifier_again m.required m.of s.0 rest e);
   stop = modifier_stop;
   falls = λ b rest m f.
@@ -182,25 +182,25 @@ prefix_of_found : (b : List ℕ) (p : Option Modifier × List ℕ) → TakesModi
 prefix_of_found b (None, c) t = t
 prefix_of_found b (Some m, c) t = record { good = tt; bytes = t.bytes; front = t.front }
 
-prefix_found : (b : List ℕ) → IsBytes b → IfSome (prefix_at b) (TakesPrefix b)
+prefix_found : NumbersAreRead → (b : List ℕ) → IsBytes b → IfSome (prefix_at b) (TakesPrefix b)
 unfolding prefix_at
-prefix_found [] h = (tt, refl)
-prefix_found (c ∷ b) h =
+prefix_found known [] h = (tt, refl)
+prefix_found known (c ∷ b) h =
     IfSome-cond (TakesPrefix (c ∷ b)) (eqb c 0x45) _ _
     (λ e. record { good = tt; bytes = h.1; front = (c ∷ [], b, refl, ap (λ (n : ℕ). n ∷ []) (eqb-true c 0x45 e), refl) })
-    (λ e. IfSome-map (TakesModifier (c ∷ b)) (TakesPrefix (c ∷ b)) prefix_of (modifier_at (c ∷ b)) (modifier_leads.found (c ∷ b) h) (prefix_of_found (c ∷ b)))
+    (λ e. IfSome-map (TakesModifier (c ∷ b)) (TakesPrefix (c ∷ b)) prefix_of (modifier_at (c ∷ b)) ((modifier_leads known).found (c ∷ b) h) (prefix_of_found (c ∷ b)))
 
 not_pinned : (m : Modifier) (rest : List ℕ) (required : Bool) (tail : List ℕ) → modifier_at (modifier_code required ∷ tail) ≡ Some (Some m, rest) → prefix_at (modifier_code required ∷ tail) ≡ Some (Some (Mod m), rest)
 unfolding prefix_at
 not_pinned m rest true tail e = rw e refl
 not_pinned m rest false tail e = rw e refl
 
-prefix_only : (b rest : List ℕ) (x : Prefix) → Front (prefix_parts x) b rest → prefix_at b ≡ Some (Some x, rest)
+prefix_only : NumbersAreRead → (b rest : List ℕ) (x : Prefix) → Front (prefix_parts x) b rest → prefix_at b ≡ Some (Some x, rest)
 unfolding prefix_at
-prefix_only b rest Pinned f = rw (f.2, f.3, f.4) refl
-prefix_only b rest (Mod m) f =
+prefix_only known b rest Pinned f = rw (f.2, f.3, f.4) refl
+prefix_only known b rest (Mod m) f =
     let s = modifier_front m b rest f in
-    let e = modifier_leads.only b rest m f in
+    let e = (modifier_leads known).only b rest m f in
     rw (s.1) (not_pinned m rest m.required s.0 (subst (λ (t : List ℕ). modifier_at t ≡ Some (Some m, rest)) s.1 e))
 
 stop_at_test : (p : Bool) (c : ℕ) (b : List ℕ) (x : Option (Option Prefix × List ℕ)) → (not p && no_modifier c) ≡ true → cond p x (option_map prefix_of (modifier_at (c ∷ b))) ≡ Some (None, c ∷ b)
@@ -212,9 +212,9 @@ unfolding prefix_at
 prefix_stop [] h = absurd cc
 prefix_stop (c ∷ b) h = stop_at_test (eqb c 0x45) c b _ h
 
-prefix_falls : (b rest : List ℕ) (x : Prefix) → Front (prefix_parts x) b rest → length rest < length b
-prefix_falls b rest Pinned f = omega (arith, ap length f.2, ap length f.3, length-append f.0 f.1, ap length f.4)
-prefix_falls b rest (Mod m) f = modifier_leads.falls b rest m f
+prefix_falls : NumbersAreRead → (b rest : List ℕ) (x : Prefix) → Front (prefix_parts x) b rest → length rest < length b
+prefix_falls known b rest Pinned f = omega (arith, ap length f.2, ap length f.3, length-append f.0 f.1, ap length f.4)
+prefix_falls known b rest (Mod m) f = (modifier_leads known).falls b rest m f
 
-pub prefix_leads : Leads prefix_at prefix_parts no_prefix
-prefix_leads = record { found = prefix_found; only = prefix_only; stop = prefix_stop; falls = prefix_falls }
+pub prefix_leads : NumbersAreRead → Leads prefix_at prefix_parts no_prefix
+prefix_leads known = record { found = (prefix_found known); only = (prefix_only known); stop = prefix_stop; falls = (prefix_falls known) }

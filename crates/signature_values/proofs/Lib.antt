@@ -1,6 +1,4 @@
 pub mod Readers
-pub mod Unsigned
-pub mod Signed
 pub mod Numbers
 pub mod Lists
 pub mod Leading
@@ -10,3 +8,4 @@ pub mod Methods
 pub mod Cores
 pub mod Bodies
 pub mod Whole
+pub mod Spelled

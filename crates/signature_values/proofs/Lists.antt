@@ -7,7 +7,7 @@ use Rattle.signature_values.specs.Parts.{Part, number}
 use Rattle.signature_values.specs.Grammar.{list_parts}
 use Rattle.signature_values.specs.Reading.{Reader, number_at, both, many_at, counted_at, counted_within}
 use Rattle.signature_values.proofs.Readers.{IsBytes, Front, Front-append, Front-split, Takes, Reads, IfSome-bind, IfSome-map, IfSome-cond}
-use Rattle.signature_values.proofs.Numbers.{Any, number_parts, number_reads}
+use Rattle.signature_values.proofs.Numbers.{NumbersAreRead, Any, number_parts, number_reads}
 
 module _ {A B : Type 0} (r : Reader A) (q : Reader B) (parts : A → List Part) (more : B → List Part) (Good : A → Type 0) (Fine : B → Type 0)
     (first : Reads r parts Good) (second : Reads q more Fine) where
@@ -36,7 +36,7 @@ module _ {A B : Type 0} (r : Reader A) (q : Reader B) (parts : A → List Part) 
         rw (e, g) refl;
   }
 
-module _ {A : Type 0} (r : Reader A) (parts : A → List Part) (Good : A → Type 0) (each : Reads r parts Good) where
+module _ (known : NumbersAreRead) {A : Type 0} (r : Reader A) (parts : A → List Part) (Good : A → Type 0) (each : Reads r parts Good) where
   abbrev pub TakesMany : ℕ → List ℕ → List A × List ℕ → Type 0
   TakesMany n b x = Takes (list_parts parts) (AllByRecursion Good) b x × (length x.0 ≡ n)
 
@@ -75,11 +75,11 @@ module _ {A : Type 0} (r : Reader A) (parts : A → List Part) (Good : A → Typ
   unfolding counted_at
   counted_reads = record {
     found = λ b h.
-        IfSome-bind (Takes number_parts (λ n. Any n) b) (Takes counted_parts (AllByRecursion Good) b) (λ x. many_at r x.0 x.1) (number_at b) (number_reads.found b h)
+        IfSome-bind (Takes number_parts (λ n. Any n) b) (Takes counted_parts (AllByRecursion Good) b) (λ x. many_at r x.0 x.1) (number_at b) ((number_reads known).found b h)
         (λ x t. of_many b x t (many_at r x.0 x.1) (many_found x.0 x.1 t.bytes));
     only = λ b rest xs good f.
         let s = Front-split (number_parts (length xs)) (list_parts parts xs) b rest f in
-        let e = number_reads.only b s.0 (length xs) tt s.1 in
+        let e = (number_reads known).only b s.0 (length xs) tt s.1 in
         let g = many_only xs s.0 rest good s.2 in
         rw (e, g) refl;
   }
@@ -95,30 +95,30 @@ module _ {A : Type 0} (r : Reader A) (parts : A → List Part) (Good : A → Typ
 abbrev pub AtMost : {A : Type 0} → ℕ → List A → Type 0
 AtMost most xs = length xs ≤ most
 
-module _ {A : Type 0} (r : Reader A) (parts : A → List Part) (each : Reads r parts (λ x. Any x)) where
+module _ (known : NumbersAreRead) {A : Type 0} (r : Reader A) (parts : A → List Part) (each : Reads r parts (λ x. Any x)) where
   all_any : (xs : List A) → AllByRecursion (λ (x : A). Any x) xs
   all_any [] = tt
   all_any (x ∷ xs) = (tt, all_any xs)
 
-  pub within_reads : (most : ℕ) → Reads (counted_within r most) (counted_parts r parts (λ x. Any x) each) (AtMost most)
+  pub within_reads : (most : ℕ) → Reads (counted_within r most) (counted_parts known r parts (λ x. Any x) each) (AtMost most)
   unfolding counted_within
   within_reads most = record {
     found = λ b h.
-        IfSome-bind (Takes number_parts (λ n. Any n) b) (Takes (counted_parts r parts (λ x. Any x) each) (AtMost most) b) (λ x. cond (ltb most x.0) None (many_at r x.0 x.1)) (number_at b) (number_reads.found b h)
+        IfSome-bind (Takes number_parts (λ n. Any n) b) (Takes (counted_parts known r parts (λ x. Any x) each) (AtMost most) b) (λ x. cond (ltb most x.0) None (many_at r x.0 x.1)) (number_at b) ((number_reads known).found b h)
         (λ x t.
-        IfSome-cond (Takes (counted_parts r parts (λ x. Any x) each) (AtMost most) b) (ltb most x.0) None (many_at r x.0 x.1) (λ e. tt)
-        (λ e. of_many b x t (ltb-false most x.0 e) (many_at r x.0 x.1) (many_found r parts (λ x. Any x) each x.0 x.1 t.bytes)));
+        IfSome-cond (Takes (counted_parts known r parts (λ x. Any x) each) (AtMost most) b) (ltb most x.0) None (many_at r x.0 x.1) (λ e. tt)
+        (λ e. of_many b x t (ltb-false most x.0 e) (many_at r x.0 x.1) (many_found known r parts (λ x. Any x) each x.0 x.1 t.bytes)));
     only = λ b rest xs good f.
         let s = Front-split (number_parts (length xs)) (list_parts parts xs) b rest f in
-        let e = number_reads.only b s.0 (length xs) tt s.1 in
-        let g = many_only r parts (λ x. Any x) each xs s.0 rest (all_any xs) s.2 in
+        let e = (number_reads known).only b s.0 (length xs) tt s.1 in
+        let g = many_only known r parts (λ x. Any x) each xs s.0 rest (all_any xs) s.2 in
         rw (e, le-ltb most (length xs) good, g) refl;
   }
     where
-      of_many : (b : List ℕ) (x : ℕ × List ℕ) → Takes number_parts (λ n. Any n) b x → x.0 ≤ most → (o : Option (List A × List ℕ)) → IfSome o (λ y. Takes (list_parts parts) (AllByRecursion (λ (x : A). Any x)) x.1 y × (length y.0 ≡ x.0)) → IfSome o (Takes (counted_parts r parts (λ x. Any x) each) (AtMost most) b)
+      of_many : (b : List ℕ) (x : ℕ × List ℕ) → Takes number_parts (λ n. Any n) b x → x.0 ≤ most → (o : Option (List A × List ℕ)) → IfSome o (λ y. Takes (list_parts parts) (AllByRecursion (λ (x : A). Any x)) x.1 y × (length y.0 ≡ x.0)) → IfSome o (Takes (counted_parts known r parts (λ x. Any x) each) (AtMost most) b)
       of_many b x t le None h = tt
       of_many b x t le (Some y) h = record {
         good = rw h.1 le;
         bytes = h.0.bytes;
-        front = counted_front r parts (λ x. Any x) each x.0 b x.1 y.1 y.0 t.front h.1 h.0.front;
+        front = counted_front known r parts (λ x. Any x) each x.0 b x.1 y.1 y.0 t.front h.1 h.0.front;
       }

@@ -10,7 +10,7 @@ use Rattle.signature_values.specs.Grammar.{core_parts, slot_parts, slots_parts, 
 use Rattle.signature_values.specs.Limits.{slots_depth, method_depth, AreSlots, IsMethod, IsMethodKind, IsSentinel, HasOwnSentinel, IsCoreWithin, IsSlotWithin, IsRetWithin}
 use Rattle.signature_values.specs.Reading.{Reader, number_at, head_is, slot_at, ret_at, params_at, generic_at, takes_sentinel, is_method_code, method_from, method_at}
 use Rattle.signature_values.proofs.Readers.{IsBytes, Front, Front-append, Front-split, Takes, Reads, IfSome-bind, IfSome-map, IfSome-cond, front_byte, behind_byte}
-use Rattle.signature_values.proofs.Numbers.{Any, number_parts, number_reads}
+use Rattle.signature_values.proofs.Numbers.{NumbersAreRead, Any, number_parts, number_reads}
 use Rattle.signature_values.proofs.Leading.{begins-heads}
 use Rattle.signature_values.proofs.Codes.{no, slot_no_sentinel, no_head}
 use Rattle.signature_values.proofs.Contents.{slot_reads, ret_reads}
@@ -99,17 +99,17 @@ kind_from_test c e =
 abbrev GenericIs : Bool → Option ℕ → Type 0
 GenericIs generic g = is_some g ≡ generic
 
-generic_found : (generic : Bool) (b : List ℕ) → IsBytes b → IfSome (generic_at generic b) (Takes generic_parts (GenericIs generic) b)
+generic_found : NumbersAreRead → (generic : Bool) (b : List ℕ) → IsBytes b → IfSome (generic_at generic b) (Takes generic_parts (GenericIs generic) b)
 unfolding generic_at
-generic_found true b h =
-    IfSome-map (Takes number_parts (λ n. Any n) b) (Takes generic_parts (GenericIs true) b) (λ x. (Some x.0, x.1)) (number_at b) (number_reads.found b h)
+generic_found known true b h =
+    IfSome-map (Takes number_parts (λ n. Any n) b) (Takes generic_parts (GenericIs true) b) (λ x. (Some x.0, x.1)) (number_at b) ((number_reads known).found b h)
     (λ x t. record { good = refl; bytes = t.bytes; front = t.front })
-generic_found false b h = record { good = refl; bytes = h; front = refl }
+generic_found known false b h = record { good = refl; bytes = h; front = refl }
 
-generic_only : (g : Option ℕ) (b rest : List ℕ) → Front (generic_parts g) b rest → generic_at (is_some g) b ≡ Some (g, rest)
+generic_only : NumbersAreRead → (g : Option ℕ) (b rest : List ℕ) → Front (generic_parts g) b rest → generic_at (is_some g) b ≡ Some (g, rest)
 unfolding generic_at
-generic_only None b rest f = rw f refl
-generic_only (Some n) b rest f = let e = number_reads.only b rest n tt f in rw e refl
+generic_only known None b rest f = rw f refl
+generic_only known (Some n) b rest f = let e = (number_reads known).only b rest n tt f in rw e refl
 
 -- ---- parameters and SENTINEL
 
@@ -121,9 +121,9 @@ and_false : (p : Bool) → (p && false) ≡ false
 and_false true = refl
 and_false false = refl
 
-module _ (d : ℕ) (nested : Reader Core) (cores : Reads nested core_parts (IsCoreWithin d)) (some_depth : 1 ≤ d) where
+module _ (known : NumbersAreRead) (d : ℕ) (nested : Reader Core) (cores : Reads nested core_parts (IsCoreWithin d)) (some_depth : 1 ≤ d) where
   abbrev slots : Reads (slot_at nested) slot_parts (IsSlotWithin d)
-  slots = slot_reads d nested cores some_depth
+  slots = slot_reads known d nested cores some_depth
 
   abbrev params_parts : List Slot × Option ℕ → List Part
   params_parts p = slots_parts (slots_from p.0) p.1
@@ -261,11 +261,11 @@ module _ (d : ℕ) (nested : Reader Core) (cores : Reads nested core_parts (IsCo
   rest_found own c b e h =
       let TakesWhole : Method × List ℕ → Type 0 = Takes method_parts (IsMethodOf own) (c ∷ b) in
       let code = kind_from_test c e in
-      IfSome-bind (Takes generic_parts (GenericIs (eqb (c / 16 % 2) 1)) b) TakesWhole (λ g. option_and_then (λ n. option_and_then (λ r. option_map (λ p. (method (c % 16) (eqb (c / 32 % 2) 1) (eqb (c / 64 % 2) 1) g.0 r.0 (slots_from p.0.0) p.0.1, p.1)) (params_at nested (own && takes_sentinel (c % 16)) n.0 r.1)) (ret_at nested n.1)) (number_at g.1)) (generic_at (eqb (c / 16 % 2) 1) b) (generic_found (eqb (c / 16 % 2) 1) b h)
+      IfSome-bind (Takes generic_parts (GenericIs (eqb (c / 16 % 2) 1)) b) TakesWhole (λ g. option_and_then (λ n. option_and_then (λ r. option_map (λ p. (method (c % 16) (eqb (c / 32 % 2) 1) (eqb (c / 64 % 2) 1) g.0 r.0 (slots_from p.0.0) p.0.1, p.1)) (params_at nested (own && takes_sentinel (c % 16)) n.0 r.1)) (ret_at nested n.1)) (number_at g.1)) (generic_at (eqb (c / 16 % 2) 1) b) (generic_found known (eqb (c / 16 % 2) 1) b h)
       (λ g tg.
-      IfSome-bind (Takes number_parts (λ n. Any n) g.1) TakesWhole (λ n. option_and_then (λ r. option_map (λ p. (method (c % 16) (eqb (c / 32 % 2) 1) (eqb (c / 64 % 2) 1) g.0 r.0 (slots_from p.0.0) p.0.1, p.1)) (params_at nested (own && takes_sentinel (c % 16)) n.0 r.1)) (ret_at nested n.1)) (number_at g.1) (number_reads.found g.1 tg.bytes)
+      IfSome-bind (Takes number_parts (λ n. Any n) g.1) TakesWhole (λ n. option_and_then (λ r. option_map (λ p. (method (c % 16) (eqb (c / 32 % 2) 1) (eqb (c / 64 % 2) 1) g.0 r.0 (slots_from p.0.0) p.0.1, p.1)) (params_at nested (own && takes_sentinel (c % 16)) n.0 r.1)) (ret_at nested n.1)) (number_at g.1) ((number_reads known).found g.1 tg.bytes)
       (λ n tn.
-      IfSome-bind (Takes ret_parts (IsRetWithin d) n.1) TakesWhole (λ r. option_map (λ p. (method (c % 16) (eqb (c / 32 % 2) 1) (eqb (c / 64 % 2) 1) g.0 r.0 (slots_from p.0.0) p.0.1, p.1)) (params_at nested (own && takes_sentinel (c % 16)) n.0 r.1)) (ret_at nested n.1) ((ret_reads d nested cores some_depth).found n.1 tn.bytes)
+      IfSome-bind (Takes ret_parts (IsRetWithin d) n.1) TakesWhole (λ r. option_map (λ p. (method (c % 16) (eqb (c / 32 % 2) 1) (eqb (c / 64 % 2) 1) g.0 r.0 (slots_from p.0.0) p.0.1, p.1)) (params_at nested (own && takes_sentinel (c % 16)) n.0 r.1)) (ret_at nested n.1) ((ret_reads known d nested cores some_depth).found n.1 tn.bytes)
       (λ r tr.
       IfSome-map (TakesParams (own && takes_sentinel (c % 16)) n.0 r.1) TakesWhole (λ p. (method (c % 16) (eqb (c / 32 % 2) 1) (eqb (c / 64 % 2) 1) g.0 r.0 (slots_from p.0.0) p.0.1, p.1)) (params_at nested (own && takes_sentinel (c % 16)) n.0 r.1) (params_found n.0 (own && takes_sentinel (c % 16)) r.1 tr.bytes)
       (λ p tp.
@@ -296,9 +296,9 @@ module _ (d : ℕ) (nested : Reader Core) (cores : Reads nested core_parts (IsCo
       let code = method_code kind this explicit generic in
       let bits = code_bits kind this explicit (is_some generic) (kind_lt kind good.1.0) in
       let test = code_test code kind bits.0 bits.1 good.1.0 in
-      let eg = generic_only generic s.0 g.0 g.1 in
-      let en = number_reads.only g.0 n.0 (count_slots params) tt n.1 in
-      let er = (ret_reads d nested cores some_depth).only n.0 r.0 ret (omega (arith, good.0), good.1.2) r.1 in
+      let eg = generic_only known generic s.0 g.0 g.1 in
+      let en = (number_reads known).only g.0 n.0 (count_slots params) tt n.1 in
+      let er = (ret_reads known d nested cores some_depth).only n.0 r.0 ret (omega (arith, good.0), good.1.2) r.1 in
       let same = slots_from_to params in
       let count = length-slots_to params in
       let params_front = subst (λ (ss : Slots). Front (slots_parts ss sentinel) r.0 rest) (sym same) r.2 in

@@ -16,6 +16,7 @@ use Rattle.signature_values.specs.Grammar.{body_parts}
 use Rattle.signature_values.specs.Spells.{Holds, Spells, IsSpellable, short}
 use Rattle.signature_values.specs.Reading.{Reader, core_at}
 use Rattle.signature_values.specs.Columns.{body_at}
+use Rattle.signature_values.proofs.Numbers.{NumbersAreRead}
 use Rattle.signature_values.proofs.Readers.{IsBytes, Front-whole, Front-from_whole, Takes, Reads}
 use Rattle.signature_values.proofs.Cores.{core_reads}
 use Rattle.schema.specs.declared.column.SigKind.{SigKind}
@@ -101,23 +102,23 @@ module _ {A : Type 0} (r : Reader A) (parts : A → List Part) (Good : A → Typ
 good_of : (kind : SigKind) (s : Body) (b : List ℕ) → Spells kind s b → IsHeld 128 kind s
 good_of kind s b h = (h.column, h.body)
 
-column_reads : (kind : SigKind) → Reads (body_at kind (core_at 128)) body_parts (IsHeld 128 kind)
-column_reads kind = body_reads 128 (core_at 128) (core_reads 128) (omega arith) kind
+column_reads : NumbersAreRead → (kind : SigKind) → Reads (body_at kind (core_at 128)) body_parts (IsHeld 128 kind)
+column_reads known kind = body_reads known 128 (core_at 128) (core_reads known 128) (omega arith) kind
 
 -- no bytes spell two signatures in one column
-pub one_signature : (kind : SigKind) (u v : Body) (b : List ℕ) → Spells kind u b → Spells kind v b → u ≡ v
-one_signature kind u v b h k =
-    one_value (body_at kind (core_at 128)) body_parts (IsHeld 128 kind) (column_reads kind) u v b (good_of kind u b h) (good_of kind v b k) h.parts k.parts
+pub one_signature : NumbersAreRead → (kind : SigKind) (u v : Body) (b : List ℕ) → Spells kind u b → Spells kind v b → u ≡ v
+one_signature known kind u v b h k =
+    one_value (body_at kind (core_at 128)) body_parts (IsHeld 128 kind) (column_reads known kind) u v b (good_of kind u b h) (good_of kind v b k) h.parts k.parts
 
 -- what is spelled so is read
-pub spelled_read : (kind : SigKind) (s : Body) (b : List ℕ) → Spells kind s b → body_at kind (core_at 128) b ≡ Some (s, [])
-spelled_read kind s b h =
-    read_whole (body_at kind (core_at 128)) body_parts (IsHeld 128 kind) (column_reads kind) s b (good_of kind s b h) h.parts
+pub spelled_read : NumbersAreRead → (kind : SigKind) (s : Body) (b : List ℕ) → Spells kind s b → body_at kind (core_at 128) b ≡ Some (s, [])
+spelled_read known kind s b h =
+    read_whole (body_at kind (core_at 128)) body_parts (IsHeld 128 kind) (column_reads known kind) s b (good_of kind s b h) h.parts
 
 -- what is read to the end is spelled so
-pub read_spelled : (kind : SigKind) (s : Body) (b : List ℕ) → IsBytes b → length b < 2 ^ 29 → body_at kind (core_at 128) b ≡ Some (s, []) → Spells kind s b
-read_spelled kind s b bytes limit e =
-    let t = found_whole (body_at kind (core_at 128)) body_parts (IsHeld 128 kind) (column_reads kind) s b bytes e in
+pub read_spelled : NumbersAreRead → (kind : SigKind) (s : Body) (b : List ℕ) → IsBytes b → length b < 2 ^ 29 → body_at kind (core_at 128) b ≡ Some (s, []) → Spells kind s b
+read_spelled known kind s b bytes limit e =
+    let t = found_whole (body_at kind (core_at 128)) body_parts (IsHeld 128 kind) (column_reads known kind) s b bytes e in
     record { column = t.0.0; body = t.0.1; parts = t.1; limit = limit }
 
 -- the shortest spelling is a spelling
@@ -130,5 +131,5 @@ short_is_spelling kind s column h = record {
 }
 
 -- and it is read again
-pub short_read : (kind : SigKind) (s : Body) → Holds kind s → IsSpellable s → body_at kind (core_at 128) (short s) ≡ Some (s, [])
-short_read kind s column h = spelled_read kind s (short s) (short_is_spelling kind s column h)
+pub short_read : NumbersAreRead → (kind : SigKind) (s : Body) → Holds kind s → IsSpellable s → body_at kind (core_at 128) (short s) ≡ Some (s, [])
+short_read known kind s column h = spelled_read known kind s (short s) (short_is_spelling kind s column h)

@@ -7,3 +7,4 @@ pub mod Limits
 pub mod Spells
 pub mod Reading
 pub mod Columns
+pub mod Code

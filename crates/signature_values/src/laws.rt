@@ -1,31 +1,48 @@
-ghost use Rattle.std.specs.Prelude.{◌≡◌, ◌^◌, ◌<◌, ℕ, List, [], length, get_or, Some, IfSome};
+ghost use Rattle.std.specs.Prelude.{◌≡◌, ◌^◌, ◌<◌, ◌⊎◌, ℕ, List, [], length, get_or, Some, IfSome};
+ghost use Rattle.std.specs.List.{AllByRecursion};
 ghost use Rattle.schema.specs.declared.column.SigKind.{SigKind};
 ghost use Rattle.schema.specs.declared.coded.Coded.TheVariants.{TypeDefOrRef};
+ghost use Rattle.schema.specs.declared.table.TableId.TheVariants.{TypeDef, TypeRef, TypeSpec};
 ghost use Rattle.schema.specs.declared.token.Token.{Token};
 ghost use Rattle.schema.specs.CodedIndexes.{IsCoded};
 ghost use Rattle.signature_values.specs.Syntax.{Body};
-ghost use Rattle.signature_values.specs.Spells.{Holds, Spells, IsSpellable, short};
+ghost use Rattle.signature_values.specs.Spells.{Holds, Spells, IsSpellable, short, tokens};
 ghost use Rattle.signature_values.specs.Reading.{core_at, token_of};
 ghost use Rattle.signature_values.specs.Columns.{body_at};
 
-/// No bytes spell two signatures in a column of one kind.
-pub fn signature_is_one()
-    ensures { (kind : SigKind) (first second : Body) (bytes : List ℕ) → Spells kind first bytes → Spells kind second bytes
-        → first ≡ second }
-{}
+use packed::numbers_are_read;
 
-/// What bytes spell is read from them, and what is read from them to their end they spell.
+/// What bytes spell is read from them, and what is read from them to their end they spell. So no bytes
+/// spell two signatures in a column of one kind.
 pub fn signatures_are_read()
     ensures read { (kind : SigKind) (signature : Body) (bytes : List ℕ) → Spells kind signature bytes
         → body_at kind (core_at 128) bytes ≡ Some (signature, []) }
     ensures spelled { (kind : SigKind) (signature : Body) (bytes : List ℕ) → ((k : ℕ) → get_or bytes k 0 < 2 ^ 8)
         → length bytes < 2 ^ 29 → body_at kind (core_at 128) bytes ≡ Some (signature, []) → Spells kind signature bytes }
-{}
+    ensures one { (kind : SigKind) (first second : Body) (bytes : List ℕ) → Spells kind first bytes → Spells kind second bytes
+        → first ≡ second }
+{
+    numbers_are_read();
+}
 
 /// The shortest spelling of a signature that has one spells it, in each kind of column that holds it.
 pub fn shortest_spells()
     ensures { (kind : SigKind) (signature : Body) → Holds kind signature → IsSpellable signature
         → Spells kind signature (short signature) }
+{}
+
+/// What bytes spell, in a column of any kind, has a spelling: so has each part of it, and the shortest
+/// is no longer than the bytes.
+pub fn spelled_is_spellable()
+    ensures { (kind : SigKind) (signature : Body) (bytes : List ℕ) → Spells kind signature bytes → IsSpellable signature }
+{}
+
+/// Each type index of a signature that has a spelling is of TypeDef, TypeRef or TypeSpec (II.23.2.8),
+/// and its row, which may be 0, has 27 bits.
+pub fn indexes_name_types()
+    ensures rows { (signature : Body) → IsSpellable signature → AllByRecursion (λ token. token.row < 2 ^ 27) (tokens signature) }
+    ensures tables { (signature : Body) → IsSpellable signature
+        → AllByRecursion (λ token. (token.table ≡ TypeDef) ⊎ ((token.table ≡ TypeRef) ⊎ (token.table ≡ TypeSpec))) (tokens signature) }
 {}
 
 /// The token that is read from the number of a type index is the one that the number names.

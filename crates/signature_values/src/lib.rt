@@ -19,5 +19,8 @@ mod types;
 
 pub use body::{FieldSig, InstanceSig, Local, LocalsSig, Prefix, PropertySig, SigBody};
 pub use element::Element;
-pub use laws::{indexes_are_read, shortest_spells, signature_is_one, signatures_are_read};
+pub use laws::{
+    indexes_are_read, indexes_name_types, shortest_spells, signatures_are_read,
+    spelled_is_spellable,
+};
 pub use types::{Core, MethodSig, Modifier, Ret, Shape, Slot, SlotKind, TypeSig};

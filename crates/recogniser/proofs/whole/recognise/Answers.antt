@@ -2,7 +2,7 @@ use Rattle.recogniser.proofs.Recognised.{recognised}
 use Rattle.recogniser.proofs.whole.recognise.Goals as goal
 
 pub returns-clause-one : goal.returns-clause-one
-returns-clause-one c = λ first second. c.signature_is_one.ensures c.args.kind first second c.args.bytes.now
+returns-clause-one c = λ first second. c.signatures_are_read.ensures.one c.args.kind first second c.args.bytes.now
 
 pub returns-clause-spelled : goal.returns-clause-spelled
-returns-clause-spelled c = recognised _ c.args.kind c.args.bytes.now c.walk.result c.is_some.result c.is_some.ensures c.walk.ensures.found c.walk.ensures.only
+returns-clause-spelled c = recognised c.args.kind c.args.bytes.now _ c.first_index_without_row.result c.is_some.result c.is_some.ensures c.first_index_without_row.ensures.found c.first_index_without_row.ensures.only

@@ -1,0 +1,4 @@
+pub mod ViewLemmas
+pub mod CheckLemmas
+pub mod SameLemmas
+pub mod TestLaws

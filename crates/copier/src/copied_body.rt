@@ -1,0 +1,47 @@
+ghost use Rattle.std.specs.Prelude.{◌≡◌, IfOk, map};
+ghost use Rattle.signature_values.specs.Views.{local_of, body_of};
+
+use crate::copied_types::{copy_content, copy_method, copy_ret, copy_slot, copy_slots, copy_types};
+use signature_values::{FieldSig, InstanceSig, Local, LocalsSig, PropertySig, SigBody};
+use std::alloc::{AllocError, Global};
+
+/// A copy of a local variable (II.23.2.6).
+fn copy_local(alloc: Global, local: &Local) -> Result<Local, AllocError>
+    ensures { IfOk result (λ copy. local_of copy ≡ local_of local.now) }
+{
+    let prefix = Vec::from_slice(alloc, &local.prefix)?;
+    let kind = copy_content(alloc, &local.kind)?;
+    Ok(Local { prefix, kind })
+}
+
+/// Copies of local variables, in their order.
+fn copy_locals(alloc: Global, locals: &[Local]) -> Result<Vec<Local>, AllocError>
+    ensures { IfOk result (λ copies. map local_of copies.items ≡ map local_of locals.now) }
+{
+    let mut copies = Vec::with_capacity(alloc, locals.len())?;
+    for local in locals {
+        copies.push(copy_local(alloc, local)?)?;
+    }
+    Ok(copies)
+}
+
+/// A copy of a signature: a value of its own that says the same.
+///
+/// Each list in it is reserved once, at its length, and each box is one allocation; an error is want
+/// of memory alone. It goes as deep as types nest in the value, and so does the stack.
+pub fn copy_body(alloc: Global, body: &SigBody) -> Result<SigBody, AllocError>
+    ensures { IfOk result (λ copy. body_of copy ≡ body_of body.now) }
+{
+    match body {
+        SigBody::Field(field) => Ok(SigBody::Field(FieldSig(copy_slot(alloc, &field.0)?))),
+        SigBody::Method(method) => Ok(SigBody::Method(copy_method(alloc, method)?)),
+        SigBody::Property(property) => Ok(SigBody::Property(PropertySig {
+            this: property.this,
+            of: copy_slot(alloc, &property.of)?,
+            params: copy_slots(alloc, &property.params)?,
+        })),
+        SigBody::Locals(locals) => Ok(SigBody::Locals(LocalsSig(copy_locals(alloc, &locals.0)?))),
+        SigBody::Instance(args) => Ok(SigBody::Instance(InstanceSig(copy_types(alloc, &args.0)?))),
+        SigBody::TypeSpec(ret) => Ok(SigBody::TypeSpec(copy_ret(alloc, ret)?)),
+    }
+}

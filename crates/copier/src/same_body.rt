@@ -1,0 +1,89 @@
+ghost use Rattle.std.specs.Prelude.{◌≡◌, ◌↔◌, IsTrue, map};
+ghost use Rattle.signature_values.specs.Syntax.{Body};
+ghost use Rattle.signature_values.specs.Views.{local_of, body_of, slot_of};
+ghost use Rattle.copier.specs.Same.{is_same_body};
+
+use crate::same_parts::same_prefixes;
+use crate::same_types::{same_content, same_method, same_ret, same_slot, same_slots, same_types};
+use signature_values::{Local, PropertySig, SigBody};
+
+/// Whether two local variables are the same (II.23.2.6).
+fn same_local(local: &Local, other: &Local) -> bool
+    ensures { IsTrue result ↔ (local_of local.now ≡ local_of other.now) }
+{
+    same_prefixes(&local.prefix, &other.prefix) && same_content(&local.kind, &other.kind)
+}
+
+/// Whether two lists of local variables are the same.
+fn same_locals(locals: &[Local], others: &[Local]) -> bool
+    ensures { IsTrue result ↔ (map local_of locals.now ≡ map local_of others.now) }
+{
+    if locals.len() != others.len() {
+        return false;
+    }
+    for index in 0..locals.len() {
+        if !same_local(&locals[index], &others[index]) {
+            return false;
+        }
+    }
+    true
+}
+
+/// Whether two properties are the same (II.23.2.5).
+fn same_property(property: &PropertySig, other: &PropertySig) -> bool
+    ensures { IsTrue result ↔ ((property.now.this ≡ other.now.this) × (slot_of property.now.of ≡ slot_of other.now.of)
+        × (map slot_of property.now.params.items ≡ map slot_of other.now.params.items)) }
+{
+    property.this == other.this
+        && same_slot(&property.of, &other.of)
+        && same_slots(&property.params, &other.params)
+}
+
+/// Whether two signatures are the same.
+fn same_bodies(body: &SigBody, other: &SigBody) -> bool
+    ensures { IsTrue result ↔ (body_of body.now ≡ body_of other.now) }
+{
+    match body {
+        SigBody::Field(field) => match other {
+            SigBody::Field(other) => same_slot(&field.0, &other.0),
+            _ => false,
+        },
+        SigBody::Method(method) => match other {
+            SigBody::Method(other) => same_method(method, other),
+            _ => false,
+        },
+        SigBody::Property(property) => match other {
+            SigBody::Property(other) => same_property(property, other),
+            _ => false,
+        },
+        SigBody::Locals(locals) => match other {
+            SigBody::Locals(other) => same_locals(&locals.0, &other.0),
+            _ => false,
+        },
+        SigBody::Instance(args) => match other {
+            SigBody::Instance(other) => same_types(&args.0, &other.0),
+            _ => false,
+        },
+        SigBody::TypeSpec(ret) => match other {
+            SigBody::TypeSpec(other) => same_ret(ret, other),
+            _ => false,
+        },
+    }
+}
+
+/// Whether two signatures are the same, wherever they lie in memory.
+///
+/// It goes over both at once, up to the first difference, without memory, as deep as their types nest,
+/// and so does the stack.
+pub fn is_same(body: &SigBody, other: &SigBody) -> bool
+    ensures same { IsTrue result ↔ (body_of body.now ≡ body_of other.now) }
+    // As a test, for comparisons that name one.
+    ensures test { result ≡ is_same_body (body_of body.now) (body_of other.now) }
+{
+    same_bodies(body, other)
+}
+
+/// The test `is_same_body` tells of all signatures whether they are equal.
+pub fn equality_is_tested()
+    ensures { (first second : Body) → IsTrue (is_same_body first second) ↔ (first ≡ second) }
+{}

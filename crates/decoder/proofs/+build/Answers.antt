@@ -1,0 +1,59 @@
+use Rattle.std.proofs.Common.{◌≡◌, ◌∙◌, ◌/◌, ◌%◌, ◌&&◌, eqb, true, Bool, map, length-append, Option, List, ℕ, refl, sym, ap, rules, subst, arith}
+use Rattle.std.proofs.lemmas.List.{map-append}
+use Rattle.signature_values.specs.Syntax.{Typed, Slot}
+use Rattle.signature_values.specs.Reading.{typed_at, core_at, head_is}
+use Rattle.signature_values.specs.Views.{type_of, slot_of, ret_of}
+use Rattle.decoder.specs.Gives.{Fails}
+use Rattle.decoder.proofs.Cores.{core_simple, view_simple, view_method, method_found}
+use Rattle.decoder.proofs.Items.{many_next, many_bad, many_end}
+use Rattle.decoder.proofs.Parameters.{still, after_mark, params_next, params_bad, params_end}
+use Rattle.decoder.proofs.+build.Goals as goal
+use Rattle.decoder.proofs.+build.Goals.{methods::params-then-allowed, methods::params-else-allowed}
+
+pub types::core-returns-in-Some : goal.types::core-returns-in-Some
+types::core-returns-in-Some t c =
+    let e = core_simple c.args.depth c.in_ok-code.code c.in-Some.element c.args.bytes.now c.in_ok-code.rest.now (omega arith) c.in_ok-code.ensures c.in-Some.ensures in
+    rw (e, view_simple c.in-Some.element) refl
+
+pub types::types-returns-in_err-one : goal.types::types-returns-in_err-one
+types::types-returns-in_err-one t c =
+    let h = subst (λ (o : Option (List Typed × List ℕ)). Fails c.in_err-one.field-0.0 o) c.loop-done.invariant (many_bad c.in_err-one.field-0.0 (typed_at (core_at c.args.depth)) c.args.count c.loop-done.done c.loop-done.rest.now (map type_of c.loop-done.all.items) c.loop-done-test.true c.in_err-one.ensures) in
+    search rules
+
+pub types::types-loop-done-preserved : goal.types::types-loop-done-preserved
+types::types-loop-done-preserved t c =
+    let e = many_next (typed_at (core_at c.args.depth)) c.args.count c.loop-done.done c.loop-done.rest.now c.in_ok-one.next.now (map type_of c.loop-done.all.items) (type_of c.in_ok-one.one) c.loop-done-test.true c.in_ok-one.ensures in
+    rw (c.in_ok-push.ensures.items) (simp map-append (sym e ∙ c.loop-done.invariant))
+
+pub types::types-returns : goal.types::types-returns
+types::types-returns t c =
+    sym c.loop-done.invariant ∙ many_end (typed_at (core_at c.args.depth)) c.args.count c.loop-done.done c.loop-done.rest.now (map type_of c.loop-done.all.items) c.loop-done-test.false
+
+pub methods::params-returns-in_err-one : goal.methods::params-returns-in_err-one
+methods::params-returns-in_err-one t c =
+    let may : c.if-allowed.sentinel ≡ still c.args.allowed c.loop-done.before = elim c.if-allowed.branch [ methods::params-then-allowed w ↦ search rules | methods::params-else-allowed w ↦ search rules ] in
+    let is : c.sentinel-marked.result.0 ≡ (still c.args.allowed c.loop-done.before && head_is 0x41 c.loop-done.rest.now) = c.sentinel-marked.ensures.marked ∙ ap (λ (p : Bool). p && head_is 0x41 c.loop-done.rest.now) may in
+    let bad = params_bad (core_at c.args.depth) c.in_err-one.field-0.0 c.args.count c.loop-done.done (still c.args.allowed c.loop-done.before) c.loop-done.before c.sentinel-marked.result.0 c.loop-done.rest.now c.sentinel-marked.result.1.now (map slot_of c.loop-done.all.items) c.loop-done-test.true is c.sentinel-marked.ensures.behind c.in_err-one.ensures in
+    let h = subst (λ (o : Option ((List Slot × Option ℕ) × List ℕ)). Fails c.in_err-one.field-0.0 o) c.loop-done.invariant.so_far bad in
+    search rules
+
+pub methods::params-loop-done-preserved : goal.methods::params-loop-done-preserved
+methods::params-loop-done-preserved t c =
+    let may : c.if-allowed.sentinel ≡ still c.args.allowed c.loop-done.before = elim c.if-allowed.branch [ methods::params-then-allowed w ↦ search rules | methods::params-else-allowed w ↦ search rules ] in
+    let is : c.sentinel-marked.result.0 ≡ (still c.args.allowed c.loop-done.before && head_is 0x41 c.loop-done.rest.now) = c.sentinel-marked.ensures.marked ∙ ap (λ (p : Bool). p && head_is 0x41 c.loop-done.rest.now) may in
+    let e = params_next (core_at c.args.depth) c.args.count c.loop-done.done c.args.allowed c.loop-done.before c.sentinel-marked.result.0 c.loop-done.rest.now c.sentinel-marked.result.1.now c.in_ok-one.next.now (map slot_of c.loop-done.all.items) (slot_of c.in_ok-one.one) c.loop-done-test.true c.loop-done.invariant.count is c.sentinel-marked.ensures.behind c.in_ok-one.ensures in
+    let mark : c.or-before.result ≡ after_mark c.loop-done.before c.sentinel-marked.result.0 c.loop-done.done = search rules in
+    record {
+      so_far = rw (c.in_ok-push.ensures.items, mark) (simp map-append (sym e ∙ c.loop-done.invariant.so_far));
+      count = rw (c.in_ok-push.ensures.items) (simp (map-append, length-append) (let count = c.loop-done.invariant.count in omega arith));
+    }
+
+pub methods::params-returns : goal.methods::params-returns
+methods::params-returns t c =
+    sym c.loop-done.invariant.so_far ∙ params_end (core_at c.args.depth) c.args.count c.loop-done.done (still c.args.allowed c.loop-done.before) c.loop-done.before c.loop-done.rest.now (map slot_of c.loop-done.all.items) c.loop-done-test.false
+
+pub methods::method-returns : goal.methods::method-returns
+methods::method-returns t c =
+    let begins : c.begins_method.result ≡ true = search rules in
+    let e = method_found c.args.own (core_at c.args.depth) c.in_ok-code.code c.in_ok-count.count c.args.bytes.now c.in_ok-code.rest.now c.in_ok-generic.rest.now c.in_ok-count.rest.now c.in_ok-ret.rest.now c.in_ok-params.rest.now c.in_ok-generic.generic c.in_ok-params.sentinel (ret_of c.in_ok-ret.ret) (map slot_of c.in_ok-params.params.items) c.begins_method.result c.takes_sentinel-allowed.result c.in_ok-code.ensures c.begins_method.ensures begins c.in_ok-generic.ensures c.in_ok-count.ensures c.in_ok-ret.ensures c.takes_sentinel-allowed.ensures c.in_ok-params.ensures in
+    rw (e, view_method (c.in_ok-code.code % 16) (eqb (c.in_ok-code.code / 32 % 2) 1) (eqb (c.in_ok-code.code / 64 % 2) 1) c.in_ok-generic.generic c.in_ok-ret.ret c.in_ok-params.params c.in_ok-params.sentinel) refl

@@ -1,0 +1,4 @@
+pub mod Cores
+pub mod Fronts
+pub mod Items
+pub mod Parameters

@@ -1,0 +1,22 @@
+use Rattle.std.proofs.Common.{◌∙◌, map, Option, List, ℕ, sym, rules, subst}
+use Rattle.std.proofs.lemmas.List.{map-append}
+use Rattle.signature_values.specs.Syntax.{Slot}
+use Rattle.signature_values.specs.Reading.{core_at, slot_at}
+use Rattle.signature_values.specs.Views.{slot_of}
+use Rattle.decoder.specs.Gives.{Fails}
+use Rattle.decoder.proofs.Items.{many_next, many_bad, many_end}
+use Rattle.decoder.proofs.columns.slots.Goals as goal
+
+pub returns-in_err-one : goal.returns-in_err-one
+returns-in_err-one c =
+    let h = subst (λ (o : Option (List Slot × List ℕ)). Fails c.in_err-one.field-0.0 o) c.loop-done.invariant (many_bad c.in_err-one.field-0.0 (slot_at (core_at c.args.depth)) c.args.count c.loop-done.done c.loop-done.rest.now (map slot_of c.loop-done.all.items) c.loop-done-test.true c.in_err-one.ensures) in
+    search rules
+
+pub loop-done-preserved : goal.loop-done-preserved
+loop-done-preserved c =
+    let e = many_next (slot_at (core_at c.args.depth)) c.args.count c.loop-done.done c.loop-done.rest.now c.in_ok-one.next.now (map slot_of c.loop-done.all.items) (slot_of c.in_ok-one.one) c.loop-done-test.true c.in_ok-one.ensures in
+    rw (c.in_ok-push.ensures.items) (simp map-append (sym e ∙ c.loop-done.invariant))
+
+pub returns : goal.returns
+returns c =
+    sym c.loop-done.invariant ∙ many_end (slot_at (core_at c.args.depth)) c.args.count c.loop-done.done c.loop-done.rest.now (map slot_of c.loop-done.all.items) c.loop-done-test.false

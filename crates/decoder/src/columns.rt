@@ -1,0 +1,165 @@
+ghost use Rattle.std.specs.Prelude.{◌≡◌, map};
+ghost use Rattle.signature_values.specs.Syntax as sig;
+ghost use Rattle.signature_values.specs.Views.{type_of, slot_of, local_of, body_of};
+ghost use Rattle.signature_values.specs.Reading.{change, many_at, counted_at, core_at, typed_at, slot_at, ret_at};
+ghost use Rattle.signature_values.specs.Columns.{local_at, headed_at, property_from, method_or, body_at};
+ghost use Rattle.decoder.specs.Gives.{Gives};
+
+use crate::error::SigError;
+use crate::front::{byte, number, with_room};
+use crate::methods::method;
+use crate::modifiers::prefixes;
+use crate::slots::{content, ret, slot};
+use crate::types::types;
+use schema::SigKind;
+use signature_values::{FieldSig, InstanceSig, Local, LocalsSig, PropertySig, SigBody, Slot};
+use std::alloc::Global;
+
+/// A local variable (II.23.2.6).
+#[tactic(auto, unfolding(signature_values::specs::Columns::local_at, signature_values::specs::Reading::both))]
+fn local(alloc: Global, bytes: &[u8], depth: u8) -> Result<(Local, &[u8]), SigError>
+    ensures { Gives (λ x. (local_of x.0, x.1.now)) result (local_at (core_at depth) bytes.now) }
+{
+    let (prefix, rest) = prefixes(alloc, bytes)?;
+    let (kind, rest) = content(alloc, rest, depth)?;
+    Ok((Local { prefix, kind }, rest))
+}
+
+/// So many local variables.
+fn variables(
+    alloc: Global,
+    bytes: &[u8],
+    count: u32,
+    depth: u8,
+) -> Result<(Vec<Local>, &[u8]), SigError>
+    ensures { Gives (λ x. (map local_of x.0.items, x.1.now)) result (many_at (local_at (core_at depth)) count bytes.now) }
+{
+    let mut all = with_room(alloc, bytes, count)?;
+    let mut rest = bytes;
+    for done in 0..count {
+        let (one, next) = local(alloc, rest, depth)?;
+        all.push(one)?;
+        rest = next;
+    }
+    Ok((all, rest))
+}
+
+/// So many parameters of a property.
+fn slots(alloc: Global, bytes: &[u8], count: u32, depth: u8) -> Result<(Vec<Slot>, &[u8]), SigError>
+    ensures { Gives (λ x. (map slot_of x.0.items, x.1.now)) result (many_at (slot_at (core_at depth)) count bytes.now) }
+{
+    let mut all = with_room(alloc, bytes, count)?;
+    let mut rest = bytes;
+    for done in 0..count {
+        let (one, next) = slot(alloc, rest, depth)?;
+        all.push(one)?;
+        rest = next;
+    }
+    Ok((all, rest))
+}
+
+/// A field, behind its first byte (II.23.2.4).
+#[tactic(auto, using(crate::proofs::Cores::fails_change))]
+fn field(alloc: Global, bytes: &[u8], depth: u8) -> Result<(SigBody, &[u8]), SigError>
+    ensures { Gives (λ x. (body_of x.0, x.1.now)) result (change sig.field (slot_at (core_at depth)) bytes.now) }
+{
+    let (slot, rest) = slot(alloc, bytes, depth)?;
+    Ok((SigBody::Field(FieldSig(slot)), rest))
+}
+
+/// A method, which may have a SENTINEL of its own or not (II.23.2.1, II.23.2.2).
+#[tactic(auto, using(crate::proofs::Cores::fails_change))]
+fn method_body(
+    alloc: Global,
+    bytes: &[u8],
+    own: bool,
+    depth: u8,
+) -> Result<(SigBody, &[u8]), SigError>
+    ensures { Gives (λ x. (body_of x.0, x.1.now)) result (method_or own (core_at depth) bytes.now) }
+{
+    let (method, rest) = method(alloc, bytes, own, depth)?;
+    Ok((SigBody::Method(method), rest))
+}
+
+/// A property, behind its first byte, which has the bit 0x20 where it has a `this` (II.23.2.5).
+#[tactic(auto, unfolding(signature_values::specs::Columns::headed_at, signature_values::specs::Reading::both))]
+fn property(
+    alloc: Global,
+    bytes: &[u8],
+    this: bool,
+    depth: u8,
+) -> Result<(SigBody, &[u8]), SigError>
+    ensures { Gives (λ x. (body_of x.0, x.1.now)) result (change (property_from this) (headed_at (slot_at (core_at depth))) bytes.now) }
+{
+    let (count, rest) = number(bytes)?;
+    let (of, rest) = slot(alloc, rest, depth)?;
+    let (params, rest) = slots(alloc, rest, count, depth)?;
+    Ok((SigBody::Property(PropertySig { this, of, params }), rest))
+}
+
+/// The local variables of a method, behind their first byte (II.23.2.6).
+#[tactic(auto, unfolding(signature_values::specs::Reading::counted_at))]
+fn locals(alloc: Global, bytes: &[u8], depth: u8) -> Result<(SigBody, &[u8]), SigError>
+    ensures { Gives (λ x. (body_of x.0, x.1.now)) result (change sig.locals (counted_at (local_at (core_at depth))) bytes.now) }
+{
+    let (count, rest) = number(bytes)?;
+    let (all, rest) = variables(alloc, rest, count, depth)?;
+    Ok((SigBody::Locals(LocalsSig(all)), rest))
+}
+
+/// Type arguments, behind their first byte (II.23.2.15).
+#[tactic(auto, unfolding(signature_values::specs::Reading::counted_at))]
+fn arguments(alloc: Global, bytes: &[u8], depth: u8) -> Result<(SigBody, &[u8]), SigError>
+    ensures { Gives (λ x. (body_of x.0, x.1.now)) result (change sig.instance_body (counted_at (typed_at (core_at depth))) bytes.now) }
+{
+    let (count, rest) = number(bytes)?;
+    let (args, rest) = types(alloc, rest, count, depth)?;
+    Ok((SigBody::Instance(InstanceSig(args)), rest))
+}
+
+/// A type (II.23.2.14).
+#[tactic(auto, using(crate::proofs::Cores::fails_change))]
+fn type_spec(alloc: Global, bytes: &[u8], depth: u8) -> Result<(SigBody, &[u8]), SigError>
+    ensures { Gives (λ x. (body_of x.0, x.1.now)) result (change sig.type_spec (ret_at (core_at depth)) bytes.now) }
+{
+    let (ret, rest) = ret(alloc, bytes, depth)?;
+    Ok((SigBody::TypeSpec(ret), rest))
+}
+
+/// The signature at the front, in a column of a kind.
+#[tactic(auto, unfolding(signature_values::specs::Columns::body_at))]
+pub fn body(
+    alloc: Global,
+    bytes: &[u8],
+    kind: SigKind,
+    depth: u8,
+) -> Result<(SigBody, &[u8]), SigError>
+    ensures { Gives (λ x. (body_of x.0, x.1.now)) result (body_at kind (core_at depth) bytes.now) }
+{
+    match kind {
+        SigKind::Field => match byte(bytes)? {
+            (0x06, rest) => field(alloc, rest, depth),
+            _ => Err(SigError::Bad),
+        },
+        SigKind::MethodDef => method_body(alloc, bytes, false, depth),
+        SigKind::MemberRef => match byte(bytes)? {
+            (0x06, rest) => field(alloc, rest, depth),
+            _ => method_body(alloc, bytes, true, depth),
+        },
+        SigKind::StandAlone => match byte(bytes)? {
+            (0x06, rest) => field(alloc, rest, depth),
+            (0x07, rest) => locals(alloc, rest, depth),
+            _ => method_body(alloc, bytes, true, depth),
+        },
+        SigKind::Property => match byte(bytes)? {
+            (0x08, rest) => property(alloc, rest, false, depth),
+            (0x28, rest) => property(alloc, rest, true, depth),
+            _ => Err(SigError::Bad),
+        },
+        SigKind::TypeSpec => type_spec(alloc, bytes, depth),
+        SigKind::Instance => match byte(bytes)? {
+            (0x0A, rest) => arguments(alloc, rest, depth),
+            _ => Err(SigError::Bad),
+        },
+    }
+}

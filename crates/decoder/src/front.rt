@@ -1,0 +1,65 @@
+ghost use Rattle.std.specs.Prelude.{◌≡◌, ◌∷◌, [], MatchResult, IfOk};
+ghost use Rattle.signature_values.specs.Reading.{number_at, signed_at, token_of, index_at};
+ghost use Rattle.decoder.specs.declared.error.SigError.TheVariants.{Bad};
+ghost use Rattle.decoder.specs.Gives.{Gives};
+
+use crate::error::SigError;
+use packed::{read_signed, read_unsigned};
+use schema::{Coded, Token, split};
+use signature_values::indexes_are_read;
+use std::alloc::{AllocError, Global};
+
+/// The first byte, and those behind it.
+pub fn byte(bytes: &[u8]) -> Result<(u8, &[u8]), SigError>
+    ensures { MatchResult result (λ x. bytes.now ≡ x.0 ∷ x.1.now) (λ error. (error ≡ Bad) × (bytes.now ≡ [])) }
+{
+    let (byte, rest) = bytes.split_first().ok_or(SigError::Bad)?;
+    Ok((*byte, rest))
+}
+
+/// The packed number at the front.
+#[tactic(auto, unfolding(signature_values::specs::Reading::number_at))]
+pub fn number(bytes: &[u8]) -> Result<(u32, &[u8]), SigError>
+    ensures { Gives (λ x. (x.0, x.1.now)) result (number_at bytes.now) }
+{
+    let (number, count) = read_unsigned(bytes).ok_or(SigError::Bad)?;
+    let (_, rest) = bytes.split_at(count);
+    Ok((number, rest))
+}
+
+/// The packed signed number at the front.
+#[tactic(auto, unfolding(signature_values::specs::Reading::signed_at))]
+pub fn signed(bytes: &[u8]) -> Result<(i32, &[u8]), SigError>
+    ensures { Gives (λ x. (x.0, x.1.now)) result (signed_at bytes.now) }
+{
+    let (number, count) = read_signed(bytes).ok_or(SigError::Bad)?;
+    let (_, rest) = bytes.split_at(count);
+    Ok((number, rest))
+}
+
+/// The token that the number of a type index names.
+fn token(number: u32) -> Option<Token>
+    ensures { result ≡ token_of number }
+{
+    indexes_are_read();
+    let (table, row) = split(Coded::TypeDefOrRef, number)?;
+    Some(Token { table, row })
+}
+
+/// The type index at the front (II.23.2.8).
+#[tactic(auto, unfolding(signature_values::specs::Reading::index_at))]
+pub fn index(bytes: &[u8]) -> Result<(Token, &[u8]), SigError>
+    ensures { Gives (λ x. (x.0, x.1.now)) result (index_at bytes.now) }
+{
+    let (number, rest) = number(bytes)?;
+    let token = token(number).ok_or(SigError::Bad)?;
+    Ok((token, rest))
+}
+
+/// An empty list with room for so many values, each of which is spelled by a byte at least: more than
+/// there are bytes are never reserved, whatever a count says.
+pub fn with_room<T>(alloc: Global, bytes: &[u8], count: u32) -> Result<Vec<T>, AllocError>
+    ensures { IfOk result (λ all. all.items ≡ []) }
+{
+    Vec::with_capacity(alloc, bytes.len().min(count as usize))
+}

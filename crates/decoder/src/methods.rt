@@ -1,0 +1,120 @@
+ghost use Rattle.std.specs.Prelude.{◌≡◌, ◌&&◌, ◌/◌, ◌%◌, ◌==◌, true, if◌then◌else◌, drop, map};
+ghost use Rattle.signature_values.specs.Syntax as sig;
+ghost use Rattle.signature_values.specs.ElementTypes as code;
+ghost use Rattle.signature_values.specs.Views.{core_of, slot_of, method_of};
+ghost use Rattle.signature_values.specs.Reading.{change, core_at, head_is, params_at};
+ghost use Rattle.signature_values.specs.Reading.{is_method_code, takes_sentinel as kind_takes_sentinel, generic_at, method_at};
+ghost use Rattle.decoder.specs.Gives.{Gives};
+
+use crate::error::SigError;
+use crate::front::{byte, number, with_room};
+use crate::slots::{ret, slot};
+use recogniser::element_type::SENTINEL;
+use signature_values::{Core, MethodSig, Slot};
+use std::alloc::Global;
+
+/// Whether a byte begins a method: its low bits are a calling convention, and its highest is not set
+/// (II.23.2.1 to II.23.2.3).
+fn begins_method(code: u8) -> bool
+    ensures { result ≡ is_method_code code }
+{
+    code < 0x80 && matches!(code % 16, 0..=5 | 9)
+}
+
+/// Whether a method of that first byte has a SENTINEL where one may stand: C and vararg have, and only
+/// where it may be the method's own.
+fn takes_sentinel(code: u8, own: bool) -> bool
+    ensures { result ≡ (own && kind_takes_sentinel (code % 16)) }
+{
+    own && matches!(code % 16, 1 | 5)
+}
+
+/// How many generic parameters a method has, where its first byte has the bit 0x10 and the number
+/// stands there.
+#[tactic(auto, unfolding(signature_values::specs::Reading::generic_at))]
+fn generic(bytes: &[u8], code: u8) -> Result<(Option<u32>, &[u8]), SigError>
+    ensures { Gives (λ x. (x.0, x.1.now)) result (generic_at (code / 16 % 2 == 1) bytes.now) }
+{
+    if code / 16 % 2 == 0 {
+        return Ok((None, bytes));
+    }
+    let (count, rest) = number(bytes)?;
+    Ok((Some(count), rest))
+}
+
+/// Whether SENTINEL stands at the front, where it may stand, and what is behind it.
+fn sentinel(bytes: &[u8], allowed: bool) -> (bool, &[u8])
+    ensures marked { result.0 ≡ (allowed && head_is code.SENTINEL bytes.now) }
+    ensures behind { result.1.now ≡ (if result.0 then drop 1 bytes.now else bytes.now) }
+{
+    match bytes.split_first() {
+        Some((&SENTINEL, behind)) if allowed => (true, behind),
+        _ => (false, bytes),
+    }
+}
+
+/// So many parameters, and how many of them stand before SENTINEL, where one may and does stand.
+#[cycle(build)]
+fn params(
+    alloc: Global,
+    bytes: &[u8],
+    count: u32,
+    allowed: bool,
+    depth: u8,
+) -> Result<(Vec<Slot>, Option<u32>, &[u8]), SigError>
+    ensures { Gives (λ x. ((map slot_of x.0.items, x.1), x.2.now)) result (params_at (core_at depth) allowed count bytes.now) }
+{
+    let mut all = with_room(alloc, bytes, count)?;
+    let mut before = None;
+    let mut rest = bytes;
+    for done in 0..count {
+        let (marked, behind) = sentinel(rest, allowed && before.is_none());
+        let (one, next) = slot(alloc, behind, depth)?;
+        before = before.or(marked.then_some(done));
+        all.push(one)?;
+        rest = next;
+    }
+    Ok((all, before, rest))
+}
+
+/// A method, which may have a SENTINEL of its own or not (II.23.2.1 to II.23.2.3).
+#[cycle(build)]
+#[tactic(auto, using(crate::proofs::Cores::view_method), unfolding(signature_values::specs::Reading::method_at, signature_values::specs::Reading::method_from))]
+pub fn method(
+    alloc: Global,
+    bytes: &[u8],
+    own: bool,
+    depth: u8,
+) -> Result<(MethodSig, &[u8]), SigError>
+    ensures { Gives (λ x. (method_of x.0, x.1.now)) result (method_at own (core_at depth) bytes.now) }
+{
+    let (code, rest) = byte(bytes)?;
+    if !begins_method(code) {
+        return Err(SigError::Bad);
+    }
+    let (generic, rest) = generic(rest, code)?;
+    let (count, rest) = number(rest)?;
+    let (ret, rest) = ret(alloc, rest, depth)?;
+    let allowed = takes_sentinel(code, own);
+    let (params, sentinel, rest) = params(alloc, rest, count, allowed, depth)?;
+    let method = MethodSig {
+        kind: code % 16,
+        this: code / 32 % 2 == 1,
+        explicit: code / 64 % 2 == 1,
+        generic,
+        ret,
+        params,
+        sentinel,
+    };
+    Ok((method, rest))
+}
+
+/// A pointer to a method, behind FNPTR.
+#[cycle(build)]
+#[tactic(auto, using(crate::proofs::Cores::fails_change, crate::proofs::Cores::view_function))]
+pub fn function(alloc: Global, bytes: &[u8], depth: u8) -> Result<(Core, &[u8]), SigError>
+    ensures { Gives (λ x. (core_of x.0, x.1.now)) result (change sig.function (method_at true (core_at depth)) bytes.now) }
+{
+    let (method, rest) = method(alloc, bytes, true, depth)?;
+    Ok((Core::Function(Box::new(alloc, method)?), rest))
+}

@@ -1,0 +1,59 @@
+ghost use Rattle.std.specs.Prelude.{◌≡◌};
+ghost use Rattle.signature_values.specs.Views.{content_of, slot_of, ret_of};
+ghost use Rattle.signature_values.specs.Reading.{core_at, content_at, slot_at, ret_at};
+ghost use Rattle.decoder.specs.Gives.{Gives};
+
+use crate::error::SigError;
+use crate::front::byte;
+use crate::modifiers::modifiers;
+use crate::types::core;
+use recogniser::element_type::{BYREF, TYPEDBYREF, VOID};
+use signature_values::{Ret, Slot, SlotKind};
+use std::alloc::Global;
+
+/// What a parameter, a field or a local variable holds (II.23.2.10).
+#[cycle(build)]
+#[tactic(auto, using(crate::proofs::Cores::content_views), unfolding(signature_values::specs::Reading::content_at, signature_values::specs::Reading::both))]
+pub fn content(alloc: Global, bytes: &[u8], depth: u8) -> Result<(SlotKind, &[u8]), SigError>
+    ensures { Gives (λ x. (content_of x.0, x.1.now)) result (content_at (core_at depth) bytes.now) }
+{
+    let (code, behind) = byte(bytes)?;
+    match code {
+        TYPEDBYREF => Ok((SlotKind::TypedRef, behind)),
+        BYREF => {
+            let (mods, rest) = modifiers(alloc, behind)?;
+            let (core, rest) = core(alloc, rest, depth)?;
+            Ok((SlotKind::ByRef(mods, core), rest))
+        }
+        _ => {
+            let (core, rest) = core(alloc, bytes, depth)?;
+            Ok((SlotKind::Plain(core), rest))
+        }
+    }
+}
+
+/// A parameter or a field.
+#[cycle(build)]
+#[tactic(auto, using(crate::proofs::Cores::view_slot), unfolding(signature_values::specs::Reading::slot_at, signature_values::specs::Reading::both))]
+pub fn slot(alloc: Global, bytes: &[u8], depth: u8) -> Result<(Slot, &[u8]), SigError>
+    ensures { Gives (λ x. (slot_of x.0, x.1.now)) result (slot_at (core_at depth) bytes.now) }
+{
+    let (mods, rest) = modifiers(alloc, bytes)?;
+    let (kind, rest) = content(alloc, rest, depth)?;
+    Ok((Slot { mods, kind }, rest))
+}
+
+/// A result (II.23.2.11).
+#[cycle(build)]
+#[tactic(auto, using(crate::proofs::Cores::ret_views), unfolding(signature_values::specs::Reading::ret_at, signature_values::specs::Reading::both, signature_values::specs::Reading::void_or))]
+pub fn ret(alloc: Global, bytes: &[u8], depth: u8) -> Result<(Ret, &[u8]), SigError>
+    ensures { Gives (λ x. (ret_of x.0, x.1.now)) result (ret_at (core_at depth) bytes.now) }
+{
+    let (mods, rest) = modifiers(alloc, bytes)?;
+    let (code, behind) = byte(rest)?;
+    if code == VOID {
+        return Ok((Ret::Void(mods), behind));
+    }
+    let (kind, rest) = content(alloc, rest, depth)?;
+    Ok((Ret::Slot(Slot { mods, kind }), rest))
+}

@@ -1,0 +1,36 @@
+ghost use Rattle.std.specs.Prelude.{◌↔◌, IsTrue, false};
+ghost use Rattle.signature_values.specs.Limits.{HasOwnSentinel};
+ghost use Rattle.signature_values.specs.Spells.{Holds};
+ghost use Rattle.signature_values.specs.Views.{body_of, method_of};
+
+use schema::SigKind;
+use signature_values::{MethodSig, SigBody};
+
+/// Whether a method has no SENTINEL of its own (II.23.2.1).
+#[tactic(auto, using(copier::proofs::ViewLemmas::view_method))]
+fn has_no_sentinel(method: &MethodSig) -> bool
+    ensures { IsTrue result ↔ HasOwnSentinel false (method_of method.now) }
+{
+    method.sentinel.is_none()
+}
+
+/// Whether a column of a kind holds a signature (II.22).
+pub fn holds(kind: SigKind, body: &SigBody) -> bool
+    ensures { IsTrue result ↔ Holds kind (body_of body.now) }
+{
+    match kind {
+        SigKind::Field => matches!(body, SigBody::Field(_)),
+        SigKind::MethodDef => match body {
+            SigBody::Method(method) => has_no_sentinel(method),
+            _ => false,
+        },
+        SigKind::MemberRef => matches!(body, SigBody::Field(_) | SigBody::Method(_)),
+        SigKind::StandAlone => matches!(
+            body,
+            SigBody::Locals(_) | SigBody::Method(_) | SigBody::Field(_)
+        ),
+        SigKind::Property => matches!(body, SigBody::Property(_)),
+        SigKind::TypeSpec => matches!(body, SigBody::TypeSpec(_)),
+        SigKind::Instance => matches!(body, SigBody::Instance(_)),
+    }
+}

@@ -1,0 +1,26 @@
+ghost use Rattle.std.specs.Prelude.{◌≡◌, ◌↔◌, IsTrue};
+ghost use Rattle.schema.specs.declared.column.SigKind.{SigKind};
+ghost use Rattle.signature_values.specs.Syntax.{Body};
+ghost use Rattle.signature_values.specs.Spells.{Holds, Spells, IsSpellable, short};
+
+use crate::signature::Signature;
+use signature_values::{shortest_spells, signatures_are_read};
+
+/// What [`encode`](crate::encode) writes is decoded as the signature that it was written of: in each
+/// kind of column that holds the signature, the shortest spelling spells it and no other.
+pub fn encoded_is_decoded()
+    ensures spelled { (kind : SigKind) (signature : Body) → Holds kind signature → IsSpellable signature
+        → Spells kind signature (short signature) }
+    ensures one { (kind : SigKind) (signature other : Body) → Holds kind signature → IsSpellable signature
+        → Spells kind other (short signature) → other ≡ signature }
+{
+    shortest_spells();
+    signatures_are_read();
+}
+
+/// `==` tells of all signatures whether they are equal: whether they say the same.
+pub fn equality_is_tested()
+    ensures { (first second : Body) → IsTrue (⟦<Signature as PartialEq>⟧.eq first second) ↔ (first ≡ second) }
+{
+    copier::equality_is_tested();
+}

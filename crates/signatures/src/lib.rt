@@ -1,0 +1,30 @@
+//! Signatures (ECMA-335 II.23.2): values that some bytes spell, read from bytes and written to them.
+//!
+//! A [`Signature`] holds a [`SigBody`] that has a spelling, and nothing else makes one: [`Signature::new`]
+//! tests a body, and [`decode`] builds it from the bytes of a blob. [`encode`] writes its shortest
+//! spelling, which fails for want of memory alone; what it writes is decoded as the same signature.
+//! [`recognise`] and [`index_of_first_bad`] go over bytes without memory. A clause sees a signature as
+//! what it says, so `==` compares that, and not where it lies in memory.
+//!
+//! ```text
+//! let field = decode(alloc, &[0x06, 0x08], SigKind::Field)?; // a field of a 4-byte integer
+//! encode(alloc, &field)? == [0x06, 0x08]
+//! ```
+#![tactic(auto)]
+
+mod columns;
+mod laws;
+mod signature;
+
+pub use decoder::SigError;
+pub use laws::{encoded_is_decoded, equality_is_tested};
+pub use recogniser::{first_index_without_row, index_of_first_bad, recognise};
+pub use schema::{SigKind, Token};
+pub use signature::{Signature, decode, encode};
+pub use signature_values::{
+    Core, Element, FieldSig, InstanceSig, Local, LocalsSig, MethodSig, Modifier, Prefix,
+    PropertySig, Ret, Shape, SigBody, Slot, SlotKind, TypeSig,
+};
+
+#[cfg(test)]
+mod tests;
