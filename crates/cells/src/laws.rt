@@ -1,0 +1,11 @@
+ghost use Rattle.std.specs.Prelude.{◌≡◌, ◌↔◌, IsTrue};
+ghost use Rattle.cells.specs.declared.cell.Cell.{Cell as TheCell};
+
+use crate::cell::Cell;
+
+/// `==` tells of all cells whether they are equal: whether they say the same.
+pub fn equality_is_tested()
+    ensures { (first second : TheCell) → IsTrue (⟦<Cell as PartialEq>⟧.eq first second) ↔ (first ≡ second) }
+{
+    signatures::equality_is_tested();
+}

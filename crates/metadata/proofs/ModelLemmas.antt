@@ -1,0 +1,228 @@
+-- A root has a model exactly where what is demanded of it holds, and one at most.
+use Rattle.std.proofs.Common.{◌≡◌, ℕ, ◌+◌, ◌-◌, ◌^◌, ◌<◌, ◌≤◌, List, [], ◌++◌, length, drop, slice_index, slice_index_or, Option, Some, None, unwrap_or, refl, sym, ◌∙◌, ap, subst, arith, inl, inr}
+use Rattle.std.specs.Option.{option_map}
+use Rattle.std.proofs.lemmas.Bool.{cases_lt}
+use Rattle.std.proofs.lemmas.List.{get_or-take, get_or-drop, get_or_past, length-take}
+use Rattle.packed.specs.Demand.{AllHold, raised}
+use Rattle.packed.specs.Places.{part}
+use Rattle.packed.proofs.DemandLemmas.{all_append, all_front, all_back, all_raised, all_lowered}
+use Rattle.root.specs.declared.kind.Kind.{Kind}
+use Rattle.root.specs.declared.kind.Kind.TheVariants.{Tables, UserStrings}
+use Rattle.root.specs.Streams.{Header, Directory, named, stream_name}
+use Rattle.root.specs.Directory.{directory_of}
+use Rattle.root.specs.Root.{IsRoot}
+use Rattle.root.specs.Demands.{demands_of_root}
+use Rattle.heaps.specs.Fill.{filled}
+use Rattle.schema.specs.declared.table.TableId.{TableId}
+use Rattle.schema.specs.declared.table.TableId.TheVariants.{Module}
+use Rattle.schema.specs.Tables.{position_of, tables}
+use Rattle.schema.specs.Sizes.{Sizes}
+use Rattle.schema.specs.Header.{sizes_of}
+use Rattle.schema.specs.LaidOut.{IsLaidOut, IsTableStream}
+use Rattle.schema.specs.Cells.{numbers_at}
+use Rattle.schema.specs.Demands.{demands_of_stream}
+use Rattle.cells.specs.declared.cell.Cell.{Cell}
+use Rattle.cells.specs.declared.cell.Cell.TheVariants.{Number}
+use Rattle.metadata.specs.Metadata.{Metadata, rows_of}
+use Rattle.metadata.specs.Source.{Source, rows_in}
+use Rattle.metadata.specs.Streams.{stream_in, source_in}
+use Rattle.metadata.specs.Rows.{cell_count, IsCell, IsRow, IsTable, IsTableAt, AreTables, table_at}
+use Rattle.metadata.specs.Rules.{AreByKey, AreOwned, AreNested}
+use Rattle.metadata.specs.Model.{IsModel}
+use Rattle.metadata.specs.Placed.{Placed, tables_in, tables_place, source_of, placed_at}
+use Rattle.metadata.specs.Demands.{demands_of_cells, demands_of_order, demands_of_runs, demands_of_nesting, demands_of_signatures, demands_of_tables, demands_of_metadata}
+use Rattle.metadata.proofs.ItemLemmas.{items_length, item_at}
+use Rattle.metadata.proofs.StandsLemmas.{AreOne}
+use Rattle.metadata.proofs.TableLemmas.{tables_found, cells_met, signatures_met, tables_one}
+use Rattle.metadata.proofs.RuleLemmas.{order_found, order_met, runs_found, runs_met, nesting_found, nesting_met}
+
+-- what is known of roots and table streams
+pub record AreRead : Type 0 where
+  pub root_demanded : (root version : List ℕ) (headers : List Header) → length root ≤ 2 ^ 30 → IsRoot root version headers → AllHold (demands_of_root root)
+  pub root_said : (root version : List ℕ) (headers : List Header) → length root ≤ 2 ^ 30 → IsRoot root version headers
+      → directory_of root ≡ record { bytes = root; version = version; headers = headers }
+  pub root_found : (root : List ℕ) → AllHold (demands_of_root root)
+      → (length root ≤ 2 ^ 30) × IsRoot root (directory_of root).version (directory_of root).headers
+  pub stream_demanded : (stream : List ℕ) (sizes : Sizes) (numbers : List (List (List ℕ))) → IsLaidOut stream sizes numbers → AllHold (demands_of_stream stream)
+  pub stream_said : (stream : List ℕ) (sizes : Sizes) (numbers : List (List (List ℕ))) → IsLaidOut stream sizes numbers → sizes ≡ sizes_of stream
+  pub stream_found : (stream : List ℕ) → ((k : ℕ) → slice_index stream k < 2 ^ 8) → AllHold (demands_of_stream stream) → IsTableStream stream (sizes_of stream)
+  pub numbers_are : (stream : List ℕ) (sizes : Sizes) (numbers : List (List (List ℕ))) → IsLaidOut stream sizes numbers → numbers ≡ numbers_at stream sizes
+
+-- ---- the tables of a root
+
+pub demands_met : (here : Placed) (all : List (List (List Cell))) → AreTables here.source all → AreByKey here.source → AreOwned here.source
+    → AreNested here.source
+    → AllHold (demands_of_tables here)
+unfolding demands_of_tables
+demands_met here all cells ordered owned nested =
+    let order = demands_of_order here in
+    let runs = demands_of_runs here in
+    let nesting = demands_of_nesting here in
+    let signatures = demands_of_signatures here in
+    all_append (demands_of_cells here) (order ++ (runs ++ (nesting ++ signatures))) (cells_met here all cells)
+    (all_append order (runs ++ (nesting ++ signatures)) (order_met here ordered)
+    (all_append runs (nesting ++ signatures) (runs_met here owned)
+    (all_append nesting signatures (nesting_met here nested) (signatures_met here all cells))))
+
+-- all that is asked of a source
+pub record Fits (source : Source) : Type 0 where
+  pub all : List (List (List Cell))
+  pub cells : AreTables source all
+  pub ordered : AreByKey source
+  pub owned : AreOwned source
+  pub nested : AreNested source
+
+pub demands_found : (here : Placed) → AllHold (demands_of_tables here) → Fits here.source
+unfolding demands_of_tables
+demands_found here holds =
+    let order = demands_of_order here in
+    let runs = demands_of_runs here in
+    let nesting = demands_of_nesting here in
+    let signatures = demands_of_signatures here in
+    let behind = all_back (demands_of_cells here) (order ++ (runs ++ (nesting ++ signatures))) holds in
+    let more = all_back order (runs ++ (nesting ++ signatures)) behind in
+    let last = all_back runs (nesting ++ signatures) more in
+    let cells = tables_found here (all_front (demands_of_cells here) (order ++ (runs ++ (nesting ++ signatures))) holds) (all_back nesting signatures last) in
+    record {
+      all = cells.0;
+      cells = cells.1;
+      ordered = order_found here (all_front order (runs ++ (nesting ++ signatures)) behind);
+      owned = runs_found here (all_front runs (nesting ++ signatures) more);
+      nested = nesting_found here (all_front nesting signatures last);
+    }
+
+-- ---- what a model is read from
+
+module _ (read : AreRead) (root : List ℕ) (model : Metadata) (is : IsModel root model) where
+  headers_same : is.headers ≡ (directory_of root).headers
+  headers_same = ap (λ (d : Directory). d.headers) (sym (read.root_said root model.version is.headers is.small is.is_root))
+
+  pub version_read : model.version ≡ (directory_of root).version
+  version_read = ap (λ (d : Directory). d.version) (sym (read.root_said root model.version is.headers is.small is.is_root))
+
+  pub user_read : model.user ≡ filled (stream_in root (directory_of root).headers UserStrings)
+  user_read = is.user ∙ ap (λ (h : List Header). filled (stream_in root h UserStrings)) headers_same
+
+  source_read : source_in root is.headers is.sizes is.numbers ≡ source_of root
+  source_read =
+      let stream = stream_in root is.headers Tables in
+      let said = λ (h : List Header). stream_in root h Tables in
+      ap (λ (n : List (List (List ℕ))). source_in root is.headers is.sizes n) (read.numbers_are stream is.sizes is.numbers is.laid_out)
+      ∙ ap (λ (s : Sizes). source_in root is.headers s (numbers_at stream s)) (read.stream_said stream is.sizes is.numbers is.laid_out)
+      ∙ ap (λ (h : List Header). source_in root h (sizes_of (said h)) (numbers_at (said h) (sizes_of (said h)))) headers_same
+
+  pub stream_read : IsTableStream (tables_in root) (source_of root).sizes
+  stream_read =
+      let stream = stream_in root is.headers Tables in
+      let said = subst (λ (s : Sizes). IsLaidOut stream s is.numbers) (read.stream_said stream is.sizes is.numbers is.laid_out) is.laid_out in
+      (is.numbers, subst (λ (h : List Header). IsLaidOut (stream_in root h Tables) (sizes_of (stream_in root h Tables)) is.numbers) headers_same said)
+
+  pub cells_read : AreTables (source_of root) model.tables
+  cells_read = subst (λ (s : Source). AreTables s model.tables) source_read is.cells
+
+  pub ordered_read : AreByKey (source_of root)
+  ordered_read = subst AreByKey source_read is.ordered
+
+  pub owned_read : AreOwned (source_of root)
+  owned_read = subst AreOwned source_read is.owned
+
+  pub nested_read : AreNested (source_of root)
+  nested_read = subst AreNested source_read is.nested
+
+  pub model_met : (place : ℕ) → AllHold (demands_of_metadata place root)
+  unfolding demands_of_metadata
+  model_met place =
+      let header = raised place (demands_of_root root) in
+      let stream = raised (place + tables_place root) (demands_of_stream (tables_in root)) in
+      let inside = demands_of_tables (placed_at place root) in
+      let laid = stream_read in
+      all_append header (stream ++ inside) (all_raised place (demands_of_root root) (read.root_demanded root model.version is.headers is.small is.is_root))
+      (all_append stream inside
+      (all_raised (place + tables_place root) (demands_of_stream (tables_in root)) (read.stream_demanded (tables_in root) (source_of root).sizes laid.0 laid.1))
+      (demands_met (placed_at place root) model.tables cells_read ordered_read owned_read nested_read))
+
+  -- the rows of a table
+  pub table_read : ((table : TableId) → position_of table < 38) → ((table : TableId) → slice_index_or tables (position_of table) Module ≡ table)
+      → (table : TableId)
+      → IsTable (source_of root) table (rows_of model table)
+  unfolding IsTableAt
+  table_read below stand table =
+      let rows = item_at (IsTableAt (source_of root)) 0 38 model.tables cells_read (position_of table) [] (below table) in
+      let here : 0 + position_of table ≡ position_of table = omega arith in
+      subst (λ (t : TableId). IsTable (source_of root) t (rows_of model table)) (ap table_at here ∙ stand table) rows
+
+pub rows_count : (source : Source) (table : TableId) (rows : List (List Cell)) → IsTable source table rows → length rows ≡ rows_in source table
+unfolding IsTable
+rows_count source table rows is = items_length (IsRow source table) 1 (rows_in source table) rows is
+
+pub rows_cell : (source : Source) (table : TableId) (rows : List (List Cell)) → IsTable source table rows → (row place : ℕ) → 1 ≤ row
+    → row ≤ rows_in source table → place < cell_count table
+    → IsCell source table row place (slice_index_or (slice_index_or rows (row - 1) []) place (Number 0))
+unfolding IsTable IsRow
+rows_cell source table rows is row place first last within =
+    let cells = slice_index_or rows (row - 1) [] in
+    let there : 1 + (row - 1) ≡ row = omega arith in
+    let here : 0 + place ≡ place = omega arith in
+    let row_stands = item_at (IsRow source table) 1 (rows_in source table) rows is (row - 1) [] (omega arith) in
+    let row_is = subst (λ (r : ℕ). IsRow source table r cells) there row_stands in
+    let cell_stands = item_at (IsCell source table row) 0 (cell_count table) cells row_is place (Number 0) within in
+    subst (λ (p : ℕ). IsCell source table row p (slice_index_or cells place (Number 0))) here cell_stands
+
+-- ---- bytes
+
+pub part_bytes : (bytes : List ℕ) (place count : ℕ) → ((k : ℕ) → slice_index bytes k < 2 ^ 8) → (k : ℕ) → slice_index (part bytes place count) k < 2 ^ 8
+part_bytes bytes place count each k =
+    elim (cases_lt k count) [
+      | inl below ↦ let here = each (place + k) in rw (get_or-take count (drop place bytes) k 0 below, get_or-drop place bytes k 0) here
+      | inr past ↦ rw (get_or_past (part bytes place count) k 0 (omega (arith, length-take count (drop place bytes)))) (omega arith)
+    ]
+
+option_bytes : (bytes : List ℕ) → ((k : ℕ) → slice_index bytes k < 2 ^ 8) → (header : Option Header) (k : ℕ)
+    → slice_index (unwrap_or (option_map (λ (h : Header). part bytes h.offset h.size) header) []) k < 2 ^ 8
+option_bytes bytes each None k = omega arith
+option_bytes bytes each (Some header) k = part_bytes bytes header.offset header.size each k
+
+pub stream_bytes : (root : List ℕ) (headers : List Header) (kind : Kind) → ((k : ℕ) → slice_index root k < 2 ^ 8) → (k : ℕ)
+    → slice_index (stream_in root headers kind) k < 2 ^ 8
+stream_bytes root headers kind each k = option_bytes root each (named (stream_name kind) headers) k
+
+-- ---- the whole
+
+pub model_found : AreRead → (place : ℕ) (root : List ℕ) → ((k : ℕ) → slice_index root k < 2 ^ 8) → AllHold (demands_of_metadata place root)
+    → (model : Metadata) × IsModel root model
+unfolding demands_of_metadata
+model_found read place root each holds =
+    let header = raised place (demands_of_root root) in
+    let stream = raised (place + tables_place root) (demands_of_stream (tables_in root)) in
+    let inside = demands_of_tables (placed_at place root) in
+    let headers = (directory_of root).headers in
+    let is = read.root_found root (all_lowered place (demands_of_root root) (all_front header (stream ++ inside) holds)) in
+    let rest = all_back header (stream ++ inside) holds in
+    let stream_holds = all_lowered (place + tables_place root) (demands_of_stream (tables_in root)) (all_front stream inside rest) in
+    let laid = read.stream_found (tables_in root) (stream_bytes root headers Tables each) stream_holds in
+    let sizes = sizes_of (tables_in root) in
+    let fits = demands_found (placed_at place root) (all_back stream inside rest) in (
+      record { version = (directory_of root).version; user = filled (stream_in root headers UserStrings); tables = fits.all },
+      record {
+        small = is.0;
+        headers = headers;
+        is_root = is.1;
+        sizes = sizes;
+        numbers = numbers_at (tables_in root) sizes;
+        laid_out = subst (λ (n : List (List (List ℕ))). IsLaidOut (tables_in root) sizes n) (read.numbers_are (tables_in root) sizes laid.0 laid.1) laid.1;
+        cells = fits.cells;
+        ordered = fits.ordered;
+        owned = fits.owned;
+        nested = fits.nested;
+        user = refl;
+      },
+    )
+
+pub model_one : AreRead → AreOne → (root : List ℕ) (model other : Metadata) → IsModel root model → IsModel root other → model ≡ other
+model_one read one root model other is also =
+    let versions = version_read read root model is ∙ sym (version_read read root other also) in
+    let users = user_read read root model is ∙ sym (user_read read root other also) in
+    let same = tables_one one (source_of root) model.tables other.tables (cells_read read root model is) (cells_read read root other also) in
+    ap (λ (v : List ℕ). let m : Metadata = record { version = v; user = model.user; tables = model.tables } in m) versions
+    ∙ ap (λ (u : List ℕ). let m : Metadata = record { version = other.version; user = u; tables = model.tables } in m) users
+    ∙ ap (λ (t : List (List (List Cell))). let m : Metadata = record { version = other.version; user = other.user; tables = t } in m) same

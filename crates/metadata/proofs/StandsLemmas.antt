@@ -1,0 +1,153 @@
+-- A number stands for a cell exactly where what is demanded of it holds, and for one at most.
+use Rattle.std.proofs.Common.{◌≡◌, ℕ, ◌^◌, ◌≤◌, length, Bool, true, false, List, Option, Some, None, refl, sym, ◌∙◌, ap, subst, arith, inl, inr}
+use Rattle.std.specs.List.{slice_get}
+use Rattle.std.proofs.lemmas.Nat.{same_from_place}
+use Rattle.std.proofs.lemmas.Option.{slice_get_within}
+use Rattle.packed.specs.Demand.{AllHold}
+use Rattle.schema.specs.declared.table.TableId.{TableId}
+use Rattle.schema.specs.declared.token.Token.{Token}
+use Rattle.schema.specs.declared.coded.Coded.{Coded}
+use Rattle.schema.specs.declared.column.SigKind.{SigKind}
+use Rattle.schema.specs.declared.column.ColumnKind.{ColumnKind}
+use Rattle.schema.specs.declared.column.ColumnKind.TheVariants as kind
+use Rattle.schema.specs.CodedIndexes.{tables_of, tag_bits, IsCoded}
+use Rattle.heaps.specs.Entries.{IsText, IsBlob, IsGuid}
+use Rattle.heaps.specs.Demands.{demands_of_text}
+use Rattle.signature_values.specs.Syntax.{Body}
+use Rattle.signature_values.specs.Spells.{Spells}
+use Rattle.cells.specs.declared.cell.Cell.{Cell}
+use Rattle.cells.specs.declared.cell.Cell.TheVariants.{Number, Text, Bytes, Guid, Ref, Start, Sig}
+use Rattle.metadata.specs.Source.{Source}
+use Rattle.metadata.specs.Stands.{Refers, StandsFor}
+use Rattle.metadata.specs.Rows.{is_padding}
+use Rattle.metadata.specs.Demands.{MayRefer, demands_of_number, demands_of_spelling}
+
+-- references
+
+refers_found : (source : Source) (nullable : Bool) (token : Token) → MayRefer source nullable token → (cell : Cell) × Refers source nullable token cell
+refers_found source nullable token (inl null) = (Ref None, inl (null.0, null.1, refl))
+refers_found source nullable token (inr there) = (Ref (Some token), inr (there, refl))
+
+refers_met : (source : Source) (nullable : Bool) (token : Token) (cell : Cell) → Refers source nullable token cell → MayRefer source nullable token
+refers_met source nullable token cell (inl null) = inl (null.0, null.1)
+refers_met source nullable token cell (inr there) = inr there.0
+
+refers_one : (source : Source) (nullable : Bool) (token : Token) (x y : Cell) → Refers source nullable token x → Refers source nullable token y → x ≡ y
+refers_one source nullable token x y (inl a) (inl b) = a.2 ∙ sym b.2
+refers_one source nullable token x y (inl a) (inr b) = absurd (omega (arith, a.0, b.0.0))
+refers_one source nullable token x y (inr a) (inl b) = absurd (omega (arith, a.0.0, b.0))
+refers_one source nullable token x y (inr a) (inr b) = a.1 ∙ sym b.1
+
+same_token : (a b : Token) → a.table ≡ b.table → a.row ≡ b.row → a ≡ b
+same_token a b tables rows =
+    ap (λ (t : TableId). let x : Token = record { table = t; row = a.row } in x) tables
+    ∙ ap (λ (n : ℕ). let x : Token = record { table = b.table; row = n } in x) rows
+
+-- texts
+
+text_met : (heap : List ℕ) (index place : ℕ) (text : List ℕ) → IsText heap index text → AllHold (demands_of_text heap index place)
+text_met heap index place text (inl none) = (inl none.0, ((text, inl none), tt))
+text_met heap index place text (inr some) = (inr (text, some.1), ((text, inr some), tt))
+
+-- numbers
+
+pub stands_found : (source : Source) (kind : ColumnKind) (nullable : Bool) (start : TableId → ℕ) (number place other : ℕ) → is_padding kind ≡ false
+    → AllHold (demands_of_number source kind nullable number place) → AllHold (demands_of_spelling source kind number other)
+    → (cell : Cell) × StandsFor source kind nullable start number cell
+stands_found source kind.U8 nullable start number place other cell all spelled = (Number number, refl)
+stands_found source kind.U16 nullable start number place other cell all spelled = (Number number, refl)
+stands_found source kind.U32 nullable start number place other cell all spelled = (Number number, refl)
+stands_found source kind.Padding nullable start number place other cell all spelled = absurd cc
+stands_found source kind.Text nullable start number place other cell all spelled = let text = all.1.0 in (Text text.0, (text.0, text.1, refl))
+stands_found source kind.Guid nullable start number place other cell all spelled = let guid = all.0 in (Guid guid.0, (guid.0, guid.1, refl))
+stands_found source kind.Blob nullable start number place other cell all spelled = let blob = all.0 in (Bytes blob.0, (blob.0, blob.1, refl))
+stands_found source (kind.Signature column) nullable start number place other cell all spelled =
+    let has = spelled.1.0 in (Sig has.1, (has.0, has.1, has.2, has.3, has.4, refl))
+stands_found source (kind.Row table) nullable start number place other cell all spelled =
+    refers_found source nullable (record { table = table; row = number }) all.0
+stands_found source (kind.Coded coded) nullable start number place other cell all spelled =
+    let some = all.1.0 in
+    let found = refers_found source nullable some.0 some.2 in
+    (found.0, (some.0, some.1, found.1))
+stands_found source (kind.List member) nullable start number place other cell all spelled = (Start (start member), (all.0, refl))
+
+pub number_met : (source : Source) (kind : ColumnKind) (nullable : Bool) (start : TableId → ℕ) (number place : ℕ) (cell : Cell)
+    → StandsFor source kind nullable start number cell → AllHold (demands_of_number source kind nullable number place)
+number_met source kind.U8 nullable start number place cell is = tt
+number_met source kind.U16 nullable start number place cell is = tt
+number_met source kind.U32 nullable start number place cell is = tt
+number_met source kind.Padding nullable start number place cell is = tt
+number_met source kind.Text nullable start number place cell is = text_met source.texts number place is.0 is.1
+number_met source kind.Guid nullable start number place cell is = ((is.0, is.1), tt)
+number_met source kind.Blob nullable start number place cell is = ((is.0, is.1), tt)
+number_met source (kind.Signature column) nullable start number place cell is = ((is.0, is.2), tt)
+number_met source (kind.Row table) nullable start number place cell is = (refers_met source nullable (record { table = table; row = number }) cell is, tt)
+number_met source (kind.Coded coded) nullable start number place cell is = ((is.0, is.1), ((is.0, is.1, refers_met source nullable is.0 cell is.2), tt))
+number_met source (kind.List member) nullable start number place cell is = (is.0, tt)
+
+pub spelling_met : (source : Source) (kind : ColumnKind) (nullable : Bool) (start : TableId → ℕ) (number place : ℕ) (cell : Cell)
+    → StandsFor source kind nullable start number cell → AllHold (demands_of_spelling source kind number place)
+spelling_met source kind.U8 nullable start number place cell is = tt
+spelling_met source kind.U16 nullable start number place cell is = tt
+spelling_met source kind.U32 nullable start number place cell is = tt
+spelling_met source kind.Padding nullable start number place cell is = tt
+spelling_met source kind.Text nullable start number place cell is = tt
+spelling_met source kind.Guid nullable start number place cell is = tt
+spelling_met source kind.Blob nullable start number place cell is = tt
+spelling_met source (kind.Signature column) nullable start number place cell is =
+    ((is.0, is.1, is.2, is.3, tt), ((is.0, is.1, is.2, is.3, is.4), tt))
+spelling_met source (kind.Row table) nullable start number place cell is = tt
+spelling_met source (kind.Coded coded) nullable start number place cell is = tt
+spelling_met source (kind.List member) nullable start number place cell is = tt
+
+-- padding has no demands
+pub padding_met : (source : Source) (kind : ColumnKind) (nullable : Bool) (number place other : ℕ) → is_padding kind ≡ true
+    → AllHold (demands_of_number source kind nullable number place) × AllHold (demands_of_spelling source kind number other)
+padding_met source kind.U8 nullable number place other padding = absurd cc
+padding_met source kind.U16 nullable number place other padding = absurd cc
+padding_met source kind.U32 nullable number place other padding = absurd cc
+padding_met source kind.Padding nullable number place other padding = (tt, tt)
+padding_met source kind.Text nullable number place other padding = absurd cc
+padding_met source kind.Guid nullable number place other padding = absurd cc
+padding_met source kind.Blob nullable number place other padding = absurd cc
+padding_met source (kind.Signature column) nullable number place other padding = absurd cc
+padding_met source (kind.Row table) nullable number place other padding = absurd cc
+padding_met source (kind.Coded coded) nullable number place other padding = absurd cc
+padding_met source (kind.List member) nullable number place other padding = absurd cc
+
+-- what is known of entries, tags and signatures
+pub record AreOne : Type 0 where
+  pub text : (heap : List ℕ) (index : ℕ) (text other : List ℕ) → IsText heap index text → IsText heap index other → text ≡ other
+  pub blob : (heap : List ℕ) (index : ℕ) (blob other : List ℕ) → IsBlob heap index blob → IsBlob heap index other → blob ≡ other
+  pub guid : (heap : List ℕ) (index : ℕ) (guid other : Option (List ℕ)) → IsGuid heap index guid → IsGuid heap index other → guid ≡ other
+  pub few_tags : (coded : Coded) → length (tables_of coded) ≤ 2 ^ tag_bits coded
+  pub signature : (kind : SigKind) (first second : Body) (bytes : List ℕ) → Spells kind first bytes → Spells kind second bytes → first ≡ second
+
+-- a number of a coded index names one row
+token_one : (coded : Coded) (number : ℕ) (a b : Token) → length (tables_of coded) ≤ 2 ^ tag_bits coded
+    → IsCoded coded number a.table a.row → IsCoded coded number b.table b.row → a ≡ b
+token_one coded number a b few x y =
+    let first = slice_get_within (tables_of coded) x.tag (Some a.table) x.listed in
+    let second = slice_get_within (tables_of coded) y.tag (Some b.table) y.listed in
+    let same = same_from_place a.row x.tag b.row y.tag (2 ^ tag_bits coded) (omega arith) (omega arith) (sym x.equal ∙ y.equal) in
+    let tables : Some (Some a.table) ≡ Some (Some b.table) = sym x.listed ∙ ap (slice_get (tables_of coded)) same.1 ∙ y.listed in
+    let named : a.table ≡ b.table = cc in
+    same_token a b named same.0
+
+pub stands_one : AreOne → (source : Source) (kind : ColumnKind) (nullable : Bool) (start : TableId → ℕ) (number : ℕ) (x y : Cell)
+    → StandsFor source kind nullable start number x → StandsFor source kind nullable start number y → x ≡ y
+stands_one one source kind.U8 nullable start number x y a b = a ∙ sym b
+stands_one one source kind.U16 nullable start number x y a b = a ∙ sym b
+stands_one one source kind.U32 nullable start number x y a b = a ∙ sym b
+stands_one one source kind.Padding nullable start number x y a b = absurd a
+stands_one one source kind.Text nullable start number x y a b = a.2 ∙ ap Text (one.text source.texts number a.0 b.0 a.1 b.1) ∙ sym b.2
+stands_one one source kind.Guid nullable start number x y a b = a.2 ∙ ap Guid (one.guid source.guids number a.0 b.0 a.1 b.1) ∙ sym b.2
+stands_one one source kind.Blob nullable start number x y a b = a.2 ∙ ap Bytes (one.blob source.blobs number a.0 b.0 a.1 b.1) ∙ sym b.2
+stands_one one source (kind.Signature column) nullable start number x y a b =
+    let blob = one.blob source.blobs number a.0 b.0 a.2 b.2 in
+    a.5 ∙ ap Sig (one.signature column a.1 b.1 b.0 (subst (Spells column a.1) blob a.3) b.3) ∙ sym b.5
+stands_one one source (kind.Row table) nullable start number x y a b = refers_one source nullable (record { table = table; row = number }) x y a b
+stands_one one source (kind.Coded coded) nullable start number x y a b =
+    let named = token_one coded number a.0 b.0 (one.few_tags coded) a.1 b.1 in
+    refers_one source nullable b.0 x y (subst (λ (t : Token). Refers source nullable t x) named a.2) b.2
+stands_one one source (kind.List member) nullable start number x y a b = a.1 ∙ sym b.1

@@ -1,0 +1,151 @@
+-- The rows of all tables are there exactly where what is demanded of cells and signatures holds, and once at most.
+use Rattle.std.proofs.Common.{◌≡◌, ℕ, ◌+◌, ◌<◌, ◌≤◌, true, false, List, length, subst, arith, inl, inr}
+use Rattle.std.proofs.lemmas.Bool.{cases_Bool}
+use Rattle.packed.specs.Demand.{AllHold}
+use Rattle.packed.proofs.DemandLemmas.{each_holds, all_of_each}
+use Rattle.schema.specs.declared.table.TableId.{TableId}
+use Rattle.schema.specs.Columns.{columns_of, column_at}
+use Rattle.cells.specs.declared.cell.Cell.{Cell}
+use Rattle.metadata.specs.Source.{Source, rows_in, number_of}
+use Rattle.metadata.specs.Starts.{start_of}
+use Rattle.metadata.specs.Placed.{Placed, cell_place}
+use Rattle.metadata.specs.Rows.{is_padding, cell_count, column_of, StandsIn, IsCell, IsRow, IsTable, IsTableAt, AreTables, table_at}
+use Rattle.metadata.specs.Demands.{demands_of_cell, demands_of_row, demands_of_table, demands_of_table_at, demands_of_cells, demands_of_signature, demands_of_signatures_in, demands_of_signatures_of, demands_of_signatures_at, demands_of_signatures}
+use Rattle.metadata.proofs.ItemLemmas.{item_of, items_of, items_one}
+use Rattle.metadata.proofs.ColumnLemmas.{cell_column, column_cell}
+use Rattle.metadata.proofs.StandsLemmas.{AreOne, stands_found, number_met, spelling_met, padding_met, stands_one}
+
+-- cells
+
+-- what is demanded of a cell, of its number and of what that spells
+abbrev CellHolds : Placed → TableId → ℕ → ℕ → Type 0
+CellHolds here table row column = AllHold (demands_of_cell here table row column) × AllHold (demands_of_signature here table row column)
+
+cell_found : (here : Placed) (table : TableId) (row column : ℕ) → is_padding (column_at table column).kind ≡ false → CellHolds here table row column
+    → (cell : Cell) × StandsIn here.source table row column cell
+unfolding demands_of_cell demands_of_signature
+cell_found here table row column shown holds =
+    let kind = (column_at table column).kind in
+    let nullable = (column_at table column).nullable in
+    let start = start_of here.source table row column in
+    let number = number_of here.source table row column in
+    let place = cell_place here table row column in
+    stands_found here.source kind nullable start number place place shown holds.0 holds.1
+
+cell_met : (here : Placed) (table : TableId) (row column : ℕ) (cell : Cell) → StandsIn here.source table row column cell → CellHolds here table row column
+unfolding demands_of_cell demands_of_signature
+cell_met here table row column cell stands =
+    let kind = (column_at table column).kind in
+    let nullable = (column_at table column).nullable in
+    let start = start_of here.source table row column in
+    let number = number_of here.source table row column in
+    let place = cell_place here table row column in
+    (number_met here.source kind nullable start number place cell stands, spelling_met here.source kind nullable start number place cell stands)
+
+none_met : (here : Placed) (table : TableId) (row column : ℕ) → is_padding (column_at table column).kind ≡ true → CellHolds here table row column
+unfolding demands_of_cell demands_of_signature
+none_met here table row column padding =
+    padding_met here.source (column_at table column).kind (column_at table column).nullable (number_of here.source table row column)
+    (cell_place here table row column) (cell_place here table row column) padding
+
+pub cell_one : AreOne → (source : Source) (table : TableId) (row place : ℕ) (x y : Cell) → IsCell source table row place x
+    → IsCell source table row place y → x ≡ y
+cell_one one source table row place x y a b =
+    let column = column_of table place in
+    let held = column_at table column in
+    stands_one one source held.kind held.nullable (start_of source table row column) (number_of source table row column) x y a b
+
+-- rows
+
+row_found : (here : Placed) (table : TableId) (row : ℕ) → AllHold (demands_of_row here table row) → AllHold (demands_of_signatures_in here table row)
+    → (cells : List Cell) × IsRow here.source table row cells
+unfolding demands_of_row demands_of_signatures_in IsRow
+row_found here table row numbers spelled =
+    items_of (IsCell here.source table row) 0 (cell_count table) (λ place low high.
+    let column = cell_column table place (omega arith) in
+    cell_found here table row (column_of table place) column.1 (
+      each_holds (demands_of_cell here table row) 0 (length (columns_of table)) numbers (column_of table place) (omega arith) (omega (arith, column.0)),
+      each_holds (demands_of_signature here table row) 0 (length (columns_of table)) spelled (column_of table place) (omega arith) (omega (arith, column.0)),
+    ))
+
+row_cell : (here : Placed) (table : TableId) (row : ℕ) (cells : List Cell) → IsRow here.source table row cells → (column : ℕ)
+    → column < length (columns_of table) → CellHolds here table row column
+unfolding IsRow
+row_cell here table row cells is column within =
+    elim (cases_Bool (is_padding (column_at table column).kind)) [
+      | inl padding ↦ none_met here table row column padding
+      | inr shown ↦
+          let there = column_cell table column within shown in
+          let cell = item_of (IsCell here.source table row) 0 (cell_count table) cells is there.0 (omega arith) (omega (arith, there.1)) in
+          cell_met here table row column cell.0 (subst (λ (c : ℕ). StandsIn here.source table row c cell.0) there.2 cell.1)
+    ]
+
+row_met : (here : Placed) (table : TableId) (row : ℕ) (cells : List Cell) → IsRow here.source table row cells
+    → AllHold (demands_of_row here table row) × AllHold (demands_of_signatures_in here table row)
+unfolding demands_of_row demands_of_signatures_in
+row_met here table row cells is =
+    let count = length (columns_of table) in
+    let holds = λ (column : ℕ) (within : column < count). row_cell here table row cells is column within in (
+      all_of_each (demands_of_cell here table row) 0 count (λ column low high. (holds column (omega arith)).0),
+      all_of_each (demands_of_signature here table row) 0 count (λ column low high. (holds column (omega arith)).1),
+    )
+
+row_one : AreOne → (source : Source) (table : TableId) (row : ℕ) (x y : List Cell) → IsRow source table row x → IsRow source table row y → x ≡ y
+unfolding IsRow
+row_one one source table row x y a b = items_one (IsCell source table row) (cell_one one source table row) 0 (cell_count table) x y a b
+
+-- tables
+
+table_found : (here : Placed) (position : ℕ) → AllHold (demands_of_table_at here position) → AllHold (demands_of_signatures_at here position)
+    → (rows : List (List Cell)) × IsTableAt here.source position rows
+unfolding demands_of_table_at demands_of_table demands_of_signatures_at demands_of_signatures_of IsTableAt IsTable
+table_found here position numbers spelled =
+    let table = table_at position in
+    items_of (IsRow here.source table) 1 (rows_in here.source table) (λ row low high.
+    row_found here table row
+    (each_holds (demands_of_row here table) 1 (rows_in here.source table) numbers row low high)
+    (each_holds (demands_of_signatures_in here table) 1 (rows_in here.source table) spelled row low high))
+
+table_met : (here : Placed) (position : ℕ) (rows : List (List Cell)) → IsTableAt here.source position rows
+    → AllHold (demands_of_table_at here position) × AllHold (demands_of_signatures_at here position)
+unfolding demands_of_table_at demands_of_table demands_of_signatures_at demands_of_signatures_of IsTableAt IsTable
+table_met here position rows is =
+    let table = table_at position in
+    let row_holds = λ (row : ℕ) (low : 1 ≤ row) (high : row < 1 + rows_in here.source table).
+    let cells = item_of (IsRow here.source table) 1 (rows_in here.source table) rows is row low high in row_met here table row cells.0 cells.1 in (
+      all_of_each (demands_of_row here table) 1 (rows_in here.source table) (λ row low high. (row_holds row low high).0),
+      all_of_each (demands_of_signatures_in here table) 1 (rows_in here.source table) (λ row low high. (row_holds row low high).1),
+    )
+
+table_one : AreOne → (source : Source) (position : ℕ) (x y : List (List Cell)) → IsTableAt source position x → IsTableAt source position y → x ≡ y
+unfolding IsTableAt IsTable
+table_one one source position x y a b =
+    items_one (IsRow source (table_at position)) (row_one one source (table_at position)) 1 (rows_in source (table_at position)) x y a b
+
+-- all tables
+
+pub tables_found : (here : Placed) → AllHold (demands_of_cells here) → AllHold (demands_of_signatures here)
+    → (tables : List (List (List Cell))) × AreTables here.source tables
+unfolding demands_of_cells demands_of_signatures
+tables_found here numbers spelled =
+    items_of (IsTableAt here.source) 0 38 (λ position low high.
+    table_found here position
+    (each_holds (demands_of_table_at here) 0 38 numbers position low high)
+    (each_holds (demands_of_signatures_at here) 0 38 spelled position low high))
+
+table_holds : (here : Placed) (tables : List (List (List Cell))) → AreTables here.source tables → (position : ℕ) → 0 ≤ position → position < 0 + 38
+    → AllHold (demands_of_table_at here position) × AllHold (demands_of_signatures_at here position)
+table_holds here tables are position low high =
+    let rows = item_of (IsTableAt here.source) 0 38 tables are position low high in
+    table_met here position rows.0 rows.1
+
+pub cells_met : (here : Placed) (tables : List (List (List Cell))) → AreTables here.source tables → AllHold (demands_of_cells here)
+unfolding demands_of_cells
+cells_met here tables are = all_of_each (demands_of_table_at here) 0 38 (λ position low high. (table_holds here tables are position low high).0)
+
+pub signatures_met : (here : Placed) (tables : List (List (List Cell))) → AreTables here.source tables → AllHold (demands_of_signatures here)
+unfolding demands_of_signatures
+signatures_met here tables are = all_of_each (demands_of_signatures_at here) 0 38 (λ position low high. (table_holds here tables are position low high).1)
+
+pub tables_one : AreOne → (source : Source) (x y : List (List (List Cell))) → AreTables source x → AreTables source y → x ≡ y
+tables_one one source x y a b = items_one (IsTableAt source) (table_one one source) 0 38 x y a b

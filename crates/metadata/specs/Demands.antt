@@ -1,0 +1,193 @@
+-- What is demanded of a root and of a file, from the first demand to the last (ECMA-335 II.22 to II.25). A demand is posed
+-- only where all before it hold. Each has a code, and a place in the bytes that were handed in.
+use Rattle.std.specs.Prelude.{◌≡◌, ◌≢◌, ℕ, ◌+◌, ◌-◌, ◌<◌, ◌≤◌, ◌⊎◌, ⊤, Bool, true, false, List, [], ◌∷◌, ◌++◌, length, Option, Some, None}
+use Rattle.packed.specs.declared.code.FaultCode.TheVariants.{BadTag, BadIndex, BadList, NotSorted, NoOwner, BadRun, NestedOrder, BadSignature, SignatureIndex, EntryPoint}
+use Rattle.packed.specs.Demand.{Demand, demand, demands_from, demands_where, raised}
+use Rattle.schema.specs.declared.table.TableId.{TableId}
+use Rattle.schema.specs.declared.table.TableId.TheVariants.{TypeDef, Field, MethodDef, Param, EventMap, Event, PropertyMap, Property, NestedClass}
+use Rattle.schema.specs.declared.token.Token.{Token}
+use Rattle.schema.specs.declared.coded.Coded.{Coded}
+use Rattle.schema.specs.declared.column.SigKind.{SigKind}
+use Rattle.schema.specs.declared.column.ColumnKind.{ColumnKind}
+use Rattle.schema.specs.declared.column.ColumnKind.TheVariants as kind
+use Rattle.schema.specs.Columns.{columns_of, column_at, key_of}
+use Rattle.schema.specs.CodedIndexes.{IsCoded}
+use Rattle.schema.specs.Demands.{demands_of_stream}
+use Rattle.heaps.specs.Entries.{IsBlob}
+use Rattle.heaps.specs.Demands.{demands_of_text, demands_of_blob, demands_of_guid}
+use Rattle.root.specs.Demands.{demands_of_root}
+use Rattle.pe.specs.Headers.{image_of}
+use Rattle.pe.specs.Demands.{demands_of_image}
+use Rattle.cli_header.specs.declared.header.CliHeader.{CliHeader}
+use Rattle.cli_header.specs.Demands.{demands_of_cli_header}
+use Rattle.cli_header.specs.Said.{header_of}
+use Rattle.signature_values.specs.Syntax.{Body}
+use Rattle.signature_values.specs.Spells.{Spells}
+use Rattle.metadata.specs.Source.{Source, rows_in, number_of, IsThere}
+use Rattle.metadata.specs.Streams.{root_in}
+use Rattle.metadata.specs.Starts.{start_of}
+use Rattle.metadata.specs.Stands.{HasRows}
+use Rattle.metadata.specs.Rows.{table_at}
+use Rattle.metadata.specs.Rules.{is_said_sorted}
+use Rattle.metadata.specs.Model.{IsEntryPoint, has_native_entry_point}
+use Rattle.metadata.specs.Placed.{Placed, cell_place, tables_in, tables_place, source_of, placed_at}
+
+-- ---- cells, but for what signatures spell
+
+-- the row exists, or is null where the column may be
+abbrev pub MayRefer : Source → Bool → Token → Type 0
+MayRefer source nullable token = ((token.row ≡ 0) × (nullable ≡ true)) ⊎ IsThere source token
+
+-- the number has a tag that is used
+abbrev pub HasTag : Coded → ℕ → Type 0
+HasTag coded number = (token : Token) × IsCoded coded number token.table token.row
+
+-- of a number in a column of a kind, which stands at a place
+abbrev pub demands_of_number : Source → ColumnKind → Bool → ℕ → ℕ → List Demand
+demands_of_number source kind.Text nullable number place = demands_of_text source.texts number place
+demands_of_number source kind.Guid nullable number place = demands_of_guid source.guids number place
+demands_of_number source kind.Blob nullable number place = demands_of_blob source.blobs number place
+demands_of_number source (kind.Signature column) nullable number place = demands_of_blob source.blobs number place
+demands_of_number source (kind.Row table) nullable number place =
+    demand (MayRefer source nullable (record { table = table; row = number })) BadIndex place ∷ []
+demands_of_number source (kind.Coded coded) nullable number place =
+    demand (HasTag coded number) BadTag place
+    ∷ demand ((token : Token) × IsCoded coded number token.table token.row × MayRefer source nullable token) BadIndex place
+    ∷ []
+demands_of_number source (kind.List member) nullable number place = demand (number ≤ rows_in source member + 1) BadList place ∷ []
+demands_of_number source _ nullable number place = []
+
+unfoldable pub demands_of_cell : Placed → TableId → ℕ → ℕ → List Demand
+demands_of_cell here table row column =
+    demands_of_number here.source (column_at table column).kind (column_at table column).nullable
+    (number_of here.source table row column) (cell_place here table row column)
+
+unfoldable pub demands_of_row : Placed → TableId → ℕ → List Demand
+demands_of_row here table row = demands_from (demands_of_cell here table row) 0 (length (columns_of table))
+
+unfoldable pub demands_of_table : Placed → TableId → List Demand
+demands_of_table here table = demands_from (demands_of_row here table) 1 (rows_in here.source table)
+
+unfoldable pub demands_of_table_at : Placed → ℕ → List Demand
+demands_of_table_at here position = demands_of_table here (table_at position)
+
+-- of all cells, by table, row and column
+unfoldable pub demands_of_cells : Placed → List Demand
+demands_of_cells here = demands_from (demands_of_table_at here) 0 38
+
+-- ---- the order of rows
+
+-- of a key, which is no lower than that of the row before
+unfoldable pub demands_of_key_in : Placed → TableId → ℕ → ℕ → List Demand
+demands_of_key_in here table key row =
+    demand (number_of here.source table (row - 1) key ≤ number_of here.source table row key) NotSorted (cell_place here table row key) ∷ []
+
+unfoldable pub demands_of_keys : Placed → TableId → ℕ → List Demand
+demands_of_keys here table key = demands_from (demands_of_key_in here table key) 2 (rows_in here.source table - 1)
+
+-- of a table that is said to be sorted
+abbrev pub demands_of_order_by : Placed → TableId → Option ℕ → List Demand
+demands_of_order_by here table None = []
+demands_of_order_by here table (Some key) = demands_where (is_said_sorted here.source table) (demands_of_keys here table key)
+
+unfoldable pub demands_of_order_at : Placed → ℕ → List Demand
+demands_of_order_at here position = demands_of_order_by here (table_at position) (key_of (table_at position))
+
+-- of all tables
+unfoldable pub demands_of_order : Placed → List Demand
+demands_of_order here = demands_from (demands_of_order_at here) 0 38
+
+-- ---- the runs of members
+
+-- of a start, which is no lower than that of the owner before
+unfoldable pub demands_of_start : Placed → TableId → ℕ → TableId → ℕ → List Demand
+demands_of_start here owner column member row =
+    demand (start_of here.source owner (row - 1) column member ≤ start_of here.source owner row column member) BadRun (cell_place here owner row column) ∷ []
+
+-- of the owners of members: where there are none there is no member; the first run begins with the first member; starts never fall
+unfoldable pub demands_of_run : Placed → TableId → ℕ → TableId → List Demand
+demands_of_run here owner column member =
+    demand (rows_in here.source owner ≡ 0 → rows_in here.source member ≡ 0) NoOwner (cell_place here member 1 0)
+    ∷ demand (rows_in here.source owner ≢ 0 → start_of here.source owner 1 column member ≡ 1) BadRun (cell_place here owner 1 column)
+    ∷ demands_from (demands_of_start here owner column member) 2 (rows_in here.source owner - 1)
+
+unfoldable pub demands_of_runs : Placed → List Demand
+demands_of_runs here =
+    demands_of_run here TypeDef 4 Field
+    ++ (demands_of_run here TypeDef 5 MethodDef
+    ++ (demands_of_run here MethodDef 5 Param
+    ++ (demands_of_run here EventMap 1 Event
+    ++ demands_of_run here PropertyMap 1 Property)))
+
+-- ---- the order of nested types
+
+-- of a row of NestedClass: the enclosing type stands before the nested one
+unfoldable pub demands_of_nesting_in : Placed → ℕ → List Demand
+demands_of_nesting_in here row =
+    demand (number_of here.source NestedClass row 1 < number_of here.source NestedClass row 0) NestedOrder (cell_place here NestedClass row 1) ∷ []
+
+unfoldable pub demands_of_nesting : Placed → List Demand
+demands_of_nesting here = demands_from (demands_of_nesting_in here) 1 (rows_in here.source NestedClass)
+
+-- ---- signatures
+
+-- the blob spells some signature of which something holds
+abbrev pub HasSignature : Source → SigKind → ℕ → (Body → Type 0) → Type 0
+HasSignature source column number P =
+    (blob : List ℕ) × (signature : Body) × IsBlob source.blobs number blob × Spells column signature blob × P signature
+
+-- of the number of a blob, in a column of a kind: it spells a signature, whose type indexes name rows that exist
+abbrev pub demands_of_spelling : Source → ColumnKind → ℕ → ℕ → List Demand
+demands_of_spelling source (kind.Signature column) number place =
+    demand (HasSignature source column number (λ signature. ⊤)) BadSignature place
+    ∷ demand (HasSignature source column number (HasRows source)) SignatureIndex place
+    ∷ []
+demands_of_spelling source _ number place = []
+
+unfoldable pub demands_of_signature : Placed → TableId → ℕ → ℕ → List Demand
+demands_of_signature here table row column =
+    demands_of_spelling here.source (column_at table column).kind (number_of here.source table row column) (cell_place here table row column)
+
+unfoldable pub demands_of_signatures_in : Placed → TableId → ℕ → List Demand
+demands_of_signatures_in here table row = demands_from (demands_of_signature here table row) 0 (length (columns_of table))
+
+unfoldable pub demands_of_signatures_of : Placed → TableId → List Demand
+demands_of_signatures_of here table = demands_from (demands_of_signatures_in here table) 1 (rows_in here.source table)
+
+unfoldable pub demands_of_signatures_at : Placed → ℕ → List Demand
+demands_of_signatures_at here position = demands_of_signatures_of here (table_at position)
+
+-- of all signatures, by table, row and column
+unfoldable pub demands_of_signatures : Placed → List Demand
+demands_of_signatures here = demands_from (demands_of_signatures_at here) 0 38
+
+-- ---- the whole
+
+-- of the tables of a root
+unfoldable pub demands_of_tables : Placed → List Demand
+demands_of_tables here =
+    demands_of_cells here
+    ++ (demands_of_order here
+    ++ (demands_of_runs here
+    ++ (demands_of_nesting here
+    ++ demands_of_signatures here)))
+
+-- of a root that begins at a place: its directory, its table stream, and its tables
+unfoldable pub demands_of_metadata : ℕ → List ℕ → List Demand
+demands_of_metadata place root =
+    raised place (demands_of_root root)
+    ++ (raised (place + tables_place root) (demands_of_stream (tables_in root))
+    ++ demands_of_tables (placed_at place root))
+
+-- of the entry point, unless it is native
+unfoldable pub demands_of_entry_point : CliHeader → Source → List Demand
+demands_of_entry_point header source =
+    demand (has_native_entry_point header ≡ false → IsEntryPoint header.entry_point_token (rows_in source)) EntryPoint (header.place + 20) ∷ []
+
+-- of a file: its image, its CLI header, its root, and its entry point
+unfoldable pub demands_of_file : List ℕ → List Demand
+demands_of_file file =
+    demands_of_image file
+    ++ (demands_of_cli_header (image_of file)
+    ++ (demands_of_metadata (header_of (image_of file)).root.start (root_in file (header_of (image_of file)))
+    ++ demands_of_entry_point (header_of (image_of file)) (source_of (root_in file (header_of (image_of file))))))

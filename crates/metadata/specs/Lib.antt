@@ -1,0 +1,11 @@
+pub mod Metadata
+pub mod Source
+pub mod Streams
+pub mod Starts
+pub mod Stands
+pub mod Rows
+pub mod Rules
+pub mod Model
+pub mod Placed
+pub mod Demands
+pub mod Lookups

@@ -1,0 +1,24 @@
+-- The metadata of a root: what it says, without where its parts lie (ECMA-335 II.22 and II.24.2).
+use Rattle.std.specs.Prelude.{ℕ, ◌-◌, List, [], length, slice_index_or}
+use Rattle.schema.specs.declared.table.TableId.{TableId}
+use Rattle.schema.specs.Tables.{position_of}
+use Rattle.cells.specs.declared.cell.Cell.{Cell}
+use Rattle.cells.specs.declared.cell.Cell.TheVariants.{Number}
+
+-- the version; the bytes of `#US`, filled to a multiple of four; and of each table, in the order of their numbers, its rows of cells
+pub record Metadata : Type 0 where
+  pub version : List ℕ
+  pub user : List ℕ
+  pub tables : List (List (List Cell))
+
+-- the rows of a table
+abbrev pub rows_of : Metadata → TableId → List (List Cell)
+rows_of model table = slice_index_or model.tables (position_of table) []
+
+-- how many rows a table has
+abbrev pub count_in : Metadata → TableId → ℕ
+count_in model table = length (rows_of model table)
+
+-- a cell, by its row, counted from 1, and its place in the row, counted from 0
+abbrev pub cell_in : Metadata → TableId → ℕ → ℕ → Cell
+cell_in model table row column = slice_index_or (slice_index_or (rows_of model table) (row - 1) []) column (Number 0)

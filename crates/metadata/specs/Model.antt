@@ -1,0 +1,55 @@
+-- Which model the bytes of a root have, and those of a file (ECMA-335 II.22 to II.25).
+use Rattle.std.specs.Prelude.{◌≡◌, ℕ, ◌/◌, ◌%◌, ◌≤◌, ◌⊎◌, ◌==◌, ◌^◌, Bool, false, List, length}
+use Rattle.root.specs.declared.kind.Kind.TheVariants.{Tables, UserStrings}
+use Rattle.root.specs.Root.{IsRoot}
+use Rattle.root.specs.Streams.{Header}
+use Rattle.pe.specs.Image as pe
+use Rattle.pe.specs.Image.{Image}
+use Rattle.cli_header.specs.declared.header.CliHeader.{CliHeader}
+use Rattle.cli_header.specs.Header.{IsCliHeader}
+use Rattle.heaps.specs.Fill.{filled}
+use Rattle.schema.specs.declared.token.Token.{Token}
+use Rattle.schema.specs.declared.table.TableId.{TableId}
+use Rattle.schema.specs.declared.table.TableId.TheVariants.{MethodDef, File}
+use Rattle.schema.specs.Sizes.{Sizes}
+use Rattle.schema.specs.LaidOut.{IsLaidOut}
+use Rattle.schema.specs.Tokens.{IsToken}
+use Rattle.metadata.specs.Metadata.{Metadata, count_in}
+use Rattle.metadata.specs.Rows.{AreTables}
+use Rattle.metadata.specs.Rules.{AreByKey, AreOwned, AreNested}
+use Rattle.metadata.specs.Streams.{stream_in, source_in, root_in}
+
+-- The root has this model: it is a root of the model's version; its `#~` stream is laid out with numbers that stand for
+-- the model's cells; tables are in order where they are said to be, members have one owner each, and types stand behind
+-- those that they are nested in; and `#US` has the user bytes.
+pub record IsModel (root : List ℕ) (model : Metadata) : Type 0 where
+  pub small : length root ≤ 2 ^ 30
+  pub headers : List Header
+  pub is_root : IsRoot root model.version headers
+  pub sizes : Sizes
+  pub numbers : List (List (List ℕ))
+  pub laid_out : IsLaidOut (stream_in root headers Tables) sizes numbers
+  pub cells : AreTables (source_in root headers sizes numbers) model.tables
+  pub ordered : AreByKey (source_in root headers sizes numbers)
+  pub owned : AreOwned (source_in root headers sizes numbers)
+  pub nested : AreNested (source_in root headers sizes numbers)
+  pub user : model.user ≡ filled (stream_in root headers UserStrings)
+
+-- II.25.3.3.2: the entry point is 0, or the token of a row of MethodDef or File that exists
+abbrev pub IsEntryPoint : ℕ → (TableId → ℕ) → Type 0
+IsEntryPoint entry count =
+    (entry ≡ 0)
+    ⊎ ((token : Token) × IsToken entry token × ((token.table ≡ MethodDef) ⊎ (token.table ≡ File)) × (1 ≤ token.row) × (token.row ≤ count token.table))
+
+-- the flag of a native entry point (II.25.3.3.1), which is no token
+abbrev pub has_native_entry_point : CliHeader → Bool
+has_native_entry_point header = header.flags / 0x10 % 2 == 1
+
+-- The file has this CLI header and this model: it is an image with that header, whose root has the model; and its entry
+-- point is one, unless it is native.
+pub record IsImage (file : List ℕ) (header : CliHeader) (model : Metadata) : Type 0 where
+  pub image : Image
+  pub is_image : pe.IsImage file image
+  pub is_header : IsCliHeader image header
+  pub root : IsModel (root_in file header) model
+  pub entry : has_native_entry_point header ≡ false → IsEntryPoint header.entry_point_token (count_in model)

@@ -1,0 +1,40 @@
+-- Which cell the number of a column stands for (ECMA-335 II.22 and II.24.2.6).
+use Rattle.std.specs.Prelude.{◌≡◌, ℕ, ◌+◌, ◌≤◌, ◌⊎◌, Bool, true, List, Option, Some, None}
+use Rattle.std.specs.List.{AllByRecursion}
+use Rattle.schema.specs.declared.table.TableId.{TableId}
+use Rattle.schema.specs.declared.token.Token.{Token}
+use Rattle.schema.specs.declared.column.ColumnKind.{ColumnKind}
+use Rattle.schema.specs.declared.column.ColumnKind.TheVariants as kind
+use Rattle.schema.specs.CodedIndexes.{IsCoded}
+use Rattle.heaps.specs.Entries.{IsText, IsBlob, IsGuid}
+use Rattle.signature_values.specs.Syntax.{Body}
+use Rattle.signature_values.specs.Spells.{Spells, tokens}
+use Rattle.cells.specs.declared.cell.Cell.{Cell}
+use Rattle.cells.specs.declared.cell.Cell.TheVariants.{Number, Text, Bytes, Guid, Ref, Start, Sig}
+use Rattle.metadata.specs.Source.{Source, rows_in, IsThere}
+
+-- the cell is the row that a reference names, which exists, or null where the column may be
+abbrev pub Refers : Source → Bool → Token → Cell → Type 0
+Refers source nullable token cell =
+    ((token.row ≡ 0) × (nullable ≡ true) × (cell ≡ Ref None)) ⊎ (IsThere source token × (cell ≡ Ref (Some token)))
+
+-- each type index of a signature names a row that exists (II.23.2.8)
+abbrev pub HasRows : Source → Body → Type 0
+HasRows source signature = AllByRecursion (IsThere source) (tokens signature)
+
+-- A number of a column of a kind stands for a cell. Padding has no cell. Of a list, `start` says by the member table
+-- where the owner's run begins.
+abbrev pub StandsFor : Source → ColumnKind → Bool → (TableId → ℕ) → ℕ → Cell → Type 0
+StandsFor source kind.U8 nullable start number cell = cell ≡ Number number
+StandsFor source kind.U16 nullable start number cell = cell ≡ Number number
+StandsFor source kind.U32 nullable start number cell = cell ≡ Number number
+StandsFor source kind.Padding nullable start number cell = ⊥
+StandsFor source kind.Text nullable start number cell = (text : List ℕ) × IsText source.texts number text × (cell ≡ Text text)
+StandsFor source kind.Guid nullable start number cell = (guid : Option (List ℕ)) × IsGuid source.guids number guid × (cell ≡ Guid guid)
+StandsFor source kind.Blob nullable start number cell = (blob : List ℕ) × IsBlob source.blobs number blob × (cell ≡ Bytes blob)
+StandsFor source (kind.Signature column) nullable start number cell =
+    (blob : List ℕ) × (signature : Body) × IsBlob source.blobs number blob × Spells column signature blob × HasRows source signature × (cell ≡ Sig signature)
+StandsFor source (kind.Row table) nullable start number cell = Refers source nullable (record { table = table; row = number }) cell
+StandsFor source (kind.Coded coded) nullable start number cell =
+    (token : Token) × IsCoded coded number token.table token.row × Refers source nullable token cell
+StandsFor source (kind.List member) nullable start number cell = (number ≤ rows_in source member + 1) × (cell ≡ Start (start member))

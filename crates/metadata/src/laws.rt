@@ -1,0 +1,82 @@
+ghost use Rattle.std.specs.Prelude.{◌≡◌, ℕ, ◌^◌, ◌<◌, ◌≤◌, List, slice_index};
+ghost use Rattle.packed.specs.Demand.{AllHold};
+ghost use Rattle.root.specs.Directory.{directory_of};
+ghost use Rattle.root.specs.declared.kind.Kind.TheVariants.{UserStrings};
+ghost use Rattle.cli_header.specs.declared.header.CliHeader.{CliHeader};
+ghost use Rattle.heaps.specs.Fill.{filled};
+ghost use Rattle.schema.specs.declared.table.TableId.{TableId as Table};
+ghost use Rattle.schema.specs.LaidOut.{IsTableStream};
+ghost use Rattle.cells.specs.declared.cell.Cell.{Cell};
+ghost use Rattle.metadata.specs.Metadata.{Metadata, count_in, cell_in};
+ghost use Rattle.metadata.specs.Source.{Source, rows_in};
+ghost use Rattle.metadata.specs.Streams.{stream_in};
+ghost use Rattle.metadata.specs.Rows.{cell_count, IsCell};
+ghost use Rattle.metadata.specs.Rules.{AreByKey, AreOwned, AreNested};
+ghost use Rattle.metadata.specs.Model.{IsModel, IsImage};
+ghost use Rattle.metadata.specs.Placed.{tables_in, source_of};
+ghost use Rattle.metadata.specs.Demands.{demands_of_metadata, demands_of_file};
+
+use cli_header::headers_are_read;
+use heaps::entries_are_one;
+use pe::images_are_read;
+use root::roots_are_read;
+use schema::{numbers_are_read, streams_are_read, tables_stand, tags_fit};
+use signature_values::signatures_are_read;
+
+/// All demands of a root, which is bytes, hold exactly where it has a model, and it has one at most.
+pub fn roots_have_models()
+    ensures met { (place : ℕ) (root : List ℕ) (model : Metadata) → IsModel root model → AllHold (demands_of_metadata place root) }
+    ensures found { (place : ℕ) (root : List ℕ) → ((k : ℕ) → slice_index root k < 2 ^ 8) → AllHold (demands_of_metadata place root)
+        → (model : Metadata) × IsModel root model }
+    ensures one { (root : List ℕ) (model other : Metadata) → IsModel root model → IsModel root other → model ≡ other }
+{
+    roots_are_read();
+    streams_are_read();
+    numbers_are_read();
+    entries_are_one();
+    tags_fit();
+    signatures_are_read();
+}
+
+/// All demands of a file, which is bytes, hold exactly where it has a model, and it has one CLI header
+/// and one model at most.
+pub fn files_have_models()
+    ensures met { (file : List ℕ) (header : CliHeader) (model : Metadata) → IsImage file header model → AllHold (demands_of_file file) }
+    ensures found { (file : List ℕ) → ((k : ℕ) → slice_index file k < 2 ^ 8) → AllHold (demands_of_file file)
+        → (header : CliHeader) × (model : Metadata) × IsImage file header model }
+    ensures one { (file : List ℕ) (header other : CliHeader) (model more : Metadata) → IsImage file header model → IsImage file other more
+        → (header ≡ other) × (model ≡ more) }
+{
+    images_are_read();
+    headers_are_read();
+    roots_have_models();
+    models_are_read();
+}
+
+/// The parts of a root's model are those that are read from the root.
+pub fn models_are_read()
+    ensures version { (root : List ℕ) (model : Metadata) → IsModel root model → model.version ≡ (directory_of root).version }
+    ensures user { (root : List ℕ) (model : Metadata) → IsModel root model → model.user ≡ filled (stream_in root (directory_of root).headers UserStrings) }
+    ensures stream { (root : List ℕ) (model : Metadata) → IsModel root model → IsTableStream (tables_in root) (source_of root).sizes }
+    ensures count { (root : List ℕ) (model : Metadata) → IsModel root model → (table : Table) → count_in model table ≡ rows_in (source_of root) table }
+    ensures cells { (root : List ℕ) (model : Metadata) → IsModel root model → (table : Table) (row place : ℕ)
+        → 1 ≤ row → row ≤ rows_in (source_of root) table → place < cell_count table
+        → IsCell (source_of root) table row place (cell_in model table row place) }
+    ensures rules { (root : List ℕ) (model : Metadata) → IsModel root model
+        → AreByKey (source_of root) × AreOwned (source_of root) × AreNested (source_of root) }
+{
+    roots_are_read();
+    streams_are_read();
+    numbers_are_read();
+    tables_stand();
+}
+
+/// A number stands for one cell at most.
+pub fn cells_are_one()
+    ensures { (source : Source) (table : Table) (row place : ℕ) (cell other : Cell) → IsCell source table row place cell
+        → IsCell source table row place other → cell ≡ other }
+{
+    entries_are_one();
+    tags_fit();
+    signatures_are_read();
+}

@@ -1,0 +1,17 @@
+//! Which model the bytes of a root or of a file have (ECMA-335 II.22 to II.25), and what is demanded of
+//! them, from the first demand to the last.
+//!
+//! There is no code here, but the definitions in `specs/` in which reading and writing meet, and their
+//! laws. `Model.antt` says which model a root and a file have, by the relations of the layers below;
+//! `Demands.antt` lists what is demanded, each with its code and its place. All demands hold exactly
+//! where there is a model, and there is one at most: [`roots_have_models`], [`files_have_models`].
+//!
+//! ```text
+//! IsModel root model    -- the bytes of a root have this model
+//! IsImage file header model    -- the bytes of a file have this CLI header and this model
+//! ```
+#![tactic(auto)]
+
+mod laws;
+
+pub use laws::{cells_are_one, files_have_models, models_are_read, roots_have_models};
