@@ -1,0 +1,73 @@
+-- What a walk over a blob says of the signature that is demanded of it.
+use Rattle.std.proofs.Common.{◌≡◌, ℕ, Bool, true, false, List, [], ◌∷◌, Some, None, Result, refl, sym, ◌⊎◌, slice_index, inl, inr, arith}
+use Rattle.std.specs.List.{AllByRecursion}
+use Rattle.std.proofs.lemmas.Bool.Decides.{nat_tests}
+use Rattle.packed.specs.declared.code.FaultCode.{FaultCode}
+use Rattle.packed.specs.declared.code.FaultCode.TheVariants.{BadSignature, SignatureIndex}
+use Rattle.packed.specs.Demand.{Answers, AllHold, FirstToFail, fault}
+use Rattle.heaps.specs.Entries.{IsBlob}
+use Rattle.schema.specs.declared.table.TableId.{TableId}
+use Rattle.schema.specs.declared.token.Token.{Token}
+use Rattle.schema.specs.declared.column.Column.{Column}
+use Rattle.schema.specs.declared.column.SigKind.{SigKind}
+use Rattle.schema.specs.declared.column.ColumnKind.TheVariants as kind
+use Rattle.schema.specs.Tables.{table_number}
+use Rattle.schema.specs.Columns.{column_at}
+use Rattle.signature_values.specs.Spells.{Spells, tokens, has_row, first_bad}
+use Rattle.signature_values.specs.Syntax.{Body}
+use Rattle.metadata.specs.Source.{Source, rows_in, number_of, IsThere}
+use Rattle.metadata.specs.Placed.{Placed, cell_place}
+use Rattle.metadata.specs.Demands.{demands_of_spelling, demands_of_signature}
+use Rattle.checks.specs.Codes.{code_at}
+
+-- what is checked of a number in a column is demanded of its signature
+pub spelling_answers : (here : Placed) (table : TableId) (row column number : ℕ) (held : Column) {X : Type 0} (r : Result X FaultCode) → held ≡ column_at table column → number ≡ number_of here.source table row column → ((place : ℕ) → Answers (demands_of_spelling here.source held.kind number place) (code_at place r)) → Answers (demands_of_signature here table row column) (code_at (cell_place here table row column) r)
+unfolding demands_of_signature
+spelling_answers here table row column number held r is_held is_number answers =
+    rw (is_held, is_number) at (answers (cell_place here table row column))
+
+module _ (source : Source) (counts : List ℕ) (counted : (table : TableId) → slice_index counts (table_number table) ≡ rows_in source table) where
+  cases : (b : Bool) → (b ≡ true) ⊎ (b ≡ false)
+  cases true = inl refl
+  cases false = inr refl
+
+  there : (token : Token) → has_row counts token ≡ true → IsThere source token
+  there token e = grind (arith, nat_tests, counted token.table)
+
+  has : (token : Token) → IsThere source token → has_row counts token ≡ true
+  has token is = grind (arith, nat_tests, counted token.table)
+
+  -- each token has a row where none is the first without one
+  pub all_there : (tokens : List Token) → first_bad counts tokens ≡ None → AllByRecursion (IsThere source) tokens
+  all_there [] e = tt
+  all_there (token ∷ tokens) e = elim (cases (has_row counts token)) [
+    | inl has_one ↦ (there token has_one, all_there tokens (rw has_one at e))
+    | inr has_none ↦ absurd (let bad : first_bad counts (token ∷ tokens) ≡ Some token = rw has_none refl in cc)
+  ]
+
+  pub none_bad : (tokens : List Token) → AllByRecursion (IsThere source) tokens → first_bad counts tokens ≡ None
+  none_bad [] all = refl
+  none_bad (token ∷ tokens) all = rw (has token all.0) (none_bad tokens all.1)
+
+  module _ (column : SigKind) (number : ℕ) (place : ℕ) where
+    -- a blob that spells a signature whose tokens have rows
+    pub is_met : (blob : List ℕ) → IsBlob source.blobs number blob → (signature : Body) × Spells column signature blob × (None ≡ first_bad counts (tokens signature)) → AllHold (demands_of_spelling source (kind.Signature column) number place)
+    is_met blob is some = ((blob, some.0, is, some.1, tt), ((blob, some.0, is, some.1, all_there (tokens some.0) (sym some.2)), tt))
+
+    -- a blob that spells no signature, or no blob
+    pub no_signature : ((blob : List ℕ) → IsBlob source.blobs number blob → (signature : Body) → ¬ Spells column signature blob) → FirstToFail (demands_of_spelling source (kind.Signature column) number place) (fault BadSignature place)
+    no_signature none = inl (λ has. none has.0 has.2 has.1 has.3, refl)
+
+    -- a blob that spells a signature one of whose tokens has no row
+    pub no_row : (blob : List ℕ) (bad : Token) → IsBlob source.blobs number blob → ((other : List ℕ) → IsBlob source.blobs number other → blob ≡ other) → (signature : Body) × Spells column signature blob × (Some bad ≡ first_bad counts (tokens signature)) → ((signature : Body) → Spells column signature blob → Some bad ≡ first_bad counts (tokens signature)) → FirstToFail (demands_of_spelling source (kind.Signature column) number place) (fault SignatureIndex place)
+    no_row blob bad is one some only = inr (
+      (blob, some.0, is, some.1, tt),
+      inl (
+        λ has.
+            let same = one has.0 has.2 in
+            let e = only has.1 (rw (← same) at has.3) in
+            let f = none_bad (tokens has.1) has.4 in
+            absurd cc,
+        refl,
+      ),
+    )

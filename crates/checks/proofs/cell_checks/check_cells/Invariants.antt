@@ -1,0 +1,6 @@
+use Rattle.packed.proofs.DemandLemmas.{HoldBefore}
+use Rattle.metadata.specs.Demands.{demands_of_table_at}
+use Rattle.checks.proofs.cell_checks.check_cells.Given as goal
+
+abbrev pub invariant-loop-position : goal.invariant-loop-position
+invariant-loop-position l = HoldBefore (demands_of_table_at l.source) 0 l.position

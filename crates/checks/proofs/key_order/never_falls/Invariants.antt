@@ -1,0 +1,8 @@
+use Rattle.std.proofs.Common.{ℕ, ◌-◌, ◌<◌, ◌≤◌}
+use Rattle.metadata.specs.Source.{number_of}
+use Rattle.checks.proofs.key_order.never_falls.Given as goal
+
+abbrev pub invariant-loop-row : goal.invariant-loop-row
+invariant-loop-row l =
+    (earlier : ℕ) → 2 ≤ earlier → earlier < l.row → number_of l.source.source l.table (earlier - 1) l.column ≤ number_of l.source.source l.table earlier
+    l.column

@@ -1,0 +1,37 @@
+use Rattle.std.proofs.Common.{◌≡◌, ◌+◌, ◌-◌, sym, ◌∙◌, ap, arith}
+use Rattle.packed.proofs.DemandLemmas.{none_from}
+use Rattle.metadata.specs.Starts.{start_of}
+use Rattle.metadata.specs.Demands.{demands_of_start}
+use Rattle.checks.proofs.Starts.{start_of_end, start_of_step, falls_step}
+use Rattle.checks.proofs.runs.walk_owners.Goals as goal
+
+pub loop-row-init : goal.loop-row-init
+loop-row-init c =
+    let here = c.args.source.now in
+    let count = c.count-count.result in
+    record {
+      row = omega arith;
+      first = ap (λ n. n + 1) c.count-first.ensures.value
+          ∙ sym (start_of_end here.source c.args.owner (count + 1) c.args.column c.args.member
+          (omega (arith, c.count-count.ensures.value)));
+      falls = none_from (demands_of_start here c.args.owner c.args.column c.args.member) (count + 2) (count - (count + 1)) (omega arith);
+      within = tt;
+    }
+
+pub loop-row-preserved : goal.loop-row-preserved
+loop-row-preserved c =
+    let here = c.args.source.now in
+    let before = c.loop-row.invariant in
+    let row = c.loop-row.row in
+    let start = start_of_step here.source c.args.owner row c.args.column c.args.member
+    c.loop-row.first c.start_or-start.result c.number-number.result
+    (omega (arith, c.count-count.ensures.value, before.row)) c.number-number.ensures.value before.first c.start_or-start.ensures in
+    let again : row - 1 + 1 ≡ row = omega arith in
+    record {
+      row = omega (arith, before.row);
+      first = start ∙ ap (λ r. start_of here.source c.args.owner r c.args.column c.args.member) (sym again);
+      falls = falls_step here c.args.owner c.args.column c.args.member
+          row c.count-count.result c.loop-row.first c.start_or-start.result c.loop-row.falls c.fallen-falls.result
+          (omega arith) before.row before.first start before.falls c.fallen-falls.ensures.value;
+      within = c.fallen-falls.ensures.within before.within;
+    }

@@ -1,0 +1,5 @@
+pub mod Sources
+pub mod Codes
+pub mod Columns
+pub mod Orders
+pub mod Runs

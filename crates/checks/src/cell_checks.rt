@@ -1,0 +1,218 @@
+ghost use Rattle.std.specs.Prelude.{◌≡◌, ◌≤◌, ◌<◌, ◌+◌, ◌∷◌, [], ◌↔◌, ℕ, IsTrue, false, length};
+ghost use Rattle.packed.specs.declared.code.FaultCode.TheVariants.{BadIndex, BadList};
+ghost use Rattle.packed.specs.Demand.{Answers, AllHold, demand};
+ghost use Rattle.schema.specs.declared.column.ColumnKind.TheVariants as kind;
+ghost use Rattle.schema.specs.Columns.{columns_of};
+ghost use Rattle.metadata.specs.Source.{rows_in};
+ghost use Rattle.checks.specs.Codes.{code_at};
+ghost use Rattle.checks.specs.Columns.{IsChecked, ColumnStands};
+ghost use Rattle.metadata.specs.Demands.{MayRefer, demands_of_number, demands_of_cell, demands_of_row, demands_of_table, demands_of_cells};
+
+use crate::column::{all_pass, column_at};
+use crate::source::Source;
+use packed::{Fault, FaultCode};
+use schema::{Coded, Column, ColumnKind, TableId, columns, split};
+
+/// Each number stands for a cell (II.22).
+#[tactic(auto, using(packed::proofs::DemandLemmas::before_none, packed::proofs::DemandLemmas::before_more, packed::proofs::DemandLemmas::before_all, packed::proofs::DemandLemmas::before_fails), unfolding(metadata::specs::Demands::demands_of_cells, metadata::specs::Demands::demands_of_table_at))]
+pub fn check_cells(source: &Source) -> Result<(), Fault>
+    ensures { Answers (demands_of_cells source.now) result }
+{
+    let tables = TableId::all();
+    for position in 0..tables.len() {
+        check_table(source, tables[position])?;
+    }
+    Ok(())
+}
+
+/// Each number of a table stands for a cell.
+///
+/// Where all columns stand there is no fault; else a walk over the rows finds the first.
+fn check_table(source: &Source, table: TableId) -> Result<(), Fault>
+    ensures { Answers (demands_of_table source.now table) result }
+{
+    if all_columns_stand(source, table) {
+        Ok(())
+    } else {
+        check_rows(source, table)
+    }
+}
+
+/// Each number of a table stands for a cell, row by row.
+#[tactic(auto, using(packed::proofs::DemandLemmas::before_none, packed::proofs::DemandLemmas::before_more, packed::proofs::DemandLemmas::before_all, packed::proofs::DemandLemmas::before_fails), unfolding(metadata::specs::Demands::demands_of_table))]
+fn check_rows(source: &Source, table: TableId) -> Result<(), Fault>
+    ensures { Answers (demands_of_table source.now table) result }
+{
+    let count = source.count(table);
+    for row in 1..count + 1 {
+        check_row(source, table, row)?;
+    }
+    Ok(())
+}
+
+/// Whether each number of a table stands for a cell, column by column.
+#[tactic(auto, using(crate::proofs::Columns::table_stands))]
+fn all_columns_stand(source: &Source, table: TableId) -> bool
+    ensures { IsTrue result → AllHold (demands_of_table source.now table) }
+{
+    for column in 0..columns(table).len() {
+        if !column_stands(source, table, column) {
+            return false;
+        }
+    }
+    true
+}
+
+/// Whether each number of a column stands for a cell.
+///
+/// Its kind is looked at once, before the walk over the rows.
+fn column_stands(source: &Source, table: TableId, column: usize) -> bool
+    requires { column < length (columns_of table) }
+    ensures { IsTrue result → ColumnStands source.now table column }
+{
+    match column_at(table, column).kind {
+        ColumnKind::U8 | ColumnKind::U16 | ColumnKind::U32 | ColumnKind::Padding => true,
+        ColumnKind::Text => {
+            let check = |number|
+                ensures { IsChecked source.entry.now.source kind.Text false number result }
+            { source.check_text(number) };
+            all_pass(source, table, column, check)
+        }
+        ColumnKind::Guid => {
+            let check = |number|
+                ensures { IsChecked source.entry.now.source kind.Guid false number result }
+            { source.check_guid(number) };
+            all_pass(source, table, column, check)
+        }
+        ColumnKind::Blob | ColumnKind::Signature(_) => {
+            let check = |number|
+                ensures { IsChecked source.entry.now.source kind.Blob false number result }
+            { source.check_blob(number) };
+            all_pass(source, table, column, check)
+        }
+        ColumnKind::Row(_) | ColumnKind::Coded(_) | ColumnKind::List(_) => indexes_stand(
+            source, table, column,
+        ),
+    }
+}
+
+/// Whether each index of a column stands for a cell, if the column is of indexes into tables.
+fn indexes_stand(source: &Source, table: TableId, column: usize) -> bool
+    requires { column < length (columns_of table) }
+    ensures { IsTrue result → ColumnStands source.now table column }
+{
+    let held = column_at(table, column);
+    let nullable = held.nullable;
+    match held.kind {
+        ColumnKind::Row(named) => {
+            let check = |number|
+                ensures { IsChecked source.entry.now.source (kind.Row named) nullable number result }
+            { check_reference(source, nullable, named, number) };
+            all_pass(source, table, column, check)
+        }
+        ColumnKind::Coded(coded) => {
+            let check = |number|
+                ensures { IsChecked source.entry.now.source (kind.Coded coded) nullable number result }
+            { check_coded(source, nullable, coded, number) };
+            all_pass(source, table, column, check)
+        }
+        ColumnKind::List(member) => {
+            let check = |number|
+                ensures { IsChecked source.entry.now.source (kind.List member) false number result }
+            { check_list(source, member, number) };
+            all_pass(source, table, column, check)
+        }
+        _ => false,
+    }
+}
+
+/// Each number of a row stands for a cell.
+#[tactic(auto, using(packed::proofs::DemandLemmas::before_none, packed::proofs::DemandLemmas::before_more, packed::proofs::DemandLemmas::before_all, packed::proofs::DemandLemmas::before_fails), unfolding(metadata::specs::Demands::demands_of_row))]
+fn check_row(source: &Source, table: TableId, row: u32) -> Result<(), Fault>
+    requires first { 1 ≤ row }
+    requires last { row ≤ rows_in source.now.source table }
+    ensures { Answers (demands_of_row source.now table row) result }
+{
+    for column in 0..columns(table).len() {
+        check_cell(source, table, row, column)?;
+    }
+    Ok(())
+}
+
+/// The number of a column stands for a cell.
+fn check_cell(source: &Source, table: TableId, row: u32, column: usize) -> Result<(), Fault>
+    requires first { 1 ≤ row }
+    requires last { row ≤ rows_in source.now.source table }
+    requires column { column < length (columns_of table) }
+    ensures { Answers (demands_of_cell source.now table row column) result }
+{
+    let held = column_at(table, column);
+    let number = source.number(table, row, column);
+    match check_number(source, held, number) {
+        Ok(()) => Ok(()),
+        Err(code) => Err(source.fault(code, table, row, column)),
+    }
+}
+
+/// The number, in a column, stands for a cell.
+fn check_number(source: &Source, column: Column, number: u32) -> Result<(), FaultCode>
+    ensures { (place : ℕ) → Answers (demands_of_number source.now.source column.kind column.nullable number place) (code_at place result) }
+{
+    match column.kind {
+        ColumnKind::U8 | ColumnKind::U16 | ColumnKind::U32 | ColumnKind::Padding => Ok(()),
+        ColumnKind::Text => source.check_text(number),
+        ColumnKind::Guid => source.check_guid(number),
+        ColumnKind::Blob | ColumnKind::Signature(_) => source.check_blob(number),
+        ColumnKind::Row(table) => check_reference(source, column.nullable, table, number),
+        ColumnKind::Coded(coded) => check_coded(source, column.nullable, coded, number),
+        ColumnKind::List(member) => check_list(source, member, number),
+    }
+}
+
+/// Whether a reference names a row that exists, or is null where it may be.
+fn may_refer(source: &Source, nullable: bool, table: TableId, row: u32) -> bool
+    ensures { IsTrue result ↔ MayRefer source.now.source nullable (record { table = table; row = row }) }
+{
+    nullable && row == 0 || source.has_row(table, row)
+}
+
+/// A simple index names a row that exists.
+fn check_reference(
+    source: &Source,
+    nullable: bool,
+    table: TableId,
+    row: u32,
+) -> Result<(), FaultCode>
+    ensures { (place : ℕ) → Answers (demand (MayRefer source.now.source nullable (record { table = table; row = row })) BadIndex place ∷ []) (code_at place result) }
+{
+    if may_refer(source, nullable, table, row) {
+        Ok(())
+    } else {
+        Err(FaultCode::BadIndex)
+    }
+}
+
+/// A coded index has a tag that is used, and names a row that exists.
+fn check_coded(source: &Source, nullable: bool, coded: Coded, number: u32) -> Result<(), FaultCode>
+    ensures { (place : ℕ) → Answers (demands_of_number source.now.source (kind.Coded coded) nullable number place) (code_at place result) }
+{
+    let Some((table, row)) = split(coded, number) else {
+        return Err(FaultCode::BadTag);
+    };
+    if may_refer(source, nullable, table, row) {
+        Ok(())
+    } else {
+        Err(FaultCode::BadIndex)
+    }
+}
+
+/// A list value is null, or that of a member or behind the last.
+fn check_list(source: &Source, member: TableId, number: u32) -> Result<(), FaultCode>
+    ensures { (place : ℕ) → Answers (demand (number ≤ rows_in source.now.source member + 1) BadList place ∷ []) (code_at place result) }
+{
+    if number <= source.count(member) + 1 {
+        Ok(())
+    } else {
+        Err(FaultCode::BadList)
+    }
+}

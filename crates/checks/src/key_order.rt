@@ -1,0 +1,47 @@
+ghost use Rattle.std.specs.Prelude.{◌≡◌, ◌<◌, ◌↔◌, ℕ, IsTrue, length};
+ghost use Rattle.schema.specs.Columns.{columns_of, key_of};
+ghost use Rattle.metadata.specs.Rules.{IsInOrder};
+ghost use Rattle.checks.specs.Orders.{TellsOrder};
+
+use crate::source::Source;
+use schema::{TableId, columns_stand, key, tables_stand};
+
+/// Whether the keys of each table never fall, under the tables' numbers; false of tables without a key.
+///
+/// Each key is read once, or twice: with its own row and with the next.
+pub fn find_order(source: &Source) -> [bool; 45]
+    ensures { TellsOrder source.now.source result }
+{
+    tables_stand();
+    let tables = TableId::all();
+    let mut in_order = [false; 45];
+    for position in 0..tables.len() {
+        let table = tables[position];
+        in_order[table.number() as usize] = is_in_order(source, table);
+    }
+    in_order
+}
+
+/// Whether a table has keys that never fall.
+fn is_in_order(source: &Source, table: TableId) -> bool
+    ensures { (column : ℕ) → key_of table ≡ Some column → IsTrue result ↔ IsInOrder source.now.source table column }
+{
+    columns_stand();
+    match key(table) {
+        Some(key) => never_falls(source, table, key),
+        None => false,
+    }
+}
+
+/// Whether the numbers of a column never fall.
+fn never_falls(source: &Source, table: TableId, column: usize) -> bool
+    requires { column < length (columns_of table) }
+    ensures { IsTrue result ↔ IsInOrder source.now.source table column }
+{
+    for row in 2..source.count(table) + 1 {
+        if source.number(table, row, column) < source.number(table, row - 1, column) {
+            return false;
+        }
+    }
+    true
+}

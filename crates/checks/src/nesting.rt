@@ -1,0 +1,41 @@
+ghost use Rattle.std.specs.Prelude.{◌≡◌, ◌≤◌};
+ghost use Rattle.packed.specs.Demand.{Answers};
+ghost use Rattle.schema.specs.declared.table.TableId.TheVariants.{NestedClass};
+ghost use Rattle.metadata.specs.Source.{rows_in};
+ghost use Rattle.metadata.specs.Demands.{demands_of_nesting_in, demands_of_nesting};
+
+use crate::source::Source;
+use packed::{Fault, FaultCode};
+use schema::TableId;
+
+/// The column of a nested type, and that of the type around it.
+const NESTED: usize = 0;
+
+const ENCLOSING: usize = 1;
+
+/// Each type stands behind the one that it is nested in (II.22.32).
+#[tactic(auto, using(packed::proofs::DemandLemmas::before_none, packed::proofs::DemandLemmas::before_more, packed::proofs::DemandLemmas::before_all, packed::proofs::DemandLemmas::before_fails), unfolding(metadata::specs::Demands::demands_of_nesting))]
+pub fn check_nesting(source: &Source) -> Result<(), Fault>
+    ensures { Answers (demands_of_nesting source.now) result }
+{
+    let count = source.count(TableId::NestedClass);
+    for row in 1..count + 1 {
+        check_nested(source, row)?;
+    }
+    Ok(())
+}
+
+/// The nested type of a row stands behind the one around it.
+#[tactic(auto, unfolding(metadata::specs::Demands::demands_of_nesting_in))]
+fn check_nested(source: &Source, row: u32) -> Result<(), Fault>
+    requires first { 1 ≤ row }
+    requires last { row ≤ rows_in source.now.source NestedClass }
+    ensures { Answers (demands_of_nesting_in source.now row) result }
+{
+    let table = TableId::NestedClass;
+    if source.number(table, row, ENCLOSING) < source.number(table, row, NESTED) {
+        Ok(())
+    } else {
+        Err(source.fault(FaultCode::NestedOrder, table, row, ENCLOSING))
+    }
+}

@@ -1,0 +1,72 @@
+ghost use Rattle.std.specs.Prelude.{◌≡◌, ◌≤◌, ◌<◌, length};
+ghost use Rattle.packed.specs.Demand.{Answers};
+ghost use Rattle.schema.specs.Columns.{columns_of, key_of};
+ghost use Rattle.metadata.specs.Source.{rows_in};
+ghost use Rattle.checks.specs.Orders.{TellsOrder};
+ghost use Rattle.metadata.specs.Demands.{demands_of_key_in, demands_of_keys, demands_of_order_by, demands_of_order};
+
+use crate::source::Source;
+use packed::{Fault, FaultCode};
+use schema::{TableId, columns_stand, key, tables_stand};
+
+/// Each table is in order of its key, where it is said to be (II.22), by the tables whose keys never fall.
+#[tactic(auto, using(packed::proofs::DemandLemmas::before_none, packed::proofs::DemandLemmas::before_more, packed::proofs::DemandLemmas::before_all, packed::proofs::DemandLemmas::before_fails), unfolding(metadata::specs::Demands::demands_of_order, metadata::specs::Demands::demands_of_order_at))]
+pub fn check_order(source: &Source, in_order: &[bool; 45]) -> Result<(), Fault>
+    requires { TellsOrder source.now.source in_order.now }
+    ensures { Answers (demands_of_order source.now) result }
+{
+    let tables = TableId::all();
+    for position in 0..tables.len() {
+        check_order_of(source, tables[position], in_order)?;
+    }
+    Ok(())
+}
+
+/// A table is in order of its key, where it is said to be.
+///
+/// Only a table that is not is walked again, for the first key that falls.
+fn check_order_of(source: &Source, table: TableId, in_order: &[bool; 45]) -> Result<(), Fault>
+    requires { TellsOrder source.now.source in_order.now }
+    ensures { Answers (demands_of_order_by source.now table (key_of table)) result }
+{
+    columns_stand();
+    tables_stand();
+    let Some(key) = key(table) else {
+        return Ok(());
+    };
+    if !source.is_said_sorted(table) {
+        return Ok(());
+    }
+    if in_order[table.number() as usize] {
+        return Ok(());
+    }
+    check_keys(source, table, key)
+}
+
+/// The keys of a table never fall.
+#[tactic(auto, using(packed::proofs::DemandLemmas::before_none, packed::proofs::DemandLemmas::before_more, packed::proofs::DemandLemmas::before_all, packed::proofs::DemandLemmas::before_fails), unfolding(metadata::specs::Demands::demands_of_keys))]
+fn check_keys(source: &Source, table: TableId, key: usize) -> Result<(), Fault>
+    requires { key < length (columns_of table) }
+    ensures { Answers (demands_of_keys source.now table key) result }
+{
+    let count = source.count(table);
+    for row in 2..count + 1 {
+        check_key(source, table, key, row)?;
+    }
+    Ok(())
+}
+
+/// A key is no lower than that of the row before.
+#[tactic(auto, unfolding(metadata::specs::Demands::demands_of_key_in))]
+fn check_key(source: &Source, table: TableId, key: usize, row: u32) -> Result<(), Fault>
+    requires first { 2 ≤ row }
+    requires last { row ≤ rows_in source.now.source table }
+    requires column { key < length (columns_of table) }
+    ensures { Answers (demands_of_key_in source.now table key row) result }
+{
+    if source.number(table, row, key) < source.number(table, row - 1, key) {
+        Err(source.fault(FaultCode::NotSorted, table, row, key))
+    } else {
+        Ok(())
+    }
+}

@@ -1,0 +1,95 @@
+ghost use Rattle.std.specs.Prelude.{◌≡◌, ◌≤◌, ◌<◌, ◌-◌, ◌+◌, ◌&&◌, ◌==◌, length, IfSome, Some, nat_lt, if◌then◌else◌};
+ghost use Rattle.packed.specs.Demand.{Answers, demands_from};
+ghost use Rattle.schema.specs.Columns.{columns_of};
+ghost use Rattle.metadata.specs.Source.{rows_in};
+ghost use Rattle.metadata.specs.Starts.{start_of};
+ghost use Rattle.metadata.specs.Demands.{demands_of_start, demands_of_run, demands_of_runs};
+ghost use Rattle.checks.specs.Runs.{IsVerdict, fault_in_row};
+
+use crate::source::Source;
+use packed::{Fault, FaultCode};
+use schema::TableId;
+
+/// Where the first owner's run begins, and the first owner behind it whose run begins before that of the owner before.
+#[derive(Clone, Copy)]
+struct Walk {
+    first: u32,
+    falls: Option<u32>,
+}
+
+/// Each member of the five runs has one owner (II.22.37, II.22.26, II.22.12 and II.22.35).
+#[tactic(auto, using(packed::proofs::DemandLemmas::fails_front, packed::proofs::DemandLemmas::fails_back, packed::proofs::DemandLemmas::all_append), unfolding(metadata::specs::Demands::demands_of_runs))]
+pub fn check_runs(source: &Source) -> Result<(), Fault>
+    ensures { Answers (demands_of_runs source.now) result }
+{
+    check_run(source, TableId::TypeDef, 4, TableId::Field)?;
+    check_run(source, TableId::TypeDef, 5, TableId::MethodDef)?;
+    check_run(source, TableId::MethodDef, 5, TableId::Param)?;
+    check_run(source, TableId::EventMap, 1, TableId::Event)?;
+    check_run(source, TableId::PropertyMap, 1, TableId::Property)
+}
+
+/// Each member has one owner, by a column of the owners.
+#[tactic(auto, using(packed::proofs::DemandLemmas::none_from), unfolding(metadata::specs::Demands::demands_of_run))]
+fn check_run(source: &Source, owner: TableId, column: usize, member: TableId) -> Result<(), Fault>
+    requires column { column < length (columns_of owner) }
+    requires members { 0 < length (columns_of member) }
+    ensures { Answers (demands_of_run source.now owner column member) result }
+{
+    if source.count(owner) == 0 {
+        if source.count(member) == 0 {
+            return Ok(());
+        }
+        return Err(source.fault(FaultCode::NoOwner, member, 1, 0));
+    }
+    let walk = walk_owners(source, owner, column, member);
+    if walk.first != 1 {
+        return Err(source.fault(FaultCode::BadRun, owner, 1, column));
+    }
+    match walk.falls {
+        Some(row) => Err(source.fault(FaultCode::BadRun, owner, row, column)),
+        None => Ok(()),
+    }
+}
+
+/// From the last owner to the first, since a null takes the start of the next owner.
+fn walk_owners(source: &Source, owner: TableId, column: usize, member: TableId) -> Walk
+    requires column { column < length (columns_of owner) }
+    ensures first { result.first ≡ start_of source.now.source owner 1 column member }
+    ensures within { IfSome result.falls (λ row. (1 ≤ row) × (row ≤ rows_in source.now.source owner)) }
+    ensures falls { IsVerdict (demands_from (demands_of_start source.now owner column member) 2 (rows_in source.now.source owner - 1))
+        (fault_in_row source.now owner column result.falls) }
+{
+    let count = source.count(owner);
+    let mut first = source.count(member) + 1;
+    let mut falls = None;
+    let mut row = count;
+    while row > 0 {
+        let number = source.number(owner, row, column);
+        let start = start_or(number, first);
+        falls = fallen(falls, row, count, first, start);
+        first = start;
+        row -= 1;
+    }
+    Walk { first, falls }
+}
+
+/// The start that a list value says, or where it is null the start of the next owner.
+fn start_or(number: u32, next: u32) -> u32
+    ensures { result ≡ (if number == 0 then next else number) }
+{
+    if number == 0 { next } else { number }
+}
+
+/// The first owner whose start falls, one row further to the front.
+fn fallen(falls: Option<u32>, row: u32, count: u32, next: u32, start: u32) -> Option<u32>
+    requires { row ≤ 0xFFFFFF }
+    ensures value { result ≡ (if nat_lt row count && nat_lt next start then Some (row + 1) else falls) }
+    ensures within { IfSome falls (λ r. (1 ≤ r) × (r ≤ count)) → IfSome result (λ r. (1 ≤ r) × (r ≤ count)) }
+{
+    if row < count && next < start {
+        Some(row + 1)
+    } else {
+        falls
+    }
+}

@@ -1,0 +1,24 @@
+use opening::{Fault, open_image, open_root};
+
+/// What bytes are opened as.
+#[derive(Clone, Copy, Debug, PartialEq)]
+pub enum Form {
+    /// A bare metadata root.
+    Root,
+    /// A file with its headers.
+    Image,
+}
+
+/// What opening these bytes is refused with.
+pub fn refusal(form: Form, bytes: &[u8]) -> Option<Fault> {
+    match form {
+        Form::Root => open_root(bytes).err(),
+        Form::Image => open_image(bytes).err(),
+    }
+}
+
+/// The code and the place of what opening these bytes is refused with.
+pub fn fault_of(form: Form, bytes: &[u8]) -> Option<(u16, u64)> {
+    let fault = refusal(form, bytes)?;
+    Some((fault.code, fault.offset))
+}

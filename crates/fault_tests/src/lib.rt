@@ -1,0 +1,22 @@
+//! Tests of what `opening` refuses, over its public calls alone.
+//!
+//! The samples stand here byte by byte. Each front of them is opened, each of them with any one byte set to
+//! 0 and to 0xFF, and each with the changes that make one demand of ECMA-335 Partition II (22 to 25) the
+//! first to fail. What is expected of changed bytes was found by another reader, written from the standard
+//! alone, and not by the calls that are tested.
+#![tactic(auto)]
+
+#[cfg(test)]
+mod answers;
+#[cfg(test)]
+mod changed_bytes;
+#[cfg(test)]
+mod faults;
+#[cfg(test)]
+mod fronts;
+#[cfg(test)]
+mod images;
+#[cfg(test)]
+mod roots;
+#[cfg(test)]
+mod samples;

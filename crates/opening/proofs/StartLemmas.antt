@@ -1,0 +1,37 @@
+-- Where the run of an owner begins, from its own number and from the next owner on.
+use Rattle.std.proofs.Common.{◌≡◌, ◌≢◌, ℕ, zero, suc, ◌+◌, ◌-◌, ◌<◌, ◌≤◌, eqb, false, refl, arith}
+use Rattle.std.proofs.lemmas.Bool.Decides.{nat_tests}
+use Rattle.schema.specs.declared.table.TableId.{TableId}
+use Rattle.metadata.specs.Source.{Source, rows_in, number_of}
+use Rattle.metadata.specs.Starts.{start_from, start_of}
+
+from_here : (value : ℕ → ℕ) (past row left : ℕ) → 0 < left → value row ≢ 0 → start_from value past row left ≡ value row
+from_here value past row zero h other = absurd (omega arith)
+from_here value past row (suc left) h other = let test : eqb (value row) 0 ≡ false = grind (arith, nat_tests) in rw test refl
+
+from_next : (value : ℕ → ℕ) (past row left rest : ℕ) → left ≡ rest + 1 → value row ≡ 0 → start_from value past row left ≡ start_from value past (row + 1) rest
+from_next value past row zero rest e null = absurd (omega arith)
+from_next value past row (suc left) rest e null = let same : left ≡ rest = omega arith in rw (null, same) refl
+
+from_none : (value : ℕ → ℕ) (past row left : ℕ) → left ≡ 0 → start_from value past row left ≡ past
+from_none value past row left e = rw e refl
+
+module _ (source : Source) (owner : TableId) (row column : ℕ) (member : TableId) where
+  -- a number that is not null is itself the start
+  pub start_here : row ≤ rows_in source owner → number_of source owner row column ≢ 0 → start_of source owner row column member ≡ number_of source owner
+      row column
+  unfolding start_of
+  start_here within other = from_here (λ r. number_of source owner r column) (rows_in source member + 1) row (rows_in source owner + 1 - row)
+      (omega arith) other
+
+  -- a null takes the start of the next owner
+  pub start_next : row ≤ rows_in source owner → number_of source owner row column ≡ 0 → start_of source owner row column member ≡ start_of source owner
+      (row + 1) column member
+  unfolding start_of
+  start_next within null = from_next (λ r. number_of source owner r column) (rows_in source member + 1) row (rows_in source owner + 1 - row)
+      (rows_in source owner + 1 - (row + 1)) (omega arith) null
+
+  -- behind the last owner
+  pub start_past : rows_in source owner < row → start_of source owner row column member ≡ rows_in source member + 1
+  unfolding start_of
+  start_past past = from_none (λ r. number_of source owner r column) (rows_in source member + 1) row (rows_in source owner + 1 - row) (omega arith)

@@ -1,0 +1,116 @@
+ghost use Rattle.std.specs.Prelude.{◌≡◌, ◌≤◌, ◌^◌, ◌↔◌, IsTrue, IfOk, IfErr, IsOkAnd, length};
+ghost use Rattle.packed.specs.Demand.{AllHold, Answers, FirstToFail};
+ghost use Rattle.pe.specs.Headers.{image_of};
+ghost use Rattle.pe.specs.Demands.{demands_of_image};
+ghost use Rattle.cli_header.specs.declared.header.CliHeader.{CliHeader as Header};
+ghost use Rattle.cli_header.specs.Demands.{demands_of_cli_header};
+ghost use Rattle.cli_header.specs.Said.{header_of};
+ghost use Rattle.metadata.specs.Metadata.{Metadata};
+ghost use Rattle.metadata.specs.Streams.{root_in};
+ghost use Rattle.metadata.specs.Model.{IsImage, IsEntryPoint};
+ghost use Rattle.metadata.specs.Placed.{source_of};
+ghost use Rattle.metadata.specs.Source.{rows_in};
+ghost use Rattle.metadata.specs.Demands.{demands_of_entry_point, demands_of_file};
+ghost use Rattle.opening.specs.Views.{row_count, HasImage};
+
+use crate::open::open_at;
+use crate::view::View;
+use cli_header::{CliHeader, headers_are_read, read_cli};
+use metadata::files_have_models;
+use packed::{Fault, FaultCode};
+use pe::{images_are_read, read_pe};
+use schema::{TableId, Token};
+
+/// The flag of a native entry point (II.25.3.3.1), which is no token.
+const NATIVE_ENTRY_POINT: u32 = 0x10;
+
+/// The CLI header of a file; else the first demand on its image and its header that it does not meet.
+fn read_header(file: &[u8]) -> Result<CliHeader, Fault>
+    ensures first { IfErr result (FirstToFail (demands_of_file file.now)) }
+    ensures header { IfOk result (λ header. header ≡ header_of (image_of file.now)) }
+    ensures image { IfOk result (λ header. AllHold (demands_of_image file.now)) }
+    ensures fields { IfOk result (λ header. AllHold (demands_of_cli_header (image_of file.now))) }
+    ensures root { IfOk result (λ header. (header.root.start ≤ header.root.«end») × (header.root.«end» ≤ length file.now)) }
+    ensures small { IfOk result (λ header. length file.now ≤ 2 ^ 30) }
+{
+    let pe = read_pe(file)?;
+    let header = read_cli(&pe)?;
+    Ok(header)
+}
+
+/// The root that a CLI header names.
+fn root_of<'a>(file: &'a [u8], header: &CliHeader) -> &'a [u8]
+    requires first { header.now.root.start ≤ header.now.root.«end» }
+    requires last { header.now.root.«end» ≤ length file.now }
+    ensures { result.now ≡ root_in file.now header.now }
+{
+    let (_, rest) = file.split_at(header.root.start);
+    let (root, _) = rest.split_at(header.root.end - header.root.start);
+    root
+}
+
+/// Whether an entry point is 0, or the token of a method or a file that exists (II.25.3.3.2).
+fn is_entry_point(entry: u32, view: &View) -> bool
+    ensures { IsTrue result ↔ IsEntryPoint entry (row_count view.now) }
+{
+    if entry == 0 {
+        return true;
+    }
+    match Token::from_u32(entry) {
+        Some(token) => match token.table {
+            TableId::MethodDef | TableId::File => {
+                1 <= token.row && token.row <= view.count(token.table)
+            }
+            _ => false,
+        },
+        None => false,
+    }
+}
+
+/// The entry point that a CLI header tells is one of the root's, unless it is native.
+#[tactic(auto, unfolding(metadata::specs::Demands::demands_of_entry_point, crate::specs::Views::row_count))]
+fn check_entry_point(header: &CliHeader, view: &View) -> Result<(), Fault>
+    requires { header.now.place ≤ 2 ^ 30 }
+    ensures { Answers (demands_of_entry_point header.now (source_of view.now)) result }
+{
+    let is_native = header.flags / NATIVE_ENTRY_POINT % 2 == 1;
+    if is_native || is_entry_point(header.entry_point_token, view) {
+        Ok(())
+    } else {
+        Err(Fault::new(FaultCode::EntryPoint, header.place as u64 + 20))
+    }
+}
+
+/// The header and the view of a file that meets all demands; else the first that it does not meet.
+fn check_file(file: &[u8]) -> Result<(CliHeader, View<'_>), Fault>
+    ensures answers { Answers (demands_of_file file.now) result }
+    ensures header { IfOk result (λ opened. opened.0 ≡ header_of (image_of file.now)) }
+    ensures view { IfOk result (λ opened. opened.1 ≡ root_in file.now opened.0) }
+{
+    let header = read_header(file)?;
+    let view = open_at(root_of(file, &header), header.root.start)?;
+    check_entry_point(&header, &view)?;
+    Ok((header, view))
+}
+
+/// Opens the file that these bytes are (II.25), in place.
+///
+/// Every demand on its headers, on its metadata root and on its entry point is checked, and it is opened
+/// exactly where it meets them all: then it has one CLI header and one model, which the view shows. It
+/// takes no memory, and its cost is linear in the bytes.
+pub fn open_image(file: &[u8]) -> Result<(CliHeader, View<'_>), Fault>
+    // What is opened is the root that the header names, and the file has this header and a model.
+    ensures found { IfOk result (λ opened. HasImage file.now opened.0) }
+    ensures view { IfOk result (λ opened. opened.1 ≡ root_in file.now opened.0) }
+    // A file that has a model is opened, with its header.
+    ensures only { (header : Header) (model : Metadata) → IsImage file.now header model → IsOkAnd result (λ opened. opened.0 ≡ header) }
+    // It has one model at most.
+    ensures one { (header other : Header) (model more : Metadata) → IsImage file.now header model → IsImage file.now other more → model ≡ more }
+    // A fault is that of the first demand that fails.
+    ensures first { IfErr result (FirstToFail (demands_of_file file.now)) }
+{
+    files_have_models();
+    images_are_read();
+    headers_are_read();
+    check_file(file)
+}

@@ -1,0 +1,33 @@
+//! Opens the metadata of a root or a file in place (ECMA-335 II.22 to II.25).
+//!
+//! [`open_root`] and [`open_image`] check every demand on the bytes that they are handed, without memory,
+//! and open them exactly where they have a model; else they answer the fault of the first demand that
+//! fails. A [`View`] shows that one model: its version, its user bytes, its cells, the runs of members, and
+//! rows by name and by key. What it answers are values and parts of the caller's bytes.
+//!
+//! ```text
+//! let (header, view) = open_image(&file)?;
+//! let row = view.find_type("System", "Object")?;
+//! for field in view.fields_of(row) { view.cell(TableId::Field, field, 1) }
+//! ```
+#![tactic(auto)]
+
+mod cell;
+mod cell_column;
+mod cell_ref;
+mod find_type;
+mod image;
+mod key_rows;
+mod open;
+mod runs_of;
+mod source_keys;
+mod view;
+
+pub use cell_ref::CellRef;
+pub use cli_header::CliHeader;
+pub use image::open_image;
+pub use key_rows::KeyRows;
+pub use open::open_root;
+pub use packed::{Fault, FaultCode};
+pub use schema::{TableId, Token};
+pub use view::View;

@@ -1,0 +1,156 @@
+ghost use Rattle.std.specs.Prelude.{◌≡◌, ◌≤◌, ◌+◌, ◌^◌, [], IfOk, IfErr, IsOk, length, unwrap_or};
+ghost use Rattle.packed.specs.Demand.{AllHold, Answers, FirstToFail, raised};
+ghost use Rattle.root.specs.Demands.{demands_of_root};
+ghost use Rattle.root.specs.Directory.{directory_of};
+ghost use Rattle.root.specs.Streams.{stream_of, place_of};
+ghost use Rattle.root.specs.declared.kind.Kind.TheVariants.{Tables, UserStrings};
+ghost use Rattle.metadata.specs.Streams.{stream_in};
+ghost use Rattle.std.specs.Option.{option_map};
+ghost use Rattle.schema.specs.Demands.{demands_of_stream};
+ghost use Rattle.schema.specs.Header.{sizes_of};
+ghost use Rattle.schema.specs.LaidOut.{IsTableStream};
+ghost use Rattle.metadata.specs.Metadata.{Metadata};
+ghost use Rattle.metadata.specs.Model.{IsModel};
+ghost use Rattle.checks.specs.Orders.{TellsOrder};
+ghost use Rattle.opening.specs.Views.{HasModel};
+ghost use Rattle.metadata.specs.Placed.{tables_in, tables_place, placed_at};
+ghost use Rattle.metadata.specs.Demands.{demands_of_tables, demands_of_metadata};
+
+use crate::view::View;
+use checks::{Source, check_tables};
+use metadata::roots_have_models;
+use packed::Fault;
+use root::{Kind, Root, read_root};
+use rows::Rows;
+use schema::{Layout, streams_are_read};
+
+/// The directory of a root that begins at a place.
+fn read_directory(root: &[u8], place: usize) -> Result<Root<'_>, Fault>
+    requires { place ≤ 2 ^ 30 }
+    ensures answers { Answers (raised place (demands_of_root root.now)) result }
+    ensures directory { IfOk result (λ directory. directory ≡ directory_of root.now) }
+    ensures small { IfOk result (λ directory. length root.now ≤ 2 ^ 30) }
+{
+    match read_root(root) {
+        Ok(directory) => Ok(directory),
+        Err(fault) => Err(fault.raised(place as u64)),
+    }
+}
+
+/// The layout of a table stream that begins at a place.
+fn read_layout(stream: &[u8], place: usize) -> Result<Layout, Fault>
+    requires { place ≤ 2 ^ 31 }
+    ensures answers { Answers (raised place (demands_of_stream stream.now)) result }
+    ensures sizes { IfOk result (λ layout. layout ≡ sizes_of stream.now) }
+    ensures stream { IfOk result (λ layout. IsTableStream stream.now layout) }
+{
+    streams_are_read();
+    match Layout::read(stream) {
+        Ok(layout) => Ok(layout),
+        Err(fault) => Err(fault.raised(place as u64)),
+    }
+}
+
+/// A stream of a root; no bytes where no header names it.
+fn stream_in<'a>(directory: &Root<'a>, kind: Kind) -> &'a [u8]
+    ensures stream { result.now ≡ unwrap_or (stream_of directory.now kind) [] }
+    ensures within { length result.now ≤ length directory.now.bytes }
+{
+    match directory.stream(kind) {
+        Some(stream) => stream,
+        None => &[],
+    }
+}
+
+/// Where the table stream of a root begins; 0 where no header names it.
+fn tables_place(directory: &Root) -> usize
+    ensures place { result ≡ unwrap_or (option_map (λ place. place.0) (place_of directory.now Tables)) 0 }
+    ensures within { result ≤ length directory.now.bytes }
+{
+    match directory.stream_place(Kind::Tables) {
+        Some(range) => range.start,
+        None => 0,
+    }
+}
+
+/// What a root is read into.
+#[derive(Drop)]
+struct Parts<'a> {
+    version: &'a str,
+    user: &'a [u8],
+    source: Source<'a>,
+}
+
+/// The parts of a root that begins at a place; else the first demand on its directory and its table
+/// stream that it does not meet.
+fn read_parts<'a>(root: &'a [u8], place: usize) -> Result<Parts<'a>, Fault>
+    requires { place ≤ 2 ^ 30 }
+    ensures first { IfErr result (FirstToFail (demands_of_metadata place root.now)) }
+    ensures source { IfOk result (λ parts. parts.source ≡ placed_at place root.now) }
+    ensures version { IfOk result (λ parts. parts.version.now ≡ (directory_of root.now).version) }
+    ensures user { IfOk result (λ parts. parts.user.now ≡ stream_in root.now (directory_of root.now).headers UserStrings) }
+    ensures directory { IfOk result (λ parts. AllHold (raised place (demands_of_root root.now))) }
+    ensures stream { IfOk result (λ parts. AllHold (raised (place + tables_place root.now) (demands_of_stream (tables_in root.now)))) }
+{
+    let directory = read_directory(root, place)?;
+    let tables = stream_in(&directory, Kind::Tables);
+    let place = place + tables_place(&directory);
+    let layout = read_layout(tables, place)?;
+    let texts = stream_in(&directory, Kind::Strings);
+    let blobs = stream_in(&directory, Kind::Blobs);
+    let guids = stream_in(&directory, Kind::Guids);
+    let rows = Rows::new(tables, layout);
+    let source = Source::new(rows, texts, blobs, guids, place);
+    let user = stream_in(&directory, Kind::UserStrings);
+    Ok(Parts {
+        version: directory.version(),
+        user,
+        source,
+    })
+}
+
+/// The parts of a root that begins at a place and meets all demands, and which tables are in order of
+/// their keys, under their numbers; else the first demand that it does not meet.
+fn check_root<'a>(root: &'a [u8], place: usize) -> Result<(Parts<'a>, [bool; 45]), Fault>
+    requires { place ≤ 2 ^ 30 }
+    ensures answers { Answers (demands_of_metadata place root.now) result }
+    ensures source { IfOk result (λ checked. checked.0.source ≡ placed_at place root.now) }
+    ensures version { IfOk result (λ checked. checked.0.version.now ≡ (directory_of root.now).version) }
+    ensures user { IfOk result (λ checked. checked.0.user.now ≡ stream_in root.now (directory_of root.now).headers UserStrings) }
+    ensures order { IfOk result (λ checked. TellsOrder checked.0.source.source checked.1) }
+{
+    let parts = read_parts(root, place)?;
+    let in_order = check_tables(&parts.source)?;
+    Ok((parts, in_order))
+}
+
+/// The view of a root that begins at a place; else the first demand that it does not meet.
+#[tactic(auto, unfolding(crate::specs::Views::user_of))]
+pub fn open_at<'a>(root: &'a [u8], place: usize) -> Result<View<'a>, Fault>
+    requires { place ≤ 2 ^ 30 }
+    ensures answers { Answers (demands_of_metadata place root.now) result }
+    ensures view { IfOk result (λ view. view ≡ root.now) }
+{
+    roots_have_models();
+    let (parts, in_order) = check_root(root, place)?;
+    Ok(View::new(root, parts.source, parts.version, parts.user, in_order))
+}
+
+/// Opens the metadata root that these bytes are (II.24.2), in place.
+///
+/// Every demand on its directory, its tables, its heaps and its signatures is checked, and it is opened
+/// exactly where it meets them all: then it has one model, and the view shows it. It takes no memory, and
+/// its cost is linear in the bytes.
+pub fn open_root(root: &[u8]) -> Result<View<'_>, Fault>
+    // What is opened is the root, and it has a model.
+    ensures found { IfOk result (λ view. (view ≡ root.now) × HasModel root.now) }
+    // A root that has a model is opened.
+    ensures only { (model : Metadata) → IsModel root.now model → IsOk result }
+    // It has one model at most.
+    ensures one { (model other : Metadata) → IsModel root.now model → IsModel root.now other → model ≡ other }
+    // A fault is that of the first demand that fails.
+    ensures first { IfErr result (FirstToFail (demands_of_metadata 0 root.now)) }
+{
+    roots_have_models();
+    open_at(root, 0)
+}

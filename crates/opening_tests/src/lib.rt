@@ -1,0 +1,27 @@
+//! Tests of what `opening` shows, over its public calls alone.
+//!
+//! A plain builder lays out roots from rows and heaps. They are opened, and the cells, the runs, the texts
+//! and the order of keys that a view shows, or the first fault, are compared with what ECMA-335 Partition II
+//! (22 to 24) says of them.
+#![tactic(auto)]
+
+#[cfg(test)]
+mod builder;
+#[cfg(test)]
+mod by_key;
+#[cfg(test)]
+mod key_order;
+#[cfg(test)]
+mod lifetimes;
+#[cfg(test)]
+mod lookups;
+#[cfg(test)]
+mod roots;
+#[cfg(test)]
+mod runs;
+#[cfg(test)]
+mod samples;
+#[cfg(test)]
+mod shown;
+#[cfg(test)]
+mod signatures;
