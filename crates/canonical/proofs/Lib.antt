@@ -1,0 +1,13 @@
+pub mod Lists
+pub mod Facts
+pub mod Widths
+pub mod Stands
+pub mod Rows
+pub mod Starts
+pub mod Tables
+pub mod Orders
+pub mod Streams
+pub mod Whole
+pub mod Models
+pub mod Sample
+pub mod ValidSample

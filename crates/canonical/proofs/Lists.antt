@@ -1,0 +1,121 @@
+-- Items of lists: those that stand in them, and those that are so from a place on.
+use Rattle.std.proofs.Common.{◌≡◌, ℕ, zero, suc, ◌+◌, ◌<◌, ◌≤◌, Bool, true, false, cond, List, [], ◌∷◌, ◌++◌, length, get_or, filter, Contains, refl, sym, ap, subst, ◌∙◌, ◌⊎◌, inl, inr, ⊎_elim, arith}
+use Rattle.std.specs.List.{flat_map, AllByRecursion}
+use Rattle.std.proofs.lemmas.Bool.{cases_Bool}
+use Rattle.metadata.specs.Rows.{AreFrom}
+
+-- ---- membership
+
+abbrev pub IsIn : {X : Type 0} → X → List X → Type 0
+IsIn x [] = ⊥
+IsIn x (y ∷ ys) = (y ≡ x) ⊎ IsIn x ys
+
+pub contains_from_in : {X : Type 0} (xs : List X) (x : X) → IsIn x xs → Contains xs x
+contains_from_in [] x h = absurd h
+contains_from_in (y ∷ ys) x (inl e) = (0, omega arith, e)
+contains_from_in (y ∷ ys) x (inr h) = let rest = contains_from_in ys x h in (suc rest.0, omega (arith, rest.1), rest.2)
+
+pub in_from_contains : {X : Type 0} (xs : List X) (x : X) → Contains xs x → IsIn x xs
+in_from_contains [] x (k, h, e) = absurd (omega arith)
+in_from_contains (y ∷ ys) x (zero, h, e) = inl e
+in_from_contains (y ∷ ys) x (suc k, h, e) = inr (in_from_contains ys x (k, omega arith, e))
+
+pub in_get_or : {X : Type 0} (xs : List X) (k : ℕ) (d : X) → k < length xs → IsIn (get_or xs k d) xs
+in_get_or [] k d below = absurd (omega arith)
+in_get_or (x ∷ xs) zero d below = inl refl
+in_get_or (x ∷ xs) (suc k) d below = inr (in_get_or xs k d (omega arith))
+
+in_left : {X : Type 0} (x : X) (xs ys : List X) → IsIn x xs → IsIn x (xs ++ ys)
+in_left x [] ys h = absurd h
+in_left x (z ∷ zs) ys (inl e) = inl e
+in_left x (z ∷ zs) ys (inr h) = inr (in_left x zs ys h)
+
+in_right : {X : Type 0} (x : X) (xs ys : List X) → IsIn x ys → IsIn x (xs ++ ys)
+in_right x [] ys h = h
+in_right x (z ∷ zs) ys h = inr (in_right x zs ys h)
+
+in_flat_map : {X Y : Type 0} (f : X → List Y) (x : X) (y : Y) (xs : List X) → IsIn x xs → IsIn y (f x) → IsIn y (flat_map f xs)
+in_flat_map f x y [] h k = absurd h
+in_flat_map f x y (z ∷ zs) (inl e) k = in_left y (f z) (flat_map f zs) (subst (λ w. IsIn y (f w)) (sym e) k)
+in_flat_map f x y (z ∷ zs) (inr h) k = in_right y (f z) (flat_map f zs) (in_flat_map f x y zs h k)
+
+pub in_three : {X Y : Type 0} (f : X → List Y) (x : X) (y : Y) (xs : List X) (xss : List (List X)) (all : List (List (List X)))
+    → IsIn xss all → IsIn xs xss → IsIn x xs → IsIn y (f x) → IsIn y (flat_map (flat_map (flat_map f)) all)
+in_three f x y xs xss all a b c h =
+    in_flat_map (flat_map (flat_map f)) xss y all a (in_flat_map (flat_map f) xs y xss b (in_flat_map f x y xs c h))
+
+-- ---- what holds of each value of a flat map
+
+and_append : {Y : Type 0} (P : Y → Type 0) (xs ys : List Y) → AllByRecursion P xs → AllByRecursion P ys → AllByRecursion P (xs ++ ys)
+and_append P [] ys a b = b
+and_append P (x ∷ xs) ys a b = (a.0, and_append P xs ys a.1 b)
+
+pub all_flat_map : {X Y : Type 0} (P : Y → Type 0) (Q : X → Type 0) (f : X → List Y) → ((x : X) → Q x → AllByRecursion P (f x)) → (xs : List X)
+    → AllByRecursion Q xs → AllByRecursion P (flat_map f xs)
+all_flat_map P Q f each [] all = tt
+all_flat_map P Q f each (x ∷ xs) all = and_append P (f x) (flat_map f xs) (each x all.0) (all_flat_map P Q f each xs all.1)
+
+pub all_from : {X : Type 0} (P : ℕ → X → Type 0) (Q : X → Type 0) → ((i : ℕ) (x : X) → P i x → Q x) → (i n : ℕ) (xs : List X) → AreFrom P i n xs
+    → AllByRecursion Q xs
+all_from P Q each i zero [] are = tt
+all_from P Q each i zero (x ∷ xs) are = absurd are
+all_from P Q each i (suc n) [] are = absurd are
+all_from P Q each i (suc n) (x ∷ xs) are = (each i x are.0, all_from P Q each (i + 1) n xs are.1)
+
+pub all_weaker : {X : Type 0} (P Q : X → Type 0) → ((x : X) → P x → Q x) → (xs : List X) → AllByRecursion P xs → AllByRecursion Q xs
+all_weaker P Q each [] all = tt
+all_weaker P Q each (x ∷ xs) all = (each x all.0, all_weaker P Q each xs all.1)
+
+pub all_at : {X : Type 0} (P : X → Type 0) (xs : List X) (k : ℕ) (d : X) → k < length xs → AllByRecursion P xs → P (get_or xs k d)
+all_at P [] k d below all = absurd (omega arith)
+all_at P (x ∷ xs) zero d below all = all.0
+all_at P (x ∷ xs) (suc k) d below all = all_at P xs k d (omega arith) all.1
+
+-- ---- items from a place on
+
+pub from_length : {X : Type 0} (P : ℕ → X → Type 0) (i n : ℕ) (xs : List X) → AreFrom P i n xs → length xs ≡ n
+from_length P i zero [] are = refl
+from_length P i zero (x ∷ xs) are = absurd are
+from_length P i (suc n) [] are = absurd are
+from_length P i (suc n) (x ∷ xs) are = ap suc (from_length P (i + 1) n xs are.1)
+
+pub from_at : {X : Type 0} (P : ℕ → X → Type 0) (i n : ℕ) (xs : List X) (k j : ℕ) (d : X) → AreFrom P i n xs → k < n → j ≡ i + k → P j (get_or xs k d)
+from_at P i zero xs k j d are below e = absurd (omega arith)
+from_at P i (suc n) [] k j d are below e = absurd are
+from_at P i (suc n) (x ∷ xs) zero j d are below e = let same : i ≡ j = omega arith in subst (λ m. P m x) same are.0
+from_at P i (suc n) (x ∷ xs) (suc k) j d are below e = from_at P (i + 1) n xs k j d are.1 (omega arith) (omega arith)
+
+pub are_from : {X : Type 0} (P : ℕ → X → Type 0) (i n : ℕ) (xs : List X) (d : X) → length xs ≡ n → ((k j : ℕ) → k < n → j ≡ i + k → P j (get_or xs k d))
+    → AreFrom P i n xs
+are_from P i zero [] d long each = tt
+are_from P i zero (x ∷ xs) d long each = absurd (omega arith)
+are_from P i (suc n) [] d long each = absurd (omega arith)
+are_from P i (suc n) (x ∷ xs) d long each =
+    (each 0 i (omega arith) (omega arith), are_from P (i + 1) n xs d (omega arith) (λ k j below e. each (suc k) j (omega arith) (omega arith)))
+
+-- ---- filters
+
+pub in_filter : {X : Type 0} (test : X → Bool) (x : X) (xs : List X) → IsIn x xs → test x ≡ true → IsIn x (filter test xs)
+in_filter test x [] h t = absurd h
+in_filter test x (z ∷ zs) (inl e) t = subst (λ b. IsIn x (cond b (z ∷ filter test zs) (filter test zs))) (sym (ap test e ∙ t)) (inl e)
+in_filter test x (z ∷ zs) (inr h) t = ⊎_elim
+    (λ (e : test z ≡ true). subst (λ b. IsIn x (cond b (z ∷ filter test zs) (filter test zs))) (sym e) (inr (in_filter test x zs h t)))
+    (λ (e : test z ≡ false). subst (λ b. IsIn x (cond b (z ∷ filter test zs) (filter test zs))) (sym e) (in_filter test x zs h t))
+    (cases_Bool (test z))
+
+pub from_filter : {X : Type 0} (test : X → Bool) (x : X) (xs : List X) → IsIn x (filter test xs) → IsIn x xs
+from_filter test x [] h = absurd h
+from_filter test x (z ∷ zs) h = ⊎_elim
+    (λ (t : test z ≡ true). ⊎_elim (λ (e : z ≡ x). inl e) (λ (l : IsIn x (filter test zs)). inr (from_filter test x zs l))
+    (subst (λ b. IsIn x (cond b (z ∷ filter test zs) (filter test zs))) t h))
+    (λ (f : test z ≡ false). inr (from_filter test x zs (subst (λ b. IsIn x (cond b (z ∷ filter test zs) (filter test zs))) f h)))
+    (cases_Bool (test z))
+
+pub length-filter_le : {X : Type 0} (test : X → Bool) (xs : List X) → length (filter test xs) ≤ length xs
+length-filter_le test [] = omega arith
+length-filter_le test (x ∷ xs) = ⊎_elim
+    (λ (t : test x ≡ true). subst (λ b. length (cond b (x ∷ filter test xs) (filter test xs)) ≤ suc (length xs)) (sym t)
+    (omega (arith, length-filter_le test xs)))
+    (λ (f : test x ≡ false). subst (λ b. length (cond b (x ∷ filter test xs) (filter test xs)) ≤ suc (length xs)) (sym f)
+    (omega (arith, length-filter_le test xs)))
+    (cases_Bool (test x))

@@ -1,0 +1,24 @@
+use Rattle.canonical.proofs.Whole.{is_model}
+use Rattle.canonical.proofs.laws.canonical_root_has_its_model.Goals as goal
+
+pub returns : goal.returns
+returns c = λ model valid small. is_model (record {
+  text = c.used_text_is_found.ensures;
+  blob = c.pooled_blob_is_found.ensures;
+  guid = c.pooled_guid_is_found.ensures;
+  pooled = c.pooled_are_distinct.ensures.each;
+  count = c.tables_stand.ensures.count;
+  position = c.tables_stand.ensures.position;
+  stand = c.tables_stand.ensures.stand;
+  rise = c.tables_stand.ensures.rise;
+  key = c.columns_stand.ensures.key;
+  reference = c.columns_stand.ensures.reference;
+  null = c.columns_stand.ensures.null;
+  few = c.tags_fit.ensures.few;
+  narrow = c.tags_fit.ensures.narrow;
+  wide = c.tags_fit.ensures.wide;
+  spelled = c.numbers_are_spelled.ensures;
+  spells = c.shortest_spells.ensures;
+  set = c.bits_are_known.ensures.set;
+  low = c.bits_are_known.ensures.low;
+}) model valid small

@@ -1,0 +1,5 @@
+pub mod Pools
+pub mod Numbers
+pub mod TableStream
+pub mod Canonical
+pub mod Valid

@@ -1,0 +1,51 @@
+-- The pools of a model: what its heaps hold (ECMA-335 II.24.2.3 to II.24.2.5).
+use Rattle.std.specs.Prelude.{ℕ, List, [], ◌∷◌, flat_map, Some}
+use Rattle.cells.specs.declared.cell.Cell.{Cell}
+use Rattle.cells.specs.declared.cell.Cell.TheVariants.{Text, Bytes, Guid, Sig}
+use Rattle.heaps.specs.Fill.{filled}
+use Rattle.heaps.specs.Distinct.{distinct}
+use Rattle.heaps.specs.TextHeap.{holders, text_heap}
+use Rattle.heaps.specs.BlobHeap.{blob_heap}
+use Rattle.heaps.specs.GuidHeap.{guid_heap}
+use Rattle.signature_values.specs.Spells.{short}
+use Rattle.metadata.specs.Metadata.{Metadata}
+
+-- the texts that a cell uses
+abbrev pub texts_of : Cell → List (List ℕ)
+texts_of (Text text) = text ∷ []
+texts_of _ = []
+
+-- the blobs; a signature is one in its shortest spelling (II.23.2)
+abbrev pub blobs_of : Cell → List (List ℕ)
+blobs_of (Bytes blob) = blob ∷ []
+blobs_of (Sig signature) = short signature ∷ []
+blobs_of _ = []
+
+-- the GUIDs; null is none
+abbrev pub guids_of : Cell → List (List ℕ)
+guids_of (Guid (Some guid)) = guid ∷ []
+guids_of _ = []
+
+-- what all cells use, by table, row and column
+unfoldable pub used : (Cell → List (List ℕ)) → Metadata → List (List ℕ)
+used values model = flat_map (flat_map (flat_map values)) model.tables
+
+-- the entries of the heaps
+pub record Pools : Type 0 where
+  pub texts : List (List ℕ)
+  pub blobs : List (List ℕ)
+  pub guids : List (List ℕ)
+
+-- those of a model: each value once, in the order of first use; texts that others end with stand in these
+abbrev pub pools_of : Metadata → Pools
+pools_of model = record { texts = holders (used texts_of model); blobs = distinct (used blobs_of model); guids = distinct (used guids_of model) }
+
+-- the streams of the heaps
+abbrev pub texts_stream : Metadata → List ℕ
+texts_stream model = filled (text_heap (pools_of model).texts)
+
+abbrev pub blobs_stream : Metadata → List ℕ
+blobs_stream model = filled (blob_heap (pools_of model).blobs)
+
+abbrev pub guids_stream : Metadata → List ℕ
+guids_stream model = filled (guid_heap (pools_of model).guids)

@@ -1,0 +1,53 @@
+-- The canonical table stream of a model (ECMA-335 II.24.2.6).
+use Rattle.std.specs.Prelude.{ℕ, ◌+◌, ◌^◌, Bool, true, false, ◌&&◌, nat_lt, nat_le, if◌then◌else◌, List, [], ◌∷◌, ◌++◌, map, length, count_by, slice_index, Option, Some, None}
+use Rattle.schema.specs.declared.table.TableId.{TableId}
+use Rattle.schema.specs.Tables.{tables}
+use Rattle.schema.specs.Columns.{key_of}
+use Rattle.schema.specs.Sizes.{Sizes, header_size}
+use Rattle.schema.specs.LaidOut.{number_bytes, tables_bytes, bits_of, counts_bytes}
+use Rattle.heaps.specs.Fill.{filled}
+use Rattle.metadata.specs.Metadata.{Metadata, count_in}
+use Rattle.canonical.specs.Pools.{texts_stream, blobs_stream, guids_stream}
+use Rattle.canonical.specs.Numbers.{table_numbers, numbers}
+
+-- a table has rows
+abbrev pub has_rows : Metadata → TableId → Bool
+has_rows model table = nat_lt 0 (count_in model table)
+
+-- the bit of a heap in HeapSizes, set where its stream has 65536 bytes or more: then its indexes have four
+abbrev pub wide_bit : List ℕ → ℕ → ℕ
+wide_bit stream bit = if nat_le (2 ^ 16) (length stream) then bit else 0
+
+-- numbers never fall
+abbrev pub rises : List ℕ → Bool
+rises [] = true
+rises (first ∷ []) = true
+rises (first ∷ second ∷ rest) = nat_le first second && rises (second ∷ rest)
+
+-- rows are in order of a key, if there is one
+abbrev pub is_by_key : List (List ℕ) → Option ℕ → Bool
+is_by_key rows None = false
+is_by_key rows (Some key) = rises (map (λ row. slice_index row key) rows)
+
+-- the table has a key, and its rows are in order of it (II.22)
+abbrev pub is_sorted : Metadata → TableId → Bool
+is_sorted model table = is_by_key (table_numbers model table) (key_of table)
+
+-- the counts of the tables, HeapSizes, Sorted, and where the first table begins, behind the counts of those that have rows
+unfoldable pub sizes_of : Metadata → Sizes
+sizes_of model = record {
+  counts = map (count_in model) tables;
+  heap_sizes = wide_bit (texts_stream model) 1 + wide_bit (guids_stream model) 2 + wide_bit (blobs_stream model) 4;
+  sorted = bits_of (is_sorted model) tables;
+  body = header_size (count_by (has_rows model) tables);
+}
+
+-- four reserved bytes, version 2 and 0, HeapSizes, a reserved byte, Valid, Sorted and the counts
+unfoldable pub header_bytes : Metadata → List ℕ
+header_bytes model =
+    (0 ∷ 0 ∷ 0 ∷ 0 ∷ []) ++ (2 ∷ 0 ∷ (sizes_of model).heap_sizes ∷ 1 ∷ []) ++ number_bytes 8 (bits_of (has_rows model) tables)
+    ++ number_bytes 8 (sizes_of model).sorted ++ counts_bytes (has_rows model) (sizes_of model) tables
+
+-- the header and the rows of all tables; a number that is too great for its field stands there by its low bytes
+unfoldable pub table_stream : Metadata → List ℕ
+table_stream model = filled (header_bytes model ++ tables_bytes (sizes_of model) tables (numbers model))

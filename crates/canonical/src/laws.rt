@@ -1,0 +1,50 @@
+ghost use Rattle.std.specs.Prelude.{◌≡◌, ◌^◌, ◌≤◌, ℕ, List, length};
+ghost use Rattle.metadata.specs.Metadata.{Metadata};
+ghost use Rattle.metadata.specs.Model.{IsModel};
+ghost use Rattle.canonical.specs.Canonical.{canonical};
+ghost use Rattle.canonical.specs.Valid.{IsValid};
+
+use heaps::{pooled_are_distinct, pooled_blob_is_found, pooled_guid_is_found, used_text_is_found};
+use metadata::roots_have_models;
+use schema::{
+    bits_are_known, cells_stand, columns_stand, numbers_are_spelled, tables_stand, tags_fit,
+};
+use signature_values::{shortest_spells, spelled_is_spellable};
+
+/// The model of a root is valid.
+pub fn models_of_roots_are_valid()
+    ensures { (root : List ℕ) (model : Metadata) → IsModel root model → IsValid model }
+{
+    tables_stand();
+    cells_stand();
+    spelled_is_spellable();
+}
+
+/// The canonical root of a valid model has this model.
+///
+/// A root of more than 2^30 bytes has none.
+pub fn canonical_root_has_its_model()
+    ensures { (model : Metadata) → IsValid model → length (canonical model) ≤ 2 ^ 30 → IsModel (canonical model) model }
+{
+    used_text_is_found();
+    pooled_blob_is_found();
+    pooled_guid_is_found();
+    pooled_are_distinct();
+    tables_stand();
+    columns_stand();
+    tags_fit();
+    bits_are_known();
+    numbers_are_spelled();
+    shortest_spells();
+}
+
+/// A valid model is the only one of its canonical root: every model of that root equals it, and two
+/// valid models with one canonical root are one.
+pub fn canonical_root_is_one()
+    ensures only { (model other : Metadata) → IsValid model → length (canonical model) ≤ 2 ^ 30 → IsModel (canonical model) other → model ≡ other }
+    ensures apart { (model other : Metadata) → IsValid model → IsValid other → length (canonical model) ≤ 2 ^ 30
+        → length (canonical other) ≤ 2 ^ 30 → canonical model ≡ canonical other → model ≡ other }
+{
+    canonical_root_has_its_model();
+    roots_have_models();
+}

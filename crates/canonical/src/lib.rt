@@ -1,0 +1,16 @@
+//! The canonical root of a model: its one spelling (ECMA-335 II.24.2).
+//!
+//! There is no code here, but definitions in `specs/` and their laws. `Canonical.antt` says which bytes
+//! a model is written as; `Valid.antt` which models are valid, as the model of each root is
+//! ([`models_of_roots_are_valid`]). The canonical root of a valid model has this model, and no other:
+//! [`canonical_root_has_its_model`], [`canonical_root_is_one`].
+//!
+//! ```text
+//! canonical model    -- the bytes of the canonical root
+//! IsValid model -> length (canonical model) <= 2 ^ 30 -> IsModel (canonical model) model
+//! ```
+#![tactic(auto)]
+
+mod laws;
+
+pub use laws::{canonical_root_has_its_model, canonical_root_is_one, models_of_roots_are_valid};
