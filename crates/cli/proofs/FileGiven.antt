@@ -24,7 +24,7 @@ set_fills a replaces some again values rows none f =
     go [] lt = absurd (omega arith)
     go (v ∷ vs) lt = filled_with a.id (reading_by a) CommandLine v vs (without a.id rows) (filled_without a.id rows f)
 
--- the arguments of `root`, as `clap` completes them
+-- the arguments of a subcommand that reads a file, as `clap` completes them
 abbrev built_file : Rule
 built_file = with_index 1 (filled file)
 
@@ -56,21 +56,30 @@ bare_value : (values : List Text) → 0 < length (values_or_missing built_bare v
 bare_value [] = omega arith
 bare_value (v ∷ vs) = omega arith
 
+file_fills : Fills built_file
+file_fills = set_fills built_file (λ values rows. refl) file_value
+
+bare_fills : Fills built_bare
+bare_fills = set_fills built_bare (λ values rows. refl) (λ again values rows none. bare_value values)
+
+needed : (given others : Bool) → (not given || others) ≡ false → given ≡ true
+needed true others e = refl
+needed false others e = cc
+
 clim_ready : AllReady (built clim).subs
 clim_ready = (
   record {
-    fills = (
-      set_fills built_file (λ values rows. refl) file_value,
-      (set_fills built_bare (λ values rows. refl) (λ again values rows none. bare_value values), ((λ again values rows none f. f), tt)),
-    );
-    needs_file = λ rows all. needs (is_given (codes "FILE") rows) _ all;
+    fills = (file_fills, (bare_fills, ((λ again values rows none f. f), tt)));
+    needs_file = λ rows all. needed (is_given (codes "FILE") rows) _ all;
   },
-  tt,
+  (
+    record {
+      fills = (file_fills, (bare_fills, ((λ again values rows none f. f), tt)));
+      needs_file = λ rows all. needed (is_given (codes "FILE") rows) _ all;
+    },
+    tt,
+  ),
 )
-  where
-    needs : (b others : Bool) → (not b || others) ≡ false → b ≡ true
-    needs true others e = refl
-    needs false others e = cc
 
 -- nothing is wanted that is not there
 none_wanted : (wants_help wants_subcommand negates any : Bool) → check_kinds wants_help wants_subcommand (not (negates && false) && any) ≡ [] → any ≡ false

@@ -11,7 +11,7 @@ use Rattle.clap.specs.declared.ArgMatches.{ArgMatches}
 use Rattle.clap.specs.declared.ArgMatches.TheViews.{out-ArgMatches}
 use Rattle.cli.specs.Asked.{name_of, subcommand_named}
 use Rattle.cli.specs.declared.asked.Subcommand.{Subcommand}
-use Rattle.cli.specs.declared.asked.Subcommand.TheVariants.{Root}
+use Rattle.cli.specs.declared.asked.Subcommand.TheVariants.{Root, Check}
 
 option_map_map : {A B C : Type 0} (f : B → C) (g : A → B) (o : Option A) → option_map f (option_map g o) ≡ option_map (λ x. f (g x)) o
 option_map_map f g None = refl
@@ -30,11 +30,17 @@ rows_met m name rows named given = both_parts (subcommand_rows_of m) name rows (
 
 -- the word of the subcommand that it names
 pub named_back : (word : Text) (s : Subcommand) → subcommand_named word ≡ Some s → word ≡ name_of s
-named_back word Root e = go (bytes_eq word (codes "root")) (bytes_eq-Decides word (codes "root")).0 e
+named_back word s e =
+    go (bytes_eq word (codes "root")) (bytes_eq word (codes "check"))
+    (bytes_eq-Decides word (codes "root")).0 (bytes_eq-Decides word (codes "check")).0 s e
   where
-    go : (b : Bool) → (b ≡ true → word ≡ codes "root") → (if b then Some Root else None) ≡ Some Root → word ≡ codes "root"
-    go true same is = same refl
-    go false same is = cc
+    go : (root check : Bool) → (root ≡ true → word ≡ codes "root") → (check ≡ true → word ≡ codes "check") → (s : Subcommand)
+        → (if root then Some Root else if check then Some Check else None) ≡ Some s → word ≡ name_of s
+    go true check is_root is_check Root is = is_root refl
+    go true check is_root is_check Check is = cc
+    go false true is_root is_check Root is = cc
+    go false true is_root is_check Check is = is_check refl
+    go false false is_root is_check s is = cc
 
 -- a flag reads as true exactly where its text is `true`
 flag_reads : (E : Type 0) (o : Option Text) (r : Option Bool) → (o ≡ None → r ≡ None)

@@ -5,15 +5,19 @@ use Rattle.clap.specs.Words.{Row, Text, first_of, one_of, subcommand_of}
 use Rattle.cli.specs.CommandLine.{clim}
 use Rattle.cli.specs.declared.asked.Ask.{Ask}
 use Rattle.cli.specs.declared.asked.Subcommand.{Subcommand}
-use Rattle.cli.specs.declared.asked.Subcommand.TheVariants.{Root}
+use Rattle.cli.specs.declared.asked.Subcommand.TheVariants.{Root, Check}
 
 -- the word of a subcommand
 abbrev pub name_of : Subcommand → Text
 name_of Root = codes "root"
+name_of Check = codes "check"
 
 -- the subcommand that a word names
 abbrev pub subcommand_named : Text → Option Subcommand
-subcommand_named word = if bytes_eq word (name_of Root) then Some Root else None
+subcommand_named word =
+    if bytes_eq word (name_of Root) then Some Root
+    else if bytes_eq word (name_of Check) then Some Check
+    else None
 
 -- the words name the subcommand, and give it the flag and the values
 pub record Gives (words : List Text) (ask : Ask) : Type 0 where

@@ -1,7 +1,7 @@
 -- The command line of the program, in the words of `clap`: what each command is called, and which
 -- arguments it takes.
 use Rattle.std.specs.Prelude.{Some, true, codes}
-use Rattle.clap.specs.Words.{App, Rule, new_app, new_rule, with_rule, with_subcommand}
+use Rattle.clap.specs.Words.{App, Rule, Text, new_app, new_rule, with_rule, with_subcommand}
 use Rattle.clap.specs.Simple.{on_top}
 use Rattle.clap.specs.declared.builder.action.ArgAction.TheVariants.{Set, SetTrue}
 
@@ -13,9 +13,17 @@ file = record (new_rule (codes "FILE")) { action = Some Set; required = true }
 abbrev pub bare : Rule
 bare = record (new_rule (codes "bare")) { long = Some (codes "bare"); action = Some SetTrue }
 
+-- a subcommand that reads a file: `NAME [--bare] FILE`
+abbrev pub reader : Text → App
+reader name = with_rule (with_rule (new_app name) file) bare
+
 -- `root [--bare] FILE`
 abbrev pub root : App
-root = with_rule (with_rule (new_app (codes "root")) file) bare
+root = reader (codes "root")
+
+-- `check [--bare] FILE`
+abbrev pub check : App
+check = reader (codes "check")
 
 -- `clim SUBCOMMAND ..`, where the subcommand must be there and `help` is none
 abbrev pub without_subcommands : App
@@ -26,4 +34,4 @@ without_subcommands = on_top (λ s. record s {
 }) (new_app (codes "clim"))
 
 abbrev pub clim : App
-clim = with_subcommand without_subcommands root.top
+clim = with_subcommand (with_subcommand without_subcommands root.top) check.top

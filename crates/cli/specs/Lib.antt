@@ -1,2 +1,4 @@
 pub mod CommandLine
 pub mod Asked
+pub mod Checked
+pub mod Status

@@ -5,7 +5,7 @@ ghost use Rattle.cli.specs.Asked.{Gives};
 ghost use Rattle.cli.specs.CommandLine.{clim};
 
 use crate::asked::{Ask, Subcommand};
-use crate::subcommands::print_root;
+use crate::subcommands::{check_file, print_root};
 use clap::{Command, Error};
 use std::alloc::{AllocError, Global};
 
@@ -40,7 +40,8 @@ fn command<'a>(alloc: Global) -> Result<Command<'a>, AllocError>
         .after_help(STATUSES)
         .disable_help_subcommand(true)
         .subcommand_required(true)
-        .subcommand(print_root::command(alloc)?)
+        .subcommand(print_root::command(alloc)?)?
+        .subcommand(check_file::command(alloc)?)
 }
 
 const STATUSES: &str = "\

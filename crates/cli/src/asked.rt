@@ -17,6 +17,8 @@ pub struct Ask<'a> {
 pub enum Subcommand {
     /// `root`: print the metadata root's version and its directory of streams.
     Root,
+    /// `check`: tell whether the file breaks a rule of the standard.
+    Check,
 }
 
 impl Subcommand {
@@ -26,6 +28,7 @@ impl Subcommand {
     {
         match word {
             "root" => Some(Subcommand::Root),
+            "check" => Some(Subcommand::Check),
             _ => None,
         }
     }

@@ -17,6 +17,9 @@ pub(crate) enum Failure<'a> {
 }
 
 impl<'a> Failure<'a> {
+    ghost use Rattle.std.specs.Prelude.{◌≡◌};
+    ghost use Rattle.cli.specs.Status.{status_of};
+
     /// What a refused read of the file is.
     pub(crate) fn of_reading(error: &io::Error, file: &'a str) -> Failure<'a> {
         match error.kind() {
@@ -34,7 +37,9 @@ impl<'a> Failure<'a> {
     }
 
     /// The status that the process ends with.
-    pub(crate) fn status(&self) -> u8 {
+    pub(crate) fn status(&self) -> u8
+        ensures { result ≡ status_of self.now }
+    {
         match self {
             Failure::Fault(_) => 1,
             Failure::CannotRead(_) | Failure::CannotWriteOutput | Failure::OutOfMemory => 3,

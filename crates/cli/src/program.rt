@@ -1,9 +1,10 @@
-ghost use Rattle.std.specs.Prelude.{IsSome};
+ghost use Rattle.std.specs.Prelude.{◌≡◌, IfErr, IfOk, IsSome};
+ghost use Rattle.cli.specs.Status.{status_of};
 
 use crate::arguments::ask;
 use crate::asked::{Ask, Subcommand};
 use crate::failure::Failure;
-use crate::subcommands::print_root;
+use crate::subcommands::{check_file, print_root};
 use clap::error::ErrorKind;
 use std::alloc::Global;
 use std::io;
@@ -42,7 +43,10 @@ pub fn refuse_words<E: Write>(error: &io::Error, err: &mut E) -> u8 {
 }
 
 /// The status of an outcome, told first where it is a failure.
-fn status<E: Write>(outcome: Result<(), Failure<'_>>, err: &mut E) -> u8 {
+fn status<E: Write>(outcome: Result<(), Failure<'_>>, err: &mut E) -> u8
+    ensures done { IfOk outcome.entry (λ _. result ≡ 0) }
+    ensures failed { IfErr outcome.entry (λ failure. result ≡ status_of failure) }
+{
     match outcome {
         Ok(()) => 0,
         Err(failure) => {
@@ -74,6 +78,7 @@ fn run<'a, R: Files + AllocGlobal, W: Write>(
     let file = ask.file.unwrap();
     match ask.subcommand {
         Subcommand::Root => print_root::run(rt, file, ask.bare, out),
+        Subcommand::Check => check_file::run(rt, file, ask.bare, out),
     }
 }
 

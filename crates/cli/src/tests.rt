@@ -203,16 +203,79 @@ stream 128 16 #GUID
     Ok(())
 }
 
+#[test]
+fn checks_a_file(rt: HostRuntime) -> Result<(), Fail> {
+    let cases = [
+        Case::new(1024, 0, b"", 0, "ok\n"),
+        Case::new(736, 0, b"", 0, "ok\n"),
+        Case::new(0, 0, b"", 1, "fault 1 102 at 0: DosHeader\n"),
+        Case::new(2, 0, b"", 1, "fault 1 102 at 0: DosHeader\n"),
+        Case::new(735, 0, b"", 1, "fault 2 204 at 528: MetadataAddress\n"),
+        Case::new(
+            1024,
+            152,
+            &[0x0B, 0x02],
+            1,
+            "fault 1 105 at 148: Pe32PlusSize\n",
+        ),
+        Case::new(1024, 633, b"-", 1, "fault 3 307 at 624: Uncompressed\n"),
+        Case::new(1024, 704, &[2], 1, "fault 5 504 at 704: BadGuid\n"),
+        Case::new(1024, 543, &[0x06], 1, "fault 8 801 at 540: EntryPoint\n"),
+        Case::new(
+            1024,
+            540,
+            &[1, 0, 0, 0x06],
+            1,
+            "fault 8 801 at 540: EntryPoint\n",
+        ),
+        Case::new(1024, 536, &[0x10, 0, 0, 0, 1, 0, 0, 0x06], 0, "ok\n"),
+    ];
+    let sample = image(rt.alloc())?;
+    for case in &cases {
+        assert_eq!(rt; other_answer(&rt, &["clim", "check"], &sample, case)?, None);
+    }
+    Ok(())
+}
+
+#[test]
+fn checks_a_root(rt: HostRuntime) -> Result<(), Fail> {
+    let cases = [
+        Case::new(144, 0, b"", 0, "ok\n"),
+        Case::new(0, 0, b"", 1, "fault 3 301 at 0: RootSignature\n"),
+        Case::new(40, 0, b"", 1, "fault 3 304 at 32: StreamHeader\n"),
+        Case::new(143, 0, b"", 1, "fault 3 305 at 64: StreamRange\n"),
+        Case::new(144, 41, b"-", 1, "fault 3 307 at 32: Uncompressed\n"),
+        Case::new(144, 94, &[1], 1, "fault 4 404 at 88: UnknownTable\n"),
+        Case::new(144, 110, &[7], 0, "ok\n"),
+        Case::new(144, 110, &[8], 1, "fault 5 501 at 110: BadString\n"),
+        Case::new(144, 112, &[2], 1, "fault 5 504 at 112: BadGuid\n"),
+    ];
+    for case in &cases {
+        let words = ["clim", "check", "--bare"];
+        assert_eq!(rt; other_answer(&rt, &words, &SAMPLE, case)?, None);
+    }
+    let (status, out, err) = answer(&rt, &["clim", "check", "d.root"])?;
+    assert_eq!(rt; status, 3);
+    assert!(rt; out.is_empty());
+    assert_eq!(rt; err.as_str(), "error: cannot read d.root\n");
+    Ok(())
+}
+
 /// The file named lacks: a status of 2 shows that it was not looked for.
 #[test]
 fn tells_what_the_words_lack(rt: HostRuntime) -> Result<(), Fail> {
-    let refused: [(&[&str], &str); 13] = [
+    let refused: [(&[&str], &str); 15] = [
         (&[], "Usage: clim <COMMAND>"),
         (&["clim"], "Usage: clim <COMMAND>"),
         (&["clim", "lacks"], "unrecognized subcommand 'lacks'"),
         (
-            &["clim", "check", "--bare", "lacks"],
-            "unrecognized subcommand 'check'",
+            &["clim", "checks", "--bare", "lacks"],
+            "unrecognized subcommand 'checks'",
+        ),
+        (&["clim", "check"], "Usage: clim check <FILE>"),
+        (
+            &["clim", "check", "lacks", "more"],
+            "unexpected argument 'more'",
         ),
         (&["clim", "help"], "unrecognized subcommand 'help'"),
         (
@@ -250,10 +313,15 @@ fn tells_what_the_words_lack(rt: HostRuntime) -> Result<(), Fail> {
 
 #[test]
 fn helps(rt: HostRuntime) -> Result<(), Fail> {
-    let helped: [(&[&str], &[&str]); 4] = [
+    let helped: [(&[&str], &[&str]); 5] = [
         (
             &["clim", "--help"],
-            &["Usage: clim <COMMAND>", "\n  root ", "Exit status:"],
+            &[
+                "Usage: clim <COMMAND>",
+                "\n  root ",
+                "\n  check ",
+                "Exit status:",
+            ],
         ),
         (
             &["clim", "root", "--help"],
@@ -263,6 +331,13 @@ fn helps(rt: HostRuntime) -> Result<(), Fail> {
             ],
         ),
         (&["clim", "root", "-h"], &["<FILE>  ", LINES_IN_HELP]),
+        (
+            &["clim", "check", "--help"],
+            &[
+                "Usage: clim check [OPTIONS] <FILE>",
+                "\n  $ clim check --bare ",
+            ],
+        ),
         (&["clim", "--version"], &["clim 0.1.0\n"]),
     ];
     for (words, texts) in helped {
@@ -304,6 +379,7 @@ fn stands_full_devices(rt: HostRuntime) -> Result<(), Fail> {
         for words in [
             ["clim", "root", "--bare", "b.root"],
             ["clim", "root", "--bare", "--help"],
+            ["clim", "check", "--bare", "b.root"],
         ] {
             let mut err = Vec::new(rt.alloc());
             let status = go(&rt, &words, &mut Full { late }, &mut err);
@@ -348,5 +424,11 @@ fn asks(rt: HostRuntime) -> Result<(), Fail> {
         ask(rt.alloc(), &["clim", "root", "a.root", "--bare"])?,
         want
     );
+    let want = Ask {
+        subcommand: Subcommand::Check,
+        bare: false,
+        file: Some("a.dll"),
+    };
+    assert_eq!(rt; ask(rt.alloc(), &["clim", "check", "a.dll"])?, want);
     Ok(())
 }

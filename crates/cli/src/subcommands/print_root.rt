@@ -9,7 +9,8 @@ ghost use Rattle.root.specs.Root.{IsRoot};
 
 use crate::failure::Failure;
 use crate::shown::Shown;
-use clap::{Arg, ArgAction, Command};
+use crate::subcommands::reader;
+use clap::Command;
 use cli_header::{CliHeader, read_cli};
 use packed::Fault;
 use pe::read_pe;
@@ -24,19 +25,12 @@ pub(crate) fn command<'a>(alloc: Global) -> Result<Command<'a>, AllocError>
     ensures app { IfOk result (λ command. app_of command ≡ line.root) }
     ensures local { IfOk result (λ command. (fields_of command).has_globals ≡ false) }
 {
-    let file = Arg::new(alloc, "FILE")
-        .required(true)
-        .action(ArgAction::Set)
-        .help("The file to read");
-    let bare = Arg::new(alloc, "bare")
-        .long("bare")
-        .action(ArgAction::SetTrue)
-        .help("FILE is a metadata root and no PE file");
-    Command::new(alloc, "root")
-        .about("Prints the CLI header, and the version and the stream headers of the metadata root")
-        .after_help(OUTPUT)
-        .arg(file)?
-        .arg(bare)
+    reader(
+        alloc,
+        "root",
+        "Prints the CLI header, and the version and the stream headers of the metadata root",
+        OUTPUT,
+    )
 }
 
 const OUTPUT: &str = "\

@@ -13,5 +13,7 @@ returns c =
     let alone : app_of c.subcommand_required.result ≡ line.without_subcommands =
     ap app_of_fields c.subcommand_required.ensures ∙ ap (on_top (λ s. record s { subcommand_required = true }))
     (ap app_of_fields c.disable_help_subcommand.ensures ∙ ap (on_top (λ s. record s { disable_help_subcommand = true })) versioned) in
-    let given = c.in_ok-command.ensures in
-    IfOk-weaker c.subcommand.result _ _ (λ r adds. adds.shape given.local ∙ ap₂ with_subcommand alone (ap (λ (a : App). a.top) given.app)) c.subcommand.ensures
+    let with_root = c.in_ok-subcommand.ensures.shape c.in_ok-command.ensures.local
+    ∙ ap₂ with_subcommand alone (ap (λ (a : App). a.top) c.in_ok-command.ensures.app) in
+    let given = c.in_ok-command-2.ensures in
+    IfOk-weaker c.subcommand-2.result _ _ (λ r adds. adds.shape given.local ∙ ap₂ with_subcommand with_root (ap (λ (a : App). a.top) given.app)) c.subcommand-2.ensures

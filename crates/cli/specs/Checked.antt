@@ -1,0 +1,16 @@
+-- What `check` finds of a file.
+use Rattle.std.specs.Prelude.{ℕ, Bool, true, false, List}
+use Rattle.cli_header.specs.declared.header.CliHeader.{CliHeader}
+use Rattle.packed.specs.Demand.{Demand}
+use Rattle.metadata.specs.Demands.{demands_of_file, demands_of_metadata}
+use Rattle.opening.specs.Views.{HasImage, HasModel}
+
+-- the bytes are a metadata root that has a model, where they are bare, and else a file that has one
+abbrev pub IsWhole : Bool → List ℕ → Type 0
+IsWhole true bytes = HasModel bytes
+IsWhole false bytes = ∥ ((header : CliHeader) × HasImage bytes header) ∥₁
+
+-- what is demanded of them, in order
+abbrev pub demands_of : Bool → List ℕ → List Demand
+demands_of true bytes = demands_of_metadata 0 bytes
+demands_of false bytes = demands_of_file bytes
