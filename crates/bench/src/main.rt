@@ -6,6 +6,11 @@ ghost use Rattle.std.specs.Prelude.{◌≡◌, true, All};
 ghost use Rattle.heaps.specs.Entries.{HasNoNul};
 ghost use Rattle.heaps.specs.Uses.{bytes_of};
 
+mod rows_opened;
+mod signatures_read;
+
+use crate::rows_opened::report_rows;
+use crate::signatures_read::report_signatures;
 use anyhow::Result;
 use heaps::TextPool;
 use std::alloc::Global;
@@ -84,7 +89,7 @@ fn report(rt: &HostRuntime, alloc: Global, name: &str, texts: &[&str]) -> Result
 }
 
 /// The next number of a sequence without a pattern.
-fn next(seed: &mut u64) -> u64 {
+pub(crate) fn next(seed: &mut u64) -> u64 {
     *seed = seed
         .wrapping_mul(6364136223846793005)
         .wrapping_add(1442695040888963407);
@@ -163,5 +168,7 @@ fn main(rt: HostRuntime) -> Result<()> {
         1,
     )?;
     report_random(&rt, alloc, "100000 the same of 20", 100_000, 20, 0)?;
-    report_random(&rt, alloc, "1000 the same of 7000", 1000, 7000, 0)
+    report_random(&rt, alloc, "1000 the same of 7000", 1000, 7000, 0)?;
+    report_rows(&rt, alloc)?;
+    report_signatures(&rt, alloc)
 }

@@ -1,14 +1,18 @@
-//! Every call of `packed` and `heaps` that has an answer for want of memory, once and, where it
-//! gives that answer, once more.
+//! Every call of `packed`, `heaps`, `signatures` and `rows` that has an answer for want of memory,
+//! once and, where it gives that answer, once more.
 //!
 //! It is run with each allocation refused in turn. It then ends with status 3 and prints nothing,
 //! where its own buffers had no memory, and else prints what it prints with ample memory. Status 4
-//! says that a call broke a promise: that a refused call changes nothing, or that a call which
-//! takes no memory does not want any.
+//! says that a call broke a promise: that a refused call changes nothing, that it answers with
+//! memory when it is made again, that bytes which spell no signature are bad even without memory, or
+//! that a call which takes no memory does not want any.
 #![tactic(auto)]
 
+mod module_row;
 mod numbers;
 mod pools;
+mod signature_blobs;
+mod signature_calls;
 mod stop;
 
 use crate::stop::Stop;
@@ -31,6 +35,7 @@ fn main(rt: HostRuntime) -> ExitCode {
 
 /// A line for each kind of call.
 fn report(alloc: Global) -> Result<String, Stop> {
+    signature_calls::all_bad(alloc)?;
     let mut lines = String::new(alloc);
     for (name, bytes) in [
         ("numbers", numbers::spelled(alloc)?),
@@ -38,6 +43,8 @@ fn report(alloc: Global) -> Result<String, Stop> {
         ("blobs", pools::blobs(alloc)?),
         ("guids", pools::guids(alloc)?),
         ("user strings", pools::user_strings(alloc)?),
+        ("signatures", signature_calls::spellings(alloc)?),
+        ("module", module_row::module_behind_a_byte(alloc)?),
     ] {
         write!(lines, "{name}")?;
         for byte in &bytes {

@@ -1,6 +1,6 @@
 ghost use Rattle.std.specs.Prelude.{◌<◌, ◌^◌, pos, neg_ℤ, ◌≤ℤ◌, ◌<ℤ◌};
 
-use crate::stop::{Stop, kept};
+use crate::stop::{Stop, again, kept};
 use packed::{put_signed, put_unsigned};
 use std::alloc::Global;
 
@@ -19,8 +19,7 @@ fn unsigned(bytes: &mut Vec<u8>, number: u32) -> Result<(), Stop>
         return Ok(());
     }
     kept(bytes.len() == len, "a refused number is not put")?;
-    put_unsigned(bytes, number)?;
-    Ok(())
+    again(put_unsigned(bytes, number))
 }
 
 /// Puts a signed number, again where memory was refused.
@@ -33,8 +32,7 @@ fn signed(bytes: &mut Vec<u8>, number: i32) -> Result<(), Stop>
         return Ok(());
     }
     kept(bytes.len() == len, "a refused number is not put")?;
-    put_signed(bytes, number)?;
-    Ok(())
+    again(put_signed(bytes, number))
 }
 
 /// The spellings of some numbers, each put again where memory was refused.

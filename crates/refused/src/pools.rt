@@ -1,4 +1,4 @@
-use crate::stop::{Stop, kept};
+use crate::stop::{Stop, again, kept};
 use heaps::{BlobPool, GuidPool, TextPool, UserHeap, guid_text};
 use std::alloc::Global;
 
@@ -19,7 +19,7 @@ fn planned(alloc: Global) -> Result<Vec<u8>, Stop> {
 /// The heap of planned texts, planned again where memory was refused.
 pub fn texts(alloc: Global) -> Result<Vec<u8>, Stop> {
     match planned(alloc) {
-        Err(Stop::Memory) => planned(alloc),
+        Err(Stop::Memory) => again(planned(alloc)),
         heap => heap,
     }
 }
@@ -41,7 +41,7 @@ pub fn blobs(alloc: Global) -> Result<Vec<u8>, Stop> {
             Ok(first) => first,
             Err(_) => {
                 kept(pool.bytes().len() == len, "a refused blob is not pooled")?;
-                pool.add(blob)?
+                again(pool.add(blob))?
             }
         };
         kept(first == index, "the index of a blob is that")?;
@@ -65,7 +65,7 @@ pub fn guids(alloc: Global) -> Result<Vec<u8>, Stop> {
             Ok(first) => first,
             Err(_) => {
                 kept(pool.bytes().len() == len, "a refused GUID is not pooled")?;
-                pool.add(guid)?
+                again(pool.add(guid))?
             }
         };
         kept(first == index, "the index of a GUID is that")?;
@@ -84,16 +84,13 @@ pub fn user_strings(alloc: Global) -> Result<Vec<u8>, Stop> {
     ] {
         let first = match heap.push(units) {
             Ok(first) => first,
-            Err(_) => heap.push(units)?,
+            Err(_) => again(heap.push(units))?,
         };
         kept(first == offset, "the offset of a user string is that")?;
     }
     let bytes = match heap.padded() {
         Ok(bytes) => bytes,
-        Err(heap) => match heap.padded() {
-            Ok(bytes) => bytes,
-            Err(_) => return Err(Stop::Memory),
-        },
+        Err(heap) => again(heap.padded())?,
     };
     Ok(bytes)
 }
@@ -103,6 +100,6 @@ pub fn guid(alloc: Global) -> Result<String, Stop> {
     let guid = [0, 1, 2, 3, 4, 5, 6, 7, 8, 9, 10, 11, 12, 13, 14, 15];
     match guid_text(alloc, &guid) {
         Ok(text) => Ok(text),
-        Err(_) => Ok(guid_text(alloc, &guid)?),
+        Err(_) => again(guid_text(alloc, &guid)),
     }
 }

@@ -1,11 +1,12 @@
 use heaps::PoolError;
+use signatures::SigError;
 use std::alloc::{AllocError, AllocFailed};
 use std::fmt;
 
 /// Why the program ends early.
 #[derive(Clone, Copy, Debug, PartialEq, Eq)]
 pub enum Stop {
-    /// Memory was refused twice, or to the program itself.
+    /// Memory was refused to the program itself.
     Memory,
     /// A call broke this promise.
     Broken(&'static str),
@@ -17,6 +18,14 @@ pub fn kept(holds: bool, promise: &'static str) -> Result<(), Stop> {
         Ok(())
     } else {
         Err(Stop::Broken(promise))
+    }
+}
+
+/// What a call answers that is made again. A run has one refusal, so this call has its memory.
+pub fn again<T: Drop, E: Drop>(answer: Result<T, E>) -> Result<T, Stop> {
+    match answer {
+        Ok(value) => Ok(value),
+        Err(_) => Err(Stop::Broken("a refused call answers where it is made again")),
     }
 }
 
@@ -43,6 +52,15 @@ impl From<PoolError> for Stop {
         match error {
             PoolError::Memory => Stop::Memory,
             PoolError::Full => Stop::Broken("a small heap is not full"),
+        }
+    }
+}
+
+impl From<SigError> for Stop {
+    fn from(error: SigError) -> Stop {
+        match error {
+            SigError::Memory => Stop::Memory,
+            SigError::Bad => Stop::Broken("a signature that is spelled is not bad"),
         }
     }
 }

@@ -1,5 +1,4 @@
-use Rattle.std.proofs.Common.{ℕ, ◌<◌, All}
-use Rattle.std.proofs.Common.{take}
+use Rattle.std.proofs.Common.{ℕ, ◌<◌}
 use Rattle.heaps.specs.Entries.{HasNoNul}
 use Rattle.heaps.specs.Uses.{bytes_of}
 use Rattle.heaps.specs.Ranking.{used_at}

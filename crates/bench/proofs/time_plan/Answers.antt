@@ -1,4 +1,4 @@
-use Rattle.std.proofs.Common.{◌≡◌, ℕ, ◌<◌, ◌≤◌, [], length, sym, subst, inl, inr, ⊎_elim, arith, rules, Contains, get_or}
+use Rattle.std.proofs.Common.{◌<◌, ◌≤◌, [], length, subst, inl, inr, ⊎_elim, arith, Contains, get_or}
 use Rattle.std.proofs.lemmas.Bool.{cases_lt}
 use Rattle.std.proofs.lemmas.List.{nil_from_length}
 use Rattle.std.proofs.lemmas.List.Elements.{Contains-get_or}
