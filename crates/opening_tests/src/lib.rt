@@ -24,4 +24,4 @@ mod samples;
 #[cfg(test)]
 mod shown;
 #[cfg(test)]
-mod signatures;
+mod spellings;
