@@ -85,10 +85,7 @@ fn read_root_at(file: &[u8], start: usize, end: usize) -> Result<Root<'_>, Fault
 {
     match read_root(&file[start..end]) {
         Ok(root) => Ok(root),
-        Err(fault) => Err(Fault {
-            offset: start as u64 + fault.offset,
-            ..fault
-        }),
+        Err(fault) => Err(fault.raised(start as u64)),
     }
 }
 
