@@ -1,4 +1,5 @@
-use opening::{Fault, open_image, open_root};
+use crate::refusals::{refusal_of_file, refusal_of_root};
+use opening::Fault;
 
 /// What bytes are opened as.
 #[derive(Clone, Copy, Debug, PartialEq)]
@@ -12,8 +13,8 @@ pub enum Form {
 /// What opening these bytes is refused with.
 pub fn refusal(form: Form, bytes: &[u8]) -> Option<Fault> {
     match form {
-        Form::Root => open_root(bytes).err(),
-        Form::Image => open_image(bytes).err(),
+        Form::Root => refusal_of_root(bytes),
+        Form::Image => refusal_of_file(bytes),
     }
 }
 

@@ -1,34 +1,12 @@
-ghost use Rattle.std.specs.Prelude.{◌≡◌};
-ghost use Rattle.metadata.specs.Rows.{cell_count};
-
 use crate::answers::{Form, fault_of};
 use crate::samples::{NO_ROWS, ONE_MODULE, TWO_TYPES, changed};
 use opening::{CellRef, View, open_root};
-use schema::{TableId, columns};
+use opening_tests::cell;
+use schema::TableId;
 use std::test::Fail;
 
 /// The GUID of the module.
 const GUID: [u8; 16] = [0, 1, 2, 3, 4, 5, 6, 7, 8, 9, 10, 11, 12, 13, 14, 15];
-
-/// How many cells a row has: the padding of Constant is none.
-#[tactic(auto, unfolding(metadata::specs::Rows::cell_columns))]
-fn cell_count(table: TableId) -> usize
-    ensures { result ≡ cell_count table }
-{
-    match table {
-        TableId::Constant => 3,
-        _ => columns(table).len(),
-    }
-}
-
-/// A cell, where the table has its row and the row has the cell.
-fn cell<'a>(view: &View<'a>, table: TableId, row: u32, column: usize) -> Option<CellRef<'a>> {
-    if 1 <= row && row <= view.count(table) && column < cell_count(table) {
-        Some(view.cell(table, row, column))
-    } else {
-        None
-    }
-}
 
 /// A cell of the first row of Module.
 fn module_cell<'a>(view: &View<'a>, column: usize) -> Option<CellRef<'a>> {

@@ -1,5 +1,6 @@
 use crate::builder::{ALL_SORTED, RootBuilder};
-use crate::shown::{cell, fault_of};
+use crate::cells_there::cell;
+use crate::shown::fault_of;
 use opening::{CellRef, View, open_root};
 use schema::{TableId, Token};
 use std::alloc::Global;

@@ -1,5 +1,5 @@
+use crate::cells_there::cell;
 use crate::samples::{one_module, two_types};
-use crate::shown::cell;
 use opening::{CellRef, open_root};
 use schema::TableId;
 use std::test::Fail;

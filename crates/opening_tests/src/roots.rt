@@ -1,6 +1,7 @@
 use crate::builder::RootBuilder;
+use crate::cells_there::cell;
 use crate::samples::{GUID, changed, one_module, two_types};
-use crate::shown::{are_same, cell, fault_of};
+use crate::shown::{are_same, fault_of};
 use opening::{CellRef, open_root};
 use schema::{TableId, Token};
 use std::alloc::Global;

@@ -1,6 +1,7 @@
 use crate::builder::RootBuilder;
+use crate::cells_there::cell;
 use crate::samples::{changed, two_types};
-use crate::shown::{Members, are_same, cell, fault_of, run_of};
+use crate::shown::{Members, are_same, fault_of, run_of};
 use opening::{CellRef, open_root};
 use schema::TableId;
 use std::alloc::Global;

@@ -1,29 +1,7 @@
-ghost use Rattle.std.specs.Prelude.{◌≡◌};
-ghost use Rattle.metadata.specs.Rows.{cell_count};
-
-use opening::{CellRef, View, open_root};
-use schema::{TableId, columns};
+use crate::cells_there::{cell, cell_count};
+use opening::{View, open_root};
+use schema::TableId;
 use std::ops::Range;
-
-/// How many cells a row has: the padding of Constant is none.
-#[tactic(auto, unfolding(metadata::specs::Rows::cell_columns))]
-fn cell_count(table: TableId) -> usize
-    ensures { result ≡ cell_count table }
-{
-    match table {
-        TableId::Constant => 3,
-        _ => columns(table).len(),
-    }
-}
-
-/// A cell, where the table has its row and the row has the cell.
-pub fn cell<'a>(view: &View<'a>, table: TableId, row: u32, column: usize) -> Option<CellRef<'a>> {
-    if 1 <= row && row <= view.count(table) && column < cell_count(table) {
-        Some(view.cell(table, row, column))
-    } else {
-        None
-    }
-}
 
 /// Whether two rows have the same cells.
 fn are_same_rows(one: &View, other: &View, table: TableId, row: u32) -> bool {

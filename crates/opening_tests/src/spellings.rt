@@ -1,5 +1,6 @@
 use crate::builder::RootBuilder;
-use crate::shown::{cell, fault_of};
+use crate::cells_there::cell;
+use crate::shown::fault_of;
 use opening::{CellRef, open_root};
 use packed::put_unsigned;
 use schema::TableId;

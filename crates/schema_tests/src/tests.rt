@@ -1,3 +1,4 @@
+use crate::refusals::refusal;
 use packed::Fault;
 use schema::{Coded, Column, ColumnKind, Layout, TableId, Token, columns, join, key, split};
 use std::process::Abort;
@@ -37,11 +38,6 @@ const CODED: [(Coded, u32, &[u8]); 13] = [
     (Coded::ResolutionScope, 2, &[0x00, 0x1A, 0x23, 0x01]),
     (Coded::TypeOrMethodDef, 1, &[0x02, 0x06]),
 ];
-
-/// The fault that bytes are refused with.
-fn fault_of(bytes: &[u8]) -> Option<Fault> {
-    Layout::read(bytes).err()
-}
 
 /// A fault of this layer.
 fn fault(code: u16, offset: u64) -> Option<Fault> {
@@ -122,7 +118,7 @@ fn refuses_each_front(rt: HostRuntime) {
             28..=37 => fault(407, 28),
             _ => None,
         };
-        assert_eq!(rt; fault_of(front), expected);
+        assert_eq!(rt; refusal(front), expected);
     }
 }
 
@@ -139,31 +135,31 @@ fn refuses_a_changed_byte(rt: HostRuntime) {
     ] {
         let mut stream = STREAM;
         stream[place] = byte;
-        assert_eq!(rt; fault_of(&stream), fault(code, offset));
+        assert_eq!(rt; refusal(&stream), fault(code, offset));
     }
     let mut stream = STREAM;
     stream[0] = 0xFF;
     stream[7] = 0xFF;
     stream[16] = 0xFF;
-    assert_eq!(rt; fault_of(&stream), None);
+    assert_eq!(rt; refusal(&stream), None);
 }
 
 #[test]
 fn counts_stand_one_behind_the_other(rt: HostRuntime) {
     let mut stream = STREAM;
     stream[8] = 0x03;
-    assert_eq!(rt; fault_of(&stream), fault(407, 32));
+    assert_eq!(rt; refusal(&stream), fault(407, 32));
     stream[24] = 0x00;
-    assert_eq!(rt; fault_of(&stream), fault(407, 32));
+    assert_eq!(rt; refusal(&stream), fault(407, 32));
     stream[30] = 0x00;
     let layout = Layout::read(&stream).ok().expect(&rt, "a table stream");
     assert_eq!(rt; layout.row_start(TableId::Module, 1), 32);
     stream[31] = 0x01;
-    assert_eq!(rt; fault_of(&stream), fault(406, 28));
+    assert_eq!(rt; refusal(&stream), fault(406, 28));
     let (front, _) = stream.split_at(31);
-    assert_eq!(rt; fault_of(front), fault(405, 24));
+    assert_eq!(rt; refusal(front), fault(405, 24));
     stream[27] = 0x01;
-    assert_eq!(rt; fault_of(&stream), fault(406, 24));
+    assert_eq!(rt; refusal(&stream), fault(406, 24));
 }
 
 #[test]
