@@ -1,12 +1,14 @@
-/* Loaded before a program, refuses the Nth call that asks for memory, N being the value of REFUSE.
-   Where REFUSE_COUNT is set, it tells on descriptor 9 how many such calls there were. */
+/* Loaded before a program, refuses the Nth call that asks for memory, N being the value of REFUSE, or each such call
+   where that is `all`. Where REFUSE_COUNT is set, it tells on descriptor 9 how many such calls there were. */
 #define _GNU_SOURCE
 #include <dlfcn.h>
 #include <stdio.h>
 #include <stdlib.h>
+#include <string.h>
 #include <unistd.h>
 
 static long calls, refuse = -1;
+static int refuses_all;
 static void *(*real_malloc)(size_t);
 static void *(*real_realloc)(void *, size_t);
 
@@ -14,8 +16,9 @@ static int refused(void) {
     if (refuse < 0) {
         const char *word = getenv("REFUSE");
         refuse = word ? atol(word) : 0;
+        refuses_all = word && !strcmp(word, "all");
     }
-    return ++calls == refuse;
+    return ++calls == refuse || refuses_all;
 }
 
 void *malloc(size_t size) {

@@ -1,5 +1,6 @@
 pub mod Lists
 pub mod Facts
+pub mod Held
 pub mod Widths
 pub mod Stands
 pub mod Rows
@@ -8,6 +9,4 @@ pub mod Tables
 pub mod Orders
 pub mod Streams
 pub mod Whole
-pub mod Models
 pub mod Sample
-pub mod ValidSample

@@ -8,27 +8,32 @@ use Rattle.schema.specs.declared.table.TableId.{TableId}
 use Rattle.schema.specs.declared.table.TableId.TheVariants.{NestedClass, TypeDef}
 use Rattle.schema.specs.declared.coded.Coded.{Coded}
 use Rattle.schema.specs.declared.column.Column.{Column}
+use Rattle.schema.specs.declared.column.ColumnKind.{ColumnKind}
 use Rattle.schema.specs.declared.column.ColumnKind.TheVariants as kind
 use Rattle.schema.specs.Columns.{columns_of, column_at, key_of, col, IsReference}
 use Rattle.schema.specs.CodedIndexes.{tables_of, tag_bits}
 use Rattle.schema.specs.Sizes.{count_of, kind_width, row_index_width, coded_width, width_of}
 use Rattle.signature_values.specs.Parts.{is_table}
-use Rattle.cells.specs.declared.cell.Cell.{Cell}
-use Rattle.cells.specs.declared.cell.Cell.TheVariants.{Number}
+use Rattle.metadata.specs.Cell.{Cell}
+use Rattle.metadata.specs.Cell.{Number}
 use Rattle.metadata.specs.Metadata.{Metadata, rows_of, count_in, cell_in}
 use Rattle.metadata.specs.Source.{number_of}
-use Rattle.metadata.specs.Rows.{is_padding, cell_columns, cell_count, column_of, table_at}
+use Rattle.schema.specs.CellColumns.{is_padding, cell_columns, cell_count, column_of}
+use Rattle.metadata.specs.Rows.{table_at}
+use Rattle.metadata.specs.Lookups.{IsKeyPlace}
+use Rattle.metadata.specs.KeyOrder.{key_number, key_in, IsKeyOrdered}
 use Rattle.metadata.specs.Rules.{is_said_sorted, IsByKey, AreByKey, AreNested}
-use Rattle.canonical.specs.Pools.{pools_of}
-use Rattle.canonical.specs.Numbers.{cell_number, numbers_of, table_numbers}
-use Rattle.canonical.specs.TableStream.{rises, is_by_key, is_sorted, sizes_of}
-use Rattle.canonical.specs.Valid.{MayRefer, IsValidCell, row_in, IsValid}
+use Rattle.canonical.specs.Pools.{Pools, pools_of}
+use Rattle.canonical.specs.Numbers.{cell_number, numbers_by}
+use Rattle.canonical.specs.TableStream.{rises, is_by_key, table_keys, is_sorted, sizes_of}
+use Rattle.metadata.specs.Valid.{row_in, IsValid}
+use Rattle.canonical.proofs.Held.{MayRefer, IsValidCell, row_long, cell_valid}
 use Rattle.canonical.proofs.Facts.{Facts}
 use Rattle.canonical.proofs.Widths.{count_is, row_fits, coded_fits, tag_found}
 use Rattle.canonical.proofs.Stands.{IsWithin}
-use Rattle.canonical.proofs.Starts.{rises_at}
-use Rattle.canonical.proofs.Rows.{cells_of, number_is, placed, has_place}
-use Rattle.canonical.proofs.Tables.{source_of, row_long, cell_valid, number_at}
+use Rattle.canonical.proofs.Starts.{rises_at, rises_from}
+use Rattle.canonical.proofs.Rows.{cells_of, placed, has_place}
+use Rattle.canonical.proofs.Tables.{source_of, number_at}
 
 -- ---- the number of a reference fits its field
 
@@ -69,38 +74,96 @@ not_padding column (inr coded) = ap is_padding coded.1
 
 -- ---- keys
 
+-- a reference has one number, in whatever pools
+key_same : (pools : Pools) (model : Metadata) (nullable : Bool) (k : ColumnKind) (P : TableId → Type 0) (cell : Cell) → MayRefer model nullable P cell
+    → cell_number pools k cell ≡ key_number k cell
+key_same pools model nullable k P cell (inl null) = rw (null.1) refl
+key_same pools model nullable k P cell (inr is) = rw (is.3) refl
+
+column_key : (pools : Pools) (model : Metadata) (column : Column) (cell : Cell) → IsReference column → IsValidCell model column.kind column.nullable cell
+    → cell_number pools column.kind cell ≡ key_number column.kind cell
+column_key pools model column cell (inl row) valid =
+    key_same pools model column.nullable column.kind (λ other. other ≡ row.0) cell (subst (λ k. IsValidCell model k column.nullable cell) row.1 valid)
+column_key pools model column cell (inr coded) valid =
+    key_same pools model column.nullable column.kind (λ table. Contains (tables_of coded.0) (Some table)) cell
+    (subst (λ k. IsValidCell model k column.nullable cell) coded.1 valid)
+
+-- the key numbers of a table, in the order of its rows
+abbrev keys_of : Metadata → TableId → ℕ → List ℕ
+keys_of model table key = map (λ (numbers : List ℕ). slice_index numbers key) (table_keys model table)
+
+keys_long : (model : Metadata) (table : TableId) (key : ℕ) → length (keys_of model table key) ≡ count_in model table
+keys_long model table key =
+    length-map (table_keys model table) (λ (numbers : List ℕ). slice_index numbers key) ∙ length-map (rows_of model table) (numbers_by key_number (columns_of table))
+
+module _ (facts : Facts) (model : Metadata) (valid : IsValid model) where
+  key_at : (table : TableId) (key place row : ℕ) → key_of table ≡ Some key → IsKeyPlace table place → 1 ≤ row → row ≤ count_in model table
+      → get_or (keys_of model table key) (row - 1) 0 ≡ key_in model table place row
+  unfolding cell_columns
+  key_at table key place row is at first last =
+      let cells = cells_of model table row in
+      let here = placed key_number (columns_of table) cells 0 place (col kind.U8) (Number 0) at.within (row_long facts model valid table row first last) in
+      let same : column_of table place ≡ key = cc in
+      let index : here.index ≡ column_of table place = omega (arith, here.at) in
+      let number : get_or (numbers_by key_number (columns_of table) cells) (column_of table place) 0 ≡ key_in model table place row =
+      subst (λ i. get_or (numbers_by key_number (columns_of table) cells) i 0 ≡ key_number (column_at table i).kind (cell_in model table row place)) index
+      here.number in
+      let many = length-map (rows_of model table) (numbers_by key_number (columns_of table)) in
+      let row_is : get_or (table_keys model table) (row - 1) [] ≡ numbers_by key_number (columns_of table) cells =
+      get_or-map (numbers_by key_number (columns_of table)) (rows_of model table) (row - 1) [] [] (omega arith) in
+      get_or-map (λ (r : List ℕ). slice_index r key) (table_keys model table) (row - 1) [] 0 (omega (arith, many))
+      ∙ ap (λ (r : List ℕ). slice_index r key) row_is
+      ∙ subst (λ i. get_or (numbers_by key_number (columns_of table) cells) i 0 ≡ key_in model table place row) same number
+
+  key_place : (table : TableId) (key : ℕ) → key_of table ≡ Some key → (place : ℕ) × IsKeyPlace table place
+  unfolding cell_columns
+  key_place table key is =
+      let reference = facts.reference table key is in
+      let place = has_place (columns_of table) 0 key key (col kind.U8) (facts.key table key is) (not_padding (column_at table key) reference) (omega arith) in
+      (place.place, record { within = place.below; key = is ∙ ap (λ (c : ℕ). Some c) (sym place.at) })
+
+  -- the Sorted bit of a table tells whether its keys are in order
+  pub order_told : (table : TableId) (key : ℕ) → key_of table ≡ Some key → is_sorted model table ≡ true → IsKeyOrdered model table
+  order_told table key is sorted = λ place row at second last.
+      let up = rises_at (keys_of model table key) (row - 1 - 1) (sym (ap (is_by_key (table_keys model table)) is) ∙ sorted)
+      (omega (arith, keys_long model table key)) in
+      let back : row - 1 - 1 + 1 ≡ row - 1 = omega arith in
+      let low = key_at table key place (row - 1) is at (omega arith) (omega arith) in
+      let high = key_at table key place row is at (omega arith) last in
+      let here = rw back at up in
+      omega (arith, low, high, here)
+
+  pub order_tells : (table : TableId) (key : ℕ) → key_of table ≡ Some key → IsKeyOrdered model table → is_sorted model table ≡ true
+  order_tells table key is ordered =
+      let place = key_place table key is in
+      ap (is_by_key (table_keys model table)) is ∙ rises_from (keys_of model table key) (λ i below.
+      let many = keys_long model table key in
+      let first : i + 1 - 1 ≡ i = omega arith in
+      let second : i + 2 - 1 ≡ i + 1 = omega arith in
+      let low = subst (λ (k : ℕ). get_or (keys_of model table key) k 0 ≡ key_in model table place.0 (i + 1)) first
+      (key_at table key place.0 (i + 1) is place.1 (omega arith) (omega arith)) in
+      let high = subst (λ (k : ℕ). get_or (keys_of model table key) k 0 ≡ key_in model table place.0 (i + 2)) second
+      (key_at table key place.0 (i + 2) is place.1 (omega arith) (omega arith)) in
+      let up = subst (λ (k : ℕ). key_in model table place.0 k ≤ key_in model table place.0 (i + 2)) second
+      (ordered place.0 (i + 2) place.1 (omega arith) (omega arith)) in
+      rw (low, high) up)
+
 module _ (facts : Facts) (model : Metadata) (valid : IsValid model) (within : IsWithin model) where
   -- the number of a key is the one by which the rows are compared
   key_value : (table : TableId) (key row : ℕ) → key_of table ≡ Some key → 1 ≤ row → row ≤ count_in model table
-      → number_of (source_of model) table row key ≡ get_or (map (λ numbers. slice_index numbers key) (table_numbers model table)) (row - 1) 0
+      → number_of (source_of model) table row key ≡ get_or (keys_of model table key) (row - 1) 0
   unfolding cell_columns number_of
   key_value table key row is first last =
-      let column = column_at table key in
-      let below = facts.key table key is in
-      let reference = facts.reference table key is in
-      let cells = cells_of model table row in
-      let place = has_place (columns_of table) 0 key key (col kind.U8) below (not_padding column reference) (omega arith) in
-      let cell = cell_in model table row place.place in
-      let here = placed (pools_of model) (columns_of table) cells 0 place.place (col kind.U8) (Number 0) place.below
-      (row_long facts model valid table row first last) in
-      let same : here.index ≡ key = omega (arith, here.at, place.at) in
-      let number : get_or (numbers_of (pools_of model) (columns_of table) cells) key 0 ≡ cell_number (pools_of model) column.kind cell =
-      subst (λ i. get_or (numbers_of (pools_of model) (columns_of table) cells) i 0 ≡ cell_number (pools_of model) (column_at table i).kind cell) same
-      here.number in
-      let good : IsValidCell model column.kind column.nullable cell =
-      subst (λ i. IsValidCell model (column_at table i).kind (column_at table i).nullable cell) place.at
-      (cell_valid facts model valid table row place.place first last place.below) in
+      let place = key_place facts model valid table key is in
+      let same : column_of table place.0 ≡ key = let e = place.1.key in cc in
+      let column = column_at table (column_of table place.0) in
+      let cell = cell_in model table row place.0 in
+      let reference = facts.reference table (column_of table place.0) place.1.key in
+      let good = cell_valid facts model valid table row place.0 first last place.1.within in
       let fits = reference_fits facts model within column cell reference good in
-      let many : length (table_numbers model table) ≡ count_in model table =
-      length-map (rows_of model table) (numbers_of (pools_of model) (columns_of table)) in
-      let row_is : get_or (table_numbers model table) (row - 1) [] ≡ numbers_of (pools_of model) (columns_of table) cells =
-      get_or-map (numbers_of (pools_of model) (columns_of table)) (rows_of model table) (row - 1) [] [] (omega arith) in
-      number_is facts model table row key (col kind.U8) first last below
-      ∙ ap (λ n. n % 256 ^ width_of (sizes_of model) column) number
-      ∙ mod-eq_of_lt fits
-      ∙ sym number
-      ∙ sym (get_or-map (λ (r : List ℕ). slice_index r key) (table_numbers model table) (row - 1) [] 0 (omega (arith, many))
-      ∙ ap (λ (r : List ℕ). slice_index r key) row_is)
+      let value = number_at facts model valid table row place.0 first last place.1.within ∙ mod-eq_of_lt fits ∙ column_key (pools_of model) model column cell reference good in
+      subst (λ (c : ℕ). number_of (source_of model) table row c ≡ key_in model table place.0 row) same value
+      ∙ sym (key_at facts model valid table key place.0 row is place.1 first last)
 
   said_sorted : (table : TableId) → is_said_sorted (source_of model) table ≡ is_sorted model table
   unfolding sizes_of
@@ -110,11 +173,9 @@ module _ (facts : Facts) (model : Metadata) (valid : IsValid model) (within : Is
   by_key table None is = tt
   by_key table (Some key) is = λ said row second last.
       let count = count_is model facts table in
-      let keys = map (λ (r : List ℕ). slice_index r key) (table_numbers model table) in
-      let many : length keys ≡ count_in model table =
-      length-map (table_numbers model table) (λ (r : List ℕ). slice_index r key)
-      ∙ length-map (rows_of model table) (numbers_of (pools_of model) (columns_of table)) in
-      let sorted : rises keys ≡ true = sym (ap (is_by_key (table_numbers model table)) is) ∙ sym (said_sorted table) ∙ said in
+      let keys = keys_of model table key in
+      let many = keys_long model table key in
+      let sorted : rises keys ≡ true = sym (ap (is_by_key (table_keys model table)) is) ∙ sym (said_sorted table) ∙ said in
       let up = rises_at keys (row - 1 - 1) sorted (omega (arith, many, count)) in
       let back : row - 1 - 1 + 1 ≡ row - 1 = omega arith in
       rw (key_value table key (row - 1) is (omega arith) (omega (arith, count)), key_value table key row is (omega arith) (omega (arith, count)))
@@ -149,4 +210,4 @@ module _ (facts : Facts) (model : Metadata) (valid : IsValid model) (within : Is
   are_nested = λ row first last.
       let count = count_is model facts NestedClass in
       rw (nested_value row 1 first (omega (arith, count)) (lit< tt) refl, nested_value row 0 first (omega (arith, count)) (lit< tt) refl)
-      (valid.nested row first (omega (arith, count)))
+      (valid.nested row (first, omega (arith, count)))

@@ -6,15 +6,16 @@ use Rattle.std.proofs.Math.Nat.{mod-lt, one-le-pow, pow-suc}
 use Rattle.schema.specs.declared.table.TableId.{TableId}
 use Rattle.schema.specs.declared.table.TableId.TheVariants.{Module}
 use Rattle.schema.specs.declared.column.Column.{Column}
+use Rattle.schema.specs.declared.column.ColumnKind.{ColumnKind}
 use Rattle.schema.specs.Tables.{tables, position_of}
 use Rattle.schema.specs.Columns.{columns_of}
 use Rattle.schema.specs.Sizes.{Sizes, width_of}
 use Rattle.schema.specs.LaidOut.{number_bytes, row_bytes, rows_bytes, tables_bytes, FitRow, FitRows, FitTables, number_in}
-use Rattle.cells.specs.declared.cell.Cell.{Cell}
+use Rattle.metadata.specs.Cell.{Cell}
 use Rattle.metadata.specs.Metadata.{Metadata, rows_of, count_in}
-use Rattle.metadata.specs.Rows.{is_padding, indexes_from}
+use Rattle.schema.specs.CellColumns.{is_padding, indexes_from}
 use Rattle.canonical.specs.Pools.{Pools, pools_of}
-use Rattle.canonical.specs.Numbers.{cell_number, with_next, numbers_of, table_numbers, numbers}
+use Rattle.canonical.specs.Numbers.{cell_number, with_next, numbers_by, numbers_of, table_numbers, numbers}
 use Rattle.canonical.specs.TableStream.{sizes_of}
 use Rattle.canonical.proofs.Facts.{Facts}
 
@@ -26,10 +27,10 @@ length-with_next true number rest n h cells = ap suc (h cells)
 length-with_next false number rest n h [] = ap suc (h [])
 length-with_next false number rest n h (cell ∷ cells) = ap suc (h cells)
 
-pub length-numbers_of : (pools : Pools) (columns : List Column) (cells : List Cell) → length (numbers_of pools columns cells) ≡ length columns
-length-numbers_of pools [] cells = refl
-length-numbers_of pools (column ∷ columns) cells =
-    length-with_next (is_padding column.kind) (cell_number pools column.kind) (numbers_of pools columns) (length columns) (length-numbers_of pools columns)
+pub length-numbers_by : (value : ColumnKind → Cell → ℕ) (columns : List Column) (cells : List Cell) → length (numbers_by value columns cells) ≡ length columns
+length-numbers_by value [] cells = refl
+length-numbers_by value (column ∷ columns) cells =
+    length-with_next (is_padding column.kind) (value column.kind) (numbers_by value columns) (length columns) (length-numbers_by value columns)
     cells
 
 -- ---- the low bytes of each number
@@ -110,7 +111,7 @@ fit_rows : (sizes : Sizes) (pools : Pools) (columns : List Column) (rows : List 
     → FitRows sizes columns (map (fields_of sizes columns) (map (numbers_of pools columns) rows))
 fit_rows sizes pools columns [] = tt
 fit_rows sizes pools columns (cells ∷ rows) =
-    (fit_row sizes columns (numbers_of pools columns cells) (length-numbers_of pools columns cells), fit_rows sizes pools columns rows)
+    (fit_row sizes columns (numbers_of pools columns cells) (length-numbers_by (cell_number pools) columns cells), fit_rows sizes pools columns rows)
 
 fit_all : (model : Metadata) (listed : List TableId) → FitTables (sizes_of model) listed (map (table_fields model) listed)
 fit_all model [] = tt
@@ -165,41 +166,41 @@ number_is facts model table row column none first last below =
     ap (λ (t : List (List ℕ)). get_or (get_or t (row - 1) []) column 0) one
     ∙ ap (λ (r : List ℕ). get_or r column 0) (two ∙ ap (fields_of (sizes_of model) (columns_of table)) three)
     ∙ field_at (sizes_of model) (columns_of table) (numbers_of (pools_of model) (columns_of table) (cells_of model table row)) column none
-    (length-numbers_of (pools_of model) (columns_of table) (cells_of model table row)) below
+    (length-numbers_by (cell_number (pools_of model)) (columns_of table) (cells_of model table row)) below
 
 -- ---- the number of each cell
 
 -- the number of the cell at a place stands at the column of that place
-pub record IsPlaced (pools : Pools) (row indexes : List ℕ) (columns : List Column) (cells : List Cell) (from place : ℕ) (none : Column)
+pub record IsPlaced (value : ColumnKind → Cell → ℕ) (row indexes : List ℕ) (columns : List Column) (cells : List Cell) (from place : ℕ) (none : Column)
     (no_cell : Cell) : Type 0 where
   pub index : ℕ
   pub at : get_or indexes place 0 ≡ from + index
   pub below : index < length columns
-  pub number : get_or row index 0 ≡ cell_number pools (get_or columns index none).kind (get_or cells place no_cell)
+  pub number : get_or row index 0 ≡ value (get_or columns index none).kind (get_or cells place no_cell)
 
-place_next : (pools : Pools) (column : Column) (columns : List Column) (from place : ℕ) (none : Column) (no_cell : Cell)
+place_next : (value : ColumnKind → Cell → ℕ) (column : Column) (columns : List Column) (from place : ℕ) (none : Column) (no_cell : Cell)
     → ((cells : List Cell) (place : ℕ) → place < length (indexes_from (from + 1) columns) → length cells ≡ length (indexes_from (from + 1) columns)
-    → IsPlaced pools (numbers_of pools columns cells) (indexes_from (from + 1) columns) columns cells (from + 1) place none no_cell)
+    → IsPlaced value (numbers_by value columns cells) (indexes_from (from + 1) columns) columns cells (from + 1) place none no_cell)
     → (b : Bool) (cells : List Cell) → place < length (cond b (indexes_from (from + 1) columns) (from ∷ indexes_from (from + 1) columns))
     → length cells ≡ length (cond b (indexes_from (from + 1) columns) (from ∷ indexes_from (from + 1) columns))
-    → IsPlaced pools (with_next b (cell_number pools column.kind) (numbers_of pools columns) cells)
+    → IsPlaced value (with_next b (value column.kind) (numbers_by value columns) cells)
     (cond b (indexes_from (from + 1) columns) (from ∷ indexes_from (from + 1) columns)) (column ∷ columns) cells from place none no_cell
-place_next pools column columns from place none no_cell next true cells below long =
+place_next value column columns from place none no_cell next true cells below long =
     let rest = next cells place below long in
     record { index = suc rest.index; at = rest.at ∙ omega arith; below = omega (arith, rest.below); number = rest.number }
-place_next pools column columns from place none no_cell next false [] below long = absurd (omega arith)
-place_next pools column columns from zero none no_cell next false (cell ∷ cells) below long =
+place_next value column columns from place none no_cell next false [] below long = absurd (omega arith)
+place_next value column columns from zero none no_cell next false (cell ∷ cells) below long =
     record { index = 0; at = omega arith; below = omega arith; number = refl }
-place_next pools column columns from (suc place) none no_cell next false (cell ∷ cells) below long =
+place_next value column columns from (suc place) none no_cell next false (cell ∷ cells) below long =
     let rest = next cells place (omega arith) (omega arith) in
     record { index = suc rest.index; at = rest.at ∙ omega arith; below = omega (arith, rest.below); number = rest.number }
 
-pub placed : (pools : Pools) (columns : List Column) (cells : List Cell) (from place : ℕ) (none : Column) (no_cell : Cell)
+pub placed : (value : ColumnKind → Cell → ℕ) (columns : List Column) (cells : List Cell) (from place : ℕ) (none : Column) (no_cell : Cell)
     → place < length (indexes_from from columns) → length cells ≡ length (indexes_from from columns)
-    → IsPlaced pools (numbers_of pools columns cells) (indexes_from from columns) columns cells from place none no_cell
-placed pools [] cells from place none no_cell below long = absurd (omega arith)
-placed pools (column ∷ columns) cells from place none no_cell below long =
-    place_next pools column columns from place none no_cell (λ rest k l e. placed pools columns rest (from + 1) k none no_cell l e) (is_padding column.kind)
+    → IsPlaced value (numbers_by value columns cells) (indexes_from from columns) columns cells from place none no_cell
+placed value [] cells from place none no_cell below long = absurd (omega arith)
+placed value (column ∷ columns) cells from place none no_cell below long =
+    place_next value column columns from place none no_cell (λ rest k l e. placed value columns rest (from + 1) k none no_cell l e) (is_padding column.kind)
     cells below long
 
 -- ---- a column that has a cell

@@ -1,8 +1,10 @@
 -- The canonical roots of small models, by computing.
-use Rattle.std.proofs.Common.{◌≡◌, ℕ, ◌++◌, List, [], ◌∷◌, refl, Some, None, false, codes}
+use Rattle.std.proofs.Common.{◌≡◌, ℕ, length, ◌++◌, List, [], ◌∷◌, refl, Some, None, false, codes}
 use Rattle.std.specs.Prelude.{replicate}
 use Rattle.root.specs.declared.kind.Kind.TheVariants.{Strings}
-use Rattle.schema.specs.declared.table.TableId.TheVariants.{TypeDef, MethodDef, Module, Assembly, PropertyMap}
+use Rattle.schema.specs.declared.table.TableId.TheVariants.{TypeDef, TypeRef, Field, MethodDef, Module, Constant, Assembly, PropertyMap}
+use Rattle.schema.specs.declared.coded.Coded.TheVariants.{TypeDefOrRef}
+use Rattle.schema.specs.declared.column.ColumnKind.TheVariants as kind
 use Rattle.schema.specs.Tables.{tables}
 use Rattle.schema.specs.Columns.{columns_of}
 use Rattle.schema.specs.Sizes.{Sizes}
@@ -12,12 +14,12 @@ use Rattle.heaps.specs.TextHeap.{is_holder}
 use Rattle.heaps.specs.BlobHeap.{counted}
 use Rattle.signature_values.specs.declared.element.Element.TheVariants.{I4}
 use Rattle.signature_values.specs.Syntax.{Body, field, method_body, simple, plain, slot, no_slots, void_ret, method}
-use Rattle.cells.specs.declared.cell.Cell.{Cell}
-use Rattle.cells.specs.declared.cell.Cell.TheVariants.{Number, Text, Bytes, Guid, Ref, Start, Sig}
+use Rattle.metadata.specs.Cell.{Cell}
+use Rattle.metadata.specs.Cell.{Number, Text, Bytes, Guid, Ref, Start, Sig}
 use Rattle.metadata.specs.Metadata.{Metadata}
 use Rattle.canonical.specs.Pools.{Pools, used}
-use Rattle.canonical.specs.Numbers.{numbers, numbers_of}
-use Rattle.canonical.specs.TableStream.{sizes_of, header_bytes, table_stream}
+use Rattle.canonical.specs.Numbers.{cell_number, numbers, numbers_of}
+use Rattle.canonical.specs.TableStream.{wide_bit, sizes_of, header_bytes, table_stream}
 use Rattle.canonical.specs.Canonical.{stream, streams_of, root_of, canonical}
 
 abbrev pub runtime : List ℕ
@@ -203,3 +205,18 @@ pub last_start : row_bytes full (columns_of PropertyMap)
     (numbers_of none (columns_of PropertyMap) (Ref (Some (record { table = TypeDef; row = 1 })) ∷ Start 65536 ∷ []))
     ≡ 0x01 ∷ 0x00 ∷ 0x00 ∷ 0x00 ∷ []
 last_start = refl
+
+-- a row of Constant: the padding is 0, and row 3 of Field is 12 among those that have constants
+pub constant_row : numbers_of none (columns_of Constant) (Number 8 ∷ Ref (Some (record { table = Field; row = 3 })) ∷ Bytes [] ∷ []) ≡ 8 ∷ 0 ∷ 12 ∷ 0 ∷ []
+constant_row = refl
+
+-- row 2 of TypeRef has the tag 1 among types
+pub coded_reference : cell_number none (kind.Coded TypeDefOrRef) (Ref (Some (record { table = TypeRef; row = 2 }))) ≡ 9
+coded_reference = refl
+
+-- indexes are wide from 65536 bytes on
+pub last_narrow : (heap : List ℕ) → length heap ≡ 65535 → wide_bit heap 4 ≡ 0
+last_narrow heap long = rw long refl
+
+pub first_wide : (heap : List ℕ) → length heap ≡ 65536 → wide_bit heap 4 ≡ 4
+first_wide heap long = rw long refl

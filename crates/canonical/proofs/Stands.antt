@@ -19,15 +19,15 @@ use Rattle.heaps.specs.BlobHeap.{blob_index}
 use Rattle.heaps.specs.GuidHeap.{guid_index}
 use Rattle.signature_values.specs.Parts.{is_table}
 use Rattle.signature_values.specs.Spells.{short, tokens}
-use Rattle.cells.specs.declared.cell.Cell.{Cell}
-use Rattle.cells.specs.declared.cell.Cell.TheVariants.{Number, Start}
+use Rattle.metadata.specs.Cell.{Cell}
+use Rattle.metadata.specs.Cell.{Number, Start}
 use Rattle.metadata.specs.Metadata.{Metadata, count_in}
 use Rattle.metadata.specs.Source.{Source, IsThere}
 use Rattle.metadata.specs.Stands.{StandsFor, Refers}
 use Rattle.canonical.specs.Pools.{used, texts_of, blobs_of, guids_of, pools_of, texts_stream, blobs_stream, guids_stream}
 use Rattle.canonical.specs.Numbers.{cell_number}
 use Rattle.canonical.specs.TableStream.{sizes_of}
-use Rattle.canonical.specs.Valid.{HasRow, MayRefer, IsValidCell}
+use Rattle.canonical.proofs.Held.{HasRow, MayRefer, IsValidCell}
 use Rattle.canonical.proofs.Lists.{IsIn, contains_from_in, all_weaker}
 use Rattle.canonical.proofs.Facts.{Facts}
 use Rattle.canonical.proofs.Widths.{text_within, blob_within, guid_within, index_fits, texts_width, guids_width, blobs_width, count_is, row_fits, coded_fits, tag_found}
@@ -186,6 +186,6 @@ stands facts model within numbers (kind.Row table) nullable start cell here null
 stands facts model within numbers (kind.Coded coded) nullable start cell here null starts valid =
     coded_stands facts model within numbers nullable coded cell null valid
 stands facts model within numbers (kind.List member) nullable start cell here null starts valid =
-    let e = valid.3 in
-    let low = low_start (count_of (sizes_of model) member) valid.0 (rw (count_is model facts member) valid.2) in
+    let e = valid.2 in
+    let low = low_start (count_of (sizes_of model) member) valid.0 (rw (count_is model facts member) valid.1) in
     (rw e low, e ∙ ap Start (sym (starts member refl ∙ ap (cell_number (pools_of model) (kind.List member)) e)))

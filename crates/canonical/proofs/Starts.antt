@@ -1,5 +1,5 @@
 -- The start of an owner's run is found again from the numbers of the column.
-use Rattle.std.proofs.Common.{◌≡◌, ℕ, zero, suc, ◌+◌, ◌%◌, ◌^◌, ◌<◌, ◌≤◌, true, false, cond, eqb, ltb, leb, List, [], ◌∷◌, length, get_or, sym, ap, subst, ◌∙◌, ◌⊎◌, inl, inr, ⊎_elim, arith}
+use Rattle.std.proofs.Common.{◌≡◌, ℕ, zero, suc, ◌+◌, ◌%◌, ◌^◌, ◌<◌, ◌≤◌, Bool, true, false, ◌&&◌, cond, eqb, ltb, leb, List, [], ◌∷◌, length, get_or, refl, sym, ap, subst, ◌∙◌, ◌⊎◌, inl, inr, ⊎_elim, arith}
 use Rattle.std.proofs.lemmas.Bool.{cases_Bool, cases_lt}
 use Rattle.std.proofs.lemmas.Bool.Decides.{nat_tests}
 use Rattle.std.proofs.Math.Nat.{mod-eq_of_lt}
@@ -47,6 +47,21 @@ rises_at (a ∷ b ∷ numbers) zero h below = let low = (both_true (leb a b) (ri
 rises_at (a ∷ b ∷ numbers) (suc i) h below =
     let up : suc i + 1 ≡ suc (i + 1) = omega arith in
     rw up (rises_at (b ∷ numbers) i (both_true (leb a b) (rises (b ∷ numbers)) h).1 (omega arith))
+
+both_is : (a b : Bool) → a ≡ true → b ≡ true → (a && b) ≡ true
+both_is true b e h = h
+both_is false b e h = e
+
+pub rises_from : (numbers : List ℕ) → ((i : ℕ) → i + 1 < length numbers → get_or numbers i 0 ≤ get_or numbers (i + 1) 0) → rises numbers ≡ true
+rises_from [] each = refl
+rises_from (a ∷ []) each = refl
+rises_from (a ∷ b ∷ numbers) each =
+    let low : a ≤ b = each 0 (omega arith) in
+    let told : leb a b ≡ true = grind (arith, nat_tests) in
+    both_is (leb a b) (rises (b ∷ numbers)) told (rises_from (b ∷ numbers) (λ i below.
+    let next : suc i + 1 ≡ suc (i + 1) = omega arith in
+    let up = each (suc i) (omega arith) in
+    rw next at up))
 
 -- a start in a column whose width follows the members: its low bytes are the start, or 0 at the start behind the last
 pub low_start : (count start : ℕ) → start ≤ count + 1 → count ≤ 0xFFFFFF

@@ -1,6 +1,6 @@
 -- The numbers of the canonical table stream stand for the cells of the model.
 use Rattle.std.proofs.Common.{◌≡◌, ◌||◌, lit<, true≢false, ℕ, zero, suc, ◌+◌, ◌-◌, ◌%◌, ◌^◌, ◌<◌, ◌≤◌, Bool, true, false, ltb, List, [], ◌∷◌, length, get_or, refl, sym, ap, subst, ◌∙◌, ◌⊎◌, inl, inr, arith}
-use Rattle.std.specs.List.{AllByRecursion, list_any}
+use Rattle.std.specs.List.{list_any}
 use Rattle.schema.specs.declared.table.TableId.{TableId}
 use Rattle.schema.specs.declared.table.TableId.TheVariants.{TypeDef, Field, MethodDef, Param, EventMap, Event, PropertyMap, Property}
 use Rattle.schema.specs.declared.column.Column.{Column}
@@ -9,19 +9,21 @@ use Rattle.schema.specs.declared.column.ColumnKind.TheVariants as kind
 use Rattle.schema.specs.Tables.{position_of}
 use Rattle.schema.specs.Columns.{columns_of, column_at, col, MayBeNull}
 use Rattle.schema.specs.Sizes.{count_of, narrow_or_wide, kind_width, width_of}
-use Rattle.cells.specs.declared.cell.Cell.{Cell}
-use Rattle.cells.specs.declared.cell.Cell.TheVariants.{Number, Start}
+use Rattle.metadata.specs.Cell.{Cell}
+use Rattle.metadata.specs.Cell.{Number, Start}
 use Rattle.metadata.specs.Metadata.{Metadata, rows_of, count_in, cell_in}
 use Rattle.metadata.specs.Source.{Source, rows_in, number_of}
 use Rattle.metadata.specs.Starts.{start_from, start_of}
 use Rattle.metadata.specs.Stands.{StandsFor}
-use Rattle.metadata.specs.Rows.{cell_columns, cell_count, column_of, IsCell, IsRow, IsTable, table_at, IsTableAt, AreTables}
+use Rattle.schema.specs.CellColumns.{cell_columns, cell_count, column_of}
+use Rattle.metadata.specs.Rows.{IsCell, IsRow, IsTable, table_at, IsTableAt, AreTables}
 use Rattle.metadata.specs.Rules.{IsOwned, AreOwned}
 use Rattle.canonical.specs.Pools.{used, texts_of, blobs_of, guids_of, pools_of}
 use Rattle.canonical.specs.Numbers.{cell_number}
 use Rattle.canonical.specs.TableStream.{sizes_of}
-use Rattle.canonical.specs.Valid.{IsValidCell, IsValidAt, IsValidRow, AreValidRows, start_in, HasOwners, IsValid}
-use Rattle.canonical.proofs.Lists.{in_get_or, in_three, all_at, from_length, from_at, are_from}
+use Rattle.metadata.specs.Valid.{start_in, HasOwners, IsValid}
+use Rattle.canonical.proofs.Held.{IsValidCell, row_long, cell_valid}
+use Rattle.canonical.proofs.Lists.{in_get_or, in_three, are_from}
 use Rattle.canonical.proofs.Facts.{Facts, position_at}
 use Rattle.canonical.proofs.Widths.{count_is}
 use Rattle.canonical.proofs.Stands.{source_with, IsUsed, IsWithin, HasNull, stands}
@@ -35,33 +37,14 @@ source_of model = source_with model (fields model)
 -- ---- the valid cells of a row
 
 module _ (facts : Facts) (model : Metadata) (valid : IsValid model) where
-  pub row_valid : (table : TableId) (row : ℕ) → 1 ≤ row → row ≤ count_in model table → IsValidRow model table (cells_of model table row)
-  row_valid table row first last =
-      let rows : AreValidRows model (position_of table) (rows_of model table) =
-      from_at (AreValidRows model) 0 38 model.tables (position_of table) (position_of table) [] valid.cells (facts.position table) (omega arith) in
-      let here : AllByRecursion (IsValidRow model table) (rows_of model table) =
-      subst (λ t. AllByRecursion (IsValidRow model t) (rows_of model table)) (facts.stand table) rows in
-      all_at (IsValidRow model table) (rows_of model table) (row - 1) [] (omega arith) here
-
-  pub row_long : (table : TableId) (row : ℕ) → 1 ≤ row → row ≤ count_in model table → length (cells_of model table row) ≡ cell_count table
-  unfolding IsValidRow
-  row_long table row first last = from_length (IsValidAt model table) 0 (cell_count table) (cells_of model table row) (row_valid table row first last)
-
-  pub cell_valid : (table : TableId) (row place : ℕ) → 1 ≤ row → row ≤ count_in model table → place < cell_count table
-      → IsValidAt model table place (cell_in model table row place)
-  unfolding IsValidRow
-  cell_valid table row place first last below =
-      from_at (IsValidAt model table) 0 (cell_count table) (cells_of model table row) place place (Number 0) (row_valid table row first last) below
-      (omega arith)
-
   pub cell_used : (table : TableId) (row place : ℕ) → 1 ≤ row → row ≤ count_in model table → place < cell_count table
       → IsUsed model (cell_in model table row place)
   unfolding used
   cell_used table row place first last below =
-      let many = from_length (AreValidRows model) 0 38 model.tables valid.cells in
+      let many = valid.tables in
       let rows = in_get_or model.tables (position_of table) [] (omega (arith, many, facts.position table)) in
       let cells = in_get_or (rows_of model table) (row - 1) [] (omega arith) in
-      let cell = in_get_or (cells_of model table row) place (Number 0) (omega (arith, row_long table row first last)) in
+      let cell = in_get_or (cells_of model table row) place (Number 0) (omega (arith, row_long facts model valid table row first last)) in
       record {
         texts = λ value h. in_three texts_of (cell_in model table row place) value (cells_of model table row) (rows_of model table) model.tables rows cells
             cell h;
@@ -82,7 +65,7 @@ module _ (facts : Facts) (model : Metadata) (valid : IsValid model) where
   is_at : (table : TableId) (row place : ℕ) → 1 ≤ row → row ≤ count_in model table → place < cell_count table → IsAt table row place (column_of table place)
   unfolding cell_columns number_of
   is_at table row place first last below =
-      let here = placed (pools_of model) (columns_of table) (cells_of model table row) 0 place (col kind.U8) (Number 0) below (row_long table row first last) in
+      let here = placed (cell_number (pools_of model)) (columns_of table) (cells_of model table row) 0 place (col kind.U8) (Number 0) below (row_long facts model valid table row first last) in
       let number = number_is facts model table row here.index (col kind.U8) first last here.below
       ∙ ap (λ n. n % 256 ^ width_of (sizes_of model) (column_at table here.index)) here.number in
       let same : here.index ≡ column_of table place = omega (arith, here.at) in
@@ -101,7 +84,6 @@ module _ (facts : Facts) (model : Metadata) (valid : IsValid model) where
 -- ---- the starts of a column
 
 record IsStart (model : Metadata) (member : TableId) (cell : Cell) : Type 0 where
-  low : 1 ≤ start_in cell
   high : start_in cell ≤ count_in model member + 1
   is : cell ≡ Start (start_in cell)
 
@@ -109,7 +91,7 @@ start_cell : (model : Metadata) (k : ColumnKind) (nullable : Bool) (member : Tab
     → IsValidCell model k nullable cell → IsStart model member cell
 start_cell model k nullable member cell e valid =
     let is = subst (λ (j : ColumnKind). IsValidCell model j nullable cell) e valid in
-    rw (is.3) (record { low = is.1; high = is.2; is = refl })
+    rw (is.2) (record { high = is.1; is = refl })
 
 module _ (facts : Facts) (model : Metadata) (valid : IsValid model) (within : IsWithin model) (table : TableId) (place : ℕ) (member : TableId)
     (below : place < cell_count table) (lists : (column_at table (column_of table place)).kind ≡ kind.List member)
@@ -133,6 +115,17 @@ module _ (facts : Facts) (model : Metadata) (valid : IsValid model) (within : Is
       number_at facts model valid table row place first last below
       ∙ ap (λ n. n % 256 ^ width_of (sizes_of model) (column_at table (column_of table place))) number ∙ ap (λ w. start row % 256 ^ w) width
 
+  -- no start is 0, as the first is 1 and none is lower than the one before
+  start_low : (n : ℕ) → n < count_in model table → 1 ≤ start (n + 1)
+  start_low zero below = omega (arith, owners.first (λ e. absurd (omega arith)))
+  start_low (suc n) below =
+      let back : suc n + 1 - 1 ≡ n + 1 = omega arith in
+      let up = subst (λ r. start r ≤ start (suc n + 1)) back (owners.rising (suc n + 1) (omega arith) (omega arith)) in
+      omega (arith, start_low n (omega arith), up)
+
+  low_at : (row : ℕ) → 1 ≤ row → row ≤ count_in model table → 1 ≤ start row
+  low_at row first last = let there : row - 1 + 1 ≡ row = omega arith in subst (λ r. 1 ≤ start r) there (start_low (row - 1) (omega arith))
+
   either : (value s count width : ℕ) → value ≡ s % 256 ^ width → (s % 256 ^ width ≡ s) ⊎ ((s % 256 ^ width ≡ 0) × (s ≡ count + 1)) → (value ≡ s)
       ⊎ ((value ≡ 0) × (s ≡ count + 1))
   either value s count width e (inl same) = inl (e ∙ same)
@@ -145,7 +138,7 @@ module _ (facts : Facts) (model : Metadata) (valid : IsValid model) (within : Is
         (narrow_or_wide (ltb (count_in model member) (2 ^ 16)))
         (value_at r (omega arith) (omega arith)) (low_start (count_in model member) (start r) (start_at r (omega arith) (omega arith)).high
         (within.counts member));
-    low = λ r l h. (start_at r (omega arith) (omega arith)).low;
+    low = λ r l h. low_at r (omega arith) (omega arith);
     high = λ r l h. (start_at r (omega arith) (omega arith)).high;
     rises = λ r l h. let up = owners.rising (r + 1) (omega arith) (omega arith) in let back : r + 1 - 1 ≡ r =
         omega arith in subst (λ k. start k ≤ start (r + 1)) back up;
@@ -267,7 +260,7 @@ module _ (facts : Facts) (model : Metadata) (valid : IsValid model) (within : Is
   pub tables_stand : AreTables (source_of model) model.tables
   unfolding IsTableAt
   tables_stand =
-      are_from (IsTableAt (source_of model)) 0 38 model.tables [] (from_length (AreValidRows model) 0 38 model.tables valid.cells)
+      are_from (IsTableAt (source_of model)) 0 38 model.tables [] valid.tables
       (λ k j below e.
       let same : position_of (table_at j) ≡ k = position_at facts.count j (omega arith) ∙ omega arith in
       subst (λ i. IsTable (source_of model) (table_at j) (get_or model.tables i [])) same (table_stands (table_at j)))

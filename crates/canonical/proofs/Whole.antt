@@ -19,11 +19,12 @@ use Rattle.schema.specs.Tables.{tables}
 use Rattle.schema.specs.Columns.{column_at}
 use Rattle.schema.specs.Sizes.{header_size}
 use Rattle.schema.specs.LaidOut.{number_bytes, tables_bytes, IsLaidOut}
-use Rattle.cells.specs.declared.cell.Cell.{Cell}
-use Rattle.cells.specs.declared.cell.Cell.TheVariants.{Guid}
+use Rattle.metadata.specs.Cell.{Cell}
+use Rattle.metadata.specs.Cell.{Guid}
 use Rattle.metadata.specs.Metadata.{Metadata, count_in}
 use Rattle.metadata.specs.Source.{Source}
-use Rattle.metadata.specs.Rows.{cell_count, column_of, table_at, AreTables}
+use Rattle.schema.specs.CellColumns.{cell_count, column_of}
+use Rattle.metadata.specs.Rows.{table_at, AreTables}
 use Rattle.metadata.specs.Rules.{AreByKey, AreOwned, AreNested}
 use Rattle.metadata.specs.Streams.{stream_in, source_in}
 use Rattle.metadata.specs.Model.{IsModel}
@@ -31,7 +32,8 @@ use Rattle.canonical.specs.Pools.{used, guids_of}
 use Rattle.canonical.specs.Numbers.{numbers}
 use Rattle.canonical.specs.TableStream.{has_rows, is_sorted, sizes_of, header_bytes, table_stream}
 use Rattle.canonical.specs.Canonical.{stream, streams_of, ended, directory, front, first_offset, root_of, canonical}
-use Rattle.canonical.specs.Valid.{MayRefer, IsValidCell, IsValidAt, IsValidRow, AreValidRows, IsValid}
+use Rattle.metadata.specs.Valid.{IsValid}
+use Rattle.canonical.proofs.Held.{MayRefer, IsValidCell, IsValidAt, IsValidRow, AreValidRows, tables_valid}
 use Rattle.canonical.proofs.Lists.{IsIn, all_flat_map, all_from, all_weaker, in_filter, length-filter_le}
 use Rattle.canonical.proofs.Facts.{Facts}
 use Rattle.canonical.proofs.Widths.{heap_sizes_low, count_is}
@@ -68,7 +70,7 @@ long_cell model kind.Blob nullable cell valid = rw (valid.2) tt
 long_cell model (kind.Signature column) nullable cell valid = rw (valid.4) tt
 long_cell model (kind.Row table) nullable cell valid = long_reference model nullable _ cell valid
 long_cell model (kind.Coded coded) nullable cell valid = long_reference model nullable _ cell valid
-long_cell model (kind.List member) nullable cell valid = rw (valid.3) tt
+long_cell model (kind.List member) nullable cell valid = rw (valid.2) tt
 
 all_first_uses : (P : List ℕ → Type 0) (before values : List (List ℕ)) → AllByRecursion P values → AllByRecursion P (first_uses before values)
 all_first_uses P before [] all = tt
@@ -81,7 +83,7 @@ all_first_uses P before (value ∷ values) all =
     (cond b (first_uses (before ++ value ∷ []) values) (value ∷ first_uses (before ++ value ∷ []) values))) (sym f) (all.0, rest))
     (cases_Bool (is_among before value))
 
-module _ (model : Metadata) (valid : IsValid model) where
+module _ (facts : Facts) (model : Metadata) (valid : IsValid model) where
   long_row : (table : TableId) (cells : List Cell) → IsValidRow model table cells → AllByRecursion HasLong cells
   unfolding IsValidRow
   long_row table cells row =
@@ -97,7 +99,7 @@ module _ (model : Metadata) (valid : IsValid model) where
       (λ cells has. all_flat_map IsLong HasLong guids_of (λ cell h. h) cells has) rows all)
       model.tables
       (all_from (AreValidRows model) (AllByRecursion (AllByRecursion HasLong))
-      (λ i rows are. all_weaker (IsValidRow model (table_at i)) (AllByRecursion HasLong) (long_row (table_at i)) rows are) 0 38 model.tables valid.cells)
+      (λ i rows are. all_weaker (IsValidRow model (table_at i)) (AllByRecursion HasLong) (long_row (table_at i)) rows are) 0 38 model.tables (tables_valid facts model valid))
 
   sixteen : All (λ guid. length guid ≡ 16) (distinct (used guids_of model))
   sixteen = All-from_recursion IsLong (distinct (used guids_of model)) (all_first_uses IsLong ([] ∷ []) (used guids_of model) long_used)
@@ -244,7 +246,7 @@ module _ (facts : Facts) (model : Metadata) (valid : IsValid model) (small : len
   short kind = omega (arith, stream_short facts model.version (stream model) kinds kind (holds kind), small)
 
   inside : IsWithin model
-  inside = record { texts = short Strings; blobs = short Blobs; guids = short Guids; counts = valid.few; sixteen = sixteen model valid }
+  inside = record { texts = short Strings; blobs = short Blobs; guids = short Guids; counts = valid.few; sixteen = sixteen facts model valid }
 
   root_headers : List Header
   root_headers = headers facts model.version (stream model) kinds
@@ -259,7 +261,7 @@ module _ (facts : Facts) (model : Metadata) (valid : IsValid model) (small : len
   user_is : model.user ≡ filled (stream_in (canonical model) root_headers UserStrings)
   user_is =
       let whole : model.user ++ replicate ((4 - length model.user % 4) % 4) 0 ≡ model.user =
-      ap (λ n. model.user ++ replicate {A = ℕ} ((4 - n) % 4) 0) valid.user_filled ∙ append-nil model.user in
+      ap (λ n. model.user ++ replicate {A = ℕ} ((4 - n) % 4) 0) valid.user.filled ∙ append-nil model.user in
       sym whole ∙ ap filled (sym (find UserStrings))
 
   -- the canonical root has the model

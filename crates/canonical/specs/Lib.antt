@@ -2,4 +2,3 @@ pub mod Pools
 pub mod Numbers
 pub mod TableStream
 pub mod Canonical
-pub mod Valid

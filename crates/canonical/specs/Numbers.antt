@@ -1,29 +1,20 @@
 -- The numbers that stand for the cells of a model (ECMA-335 II.22 and II.24.2.6).
-use Rattle.std.specs.Prelude.{ℕ, ◌+◌, ◌*◌, ◌^◌, Bool, true, false, List, [], ◌∷◌, map, Some, None}
-use Rattle.std.specs.List.{position_or_len}
+use Rattle.std.specs.Prelude.{ℕ, Bool, true, false, List, [], ◌∷◌, map, Some, None}
 use Rattle.schema.specs.declared.table.TableId.{TableId}
-use Rattle.schema.specs.declared.token.Token.{Token}
 use Rattle.schema.specs.declared.column.Column.{Column}
 use Rattle.schema.specs.declared.column.ColumnKind.{ColumnKind}
-use Rattle.schema.specs.declared.column.ColumnKind.TheVariants as kind
 use Rattle.schema.specs.Tables.{tables}
 use Rattle.schema.specs.Columns.{columns_of}
-use Rattle.schema.specs.CodedIndexes.{tables_of, tag_bits}
 use Rattle.heaps.specs.TextHeap.{text_index}
 use Rattle.heaps.specs.BlobHeap.{blob_index}
 use Rattle.heaps.specs.GuidHeap.{guid_index}
-use Rattle.signature_values.specs.Parts.{is_table}
 use Rattle.signature_values.specs.Spells.{short}
-use Rattle.cells.specs.declared.cell.Cell.{Cell}
-use Rattle.cells.specs.declared.cell.Cell.TheVariants.{Number, Text, Bytes, Guid, Ref, Start, Sig}
+use Rattle.metadata.specs.Cell.{Cell}
+use Rattle.metadata.specs.Cell.{Number, Text, Bytes, Guid, Ref, Start, Sig}
 use Rattle.metadata.specs.Metadata.{Metadata, rows_of}
-use Rattle.metadata.specs.Rows.{is_padding}
+use Rattle.metadata.specs.KeyOrder.{row_number}
+use Rattle.schema.specs.CellColumns.{is_padding}
 use Rattle.canonical.specs.Pools.{Pools, pools_of}
-
--- the number of a row: of a coded index the row, and behind it the tag of the table (II.24.2.6)
-abbrev pub row_number : ColumnKind → Token → ℕ
-row_number (kind.Coded coded) token = token.row * 2 ^ tag_bits coded + position_or_len (is_table token.table) (tables_of coded)
-row_number _ token = token.row
 
 -- the number of a cell: an index into a heap; null is 0; and a start is its number
 abbrev pub cell_number : Pools → ColumnKind → Cell → ℕ
@@ -42,10 +33,14 @@ with_next true number rest cells = 0 ∷ rest cells
 with_next false number rest [] = 0 ∷ rest []
 with_next false number rest (cell ∷ cells) = number cell ∷ rest cells
 
--- the numbers of a row, one a column
+-- the numbers of a row, one a column, by what number a cell has in a column of a kind
+abbrev pub numbers_by : (ColumnKind → Cell → ℕ) → List Column → List Cell → List ℕ
+numbers_by number [] cells = []
+numbers_by number (column ∷ columns) cells = with_next (is_padding column.kind) (number column.kind) (numbers_by number columns) cells
+
+-- those that are written
 abbrev pub numbers_of : Pools → List Column → List Cell → List ℕ
-numbers_of pools [] cells = []
-numbers_of pools (column ∷ columns) cells = with_next (is_padding column.kind) (cell_number pools column.kind) (numbers_of pools columns) cells
+numbers_of pools columns cells = numbers_by (cell_number pools) columns cells
 
 -- those of a table, by row and column
 abbrev pub table_numbers : Metadata → TableId → List (List ℕ)

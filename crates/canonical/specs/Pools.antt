@@ -1,7 +1,7 @@
 -- The pools of a model: what its heaps hold (ECMA-335 II.24.2.3 to II.24.2.5).
 use Rattle.std.specs.Prelude.{ℕ, List, [], ◌∷◌, flat_map, Some}
-use Rattle.cells.specs.declared.cell.Cell.{Cell}
-use Rattle.cells.specs.declared.cell.Cell.TheVariants.{Text, Bytes, Guid, Sig}
+use Rattle.metadata.specs.Cell.{Cell}
+use Rattle.metadata.specs.Cell.{Text, Bytes, Guid, Sig}
 use Rattle.heaps.specs.Fill.{filled}
 use Rattle.heaps.specs.Distinct.{distinct}
 use Rattle.heaps.specs.TextHeap.{holders, text_heap}

@@ -2,13 +2,14 @@
 use Rattle.std.specs.Prelude.{ℕ, ◌+◌, ◌^◌, Bool, true, false, ◌&&◌, nat_lt, nat_le, if◌then◌else◌, List, [], ◌∷◌, ◌++◌, map, length, count_by, slice_index, Option, Some, None}
 use Rattle.schema.specs.declared.table.TableId.{TableId}
 use Rattle.schema.specs.Tables.{tables}
-use Rattle.schema.specs.Columns.{key_of}
+use Rattle.schema.specs.Columns.{columns_of, key_of}
 use Rattle.schema.specs.Sizes.{Sizes, header_size}
 use Rattle.schema.specs.LaidOut.{number_bytes, tables_bytes, bits_of, counts_bytes}
 use Rattle.heaps.specs.Fill.{filled}
-use Rattle.metadata.specs.Metadata.{Metadata, count_in}
+use Rattle.metadata.specs.Metadata.{Metadata, rows_of, count_in}
+use Rattle.metadata.specs.KeyOrder.{key_number}
 use Rattle.canonical.specs.Pools.{texts_stream, blobs_stream, guids_stream}
-use Rattle.canonical.specs.Numbers.{table_numbers, numbers}
+use Rattle.canonical.specs.Numbers.{numbers_by, numbers}
 
 -- a table has rows
 abbrev pub has_rows : Metadata → TableId → Bool
@@ -29,9 +30,13 @@ abbrev pub is_by_key : List (List ℕ) → Option ℕ → Bool
 is_by_key rows None = false
 is_by_key rows (Some key) = rises (map (λ row. slice_index row key) rows)
 
+-- the key numbers of the rows of a table, each at the column of its key
+abbrev pub table_keys : Metadata → TableId → List (List ℕ)
+table_keys model table = map (numbers_by key_number (columns_of table)) (rows_of model table)
+
 -- the table has a key, and its rows are in order of it (II.22)
 abbrev pub is_sorted : Metadata → TableId → Bool
-is_sorted model table = is_by_key (table_numbers model table) (key_of table)
+is_sorted model table = is_by_key (table_keys model table) (key_of table)
 
 -- the counts of the tables, HeapSizes, Sorted, and where the first table begins, behind the counts of those that have rows
 unfoldable pub sizes_of : Metadata → Sizes

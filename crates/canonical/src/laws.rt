@@ -1,24 +1,17 @@
-ghost use Rattle.std.specs.Prelude.{◌≡◌, ◌^◌, ◌≤◌, ℕ, List, length};
+ghost use Rattle.std.specs.Prelude.{◌≡◌, ◌^◌, ◌≤◌, ◌↔◌, ℕ, true, Some, List, length};
 ghost use Rattle.metadata.specs.Metadata.{Metadata};
 ghost use Rattle.metadata.specs.Model.{IsModel};
+ghost use Rattle.metadata.specs.Valid.{IsValid};
+ghost use Rattle.metadata.specs.KeyOrder.{IsKeyOrdered};
+ghost use Rattle.schema.specs.declared.table.TableId.{TableId as Table};
+ghost use Rattle.schema.specs.Columns.{key_of};
+ghost use Rattle.canonical.specs.TableStream.{is_sorted};
 ghost use Rattle.canonical.specs.Canonical.{canonical};
-ghost use Rattle.canonical.specs.Valid.{IsValid};
 
 use heaps::{pooled_are_distinct, pooled_blob_is_found, pooled_guid_is_found, used_text_is_found};
 use metadata::roots_have_models;
-use schema::{
-    bits_are_known, cells_stand, columns_stand, numbers_are_spelled, tables_stand, tags_fit,
-};
-use signature_values::{shortest_spells, spelled_is_spellable};
-
-/// The model of a root is valid.
-pub fn models_of_roots_are_valid()
-    ensures { (root : List ℕ) (model : Metadata) → IsModel root model → IsValid model }
-{
-    tables_stand();
-    cells_stand();
-    spelled_is_spellable();
-}
+use schema::{bits_are_known, columns_stand, numbers_are_spelled, tables_stand, tags_fit};
+use signature_values::shortest_spells;
 
 /// The canonical root of a valid model has this model.
 ///
@@ -47,4 +40,21 @@ pub fn canonical_root_is_one()
 {
     canonical_root_has_its_model();
     roots_have_models();
+}
+
+/// The Sorted bit of a keyed table of a valid model is set exactly where the table's keys are in order.
+pub fn sorted_bits_tell_order()
+    ensures { (model : Metadata) → IsValid model → (table : Table) (key : ℕ) → key_of table ≡ Some key
+        → (is_sorted model table ≡ true) ↔ IsKeyOrdered model table }
+{
+    used_text_is_found();
+    pooled_blob_is_found();
+    pooled_guid_is_found();
+    pooled_are_distinct();
+    tables_stand();
+    columns_stand();
+    tags_fit();
+    bits_are_known();
+    numbers_are_spelled();
+    shortest_spells();
 }

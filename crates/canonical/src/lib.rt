@@ -1,8 +1,7 @@
 //! The canonical root of a model: its one spelling (ECMA-335 II.24.2).
 //!
 //! There is no code here, but definitions in `specs/` and their laws. `Canonical.antt` says which bytes
-//! a model is written as; `Valid.antt` which models are valid, as the model of each root is
-//! ([`models_of_roots_are_valid`]). The canonical root of a valid model has this model, and no other:
+//! a valid model is written as. The canonical root of a valid model has this model, and no other:
 //! [`canonical_root_has_its_model`], [`canonical_root_is_one`].
 //!
 //! ```text
@@ -13,4 +12,4 @@
 
 mod laws;
 
-pub use laws::{canonical_root_has_its_model, canonical_root_is_one, models_of_roots_are_valid};
+pub use laws::{canonical_root_has_its_model, canonical_root_is_one, sorted_bits_tell_order};

@@ -1,5 +1,6 @@
 -- A table in order of its key meets what is demanded of its order.
-use Rattle.std.proofs.Common.{◌≡◌, ℕ, ◌-◌, Bool, true, false, List, arith}
+use Rattle.std.proofs.Common.{ℕ, ◌-◌, Bool, true, false, List, arith}
+use Rattle.packed.specs.declared.fault.Fault.{Fault}
 use Rattle.packed.specs.Demand.{Demand, AllHold, demands_where}
 use Rattle.packed.proofs.DemandLemmas.{all_of_each}
 use Rattle.schema.specs.declared.table.TableId.{TableId}
@@ -8,7 +9,7 @@ use Rattle.metadata.specs.Rules.{IsInOrder}
 use Rattle.metadata.specs.Placed.{Placed}
 use Rattle.metadata.specs.Demands.{demands_of_key_in, demands_of_keys}
 
-where_met : (test : Bool) (ds : List Demand) → AllHold ds → AllHold (demands_where test ds)
+where_met : (test : Bool) (ds : List (Demand Fault)) → AllHold ds → AllHold (demands_where test ds)
 where_met true ds all = all
 where_met false ds all = tt
 

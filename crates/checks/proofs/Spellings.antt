@@ -18,7 +18,7 @@ use Rattle.signature_values.specs.Syntax.{Body}
 use Rattle.metadata.specs.Source.{Source, rows_in, number_of, IsThere}
 use Rattle.metadata.specs.Placed.{Placed, cell_place}
 use Rattle.metadata.specs.Demands.{demands_of_spelling, demands_of_signature}
-use Rattle.checks.specs.Codes.{code_at}
+use Rattle.reading.specs.Codes.{code_at}
 
 -- what is checked of a number in a column is demanded of its signature
 pub spelling_answers : (here : Placed) (table : TableId) (row column number : ℕ) (held : Column) {X : Type 0} (r : Result X FaultCode) → held ≡ column_at table column → number ≡ number_of here.source table row column → ((place : ℕ) → Answers (demands_of_spelling here.source held.kind number place) (code_at place r)) → Answers (demands_of_signature here table row column) (code_at (cell_place here table row column) r)

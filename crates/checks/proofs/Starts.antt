@@ -1,6 +1,6 @@
 -- The start of an owner, from that of the next.
-use Rattle.std.proofs.Common.{◌≡◌, ℕ, suc, ◌+◌, ◌-◌, ◌<◌, ◌≤◌, eqb, ltb, ◌&&◌, cond, Bool, true, false, Option, Some, None}
-use Rattle.std.proofs.Common.{refl, sym, ◌∙◌, ap, arith, inl, inr}
+use Rattle.std.proofs.Common.{◌≡◌, ℕ, ◌+◌, ◌-◌, ◌<◌, ◌≤◌, ltb, ◌&&◌, cond, Bool, true, false, Option, Some, None}
+use Rattle.std.proofs.Common.{refl, arith, inl, inr}
 use Rattle.std.proofs.lemmas.Bool.{cases_lt}
 use Rattle.std.proofs.lemmas.Bool.Decides.{nat_tests}
 use Rattle.packed.specs.declared.code.FaultCode.TheVariants.{BadRun}
@@ -16,24 +16,11 @@ use Rattle.checks.proofs.Verdicts.{first_of, verdict_unless, verdict_front, verd
 start_none : (value : ℕ → ℕ) (end row n : ℕ) → n ≡ 0 → start_from value end row n ≡ end
 start_none value end row n e = rw e refl
 
--- a null takes the next start, and any other value is itself one
-start_step : (value : ℕ → ℕ) (end row n m next start : ℕ) → n ≡ suc m → next ≡ start_from value end (row + 1) m
-    → start ≡ cond (eqb (value row) 0) next (value row) → start ≡ start_from value end row n
-start_step value end row n m next start e is s = s ∙ ap (λ x. cond (eqb (value row) 0) x (value row)) is ∙ sym (rw e refl)
-
 pub start_of_end : (source : Source) (owner : TableId) (row column : ℕ) (member : TableId) → rows_in source owner < row
     → start_of source owner row column member ≡ rows_in source member + 1
 unfolding start_of
 start_of_end source owner row column member past =
     start_none (λ r. number_of source owner r column) _ row (rows_in source owner + 1 - row) (omega arith)
-
-pub start_of_step : (source : Source) (owner : TableId) (row column : ℕ) (member : TableId) (next start number : ℕ)
-    → row ≤ rows_in source owner → number ≡ number_of source owner row column → next ≡ start_of source owner (row + 1) column member
-    → start ≡ cond (eqb number 0) next number → start ≡ start_of source owner row column member
-unfolding start_of
-start_of_step source owner row column member next start number below is after e =
-    start_step (λ r. number_of source owner r column) _ row (rows_in source owner + 1 - row) (rows_in source owner + 1 - (row + 1)) next start
-    (omega arith) after (e ∙ ap (λ n. cond (eqb n 0) next n) is)
 
 module _ (here : Placed) (owner : TableId) (column : ℕ) (member : TableId) where
   pick : (row : ℕ) (falls : Option ℕ) (lower : Bool) → fault_in_row here owner column (cond lower (Some (row + 1)) falls)

@@ -12,7 +12,7 @@ first_of None next = next
 first_of (Some found) next = Some found
 
 -- the verdict on two lists is the first of theirs
-verdict_of : (ds es : List Demand) (a b : Option Fault) → IsVerdict ds a → IsVerdict es b → IsVerdict (ds ++ es) (first_of a b)
+verdict_of : (ds es : List (Demand Fault)) (a b : Option Fault) → IsVerdict ds a → IsVerdict es b → IsVerdict (ds ++ es) (first_of a b)
 verdict_of ds es None None x y = all_append ds es x y
 verdict_of ds es None (Some found) x y = fails_back ds es found x y
 verdict_of ds es (Some found) b x y = fails_front ds es found x
@@ -24,7 +24,7 @@ verdict_unless P code place true holds fails = inl (fails refl, refl)
 verdict_unless P code place false holds fails = (holds refl, tt)
 
 -- one more number in front
-pub verdict_front : (demands : ℕ → List Demand) (i j n m : ℕ) (a b : Option Fault) → n ≡ suc m → j ≡ i + 1
+pub verdict_front : (demands : ℕ → List (Demand Fault)) (i j n m : ℕ) (a b : Option Fault) → n ≡ suc m → j ≡ i + 1
     → IsVerdict (demands i) a → IsVerdict (demands_from demands j m) b → IsVerdict (demands_from demands i n) (first_of a b)
 unfolding demands_from
 verdict_front demands i j n m a b more next here rest =
@@ -32,7 +32,7 @@ verdict_front demands i j n m a b more next here rest =
     rw more (verdict_of (demands i) (demands_from demands (i + 1) m) a b here behind)
 
 -- of no numbers there is one verdict
-pub verdict_over : (demands : ℕ → List Demand) (i n j m : ℕ) (a : Option Fault) → n ≡ 0 → m ≡ 0 → IsVerdict (demands_from demands i n) a
+pub verdict_over : (demands : ℕ → List (Demand Fault)) (i n j m : ℕ) (a : Option Fault) → n ≡ 0 → m ≡ 0 → IsVerdict (demands_from demands i n) a
     → IsVerdict (demands_from demands j m) a
 unfolding demands_from
 verdict_over demands i n j m a none over is =

@@ -1,29 +1,30 @@
 -- What a walk down a column finds.
-use Rattle.std.specs.Prelude.{ℕ, ◌≤◌, Bool, List, Result}
+use Rattle.std.specs.Prelude.{ℕ, ◌≤◌, ◌<◌, Bool, List, Result}
 use Rattle.packed.specs.declared.code.FaultCode.{FaultCode}
+use Rattle.packed.specs.declared.fault.Fault.{Fault}
 use Rattle.packed.specs.Demand.{Demand, AllHold, Answers}
 use Rattle.schema.specs.declared.table.TableId.{TableId}
 use Rattle.schema.specs.declared.column.ColumnKind.{ColumnKind}
-use Rattle.metadata.specs.Source.{Source, rows_in, number_of}
+use Rattle.metadata.specs.Source.{Source, number_of}
 use Rattle.metadata.specs.Placed.{Placed}
 use Rattle.metadata.specs.Demands.{demands_of_number, demands_of_cell, demands_of_spelling, demands_of_signature}
-use Rattle.checks.specs.Codes.{code_at}
+use Rattle.reading.specs.Codes.{code_at}
 
--- each number of the column has a property
-pub record AllPass (P : ℕ → Type 0) (source : Source) (table : TableId) (column : ℕ) : Type 0 where
-  pub each : (row : ℕ) → 1 ≤ row → row ≤ rows_in source table → P (number_of source table row column)
+-- each number of the column has a property, in the rows before an end
+pub record AllPass (P : ℕ → Type 0) (source : Source) (table : TableId) (column end : ℕ) : Type 0 where
+  pub each : (row : ℕ) → 1 ≤ row → row < end → P (number_of source table row column)
 
--- the demands on a column, by row and column, hold in each of so many rows
-pub record ColumnMeets (demands : ℕ → ℕ → List Demand) (count column : ℕ) : Type 0 where
-  pub each : (row : ℕ) → 1 ≤ row → row ≤ count → AllHold (demands row column)
+-- the demands on a column, by row and column, hold in the rows before an end
+pub record ColumnMeets (demands : ℕ → ℕ → List (Demand Fault)) (end column : ℕ) : Type 0 where
+  pub each : (row : ℕ) → 1 ≤ row → row < end → AllHold (demands row column)
 
--- each number of the column stands for a cell
-abbrev pub ColumnStands : Placed → TableId → ℕ → Type 0
-ColumnStands here table column = ColumnMeets (demands_of_cell here table) (rows_in here.source table) column
+-- the numbers of the column stand for cells, in the rows before an end
+abbrev pub ColumnStands : Placed → TableId → ℕ → ℕ → Type 0
+ColumnStands here table end column = ColumnMeets (demands_of_cell here table) end column
 
--- each blob of the column spells a signature, if the column is of signatures
-abbrev pub ColumnSpells : Placed → TableId → ℕ → Type 0
-ColumnSpells here table column = ColumnMeets (demands_of_signature here table) (rows_in here.source table) column
+-- the blobs of the column spell signatures, if the column is of signatures, in the rows before an end
+abbrev pub ColumnSpells : Placed → TableId → ℕ → ℕ → Type 0
+ColumnSpells here table end column = ColumnMeets (demands_of_signature here table) end column
 
 -- what a check answers of a number in a column of a kind, wherever it is
 abbrev pub IsChecked : Source → ColumnKind → Bool → ℕ → Result (Unit {0}) FaultCode → Type 0

@@ -1,5 +1,4 @@
-pub mod Sources
-pub mod Codes
 pub mod Columns
 pub mod Orders
 pub mod Runs
+pub mod Passed

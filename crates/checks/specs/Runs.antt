@@ -7,7 +7,7 @@ use Rattle.schema.specs.declared.table.TableId.{TableId}
 use Rattle.metadata.specs.Placed.{Placed, cell_place}
 
 -- no fault where all hold, and else that of the first that does not
-abbrev pub IsVerdict : List Demand → Option Fault → Type 0
+abbrev pub IsVerdict : List (Demand Fault) → Option Fault → Type 0
 IsVerdict demands None = AllHold demands
 IsVerdict demands (Some found) = FirstToFail demands found
 

@@ -1,17 +1,17 @@
 ghost use Rattle.std.specs.Prelude.{◌≡◌, ◌≤◌, ◌<◌, ◌+◌, ◌∷◌, [], ◌↔◌, ℕ, IsTrue, false, length};
 ghost use Rattle.packed.specs.declared.code.FaultCode.TheVariants.{BadIndex, BadList};
-ghost use Rattle.packed.specs.Demand.{Answers, AllHold, demand};
+ghost use Rattle.packed.specs.Demand.{Answers, HoldBefore, demand};
 ghost use Rattle.schema.specs.declared.column.ColumnKind.TheVariants as kind;
 ghost use Rattle.schema.specs.Columns.{columns_of};
 ghost use Rattle.metadata.specs.Source.{rows_in};
-ghost use Rattle.checks.specs.Codes.{code_at};
+ghost use Rattle.reading.specs.Codes.{code_at};
 ghost use Rattle.checks.specs.Columns.{IsChecked, ColumnStands};
 ghost use Rattle.metadata.specs.Demands.{MayRefer, demands_of_number, demands_of_cell, demands_of_row, demands_of_table, demands_of_cells};
 
-use crate::column::{all_pass, column_at};
-use crate::source::Source;
+use crate::column::first_refused;
 use packed::{Fault, FaultCode};
-use schema::{Coded, Column, ColumnKind, TableId, columns, split};
+use reading::{Source, column_at, named_by};
+use schema::{Coded, Column, ColumnKind, TableId, columns};
 
 /// Each number stands for a cell (II.22).
 #[tactic(auto, using(packed::proofs::DemandLemmas::before_none, packed::proofs::DemandLemmas::before_more, packed::proofs::DemandLemmas::before_all, packed::proofs::DemandLemmas::before_fails), unfolding(metadata::specs::Demands::demands_of_cells, metadata::specs::Demands::demands_of_table_at))]
@@ -27,79 +27,88 @@ pub fn check_cells(source: &Source) -> Result<(), Fault>
 
 /// Each number of a table stands for a cell.
 ///
-/// Where all columns stand there is no fault; else a walk over the rows finds the first.
+/// A look down the columns finds the first row that has one which does not; only from that row on are the
+/// rows walked, for the first in it.
 fn check_table(source: &Source, table: TableId) -> Result<(), Fault>
     ensures { Answers (demands_of_table source.now table) result }
 {
-    if all_columns_stand(source, table) {
-        Ok(())
-    } else {
-        check_rows(source, table)
-    }
+    check_rows(source, table, first_row(source, table))
 }
 
-/// Each number of a table stands for a cell, row by row.
+/// Each number of a table stands for a cell, row by row from a first on.
 #[tactic(auto, using(packed::proofs::DemandLemmas::before_none, packed::proofs::DemandLemmas::before_more, packed::proofs::DemandLemmas::before_all, packed::proofs::DemandLemmas::before_fails), unfolding(metadata::specs::Demands::demands_of_table))]
-fn check_rows(source: &Source, table: TableId) -> Result<(), Fault>
+fn check_rows(source: &Source, table: TableId, first: u32) -> Result<(), Fault>
+    requires first { 1 ≤ first }
+    requires last { first ≤ rows_in source.now.source table + 1 }
+    requires before { HoldBefore (demands_of_row source.now table) 1 first }
     ensures { Answers (demands_of_table source.now table) result }
 {
     let count = source.count(table);
-    for row in 1..count + 1 {
+    for row in first..count + 1 {
         check_row(source, table, row)?;
     }
     Ok(())
 }
 
-/// Whether each number of a table stands for a cell, column by column.
-#[tactic(auto, using(crate::proofs::Columns::table_stands))]
-fn all_columns_stand(source: &Source, table: TableId) -> bool
-    ensures { IsTrue result → AllHold (demands_of_table source.now table) }
+/// The first row of a table with a number that stands for no cell, by its columns; behind the last row
+/// where there is none.
+fn first_row(source: &Source, table: TableId) -> u32
+    ensures first { 1 ≤ result }
+    ensures last { result ≤ rows_in source.now.source table + 1 }
+    ensures before { HoldBefore (demands_of_row source.now table) 1 result }
 {
+    let mut limit = source.count(table) + 1;
     for column in 0..columns(table).len() {
-        if !column_stands(source, table, column) {
-            return false;
-        }
+        limit = first_in_column(source, table, column, limit);
     }
-    true
+    limit
 }
 
-/// Whether each number of a column stands for a cell.
+/// The first row before a limit whose number in a column stands for no cell, the limit where there is none.
 ///
-/// Its kind is looked at once, before the walk over the rows.
-fn column_stands(source: &Source, table: TableId, column: usize) -> bool
-    requires { column < length (columns_of table) }
-    ensures { IsTrue result → ColumnStands source.now table column }
+/// The column's kind is looked at once, before the walk over the rows.
+fn first_in_column(source: &Source, table: TableId, column: usize, limit: u32) -> u32
+    requires column { column < length (columns_of table) }
+    requires first { 1 ≤ limit }
+    requires last { limit ≤ rows_in source.now.source table + 1 }
+    ensures first { 1 ≤ result }
+    ensures last { result ≤ limit }
+    ensures stands { ColumnStands source.now table result column }
 {
     match column_at(table, column).kind {
-        ColumnKind::U8 | ColumnKind::U16 | ColumnKind::U32 | ColumnKind::Padding => true,
+        ColumnKind::U8 | ColumnKind::U16 | ColumnKind::U32 | ColumnKind::Padding => limit,
         ColumnKind::Text => {
             let check = |number|
                 ensures { IsChecked source.entry.now.source kind.Text false number result }
             { source.check_text(number) };
-            all_pass(source, table, column, check)
+            first_refused(source, table, column, limit, check)
         }
         ColumnKind::Guid => {
             let check = |number|
                 ensures { IsChecked source.entry.now.source kind.Guid false number result }
             { source.check_guid(number) };
-            all_pass(source, table, column, check)
+            first_refused(source, table, column, limit, check)
         }
         ColumnKind::Blob | ColumnKind::Signature(_) => {
             let check = |number|
                 ensures { IsChecked source.entry.now.source kind.Blob false number result }
             { source.check_blob(number) };
-            all_pass(source, table, column, check)
+            first_refused(source, table, column, limit, check)
         }
-        ColumnKind::Row(_) | ColumnKind::Coded(_) | ColumnKind::List(_) => indexes_stand(
-            source, table, column,
+        ColumnKind::Row(_) | ColumnKind::Coded(_) | ColumnKind::List(_) => first_index(
+            source, table, column, limit,
         ),
     }
 }
 
-/// Whether each index of a column stands for a cell, if the column is of indexes into tables.
-fn indexes_stand(source: &Source, table: TableId, column: usize) -> bool
-    requires { column < length (columns_of table) }
-    ensures { IsTrue result → ColumnStands source.now table column }
+/// The same of a column of indexes into tables; the first row where it is of another kind.
+fn first_index(source: &Source, table: TableId, column: usize, limit: u32) -> u32
+    requires column { column < length (columns_of table) }
+    requires first { 1 ≤ limit }
+    requires last { limit ≤ rows_in source.now.source table + 1 }
+    ensures first { 1 ≤ result }
+    ensures last { result ≤ limit }
+    ensures stands { ColumnStands source.now table result column }
 {
     let held = column_at(table, column);
     let nullable = held.nullable;
@@ -108,21 +117,21 @@ fn indexes_stand(source: &Source, table: TableId, column: usize) -> bool
             let check = |number|
                 ensures { IsChecked source.entry.now.source (kind.Row named) nullable number result }
             { check_reference(source, nullable, named, number) };
-            all_pass(source, table, column, check)
+            first_refused(source, table, column, limit, check)
         }
         ColumnKind::Coded(coded) => {
             let check = |number|
                 ensures { IsChecked source.entry.now.source (kind.Coded coded) nullable number result }
             { check_coded(source, nullable, coded, number) };
-            all_pass(source, table, column, check)
+            first_refused(source, table, column, limit, check)
         }
         ColumnKind::List(member) => {
             let check = |number|
                 ensures { IsChecked source.entry.now.source (kind.List member) false number result }
             { check_list(source, member, number) };
-            all_pass(source, table, column, check)
+            first_refused(source, table, column, limit, check)
         }
-        _ => false,
+        _ => 1,
     }
 }
 
@@ -196,10 +205,10 @@ fn check_reference(
 fn check_coded(source: &Source, nullable: bool, coded: Coded, number: u32) -> Result<(), FaultCode>
     ensures { (place : ℕ) → Answers (demands_of_number source.now.source (kind.Coded coded) nullable number place) (code_at place result) }
 {
-    let Some((table, row)) = split(coded, number) else {
+    let Some(token) = named_by(coded, number) else {
         return Err(FaultCode::BadTag);
     };
-    if may_refer(source, nullable, table, row) {
+    if may_refer(source, nullable, token.table, token.row) {
         Ok(())
     } else {
         Err(FaultCode::BadIndex)

@@ -1,43 +1,40 @@
-ghost use Rattle.std.specs.Prelude.{◌≡◌, ◌<◌, IsTrue, Ok, length};
-ghost use Rattle.schema.specs.Columns.{columns_of, column_at};
+ghost use Rattle.std.specs.Prelude.{◌≡◌, ◌≤◌, ◌<◌, ◌+◌, IsTrue, Ok, length};
+ghost use Rattle.schema.specs.Columns.{columns_of};
+ghost use Rattle.metadata.specs.Source.{rows_in};
 ghost use Rattle.checks.specs.Columns.{AllPass};
 
-use crate::source::Source;
 use packed::FaultCode;
-use schema::{Column, TableId, columns};
+use reading::Source;
+use schema::TableId;
 
-/// The column of an index.
-pub fn column_at(table: TableId, index: usize) -> Column
-    requires { index < length (columns_of table) }
-    ensures { result ≡ column_at table index }
-{
-    columns(table)[index]
-}
-
-/// Whether a check passes each number of a column.
+/// The first row before a limit whose number in a column a check refuses, the limit where there is none.
 ///
 /// A number that stands in the row before too is not checked again.
-pub fn all_pass<F: Fn(u32) -> Result<(), FaultCode>>(
+pub fn first_refused<F: Fn(u32) -> Result<(), FaultCode>>(
     source: &Source,
     table: TableId,
     column: usize,
+    limit: u32,
     check: F,
-) -> bool
+) -> u32
     requires column { column < length (columns_of table) }
+    requires first { 1 ≤ limit }
+    requires last { limit ≤ rows_in source.now.source table + 1 }
     requires callable { F.IsAlwaysCallable check }
-    ensures { IsTrue result → AllPass (λ number. F.post check number (Ok tt)) source.now.source table column }
+    ensures first { 1 ≤ result }
+    ensures last { result ≤ limit }
+    ensures passed { AllPass (λ number. F.post check number (Ok tt)) source.now.source table column result }
 {
-    let count = source.count(table);
     let mut passed = None;
-    for row in 1..count + 1 {
+    for row in 1..limit {
         let number = source.number(table, row, column);
         if passed == Some(number) {
             continue;
         }
         if check(number).is_err() {
-            return false;
+            return row;
         }
         passed = Some(number);
     }
-    true
+    limit
 }

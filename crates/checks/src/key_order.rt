@@ -3,7 +3,7 @@ ghost use Rattle.schema.specs.Columns.{columns_of, key_of};
 ghost use Rattle.metadata.specs.Rules.{IsInOrder};
 ghost use Rattle.checks.specs.Orders.{TellsOrder};
 
-use crate::source::Source;
+use reading::Source;
 use schema::{TableId, columns_stand, key, tables_stand};
 
 /// Whether the keys of each table never fall, under the tables' numbers; false of tables without a key.

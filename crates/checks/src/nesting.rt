@@ -4,8 +4,8 @@ ghost use Rattle.schema.specs.declared.table.TableId.TheVariants.{NestedClass};
 ghost use Rattle.metadata.specs.Source.{rows_in};
 ghost use Rattle.metadata.specs.Demands.{demands_of_nesting_in, demands_of_nesting};
 
-use crate::source::Source;
 use packed::{Fault, FaultCode};
+use reading::Source;
 use schema::TableId;
 
 /// The column of a nested type, and that of the type around it.

@@ -5,8 +5,8 @@ ghost use Rattle.metadata.specs.Source.{rows_in};
 ghost use Rattle.checks.specs.Orders.{TellsOrder};
 ghost use Rattle.metadata.specs.Demands.{demands_of_key_in, demands_of_keys, demands_of_order_by, demands_of_order};
 
-use crate::source::Source;
 use packed::{Fault, FaultCode};
+use reading::Source;
 use schema::{TableId, columns_stand, key, tables_stand};
 
 /// Each table is in order of its key, where it is said to be (II.22), by the tables whose keys never fall.

@@ -1,44 +1,63 @@
-ghost use Rattle.std.specs.Prelude.{◌≡◌, ◌≤◌, ◌<◌, ◌-◌, ◌+◌, ◌&&◌, ◌==◌, length, IfSome, Some, nat_lt, if◌then◌else◌};
+ghost use Rattle.std.specs.Prelude.{◌≡◌, ◌≤◌, ◌<◌, ◌-◌, ◌+◌, ◌&&◌, length, IfOk, IfSome, Some, nat_lt, if◌then◌else◌};
 ghost use Rattle.packed.specs.Demand.{Answers, demands_from};
 ghost use Rattle.schema.specs.Columns.{columns_of};
 ghost use Rattle.metadata.specs.Source.{rows_in};
 ghost use Rattle.metadata.specs.Starts.{start_of};
 ghost use Rattle.metadata.specs.Demands.{demands_of_start, demands_of_run, demands_of_runs};
+ghost use Rattle.reading.specs.KnownStarts.{IsKnownIn, AreKnown};
 ghost use Rattle.checks.specs.Runs.{IsVerdict, fault_in_row};
 
-use crate::source::Source;
 use packed::{Fault, FaultCode};
+use reading::{KnownRuns, KnownStarts, Source, start_before};
 use schema::TableId;
 
-/// Where the first owner's run begins, and the first owner behind it whose run begins before that of the owner before.
+/// Where the first owner's run begins, the first owner behind it whose run begins before that of the owner
+/// before, and the starts that are kept.
 #[derive(Clone, Copy)]
 struct Walk {
     first: u32,
     falls: Option<u32>,
+    known: KnownStarts,
 }
 
 /// Each member of the five runs has one owner (II.22.37, II.22.26, II.22.12 and II.22.35).
+///
+/// Where all have, it answers the starts that were kept on the way.
 #[tactic(auto, using(packed::proofs::DemandLemmas::fails_front, packed::proofs::DemandLemmas::fails_back, packed::proofs::DemandLemmas::all_append), unfolding(metadata::specs::Demands::demands_of_runs))]
-pub fn check_runs(source: &Source) -> Result<(), Fault>
-    ensures { Answers (demands_of_runs source.now) result }
+pub fn check_runs(source: &Source) -> Result<KnownRuns, Fault>
+    ensures answers { Answers (demands_of_runs source.now) result }
+    ensures known { IfOk result (AreKnown source.now.source) }
 {
-    check_run(source, TableId::TypeDef, 4, TableId::Field)?;
-    check_run(source, TableId::TypeDef, 5, TableId::MethodDef)?;
-    check_run(source, TableId::MethodDef, 5, TableId::Param)?;
-    check_run(source, TableId::EventMap, 1, TableId::Event)?;
-    check_run(source, TableId::PropertyMap, 1, TableId::Property)
+    let fields = check_run(source, TableId::TypeDef, 4, TableId::Field)?;
+    let methods = check_run(source, TableId::TypeDef, 5, TableId::MethodDef)?;
+    let params = check_run(source, TableId::MethodDef, 5, TableId::Param)?;
+    let events = check_run(source, TableId::EventMap, 1, TableId::Event)?;
+    let properties = check_run(source, TableId::PropertyMap, 1, TableId::Property)?;
+    Ok(KnownRuns {
+        fields,
+        methods,
+        params,
+        events,
+        properties,
+    })
 }
 
 /// Each member has one owner, by a column of the owners.
 #[tactic(auto, using(packed::proofs::DemandLemmas::none_from), unfolding(metadata::specs::Demands::demands_of_run))]
-fn check_run(source: &Source, owner: TableId, column: usize, member: TableId) -> Result<(), Fault>
+fn check_run(
+    source: &Source,
+    owner: TableId,
+    column: usize,
+    member: TableId,
+) -> Result<KnownStarts, Fault>
     requires column { column < length (columns_of owner) }
     requires members { 0 < length (columns_of member) }
-    ensures { Answers (demands_of_run source.now owner column member) result }
+    ensures answers { Answers (demands_of_run source.now owner column member) result }
+    ensures known { IfOk result (IsKnownIn source.now.source owner column member) }
 {
     if source.count(owner) == 0 {
         if source.count(member) == 0 {
-            return Ok(());
+            return Ok(KnownStarts::new(0));
         }
         return Err(source.fault(FaultCode::NoOwner, member, 1, 0));
     }
@@ -48,7 +67,7 @@ fn check_run(source: &Source, owner: TableId, column: usize, member: TableId) ->
     }
     match walk.falls {
         Some(row) => Err(source.fault(FaultCode::BadRun, owner, row, column)),
-        None => Ok(()),
+        None => Ok(walk.known),
     }
 }
 
@@ -59,26 +78,25 @@ fn walk_owners(source: &Source, owner: TableId, column: usize, member: TableId) 
     ensures within { IfSome result.falls (λ row. (1 ≤ row) × (row ≤ rows_in source.now.source owner)) }
     ensures falls { IsVerdict (demands_from (demands_of_start source.now owner column member) 2 (rows_in source.now.source owner - 1))
         (fault_in_row source.now owner column result.falls) }
+    ensures known { IsKnownIn source.now.source owner column member result.known }
 {
     let count = source.count(owner);
     let mut first = source.count(member) + 1;
     let mut falls = None;
+    let mut known = KnownStarts::new(count);
     let mut row = count;
     while row > 0 {
-        let number = source.number(owner, row, column);
-        let start = start_or(number, first);
+        let start = start_before(source, owner, row, column, member, first);
         falls = fallen(falls, row, count, first, start);
+        known.keep(row, start);
         first = start;
         row -= 1;
     }
-    Walk { first, falls }
-}
-
-/// The start that a list value says, or where it is null the start of the next owner.
-fn start_or(number: u32, next: u32) -> u32
-    ensures { result ≡ (if number == 0 then next else number) }
-{
-    if number == 0 { next } else { number }
+    Walk {
+        first,
+        falls,
+        known,
+    }
 }
 
 /// The first owner whose start falls, one row further to the front.

@@ -1,17 +1,17 @@
-ghost use Rattle.std.specs.Prelude.{◌≡◌, ◌≤◌, ◌<◌, ◌∷◌, [], ◌↔◌, ℕ, IsTrue, length};
-ghost use Rattle.packed.specs.Demand.{Answers, AllHold};
+ghost use Rattle.std.specs.Prelude.{◌≡◌, ◌≤◌, ◌<◌, ◌+◌, ℕ, Ok, length};
+ghost use Rattle.packed.specs.Demand.{Answers, HoldBefore};
 ghost use Rattle.schema.specs.Columns.{columns_of};
 ghost use Rattle.schema.specs.declared.column.ColumnKind.TheVariants as kind;
 ghost use Rattle.metadata.specs.Source.{rows_in};
 ghost use Rattle.metadata.specs.Demands.{demands_of_spelling, demands_of_signature, demands_of_signatures_in, demands_of_signatures_of, demands_of_signatures};
-ghost use Rattle.checks.specs.Codes.{code_at};
-ghost use Rattle.checks.specs.Columns.{IsSpelled, ColumnSpells};
+ghost use Rattle.reading.specs.Codes.{code_at};
+ghost use Rattle.checks.specs.Columns.{AllPass, IsSpelled, ColumnSpells};
 
-use crate::column::{all_pass, column_at};
-use crate::source::Source;
+use crate::passed::Passed;
 use heaps::blob;
 use packed::{Fault, FaultCode};
-use recogniser::first_index_without_row;
+use reading::{Source, column_at};
+use recogniser::recognise_first_bad;
 use schema::{ColumnKind, SigKind, TableId, columns};
 
 /// Each blob of a signature spells one, whose type indexes name rows that exist (II.23.2).
@@ -28,56 +28,89 @@ pub fn check_signatures(source: &Source) -> Result<(), Fault>
 
 /// The signatures of a table.
 ///
-/// Where all columns spell signatures there is no fault; else a walk over the rows finds the first.
+/// A look down the columns finds the first row with a blob that spells none; only from that row on are the
+/// rows walked, for the first in it.
 fn check_signatures_of(source: &Source, table: TableId) -> Result<(), Fault>
     ensures { Answers (demands_of_signatures_of source.now table) result }
 {
-    if all_columns_spell(source, table) {
-        Ok(())
-    } else {
-        check_signature_rows(source, table)
-    }
+    check_signature_rows(source, table, first_row(source, table))
 }
 
-/// Whether each blob of a table's signatures spells one, column by column.
-#[tactic(auto, using(crate::proofs::Columns::table_spells))]
-fn all_columns_spell(source: &Source, table: TableId) -> bool
-    ensures { IsTrue result → AllHold (demands_of_signatures_of source.now table) }
-{
-    for column in 0..columns(table).len() {
-        if !column_spells(source, table, column) {
-            return false;
-        }
-    }
-    true
-}
-
-/// Whether each blob of a column spells a signature, if the column is of signatures.
-fn column_spells(source: &Source, table: TableId, column: usize) -> bool
-    requires { column < length (columns_of table) }
-    ensures { IsTrue result → ColumnSpells source.now table column }
-{
-    match column_at(table, column).kind {
-        ColumnKind::Signature(spelled) => {
-            let check = |number|
-                ensures { IsSpelled source.entry.now.source (kind.Signature spelled) number result }
-            { check_signature_at(source, spelled, number) };
-            all_pass(source, table, column, check)
-        }
-        _ => true,
-    }
-}
-
-/// The signatures of a table, row by row.
+/// The signatures of a table, row by row from a first on.
 #[tactic(auto, using(packed::proofs::DemandLemmas::before_none, packed::proofs::DemandLemmas::before_more, packed::proofs::DemandLemmas::before_all, packed::proofs::DemandLemmas::before_fails), unfolding(metadata::specs::Demands::demands_of_signatures_of))]
-fn check_signature_rows(source: &Source, table: TableId) -> Result<(), Fault>
+fn check_signature_rows(source: &Source, table: TableId, first: u32) -> Result<(), Fault>
+    requires first { 1 ≤ first }
+    requires last { first ≤ rows_in source.now.source table + 1 }
+    requires before { HoldBefore (demands_of_signatures_in source.now table) 1 first }
     ensures { Answers (demands_of_signatures_of source.now table) result }
 {
     let count = source.count(table);
-    for row in 1..count + 1 {
+    for row in first..count + 1 {
         check_signatures_in(source, table, row)?;
     }
     Ok(())
+}
+
+/// The first row of a table with a blob that does not spell the signature that is asked of it, by its
+/// columns; behind the last row where there is none.
+fn first_row(source: &Source, table: TableId) -> u32
+    ensures first { 1 ≤ result }
+    ensures last { result ≤ rows_in source.now.source table + 1 }
+    ensures before { HoldBefore (demands_of_signatures_in source.now table) 1 result }
+{
+    let mut limit = source.count(table) + 1;
+    for column in 0..columns(table).len() {
+        limit = first_in_column(source, table, column, limit);
+    }
+    limit
+}
+
+/// The first row before a limit whose blob in a column does not spell the signature that is asked of it,
+/// if the column is of signatures; the limit where there is none.
+fn first_in_column(source: &Source, table: TableId, column: usize, limit: u32) -> u32
+    requires column { column < length (columns_of table) }
+    requires first { 1 ≤ limit }
+    requires last { limit ≤ rows_in source.now.source table + 1 }
+    ensures first { 1 ≤ result }
+    ensures last { result ≤ limit }
+    ensures spells { ColumnSpells source.now table result column }
+{
+    match column_at(table, column).kind {
+        ColumnKind::Signature(spelled) => first_misspelled(source, table, column, spelled, limit),
+        _ => limit,
+    }
+}
+
+/// The first row before a limit whose blob does not spell a signature of a kind, the limit where there is
+/// none.
+///
+/// A number that was accepted of late is not walked again.
+fn first_misspelled(
+    source: &Source,
+    table: TableId,
+    column: usize,
+    spelled: SigKind,
+    limit: u32,
+) -> u32
+    requires column { column < length (columns_of table) }
+    requires first { 1 ≤ limit }
+    requires last { limit ≤ rows_in source.now.source table + 1 }
+    ensures first { 1 ≤ result }
+    ensures last { result ≤ limit }
+    ensures spelled { AllPass (λ number. IsSpelled source.now.source (kind.Signature spelled) number (Ok tt)) source.now.source table column result }
+{
+    let mut accepted = Passed::none();
+    for row in 1..limit {
+        let number = source.number(table, row, column);
+        if accepted.has(number) {
+            continue;
+        }
+        match check_signature_at(source, spelled, number) {
+            Ok(()) => accepted.keep(number),
+            Err(_) => return row,
+        }
+    }
+    limit
 }
 
 /// The signatures of a row.
@@ -128,7 +161,7 @@ fn check_signature_at(source: &Source, column: SigKind, number: u32) -> Result<(
     let Ok(blob) = blob(blobs, number) else {
         return Err(FaultCode::BadSignature);
     };
-    match first_index_without_row(blob, column, counts) {
+    match recognise_first_bad(blob, column, counts) {
         Some(None) => Ok(()),
         Some(Some(_)) => Err(FaultCode::SignatureIndex),
         None => Err(FaultCode::BadSignature),

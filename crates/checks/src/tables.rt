@@ -1,6 +1,7 @@
 ghost use Rattle.std.specs.Prelude.{IfOk};
 ghost use Rattle.packed.specs.Demand.{Answers};
 ghost use Rattle.metadata.specs.Demands.{demands_of_tables};
+ghost use Rattle.reading.specs.KnownStarts.{AreKnown};
 ghost use Rattle.checks.specs.Orders.{TellsOrder};
 
 use crate::cell_checks::check_cells;
@@ -9,23 +10,35 @@ use crate::nesting::check_nesting;
 use crate::order::check_order;
 use crate::runs::check_runs;
 use crate::signature_checks::check_signatures;
-use crate::source::Source;
 use packed::Fault;
+use reading::{KnownRuns, Source};
+
+/// What is found of the tables of a root that meet all that is demanded of them.
+#[derive(Clone, Copy)]
+pub struct Checked {
+    /// Which tables with a key are in order of it, under their numbers.
+    pub in_order: [bool; 45],
+    /// The starts of runs that were kept.
+    pub known: KnownRuns,
+}
 
 /// Checks what is demanded of the tables of a root, in the order in which it is posed (II.22).
 ///
-/// Where all of it holds, it answers which tables with a key are in order of it, under their numbers;
-/// else the fault of the first demand that fails. It takes no memory, and its cost is linear in the rows.
+/// Where all of it holds, it answers what was found on the way, else the fault of the first demand that
+/// fails. It takes no memory. The cost is that of the rows, and of the texts and blobs that they name. The
+/// blob of a signature is walked again only where another number with the same low ten bits was accepted in
+/// between. Blobs may overlap, so that their lengths can add up to the square of the bytes.
 #[tactic(auto, using(packed::proofs::DemandLemmas::fails_front, packed::proofs::DemandLemmas::fails_back, packed::proofs::DemandLemmas::all_append), unfolding(metadata::specs::Demands::demands_of_tables))]
-pub fn check_tables(source: &Source) -> Result<[bool; 45], Fault>
+pub fn check_tables(source: &Source) -> Result<Checked, Fault>
     ensures answers { Answers (demands_of_tables source.now) result }
-    ensures order { IfOk result (TellsOrder source.now.source) }
+    ensures order { IfOk result (λ checked. TellsOrder source.now.source checked.in_order) }
+    ensures known { IfOk result (λ checked. AreKnown source.now.source checked.known) }
 {
     let in_order = find_order(source);
     check_cells(source)?;
     check_order(source, &in_order)?;
-    check_runs(source)?;
+    let known = check_runs(source)?;
     check_nesting(source)?;
     check_signatures(source)?;
-    Ok(in_order)
+    Ok(Checked { in_order, known })
 }

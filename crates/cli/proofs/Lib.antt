@@ -1,3 +1,9 @@
 pub mod Filled
-pub mod FileGiven
+pub mod ValuesGiven
 pub mod Readings
+pub mod Outcomes
+pub mod Heads
+pub mod HexNumbers
+pub mod Tokens
+pub mod TypeTexts
+pub mod Signatures

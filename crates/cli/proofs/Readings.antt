@@ -11,7 +11,7 @@ use Rattle.clap.specs.declared.ArgMatches.{ArgMatches}
 use Rattle.clap.specs.declared.ArgMatches.TheViews.{out-ArgMatches}
 use Rattle.cli.specs.Asked.{name_of, subcommand_named}
 use Rattle.cli.specs.declared.asked.Subcommand.{Subcommand}
-use Rattle.cli.specs.declared.asked.Subcommand.TheVariants.{Root, Check}
+use Rattle.cli.specs.declared.asked.Subcommand.TheVariants.{Root, Check, Show, Types, Token}
 
 option_map_map : {A B C : Type 0} (f : B → C) (g : A → B) (o : Option A) → option_map f (option_map g o) ≡ option_map (λ x. f (g x)) o
 option_map_map f g None = refl
@@ -28,19 +28,21 @@ pub rows_met : (m : ArgMatches) (name : Text) (rows : List Row) → subcommand_n
     → option_map (λ p. p.1) (subcommand_rows_of m) ≡ Some rows → subcommand_rows_of m ≡ Some (name, rows)
 rows_met m name rows named given = both_parts (subcommand_rows_of m) name rows (option_map_map _ _ (out-ArgMatches m).subcommand ∙ named) given
 
+-- a word that is found to be that of a subcommand, or else is named by what is left
+named_by : (word : Text) (found : Bool) (t : Subcommand) (rest : Option Subcommand) (s : Subcommand) → (found ≡ true → word ≡ name_of t)
+    → (rest ≡ Some s → word ≡ name_of s) → (if found then Some t else rest) ≡ Some s → word ≡ name_of s
+named_by word true t rest s is later e = subst (λ (u : Subcommand). word ≡ name_of u) (ap (λ o. unwrap_or o t) e) (is refl)
+named_by word false t rest s is later e = later e
+
 -- the word of the subcommand that it names
 pub named_back : (word : Text) (s : Subcommand) → subcommand_named word ≡ Some s → word ≡ name_of s
 named_back word s e =
-    go (bytes_eq word (codes "root")) (bytes_eq word (codes "check"))
-    (bytes_eq-Decides word (codes "root")).0 (bytes_eq-Decides word (codes "check")).0 s e
-  where
-    go : (root check : Bool) → (root ≡ true → word ≡ codes "root") → (check ≡ true → word ≡ codes "check") → (s : Subcommand)
-        → (if root then Some Root else if check then Some Check else None) ≡ Some s → word ≡ name_of s
-    go true check is_root is_check Root is = is_root refl
-    go true check is_root is_check Check is = cc
-    go false true is_root is_check Root is = cc
-    go false true is_root is_check Check is = is_check refl
-    go false false is_root is_check s is = cc
+    named_by word (bytes_eq word (name_of Root)) Root _ s (bytes_eq-Decides word (name_of Root)).0
+    (named_by word (bytes_eq word (name_of Check)) Check _ s (bytes_eq-Decides word (name_of Check)).0
+    (named_by word (bytes_eq word (name_of Show)) Show _ s (bytes_eq-Decides word (name_of Show)).0
+    (named_by word (bytes_eq word (name_of Types)) Types _ s (bytes_eq-Decides word (name_of Types)).0
+    (named_by word (bytes_eq word (name_of Token)) Token _ s (bytes_eq-Decides word (name_of Token)).0
+    (λ none. cc))))) e
 
 -- a flag reads as true exactly where its text is `true`
 flag_reads : (E : Type 0) (o : Option Text) (r : Option Bool) → (o ≡ None → r ≡ None)

@@ -1,8 +1,10 @@
--- What `check` finds of a file.
-use Rattle.std.specs.Prelude.{ℕ, Bool, true, false, List}
+-- What is checked of a file.
+use Rattle.std.specs.Prelude.{◌≡◌, ℕ, Bool, true, false, List}
 use Rattle.cli_header.specs.declared.header.CliHeader.{CliHeader}
+use Rattle.packed.specs.declared.fault.Fault.{Fault}
 use Rattle.packed.specs.Demand.{Demand}
 use Rattle.metadata.specs.Demands.{demands_of_file, demands_of_metadata}
+use Rattle.metadata.specs.Streams.{root_in}
 use Rattle.opening.specs.Views.{HasImage, HasModel}
 
 -- the bytes are a metadata root that has a model, where they are bare, and else a file that has one
@@ -10,7 +12,12 @@ abbrev pub IsWhole : Bool → List ℕ → Type 0
 IsWhole true bytes = HasModel bytes
 IsWhole false bytes = ∥ ((header : CliHeader) × HasImage bytes header) ∥₁
 
+-- the bytes are whole, and this is the metadata root in them
+abbrev pub IsOpened : Bool → List ℕ → List ℕ → Type 0
+IsOpened true bytes root = HasModel bytes × (root ≡ bytes)
+IsOpened false bytes root = (header : CliHeader) × HasImage bytes header × (root ≡ root_in bytes header)
+
 -- what is demanded of them, in order
-abbrev pub demands_of : Bool → List ℕ → List Demand
+abbrev pub demands_of : Bool → List ℕ → List (Demand Fault)
 demands_of true bytes = demands_of_metadata 0 bytes
 demands_of false bytes = demands_of_file bytes

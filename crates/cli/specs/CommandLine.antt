@@ -9,6 +9,10 @@ use Rattle.clap.specs.declared.builder.action.ArgAction.TheVariants.{Set, SetTru
 abbrev pub file : Rule
 file = record (new_rule (codes "FILE")) { action = Some Set; required = true }
 
+-- a second value, one word, which must be there, and which help calls by a name
+abbrev pub second : Rule
+second = record (new_rule (codes "second")) { action = Some Set; value_names = 1; required = true }
+
 -- `--bare`, a flag
 abbrev pub bare : Rule
 bare = record (new_rule (codes "bare")) { long = Some (codes "bare"); action = Some SetTrue }
@@ -25,6 +29,18 @@ root = reader (codes "root")
 abbrev pub check : App
 check = reader (codes "check")
 
+-- `show [--bare] FILE`
+abbrev pub show : App
+show = reader (codes "show")
+
+-- `types [--bare] FILE`
+abbrev pub types : App
+types = reader (codes "types")
+
+-- `token [--bare] FILE HEX`
+abbrev pub token : App
+token = with_rule (reader (codes "token")) second
+
 -- `clim SUBCOMMAND ..`, where the subcommand must be there and `help` is none
 abbrev pub without_subcommands : App
 without_subcommands = on_top (λ s. record s {
@@ -34,4 +50,4 @@ without_subcommands = on_top (λ s. record s {
 }) (new_app (codes "clim"))
 
 abbrev pub clim : App
-clim = with_subcommand (with_subcommand without_subcommands root.top) check.top
+clim = with_subcommand (with_subcommand (with_subcommand (with_subcommand (with_subcommand without_subcommands root.top) check.top) show.top) types.top) token.top

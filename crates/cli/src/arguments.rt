@@ -1,11 +1,11 @@
 //! The command line, and what its words ask for.
 ghost use Rattle.std.specs.Prelude.{◌≡◌, IfOk, IsSome, map};
 ghost use Rattle.clap.specs.Words.{FailsBy, app_of, fault_of};
-ghost use Rattle.cli.specs.Asked.{Gives};
+ghost use Rattle.cli.specs.Asked.{Gives, HasSecond};
 ghost use Rattle.cli.specs.CommandLine.{clim};
 
 use crate::asked::{Ask, Subcommand};
-use crate::subcommands::{check_file, print_root};
+use crate::subcommands::{check_file, print_root, print_token, print_types, show_tables};
 use clap::{Command, Error};
 use std::alloc::{AllocError, Global};
 
@@ -19,6 +19,7 @@ use std::alloc::{AllocError, Global};
 pub fn ask<'a>(alloc: Global, words: &'a [&'a str]) -> Result<Ask<'a>, Error>
     ensures given { IfOk result (Gives (map (λ word. word.now) words.entry.now)) }
     ensures file { IfOk result (λ ask. IsSome ask.file) }
+    ensures second { IfOk result HasSecond }
     ensures refused { FailsBy (fault_of clim (map (λ word. word.now) words.entry.now)) result }
 {
     let matches = command(alloc)?.try_get_matches_from(words)?;
@@ -27,6 +28,7 @@ pub fn ask<'a>(alloc: Global, words: &'a [&'a str]) -> Result<Ask<'a>, Error>
         subcommand: Subcommand::named(name).unwrap(),
         bare: given.get_one::<bool>("bare") == Some(true),
         file: given.get_str("FILE"),
+        second: given.get_str("second"),
     })
 }
 
@@ -35,13 +37,16 @@ fn command<'a>(alloc: Global) -> Result<Command<'a>, AllocError>
     ensures { IfOk result (λ command. app_of command ≡ clim) }
 {
     Command::new(alloc, "clim")
-        .about("Reads, checks and writes the metadata of .NET assemblies (ECMA-335, Partition II)")
+        .about("Reads and checks the metadata of .NET assemblies (ECMA-335, Partition II)")
         .version("0.1.0")
         .after_help(STATUSES)
         .disable_help_subcommand(true)
         .subcommand_required(true)
         .subcommand(print_root::command(alloc)?)?
-        .subcommand(check_file::command(alloc)?)
+        .subcommand(check_file::command(alloc)?)?
+        .subcommand(show_tables::command(alloc)?)?
+        .subcommand(print_types::command(alloc)?)?
+        .subcommand(print_token::command(alloc)?)
 }
 
 const STATUSES: &str = "\
@@ -49,6 +54,6 @@ const STATUSES: &str = "\
 
 Exit status:
   0  done
-  1  FILE breaks a rule of the standard, told as 'fault LAYER CODE at OFFSET: NAME'
+  1  FILE breaks a rule of the standard, told as 'fault LAYER CODE at OFFSET: NAME', or lacks the row
   2  the words ask for nothing that clim does; FILE was not read
   3  a file or the output could not be read or written, or memory ran out";

@@ -10,6 +10,8 @@ pub struct Ask<'a> {
     pub bare: bool,
     /// The file to read, as its word has it.
     pub file: Option<&'a str>,
+    /// The value behind the file, as its word has it: the token of `token`.
+    pub second: Option<&'a str>,
 }
 
 /// What the program can do with a file, each by a word of its own.
@@ -19,6 +21,12 @@ pub enum Subcommand {
     Root,
     /// `check`: tell whether the file breaks a rule of the standard.
     Check,
+    /// `show`: print each row of each table.
+    Show,
+    /// `types`: print the types, and how many fields and methods each has.
+    Types,
+    /// `token`: print the row or the user string that a token names.
+    Token,
 }
 
 impl Subcommand {
@@ -29,6 +37,9 @@ impl Subcommand {
         match word {
             "root" => Some(Subcommand::Root),
             "check" => Some(Subcommand::Check),
+            "show" => Some(Subcommand::Show),
+            "types" => Some(Subcommand::Types),
+            "token" => Some(Subcommand::Token),
             _ => None,
         }
     }

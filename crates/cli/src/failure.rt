@@ -1,4 +1,5 @@
-ghost use Rattle.std.specs.Prelude.{◌≡◌};
+ghost use Rattle.std.specs.Prelude.{◌≡◌, IfErr};
+ghost use Rattle.cli.specs.Status.{IsOutput};
 ghost use Rattle.cli.specs.declared.failure.Failure.TheVariants.{Fault};
 
 use packed::Fault;
@@ -10,6 +11,10 @@ use std::{fmt, io};
 pub(crate) enum Failure<'a> {
     /// The file breaks a rule of the standard.
     Fault(Fault),
+    /// The token names no row and no user string of the file.
+    NoSuchRow,
+    /// The word that is to be a token is none.
+    NoToken(&'a str),
     /// The file, by the word that names it, could not be opened or read to its end.
     CannotRead(&'a str),
     CannotWriteOutput,
@@ -18,7 +23,7 @@ pub(crate) enum Failure<'a> {
 
 impl<'a> Failure<'a> {
     ghost use Rattle.std.specs.Prelude.{◌≡◌};
-    ghost use Rattle.cli.specs.Status.{status_of};
+    ghost use Rattle.cli.specs.Status.{status_of, IsOutput};
 
     /// What a refused read of the file is.
     pub(crate) fn of_reading(error: &io::Error, file: &'a str) -> Failure<'a> {
@@ -29,7 +34,9 @@ impl<'a> Failure<'a> {
     }
 
     /// What a refused write to the output is.
-    pub(crate) fn of_printing(error: &io::Error) -> Failure<'a> {
+    pub(crate) fn of_printing(error: &io::Error) -> Failure<'a>
+        ensures { IsOutput result }
+    {
         match error.kind() {
             ErrorKind::OutOfMemory => Failure::OutOfMemory,
             _ => Failure::CannotWriteOutput,
@@ -41,9 +48,20 @@ impl<'a> Failure<'a> {
         ensures { result ≡ status_of self.now }
     {
         match self {
-            Failure::Fault(_) => 1,
+            Failure::Fault(_) | Failure::NoSuchRow => 1,
+            Failure::NoToken(_) => 2,
             Failure::CannotRead(_) | Failure::CannotWriteOutput | Failure::OutOfMemory => 3,
         }
+    }
+}
+
+/// What comes of printing.
+pub(crate) fn printed(outcome: io::Result<()>) -> Result<(), Failure<'static>>
+    ensures { IfErr result IsOutput }
+{
+    match outcome {
+        Ok(()) => Ok(()),
+        Err(error) => Err(Failure::of_printing(&error)),
     }
 }
 
@@ -62,6 +80,13 @@ impl fmt::Display for Failure<'_> {
                 let (layer, code, offset) = (fault.layer, fault.code, fault.offset);
                 let name = fault.name();
                 write!(f, "fault {layer} {code} at {offset}: {name}")
+            }
+            Failure::NoSuchRow => write!(f, "no such row"),
+            Failure::NoToken(word) => {
+                write!(
+                    f,
+                    "error: HEX is one to eight hexadecimal digits, not '{word}'"
+                )
             }
             Failure::CannotRead(file) => write!(f, "error: cannot read {file}"),
             Failure::CannotWriteOutput => write!(f, "error: cannot write output"),

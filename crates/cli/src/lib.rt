@@ -14,13 +14,15 @@
 mod arguments;
 mod asked;
 mod failure;
+mod hex_number;
+mod input;
+mod opened;
 mod program;
+mod row_lines;
 mod shown;
 mod subcommands;
+mod task;
 
 pub use arguments::ask;
 pub use asked::{Ask, Subcommand};
 pub use program::{go, refuse_words};
-
-#[cfg(test)]
-mod tests;

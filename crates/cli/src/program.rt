@@ -1,10 +1,12 @@
 ghost use Rattle.std.specs.Prelude.{◌≡◌, IfErr, IfOk, IsSome};
+ghost use Rattle.cli.specs.Asked.{HasSecond};
 ghost use Rattle.cli.specs.Status.{status_of};
 
 use crate::arguments::ask;
-use crate::asked::{Ask, Subcommand};
-use crate::failure::Failure;
-use crate::subcommands::{check_file, print_root};
+use crate::asked::Ask;
+use crate::failure::{Failure, printed};
+use crate::input::read_file;
+use crate::task;
 use clap::error::ErrorKind;
 use std::alloc::Global;
 use std::io;
@@ -14,7 +16,8 @@ use std::rt::Files;
 /// Runs the program on its words, its name first, and answers the status to end with:
 ///
 /// - 0: it did what was asked, or printed its help or version;
-/// - 1: the file breaks a rule of the standard, told as `fault LAYER CODE at OFFSET: NAME`;
+/// - 1: the file breaks a rule of the standard, told as `fault LAYER CODE at OFFSET: NAME`, or lacks the
+///   row that was asked for;
 /// - 2: the words ask for nothing that the program does; no file was read;
 /// - 3: the file could not be read, `out` could not be written, or memory was refused.
 ///
@@ -68,18 +71,18 @@ fn tell<W: Write, E: Write>(alloc: Global, told: &clap::Error, out: &mut W, err:
     status(print_told(alloc, told, out), err)
 }
 
+/// Does what the words ask for. They are judged whole before the file is read.
 fn run<'a, R: Files + AllocGlobal, W: Write>(
     rt: &R,
     ask: Ask<'a>,
     out: &mut W,
 ) -> Result<(), Failure<'a>>
-    requires { IsSome ask.file }
+    requires file { IsSome ask.file }
+    requires second { HasSecond ask }
 {
-    let file = ask.file.unwrap();
-    match ask.subcommand {
-        Subcommand::Root => print_root::run(rt, file, ask.bare, out),
-        Subcommand::Check => check_file::run(rt, file, ask.bare, out),
-    }
+    let task = task::task_of(ask)?;
+    let bytes = read_file(rt, ask.file.unwrap())?;
+    task::run(rt.alloc(), task, ask.bare, &bytes, out)
 }
 
 /// Prints the help or the version.
@@ -88,7 +91,7 @@ fn print_told<W: Write>(
     told: &clap::Error,
     out: &mut W,
 ) -> Result<(), Failure<'static>> {
-    write_told(alloc, told, out).map_err(|error| Failure::of_printing(&error))
+    printed(write_told(alloc, told, out))
 }
 
 fn write_told<W: Write>(alloc: Global, told: &clap::Error, out: &mut W) -> io::Result<()> {

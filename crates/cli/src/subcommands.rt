@@ -9,6 +9,9 @@ use std::alloc::{AllocError, Global};
 
 pub(crate) mod check_file;
 pub(crate) mod print_root;
+pub(crate) mod print_token;
+pub(crate) mod print_types;
+pub(crate) mod show_tables;
 
 /// The words of a subcommand that reads a file, and its help: what it does and what it prints.
 fn reader<'a>(

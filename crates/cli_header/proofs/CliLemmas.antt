@@ -1,15 +1,15 @@
 -- An image meets all demands exactly where it has a CLI header.
-use Rattle.std.proofs.Common.{◌≡◌, ℕ, ◌+◌, ◌≤◌, List, take, drop, refl, sym, ap, ◌∙◌, subst, arith, unwrap_or}
+use Rattle.std.proofs.Common.{◌≡◌, ℕ, ◌+◌, ◌≤◌, List, length, take, drop, refl, sym, ap, ◌∙◌, subst, arith, unwrap_or}
 use Rattle.std.proofs.Common.{Result, Ok, Err, Option}
 use Rattle.std.specs.Result.{IfOk, IsOkAnd}
 use Rattle.packed.specs.declared.fault.Fault.{Fault}
+use Rattle.packed.specs.Fields.{Field, StandAt, AllSay, widths}
 use Rattle.packed.specs.Number.{little_endian}
 use Rattle.packed.specs.Places.{part}
 use Rattle.packed.specs.Demand.{AllHold, Answers}
 use Rattle.packed.proofs.DemandLemmas.{none_fails}
 use Rattle.pe.specs.Image.{Image}
 use Rattle.pe.specs.Place.{offset_at, IsPlace}
-use Rattle.pe.proofs.FieldLemmas.{AllSay, stand_says_part, part_says_stand}
 use Rattle.cli_header.specs.declared.header.CliHeader.{CliHeader}
 use Rattle.cli_header.specs.declared.header.DataDirectory.{DataDirectory}
 use Rattle.cli_header.specs.Header.{fields_of, IsCliHeader}
@@ -30,16 +30,21 @@ has_place image rva count (offset, is) =
     let At : ℕ → Type 0 = λ o. IsPlace image rva count o in
     subst At (place_is image rva count offset is) is
 
+-- fields stand where there is room for them and each says what stands in the part that they are
+pub record FieldsAreParts : Type 0 where
+  pub said_of_part : (whole : List ℕ) (place : ℕ) (fields : List Field) → StandAt whole place fields → AllSay (part whole place (widths fields)) 0 fields
+  pub stand_by_part : (whole : List ℕ) (place : ℕ) (fields : List Field) → place + widths fields ≤ length whole → AllSay (part whole place (widths fields)) 0 fields → StandAt whole place fields
+
 -- an image that meets all demands has the header that its bytes say
-pub header_from_demands : (image : Image) → AllHold (demands_of_cli_header image) → IsCliHeader image (header_of image)
-header_from_demands image all =
+pub header_from_demands : (known : FieldsAreParts) (image : Image) → AllHold (demands_of_cli_header image) → IsCliHeader image (header_of image)
+header_from_demands known image all =
     let place = has_place image image.cli_directory.0 72 all.1.0.1 in
     let within = place.within in
     record {
       named = all.0;
       long = all.1.0.0;
       place = place;
-      fields = part_says_stand image.bytes (header_place image) (fields_of (header_of image)) within
+      fields = known.stand_by_part image.bytes (header_place image) (fields_of (header_of image)) within
           (refl, (refl, (refl, (refl, (refl, (refl, (refl, (refl, (refl, (refl, (refl, (refl, (refl, (refl, (refl, (refl, (refl, (refl, (refl, tt)))))))))))))))))));
       enough = all.1.1.0;
       root = has_place image (metadata image).rva (metadata image).size all.1.1.1.0;
@@ -107,11 +112,11 @@ pub record Meets (image : Image) (header : CliHeader) : Type 0 where
   pub all : AllHold (demands_of_cli_header image)
   pub is : header ≡ header_of image
 
-pub header_meets : (image : Image) (header : CliHeader) → IsCliHeader image header → Meets image header
-header_meets image header h =
+pub header_meets : (known : FieldsAreParts) (image : Image) (header : CliHeader) → IsCliHeader image header → Meets image header
+header_meets known image header h =
     let place : header.place ≡ header_place image = place_is image image.cli_directory.0 72 header.place h.place in
     let Said : ℕ → Type 0 = λ p. AllSay (part image.bytes p 72) 0 (fields_of header) in
-    let said = subst Said place (stand_says_part image.bytes header.place (fields_of header) h.fields).0 in
+    let said = subst Said place (known.said_of_part image.bytes header.place (fields_of header) h.fields) in
     let bytes : List ℕ = header_bytes image in
     let is : header ≡ header_of image = header_is image bytes header (record {
       bytes_are = refl;
@@ -143,16 +148,17 @@ pub enough_read : (image : Image) (bytes : List ℕ) (cb : ℕ) → bytes ≡ he
 enough_read image bytes cb bytes_are is enough = let same : cb ≡ (header_of image).cb = is ∙ ap (λ (b : List ℕ). little_endian (part b 0 4)) bytes_are in omega arith
 
 -- what a result that answers the demands says of the relation
-pub answers_found : (image : Image) (r : Result CliHeader Fault) → Answers (demands_of_cli_header image) r → IfOk r (λ header. header ≡ header_of image) → IfOk r (λ header. IsCliHeader image header)
-answers_found image (Ok header) all is =
+pub answers_found : (image : Image) (r : Result CliHeader Fault) → Answers (demands_of_cli_header image) r → IfOk r (λ header. header ≡ header_of image)
+    → (AllHold (demands_of_cli_header image) → IsCliHeader image (header_of image)) → IfOk r (λ header. IsCliHeader image header)
+answers_found image (Ok header) all is found =
     let P : CliHeader → Type 0 = λ h. IsCliHeader image h in
-    subst P (sym is) (header_from_demands image all)
-answers_found image (Err found) fails is = tt
+    subst P (sym is) (found all)
+answers_found image (Err fault) fails is found = tt
 
-pub answers_only : (image : Image) (header : CliHeader) (r : Result CliHeader Fault) → Answers (demands_of_cli_header image) r → IfOk r (λ found. found ≡ header_of image) → Meets image header
-    → IsOkAnd r (λ found. found ≡ header)
-answers_only image header (Ok found) all is meets = is ∙ sym meets.is
-answers_only image header (Err found) fails is meets = absurd (none_fails (demands_of_cli_header image) found meets.all fails)
+pub answers_only : (image : Image) (header : CliHeader) (r : Result CliHeader Fault) → Answers (demands_of_cli_header image) r → IfOk r (λ found. found ≡ header_of image)
+    → AllHold (demands_of_cli_header image) → header ≡ header_of image → IsOkAnd r (λ found. found ≡ header)
+answers_only image header (Ok found) all is meets said = is ∙ sym said
+answers_only image header (Err found) fails is meets said = absurd (none_fails (demands_of_cli_header image) found meets fails)
 
 pub answers_all : (image : Image) (r : Result CliHeader Fault) → Answers (demands_of_cli_header image) r → IfOk r (λ found. found ≡ header_of image)
     → IfOk r (λ header. AllHold (demands_of_cli_header image) × (header ≡ header_of image))

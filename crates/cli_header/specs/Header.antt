@@ -1,6 +1,6 @@
 -- The CLI header of an image (ECMA-335 II.25.3.3), as a relation between what the image shows and the header's fields.
 use Rattle.std.specs.Prelude.{◌≡◌, ◌≢◌, ◌+◌, ◌≤◌, List, [], ◌∷◌}
-use Rattle.pe.specs.Fields.{Field, number, StandAt}
+use Rattle.packed.specs.Fields.{Field, number, StandAt}
 use Rattle.pe.specs.Image.{Image}
 use Rattle.pe.specs.Place.{IsPlace}
 use Rattle.cli_header.specs.declared.header.CliHeader.{CliHeader}

@@ -4,6 +4,7 @@ ghost use Rattle.cli_header.specs.Demands.{demands_of_directory, demands_of_cli_
 ghost use Rattle.cli_header.specs.Header.{IsCliHeader};
 ghost use Rattle.cli_header.specs.Said.{directory_at, header_place, header_of};
 
+use crate::laws::headers_are_read;
 use packed::{Fault, FaultCode, u16_at, u32_at};
 use pe::Pe;
 use std::ops::Range;
@@ -140,5 +141,6 @@ pub fn read_cli(pe: &Pe) -> Result<CliHeader, Fault>
     // A fault is that of the first demand that fails.
     ensures first { IfErr result (FirstToFail (demands_of_cli_header pe.now)) }
 {
+    headers_are_read();
     check_cli(pe)
 }

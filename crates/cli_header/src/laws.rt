@@ -6,10 +6,14 @@ ghost use Rattle.cli_header.specs.Demands.{demands_of_cli_header};
 ghost use Rattle.cli_header.specs.Header.{IsCliHeader};
 ghost use Rattle.cli_header.specs.Said.{header_of};
 
+use packed::fields_are_parts;
+
 /// An image with a CLI header meets all demands, and the header is what its bytes say; and an image
 /// that meets all demands has the header that its bytes say.
 pub fn headers_are_read()
     ensures demanded { (image : Image) (header : Header) → IsCliHeader image header → AllHold (demands_of_cli_header image) }
     ensures said { (image : Image) (header : Header) → IsCliHeader image header → header ≡ header_of image }
     ensures found { (image : Image) → AllHold (demands_of_cli_header image) → IsCliHeader image (header_of image) }
-{}
+{
+    fields_are_parts();
+}

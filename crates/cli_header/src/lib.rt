@@ -18,6 +18,3 @@ mod laws;
 pub use header::{CliHeader, DataDirectory, read_cli};
 pub use laws::headers_are_read;
 pub use pe::{Fault, FaultCode, Pe, read_pe};
-
-#[cfg(test)]
-mod tests;

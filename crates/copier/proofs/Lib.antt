@@ -1,4 +1,3 @@
-pub mod ViewLemmas
-pub mod CheckLemmas
+pub mod Found
 pub mod SameLemmas
 pub mod TestLaws

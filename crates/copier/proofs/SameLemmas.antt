@@ -37,7 +37,7 @@ use Rattle.signature_values.specs.declared.types.SlotKind.TheVariants.{rolls-Typ
 use Rattle.signature_values.specs.Views.{core_of, type_of, content_of, slot_of, ret_of, method_of, shape_of, types_from, slots_from}
 use Rattle.signature_values.specs.Syntax as sig
 use Rattle.copier.specs.Heads.{HaveOneHead}
-use Rattle.copier.proofs.ViewLemmas.{view_simple, view_void_pointer, view_pointer, view_vector, view_array, view_class, view_value, view_var, view_mvar, view_instance, view_function, view_typed_ref, view_plain, view_by_ref, view_type, view_slot, view_method}
+use Rattle.signature_values.proofs.ViewLemmas.{view_simple, view_void_pointer, view_pointer, view_vector, view_array, view_class, view_value, view_var, view_mvar, view_instance, view_function, view_typed_ref, view_plain, view_by_ref, view_type, view_slot, view_method}
 
 -- ---- tests
 

@@ -1,3 +1,3 @@
-pub mod Checked
 pub mod Heads
+pub mod Rows
 pub mod Same

@@ -17,7 +17,7 @@ fn copy_shape(alloc: Global, shape: &Shape) -> Result<Shape, AllocError>
 
 /// A copy of a type without modifiers before it (II.23.2.12).
 #[cycle(copies)]
-#[tactic(auto, using(crate::proofs::ViewLemmas::views))]
+#[tactic(auto, using(signature_values::proofs::ViewLemmas::views))]
 fn copy_core(alloc: Global, core: &Core) -> Result<Core, AllocError>
     ensures { IfOk result (λ copy. core_of copy ≡ core_of core.now) }
 {
@@ -86,7 +86,7 @@ pub fn copy_types(alloc: Global, types: &[TypeSig]) -> Result<Vec<TypeSig>, Allo
 
 /// A copy of what a parameter, a field, a local variable or a result holds (II.23.2.10).
 #[cycle(copies)]
-#[tactic(auto, using(crate::proofs::ViewLemmas::views))]
+#[tactic(auto, using(signature_values::proofs::ViewLemmas::views))]
 pub fn copy_content(alloc: Global, kind: &SlotKind) -> Result<SlotKind, AllocError>
     ensures { IfOk result (λ copy. content_of copy ≡ content_of kind.now) }
 {
@@ -125,7 +125,7 @@ pub fn copy_slots(alloc: Global, slots: &[Slot]) -> Result<Vec<Slot>, AllocError
 
 /// A copy of the result of a method (II.23.2.11).
 #[cycle(copies)]
-#[tactic(auto, using(crate::proofs::ViewLemmas::views))]
+#[tactic(auto, using(signature_values::proofs::ViewLemmas::views))]
 pub fn copy_ret(alloc: Global, ret: &Ret) -> Result<Ret, AllocError>
     ensures { IfOk result (λ copy. ret_of copy ≡ ret_of ret.now) }
 {

@@ -34,7 +34,7 @@ pub fn same_generic(is_value: bool, of: Token, other_is_value: bool, other: Toke
 }
 
 /// Whether a type is one that one byte spells.
-#[tactic(auto, using(crate::proofs::ViewLemmas::views))]
+#[tactic(auto, using(signature_values::proofs::ViewLemmas::views))]
 pub fn is_simple(element: Element, core: &Core) -> bool
     ensures { IsTrue result ↔ (sig.simple element ≡ core_of core.now) }
 {
@@ -45,7 +45,7 @@ pub fn is_simple(element: Element, core: &Core) -> bool
 }
 
 /// Whether a type is the pointer to VOID behind modifiers.
-#[tactic(auto, using(crate::proofs::ViewLemmas::views))]
+#[tactic(auto, using(signature_values::proofs::ViewLemmas::views))]
 pub fn is_void_pointer(mods: &[Modifier], core: &Core) -> bool
     ensures { IsTrue result ↔ (sig.void_pointer mods.now ≡ core_of core.now) }
 {
@@ -59,7 +59,7 @@ pub fn is_void_pointer(mods: &[Modifier], core: &Core) -> bool
 }
 
 /// Whether a type is the class of a row.
-#[tactic(auto, using(crate::proofs::ViewLemmas::views))]
+#[tactic(auto, using(signature_values::proofs::ViewLemmas::views))]
 pub fn is_class(of: Token, core: &Core) -> bool
     ensures { IsTrue result ↔ (sig.class of ≡ core_of core.now) }
 {
@@ -70,7 +70,7 @@ pub fn is_class(of: Token, core: &Core) -> bool
 }
 
 /// Whether a type is the value type of a row.
-#[tactic(auto, using(crate::proofs::ViewLemmas::views))]
+#[tactic(auto, using(signature_values::proofs::ViewLemmas::views))]
 pub fn is_value_type(of: Token, core: &Core) -> bool
     ensures { IsTrue result ↔ (sig.value of ≡ core_of core.now) }
 {
@@ -81,7 +81,7 @@ pub fn is_value_type(of: Token, core: &Core) -> bool
 }
 
 /// Whether a type is the generic parameter of a type, of a number.
-#[tactic(auto, using(crate::proofs::ViewLemmas::views))]
+#[tactic(auto, using(signature_values::proofs::ViewLemmas::views))]
 pub fn is_type_parameter(number: u32, core: &Core) -> bool
     ensures { IsTrue result ↔ (sig.var number ≡ core_of core.now) }
 {
@@ -92,7 +92,7 @@ pub fn is_type_parameter(number: u32, core: &Core) -> bool
 }
 
 /// Whether a type is the generic parameter of a method, of a number.
-#[tactic(auto, using(crate::proofs::ViewLemmas::views))]
+#[tactic(auto, using(signature_values::proofs::ViewLemmas::views))]
 pub fn is_method_parameter(number: u32, core: &Core) -> bool
     ensures { IsTrue result ↔ (sig.mvar number ≡ core_of core.now) }
 {

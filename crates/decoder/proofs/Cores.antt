@@ -1,25 +1,20 @@
 -- Cores and what is made of them: reading by the first byte, and the views of values in a `Box` and in a `Vec`.
-use Rattle.std.proofs.Common.{◌≡◌, ◌∙◌, ℕ, zero, suc, ◌-◌, ◌<◌, ◌/◌, ◌%◌, ◌&&◌, eqb, true, Bool, Option, Some, None, List, [], ◌∷◌, Vec, Global, map, refl, sym, ap, rules, arith}
-use Rattle.std.specs.declared.boxed.Box.{Box}
-use Rattle.schema.specs.declared.token.Token.{Token}
+use Rattle.std.proofs.Common.{◌≡◌, ◌∙◌, ℕ, zero, suc, ◌-◌, ◌<◌, ◌/◌, ◌%◌, ◌&&◌, eqb, true, Bool, Option, Some, None, List, [], ◌∷◌, Vec, Global, map, refl, sym, ap, arith}
 use Rattle.signature_values.specs.declared.element.Element.{Element}
 use Rattle.signature_values.specs.declared.types.Modifier.{Modifier}
-use Rattle.signature_values.specs.declared.types.Shape.{Shape}
 use Rattle.signature_values.specs.declared.types.TypeSig.{TypeSig}
 use Rattle.signature_values.specs.declared.types.TypeSig as types
 use Rattle.signature_values.specs.declared.types.MethodSig.{MethodSig}
 use Rattle.signature_values.specs.declared.types.MethodSig as methods
 use Rattle.signature_values.specs.declared.types.Core as cores
-use Rattle.signature_values.specs.declared.types.Core.TheVariants as core_variants
 use Rattle.signature_values.specs.declared.types.Slot.{Slot}
 use Rattle.signature_values.specs.declared.types.Slot as slots
 use Rattle.signature_values.specs.declared.types.SlotKind as kinds
-use Rattle.signature_values.specs.declared.types.SlotKind.TheVariants as kind_variants
 use Rattle.signature_values.specs.declared.types.Ret as rets
-use Rattle.signature_values.specs.declared.types.Ret.TheVariants as ret_variants
 use Rattle.signature_values.specs.Syntax as sig
-use Rattle.signature_values.specs.Views.{core_of, type_of, content_of, slot_of, ret_of, method_of, shape_of, types_from, slots_from}
+use Rattle.signature_values.specs.Views.{core_of, type_of, content_of, slot_of, ret_of, method_of, slots_from}
 use Rattle.signature_values.specs.Reading.{Reader, change, deep, core_at, core_by, element_of, is_method_code, takes_sentinel, generic_at, number_at, ret_at, params_at, method_at, method_from}
+use Rattle.signature_values.proofs.ViewLemmas.{view_simple, view_void_pointer, view_pointer, view_typed_ref, view_plain, view_by_ref, view_void_ret, view_some_ret}
 use Rattle.decoder.specs.declared.error.SigError.{SigError}
 use Rattle.decoder.specs.declared.error.SigError.TheVariants.{Bad, Memory}
 use Rattle.decoder.specs.Gives.{Fails}
@@ -60,50 +55,6 @@ pub view_typed : (mods : Vec Modifier Global) (core : cores.Core) → type_of (t
 unfolding type_of core_of
 view_typed mods core = rw types.fold-roll-TypeSig refl
 
-pub view_simple : (e : Element) → core_of (cores.Simple e) ≡ sig.simple e
-unfolding core_of
-view_simple e = search (rules, cores.the_lemmas)
-
-pub view_class : (t : Token) → core_of (cores.Class t) ≡ sig.class t
-unfolding core_of
-view_class t = search (rules, cores.the_lemmas)
-
-pub view_value : (t : Token) → core_of (cores.Value t) ≡ sig.value t
-unfolding core_of
-view_value t = search (rules, cores.the_lemmas)
-
-pub view_var : (n : ℕ) → core_of (cores.Var n) ≡ sig.var n
-unfolding core_of
-view_var n = search (rules, cores.the_lemmas)
-
-pub view_mvar : (n : ℕ) → core_of (cores.MVar n) ≡ sig.mvar n
-unfolding core_of
-view_mvar n = search (rules, cores.the_lemmas)
-
-pub view_void_pointer : (mods : Vec Modifier Global) → core_of (cores.Pointer mods None) ≡ sig.void_pointer mods.items
-unfolding core_of
-view_void_pointer mods = ap core_of (sym (core_variants.rolls-Pointer mods None)) ∙ search (rules, cores.the_lemmas)
-
-pub view_pointer : (mods : Vec Modifier Global) (to : Box cores.Core Global) → core_of (cores.Pointer mods (Some to)) ≡ sig.pointer mods.items (core_of to.value)
-unfolding core_of
-view_pointer mods to = ap core_of (sym (core_variants.rolls-Pointer mods (Some to))) ∙ search (rules, cores.the_lemmas)
-
-pub view_vector : (b : Box TypeSig Global) → core_of (cores.Vector b) ≡ sig.vector (type_of b.value)
-unfolding core_of type_of
-view_vector b = ap core_of (sym (core_variants.rolls-Vector b)) ∙ rw cores.fold-roll-Core refl
-
-pub view_array : (b : Box TypeSig Global) (shape : Shape) → core_of (cores.Array b shape) ≡ sig.array (type_of b.value) (shape_of shape)
-unfolding core_of type_of
-view_array b shape = ap core_of (sym (core_variants.rolls-Array b shape)) ∙ rw cores.fold-roll-Core refl
-
-pub view_instance : (is_value : Bool) (of : Token) (args : Vec TypeSig Global) → core_of (cores.Instance is_value of args) ≡ sig.instance is_value of (types_from (map type_of args.items))
-unfolding core_of type_of
-view_instance is_value of args = ap core_of (sym (core_variants.rolls-Instance is_value of args)) ∙ rw cores.fold-roll-Core refl
-
-pub view_function : (b : Box MethodSig Global) → core_of (cores.Function b) ≡ sig.function (method_of b.value)
-unfolding core_of method_of
-view_function b = ap core_of (sym (core_variants.rolls-Function b)) ∙ rw cores.fold-roll-Core refl
-
 -- the steps of a core
 pub ruleset core_steps = (core_none, core_end, core_simple, core_other, view_simple)
 
@@ -112,28 +63,8 @@ pub ruleset pointer_views = (view_void_pointer, view_pointer)
 
 -- ---- contents, results and methods
 
-pub view_typed_ref : content_of kinds.TypedRef ≡ sig.typed_ref
-unfolding content_of
-view_typed_ref = search (rules, kinds.the_lemmas)
-
-pub view_plain : (c : cores.Core) → content_of (kinds.Plain c) ≡ sig.plain (core_of c)
-unfolding content_of core_of
-view_plain c = ap content_of (sym (kind_variants.rolls-Plain c)) ∙ rw kinds.fold-roll-SlotKind refl
-
-pub view_by_ref : (mods : Vec Modifier Global) (c : cores.Core) → content_of (kinds.ByRef mods c) ≡ sig.by_ref mods.items (core_of c)
-unfolding content_of core_of
-view_by_ref mods c = ap content_of (sym (kind_variants.rolls-ByRef mods c)) ∙ rw kinds.fold-roll-SlotKind refl
-
 -- what a content is seen as
 pub ruleset content_views = (view_typed_ref, view_plain, view_by_ref)
-
-pub view_void : (mods : Vec Modifier Global) → ret_of (rets.Void mods) ≡ sig.void_ret mods.items
-unfolding ret_of
-view_void mods = search (rules, rets.the_lemmas)
-
-view_some_ret : (s : Slot) → ret_of (rets.Slot s) ≡ sig.some_ret (slot_of s)
-unfolding ret_of slot_of
-view_some_ret s = ap ret_of (sym (ret_variants.rolls-Slot s)) ∙ rw rets.fold-roll-Ret refl
 
 pub view_slot : (mods : Vec Modifier Global) (kind : kinds.SlotKind) → slot_of (slots.roll-Slot (record { mods = mods; kind = kind })) ≡ sig.slot mods.items (content_of kind)
 unfolding slot_of content_of
@@ -143,7 +74,7 @@ pub view_slot_ret : (mods : Vec Modifier Global) (kind : kinds.SlotKind) → ret
 view_slot_ret mods kind = view_some_ret (slots.roll-Slot (record { mods = mods; kind = kind })) ∙ ap sig.some_ret (view_slot mods kind)
 
 -- what a result is seen as
-pub ruleset ret_views = (view_void, view_slot_ret)
+pub ruleset ret_views = (view_void_ret, view_slot_ret)
 
 pub view_method : (kind : ℕ) (this explicit : Bool) (generic : Option ℕ) (ret : rets.Ret) (params : Vec Slot Global) (sentinel : Option ℕ) → method_of (methods.roll-MethodSig (record { kind = kind; this = this; explicit = explicit; generic = generic; ret = ret; params = params; sentinel = sentinel })) ≡ sig.method kind this explicit generic (ret_of ret) (slots_from (map slot_of params.items)) sentinel
 unfolding method_of ret_of slot_of

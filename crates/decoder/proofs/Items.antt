@@ -4,7 +4,7 @@ use Rattle.std.specs.Prelude.{option_map}
 use Rattle.signature_values.specs.declared.types.Modifier.{Modifier}
 use Rattle.signature_values.specs.declared.body.Prefix.{Prefix}
 use Rattle.signature_values.specs.Reading.{Reader, Optional, many_at, leading_at, modifier_at, modifiers_at, starts_modifier, prefix_at, prefixes_at, starts_prefix}
-use Rattle.recogniser.proofs.Items.{Stepping, ShorterItem, leading_is, modifier_steps, prefix_steps}
+use Rattle.signature_values.proofs.Items.{Stepping, ShorterItem, leading_is, modifier_steps, prefix_steps}
 use Rattle.decoder.specs.declared.error.SigError.{SigError}
 use Rattle.decoder.specs.declared.error.SigError.TheVariants.{Bad, Memory}
 use Rattle.decoder.specs.Gives.{Fails}

@@ -1,12 +1,12 @@
 ghost use Rattle.std.specs.Prelude.{◌≡◌, ◌∷◌, [], MatchResult, IfOk};
-ghost use Rattle.signature_values.specs.Reading.{number_at, signed_at, token_of, index_at};
+ghost use Rattle.signature_values.specs.Reading.{number_at, signed_at, index_at};
 ghost use Rattle.decoder.specs.declared.error.SigError.TheVariants.{Bad};
 ghost use Rattle.decoder.specs.Gives.{Gives};
 
 use crate::error::SigError;
 use packed::{read_signed, read_unsigned};
-use schema::{Coded, Token, split};
-use signature_values::indexes_are_read;
+use schema::Token;
+use signature_values::token_of_index;
 use std::alloc::{AllocError, Global};
 
 /// The first byte, and those behind it.
@@ -37,22 +37,13 @@ pub fn signed(bytes: &[u8]) -> Result<(i32, &[u8]), SigError>
     Ok((number, rest))
 }
 
-/// The token that the number of a type index names.
-fn token(number: u32) -> Option<Token>
-    ensures { result ≡ token_of number }
-{
-    indexes_are_read();
-    let (table, row) = split(Coded::TypeDefOrRef, number)?;
-    Some(Token { table, row })
-}
-
 /// The type index at the front (II.23.2.8).
 #[tactic(auto, unfolding(signature_values::specs::Reading::index_at))]
 pub fn index(bytes: &[u8]) -> Result<(Token, &[u8]), SigError>
     ensures { Gives (λ x. (x.0, x.1.now)) result (index_at bytes.now) }
 {
     let (number, rest) = number(bytes)?;
-    let token = token(number).ok_or(SigError::Bad)?;
+    let token = token_of_index(number).ok_or(SigError::Bad)?;
     Ok((token, rest))
 }
 

@@ -26,6 +26,3 @@ pub use error::SigError;
 pub use schema::SigKind;
 pub use signature_values::SigBody;
 pub use whole::decode_body;
-
-#[cfg(test)]
-mod tests;

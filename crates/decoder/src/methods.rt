@@ -3,39 +3,34 @@ ghost use Rattle.signature_values.specs.Syntax as sig;
 ghost use Rattle.signature_values.specs.ElementTypes as code;
 ghost use Rattle.signature_values.specs.Views.{core_of, slot_of, method_of};
 ghost use Rattle.signature_values.specs.Reading.{change, core_at, head_is, params_at};
-ghost use Rattle.signature_values.specs.Reading.{is_method_code, takes_sentinel as kind_takes_sentinel, generic_at, method_at};
+ghost use Rattle.signature_values.specs.Reading.{takes_sentinel as kind_takes_sentinel, generic_at, method_at};
 ghost use Rattle.decoder.specs.Gives.{Gives};
 
 use crate::error::SigError;
 use crate::front::{byte, number, with_room};
 use crate::slots::{ret, slot};
-use recogniser::element_type::SENTINEL;
+use signature_values::element_type::SENTINEL;
+use signature_values::method_byte::{
+    begins_method, calling_convention, has_explicit_this, has_this, is_generic, may_have_sentinel,
+};
 use signature_values::{Core, MethodSig, Slot};
 use std::alloc::Global;
-
-/// Whether a byte begins a method: its low bits are a calling convention, and its highest is not set
-/// (II.23.2.1 to II.23.2.3).
-fn begins_method(code: u8) -> bool
-    ensures { result ≡ is_method_code code }
-{
-    code < 0x80 && matches!(code % 16, 0..=5 | 9)
-}
 
 /// Whether a method of that first byte has a SENTINEL where one may stand: C and vararg have, and only
 /// where it may be the method's own.
 fn takes_sentinel(code: u8, own: bool) -> bool
     ensures { result ≡ (own && kind_takes_sentinel (code % 16)) }
 {
-    own && matches!(code % 16, 1 | 5)
+    own && may_have_sentinel(code)
 }
 
-/// How many generic parameters a method has, where its first byte has the bit 0x10 and the number
-/// stands there.
+/// How many generic parameters a method has, where its first byte says that the number stands
+/// there.
 #[tactic(auto, unfolding(signature_values::specs::Reading::generic_at))]
 fn generic(bytes: &[u8], code: u8) -> Result<(Option<u32>, &[u8]), SigError>
     ensures { Gives (λ x. (x.0, x.1.now)) result (generic_at (code / 16 % 2 == 1) bytes.now) }
 {
-    if code / 16 % 2 == 0 {
+    if !is_generic(code) {
         return Ok((None, bytes));
     }
     let (count, rest) = number(bytes)?;
@@ -98,9 +93,9 @@ pub fn method(
     let allowed = takes_sentinel(code, own);
     let (params, sentinel, rest) = params(alloc, rest, count, allowed, depth)?;
     let method = MethodSig {
-        kind: code % 16,
-        this: code / 32 % 2 == 1,
-        explicit: code / 64 % 2 == 1,
+        kind: calling_convention(code),
+        this: has_this(code),
+        explicit: has_explicit_this(code),
         generic,
         ret,
         params,
@@ -111,7 +106,7 @@ pub fn method(
 
 /// A pointer to a method, behind FNPTR.
 #[cycle(build)]
-#[tactic(auto, using(crate::proofs::Cores::fails_change, crate::proofs::Cores::view_function))]
+#[tactic(auto, using(crate::proofs::Cores::fails_change, signature_values::proofs::ViewLemmas::view_function))]
 pub fn function(alloc: Global, bytes: &[u8], depth: u8) -> Result<(Core, &[u8]), SigError>
     ensures { Gives (λ x. (core_of x.0, x.1.now)) result (change sig.function (method_at true (core_at depth)) bytes.now) }
 {

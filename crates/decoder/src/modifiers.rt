@@ -4,7 +4,7 @@ ghost use Rattle.decoder.specs.Gives.{Gives};
 
 use crate::error::SigError;
 use crate::front::{byte, index};
-use recogniser::element_type::{CMOD_OPT, CMOD_REQD, PINNED};
+use signature_values::element_type::{CMOD_OPT, CMOD_REQD, PINNED};
 use signature_values::{Modifier, Prefix};
 use std::alloc::Global;
 

@@ -7,7 +7,7 @@ use crate::error::SigError;
 use crate::front::byte;
 use crate::modifiers::modifiers;
 use crate::types::core;
-use recogniser::element_type::{BYREF, TYPEDBYREF, VOID};
+use signature_values::element_type::{BYREF, TYPEDBYREF, VOID};
 use signature_values::{Ret, Slot, SlotKind};
 use std::alloc::Global;
 

@@ -7,14 +7,14 @@ ghost use Rattle.decoder.specs.Gives.{Gives};
 
 use crate::error::SigError;
 use crate::front::{byte, index, number, with_room};
-use crate::leaf::{class, element, method_parameter, type_parameter, value_type};
+use crate::leaf::{class, method_parameter, type_parameter, value_type};
 use crate::methods::function;
 use crate::modifiers::modifiers;
 use crate::shape::shape;
-use recogniser::element_type::{
+use signature_values::element_type::{
     ARRAY, CLASS, FNPTR, GENERICINST, MVAR, PTR, SZARRAY, VALUETYPE, VAR, VOID,
 };
-use signature_values::{Core, TypeSig};
+use signature_values::{Core, Element, TypeSig};
 use std::alloc::Global;
 
 /// A core that is at most so deep (II.23.2.12).
@@ -27,7 +27,7 @@ pub fn core(alloc: Global, bytes: &[u8], depth: u8) -> Result<(Core, &[u8]), Sig
         return Err(SigError::Bad);
     }
     let (code, rest) = byte(bytes)?;
-    match element(code) {
+    match Element::from_byte(code) {
         Some(element) => Ok((Core::Simple(element), rest)),
         None => core_behind(alloc, code, rest, depth - 1),
     }
@@ -111,7 +111,7 @@ fn pointer(alloc: Global, bytes: &[u8], depth: u8) -> Result<(Core, &[u8]), SigE
 
 /// An array of one dimension, behind SZARRAY.
 #[cycle(build)]
-#[tactic(auto, using(crate::proofs::Cores::fails_change, crate::proofs::Cores::view_vector))]
+#[tactic(auto, using(crate::proofs::Cores::fails_change, signature_values::proofs::ViewLemmas::view_vector))]
 fn vector(alloc: Global, bytes: &[u8], depth: u8) -> Result<(Core, &[u8]), SigError>
     ensures { Gives (λ x. (core_of x.0, x.1.now)) result (change sig.vector (typed_at (core_at depth)) bytes.now) }
 {
@@ -121,7 +121,7 @@ fn vector(alloc: Global, bytes: &[u8], depth: u8) -> Result<(Core, &[u8]), SigEr
 
 /// An array of a shape, behind ARRAY.
 #[cycle(build)]
-#[tactic(auto, using(crate::proofs::Cores::view_array), unfolding(signature_values::specs::Reading::array_at, signature_values::specs::Reading::both))]
+#[tactic(auto, using(signature_values::proofs::ViewLemmas::view_array), unfolding(signature_values::specs::Reading::array_at, signature_values::specs::Reading::both))]
 fn array(alloc: Global, bytes: &[u8], depth: u8) -> Result<(Core, &[u8]), SigError>
     ensures { Gives (λ x. (core_of x.0, x.1.now)) result (change array_from (array_at (core_at depth)) bytes.now) }
 {
@@ -132,7 +132,7 @@ fn array(alloc: Global, bytes: &[u8], depth: u8) -> Result<(Core, &[u8]), SigErr
 
 /// An instance of a generic type, behind GENERICINST.
 #[cycle(build)]
-#[tactic(auto, using(crate::proofs::Cores::view_instance), unfolding(signature_values::specs::Reading::instance_at, signature_values::specs::Reading::both, signature_values::specs::Reading::named_at, signature_values::specs::Reading::counted_at))]
+#[tactic(auto, using(signature_values::proofs::ViewLemmas::view_instance), unfolding(signature_values::specs::Reading::instance_at, signature_values::specs::Reading::both, signature_values::specs::Reading::named_at, signature_values::specs::Reading::counted_at))]
 fn instance(alloc: Global, bytes: &[u8], depth: u8) -> Result<(Core, &[u8]), SigError>
     ensures { Gives (λ x. (core_of x.0, x.1.now)) result (change instance_from (instance_at (core_at depth)) bytes.now) }
 {

@@ -1,8 +1,8 @@
 -- The room of a type index, by the number that `join` gives.
-use Rattle.std.proofs.Common.{◌≡◌, ℕ, zero, suc, ◌^◌, ◌<◌, ◌≤◌, Bool, true, false, ltb, Option, Some, None, refl, sym, arith, ⊎_elim}
+use Rattle.std.proofs.Common.{◌≡◌, ℕ, zero, suc, ◌^◌, ◌<◌, ◌≤◌, Bool, true, false, ltb, Option, Some, None, refl, sym, arith}
 use Rattle.std.specs.Prelude.{slice_get}
 use Rattle.std.specs.List.{position_or_len}
-use Rattle.std.proofs.lemmas.Bool.{ltb-true, lt-ltb, le-ltb, cases_lt, and_parts}
+use Rattle.std.proofs.lemmas.Bool.{ltb-true, lt-ltb, le-ltb}
 use Rattle.std.proofs.lemmas.Option.{slice_get_within}
 use Rattle.schema.specs.declared.token.Token.{Token}
 use Rattle.schema.specs.declared.table.TableId.{TableId}
@@ -10,8 +10,7 @@ use Rattle.schema.specs.declared.table.TableId.TheVariants.{TypeDef, TypeRef, Ty
 use Rattle.schema.specs.declared.coded.Coded.TheVariants.{TypeDefOrRef}
 use Rattle.schema.specs.CodedIndexes.{tables_of, IsCoded}
 use Rattle.signature_values.specs.Parts.{is_table, index_number}
-use Rattle.encoder.specs.Room.{has_tag, room_of_number, room_of_index}
-use Rattle.encoder.specs.Spelled.{is_index}
+use Rattle.encoder.specs.Lengths.{has_tag, number_of}
 
 abbrev pub tag_of : TableId → ℕ
 tag_of table = position_or_len (is_table table) (tables_of TypeDefOrRef)
@@ -51,39 +50,19 @@ coded_number token n is =
     let equal = is.equal in
     omega arith
 
-pub index_joined : (token : Token) (n room : ℕ) → IsCoded TypeDefOrRef n token.table token.row → room_of_index token room ≡ room_of_number n room
-unfolding room_of_index
-index_joined token n room is = rw (coded_tag token n is, coded_number token n is) refl
+code_by : (token : Token) (b c : Bool) → has_tag token ≡ b → ltb (index_number token) (2 ^ 29) ≡ c → ((n : ℕ) → IsCoded TypeDefOrRef n token.table token.row → n < 2 ^ 32 → ⊥) → number_of token ≡ None
+unfolding number_of
+code_by token false c e f only = rw e refl
+code_by token true false e f only = rw (e, f) refl
+code_by token true true e f only = let lt = ltb-true (index_number token) (2 ^ 29) f in absurd (only (index_number token) (index_coded token e) (omega arith))
 
-too_great : (n room : ℕ) → 2 ^ 29 ≤ n → room_of_number n room ≡ None
-unfolding room_of_number
-too_great n room le = rw (le-ltb n (2 ^ 29) le) refl
+pub code_none : (token : Token) → ((n : ℕ) → IsCoded TypeDefOrRef n token.table token.row → n < 2 ^ 32 → ◌≡◌ {A = Option ℕ} None (Some n)) → number_of token ≡ None
+code_none token only = code_by token (has_tag token) (ltb (index_number token) (2 ^ 29)) refl refl (λ n is lt. let e = only n is lt in cc)
 
-none_by : (token : Token) (room : ℕ) (b : Bool) → has_tag token ≡ b → ((n : ℕ) → IsCoded TypeDefOrRef n token.table token.row → n < 2 ^ 32 → ⊥) → room_of_index token room ≡ None
-unfolding room_of_index
-none_by token room false e only = rw e refl
-none_by token room true e only =
-    let far : 2 ^ 29 ≤ index_number token =
-    ⊎_elim (λ lt. absurd (only (index_number token) (index_coded token e) (omega arith))) (λ le. le) (cases_lt (index_number token) (2 ^ 29)) in
-    rw (e, too_great (index_number token) room far) refl
+pub code_some : (token : Token) (n : ℕ) → IsCoded TypeDefOrRef n token.table token.row → n < 2 ^ 29 → number_of token ≡ Some n
+unfolding number_of
+code_some token n is lt = rw (coded_tag token n is, coded_number token n is, lt-ltb n (2 ^ 29) lt) refl
 
-pub index_none : (token : Token) (room : ℕ) → ((n : ℕ) → IsCoded TypeDefOrRef n token.table token.row → n < 2 ^ 32 → ◌≡◌ {A = Option ℕ} None (Some n)) → room_of_index token room ≡ None
-index_none token room only = none_by token room (has_tag token) refl (λ n is lt. let e = only n is lt in cc)
-
--- ---- an index that has a spelling
-
-number_small : (token : Token) → is_index token ≡ true → index_number token < 2 ^ 29
-number_small token e =
-    let two = and_parts (has_tag token) (ltb token.row (2 ^ 27)) e in
-    let tag = tag_small token two.0 in
-    let row = ltb-true token.row (2 ^ 27) two.1 in
-    omega arith
-
-pub index_some : (token : Token) (o : Option ℕ) → is_index token ≡ true → ((n : ℕ) → IsCoded TypeDefOrRef n token.table token.row → n < 2 ^ 32 → o ≡ Some n) → o ≡ Some (index_number token)
-index_some token o e only =
-    let two = and_parts (has_tag token) (ltb token.row (2 ^ 27)) e in
-    let small = number_small token e in
-    only (index_number token) (index_coded token two.0) (omega arith)
-
-pub coded_small : (token : Token) (n : ℕ) → is_index token ≡ true → IsCoded TypeDefOrRef n token.table token.row → n < 2 ^ 29
-coded_small token n e is = let small = number_small token e in let same = coded_number token n is in omega arith
+pub code_great : (token : Token) (n : ℕ) → IsCoded TypeDefOrRef n token.table token.row → 2 ^ 29 ≤ n → number_of token ≡ None
+unfolding number_of
+code_great token n is le = rw (coded_tag token n is, coded_number token n is, le-ltb n (2 ^ 29) le) refl

@@ -1,3 +1,2 @@
-pub mod Room
-pub mod Spelled
+pub mod Lengths
 pub mod Written

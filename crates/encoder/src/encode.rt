@@ -1,11 +1,26 @@
-ghost use Rattle.std.specs.Prelude.{◌≡◌, IfOk};
+ghost use Rattle.std.specs.Prelude.{◌≡◌, ◌+◌, ◌≤◌, ◌++◌, IfOk, length, vec_len, vec_capacity};
 ghost use Rattle.signature_values.specs.Views.{body_of};
 ghost use Rattle.signature_values.specs.Spells.{IsSpellable, short};
 
-use crate::length::spelled_len;
-use crate::write_bodies::put_body;
+use crate::length::{DEPTH, spelled_len};
+use crate::writer::Writer;
 use signature_values::SigBody;
 use std::alloc::{AllocError, Global};
+use walk::{items_are_parts, visit_body};
+
+/// The bytes, and behind them the shortest spelling of a signature that has one (II.23.2), where there is
+/// room for it: no memory is asked for, and nothing can fail.
+pub fn spell_into(bytes: Vec<u8>, body: &SigBody) -> Vec<u8>
+    requires spellable { IsSpellable (body_of body.now) }
+    requires room { vec_len bytes + length (short (body_of body.now)) ≤ vec_capacity bytes }
+    ensures { result.items ≡ bytes.items ++ short (body_of body.now) }
+{
+    items_are_parts();
+    let left = bytes.capacity() - bytes.len();
+    let mut writer = Writer { bytes, left };
+    let _ = visit_body(&mut writer, body, DEPTH);
+    writer.bytes
+}
 
 /// The shortest spelling of a signature that has one (II.23.2): each number and each index in its shortest
 /// form. [`spelled_len`] says whether a signature has one.
@@ -15,7 +30,6 @@ pub fn encode_body(alloc: Global, body: &SigBody) -> Result<Vec<u8>, AllocError>
     requires { IsSpellable (body_of body.now) }
     ensures { IfOk result (λ bytes. bytes.items ≡ short (body_of body.now)) }
 {
-    let mut bytes = Vec::with_capacity(alloc, spelled_len(body).unwrap())?;
-    put_body(&mut bytes, body)?;
-    Ok(bytes)
+    let bytes = Vec::with_capacity(alloc, spelled_len(body).unwrap())?;
+    Ok(spell_into(bytes, body))
 }

@@ -2,11 +2,12 @@ ghost use Rattle.std.specs.Prelude.{◌≡◌, ◌↔◌, IfSome, IsSome, length
 ghost use Rattle.signature_values.specs.Views.{body_of};
 ghost use Rattle.signature_values.specs.Spells.{IsSpellable, short};
 
-use crate::room_bodies::after_body;
+use crate::measurer::Measurer;
 use signature_values::SigBody;
+use walk::{items_are_parts, visit_body};
 
 /// How deep types may nest.
-const DEPTH: u8 = 128;
+pub(crate) const DEPTH: u8 = 128;
 
 /// The most bytes that a blob may have.
 const ROOM: usize = (1 << 29) - 1;
@@ -22,6 +23,8 @@ pub fn spelled_len(body: &SigBody) -> Option<usize>
     ensures spellable { IsSome result ↔ IsSpellable (body_of body.now) }
     ensures length { IfSome result (λ count. count ≡ length (short (body_of body.now))) }
 {
-    let left = after_body(ROOM, body, DEPTH)?;
-    Some(ROOM - left)
+    items_are_parts();
+    let mut measurer = Measurer { left: ROOM };
+    visit_body(&mut measurer, body, DEPTH)?;
+    Some(ROOM - measurer.left)
 }

@@ -11,21 +11,11 @@
 //! ```
 #![tactic(auto)]
 
-mod element_type;
 mod encode;
 mod length;
-mod room;
-mod room_bodies;
-mod room_items;
-mod room_types;
-mod write;
-mod write_bodies;
-mod write_items;
-mod write_types;
+mod measurer;
+mod writer;
 
-pub use encode::encode_body;
+pub use encode::{encode_body, spell_into};
 pub use length::spelled_len;
 pub use signature_values::SigBody;
-
-#[cfg(test)]
-mod tests;

@@ -1,7 +1,7 @@
 use crate::answers::{Form, fault_of};
 use crate::roots::is_same_module;
 use crate::samples::{ONE_MODULE, TWO_TYPES, changed, image, write_at};
-use opening::{open_image, open_root};
+use opening::{open_image, open_root, read_heads};
 use std::alloc::Global;
 use std::test::Fail;
 
@@ -23,6 +23,23 @@ fn shows_the_root_of_a_file_and_its_header(rt: HostRuntime) -> Result<(), Fail> 
     assert_eq!(rt; (header.flags, header.entry_point_token), (1, 0));
     assert_eq!(rt; (header.place, header.root), (520, 592..736));
     assert!(rt; is_same_module(&view, &open_root(&ONE_MODULE)?));
+    Ok(())
+}
+
+#[test]
+fn the_heads_of_a_file_are_read_without_its_tables(rt: HostRuntime) -> Result<(), Fail> {
+    let alloc = rt.alloc();
+    let file = image(alloc)?;
+    let heads = read_heads(file.as_slice())?;
+    assert_eq!(rt; heads.header, open_image(file.as_slice())?.0);
+    assert_eq!(rt; heads.root.version(), "v4.0.30319");
+    assert_eq!(rt; heads.image.range(0x2008, 72), Some(520..592));
+    // A fault of the tables is none of the heads, and one of the directory is.
+    let tables = changed(alloc, file.as_slice(), &[(592 + 94, 0x01)])?;
+    assert_eq!(rt; read_heads(tables.as_slice())?.header, heads.header);
+    let directory = changed(alloc, file.as_slice(), &[(592 + 41, 0x2D)])?;
+    let fault = read_heads(directory.as_slice()).err().ok_or("no fault")?;
+    assert_eq!(rt; (fault.code, fault.offset), (307, 624));
     Ok(())
 }
 

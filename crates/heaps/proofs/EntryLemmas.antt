@@ -2,10 +2,12 @@
 use Rattle.std.proofs.Common.{◌≡◌, ℕ, List, ◌∷◌, ◌++◌, length, take, drop, get_or, Option, Some, None, inl, inr, refl, sym, ap, ◌∙◌, arith}
 use Rattle.std.proofs.lemmas.List.{take_at}
 use Rattle.packed.specs.Packed.{IsPacked}
-use Rattle.heaps.specs.Entries.{IsCounted, IsText, IsBlob, IsGuid}
+use Rattle.heaps.specs.Entries.{IsCounted, IsText, IsBlob, IsGuid, IsUserString, UserText}
+use Rattle.heaps.specs.UserView.{user_text}
 use Rattle.heaps.proofs.TextLemmas.{text_same}
 use Rattle.heaps.proofs.BlobLemmas.{blob_counted, counted_behind}
 use Rattle.heaps.proofs.GuidLemmas.{guid_is}
+use Rattle.heaps.proofs.UserLemmas.{spells_only}
 
 -- bytes begin with one packed number at most
 packed_one : (m n : ℕ) (a b x y : List ℕ) → IsPacked m a → IsPacked n b → a ++ x ≡ b ++ y → (m ≡ n) × (x ≡ y)
@@ -59,6 +61,9 @@ pub blob_one : (heap : List ℕ) (index : ℕ) (a b : List ℕ) → IsBlob heap 
 blob_one heap index a b (inl x) (inl y) = x.1 ∙ sym y.1
 blob_one heap index a b (inl x) (inr y) = absurd (omega (arith, x.0, y.0))
 blob_one heap index a b (inr x) y = counted_one heap index a b x.1 (blob_counted heap index b x.0 y)
+
+pub user_one : (heap : List ℕ) (index : ℕ) (a b : UserText) → IsUserString heap index a → IsUserString heap index b → a ≡ b
+user_one heap index a b x y = sym (spells_only x.blob a x.spells) ∙ ap user_text (blob_one heap index x.blob y.blob x.stands y.stands) ∙ spells_only y.blob b y.spells
 
 pub guid_one : (heap : List ℕ) (index : ℕ) (a b : Option (List ℕ)) → IsGuid heap index a → IsGuid heap index b → a ≡ b
 guid_one heap index None None x y = refl

@@ -70,7 +70,7 @@ holder_within used (suc n) text h room = ⊎_elim
     (cases_Bool (is_holder used text))
 
 -- some holder ends with each used text
-held : (used : List (List ℕ)) (text : List ℕ) → IsIn text used → 0 < length text → list_any (λ entry. ends_with entry text) (holders used) ≡ true
+pub held : (used : List (List ℕ)) (text : List ℕ) → IsIn text used → 0 < length text → list_any (λ entry. ends_with entry text) (holders used) ≡ true
 held used text h some =
     let found = holder_within used (suc (total used)) text h (omega arith) in
     let parts = ends_parts found.holder text found.ends in

@@ -25,7 +25,11 @@ swapped_is (a ∷ b ∷ c ∷ d ∷ e ∷ f ∷ g ∷ h ∷ i ∷ j ∷ k ∷ l 
 swapped_is (a ∷ b ∷ c ∷ d ∷ e ∷ f ∷ g ∷ h ∷ i ∷ j ∷ k ∷ l ∷ m ∷ n ∷ o ∷ p ∷ []) len = refl
 swapped_is (a ∷ b ∷ c ∷ d ∷ e ∷ f ∷ g ∷ h ∷ i ∷ j ∷ k ∷ l ∷ m ∷ n ∷ o ∷ p ∷ q ∷ rest) len = absurd (omega arith)
 
--- a copy of a text parses as the text does
+-- a copy of a text is spelled and parses as the text is
+pub copy_is : {T E : Type 0} (bytes_of : T → List ℕ) (copied : Result T E) (text spelled : List ℕ) → IfOk copied (λ t. bytes_of t ≡ text) → text ≡ spelled → IfOk copied (λ t. bytes_of t ≡ spelled)
+copy_is bytes_of (Ok t) text spelled same is = same ∙ is
+copy_is bytes_of (Err e) text spelled same is = tt
+
 pub copy_parses : {T E : Type 0} (bytes_of : T → List ℕ) (copied : Result T E) (text guid : List ℕ) → IfOk copied (λ t. bytes_of t ≡ text) → parsed text ≡ Some guid → IfOk copied (λ t. parsed (bytes_of t) ≡ Some guid)
 copy_parses bytes_of (Ok t) text guid same is = ap parsed same ∙ is
 copy_parses bytes_of (Err e) text guid same is = tt

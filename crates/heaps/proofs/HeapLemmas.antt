@@ -38,6 +38,16 @@ module _ (texts : List (List ℕ)) (flags : List Bool) (p : ℕ) (in_texts : p <
   pub ended_no : (heap : List ℕ) → p < length flags → slice_index_or flags p false ≡ false → heap ≡ 0 ∷ ended (flagged (take p texts) (take p flags)) → heap ≡ 0 ∷ ended (flagged (take (p + 1) texts) (take (p + 1) flags))
   ended_no heap h e is = is ∙ ap (λ l. 0 ∷ ended l) (sym (flagged_no texts flags p in_texts h e)) ∙ ap (λ n. 0 ∷ ended (flagged (take n texts) (take n flags))) (sym (add-one p))
 
+  -- the lengths of these heaps
+  pub length_yes : slice_index_or flags p false ≡ true → length (ended (flagged (take (p + 1) texts) (take (p + 1) flags))) ≡ length (ended (flagged (take p texts) (take p flags))) + length (used_at texts p) + 1
+  length_yes e =
+      let heap = 0 ∷ ended (flagged (take p texts) (take p flags)) in
+      let more = ap length (ended_yes heap e refl) in
+      omega (arith, more, length-append (heap ++ used_at texts p) (0 ∷ []), length-append heap (used_at texts p))
+
+  pub length_no : p < length flags → slice_index_or flags p false ≡ false → length (ended (flagged (take (p + 1) texts) (take (p + 1) flags))) ≡ length (ended (flagged (take p texts) (take p flags)))
+  length_no h e = let same = ap length (ended_no (0 ∷ ended (flagged (take p texts) (take p flags))) h e refl) in omega arith
+
   pub ended_total : slice_index_or flags p false ≡ true → length (ended (flagged (take p texts) (take p flags))) + length (used_at texts p) + 1 ≤ length (ended (flagged texts flags))
   ended_total e =
       let s = flagged_split texts flags p in_texts e in

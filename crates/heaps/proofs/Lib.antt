@@ -6,9 +6,11 @@ pub mod EntryLemmas
 pub mod FirstByteLemmas
 pub mod FirstLemmas
 pub mod FoundLemmas
+pub mod GrowLemmas
 pub mod GuidLemmas
 pub mod GuidTextLemmas
 pub mod HeapLemmas
+pub mod HolderLemmas
 pub mod MemberLemmas
 pub mod PlanLemmas
 pub mod PoolLemmas

@@ -56,7 +56,7 @@ pub among_in : (values : List (List ℕ)) (value : List ℕ) → IsIn value valu
 among_in values value h = in_any (bytes_eq value) value values h (nat_list_eq_equiv.refl value)
 
 -- a value that stands before counts no more
-among_push : (before : List (List ℕ)) (value x : List ℕ) → is_among (before ++ value ∷ []) x ≡ (is_among before x || bytes_eq x value)
+pub among_push : (before : List (List ℕ)) (value x : List ℕ) → is_among (before ++ value ∷ []) x ≡ (is_among before x || bytes_eq x value)
 among_push before value x = list_any-append (bytes_eq x) before (value ∷ []) ∙ ap (λ b. is_among before x || b) (or_false (bytes_eq x value))
 
 or_of_false : (a b : Bool) → a ≡ false → b ≡ false → (a || b) ≡ false

@@ -8,7 +8,8 @@ use Rattle.std.proofs.lemmas.Bool.{cases_lt, false≢true}
 use Rattle.std.proofs.lemmas.Cmp.{nat_list_eq_equiv}
 use Rattle.std.proofs.lemmas.List.{append_assoc, append-nil, get_or_default}
 use Rattle.std.proofs.lemmas.List.Folds.{Any-from_list_any, list_any_at}
-use Rattle.heaps.specs.Ending.{ends_with, ending_cmp}
+use Rattle.heaps.specs.Ending.{ends_with}
+use Rattle.heaps.specs.EndingOrder.{ending_cmp}
 use Rattle.heaps.specs.Distinct.{is_among, first_uses}
 use Rattle.heaps.specs.TextHeap.{is_holder, ended, text_from}
 use Rattle.heaps.specs.Ranking.{TextUse, text_at, place_at, used_at, AreFirstUses, IsTop, IsRun, FindsHolder, flagged}

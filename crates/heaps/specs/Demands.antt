@@ -23,23 +23,23 @@ at_place place (Ok x) = Ok x
 at_place place (Err found) = Err (fault (code_of found) place)
 
 -- of an index into `#Strings`: a NUL stands at it or behind, and the bytes before the first of these are UTF-8
-abbrev pub demands_of_text : List ℕ → ℕ → ℕ → List Demand
+abbrev pub demands_of_text : List ℕ → ℕ → ℕ → List (Demand Fault)
 demands_of_text heap index place =
     demand ((index ≡ 0) ⊎ ((bytes : List ℕ) × IsEnded heap index bytes)) fault_code.BadString place
     ∷ demand ((text : List ℕ) × IsText heap index text) fault_code.BadUtf8 place
     ∷ []
 
 -- of an index into `#Blob`: a blob stands there
-abbrev pub demands_of_blob : List ℕ → ℕ → ℕ → List Demand
+abbrev pub demands_of_blob : List ℕ → ℕ → ℕ → List (Demand Fault)
 demands_of_blob heap index place = demand ((blob : List ℕ) × IsBlob heap index blob) fault_code.BadBlob place ∷ []
 
 -- of an index into `#US`: a blob stands there, of an odd number of bytes or none
-abbrev pub demands_of_user_string : List ℕ → ℕ → ℕ → List Demand
+abbrev pub demands_of_user_string : List ℕ → ℕ → ℕ → List (Demand Fault)
 demands_of_user_string heap index place =
     demand ((blob : List ℕ) × IsBlob heap index blob) fault_code.BadBlob place
     ∷ demand ((string : UserText) × IsUserString heap index string) fault_code.BadUserString place
     ∷ []
 
 -- of an index into `#GUID`: null or an entry
-abbrev pub demands_of_guid : List ℕ → ℕ → ℕ → List Demand
+abbrev pub demands_of_guid : List ℕ → ℕ → ℕ → List (Demand Fault)
 demands_of_guid heap index place = demand ((guid : Option (List ℕ)) × IsGuid heap index guid) fault_code.BadGuid place ∷ []

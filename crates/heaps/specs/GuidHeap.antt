@@ -1,5 +1,5 @@
 -- What the GUID heap that is written contains (ECMA-335 II.24.2.5).
-use Rattle.std.specs.Prelude.{ℕ, ◌+◌, List, flat_map, Option, Some, None}
+use Rattle.std.specs.Prelude.{ℕ, ◌+◌, List, [], ◌∷◌, flat_map, Option, Some, None}
 use Rattle.std.specs.List.{position_or_len}
 use Rattle.std.specs.Str.{bytes_eq}
 use Rattle.heaps.specs.Distinct.{pooled}
@@ -8,6 +8,11 @@ use Rattle.heaps.specs.Distinct.{pooled}
 abbrev pub pooled_guid : List (List ℕ) → Option (List ℕ) → List (List ℕ)
 pooled_guid entries None = entries
 pooled_guid entries (Some guid) = pooled entries guid
+
+-- a GUID that is not null
+abbrev pub given : Option (List ℕ) → List (List ℕ)
+given None = []
+given (Some guid) = guid ∷ []
 
 -- the heap of these entries: one after another
 abbrev pub guid_heap : List (List ℕ) → List ℕ

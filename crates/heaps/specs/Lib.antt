@@ -3,6 +3,7 @@ pub mod BlobPoolView
 pub mod Demands
 pub mod Distinct
 pub mod Ending
+pub mod EndingOrder
 pub mod Entries
 pub mod Fill
 pub mod FirstByte

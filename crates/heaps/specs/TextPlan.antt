@@ -2,7 +2,7 @@
 use Rattle.std.specs.Prelude.{◌≡◌, ◌==◌, ℕ, ◌+◌, ◌<◌, ◌≤◌, ◌^◌, List, [], ◌∷◌, length, take, drop, if◌then◌else◌}
 use Rattle.std.specs.declared.cmp.Ordering.TheVariants.{Less}
 use Rattle.heaps.specs.declared.text_plan.Span.{Span}
-use Rattle.heaps.specs.Ending.{ending_cmp}
+use Rattle.heaps.specs.EndingOrder.{ending_cmp}
 use Rattle.heaps.specs.TextHeap.{text_heap, text_index, holders, ended}
 use Rattle.heaps.specs.Uses.{span_at}
 

@@ -5,11 +5,11 @@ use Rattle.heaps.specs.FirstByte.{begun}
 use Rattle.heaps.specs.Units.{user_length, user_entry}
 
 -- the heap, or what it begins with
-abbrev pub heap_of : Inside → List ℕ
-heap_of heap = begun heap.bytes.items
+abbrev pub user_heap_of : Inside → List ℕ
+user_heap_of heap = begun heap.bytes.items
 
 pub record IsUserHeap (heap : Inside) : Type 0 where
-  pub fits : length (heap_of heap) ≤ 2 ^ 30
+  pub fits : length (user_heap_of heap) ≤ 2 ^ 30
 
 -- the user string has more bytes than a blob may have, or would take the heap past 2^30 bytes
 abbrev pub IsPastLimit : List ℕ → List ℕ → Type 0

@@ -71,7 +71,7 @@ impl BlobPool {
     /// Pools a blob of at most 2^29 - 1 bytes and answers its index, which counts bytes; no bytes
     /// have index 0 and no entry.
     ///
-    /// Only a blob that is not there yet takes memory. `Full` is told before any is taken.
+    /// A blob that is there already is refused no memory. `Full` is told before any is taken.
     pub fn add(&mut self, blob: &[u8]) -> Result<u32, PoolError>
         requires { length blob.now < 2 ^ 29 }
         ensures entries { OnOk result (self.new ≡ pooled self.old blob.now) }

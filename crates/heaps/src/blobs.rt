@@ -7,7 +7,7 @@ use crate::fault::HeapFault;
 use packed::read_unsigned;
 
 /// The bytes behind their number at a place.
-fn counted(heap: &[u8], start: usize) -> Option<&[u8]>
+fn counted_at(heap: &[u8], start: usize) -> Option<&[u8]>
     ensures found { IfSome result (λ bytes. IsCounted heap.now start bytes.now) }
     ensures only { (bytes : List ℕ) → IsCounted heap.now start bytes → IsSomeAnd result (λ found. found.now ≡ bytes) }
 {
@@ -39,7 +39,7 @@ pub fn blob(heap: &[u8], index: u32) -> Result<&[u8], HeapFault>
     if index == 0 {
         return Ok(&[]);
     }
-    match counted(heap, index as usize) {
+    match counted_at(heap, index as usize) {
         Some(blob) => Ok(blob),
         None => Err(HeapFault::BadBlob),
     }

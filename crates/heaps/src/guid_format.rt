@@ -1,6 +1,6 @@
 ghost use Rattle.std.specs.Prelude.{◌≡◌, Some, IfOk};
 ghost use Rattle.std.specs.String.{string_bytes};
-ghost use Rattle.uuid.specs.Text.{parsed};
+ghost use Rattle.uuid.specs.Text.{hyphenated_text, lower, parsed};
 ghost use Rattle.heaps.specs.GuidText.{as_read};
 
 use std::alloc::{AllocError, Global};
@@ -11,7 +11,8 @@ use uuid::Uuid;
 /// The first 4, 2 and 2 bytes are numbers with their lowest byte first, and the other 8 stand in
 /// order, so that 00 01 02 .. 0F is `03020100-0504-0706-0809-0a0b0c0d0e0f`.
 pub fn guid_text(alloc: Global, guid: &[u8; 16]) -> Result<String, AllocError>
-    ensures { IfOk result (λ text. parsed (string_bytes text) ≡ Some (as_read guid.now)) }
+    ensures text { IfOk result (λ text. string_bytes text ≡ hyphenated_text lower (as_read guid.now)) }
+    ensures parsed { IfOk result (λ text. parsed (string_bytes text) ≡ Some (as_read guid.now)) }
 {
     let mut buffer = Uuid::encode_buffer();
     let text = Uuid::from_bytes_le(*guid)

@@ -50,7 +50,7 @@ impl GuidPool {
 
     /// Pools a GUID and answers its index, which counts entries from 1; null has index 0 and no entry.
     ///
-    /// Only a GUID that is not there yet takes memory. `Full` is told before any is taken.
+    /// A GUID that is there already is refused no memory. `Full` is told before any is taken.
     pub fn add(&mut self, guid: Option<[u8; 16]>) -> Result<u32, PoolError>
         ensures entries { IfOk result (λ _. self.new ≡ pooled_guid self.old guid) }
         ensures index { IfOk result (λ index. index ≡ guid_index self.new guid) }

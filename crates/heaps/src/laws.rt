@@ -1,8 +1,8 @@
-ghost use Rattle.std.specs.Prelude.{◌≡◌, ◌<◌, ◌^◌, ◌++◌, ◌∷◌, [], ◌⊎◌, ℕ, List, length, All, Contains, IsUtf8, Option, Some};
+ghost use Rattle.std.specs.Prelude.{◌≡◌, ◌<◌, ◌≤◌, ◌^◌, ◌++◌, ◌∷◌, [], ◌⊎◌, ℕ, List, length, All, Contains, IsUtf8, Option, Some};
 ghost use Rattle.heaps.specs.BlobHeap.{blob_heap, blob_index};
 ghost use Rattle.heaps.specs.Distinct.{distinct, pooled};
-ghost use Rattle.heaps.specs.Entries.{HasNoNul, IsBlob, IsGuid, IsText, IsUserString};
-ghost use Rattle.heaps.specs.GuidHeap.{guid_heap, guid_index};
+ghost use Rattle.heaps.specs.Entries.{HasNoNul, IsBlob, IsGuid, IsText, IsUserString, UserText};
+ghost use Rattle.heaps.specs.GuidHeap.{given, guid_heap, guid_index, pooled_guid};
 ghost use Rattle.heaps.specs.TextHeap.{holders, text_heap, text_index};
 ghost use Rattle.heaps.specs.Units.{last_byte, user_entry, user_length};
 
@@ -30,16 +30,37 @@ pub fn pushed_string_is_found()
         → IsUserString (heap ++ (user_entry units ++ rest)) (length heap) (record { units = units; flag = Some (last_byte units) }) }
 {}
 
-/// Values that are pooled one after another are the distinct ones, and each that is not empty is there.
+/// Values that are pooled one after another are the distinct ones, those of more uses behind those of
+/// the first. Each that is not empty is there, and adds nothing again. Of GUIDs null is left out.
 pub fn pooled_are_distinct()
     ensures more { (used : List (List ℕ)) (value : List ℕ) → distinct (used ++ value ∷ []) ≡ pooled (distinct used) value }
+    ensures guid { (used : List (List ℕ)) (guid : Option (List ℕ)) → distinct (used ++ given guid) ≡ pooled_guid (distinct used) guid }
     ensures each { (used : List (List ℕ)) (value : List ℕ) → Contains used value → 0 < length value → Contains (distinct used) value }
+    ensures again { (used : List (List ℕ)) (value : List ℕ) → Contains used value → pooled (distinct used) value ≡ distinct used }
+    ensures front { (used more : List (List ℕ)) → (rest : List (List ℕ)) × (distinct (used ++ more) ≡ distinct used ++ rest) }
 {}
 
-/// At an index of a heap stands one text, one blob and one GUID at most.
+/// The index of a pooled value stays as its pool grows.
+pub fn indexes_stay()
+    ensures blob { (entries more : List (List ℕ)) (blob : List ℕ) → (blob ≡ []) ⊎ Contains entries blob
+        → blob_index (entries ++ more) blob ≡ blob_index entries blob }
+    ensures guid { (entries more : List (List ℕ)) (guid : List ℕ) → Contains entries guid
+        → guid_index (entries ++ more) (Some guid) ≡ guid_index entries (Some guid) }
+{}
+
+/// The heap of what is used first is no longer than that of all.
+pub fn heaps_grow()
+    ensures texts { (used more : List (List ℕ)) → length (text_heap (holders used)) ≤ length (text_heap (holders (used ++ more))) }
+    ensures blobs { (used more : List (List ℕ)) → length (blob_heap (distinct used)) ≤ length (blob_heap (distinct (used ++ more))) }
+    ensures guids { (used more : List (List ℕ)) → length (guid_heap (distinct used)) ≤ length (guid_heap (distinct (used ++ more))) }
+{}
+
+/// At an index of a heap stands one text, one blob, one user string and one GUID at most.
 pub fn entries_are_one()
     ensures text { (heap : List ℕ) (index : ℕ) (text other : List ℕ) → IsText heap index text → IsText heap index other → text ≡ other }
     ensures blob { (heap : List ℕ) (index : ℕ) (blob other : List ℕ) → IsBlob heap index blob → IsBlob heap index other → blob ≡ other }
+    ensures user { (heap : List ℕ) (index : ℕ) (string other : UserText) → IsUserString heap index string
+        → IsUserString heap index other → string ≡ other }
     ensures guid { (heap : List ℕ) (index : ℕ) (guid other : Option (List ℕ)) → IsGuid heap index guid → IsGuid heap index other
         → guid ≡ other }
 {}

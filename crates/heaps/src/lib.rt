@@ -4,9 +4,10 @@
 //! [`text`], [`blob`], [`user_string`] and [`guid`] read what stands at an index, in the bytes of the
 //! heap and without memory. They answer it exactly where something stands there, else the
 //! [`HeapFault`] that says what is missing; a heap that is absent is no bytes. [`Strings`] checks an
-//! index in constant time, after one look at a heap that is UTF-8. [`TextPool`], [`BlobPool`],
-//! [`GuidPool`] and [`UserHeap`] make the heaps that are written: each value once, in order of first
-//! use, and texts that others end with inside these. `laws.rt` says that what is pooled is read back.
+//! index in constant time, after one look at a heap that is UTF-8. [`TextPool`], [`BlobPool`] and
+//! [`GuidPool`] make the heaps that are written: each value once, in order of first use, and texts
+//! that others end with inside these. [`UserHeap`] has each string that is pushed. `laws.rt` says that
+//! what is pooled is read back, and stays where it is as its pool grows.
 //!
 //! ```text
 //! text(b"\0a.dll\0", 1) == Ok("a.dll")
@@ -38,14 +39,12 @@ pub use guid_format::guid_text;
 pub use guid_pool::GuidPool;
 pub use guids::guid;
 pub use laws::{
-    entries_are_one, pooled_are_distinct, pooled_blob_is_found, pooled_guid_is_found,
-    pushed_string_is_found, used_text_is_found,
+    entries_are_one, heaps_grow, indexes_stay, pooled_are_distinct, pooled_blob_is_found,
+    pooled_guid_is_found, pushed_string_is_found, used_text_is_found,
 };
+pub use packed::{Fault, FaultCode};
 pub use pool_error::PoolError;
 pub use strings::{Strings, text};
 pub use text_pool::TextPool;
 pub use user_heap::UserHeap;
 pub use user_strings::{Units, UserString, user_string};
-
-#[cfg(test)]
-mod tests;

@@ -9,7 +9,7 @@ use simdutf8::basic;
 use std::marker::Model;
 
 /// The bytes from a place up to the next NUL.
-fn ended(heap: &[u8], start: usize) -> Option<&[u8]>
+fn ended_at(heap: &[u8], start: usize) -> Option<&[u8]>
     ensures found { IfSome result (λ bytes. IsEnded heap.now start bytes.now) }
     ensures none { IfNone result ((bytes : List ℕ) → IsEnded heap.now start bytes → ⊥) }
 {
@@ -38,7 +38,7 @@ pub fn text(heap: &[u8], index: u32) -> Result<&str, HeapFault>
     if index == 0 {
         return Ok("");
     }
-    let Some(bytes) = ended(heap, index as usize) else {
+    let Some(bytes) = ended_at(heap, index as usize) else {
         return Err(HeapFault::BadString);
     };
     match basic::from_utf8(bytes) {
@@ -114,7 +114,7 @@ impl<'a> Strings<'a> {
         if start == 0 {
             return Ok("");
         }
-        match ended(self.heap, start) {
+        match ended_at(self.heap, start) {
             Some(bytes) if whole.is_char_boundary(start) => Ok(&whole[start..start + bytes.len()]),
             Some(_) => Err(HeapFault::BadUtf8),
             None => Err(HeapFault::BadString),

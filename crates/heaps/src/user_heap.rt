@@ -26,9 +26,9 @@ impl Model for UserHeap {
 
     ghost Value = { List ℕ };
 
-    ghost use Rattle.heaps.specs.UserHeap.{heap_of, IsUserHeap};
+    ghost use Rattle.heaps.specs.UserHeap.{user_heap_of, IsUserHeap};
 
-    ghost view = { heap_of };
+    ghost view = { user_heap_of };
 
     ghost invariant = { IsUserHeap };
 }

@@ -1,5 +1,6 @@
 -- Items that stand one behind the other.
-use Rattle.std.proofs.Common.{◌≡◌, ℕ, zero, suc, ◌+◌, ◌<◌, ◌≤◌, List, [], ◌∷◌, length, get_or, refl, ap, subst, arith, inl, inr}
+use Rattle.std.proofs.Common.{◌≡◌, ℕ, zero, suc, ◌+◌, ◌<◌, ◌≤◌, List, [], ◌∷◌, length, get_or, refl, sym, ap, subst, arith, inl, inr}
+use Rattle.std.specs.List.{AllByRecursion}
 use Rattle.std.proofs.lemmas.Bool.{cases_eq}
 use Rattle.metadata.specs.Rows.{AreFrom}
 
@@ -49,3 +50,11 @@ items_one P each i (suc n) (x ∷ xs) (y ∷ ys) are also =
     let head = each i x y are.0 also.0 in
     let tail = items_one P each (i + 1) n xs ys are.1 also.1 in
     cc
+
+-- what stands at a place, by the number that it stands for
+pub from_at : {X : Type 0} (P : ℕ → X → Type 0) (i n : ℕ) (xs : List X) (k j : ℕ) (d : X) → AreFrom P i n xs → k < n → j ≡ i + k → P j (get_or xs k d)
+from_at P i n xs k j d are below e = subst (λ m. P m (get_or xs k d)) (sym e) (item_at P i n xs are k d below)
+
+pub all_weaker : {X : Type 0} (P Q : X → Type 0) → ((x : X) → P x → Q x) → (xs : List X) → AllByRecursion P xs → AllByRecursion Q xs
+all_weaker P Q each [] all = tt
+all_weaker P Q each (x ∷ xs) all = (each x all.0, all_weaker P Q each xs all.1)

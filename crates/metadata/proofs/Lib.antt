@@ -1,4 +1,3 @@
-pub mod ColumnLemmas
 pub mod FileLemmas
 pub mod ItemLemmas
 pub mod ModelLemmas
@@ -6,3 +5,7 @@ pub mod RuleLemmas
 pub mod Sample
 pub mod StandsLemmas
 pub mod TableLemmas
+pub mod ValidLemmas
+pub mod RefusalLemmas
+pub mod SameLemmas
+pub mod KeyLemmas

@@ -21,19 +21,20 @@ use Rattle.schema.specs.Header.{sizes_of}
 use Rattle.schema.specs.LaidOut.{IsLaidOut, IsTableStream}
 use Rattle.schema.specs.Cells.{numbers_at}
 use Rattle.schema.specs.Demands.{demands_of_stream}
-use Rattle.cells.specs.declared.cell.Cell.{Cell}
-use Rattle.cells.specs.declared.cell.Cell.TheVariants.{Number}
+use Rattle.metadata.specs.Cell.{Cell}
+use Rattle.metadata.specs.Cell.{Number}
 use Rattle.metadata.specs.Metadata.{Metadata, rows_of}
 use Rattle.metadata.specs.Source.{Source, rows_in}
 use Rattle.metadata.specs.Streams.{stream_in, source_in}
-use Rattle.metadata.specs.Rows.{cell_count, IsCell, IsRow, IsTable, IsTableAt, AreTables, table_at}
+use Rattle.schema.specs.CellColumns.{cell_count}
+use Rattle.metadata.specs.Rows.{IsCell, IsRow, IsTable, IsTableAt, AreTables, table_at}
 use Rattle.metadata.specs.Rules.{AreByKey, AreOwned, AreNested}
 use Rattle.metadata.specs.Model.{IsModel}
 use Rattle.metadata.specs.Placed.{Placed, tables_in, tables_place, source_of, placed_at}
 use Rattle.metadata.specs.Demands.{demands_of_cells, demands_of_order, demands_of_runs, demands_of_nesting, demands_of_signatures, demands_of_tables, demands_of_metadata}
 use Rattle.metadata.proofs.ItemLemmas.{items_length, item_at}
 use Rattle.metadata.proofs.StandsLemmas.{AreOne}
-use Rattle.metadata.proofs.TableLemmas.{tables_found, cells_met, signatures_met, tables_one}
+use Rattle.metadata.proofs.TableLemmas.{HaveCells, tables_found, cells_met, signatures_met, tables_one}
 use Rattle.metadata.proofs.RuleLemmas.{order_found, order_met, runs_found, runs_met, nesting_found, nesting_met}
 
 -- what is known of roots and table streams
@@ -47,22 +48,23 @@ pub record AreRead : Type 0 where
   pub stream_said : (stream : List ℕ) (sizes : Sizes) (numbers : List (List (List ℕ))) → IsLaidOut stream sizes numbers → sizes ≡ sizes_of stream
   pub stream_found : (stream : List ℕ) → ((k : ℕ) → slice_index stream k < 2 ^ 8) → AllHold (demands_of_stream stream) → IsTableStream stream (sizes_of stream)
   pub numbers_are : (stream : List ℕ) (sizes : Sizes) (numbers : List (List (List ℕ))) → IsLaidOut stream sizes numbers → numbers ≡ numbers_at stream sizes
+  pub columns : HaveCells
 
 -- ---- the tables of a root
 
-pub demands_met : (here : Placed) (all : List (List (List Cell))) → AreTables here.source all → AreByKey here.source → AreOwned here.source
+pub demands_met : HaveCells → (here : Placed) (all : List (List (List Cell))) → AreTables here.source all → AreByKey here.source → AreOwned here.source
     → AreNested here.source
     → AllHold (demands_of_tables here)
 unfolding demands_of_tables
-demands_met here all cells ordered owned nested =
+demands_met have here all cells ordered owned nested =
     let order = demands_of_order here in
     let runs = demands_of_runs here in
     let nesting = demands_of_nesting here in
     let signatures = demands_of_signatures here in
-    all_append (demands_of_cells here) (order ++ (runs ++ (nesting ++ signatures))) (cells_met here all cells)
+    all_append (demands_of_cells here) (order ++ (runs ++ (nesting ++ signatures))) (cells_met have here all cells)
     (all_append order (runs ++ (nesting ++ signatures)) (order_met here ordered)
     (all_append runs (nesting ++ signatures) (runs_met here owned)
-    (all_append nesting signatures (nesting_met here nested) (signatures_met here all cells))))
+    (all_append nesting signatures (nesting_met here nested) (signatures_met have here all cells))))
 
 -- all that is asked of a source
 pub record Fits (source : Source) : Type 0 where
@@ -72,9 +74,9 @@ pub record Fits (source : Source) : Type 0 where
   pub owned : AreOwned source
   pub nested : AreNested source
 
-pub demands_found : (here : Placed) → AllHold (demands_of_tables here) → Fits here.source
+pub demands_found : HaveCells → (here : Placed) → AllHold (demands_of_tables here) → Fits here.source
 unfolding demands_of_tables
-demands_found here holds =
+demands_found have here holds =
     let order = demands_of_order here in
     let runs = demands_of_runs here in
     let nesting = demands_of_nesting here in
@@ -82,7 +84,7 @@ demands_found here holds =
     let behind = all_back (demands_of_cells here) (order ++ (runs ++ (nesting ++ signatures))) holds in
     let more = all_back order (runs ++ (nesting ++ signatures)) behind in
     let last = all_back runs (nesting ++ signatures) more in
-    let cells = tables_found here (all_front (demands_of_cells here) (order ++ (runs ++ (nesting ++ signatures))) holds) (all_back nesting signatures last) in
+    let cells = tables_found have here (all_front (demands_of_cells here) (order ++ (runs ++ (nesting ++ signatures))) holds) (all_back nesting signatures last) in
     record {
       all = cells.0;
       cells = cells.1;
@@ -139,7 +141,7 @@ module _ (read : AreRead) (root : List ℕ) (model : Metadata) (is : IsModel roo
       all_append header (stream ++ inside) (all_raised place (demands_of_root root) (read.root_demanded root model.version is.headers is.small is.is_root))
       (all_append stream inside
       (all_raised (place + tables_place root) (demands_of_stream (tables_in root)) (read.stream_demanded (tables_in root) (source_of root).sizes laid.0 laid.1))
-      (demands_met (placed_at place root) model.tables cells_read ordered_read owned_read nested_read))
+      (demands_met read.columns (placed_at place root) model.tables cells_read ordered_read owned_read nested_read))
 
   -- the rows of a table
   pub table_read : ((table : TableId) → position_of table < 38) → ((table : TableId) → slice_index_or tables (position_of table) Module ≡ table)
@@ -151,9 +153,21 @@ module _ (read : AreRead) (root : List ℕ) (model : Metadata) (is : IsModel roo
       let here : 0 + position_of table ≡ position_of table = omega arith in
       subst (λ (t : TableId). IsTable (source_of root) t (rows_of model table)) (ap table_at here ∙ stand table) rows
 
+pub tables_long : AreRead → (root : List ℕ) (model : Metadata) → IsModel root model → length model.tables ≡ 38
+tables_long read root model is = items_length (IsTableAt (source_of root)) 0 38 model.tables (cells_read read root model is)
+
 pub rows_count : (source : Source) (table : TableId) (rows : List (List Cell)) → IsTable source table rows → length rows ≡ rows_in source table
 unfolding IsTable
 rows_count source table rows is = items_length (IsRow source table) 1 (rows_in source table) rows is
+
+pub rows_long : (source : Source) (table : TableId) (rows : List (List Cell)) → IsTable source table rows → (row : ℕ) → 1 ≤ row
+    → row ≤ rows_in source table → length (slice_index_or rows (row - 1) []) ≡ cell_count table
+unfolding IsTable IsRow
+rows_long source table rows is row first last =
+    let cells = slice_index_or rows (row - 1) [] in
+    let there : 1 + (row - 1) ≡ row = omega arith in
+    let row_stands = item_at (IsRow source table) 1 (rows_in source table) rows is (row - 1) [] (omega arith) in
+    items_length (IsCell source table row) 0 (cell_count table) cells (subst (λ (r : ℕ). IsRow source table r cells) there row_stands)
 
 pub rows_cell : (source : Source) (table : TableId) (rows : List (List Cell)) → IsTable source table rows → (row place : ℕ) → 1 ≤ row
     → row ≤ rows_in source table → place < cell_count table
@@ -201,7 +215,7 @@ model_found read place root each holds =
     let stream_holds = all_lowered (place + tables_place root) (demands_of_stream (tables_in root)) (all_front stream inside rest) in
     let laid = read.stream_found (tables_in root) (stream_bytes root headers Tables each) stream_holds in
     let sizes = sizes_of (tables_in root) in
-    let fits = demands_found (placed_at place root) (all_back stream inside rest) in (
+    let fits = demands_found read.columns (placed_at place root) (all_back stream inside rest) in (
       record { version = (directory_of root).version; user = filled (stream_in root headers UserStrings); tables = fits.all },
       record {
         small = is.0;

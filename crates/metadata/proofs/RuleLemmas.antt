@@ -1,5 +1,6 @@
 -- The rules beside the cells hold exactly where what is demanded of order, runs and nesting holds.
 use Rattle.std.proofs.Common.{◌≡◌, ℕ, ◌-◌, Bool, true, false, List, ◌++◌, Option, Some, None, refl, arith}
+use Rattle.packed.specs.declared.fault.Fault.{Fault}
 use Rattle.packed.specs.Demand.{Demand, AllHold, demands_where}
 use Rattle.packed.proofs.DemandLemmas.{all_append, all_front, all_back, each_holds, all_of_each}
 use Rattle.schema.specs.declared.table.TableId.{TableId}
@@ -21,11 +22,11 @@ keys_met : (here : Placed) (table : TableId) (key : ℕ) → IsInOrder here.sour
 unfolding demands_of_keys demands_of_key_in
 keys_met here table key is = all_of_each (demands_of_key_in here table key) 2 (rows_in here.source table - 1) (λ row low high. (is row low (omega arith), tt))
 
-where_found : (test : Bool) (ds : List Demand) → AllHold (demands_where test ds) → test ≡ true → AllHold ds
+where_found : (test : Bool) (ds : List (Demand Fault)) → AllHold (demands_where test ds) → test ≡ true → AllHold ds
 where_found true ds all e = all
 where_found false ds all e = absurd cc
 
-where_met : (test : Bool) (ds : List Demand) → (test ≡ true → AllHold ds) → AllHold (demands_where test ds)
+where_met : (test : Bool) (ds : List (Demand Fault)) → (test ≡ true → AllHold ds) → AllHold (demands_where test ds)
 where_met true ds all = all refl
 where_met false ds all = tt
 

@@ -15,11 +15,11 @@ use Rattle.heaps.specs.Entries.{IsText, IsBlob, IsGuid}
 use Rattle.heaps.specs.Demands.{demands_of_text}
 use Rattle.signature_values.specs.Syntax.{Body}
 use Rattle.signature_values.specs.Spells.{Spells}
-use Rattle.cells.specs.declared.cell.Cell.{Cell}
-use Rattle.cells.specs.declared.cell.Cell.TheVariants.{Number, Text, Bytes, Guid, Ref, Start, Sig}
+use Rattle.metadata.specs.Cell.{Cell}
+use Rattle.metadata.specs.Cell.{Number, Text, Bytes, Guid, Ref, Start, Sig}
 use Rattle.metadata.specs.Source.{Source}
 use Rattle.metadata.specs.Stands.{Refers, StandsFor}
-use Rattle.metadata.specs.Rows.{is_padding}
+use Rattle.schema.specs.CellColumns.{is_padding}
 use Rattle.metadata.specs.Demands.{MayRefer, demands_of_number, demands_of_spelling}
 
 -- references

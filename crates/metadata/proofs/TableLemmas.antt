@@ -5,15 +5,22 @@ use Rattle.packed.specs.Demand.{AllHold}
 use Rattle.packed.proofs.DemandLemmas.{each_holds, all_of_each}
 use Rattle.schema.specs.declared.table.TableId.{TableId}
 use Rattle.schema.specs.Columns.{columns_of, column_at}
-use Rattle.cells.specs.declared.cell.Cell.{Cell}
+use Rattle.metadata.specs.Cell.{Cell}
 use Rattle.metadata.specs.Source.{Source, rows_in, number_of}
 use Rattle.metadata.specs.Starts.{start_of}
 use Rattle.metadata.specs.Placed.{Placed, cell_place}
-use Rattle.metadata.specs.Rows.{is_padding, cell_count, column_of, StandsIn, IsCell, IsRow, IsTable, IsTableAt, AreTables, table_at}
+use Rattle.schema.specs.CellColumns.{is_padding, cell_count, column_of}
+use Rattle.metadata.specs.Rows.{StandsIn, IsCell, IsRow, IsTable, IsTableAt, AreTables, table_at}
 use Rattle.metadata.specs.Demands.{demands_of_cell, demands_of_row, demands_of_table, demands_of_table_at, demands_of_cells, demands_of_signature, demands_of_signatures_in, demands_of_signatures_of, demands_of_signatures_at, demands_of_signatures}
 use Rattle.metadata.proofs.ItemLemmas.{item_of, items_of, items_one}
-use Rattle.metadata.proofs.ColumnLemmas.{cell_column, column_cell}
 use Rattle.metadata.proofs.StandsLemmas.{AreOne, stands_found, number_met, spelling_met, padding_met, stands_one}
+
+-- each cell has a column, which is no padding, and each other column has a cell
+pub record HaveCells : Type 0 where
+  pub column : (table : TableId) (cell : ℕ) → cell < cell_count table
+      → (column_of table cell < length (columns_of table)) × (is_padding (column_at table (column_of table cell)).kind ≡ false)
+  pub cell : (table : TableId) (column : ℕ) → column < length (columns_of table) → is_padding (column_at table column).kind ≡ false
+      → (cell : ℕ) × (cell < cell_count table) × (column_of table cell ≡ column)
 
 -- cells
 
@@ -57,35 +64,35 @@ cell_one one source table row place x y a b =
 
 -- rows
 
-row_found : (here : Placed) (table : TableId) (row : ℕ) → AllHold (demands_of_row here table row) → AllHold (demands_of_signatures_in here table row)
+row_found : HaveCells → (here : Placed) (table : TableId) (row : ℕ) → AllHold (demands_of_row here table row) → AllHold (demands_of_signatures_in here table row)
     → (cells : List Cell) × IsRow here.source table row cells
 unfolding demands_of_row demands_of_signatures_in IsRow
-row_found here table row numbers spelled =
+row_found have here table row numbers spelled =
     items_of (IsCell here.source table row) 0 (cell_count table) (λ place low high.
-    let column = cell_column table place (omega arith) in
+    let column = have.column table place (omega arith) in
     cell_found here table row (column_of table place) column.1 (
       each_holds (demands_of_cell here table row) 0 (length (columns_of table)) numbers (column_of table place) (omega arith) (omega (arith, column.0)),
       each_holds (demands_of_signature here table row) 0 (length (columns_of table)) spelled (column_of table place) (omega arith) (omega (arith, column.0)),
     ))
 
-row_cell : (here : Placed) (table : TableId) (row : ℕ) (cells : List Cell) → IsRow here.source table row cells → (column : ℕ)
+row_cell : HaveCells → (here : Placed) (table : TableId) (row : ℕ) (cells : List Cell) → IsRow here.source table row cells → (column : ℕ)
     → column < length (columns_of table) → CellHolds here table row column
 unfolding IsRow
-row_cell here table row cells is column within =
+row_cell have here table row cells is column within =
     elim (cases_Bool (is_padding (column_at table column).kind)) [
       | inl padding ↦ none_met here table row column padding
       | inr shown ↦
-          let there = column_cell table column within shown in
+          let there = have.cell table column within shown in
           let cell = item_of (IsCell here.source table row) 0 (cell_count table) cells is there.0 (omega arith) (omega (arith, there.1)) in
           cell_met here table row column cell.0 (subst (λ (c : ℕ). StandsIn here.source table row c cell.0) there.2 cell.1)
     ]
 
-row_met : (here : Placed) (table : TableId) (row : ℕ) (cells : List Cell) → IsRow here.source table row cells
+row_met : HaveCells → (here : Placed) (table : TableId) (row : ℕ) (cells : List Cell) → IsRow here.source table row cells
     → AllHold (demands_of_row here table row) × AllHold (demands_of_signatures_in here table row)
 unfolding demands_of_row demands_of_signatures_in
-row_met here table row cells is =
+row_met have here table row cells is =
     let count = length (columns_of table) in
-    let holds = λ (column : ℕ) (within : column < count). row_cell here table row cells is column within in (
+    let holds = λ (column : ℕ) (within : column < count). row_cell have here table row cells is column within in (
       all_of_each (demands_of_cell here table row) 0 count (λ column low high. (holds column (omega arith)).0),
       all_of_each (demands_of_signature here table row) 0 count (λ column low high. (holds column (omega arith)).1),
     )
@@ -96,23 +103,23 @@ row_one one source table row x y a b = items_one (IsCell source table row) (cell
 
 -- tables
 
-table_found : (here : Placed) (position : ℕ) → AllHold (demands_of_table_at here position) → AllHold (demands_of_signatures_at here position)
+table_found : HaveCells → (here : Placed) (position : ℕ) → AllHold (demands_of_table_at here position) → AllHold (demands_of_signatures_at here position)
     → (rows : List (List Cell)) × IsTableAt here.source position rows
 unfolding demands_of_table_at demands_of_table demands_of_signatures_at demands_of_signatures_of IsTableAt IsTable
-table_found here position numbers spelled =
+table_found have here position numbers spelled =
     let table = table_at position in
     items_of (IsRow here.source table) 1 (rows_in here.source table) (λ row low high.
-    row_found here table row
+    row_found have here table row
     (each_holds (demands_of_row here table) 1 (rows_in here.source table) numbers row low high)
     (each_holds (demands_of_signatures_in here table) 1 (rows_in here.source table) spelled row low high))
 
-table_met : (here : Placed) (position : ℕ) (rows : List (List Cell)) → IsTableAt here.source position rows
+table_met : HaveCells → (here : Placed) (position : ℕ) (rows : List (List Cell)) → IsTableAt here.source position rows
     → AllHold (demands_of_table_at here position) × AllHold (demands_of_signatures_at here position)
 unfolding demands_of_table_at demands_of_table demands_of_signatures_at demands_of_signatures_of IsTableAt IsTable
-table_met here position rows is =
+table_met have here position rows is =
     let table = table_at position in
     let row_holds = λ (row : ℕ) (low : 1 ≤ row) (high : row < 1 + rows_in here.source table).
-    let cells = item_of (IsRow here.source table) 1 (rows_in here.source table) rows is row low high in row_met here table row cells.0 cells.1 in (
+    let cells = item_of (IsRow here.source table) 1 (rows_in here.source table) rows is row low high in row_met have here table row cells.0 cells.1 in (
       all_of_each (demands_of_row here table) 1 (rows_in here.source table) (λ row low high. (row_holds row low high).0),
       all_of_each (demands_of_signatures_in here table) 1 (rows_in here.source table) (λ row low high. (row_holds row low high).1),
     )
@@ -124,28 +131,28 @@ table_one one source position x y a b =
 
 -- all tables
 
-pub tables_found : (here : Placed) → AllHold (demands_of_cells here) → AllHold (demands_of_signatures here)
+pub tables_found : HaveCells → (here : Placed) → AllHold (demands_of_cells here) → AllHold (demands_of_signatures here)
     → (tables : List (List (List Cell))) × AreTables here.source tables
 unfolding demands_of_cells demands_of_signatures
-tables_found here numbers spelled =
+tables_found have here numbers spelled =
     items_of (IsTableAt here.source) 0 38 (λ position low high.
-    table_found here position
+    table_found have here position
     (each_holds (demands_of_table_at here) 0 38 numbers position low high)
     (each_holds (demands_of_signatures_at here) 0 38 spelled position low high))
 
-table_holds : (here : Placed) (tables : List (List (List Cell))) → AreTables here.source tables → (position : ℕ) → 0 ≤ position → position < 0 + 38
+table_holds : HaveCells → (here : Placed) (tables : List (List (List Cell))) → AreTables here.source tables → (position : ℕ) → 0 ≤ position → position < 0 + 38
     → AllHold (demands_of_table_at here position) × AllHold (demands_of_signatures_at here position)
-table_holds here tables are position low high =
+table_holds have here tables are position low high =
     let rows = item_of (IsTableAt here.source) 0 38 tables are position low high in
-    table_met here position rows.0 rows.1
+    table_met have here position rows.0 rows.1
 
-pub cells_met : (here : Placed) (tables : List (List (List Cell))) → AreTables here.source tables → AllHold (demands_of_cells here)
+pub cells_met : HaveCells → (here : Placed) (tables : List (List (List Cell))) → AreTables here.source tables → AllHold (demands_of_cells here)
 unfolding demands_of_cells
-cells_met here tables are = all_of_each (demands_of_table_at here) 0 38 (λ position low high. (table_holds here tables are position low high).0)
+cells_met have here tables are = all_of_each (demands_of_table_at here) 0 38 (λ position low high. (table_holds have here tables are position low high).0)
 
-pub signatures_met : (here : Placed) (tables : List (List (List Cell))) → AreTables here.source tables → AllHold (demands_of_signatures here)
+pub signatures_met : HaveCells → (here : Placed) (tables : List (List (List Cell))) → AreTables here.source tables → AllHold (demands_of_signatures here)
 unfolding demands_of_signatures
-signatures_met here tables are = all_of_each (demands_of_signatures_at here) 0 38 (λ position low high. (table_holds here tables are position low high).1)
+signatures_met have here tables are = all_of_each (demands_of_signatures_at here) 0 38 (λ position low high. (table_holds have here tables are position low high).1)
 
 pub tables_one : AreOne → (source : Source) (x y : List (List (List Cell))) → AreTables source x → AreTables source y → x ≡ y
 tables_one one source x y a b = items_one (IsTableAt source) (table_one one source) 0 38 x y a b

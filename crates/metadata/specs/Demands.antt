@@ -2,6 +2,7 @@
 -- only where all before it hold. Each has a code, and a place in the bytes that were handed in.
 use Rattle.std.specs.Prelude.{◌≡◌, ◌≢◌, ℕ, ◌+◌, ◌-◌, ◌<◌, ◌≤◌, ◌⊎◌, ⊤, Bool, true, false, List, [], ◌∷◌, ◌++◌, length, Option, Some, None}
 use Rattle.packed.specs.declared.code.FaultCode.TheVariants.{BadTag, BadIndex, BadList, NotSorted, NoOwner, BadRun, NestedOrder, BadSignature, SignatureIndex, EntryPoint}
+use Rattle.packed.specs.declared.fault.Fault.{Fault}
 use Rattle.packed.specs.Demand.{Demand, demand, demands_from, demands_where, raised}
 use Rattle.schema.specs.declared.table.TableId.{TableId}
 use Rattle.schema.specs.declared.table.TableId.TheVariants.{TypeDef, Field, MethodDef, Param, EventMap, Event, PropertyMap, Property, NestedClass}
@@ -43,7 +44,7 @@ abbrev pub HasTag : Coded → ℕ → Type 0
 HasTag coded number = (token : Token) × IsCoded coded number token.table token.row
 
 -- of a number in a column of a kind, which stands at a place
-abbrev pub demands_of_number : Source → ColumnKind → Bool → ℕ → ℕ → List Demand
+abbrev pub demands_of_number : Source → ColumnKind → Bool → ℕ → ℕ → List (Demand Fault)
 demands_of_number source kind.Text nullable number place = demands_of_text source.texts number place
 demands_of_number source kind.Guid nullable number place = demands_of_guid source.guids number place
 demands_of_number source kind.Blob nullable number place = demands_of_blob source.blobs number place
@@ -57,61 +58,61 @@ demands_of_number source (kind.Coded coded) nullable number place =
 demands_of_number source (kind.List member) nullable number place = demand (number ≤ rows_in source member + 1) BadList place ∷ []
 demands_of_number source _ nullable number place = []
 
-unfoldable pub demands_of_cell : Placed → TableId → ℕ → ℕ → List Demand
+unfoldable pub demands_of_cell : Placed → TableId → ℕ → ℕ → List (Demand Fault)
 demands_of_cell here table row column =
     demands_of_number here.source (column_at table column).kind (column_at table column).nullable
     (number_of here.source table row column) (cell_place here table row column)
 
-unfoldable pub demands_of_row : Placed → TableId → ℕ → List Demand
+unfoldable pub demands_of_row : Placed → TableId → ℕ → List (Demand Fault)
 demands_of_row here table row = demands_from (demands_of_cell here table row) 0 (length (columns_of table))
 
-unfoldable pub demands_of_table : Placed → TableId → List Demand
+unfoldable pub demands_of_table : Placed → TableId → List (Demand Fault)
 demands_of_table here table = demands_from (demands_of_row here table) 1 (rows_in here.source table)
 
-unfoldable pub demands_of_table_at : Placed → ℕ → List Demand
+unfoldable pub demands_of_table_at : Placed → ℕ → List (Demand Fault)
 demands_of_table_at here position = demands_of_table here (table_at position)
 
 -- of all cells, by table, row and column
-unfoldable pub demands_of_cells : Placed → List Demand
+unfoldable pub demands_of_cells : Placed → List (Demand Fault)
 demands_of_cells here = demands_from (demands_of_table_at here) 0 38
 
 -- ---- the order of rows
 
 -- of a key, which is no lower than that of the row before
-unfoldable pub demands_of_key_in : Placed → TableId → ℕ → ℕ → List Demand
+unfoldable pub demands_of_key_in : Placed → TableId → ℕ → ℕ → List (Demand Fault)
 demands_of_key_in here table key row =
     demand (number_of here.source table (row - 1) key ≤ number_of here.source table row key) NotSorted (cell_place here table row key) ∷ []
 
-unfoldable pub demands_of_keys : Placed → TableId → ℕ → List Demand
+unfoldable pub demands_of_keys : Placed → TableId → ℕ → List (Demand Fault)
 demands_of_keys here table key = demands_from (demands_of_key_in here table key) 2 (rows_in here.source table - 1)
 
 -- of a table that is said to be sorted
-abbrev pub demands_of_order_by : Placed → TableId → Option ℕ → List Demand
+abbrev pub demands_of_order_by : Placed → TableId → Option ℕ → List (Demand Fault)
 demands_of_order_by here table None = []
 demands_of_order_by here table (Some key) = demands_where (is_said_sorted here.source table) (demands_of_keys here table key)
 
-unfoldable pub demands_of_order_at : Placed → ℕ → List Demand
+unfoldable pub demands_of_order_at : Placed → ℕ → List (Demand Fault)
 demands_of_order_at here position = demands_of_order_by here (table_at position) (key_of (table_at position))
 
 -- of all tables
-unfoldable pub demands_of_order : Placed → List Demand
+unfoldable pub demands_of_order : Placed → List (Demand Fault)
 demands_of_order here = demands_from (demands_of_order_at here) 0 38
 
 -- ---- the runs of members
 
 -- of a start, which is no lower than that of the owner before
-unfoldable pub demands_of_start : Placed → TableId → ℕ → TableId → ℕ → List Demand
+unfoldable pub demands_of_start : Placed → TableId → ℕ → TableId → ℕ → List (Demand Fault)
 demands_of_start here owner column member row =
     demand (start_of here.source owner (row - 1) column member ≤ start_of here.source owner row column member) BadRun (cell_place here owner row column) ∷ []
 
 -- of the owners of members: where there are none there is no member; the first run begins with the first member; starts never fall
-unfoldable pub demands_of_run : Placed → TableId → ℕ → TableId → List Demand
+unfoldable pub demands_of_run : Placed → TableId → ℕ → TableId → List (Demand Fault)
 demands_of_run here owner column member =
     demand (rows_in here.source owner ≡ 0 → rows_in here.source member ≡ 0) NoOwner (cell_place here member 1 0)
     ∷ demand (rows_in here.source owner ≢ 0 → start_of here.source owner 1 column member ≡ 1) BadRun (cell_place here owner 1 column)
     ∷ demands_from (demands_of_start here owner column member) 2 (rows_in here.source owner - 1)
 
-unfoldable pub demands_of_runs : Placed → List Demand
+unfoldable pub demands_of_runs : Placed → List (Demand Fault)
 demands_of_runs here =
     demands_of_run here TypeDef 4 Field
     ++ (demands_of_run here TypeDef 5 MethodDef
@@ -122,11 +123,11 @@ demands_of_runs here =
 -- ---- the order of nested types
 
 -- of a row of NestedClass: the enclosing type stands before the nested one
-unfoldable pub demands_of_nesting_in : Placed → ℕ → List Demand
+unfoldable pub demands_of_nesting_in : Placed → ℕ → List (Demand Fault)
 demands_of_nesting_in here row =
     demand (number_of here.source NestedClass row 1 < number_of here.source NestedClass row 0) NestedOrder (cell_place here NestedClass row 1) ∷ []
 
-unfoldable pub demands_of_nesting : Placed → List Demand
+unfoldable pub demands_of_nesting : Placed → List (Demand Fault)
 demands_of_nesting here = demands_from (demands_of_nesting_in here) 1 (rows_in here.source NestedClass)
 
 -- ---- signatures
@@ -137,34 +138,34 @@ HasSignature source column number P =
     (blob : List ℕ) × (signature : Body) × IsBlob source.blobs number blob × Spells column signature blob × P signature
 
 -- of the number of a blob, in a column of a kind: it spells a signature, whose type indexes name rows that exist
-abbrev pub demands_of_spelling : Source → ColumnKind → ℕ → ℕ → List Demand
+abbrev pub demands_of_spelling : Source → ColumnKind → ℕ → ℕ → List (Demand Fault)
 demands_of_spelling source (kind.Signature column) number place =
     demand (HasSignature source column number (λ signature. ⊤)) BadSignature place
     ∷ demand (HasSignature source column number (HasRows source)) SignatureIndex place
     ∷ []
 demands_of_spelling source _ number place = []
 
-unfoldable pub demands_of_signature : Placed → TableId → ℕ → ℕ → List Demand
+unfoldable pub demands_of_signature : Placed → TableId → ℕ → ℕ → List (Demand Fault)
 demands_of_signature here table row column =
     demands_of_spelling here.source (column_at table column).kind (number_of here.source table row column) (cell_place here table row column)
 
-unfoldable pub demands_of_signatures_in : Placed → TableId → ℕ → List Demand
+unfoldable pub demands_of_signatures_in : Placed → TableId → ℕ → List (Demand Fault)
 demands_of_signatures_in here table row = demands_from (demands_of_signature here table row) 0 (length (columns_of table))
 
-unfoldable pub demands_of_signatures_of : Placed → TableId → List Demand
+unfoldable pub demands_of_signatures_of : Placed → TableId → List (Demand Fault)
 demands_of_signatures_of here table = demands_from (demands_of_signatures_in here table) 1 (rows_in here.source table)
 
-unfoldable pub demands_of_signatures_at : Placed → ℕ → List Demand
+unfoldable pub demands_of_signatures_at : Placed → ℕ → List (Demand Fault)
 demands_of_signatures_at here position = demands_of_signatures_of here (table_at position)
 
 -- of all signatures, by table, row and column
-unfoldable pub demands_of_signatures : Placed → List Demand
+unfoldable pub demands_of_signatures : Placed → List (Demand Fault)
 demands_of_signatures here = demands_from (demands_of_signatures_at here) 0 38
 
 -- ---- the whole
 
 -- of the tables of a root
-unfoldable pub demands_of_tables : Placed → List Demand
+unfoldable pub demands_of_tables : Placed → List (Demand Fault)
 demands_of_tables here =
     demands_of_cells here
     ++ (demands_of_order here
@@ -173,19 +174,19 @@ demands_of_tables here =
     ++ demands_of_signatures here)))
 
 -- of a root that begins at a place: its directory, its table stream, and its tables
-unfoldable pub demands_of_metadata : ℕ → List ℕ → List Demand
+unfoldable pub demands_of_metadata : ℕ → List ℕ → List (Demand Fault)
 demands_of_metadata place root =
     raised place (demands_of_root root)
     ++ (raised (place + tables_place root) (demands_of_stream (tables_in root))
     ++ demands_of_tables (placed_at place root))
 
 -- of the entry point, unless it is native
-unfoldable pub demands_of_entry_point : CliHeader → Source → List Demand
+unfoldable pub demands_of_entry_point : CliHeader → Source → List (Demand Fault)
 demands_of_entry_point header source =
     demand (has_native_entry_point header ≡ false → IsEntryPoint header.entry_point_token (rows_in source)) EntryPoint (header.place + 20) ∷ []
 
 -- of a file: its image, its CLI header, its root, and its entry point
-unfoldable pub demands_of_file : List ℕ → List Demand
+unfoldable pub demands_of_file : List ℕ → List (Demand Fault)
 demands_of_file file =
     demands_of_image file
     ++ (demands_of_cli_header (image_of file)

@@ -1,3 +1,5 @@
+pub mod Cell
+pub mod Kinds
 pub mod Metadata
 pub mod Source
 pub mod Streams
@@ -9,3 +11,7 @@ pub mod Model
 pub mod Placed
 pub mod Demands
 pub mod Lookups
+pub mod Valid
+pub mod KeyOrder
+pub mod Refusals
+pub mod Same

@@ -2,8 +2,8 @@
 use Rattle.std.specs.Prelude.{ℕ, ◌-◌, List, [], length, slice_index_or}
 use Rattle.schema.specs.declared.table.TableId.{TableId}
 use Rattle.schema.specs.Tables.{position_of}
-use Rattle.cells.specs.declared.cell.Cell.{Cell}
-use Rattle.cells.specs.declared.cell.Cell.TheVariants.{Number}
+use Rattle.metadata.specs.Cell.{Cell}
+use Rattle.metadata.specs.Cell.{Number}
 
 -- the version; the bytes of `#US`, filled to a multiple of four; and of each table, in the order of their numbers, its rows of cells
 pub record Metadata : Type 0 where
@@ -19,6 +19,10 @@ rows_of model table = slice_index_or model.tables (position_of table) []
 abbrev pub count_in : Metadata → TableId → ℕ
 count_in model table = length (rows_of model table)
 
+-- a row, counted from 1
+abbrev pub row_of : Metadata → TableId → ℕ → List Cell
+row_of model table row = slice_index_or (rows_of model table) (row - 1) []
+
 -- a cell, by its row, counted from 1, and its place in the row, counted from 0
 abbrev pub cell_in : Metadata → TableId → ℕ → ℕ → Cell
-cell_in model table row column = slice_index_or (slice_index_or (rows_of model table) (row - 1) []) column (Number 0)
+cell_in model table row column = slice_index_or (row_of model table row) column (Number 0)

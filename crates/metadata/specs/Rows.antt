@@ -1,38 +1,14 @@
 -- The rows of cells that a root's numbers stand for (ECMA-335 II.22).
-use Rattle.std.specs.Prelude.{ℕ, zero, suc, ◌+◌, Bool, true, false, List, [], ◌∷◌, length, slice_index, slice_index_or, if◌then◌else◌}
+use Rattle.std.specs.Prelude.{ℕ, zero, suc, ◌+◌, List, [], ◌∷◌, slice_index_or}
 use Rattle.schema.specs.declared.table.TableId.{TableId}
 use Rattle.schema.specs.declared.table.TableId.TheVariants.{Module}
-use Rattle.schema.specs.declared.column.Column.{Column}
-use Rattle.schema.specs.declared.column.ColumnKind.{ColumnKind}
-use Rattle.schema.specs.declared.column.ColumnKind.TheVariants as kind
 use Rattle.schema.specs.Tables.{tables}
-use Rattle.schema.specs.Columns.{columns_of, column_at}
-use Rattle.cells.specs.declared.cell.Cell.{Cell}
+use Rattle.schema.specs.Columns.{column_at}
+use Rattle.schema.specs.CellColumns.{cell_count, column_of}
+use Rattle.metadata.specs.Cell.{Cell}
 use Rattle.metadata.specs.Source.{Source, rows_in, number_of}
 use Rattle.metadata.specs.Starts.{start_of}
 use Rattle.metadata.specs.Stands.{StandsFor}
-
--- a column of padding has no cell
-abbrev pub is_padding : ColumnKind → Bool
-is_padding kind.Padding = true
-is_padding _ = false
-
--- the indexes of those columns that have a cell, from an index on
-abbrev pub indexes_from : ℕ → List Column → List ℕ
-indexes_from index [] = []
-indexes_from index (column ∷ columns) = if is_padding column.kind then indexes_from (index + 1) columns else index ∷ indexes_from (index + 1) columns
-
--- the columns of a table that have a cell, by their indexes
-unfoldable pub cell_columns : TableId → List ℕ
-cell_columns table = indexes_from 0 (columns_of table)
-
--- how many cells a row of a table has
-abbrev pub cell_count : TableId → ℕ
-cell_count table = length (cell_columns table)
-
--- the column of a cell
-abbrev pub column_of : TableId → ℕ → ℕ
-column_of table cell = slice_index (cell_columns table) cell
 
 -- so many items, of which the first is what stands at i, the next what stands behind it, and so on
 abbrev pub AreFrom : {X : Type 0} → (ℕ → X → Type 0) → ℕ → ℕ → List X → Type 0

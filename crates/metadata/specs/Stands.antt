@@ -9,8 +9,8 @@ use Rattle.schema.specs.CodedIndexes.{IsCoded}
 use Rattle.heaps.specs.Entries.{IsText, IsBlob, IsGuid}
 use Rattle.signature_values.specs.Syntax.{Body}
 use Rattle.signature_values.specs.Spells.{Spells, tokens}
-use Rattle.cells.specs.declared.cell.Cell.{Cell}
-use Rattle.cells.specs.declared.cell.Cell.TheVariants.{Number, Text, Bytes, Guid, Ref, Start, Sig}
+use Rattle.metadata.specs.Cell.{Cell}
+use Rattle.metadata.specs.Cell.{Number, Text, Bytes, Guid, Ref, Start, Sig}
 use Rattle.metadata.specs.Source.{Source, rows_in, IsThere}
 
 -- the cell is the row that a reference names, which exists, or null where the column may be

@@ -1,27 +1,36 @@
-ghost use Rattle.std.specs.Prelude.{◌≡◌, ℕ, ◌^◌, ◌<◌, ◌≤◌, List, slice_index};
+ghost use Rattle.std.specs.Prelude.{◌≡◌, ◌↔◌, ℕ, ◌^◌, ◌<◌, ◌≤◌, List, Some, length, slice_index};
 ghost use Rattle.packed.specs.Demand.{AllHold};
 ghost use Rattle.root.specs.Directory.{directory_of};
 ghost use Rattle.root.specs.declared.kind.Kind.TheVariants.{UserStrings};
 ghost use Rattle.cli_header.specs.declared.header.CliHeader.{CliHeader};
 ghost use Rattle.heaps.specs.Fill.{filled};
 ghost use Rattle.schema.specs.declared.table.TableId.{TableId as Table};
+ghost use Rattle.schema.specs.Columns.{key_of};
 ghost use Rattle.schema.specs.LaidOut.{IsTableStream};
-ghost use Rattle.cells.specs.declared.cell.Cell.{Cell};
-ghost use Rattle.metadata.specs.Metadata.{Metadata, count_in, cell_in};
+ghost use Rattle.metadata.specs.Cell.{Cell};
+ghost use Rattle.metadata.specs.Metadata.{Metadata, row_of, count_in, cell_in};
 ghost use Rattle.metadata.specs.Source.{Source, rows_in};
 ghost use Rattle.metadata.specs.Streams.{stream_in};
-ghost use Rattle.metadata.specs.Rows.{cell_count, IsCell};
-ghost use Rattle.metadata.specs.Rules.{AreByKey, AreOwned, AreNested};
+ghost use Rattle.schema.specs.CellColumns.{cell_count};
+ghost use Rattle.metadata.specs.Rows.{IsCell};
+ghost use Rattle.metadata.specs.Rules.{IsInOrder, AreByKey, AreOwned, AreNested};
 ghost use Rattle.metadata.specs.Model.{IsModel, IsImage};
 ghost use Rattle.metadata.specs.Placed.{tables_in, source_of};
+ghost use Rattle.metadata.specs.Valid.{IsValid};
+ghost use Rattle.metadata.specs.KeyOrder.{IsKeyOrdered};
+ghost use Rattle.metadata.specs.Same.{SaysSame};
+ghost use Rattle.metadata.specs.Refusals.{refusals_of};
 ghost use Rattle.metadata.specs.Demands.{demands_of_metadata, demands_of_file};
 
 use cli_header::headers_are_read;
 use heaps::entries_are_one;
 use pe::images_are_read;
 use root::roots_are_read;
-use schema::{numbers_are_read, streams_are_read, tables_stand, tags_fit};
-use signature_values::signatures_are_read;
+use schema::{
+    cells_have_columns, cells_stand, columns_stand, numbers_are_read, streams_are_read,
+    tables_stand, tags_fit,
+};
+use signature_values::{signatures_are_read, spelled_is_spellable};
 
 /// All demands of a root, which is bytes, hold exactly where it has a model, and it has one at most.
 pub fn roots_have_models()
@@ -33,6 +42,7 @@ pub fn roots_have_models()
     roots_are_read();
     streams_are_read();
     numbers_are_read();
+    cells_have_columns();
     entries_are_one();
     tags_fit();
     signatures_are_read();
@@ -62,12 +72,16 @@ pub fn models_are_read()
     ensures cells { (root : List ℕ) (model : Metadata) → IsModel root model → (table : Table) (row place : ℕ)
         → 1 ≤ row → row ≤ rows_in (source_of root) table → place < cell_count table
         → IsCell (source_of root) table row place (cell_in model table row place) }
+    ensures tables { (root : List ℕ) (model : Metadata) → IsModel root model → length model.tables ≡ 38 }
+    ensures long { (root : List ℕ) (model : Metadata) → IsModel root model → (table : Table) (row : ℕ)
+        → 1 ≤ row → row ≤ rows_in (source_of root) table → length (row_of model table row) ≡ cell_count table }
     ensures rules { (root : List ℕ) (model : Metadata) → IsModel root model
         → AreByKey (source_of root) × AreOwned (source_of root) × AreNested (source_of root) }
 {
     roots_are_read();
     streams_are_read();
     numbers_are_read();
+    cells_have_columns();
     tables_stand();
 }
 
@@ -79,4 +93,41 @@ pub fn cells_are_one()
     entries_are_one();
     tags_fit();
     signatures_are_read();
+}
+
+/// The model of a root is valid: a model that is made from its parts is refused nothing.
+pub fn models_of_roots_are_valid()
+    ensures { (root : List ℕ) (model : Metadata) → IsModel root model → IsValid model }
+{
+    tables_stand();
+    cells_stand();
+    cells_have_columns();
+    spelled_is_spellable();
+}
+
+/// All that is asked of 38 tables and what goes with them holds exactly where they are a valid model.
+pub fn valid_models_are_not_refused()
+    ensures met { (model : Metadata) → IsValid model → AllHold (refusals_of model) }
+    ensures found { (model : Metadata) → length model.tables ≡ 38 → AllHold (refusals_of model) → IsValid model }
+{
+    tables_stand();
+}
+
+/// The keys of a table are in order in a root exactly where they are in its model.
+pub fn keys_are_in_order()
+    ensures { (root : List ℕ) (model : Metadata) → IsModel root model → (table : Table) (key : ℕ) → key_of table ≡ Some key
+        → IsInOrder (source_of root) table key ↔ IsKeyOrdered model table }
+{
+    models_are_read();
+    tables_stand();
+    columns_stand();
+    cells_have_columns();
+    tags_fit();
+}
+
+/// Two models of the same parts are one.
+pub fn models_of_same_parts_are_one()
+    ensures { (model other : Metadata) → SaysSame model other → model ≡ other }
+{
+    tables_stand();
 }

@@ -13,5 +13,12 @@
 #![tactic(auto)]
 
 mod laws;
+mod refusal;
 
-pub use laws::{cells_are_one, files_have_models, models_are_read, roots_have_models};
+pub use laws::{
+    cells_are_one, files_have_models, keys_are_in_order, models_are_read,
+    models_of_roots_are_valid, models_of_same_parts_are_one, roots_have_models,
+    valid_models_are_not_refused,
+};
+pub use packed::FaultCode;
+pub use refusal::Refusal;

@@ -1,13 +1,4 @@
-pub mod CellLemmas
-pub mod ColumnLemmas
 pub mod Files
-pub mod KeyLemmas
 pub mod ModelReads
 pub mod Parts
 pub mod Placed
-pub mod RowLemmas
-pub mod ShownLemmas
-pub mod StartLemmas
-pub mod TextLemmas
-pub mod TokenLemmas
-pub mod TypeNameLemmas

@@ -9,7 +9,6 @@ use Rattle.schema.specs.Sizes.{Sizes}
 use Rattle.schema.specs.Demands.{demands_of_stream}
 use Rattle.schema.specs.Header.{sizes_of}
 use Rattle.schema.specs.Cells.{numbers_at}
-use Rattle.metadata.specs.Source.{Source}
 use Rattle.metadata.specs.Streams.{stream_in}
 use Rattle.metadata.specs.Demands.{demands_of_tables, demands_of_metadata}
 use Rattle.packed.proofs.DemandLemmas.{fails_front}

@@ -1,3 +1,2 @@
-pub mod Shown
 pub mod Views
-pub mod KeyRows
+pub mod Heads

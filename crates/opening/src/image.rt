@@ -13,41 +13,17 @@ ghost use Rattle.metadata.specs.Source.{rows_in};
 ghost use Rattle.metadata.specs.Demands.{demands_of_entry_point, demands_of_file};
 ghost use Rattle.opening.specs.Views.{row_count, HasImage};
 
+use crate::heads::{read_heads, root_of};
 use crate::open::open_at;
 use crate::view::View;
-use cli_header::{CliHeader, headers_are_read, read_cli};
+use cli_header::{CliHeader, headers_are_read};
 use metadata::files_have_models;
 use packed::{Fault, FaultCode};
-use pe::{images_are_read, read_pe};
+use pe::images_are_read;
 use schema::{TableId, Token};
 
 /// The flag of a native entry point (II.25.3.3.1), which is no token.
 const NATIVE_ENTRY_POINT: u32 = 0x10;
-
-/// The CLI header of a file; else the first demand on its image and its header that it does not meet.
-fn read_header(file: &[u8]) -> Result<CliHeader, Fault>
-    ensures first { IfErr result (FirstToFail (demands_of_file file.now)) }
-    ensures header { IfOk result (λ header. header ≡ header_of (image_of file.now)) }
-    ensures image { IfOk result (λ header. AllHold (demands_of_image file.now)) }
-    ensures fields { IfOk result (λ header. AllHold (demands_of_cli_header (image_of file.now))) }
-    ensures root { IfOk result (λ header. (header.root.start ≤ header.root.«end») × (header.root.«end» ≤ length file.now)) }
-    ensures small { IfOk result (λ header. length file.now ≤ 2 ^ 30) }
-{
-    let pe = read_pe(file)?;
-    let header = read_cli(&pe)?;
-    Ok(header)
-}
-
-/// The root that a CLI header names.
-fn root_of<'a>(file: &'a [u8], header: &CliHeader) -> &'a [u8]
-    requires first { header.now.root.start ≤ header.now.root.«end» }
-    requires last { header.now.root.«end» ≤ length file.now }
-    ensures { result.now ≡ root_in file.now header.now }
-{
-    let (_, rest) = file.split_at(header.root.start);
-    let (root, _) = rest.split_at(header.root.end - header.root.start);
-    root
-}
 
 /// Whether an entry point is 0, or the token of a method or a file that exists (II.25.3.3.2).
 fn is_entry_point(entry: u32, view: &View) -> bool
@@ -87,8 +63,10 @@ fn check_file(file: &[u8]) -> Result<(CliHeader, View<'_>), Fault>
     ensures header { IfOk result (λ opened. opened.0 ≡ header_of (image_of file.now)) }
     ensures view { IfOk result (λ opened. opened.1 ≡ root_in file.now opened.0) }
 {
-    let header = read_header(file)?;
-    let view = open_at(root_of(file, &header), header.root.start)?;
+    let heads = read_heads(file)?;
+    let header = heads.header;
+    let root = root_of(file, &header);
+    let view = open_at(root, &heads.root, header.root.start)?;
     check_entry_point(&header, &view)?;
     Ok((header, view))
 }
@@ -97,7 +75,7 @@ fn check_file(file: &[u8]) -> Result<(CliHeader, View<'_>), Fault>
 ///
 /// Every demand on its headers, on its metadata root and on its entry point is checked, and it is opened
 /// exactly where it meets them all: then it has one CLI header and one model, which the view shows. It
-/// takes no memory, and its cost is linear in the bytes.
+/// takes no memory, and costs what [`open_root`](crate::open_root) costs of its root.
 pub fn open_image(file: &[u8]) -> Result<(CliHeader, View<'_>), Fault>
     // What is opened is the root that the header names, and the file has this header and a model.
     ensures found { IfOk result (λ opened. HasImage file.now opened.0) }

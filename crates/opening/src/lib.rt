@@ -3,7 +3,8 @@
 //! [`open_root`] and [`open_image`] check every demand on the bytes that they are handed, without memory,
 //! and open them exactly where they have a model; else they answer the fault of the first demand that
 //! fails. A [`View`] shows that one model: its version, its user bytes, its cells, the runs of members, and
-//! rows by name and by key. What it answers are values and parts of the caller's bytes.
+//! rows by name and by key. What it answers are values and parts of the caller's bytes. [`read_heads`] reads
+//! only what stands before the streams of a file.
 //!
 //! ```text
 //! let (header, view) = open_image(&file)?;
@@ -12,22 +13,18 @@
 //! ```
 #![tactic(auto)]
 
-mod cell;
-mod cell_column;
-mod cell_ref;
-mod find_type;
+mod heads;
 mod image;
-mod key_rows;
 mod open;
-mod runs_of;
-mod source_keys;
 mod view;
 
-pub use cell_ref::CellRef;
 pub use cli_header::CliHeader;
+pub use heads::{Heads, read_heads};
 pub use image::open_image;
-pub use key_rows::KeyRows;
-pub use open::open_root;
+pub use open::{open_root, view_again};
 pub use packed::{Fault, FaultCode};
+pub use pe::Pe;
+pub use reading::{CellRef, KeyNumbers, KeyRows, SourceKeys, Starts};
+pub use root::Root;
 pub use schema::{TableId, Token};
 pub use view::View;

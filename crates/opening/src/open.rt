@@ -11,21 +11,23 @@ ghost use Rattle.schema.specs.Header.{sizes_of};
 ghost use Rattle.schema.specs.LaidOut.{IsTableStream};
 ghost use Rattle.metadata.specs.Metadata.{Metadata};
 ghost use Rattle.metadata.specs.Model.{IsModel};
+ghost use Rattle.reading.specs.KnownStarts.{AreKnown};
 ghost use Rattle.checks.specs.Orders.{TellsOrder};
 ghost use Rattle.opening.specs.Views.{HasModel};
-ghost use Rattle.metadata.specs.Placed.{tables_in, tables_place, placed_at};
+ghost use Rattle.metadata.specs.Placed.{tables_in, tables_place, placed_at, source_of};
 ghost use Rattle.metadata.specs.Demands.{demands_of_tables, demands_of_metadata};
 
 use crate::view::View;
-use checks::{Source, check_tables};
+use checks::{Checked, check_tables};
 use metadata::roots_have_models;
 use packed::Fault;
+use reading::{KnownRuns, Source};
 use root::{Kind, Root, read_root};
 use rows::Rows;
 use schema::{Layout, streams_are_read};
 
 /// The directory of a root that begins at a place.
-fn read_directory(root: &[u8], place: usize) -> Result<Root<'_>, Fault>
+pub fn read_directory(root: &[u8], place: usize) -> Result<Root<'_>, Fault>
     requires { place ≤ 2 ^ 30 }
     ensures answers { Answers (raised place (demands_of_root root.now)) result }
     ensures directory { IfOk result (λ directory. directory ≡ directory_of root.now) }
@@ -81,27 +83,28 @@ struct Parts<'a> {
     source: Source<'a>,
 }
 
-/// The parts of a root that begins at a place; else the first demand on its directory and its table
-/// stream that it does not meet.
-fn read_parts<'a>(root: &'a [u8], place: usize) -> Result<Parts<'a>, Fault>
-    requires { place ≤ 2 ^ 30 }
+/// The parts of a root that begins at a place, by its directory; else the first demand on its table stream
+/// that it does not meet.
+fn read_parts<'a>(root: &[u8], directory: &Root<'a>, place: usize) -> Result<Parts<'a>, Fault>
+    requires place { place ≤ 2 ^ 30 }
+    requires directory { directory.now ≡ directory_of root.now }
+    requires small { length root.now ≤ 2 ^ 30 }
+    requires held { AllHold (raised place (demands_of_root root.now)) }
     ensures first { IfErr result (FirstToFail (demands_of_metadata place root.now)) }
     ensures source { IfOk result (λ parts. parts.source ≡ placed_at place root.now) }
     ensures version { IfOk result (λ parts. parts.version.now ≡ (directory_of root.now).version) }
     ensures user { IfOk result (λ parts. parts.user.now ≡ stream_in root.now (directory_of root.now).headers UserStrings) }
-    ensures directory { IfOk result (λ parts. AllHold (raised place (demands_of_root root.now))) }
     ensures stream { IfOk result (λ parts. AllHold (raised (place + tables_place root.now) (demands_of_stream (tables_in root.now)))) }
 {
-    let directory = read_directory(root, place)?;
-    let tables = stream_in(&directory, Kind::Tables);
-    let place = place + tables_place(&directory);
+    let tables = stream_in(directory, Kind::Tables);
+    let place = place + tables_place(directory);
     let layout = read_layout(tables, place)?;
-    let texts = stream_in(&directory, Kind::Strings);
-    let blobs = stream_in(&directory, Kind::Blobs);
-    let guids = stream_in(&directory, Kind::Guids);
+    let texts = stream_in(directory, Kind::Strings);
+    let blobs = stream_in(directory, Kind::Blobs);
+    let guids = stream_in(directory, Kind::Guids);
     let rows = Rows::new(tables, layout);
     let source = Source::new(rows, texts, blobs, guids, place);
-    let user = stream_in(&directory, Kind::UserStrings);
+    let user = stream_in(directory, Kind::UserStrings);
     Ok(Parts {
         version: directory.version(),
         user,
@@ -109,38 +112,59 @@ fn read_parts<'a>(root: &'a [u8], place: usize) -> Result<Parts<'a>, Fault>
     })
 }
 
-/// The parts of a root that begins at a place and meets all demands, and which tables are in order of
-/// their keys, under their numbers; else the first demand that it does not meet.
-fn check_root<'a>(root: &'a [u8], place: usize) -> Result<(Parts<'a>, [bool; 45]), Fault>
-    requires { place ≤ 2 ^ 30 }
+/// The parts of a root that begins at a place and meets all demands, and what was found of its tables, by
+/// its directory; else the first demand that it does not meet.
+fn check_root<'a>(
+    root: &[u8],
+    directory: &Root<'a>,
+    place: usize,
+) -> Result<(Parts<'a>, Checked), Fault>
+    requires place { place ≤ 2 ^ 30 }
+    requires directory { directory.now ≡ directory_of root.now }
+    requires small { length root.now ≤ 2 ^ 30 }
+    requires held { AllHold (raised place (demands_of_root root.now)) }
     ensures answers { Answers (demands_of_metadata place root.now) result }
     ensures source { IfOk result (λ checked. checked.0.source ≡ placed_at place root.now) }
     ensures version { IfOk result (λ checked. checked.0.version.now ≡ (directory_of root.now).version) }
     ensures user { IfOk result (λ checked. checked.0.user.now ≡ stream_in root.now (directory_of root.now).headers UserStrings) }
-    ensures order { IfOk result (λ checked. TellsOrder checked.0.source.source checked.1) }
+    ensures order { IfOk result (λ checked. TellsOrder checked.0.source.source checked.1.in_order) }
+    ensures known { IfOk result (λ checked. AreKnown checked.0.source.source checked.1.known) }
 {
-    let parts = read_parts(root, place)?;
-    let in_order = check_tables(&parts.source)?;
-    Ok((parts, in_order))
+    let parts = read_parts(root, directory, place)?;
+    let found = check_tables(&parts.source)?;
+    Ok((parts, found))
 }
 
-/// The view of a root that begins at a place; else the first demand that it does not meet.
+/// The view of a root that begins at a place, by its directory; else the first demand that it does not meet.
 #[tactic(auto, unfolding(crate::specs::Views::user_of))]
-pub fn open_at<'a>(root: &'a [u8], place: usize) -> Result<View<'a>, Fault>
-    requires { place ≤ 2 ^ 30 }
+pub fn open_at<'a>(root: &'a [u8], directory: &Root<'a>, place: usize) -> Result<View<'a>, Fault>
+    requires place { place ≤ 2 ^ 30 }
+    requires directory { directory.now ≡ directory_of root.now }
+    requires small { length root.now ≤ 2 ^ 30 }
+    requires held { AllHold (raised place (demands_of_root root.now)) }
     ensures answers { Answers (demands_of_metadata place root.now) result }
     ensures view { IfOk result (λ view. view ≡ root.now) }
 {
     roots_have_models();
-    let (parts, in_order) = check_root(root, place)?;
-    Ok(View::new(root, parts.source, parts.version, parts.user, in_order))
+    let (parts, found) = check_root(root, directory, place)?;
+    Ok(View::new(root, parts.source, parts.version, parts.user, found))
+}
+
+/// The view of a root on its own; else the first demand that it does not meet.
+fn check_whole(root: &[u8]) -> Result<View<'_>, Fault>
+    ensures answers { Answers (demands_of_metadata 0 root.now) result }
+    ensures view { IfOk result (λ view. view ≡ root.now) }
+{
+    let directory = read_directory(root, 0)?;
+    open_at(root, &directory, 0)
 }
 
 /// Opens the metadata root that these bytes are (II.24.2), in place.
 ///
 /// Every demand on its directory, its tables, its heaps and its signatures is checked, and it is opened
-/// exactly where it meets them all: then it has one model, and the view shows it. It takes no memory, and
-/// its cost is linear in the bytes.
+/// exactly where it meets them all: then it has one model, and the view shows it. It takes no memory. The
+/// cost is that of the bytes where texts and blobs stand apart; where they overlap, it can grow with the
+/// square of the bytes.
 pub fn open_root(root: &[u8]) -> Result<View<'_>, Fault>
     // What is opened is the root, and it has a model.
     ensures found { IfOk result (λ view. (view ≡ root.now) × HasModel root.now) }
@@ -152,5 +176,41 @@ pub fn open_root(root: &[u8]) -> Result<View<'_>, Fault>
     ensures first { IfErr result (FirstToFail (demands_of_metadata 0 root.now)) }
 {
     roots_have_models();
-    open_at(root, 0)
+    check_whole(root)
+}
+
+/// The parts of a root on its own; else the first demand on its directory and its table stream that it does
+/// not meet.
+fn read_whole(root: &[u8]) -> Result<Parts<'_>, Fault>
+    ensures first { IfErr result (FirstToFail (demands_of_metadata 0 root.now)) }
+    ensures source { IfOk result (λ parts. parts.source ≡ placed_at 0 root.now) }
+    ensures version { IfOk result (λ parts. parts.version.now ≡ (directory_of root.now).version) }
+    ensures user { IfOk result (λ parts. parts.user.now ≡ stream_in root.now (directory_of root.now).headers UserStrings) }
+{
+    let directory = read_directory(root, 0)?;
+    read_parts(root, &directory, 0)
+}
+
+/// The view of a root that was opened before, by the order of its tables that was found then.
+///
+/// Its directory and its layout are read again, and no cell is checked. A null start is walked to the next
+/// that is not null, over as many owners as stand between.
+#[tactic(auto, unfolding(crate::specs::Views::user_of))]
+pub fn view_again<'a>(root: &'a [u8], in_order: &[bool; 45]) -> View<'a>
+    requires model { HasModel root.now }
+    requires order { TellsOrder (source_of root.now) in_order.now }
+    ensures { result ≡ root.now }
+{
+    roots_have_models();
+    match read_whole(root) {
+        Ok(parts) => {
+            let known = KnownRuns::none(&parts.source);
+            let found = Checked {
+                in_order: *in_order,
+                known,
+            };
+            View::new(root, parts.source, parts.version, parts.user, found)
+        }
+        Err(_) => unreachable!(),
+    }
 }

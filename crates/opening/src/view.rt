@@ -1,4 +1,4 @@
-ghost use Rattle.std.specs.Prelude.{◌≡◌, ◌≤◌, ◌<◌, ◌↔◌, ◌+◌, ◌*◌, ℕ, List, IsTrue, Some, IsSome, IfSome, IfNone, length};
+ghost use Rattle.std.specs.Prelude.{◌≡◌, ◌≤◌, ◌<◌, ◌↔◌, ◌+◌, ◌-◌, ◌*◌, ℕ, IsTrue, Some, IsSome, IfSome, IfNone, length, slice_index};
 ghost use Rattle.std.specs.List.{Contains};
 ghost use Rattle.std.specs.List.Sorted.{IsStrictlyIncreasing};
 ghost use Rattle.heaps.specs.Fill.{filled};
@@ -6,27 +6,29 @@ ghost use Rattle.rows.specs.Keys.{binary_digits};
 ghost use Rattle.root.specs.Directory.{directory_of};
 ghost use Rattle.schema.specs.declared.table.TableId.{TableId as Table};
 ghost use Rattle.schema.specs.declared.table.TableId.TheVariants.{TypeDef, MethodDef, Field, Param, EventMap, Event, PropertyMap, Property};
-ghost use Rattle.schema.specs.Columns.{key_of};
+ghost use Rattle.schema.specs.declared.column.ColumnKind.TheVariants.{List};
+ghost use Rattle.schema.specs.Columns.{key_of, column_at};
 ghost use Rattle.metadata.specs.Metadata.{Metadata, count_in, cell_in};
-ghost use Rattle.metadata.specs.Source.{rows_in};
-ghost use Rattle.metadata.specs.Rows.{cell_count};
+ghost use Rattle.metadata.specs.Cell.{Start};
+ghost use Rattle.metadata.specs.Source.{Source as TheSource, rows_in, number_of};
+ghost use Rattle.schema.specs.CellColumns.{cell_count, column_of};
 ghost use Rattle.metadata.specs.Rules.{IsInOrder};
 ghost use Rattle.metadata.specs.Model.{IsModel};
 ghost use Rattle.metadata.specs.Placed.{source_of};
 ghost use Rattle.metadata.specs.Lookups.{IsRun, IsFirstType, HasRow, HasNames, HasKey};
-ghost use Rattle.opening.specs.Views.{HasModel, row_count, user_of, IsReadFrom, IsReadable};
+ghost use Rattle.reading.specs.ReadFrom.{IsReadFrom, IsReadable};
+ghost use Rattle.reading.specs.KnownStarts.{AreKnown};
+ghost use Rattle.reading.specs.Shown.{ShowsCell, ShowsBlob};
 ghost use Rattle.checks.specs.Orders.{TellsOrder};
-ghost use Rattle.opening.specs.Shown.{ShowsCell};
+ghost use Rattle.opening.specs.Views.{HasModel, row_count, user_of};
 
-use crate::cell::cell_of;
-use crate::cell_column::column_of;
-use crate::cell_ref::CellRef;
-use crate::find_type::find_type;
-use crate::key_rows::{KeyRows, rows_by_key};
-use crate::runs_of::run;
-use checks::Source;
+use checks::Checked;
 use metadata::models_are_read;
-use schema::{TableId, Token, key};
+use reading::{
+    CellRef, KeyRows, KnownRuns, Source, SourceKeys, Starts, cell_of, find_type,
+    members_are_listed, rows_by_key, run, starts_of,
+};
+use schema::{TableId, Token, column_of_cell, key};
 use std::marker::Model;
 use std::ops::Range;
 
@@ -40,7 +42,7 @@ pub struct View<'a> {
     source: Source<'a>,
     version: &'a str,
     user: &'a [u8],
-    in_order: [bool; 45],
+    found: Checked,
 }
 
 impl<'a> Model for View<'a> {
@@ -61,13 +63,14 @@ impl<'a> View<'a> {
         source: Source<'a>,
         version: &'a str,
         user: &'a [u8],
-        in_order: [bool; 45],
+        found: Checked,
     ) -> View<'a>
-        requires found { HasModel root.now }
+        requires model { HasModel root.now }
         requires source { source.source ≡ source_of root.now }
         requires version { version.now ≡ (directory_of root.now).version }
         requires user { user.now ≡ user_of root.now }
-        requires order { TellsOrder source.source in_order }
+        requires order { TellsOrder source.source found.in_order }
+        requires known { AreKnown source.source found.known }
         ensures { result ≡ root.now }
     {
         View {
@@ -75,7 +78,7 @@ impl<'a> View<'a> {
             source,
             version,
             user,
-            in_order,
+            found,
         }
     }
 
@@ -88,6 +91,28 @@ impl<'a> View<'a> {
     {
         models_are_read();
         &self.source
+    }
+
+    /// The starts of runs that are known.
+    fn known(&self) -> &KnownRuns
+        ensures { (source : TheSource) → source ≡ source_of self.now → AreKnown source result.now }
+    {
+        &self.found.known
+    }
+
+    /// The bytes of the root, which has a model.
+    pub fn root(&self) -> &'a [u8]
+        ensures bytes { result.now ≡ self.now }
+        ensures model { HasModel self.now }
+    {
+        self.root
+    }
+
+    /// Which tables with a key are in order of it, under their numbers (II.22).
+    pub fn order(&self) -> [bool; 45]
+        ensures { TellsOrder (source_of self.now) result }
+    {
+        self.found.in_order
     }
 
     /// The version that the root names (II.24.2.1).
@@ -118,71 +143,127 @@ impl<'a> View<'a> {
 
     /// A cell of a row, by its place among the cells of the row: the padding of Constant has none (II.22).
     ///
-    /// A null start of a run is walked to the next that is not null, in as many steps as owners without a
-    /// start stand between; any other cell takes constant time, but for a text its length.
+    /// A null start of a run is walked to the next that is not null, over a 256th of the owners at most; any
+    /// other cell takes constant time, but for a text its length. The blob of a signature is the one that its
+    /// number names.
     pub fn cell(&self, table: TableId, row: u32, column: usize) -> CellRef<'a>
         requires first { 1 ≤ row }
         requires last { row ≤ row_count self.now table }
         requires column { column < cell_count table }
-        ensures { (model : Metadata) → IsModel self.now model → ShowsCell table column result (cell_in model table row column) }
+        ensures cell { (model : Metadata) → IsModel self.now model → ShowsCell table column result (cell_in model table row column) }
+        ensures blob { ShowsBlob (source_of self.now) (number_of (source_of self.now) table row (column_of table column)) result }
     {
-        cell_of(self.source(), table, row, column_of(table, column))
+        cell_of(
+            self.source(),
+            self.known(),
+            table,
+            row,
+            column_of_cell(table, column),
+        )
+    }
+
+    /// The starts in a column that lists rows of the member table, from the last row's to the first's: a load
+    /// reads all of them in one walk (II.22).
+    ///
+    /// The column is named by its place among the cells of a row, as in [`View::cell`].
+    pub fn starts(&self, table: TableId, column: usize, member: TableId) -> Starts<'_, 'a>
+        requires column { column < cell_count table }
+        requires list { (column_at table (column_of table column)).kind ≡ List member }
+        ensures count { length result ≡ row_count self.now table }
+        ensures model { (model : Metadata) → IsModel self.now model → (row : ℕ) → 1 ≤ row → row ≤ row_count self.now table
+            → cell_in model table row column ≡ Start (slice_index result (row_count self.now table - row)) }
+    {
+        starts_of(self.source(), table, column, member)
     }
 
     /// The fields of a type, as rows of Field (II.22.37).
     ///
-    /// Null starts are walked to the next that is not null.
+    /// A null start is walked to the next that is not null, over a 256th of the owners at most.
     pub fn fields_of(&self, row: u32) -> Range<u32>
         requires first { 1 ≤ row }
         requires last { row ≤ row_count self.now TypeDef }
         ensures { (model : Metadata) → IsModel self.now model → IsRun model TypeDef 4 Field row result.start result.end }
     {
-        run(self.source(), TableId::TypeDef, row, 4, TableId::Field)
+        members_are_listed();
+        run(
+            self.source(),
+            self.known(),
+            TableId::TypeDef,
+            row,
+            4,
+            TableId::Field,
+        )
     }
 
     /// The methods of a type, as rows of MethodDef (II.22.37).
     ///
-    /// Null starts are walked to the next that is not null.
+    /// A null start is walked to the next that is not null, over a 256th of the owners at most.
     pub fn methods_of(&self, row: u32) -> Range<u32>
         requires first { 1 ≤ row }
         requires last { row ≤ row_count self.now TypeDef }
         ensures { (model : Metadata) → IsModel self.now model → IsRun model TypeDef 5 MethodDef row result.start result.end }
     {
-        run(self.source(), TableId::TypeDef, row, 5, TableId::MethodDef)
+        members_are_listed();
+        run(
+            self.source(),
+            self.known(),
+            TableId::TypeDef,
+            row,
+            5,
+            TableId::MethodDef,
+        )
     }
 
     /// The parameters of a method, as rows of Param (II.22.26).
     ///
-    /// Null starts are walked to the next that is not null.
+    /// A null start is walked to the next that is not null, over a 256th of the owners at most.
     pub fn params_of(&self, row: u32) -> Range<u32>
         requires first { 1 ≤ row }
         requires last { row ≤ row_count self.now MethodDef }
         ensures { (model : Metadata) → IsModel self.now model → IsRun model MethodDef 5 Param row result.start result.end }
     {
-        run(self.source(), TableId::MethodDef, row, 5, TableId::Param)
+        members_are_listed();
+        run(
+            self.source(),
+            self.known(),
+            TableId::MethodDef,
+            row,
+            5,
+            TableId::Param,
+        )
     }
 
     /// The events of a row of EventMap, as rows of Event (II.22.12).
     ///
-    /// Null starts are walked to the next that is not null.
+    /// A null start is walked to the next that is not null, over a 256th of the owners at most.
     pub fn events_of(&self, row: u32) -> Range<u32>
         requires first { 1 ≤ row }
         requires last { row ≤ row_count self.now EventMap }
         ensures { (model : Metadata) → IsModel self.now model → IsRun model EventMap 1 Event row result.start result.end }
     {
-        run(self.source(), TableId::EventMap, row, 1, TableId::Event)
+        members_are_listed();
+        run(
+            self.source(),
+            self.known(),
+            TableId::EventMap,
+            row,
+            1,
+            TableId::Event,
+        )
     }
 
     /// The properties of a row of PropertyMap, as rows of Property (II.22.35).
     ///
-    /// Null starts are walked to the next that is not null.
+    /// A null start is walked to the next that is not null, over a 256th of the owners at most.
     pub fn properties_of(&self, row: u32) -> Range<u32>
         requires first { 1 ≤ row }
         requires last { row ≤ row_count self.now PropertyMap }
         ensures { (model : Metadata) → IsModel self.now model → IsRun model PropertyMap 1 Property row result.start result.end }
     {
+        members_are_listed();
         run(
             self.source(),
+            self.known(),
             TableId::PropertyMap,
             row,
             1,
@@ -209,14 +290,14 @@ impl<'a> View<'a> {
         requires { IsSome (key_of table) }
         ensures { IfSome (key_of table) (λ key. IsTrue result ↔ IsInOrder (source_of self.now) table key) }
     {
-        self.in_order[table.number() as usize]
+        self.found.in_order[table.number() as usize]
     }
 
     /// The rows of a table whose key is a token, from the lowest on (II.22).
     ///
     /// Where the table is in order they are found by halving, and [`KeyRows::reads`] tells how many keys
     /// were read; else each row is looked at as the iterator goes. A null token has no rows.
-    pub fn by_key(&self, table: TableId, token: Token) -> KeyRows<'_, 'a>
+    pub fn by_key(&self, table: TableId, token: Token) -> KeyRows<SourceKeys<'_, 'a>>
         requires { IsSome (key_of table) }
         ensures ascending { IsStrictlyIncreasing result.rows }
         ensures rows { (model : Metadata) → IsModel self.now model → (row : ℕ)

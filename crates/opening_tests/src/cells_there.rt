@@ -1,23 +1,12 @@
 ghost use Rattle.std.specs.Prelude.{◌≡◌, ◌≤◌, ◌<◌, ◌↔◌, IsSome, IfSome};
 ghost use Rattle.metadata.specs.Metadata.{Metadata, cell_in};
-ghost use Rattle.metadata.specs.Rows.{cell_count};
+ghost use Rattle.schema.specs.CellColumns.{cell_count};
 ghost use Rattle.metadata.specs.Model.{IsModel};
 ghost use Rattle.opening.specs.Views.{row_count};
-ghost use Rattle.opening.specs.Shown.{ShowsCell};
+ghost use Rattle.reading.specs.Shown.{ShowsCell};
 
 use opening::{CellRef, View};
-use schema::{TableId, columns};
-
-/// How many cells a row of a table has: the padding of Constant is none (II.22.9).
-#[tactic(auto, unfolding(metadata::specs::Rows::cell_columns))]
-pub fn cell_count(table: TableId) -> usize
-    ensures { result ≡ cell_count table }
-{
-    match table {
-        TableId::Constant => 3,
-        _ => columns(table).len(),
-    }
-}
+use schema::{TableId, cell_count};
 
 /// A cell that a view shows, by its row from 1 and its place in the row from 0; `None` where the table
 /// has no such row, or the row no such cell.

@@ -8,7 +8,7 @@
 
 mod cells_there;
 
-pub use cells_there::{cell, cell_count};
+pub use cells_there::cell;
 
 #[cfg(test)]
 mod builder;

@@ -1,5 +1,5 @@
 use crate::cells_there::cell;
-use crate::samples::{one_module, two_types};
+use crate::samples::{changed, one_module, two_types};
 use opening::{CellRef, open_root};
 use schema::TableId;
 use std::test::Fail;
@@ -39,5 +39,15 @@ fn texts_live_as_long_as_the_bytes(rt: HostRuntime) -> Result<(), Fail> {
     let name = module_name(bytes.as_slice());
     assert_eq!(rt; name, Some("a.dll"));
     drop(bytes);
+    Ok(())
+}
+
+#[test]
+fn a_text_lies_where_its_bytes_are(rt: HostRuntime) -> Result<(), Fail> {
+    let alloc = rt.alloc();
+    for (place, name) in [(121, "z.dll"), (122, "azdll"), (125, "a.dlz")] {
+        let root = changed(one_module(alloc)?, place, b'z');
+        assert_eq!(rt; module_name(root.as_slice()), Some(name));
+    }
     Ok(())
 }

@@ -48,6 +48,41 @@ fn a_null_start_is_that_of_the_next_owner(rt: HostRuntime) -> Result<(), Fail> {
 }
 
 #[test]
+#[tactic(auto, unfolding(schema::specs::CellColumns::cell_columns))]
+fn all_starts_are_given_from_the_last_to_the_first(rt: HostRuntime) -> Result<(), Fail> {
+    let root = root_of_starts(rt.alloc(), [1, 0, 3])?;
+    let view = open_root(root.as_slice())?;
+    let mut starts = view.starts(TableId::TypeDef, 4, TableId::Field);
+    for start in [Some(3), Some(3), Some(1), None] {
+        assert_eq!(rt; starts.next(), start);
+    }
+    Ok(())
+}
+
+#[test]
+fn null_starts_of_many_owners_are_found(rt: HostRuntime) -> Result<(), Fail> {
+    let mut root = RootBuilder::new(rt.alloc());
+    root.row(0x02, &type_row(1, 1))?;
+    for _ in 0..1000 {
+        root.row(0x02, &type_row(0, 1))?;
+    }
+    root.row(0x04, FIELD)?;
+    root.heap("#Blob", b"\0\x02\x06\x08")?;
+    let root = root.finish()?;
+    let view = open_root(root.as_slice())?;
+    for (row, fields) in [
+        (1, 1..2),
+        (2, 2..2),
+        (500, 2..2),
+        (1000, 2..2),
+        (1001, 2..2),
+    ] {
+        assert_eq!(rt; run_of(&view, Members::Fields, row), Some(fields));
+    }
+    Ok(())
+}
+
+#[test]
 fn runs_start_at_1_and_never_fall(rt: HostRuntime) -> Result<(), Fail> {
     // The rows of TypeDef stand at 92, 106 and 120, FieldList ten bytes further.
     for (starts, fault) in [

@@ -1,6 +1,6 @@
-use crate::cells_there::{cell, cell_count};
+use crate::cells_there::cell;
 use opening::{View, open_root};
-use schema::TableId;
+use schema::{TableId, cell_count};
 use std::ops::Range;
 
 /// Whether two rows have the same cells.

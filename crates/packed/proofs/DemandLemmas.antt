@@ -3,20 +3,16 @@ use Rattle.std.proofs.Common.{◌≡◌, ℕ, zero, suc, ◌+◌, ◌<◌, ◌�
 use Rattle.std.proofs.lemmas.Bool.{cases_eq}
 use Rattle.std.specs.Result.{IfErr}
 use Rattle.packed.specs.declared.fault.Fault.{Fault}
-use Rattle.packed.specs.Demand.{Demand, AllHold, FirstToFail, Answers, demands_from, raise, raised}
-
--- the demands of the numbers from first to before end hold
-pub record HoldBefore (demands : ℕ → List Demand) (first end : ℕ) : Type 0 where
-  pub each : (k : ℕ) → first ≤ k → k < end → AllHold (demands k)
+use Rattle.packed.specs.Demand.{Demand, AllHold, FirstToFail, Answers, HoldBefore, demands_from, raise, raised}
 
 -- where all demands hold none fails
-pub none_fails : (ds : List Demand) (found : Fault) → AllHold ds → FirstToFail ds found → ⊥
+pub none_fails : {F : Type 0} (ds : List (Demand F)) (found : F) → AllHold ds → FirstToFail ds found → ⊥
 none_fails [] found all first = first
 none_fails (d ∷ ds) found all (inl fails) = fails.0 all.0
 none_fails (d ∷ ds) found all (inr later) = none_fails ds found all.1 later.1
 
 -- at most one fault is the first
-pub first_is_one : (ds : List Demand) (a b : Fault) → FirstToFail ds a → FirstToFail ds b → a ≡ b
+pub first_is_one : {F : Type 0} (ds : List (Demand F)) (a b : F) → FirstToFail ds a → FirstToFail ds b → a ≡ b
 first_is_one [] a b x y = absurd x
 first_is_one (d ∷ ds) a b (inl x) (inl y) = x.1 ∙ sym y.1
 first_is_one (d ∷ ds) a b (inl x) (inr y) = absurd (x.0 y.0)
@@ -24,41 +20,41 @@ first_is_one (d ∷ ds) a b (inr x) (inl y) = absurd (y.0 x.0)
 first_is_one (d ∷ ds) a b (inr x) (inr y) = first_is_one ds a b x.1 y.1
 
 -- an answer's fault is the first to fail
-pub answers_first : {X : Type 0} (ds : List Demand) (r : Result X Fault) → Answers ds r → IfErr r (FirstToFail ds)
+pub answers_first : {X F : Type 0} (ds : List (Demand F)) (r : Result X F) → Answers ds r → IfErr r (FirstToFail ds)
 answers_first ds (Ok x) all = tt
 answers_first ds (Err found) fails = fails
 
 -- the demands of both lists hold where those of each do
-pub all_append : (ds es : List Demand) → AllHold ds → AllHold es → AllHold (ds ++ es)
+pub all_append : {F : Type 0} (ds es : List (Demand F)) → AllHold ds → AllHold es → AllHold (ds ++ es)
 all_append [] es x y = y
 all_append (d ∷ ds) es x y = (x.0, all_append ds es x.1 y)
 
-pub all_front : (ds es : List Demand) → AllHold (ds ++ es) → AllHold ds
+pub all_front : {F : Type 0} (ds es : List (Demand F)) → AllHold (ds ++ es) → AllHold ds
 all_front [] es x = tt
 all_front (d ∷ ds) es x = (x.0, all_front ds es x.1)
 
-pub all_back : (ds es : List Demand) → AllHold (ds ++ es) → AllHold es
+pub all_back : {F : Type 0} (ds es : List (Demand F)) → AllHold (ds ++ es) → AllHold es
 all_back [] es x = x
 all_back (d ∷ ds) es x = all_back ds es x.1
 
 -- a demand that is the first to fail stays the first whatever follows
-pub fails_front : (ds es : List Demand) (found : Fault) → FirstToFail ds found → FirstToFail (ds ++ es) found
+pub fails_front : {F : Type 0} (ds es : List (Demand F)) (found : F) → FirstToFail ds found → FirstToFail (ds ++ es) found
 fails_front [] es found x = absurd x
 fails_front (d ∷ ds) es found (inl x) = inl x
 fails_front (d ∷ ds) es found (inr x) = inr (x.0, fails_front ds es found x.1)
 
 -- behind demands that hold, the first to fail is the first of all
-pub fails_back : (ds es : List Demand) (found : Fault) → AllHold ds → FirstToFail es found → FirstToFail (ds ++ es) found
+pub fails_back : {F : Type 0} (ds es : List (Demand F)) (found : F) → AllHold ds → FirstToFail es found → FirstToFail (ds ++ es) found
 fails_back [] es found all x = x
 fails_back (d ∷ ds) es found all x = inr (all.0, fails_back ds es found all.1 x)
 
 -- there are no demands of no numbers
-pub none_from : (demands : ℕ → List Demand) (i n : ℕ) → n ≡ 0 → AllHold (demands_from demands i n)
+pub none_from : {F : Type 0} (demands : ℕ → List (Demand F)) (i n : ℕ) → n ≡ 0 → AllHold (demands_from demands i n)
 unfolding demands_from
 none_from demands i n e = rw e tt
 
 -- where the demands of all hold those of each do, and the other way around
-pub each_holds : (demands : ℕ → List Demand) (i n : ℕ) → AllHold (demands_from demands i n) → (k : ℕ) → i ≤ k → k < i + n → AllHold (demands k)
+pub each_holds : {F : Type 0} (demands : ℕ → List (Demand F)) (i n : ℕ) → AllHold (demands_from demands i n) → (k : ℕ) → i ≤ k → k < i + n → AllHold (demands k)
 unfolding demands_from
 each_holds demands i zero all k low high = absurd (omega arith)
 each_holds demands i (suc n) all k low high =
@@ -67,14 +63,14 @@ each_holds demands i (suc n) all k low high =
       | inr other ↦ each_holds demands (i + 1) n (all_back (demands i) (demands_from demands (i + 1) n) all) k (omega arith) (omega arith)
     ]
 
-pub all_of_each : (demands : ℕ → List Demand) (i n : ℕ) → ((k : ℕ) → i ≤ k → k < i + n → AllHold (demands k)) → AllHold (demands_from demands i n)
+pub all_of_each : {F : Type 0} (demands : ℕ → List (Demand F)) (i n : ℕ) → ((k : ℕ) → i ≤ k → k < i + n → AllHold (demands k)) → AllHold (demands_from demands i n)
 unfolding demands_from
 all_of_each demands i zero each = tt
 all_of_each demands i (suc n) each =
     all_append (demands i) (demands_from demands (i + 1) n) (each i (omega arith) (omega arith)) (all_of_each demands (i + 1) n (λ k low high. each k (omega arith) (omega arith)))
 
 -- the first to fail behind numbers whose demands hold
-pub fails_from : (demands : ℕ → List Demand) (i n k : ℕ) (found : Fault) → i ≤ k → k < i + n → ((j : ℕ) → i ≤ j → j < k → AllHold (demands j)) → FirstToFail (demands k) found → FirstToFail (demands_from demands i n) found
+pub fails_from : {F : Type 0} (demands : ℕ → List (Demand F)) (i n k : ℕ) (found : F) → i ≤ k → k < i + n → ((j : ℕ) → i ≤ j → j < k → AllHold (demands j)) → FirstToFail (demands k) found → FirstToFail (demands_from demands i n) found
 unfolding demands_from
 fails_from demands i zero k found low high before first = absurd (omega arith)
 fails_from demands i (suc n) k found low high before first =
@@ -84,35 +80,35 @@ fails_from demands i (suc n) k found low high before first =
     ]
 
 -- a loop over numbers: before the first, one more, after the last, at a fault
-pub before_none : (demands : ℕ → List Demand) (first end : ℕ) → end ≤ first → HoldBefore demands first end
+pub before_none : {F : Type 0} (demands : ℕ → List (Demand F)) (first end : ℕ) → end ≤ first → HoldBefore demands first end
 before_none demands first end h = record { each = λ k low high. absurd (omega arith) }
 
-pub before_more : (demands : ℕ → List Demand) (first k : ℕ) → HoldBefore demands first k → AllHold (demands k) → HoldBefore demands first (k + 1)
+pub before_more : {F : Type 0} (demands : ℕ → List (Demand F)) (first k : ℕ) → HoldBefore demands first k → AllHold (demands k) → HoldBefore demands first (k + 1)
 before_more demands first k before here =
     record { each = λ j low high. elim (cases_eq j k) [ inl same ↦ rw same here | inr other ↦ before.each j low (omega arith) ] }
 
-pub before_all : (demands : ℕ → List Demand) (first k n : ℕ) → HoldBefore demands first k → first + n ≤ k → AllHold (demands_from demands first n)
+pub before_all : {F : Type 0} (demands : ℕ → List (Demand F)) (first k n : ℕ) → HoldBefore demands first k → first + n ≤ k → AllHold (demands_from demands first n)
 before_all demands first k n before h = all_of_each demands first n (λ j low high. before.each j low (omega arith))
 
-pub before_of_all : (demands : ℕ → List Demand) (n : ℕ) → AllHold (demands_from demands 0 n) → HoldBefore demands 0 n
+pub before_of_all : {F : Type 0} (demands : ℕ → List (Demand F)) (n : ℕ) → AllHold (demands_from demands 0 n) → HoldBefore demands 0 n
 before_of_all demands n all = record { each = λ k low high. each_holds demands 0 n all k low (omega arith) }
 
-pub before_fewer : (demands : ℕ → List Demand) (first k n : ℕ) → k ≤ n → HoldBefore demands first n → HoldBefore demands first k
+pub before_fewer : {F : Type 0} (demands : ℕ → List (Demand F)) (first k n : ℕ) → k ≤ n → HoldBefore demands first n → HoldBefore demands first k
 before_fewer demands first k n fewer before = record { each = λ j low high. before.each j low (omega arith) }
 
-pub before_fails : (demands : ℕ → List Demand) (first k n : ℕ) (found : Fault) → HoldBefore demands first k → first ≤ k → k < first + n → FirstToFail (demands k) found → FirstToFail (demands_from demands first n) found
+pub before_fails : {F : Type 0} (demands : ℕ → List (Demand F)) (first k n : ℕ) (found : F) → HoldBefore demands first k → first ≤ k → k < first + n → FirstToFail (demands k) found → FirstToFail (demands_from demands first n) found
 before_fails demands first k n found before low high fails = fails_from demands first n k found low high before.each fails
 
 -- demands whose places count from further on hold where they did, and fail as they did, further on
-pub all_raised : (by : ℕ) (ds : List Demand) → AllHold ds → AllHold (raised by ds)
+pub all_raised : (by : ℕ) (ds : List (Demand Fault)) → AllHold ds → AllHold (raised by ds)
 all_raised by [] all = tt
 all_raised by (d ∷ ds) all = (all.0, all_raised by ds all.1)
 
-pub all_lowered : (by : ℕ) (ds : List Demand) → AllHold (raised by ds) → AllHold ds
+pub all_lowered : (by : ℕ) (ds : List (Demand Fault)) → AllHold (raised by ds) → AllHold ds
 all_lowered by [] all = tt
 all_lowered by (d ∷ ds) all = (all.0, all_lowered by ds all.1)
 
-pub fails_raised : (by : ℕ) (ds : List Demand) (found : Fault) → FirstToFail ds found → FirstToFail (raised by ds) (raise by found)
+pub fails_raised : (by : ℕ) (ds : List (Demand Fault)) (found : Fault) → FirstToFail ds found → FirstToFail (raised by ds) (raise by found)
 fails_raised by [] found x = absurd x
 fails_raised by (d ∷ ds) found (inl x) = inl (x.0, ap (raise by) x.1)
 fails_raised by (d ∷ ds) found (inr x) = inr (x.0, fails_raised by ds found x.1)

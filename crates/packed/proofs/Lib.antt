@@ -1,4 +1,6 @@
 pub mod DemandLemmas
-pub mod NumberLemmas
-pub mod PackedLemmas
-pub mod SignedLemmas
+mod FieldLemmas
+mod NumberLemmas
+mod PackedLemmas
+mod ShortLemmas
+mod SignedLemmas

@@ -1,8 +1,9 @@
 -- The number of the bytes at a place.
-use Rattle.std.proofs.Common.{◌≡◌, ℕ, zero, suc, ◌+◌, ◌≤◌, List, [], ◌∷◌, length, take, drop, refl, arith, length-drop}
+use Rattle.std.proofs.Common.{◌≡◌, ℕ, zero, suc, ◌+◌, ◌≤◌, List, [], ◌∷◌, length, take, drop, refl, ◌∙◌, arith, length-drop}
 use Rattle.byteorder.specs.Endian.{little_from, little_number}
 use Rattle.byteorder.specs.Numbers.{little_from-cons}
-use Rattle.packed.specs.Number.{little_endian}
+use Rattle.std.proofs.lemmas.List.{length-take-le}
+use Rattle.packed.specs.Number.{little_endian, IsNumber}
 use Rattle.packed.specs.Places.{part}
 
 -- `byteorder` reads the number of the first bytes
@@ -17,3 +18,11 @@ little_from-number (suc count) (byte ∷ bytes) h =
 -- what `byteorder` reads behind a place is the number at that place
 pub little_number_part : (whole : List ℕ) (place count : ℕ) → place + count ≤ length whole → little_number count (drop place whole) ≡ little_endian (part whole place count)
 little_number_part whole place count h = little_from-number count (drop place whole) (omega (arith, length-drop place whole))
+
+-- so the bytes at that place are a number of so many bytes
+pub number_stands : (whole : List ℕ) (place count number : ℕ) → place + count ≤ length whole → number ≡ little_number count (drop place whole)
+    → IsNumber count (part whole place count) number
+number_stands whole place count number h is = record {
+  long = length-take-le count (drop place whole) (omega (arith, length-drop place whole));
+  equal = is ∙ little_number_part whole place count h;
+}

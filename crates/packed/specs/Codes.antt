@@ -1,7 +1,7 @@
 -- The demands by number and by name. The hundreds of a number are the layer that poses the demand.
 use Rattle.std.specs.Prelude.{ℕ, List, [], ◌∷◌, codes, ◌==◌, if◌then◌else◌}
 use Rattle.packed.specs.declared.code.FaultCode.{FaultCode}
-use Rattle.packed.specs.declared.code.FaultCode.TheVariants.{TooLong, DosHeader, PeSignature, OptionalHeader, Pe32PlusSize, Magic, Directories, Sections, NoCliHeader, CliAddress, CliSize, MetadataAddress, RootSignature, Version, StreamCount, StreamHeader, StreamRange, DuplicateStream, Uncompressed, NoTables, TablesHeader, TablesVersion, HeapSizes, UnknownTable, RowCounts, RowCount, TablesShort, BadString, BadUtf8, BadBlob, BadGuid, BadTag, BadIndex, BadList, BadUserString, NotSorted, BadRun, NoOwner, NestedOrder, BadSignature, SignatureIndex, EntryPoint, TooLarge}
+use Rattle.packed.specs.declared.code.FaultCode.TheVariants.{TooLong, DosHeader, PeSignature, OptionalHeader, Pe32PlusSize, Magic, Directories, Sections, NoCliHeader, CliAddress, CliSize, MetadataAddress, RootSignature, Version, StreamCount, StreamHeader, StreamRange, DuplicateStream, Uncompressed, NoTables, TablesHeader, TablesVersion, HeapSizes, UnknownTable, RowCounts, RowCount, TablesShort, BadString, BadUtf8, BadBlob, BadGuid, BadTag, BadIndex, BadList, BadUserString, BadCell, UserBytes, NotSorted, BadRun, NoOwner, NestedOrder, BadSignature, SignatureIndex, EntryPoint, TooLarge}
 
 -- the number of each demand
 abbrev pub number_of_code : FaultCode → ℕ
@@ -40,6 +40,8 @@ number_of_code BadTag = 505
 number_of_code BadIndex = 506
 number_of_code BadList = 507
 number_of_code BadUserString = 508
+number_of_code BadCell = 509
+number_of_code UserBytes = 510
 number_of_code NotSorted = 601
 number_of_code BadRun = 602
 number_of_code NoOwner = 603

@@ -30,10 +30,18 @@ IsPacked n bytes = IsOneByte n bytes ⊎ (IsTwoBytes n bytes ⊎ IsFourBytes n b
 abbrev pub short_unsigned : ℕ → List ℕ
 short_unsigned n = if nat_lt n (2 ^ 7) then one_byte n else (if nat_lt n (2 ^ 14) then two_bytes n else four_bytes n)
 
--- the number is one of w bits of two's complement: at least -2^(w-1) and below 2^(w-1)
+-- numbers of w bits of two's complement are at least this below 0, and at most one less than this above
+abbrev pub half_range : ℕ → ℤ
+half_range w = pos (2 ^ (w - 1))
+
+-- the number is one of w bits of two's complement
 pub record FitsBits (w : ℕ) (z : ℤ) : Type 0 where
-  pub low : neg_ℤ (pos (2 ^ (w - 1))) ≤ℤ z
-  pub high : z <ℤ pos (2 ^ (w - 1))
+  pub low : neg_ℤ (half_range w) ≤ℤ z
+  pub high : z <ℤ half_range w
+
+-- the same as a test
+abbrev pub fits_bits : ℕ → ℤ → Bool
+fits_bits w z = not (int_lt z (neg_ℤ (half_range w))) && int_lt z (half_range w)
 
 -- those bits: the number modulo 2^w
 abbrev pub twos_complement : ℕ → ℤ → ℕ
@@ -52,10 +60,6 @@ abbrev pub IsPackedSigned : ℤ → List ℕ → Type 0
 IsPackedSigned z bytes =
     (FitsBits 7 z × IsOneByte (signed_bits 7 z) bytes)
     ⊎ ((FitsBits 14 z × IsTwoBytes (signed_bits 14 z) bytes) ⊎ (FitsBits 29 z × IsFourBytes (signed_bits 29 z) bytes))
-
--- the same two bounds, as a test
-abbrev pub fits_bits : ℕ → ℤ → Bool
-fits_bits w z = not (int_lt z (neg_ℤ (pos (2 ^ (w - 1))))) && int_lt z (pos (2 ^ (w - 1)))
 
 -- the shortest form of a signed number of 29 bits: the first that its bits fit
 abbrev pub short_signed : ℤ → List ℕ

@@ -78,6 +78,10 @@ pub enum FaultCode {
     BadList,
     /// A user string of an even number of bytes above 0 (II.24.2.4).
     BadUserString,
+    /// A cell that its column can't hold (II.22). No file has one.
+    BadCell,
+    /// User bytes that are not filled, or too many (II.24.2.4). No file has them.
+    UserBytes,
     /// A row's key is lower than that of the row before (II.22).
     NotSorted,
     /// The first run of members does not start at 1, or a run starts before the one before (II.22).
@@ -137,6 +141,8 @@ impl FaultCode {
             FaultCode::BadIndex => 506,
             FaultCode::BadList => 507,
             FaultCode::BadUserString => 508,
+            FaultCode::BadCell => 509,
+            FaultCode::UserBytes => 510,
             FaultCode::NotSorted => 601,
             FaultCode::BadRun => 602,
             FaultCode::NoOwner => 603,

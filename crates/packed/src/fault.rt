@@ -3,6 +3,8 @@ ghost use Rattle.packed.specs.Demand.{fault};
 ghost use Rattle.packed.specs.Codes.{name_of};
 
 use crate::code::FaultCode;
+use std::error::Error;
+use std::fmt;
 
 /// The first demand that some bytes do not meet, and where.
 #[derive(Clone, Copy, Debug, PartialEq, Eq)]
@@ -94,3 +96,18 @@ impl Fault {
         }
     }
 }
+
+impl fmt::Display for Fault {
+    /// Writes the words `fault LAYER CODE at OFFSET: NAME`.
+    fn fmt<W: fmt::Write>(&self, f: &mut fmt::Formatter<W>) -> fmt::Result {
+        let Fault {
+            layer,
+            code,
+            offset,
+        } = *self;
+        let name = self.name();
+        write!(f, "fault {layer} {code} at {offset}: {name}")
+    }
+}
+
+impl Error for Fault {}

@@ -1,13 +1,14 @@
 //! The ground of every layer: numbers of a fixed size and packed numbers, as the format spells them,
-//! and the faults that a file is refused with.
+//! the fields of headers, and the faults that a file is refused with.
 //!
 //! A layer that reads poses its demands in one order, and answers `Ok` exactly where all of them
 //! hold, else the [`Fault`] of the first that does not. The definitions for that are in
-//! `specs/Demand.antt`.
+//! `specs/Demand.antt`, over an answer of any type.
 //!
 //! ```text
 //! let fault = Fault::new(FaultCode::Version, 12);
 //! fault.layer == 3 && fault.code == 302 && fault.name() == "Version"
+//! format!(in alloc; "{fault}")? == "fault 3 302 at 12: Version"
 //! read_unsigned(&[0x80, 0x80, 0xFF]) == Some((128, 2))
 //! ```
 #![tactic(auto)]
@@ -15,16 +16,15 @@
 mod code;
 mod fault;
 mod laws;
+mod limit;
 mod number;
 mod signed;
 mod unsigned;
 
 pub use code::FaultCode;
 pub use fault::Fault;
-pub use laws::numbers_are_read;
+pub use laws::{fields_are_parts, numbers_are_read, shortest_forms_spell};
+pub use limit::BYTE_LIMIT;
 pub use number::{u16_at, u32_at, u64_at};
 pub use signed::{put_signed, read_signed};
 pub use unsigned::{put_unsigned, read_unsigned, unsigned_len};
-
-#[cfg(test)]
-mod tests;

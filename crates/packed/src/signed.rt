@@ -1,4 +1,4 @@
-ghost use Rattle.std.specs.Prelude.{◌≡◌, ◌≤◌, ◌^◌, ◌-◌, ◌++◌, List, ℕ, ℤ, pos, neg_ℤ, ◌≤ℤ◌, ◌<ℤ◌, ◌+ℤ◌, length, take, IfSome, IsSomeAnd, OnOk, OnErr};
+ghost use Rattle.std.specs.Prelude.{◌≡◌, ◌≤◌, ◌^◌, ◌-◌, ◌++◌, List, ℕ, ℤ, pos, neg_ℤ, ◌≤ℤ◌, ◌<ℤ◌, ◌+ℤ◌, length, take, IfSome, IsSomeAnd, OnOk, OnErr, IsOk, ◌+◌, vec_len, vec_capacity};
 ghost use Rattle.packed.specs.Front.{signed_at, bits_of};
 ghost use Rattle.packed.specs.Packed.{IsPackedSigned, short_signed};
 
@@ -64,6 +64,9 @@ pub fn put_signed(bytes: &mut Vec<u8>, number: i32) -> Result<(), AllocError>
     requires high { number <ℤ pos (2 ^ 28) }
     ensures ok { OnOk result (bytes.new.items ≡ bytes.old.items ++ short_signed number) }
     ensures err { OnErr result (bytes.new.items ≡ bytes.old.items) }
+    ensures len { OnOk result (vec_len bytes.new ≡ vec_len bytes.old + length (short_signed number)) }
+    ensures capacity { vec_capacity bytes.old ≤ vec_capacity bytes.new }
+    ensures succeeds { vec_len bytes.old + length (short_signed number) ≤ vec_capacity bytes.old → IsOk result }
 {
     match number {
         -64..64 => bytes.extend_from_slice(&in_one_byte(rotated_bits(number, 1 << 6))),

@@ -1,4 +1,4 @@
-ghost use Rattle.std.specs.Prelude.{◌≡◌, ◌<◌, ◌≤◌, ◌^◌, ◌++◌, ◌∷◌, [], List, ℕ, length, take, IfSome, IsSomeAnd, MatchOption, OnOk, OnErr};
+ghost use Rattle.std.specs.Prelude.{◌≡◌, ◌<◌, ◌≤◌, ◌^◌, ◌++◌, ◌∷◌, [], List, ℕ, length, take, IfSome, IsSomeAnd, MatchOption, OnOk, OnErr, IsOk, ◌+◌, vec_len, vec_capacity};
 ghost use Rattle.packed.specs.Front.{unsigned_at};
 ghost use Rattle.packed.specs.Packed.{IsPacked, one_byte, two_bytes, four_bytes, short_unsigned};
 
@@ -95,6 +95,9 @@ pub fn put_unsigned(bytes: &mut Vec<u8>, number: u32) -> Result<(), AllocError>
     requires { number < 2 ^ 29 }
     ensures ok { OnOk result (bytes.new.items ≡ bytes.old.items ++ short_unsigned number) }
     ensures err { OnErr result (bytes.new.items ≡ bytes.old.items) }
+    ensures len { OnOk result (vec_len bytes.new ≡ vec_len bytes.old + length (short_unsigned number)) }
+    ensures capacity { vec_capacity bytes.old ≤ vec_capacity bytes.new }
+    ensures succeeds { vec_len bytes.old + length (short_unsigned number) ≤ vec_capacity bytes.old → IsOk result }
 {
     match number {
         0..0x80 => bytes.extend_from_slice(&in_one_byte(number)),

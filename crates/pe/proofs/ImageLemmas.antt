@@ -4,17 +4,21 @@ use Rattle.std.proofs.Common.{Result, Ok, Err}
 use Rattle.std.specs.List.{flat_map}
 use Rattle.std.specs.Result.{IfOk, IsOkAnd}
 use Rattle.packed.specs.declared.fault.Fault.{Fault}
+use Rattle.packed.specs.Fields.{Field, literal, StandAt, AllSay, widths}
 use Rattle.packed.specs.Number.{little_endian}
 use Rattle.packed.specs.Places.{part}
 use Rattle.packed.specs.Demand.{AllHold, Answers}
 use Rattle.packed.proofs.DemandLemmas.{none_fails}
 use Rattle.pe.specs.declared.section.SectionHeader.{SectionHeader}
-use Rattle.pe.specs.Fields.{Field, literal}
 use Rattle.pe.specs.Image.{Image, Format, pe32, pe32_plus, magic_of, wider_by, dos_header, pe_signature, file_header, optional_header, section_header, IsImage}
 use Rattle.pe.specs.Headers.{lfanew, magic, wider, section_count, optional_header_size, directory_count, directory_place, sections_place, sections_from, image_of}
 use Rattle.pe.specs.Demands.{demands_of_image}
-use Rattle.pe.proofs.FieldLemmas.{AllSay, widths, stand_says, says_stand, moved}
-use Rattle.pe.proofs.SectionLemmas.{length-sections_from, widths-sections, sections_say, sections_said}
+use Rattle.pe.proofs.SectionLemmas.{moved, length-sections_from, widths-sections, sections_say, sections_said}
+
+-- fields stand where there is room for them and each says what stands in its bytes
+pub record FieldsAreParts : Type 0 where
+  pub said : (whole : List ℕ) (place : ℕ) (fields : List Field) → StandAt whole place fields → AllSay whole place fields × (place + widths fields ≤ length whole)
+  pub stand : (whole : List ℕ) (place : ℕ) (fields : List Field) → place + widths fields ≤ length whole → AllSay whole place fields → StandAt whole place fields
 
 -- what the headers from the PE signature on say
 record HeadersSay (file : List ℕ) (e : ℕ) (format : Format) (count left : ℕ) (directory : ℕ × ℕ) (sections : List SectionHeader) : Type 0 where
@@ -99,8 +103,8 @@ wider_is file pe32 e = rw (← e) refl
 wider_is file pe32_plus e = rw (← e) refl
 
 -- the image that stands in a file of a form
-stands : (file : List ℕ) (format : Format) → magic_of format ≡ magic file → 216 + wider_by format ≤ optional_header_size file → AllHold (demands_of_image file) → IsImage file (image_of file)
-stands file format form room all =
+stands : (known : FieldsAreParts) (file : List ℕ) (format : Format) → magic_of format ≡ magic file → 216 + wider_by format ≤ optional_header_size file → AllHold (demands_of_image file) → IsImage file (image_of file)
+stands known file format form room all =
     let e : ℕ = lfanew file in
     let left : ℕ = optional_header_size file - (216 + wider_by format) in
     let wide : wider file ≡ wider_by format = wider_is file format form in
@@ -125,8 +129,8 @@ stands file format form room all =
       directory_count = directory_count file;
       left = left;
       small = all.0;
-      dos = says_stand file 0 (dos_header e) long (all.1.0.1, (tt, (refl, tt)));
-      headers = says_stand file e _
+      dos = known.stand file 0 (dos_header e) long (all.1.0.1, (tt, (refl, tt)));
+      headers = known.stand file e _
           (let room = headers_room file e format (directory_count file) left (image_of file).cli_directory (sections_from file (sections_place file) (section_count file)) in omega arith)
           (headers_said file e format (directory_count file) left (image_of file).cli_directory (sections_from file (sections_place file) (section_count file)) headers);
       directories = all.1.1.1.1.1.1.0;
@@ -135,10 +139,10 @@ stands file format form room all =
     }
 
 -- a file that meets all demands is an image
-pub image_from_demands : (file : List ℕ) → AllHold (demands_of_image file) → IsImage file (image_of file)
-image_from_demands file all = elim all.1.1.1.1.1.0 [
-  | inl plain ↦ stands file pe32 (sym plain) all.1.1.1.0.0 all
-  | inr plus ↦ stands file pe32_plus (sym plus) (all.1.1.1.1.0 plus) all
+pub image_from_demands : (known : FieldsAreParts) (file : List ℕ) → AllHold (demands_of_image file) → IsImage file (image_of file)
+image_from_demands known file all = elim all.1.1.1.1.1.0 [
+  | inl plain ↦ stands known file pe32 (sym plain) all.1.1.1.0.0 all
+  | inr plus ↦ stands known file pe32_plus (sym plus) (all.1.1.1.1.0 plus) all
 ]
 
 same_image : (a b : Image) → a.bytes ≡ b.bytes → a.cli_directory.0 ≡ b.cli_directory.0 → a.cli_directory.1 ≡ b.cli_directory.1 → a.cli_directory_place ≡ b.cli_directory_place → a.sections ≡ b.sections → a ≡ b
@@ -160,11 +164,11 @@ magic_cases : (file : List ℕ) (format : Format) → magic_of format ≡ magic 
 magic_cases file pe32 e room = ((λ plus. absurd (omega arith)), inl (sym e))
 magic_cases file pe32_plus e room = ((λ plus. room), inr (sym e))
 
-pub image_meets : (file : List ℕ) (image : Image) → IsImage file image → Meets file image
-image_meets file image h =
+pub image_meets : (known : FieldsAreParts) (file : List ℕ) (image : Image) → IsImage file image → Meets file image
+image_meets known file image h =
     let fields : List Field = literal pe_signature ∷ file_header (length image.sections) (216 + wider_by h.format + h.left) ++ optional_header h.format h.directory_count image.cli_directory h.left ++ flat_map section_header image.sections in
-    let dos = stand_says file 0 (dos_header h.lfanew) h.dos in
-    let stood = stand_says file h.lfanew fields h.headers in
+    let dos = known.said file 0 (dos_header h.lfanew) h.dos in
+    let stood = known.said file h.lfanew fields h.headers in
     let at : h.lfanew ≡ lfanew file = dos.0.1.1.0 in
     let Say : ℕ → Type 0 = λ e. HeadersSay file e h.format h.directory_count h.left image.cli_directory image.sections in
     let says = subst Say at (headers_say file h.lfanew h.format h.directory_count h.left image.cli_directory image.sections stood.0) in
@@ -193,13 +197,14 @@ image_meets file image h =
     }
 
 -- what a result that answers the demands says of the relation
-pub answers_found : (file : List ℕ) (r : Result Image Fault) → Answers (demands_of_image file) r → IfOk r (λ image. image ≡ image_of file) → IfOk r (λ image. IsImage file image)
-answers_found file (Ok image) all is =
+pub answers_found : (file : List ℕ) (r : Result Image Fault) → Answers (demands_of_image file) r → IfOk r (λ image. image ≡ image_of file)
+    → (AllHold (demands_of_image file) → IsImage file (image_of file)) → IfOk r (λ image. IsImage file image)
+answers_found file (Ok image) all is found =
     let P : Image → Type 0 = λ i. IsImage file i in
-    subst P (sym is) (image_from_demands file all)
-answers_found file (Err found) fails is = tt
+    subst P (sym is) (found all)
+answers_found file (Err fault) fails is found = tt
 
-pub answers_only : (file : List ℕ) (image : Image) (r : Result Image Fault) → Answers (demands_of_image file) r → IfOk r (λ found. found ≡ image_of file) → Meets file image
-    → IsOkAnd r (λ found. found ≡ image)
-answers_only file image (Ok found) all is meets = is ∙ sym meets.is
-answers_only file image (Err found) fails is meets = absurd (none_fails (demands_of_image file) found meets.all fails)
+pub answers_only : (file : List ℕ) (image : Image) (r : Result Image Fault) → Answers (demands_of_image file) r → IfOk r (λ found. found ≡ image_of file)
+    → AllHold (demands_of_image file) → image ≡ image_of file → IsOkAnd r (λ found. found ≡ image)
+answers_only file image (Ok found) all is meets said = is ∙ sym said
+answers_only file image (Err found) fails is meets said = absurd (none_fails (demands_of_image file) found meets fails)

@@ -1,4 +1,3 @@
-pub mod FieldLemmas
 pub mod ImageLemmas
 pub mod PlaceLemmas
 pub mod SectionLemmas

@@ -3,11 +3,17 @@ use Rattle.std.proofs.Common.{◌≡◌, ℕ, zero, suc, ◌+◌, ◌-◌, ◌*�
 use Rattle.std.specs.List.{flat_map, find}
 use Rattle.std.proofs.Common.{Bool, true, false, cond, Some, Option}
 use Rattle.std.proofs.lemmas.Bool.{and_parts, leb-true, cond-true, cond-false}
+use Rattle.packed.specs.Fields.{AllSay, widths}
+use Rattle.packed.specs.Number.{little_endian}
+use Rattle.packed.specs.Places.{part}
 use Rattle.pe.specs.declared.section.SectionHeader.{SectionHeader}
 use Rattle.pe.specs.Image.{section_header}
 use Rattle.pe.specs.Headers.{section_at, sections_from}
 use Rattle.pe.specs.Place.{has_bytes}
-use Rattle.pe.proofs.FieldLemmas.{AllSay, widths, moved}
+
+-- a number does not depend on how its place is written
+pub moved : (whole : List ℕ) (place other count : ℕ) → place ≡ other → little_endian (part whole place count) ≡ little_endian (part whole other count)
+moved whole place other count e = ap (λ (p : ℕ). little_endian (part whole p count)) e
 
 pub length-sections_from : (file : List ℕ) (place count : ℕ) → length (sections_from file place count) ≡ count
 length-sections_from file place zero = refl

@@ -1,7 +1,9 @@
 -- What is demanded of an image, in order (ECMA-335 II.25.2 and II.25.3). A demand is posed only where all before it
 -- hold. Each has a number, and a place at which it fails.
-use Rattle.std.specs.Prelude.{◌≡◌, ℕ, ◌+◌, ◌*◌, ◌^◌, ◌≤◌, ◌⊎◌, List, [], ◌∷◌, ◌++◌, length, codes}
+use Rattle.std.specs.Prelude.{◌≡◌, ℕ, ◌+◌, ◌*◌, ◌≤◌, ◌⊎◌, List, [], ◌∷◌, ◌++◌, length, codes}
 use Rattle.packed.specs.declared.code.FaultCode.TheVariants.{TooLong, DosHeader, PeSignature, OptionalHeader, Pe32PlusSize, Magic, Directories, Sections}
+use Rattle.packed.specs.declared.fault.Fault.{Fault}
+use Rattle.packed.specs.Limit.{byte_limit}
 use Rattle.packed.specs.Demand.{Demand, demand}
 use Rattle.packed.specs.Places.{part}
 use Rattle.pe.specs.Headers.{lfanew, section_count, optional_header_size, magic, wider, directory_count, sections_place}
@@ -20,18 +22,18 @@ abbrev pub HasOptionalHeader : List ℕ → Type 0
 HasOptionalHeader file = (216 ≤ optional_header_size file) × (lfanew file + 24 + optional_header_size file ≤ length file)
 
 -- of the MS-DOS header
-abbrev pub demands_of_dos_header : List ℕ → List Demand
+abbrev pub demands_of_dos_header : List ℕ → List (Demand Fault)
 demands_of_dos_header file =
-    demand (length file ≤ 2 ^ 30) TooLong 0
+    demand (length file ≤ byte_limit) TooLong 0
     ∷ demand (HasDosHeader file) DosHeader 0
     ∷ []
 
 -- of the PE signature
-abbrev pub demands_of_signature : List ℕ → List Demand
+abbrev pub demands_of_signature : List ℕ → List (Demand Fault)
 demands_of_signature file = demand (HasPeSignature file) PeSignature 0x3C ∷ []
 
 -- of the optional header
-abbrev pub demands_of_optional_header : List ℕ → List Demand
+abbrev pub demands_of_optional_header : List ℕ → List (Demand Fault)
 demands_of_optional_header file =
     demand (HasOptionalHeader file) OptionalHeader (lfanew file + 20)
     ∷ demand (magic file ≡ 0x20B → 232 ≤ optional_header_size file) Pe32PlusSize (lfanew file + 20)
@@ -40,10 +42,10 @@ demands_of_optional_header file =
     ∷ []
 
 -- of the section headers
-abbrev pub demands_of_sections : List ℕ → List Demand
+abbrev pub demands_of_sections : List ℕ → List (Demand Fault)
 demands_of_sections file = demand (sections_place file + 40 * section_count file ≤ length file) Sections (lfanew file + 6) ∷ []
 
 -- of the whole image, header by header
-abbrev pub demands_of_image : List ℕ → List Demand
+abbrev pub demands_of_image : List ℕ → List (Demand Fault)
 demands_of_image file =
     demands_of_dos_header file ++ (demands_of_signature file ++ (demands_of_optional_header file ++ demands_of_sections file))

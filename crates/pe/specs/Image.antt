@@ -1,9 +1,10 @@
 -- A PE file (ECMA-335 II.25.2 and II.25.3, and for PE32+ Microsoft's PE format), as a relation between the bytes of a
 -- file and what its headers say.
-use Rattle.std.specs.Prelude.{◌≡◌, ℕ, ◌+◌, ◌≤◌, ◌^◌, List, [], ◌∷◌, ◌++◌, length, codes}
+use Rattle.std.specs.Prelude.{◌≡◌, ℕ, ◌+◌, ◌≤◌, List, [], ◌∷◌, ◌++◌, length, codes}
 use Rattle.std.specs.List.{flat_map}
 use Rattle.pe.specs.declared.section.SectionHeader.{SectionHeader}
-use Rattle.pe.specs.Fields.{Field, literal, number, ignored, StandAt}
+use Rattle.packed.specs.Limit.{byte_limit}
+use Rattle.packed.specs.Fields.{Field, literal, number, ignored, StandAt}
 
 -- what an image shows: its bytes, the RVA and the size of the CLI header, where these two stand, and the section
 -- headers in their order
@@ -72,7 +73,7 @@ pub record IsImage (file : List ℕ) (image : Image) : Type 0 where
   pub format : Format
   pub directory_count : ℕ
   pub left : ℕ
-  pub small : length file ≤ 2 ^ 30
+  pub small : length file ≤ byte_limit
   pub dos : StandAt file 0 (dos_header lfanew)
   pub headers : StandAt file lfanew (literal pe_signature ∷ file_header (length image.sections) (216 + wider_by format + left)
       ++ optional_header format directory_count image.cli_directory left

@@ -1,6 +1,5 @@
 pub mod Checked
 pub mod Demands
-pub mod Fields
 pub mod Headers
 pub mod Image
 pub mod Place

@@ -1,13 +1,11 @@
-ghost use Rattle.std.specs.Prelude.{◌≡◌, ◌+◌, ◌≤◌, ◌^◌, length, IfOk, IfErr};
+ghost use Rattle.std.specs.Prelude.{◌≡◌, ◌+◌, ◌≤◌, length, IfOk, IfErr};
 ghost use Rattle.packed.specs.Demand.{Answers};
+ghost use Rattle.packed.specs.Limit.{byte_limit};
 ghost use Rattle.pe.specs.Demands.{demands_of_dos_header, demands_of_signature, demands_of_optional_header, demands_of_sections};
 ghost use Rattle.pe.specs.Headers.{lfanew, section_count, sections_place, directory_place, optional_header_size};
 
 use crate::section::SECTION_HEADER_SIZE;
-use packed::{Fault, FaultCode, u16_at, u32_at};
-
-/// The most bytes of a file.
-const LIMIT: usize = 1 << 30;
+use packed::{BYTE_LIMIT, Fault, FaultCode, u16_at, u32_at};
 
 /// Where the place of the PE signature stands in the MS-DOS header.
 const LFANEW: usize = 0x3C;
@@ -49,11 +47,11 @@ const DIRECTORIES: u32 = 15;
 pub fn read_dos_header(bytes: &[u8]) -> Result<usize, Fault>
     ensures answers { Answers (demands_of_dos_header bytes.now) result }
     ensures lfanew { IfOk result (λ place. place ≡ lfanew bytes.now) }
-    ensures small { IfOk result (λ _. length bytes.now ≤ 2 ^ 30) }
+    ensures small { IfOk result (λ _. length bytes.now ≤ byte_limit) }
     ensures room { IfOk result (λ _. 64 ≤ length bytes.now) }
     ensures within { IfErr result (λ fault. fault.offset ≤ length bytes.now) }
 {
-    if bytes.len() > LIMIT {
+    if bytes.len() > BYTE_LIMIT {
         return Err(Fault::new(FaultCode::TooLong, 0));
     }
     if bytes.len() < LFANEW + 4 {
@@ -77,7 +75,7 @@ pub struct FileHeader {
 
 /// Reads the PE file header, where the PE signature stands before it (II.25.2.2).
 pub fn read_file_header(bytes: &[u8], place: usize) -> Result<FileHeader, Fault>
-    requires small { length bytes.now ≤ 2 ^ 30 }
+    requires small { length bytes.now ≤ byte_limit }
     requires header { 64 ≤ length bytes.now }
     requires place { place ≡ lfanew bytes.now }
     ensures answers { Answers (demands_of_signature bytes.now) result }
@@ -102,7 +100,7 @@ pub fn read_file_header(bytes: &[u8], place: usize) -> Result<FileHeader, Fault>
 
 /// Reads the optional header of so many bytes (II.25.2.3): where the CLI header's directory stands.
 pub fn read_optional_header(bytes: &[u8], place: usize, size: usize) -> Result<usize, Fault>
-    requires small { length bytes.now ≤ 2 ^ 30 }
+    requires small { length bytes.now ≤ byte_limit }
     requires place { place ≡ lfanew bytes.now }
     requires size { size ≡ optional_header_size bytes.now }
     requires room { place + 24 ≤ length bytes.now }
@@ -138,7 +136,7 @@ pub fn read_optional_header(bytes: &[u8], place: usize, size: usize) -> Result<u
 
 /// Whether so many section headers end within the file (II.25.3).
 pub fn check_sections(bytes: &[u8], place: usize, start: usize, count: usize) -> Result<(), Fault>
-    requires small { length bytes.now ≤ 2 ^ 30 }
+    requires small { length bytes.now ≤ byte_limit }
     requires place { place ≡ lfanew bytes.now }
     requires start { start ≡ sections_place bytes.now }
     requires count { count ≡ section_count bytes.now }

@@ -8,6 +8,7 @@ ghost use Rattle.pe.specs.Place.{IsPlace};
 use crate::headers::{
     OPTIONAL_HEADER, check_sections, read_dos_header, read_file_header, read_optional_header,
 };
+use crate::laws::images_are_read;
 use crate::section::find_section;
 use packed::{Fault, u32_at};
 use std::marker::Model;
@@ -113,5 +114,6 @@ pub fn read_pe(bytes: &[u8]) -> Result<Pe<'_>, Fault>
     // Its place is one of these bytes, or their end.
     ensures within { IfErr result (λ fault. fault.offset ≤ length bytes.now) }
 {
+    images_are_read();
     check_image(bytes)
 }

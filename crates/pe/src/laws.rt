@@ -4,10 +4,14 @@ ghost use Rattle.pe.specs.Demands.{demands_of_image};
 ghost use Rattle.pe.specs.Headers.{image_of};
 ghost use Rattle.pe.specs.Image.{Image, IsImage};
 
+use packed::fields_are_parts;
+
 /// An image meets all demands and is what its headers say; and a file that meets all demands is the
 /// image that its headers say.
 pub fn images_are_read()
     ensures demanded { (file : List ℕ) (image : Image) → IsImage file image → AllHold (demands_of_image file) }
     ensures said { (file : List ℕ) (image : Image) → IsImage file image → image ≡ image_of file }
     ensures found { (file : List ℕ) → AllHold (demands_of_image file) → IsImage file (image_of file) }
-{}
+{
+    fields_are_parts();
+}

@@ -20,6 +20,3 @@ mod section;
 pub use image::{Pe, read_pe};
 pub use laws::images_are_read;
 pub use packed::{Fault, FaultCode};
-
-#[cfg(test)]
-mod tests;

@@ -1,28 +1,11 @@
 ghost use Rattle.std.specs.Prelude.{◌≡◌, true, option_map, ◌∷◌, []};
-ghost use Rattle.signature_values.specs.Reading.{token_of, starts_modifier, starts_prefix};
-ghost use Rattle.signature_values.specs.Spells.{has_row};
+ghost use Rattle.signature_values.specs.Reading.{starts_modifier, starts_prefix};
 ghost use Rattle.recogniser.specs.Skips.{left, noted, skip_index, skip_modifier, skip_modifiers, skip_prefix, skip_prefixes};
 
-use crate::element_type::{CMOD_OPT, CMOD_REQD, PINNED};
 use crate::rest::{Rest, byte, number};
-use schema::{Coded, Token, split};
-use signature_values::indexes_are_read;
-
-/// The token that the number of a type index names.
-fn token(number: u32) -> Option<Token>
-    ensures { result ≡ token_of number }
-{
-    indexes_are_read();
-    let (table, row) = split(Coded::TypeDefOrRef, number)?;
-    Some(Token { table, row })
-}
-
-/// Whether a token names a row of its table.
-fn names_row(token: Token, counts: &[u32; 45]) -> bool
-    ensures { result ≡ has_row counts.now token }
-{
-    0 < token.row && token.row <= counts[token.table.number() as usize]
-}
+use schema::Token;
+use signature_values::element_type::{CMOD_OPT, CMOD_REQD, PINNED};
+use signature_values::{names_row, token_of_index};
 
 /// The first token that names no row, where one more is met.
 fn first_bad(bad: Option<Token>, token: Token, counts: &[u32; 45]) -> Option<Token>
@@ -40,7 +23,7 @@ pub fn after_index<'a>(rest: Rest<'a>, counts: &[u32; 45]) -> Option<Rest<'a>>
     ensures { option_map left result ≡ skip_index counts.now (left rest.entry) }
 {
     let (number, rest) = number(rest)?;
-    let token = token(number)?;
+    let token = token_of_index(number)?;
     Some(Rest {
         bytes: rest.bytes,
         bad: first_bad(rest.bad, token, counts),

@@ -2,7 +2,7 @@
 //!
 //! [`recognise`] says whether the bytes of a blob, all of them, spell a signature that a column of a
 //! kind holds; at most one is spelled so. Of bytes that do, [`index_of_first_bad`] tells the first
-//! type index that names no row, and [`first_index_without_row`] answers both at once. The grammar is
+//! type index that names no row, and [`recognise_first_bad`] answers both at once. The grammar is
 //! that of `signature_values`.
 //!
 //! ```text
@@ -12,7 +12,6 @@
 #![tactic(auto)]
 
 mod columns;
-pub mod element_type;
 mod index;
 mod rest;
 mod shape;
@@ -20,7 +19,4 @@ mod walk;
 mod whole;
 
 pub use schema::{SigKind, Token};
-pub use whole::{first_index_without_row, index_of_first_bad, recognise};
-
-#[cfg(test)]
-mod tests;
+pub use whole::{index_of_first_bad, recognise, recognise_first_bad};

@@ -1,22 +1,15 @@
-ghost use Rattle.std.specs.Prelude.{◌≡◌, ◌/◌, ◌%◌, ◌==◌, option_map, is_some};
-ghost use Rattle.signature_values.specs.Reading.{element_of};
+ghost use Rattle.std.specs.Prelude.{◌≡◌, ◌/◌, ◌%◌, ◌==◌, option_map};
 ghost use Rattle.recogniser.specs.Skips.{left, is_marked, behind_mark, skip_core, skip_by, skip_typed, skip_target, skip_instance, skip_many, skip_content, skip_slot, skip_ret, skip_params, skip_generic, skip_method};
 
-use crate::element_type::{
-    ARRAY, BYREF, CLASS, FNPTR, GENERICINST, MVAR, PTR, SENTINEL, SZARRAY, TYPEDBYREF, VALUETYPE,
-    VAR, VOID,
-};
 use crate::index::{after_index, after_modifiers};
 use crate::rest::{Rest, after_number, byte, number};
 use crate::shape::after_shape;
-
-/// Whether a byte spells a type alone (II.23.1.16).
-#[tactic(auto, unfolding(signature_values::specs::Reading::element_of))]
-fn is_element(code: u8) -> bool
-    ensures { result ≡ is_some (element_of code) }
-{
-    matches!(code, 0x02..=0x0E | 0x18 | 0x19 | 0x1C)
-}
+use signature_values::Element;
+use signature_values::element_type::{
+    ARRAY, BYREF, CLASS, FNPTR, GENERICINST, MVAR, PTR, SENTINEL, SZARRAY, TYPEDBYREF, VALUETYPE,
+    VAR, VOID,
+};
+use signature_values::method_byte::{begins_method, is_generic, may_have_sentinel};
 
 /// What is left behind a core that is at most so deep (II.23.2.12).
 #[cycle(walk)]
@@ -28,7 +21,7 @@ fn after_core<'a>(rest: Rest<'a>, depth: u8, counts: &[u32; 45]) -> Option<Rest<
         return None;
     }
     let (code, rest) = byte(rest)?;
-    if is_element(code) {
+    if Element::from_byte(code).is_some() {
         return Some(rest);
     }
     after_code(code, rest, depth - 1, counts)
@@ -190,13 +183,13 @@ fn after_params<'a>(
     Some(rest)
 }
 
-/// What is left behind the number of generic parameters, where the first byte of a method has the bit
-/// 0x10 and one stands there.
+/// What is left behind the number of generic parameters, where the first byte of a method says
+/// that one stands there.
 #[tactic(auto, unfolding(crate::specs::Skips::skip_generic))]
 fn after_generic(rest: Rest<'_>, code: u8) -> Option<Rest<'_>>
     ensures { option_map left result ≡ skip_generic (code / 16 % 2 == 1) (left rest.entry) }
 {
-    if code / 16 % 2 == 1 {
+    if is_generic(code) {
         return after_number(rest);
     }
     Some(rest)
@@ -214,12 +207,11 @@ pub fn after_method<'a>(
     ensures { option_map left result ≡ skip_method counts.now own (skip_core counts.now depth) (left rest.entry) }
 {
     let (code, rest) = byte(rest)?;
-    let kind = code % 16;
-    if code >= 0x80 || (kind >= 6 && kind != 9) {
+    if !begins_method(code) {
         return None;
     }
     let rest = after_generic(rest, code)?;
     let (count, rest) = number(rest)?;
     let rest = after_ret(rest, depth, counts)?;
-    after_params(rest, count, own && (kind == 1 || kind == 5), depth, counts)
+    after_params(rest, count, own && may_have_sentinel(code), depth, counts)
 }

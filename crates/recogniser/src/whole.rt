@@ -22,11 +22,7 @@ const NO_ROWS: [u32; 45] = [0; 45];
 ///
 /// `counts` has the number of rows of each table under the table's number. One pass, without memory: it
 /// answers what [`recognise`] and [`index_of_first_bad`] answer in two.
-pub fn first_index_without_row(
-    bytes: &[u8],
-    kind: SigKind,
-    counts: &[u32; 45],
-) -> Option<Option<Token>>
+pub fn recognise_first_bad(bytes: &[u8], kind: SigKind, counts: &[u32; 45]) -> Option<Option<Token>>
     ensures found { IfSome result (λ bad. (signature : Body) × Spells kind signature bytes.now × (bad ≡ first_bad counts.now (tokens signature))) }
     ensures only { (signature : Body) → Spells kind signature bytes.now → result ≡ Some (first_bad counts.now (tokens signature)) }
 {
@@ -51,7 +47,7 @@ pub fn recognise(bytes: &[u8], kind: SigKind) -> bool
     ensures one { (first second : Body) → Spells kind first bytes.now → Spells kind second bytes.now → first ≡ second }
 {
     signatures_are_read();
-    first_index_without_row(bytes, kind, &NO_ROWS).is_some()
+    recognise_first_bad(bytes, kind, &NO_ROWS).is_some()
 }
 
 /// The first type index, in the order of the spelling, that names no row of its table (II.23.2.8);
@@ -62,5 +58,5 @@ pub fn index_of_first_bad(bytes: &[u8], kind: SigKind, counts: &[u32; 45]) -> Op
     requires { (signature : Body) × Spells kind signature bytes.now }
     ensures { (signature : Body) → Spells kind signature bytes.now → result ≡ first_bad counts.now (tokens signature) }
 {
-    first_index_without_row(bytes, kind, counts)?
+    recognise_first_bad(bytes, kind, counts)?
 }

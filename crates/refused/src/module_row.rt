@@ -1,7 +1,6 @@
-use crate::stop::{Stop, again, kept};
+use crate::stop::{Run, Stop, kept};
 use rows::put_row;
 use schema::{Layout, TableId, widths_are_known};
-use std::alloc::Global;
 
 /// The numbers of a row of Module (II.22.30): its name and its GUID are the first of their heaps.
 const MODULE: [u32; 5] = [0, 1, 1, 0, 0];
@@ -12,16 +11,16 @@ const BEHIND_A_BYTE: [u8; 11] = [
 ];
 
 /// A row of Module behind a byte, put again where memory was refused.
-pub fn module_behind_a_byte(alloc: Global) -> Result<Vec<u8>, Stop> {
+pub fn module_behind_a_byte(run: &Run) -> Result<Vec<u8>, Stop> {
     widths_are_known();
     let layout = Layout::of(&[1; 45], 0);
-    let mut bytes = Vec::from_slice(alloc, &[0xFF])?;
+    let mut bytes = Vec::from_slice(run.alloc, &[0xFF])?;
     if put_row(&mut bytes, &layout, TableId::Module, &MODULE).is_err() {
         kept(
             bytes.as_slice() == [0xFF].as_slice(),
             "a refused row is not put",
         )?;
-        again(put_row(&mut bytes, &layout, TableId::Module, &MODULE))?;
+        run.again(put_row(&mut bytes, &layout, TableId::Module, &MODULE))?;
     }
     kept(
         bytes.as_slice() == BEHIND_A_BYTE.as_slice(),

@@ -3,14 +3,25 @@ use signatures::{SigKind, Token};
 
 /// A blob that a column of a kind names, and what is known of it.
 #[derive(Clone, Copy)]
-pub struct SignatureBlob {
+pub struct SignatureBlob<'a> {
     /// What the signatures of the column are.
     pub kind: SigKind,
     /// The bytes, all of them.
-    pub bytes: &'static [u8],
-    /// What `first_index_without_row` answers where each table has one row: `None` where the bytes
+    pub bytes: &'a [u8],
+    /// What `recognise_first_bad` answers where each table has one row: `None` where the bytes
     /// spell no signature of the kind.
     pub first_without_row: Option<Option<Token>>,
+}
+
+impl<'a> SignatureBlob<'a> {
+    /// Bytes that spell no type.
+    pub fn of_type(bytes: &'a [u8]) -> SignatureBlob<'a> {
+        SignatureBlob {
+            kind: SigKind::TypeSpec,
+            bytes,
+            first_without_row: None,
+        }
+    }
 }
 
 /// The bytes spell a signature, and each type index names a row.
@@ -22,8 +33,14 @@ const SECOND: Option<Option<Token>> = Some(Some(Token {
     row: 2,
 }));
 
+/// The bytes spell a signature, whose first type index without a row names row 0 of TypeRef.
+const NULL: Option<Option<Token>> = Some(Some(Token {
+    table: TableId::TypeRef,
+    row: 0,
+}));
+
 /// Signatures of each form (II.23.2), each in its shortest spelling.
-pub const SPELLED: [SignatureBlob; 18] = [
+pub const SPELLED: [SignatureBlob<'static>; 21] = [
     // A field of an integer; and one of a reference, behind a modifier, to a vector, behind another.
     SignatureBlob {
         kind: SigKind::Field,
@@ -126,10 +143,26 @@ pub const SPELLED: [SignatureBlob; 18] = [
         bytes: &[0x01],
         first_without_row: EACH_ROW,
     },
+    // A class by the null index; a field by reference; and three variables, one of them a pointer to VOID.
+    SignatureBlob {
+        kind: SigKind::TypeSpec,
+        bytes: &[0x12, 0x01],
+        first_without_row: NULL,
+    },
+    SignatureBlob {
+        kind: SigKind::Field,
+        bytes: &[0x06, 0x10, 0x08],
+        first_without_row: EACH_ROW,
+    },
+    SignatureBlob {
+        kind: SigKind::StandAlone,
+        bytes: &[0x07, 0x03, 0x0F, 0x01, 0x1D, 0x0E, 0x10, 0x12, 0x05],
+        first_without_row: EACH_ROW,
+    },
 ];
 
 /// A generic class whose index stands in two bytes, where one is enough.
-pub const LONGER: SignatureBlob = SignatureBlob {
+pub const LONGER: SignatureBlob<'static> = SignatureBlob {
     kind: SigKind::TypeSpec,
     bytes: &[0x15, 0x12, 0x80, 0x05, 0x01, 0x08],
     first_without_row: EACH_ROW,
@@ -139,7 +172,7 @@ pub const LONGER: SignatureBlob = SignatureBlob {
 pub const SHORTENED: [u8; 5] = [0x15, 0x12, 0x05, 0x01, 0x08];
 
 /// Blobs that spell no signature of their kind.
-pub const BAD: [SignatureBlob; 10] = [
+pub const BAD: [SignatureBlob<'static>; 15] = [
     // More variables than there are bytes.
     SignatureBlob {
         kind: SigKind::StandAlone,
@@ -172,6 +205,33 @@ pub const BAD: [SignatureBlob; 10] = [
     SignatureBlob {
         kind: SigKind::TypeSpec,
         bytes: &[0x0F],
+        first_without_row: None,
+    },
+    // An array with more sizes than its rank, and a field without a type.
+    SignatureBlob {
+        kind: SigKind::TypeSpec,
+        bytes: &[0x14, 0x08, 0x01, 0x02, 0x03, 0x04, 0x00],
+        first_without_row: None,
+    },
+    SignatureBlob {
+        kind: SigKind::Field,
+        bytes: &[0x06],
+        first_without_row: None,
+    },
+    // SENTINEL in a method that this module defines, and behind the last parameter.
+    SignatureBlob {
+        kind: SigKind::MethodDef,
+        bytes: &[0x05, 0x01, 0x01, 0x41, 0x08],
+        first_without_row: None,
+    },
+    SignatureBlob {
+        kind: SigKind::MethodDef,
+        bytes: &[0x05, 0x01, 0x01, 0x08, 0x41],
+        first_without_row: None,
+    },
+    SignatureBlob {
+        kind: SigKind::MemberRef,
+        bytes: &[0x05, 0x01, 0x01, 0x08, 0x41],
         first_without_row: None,
     },
     // A property that is VOID.

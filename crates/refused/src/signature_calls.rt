@@ -1,26 +1,25 @@
 use crate::signature_blobs::{BAD, LONGER, SHORTENED, SPELLED, SignatureBlob};
-use crate::stop::{Stop, again, kept};
-use signatures::{SigError, Signature, decode, encode, first_index_without_row, recognise};
-use std::alloc::Global;
+use crate::stop::{Run, Stop, kept};
+use signatures::{SigError, Signature, decode, encode, recognise, recognise_first_bad};
 
 /// The signature of a blob, decoded again where memory was refused.
-fn decoded(alloc: Global, blob: SignatureBlob, bytes: &[u8]) -> Result<Signature, Stop> {
-    match decode(alloc, bytes, blob.kind) {
+fn decoded(run: &Run, blob: SignatureBlob, bytes: &[u8]) -> Result<Signature, Stop> {
+    match decode(run.alloc, bytes, blob.kind) {
         Err(SigError::Memory) => {
             kept(bytes == blob.bytes, "a refused decoding leaves its bytes")?;
-            again(decode(alloc, bytes, blob.kind))
+            run.again(decode(run.alloc, bytes, blob.kind))
         }
         answer => Ok(answer?),
     }
 }
 
 /// A copy of a signature that is equal to its twin, copied again where memory was refused.
-fn copied(alloc: Global, signature: &Signature, twin: &Signature) -> Result<Signature, Stop> {
-    let copy = match signature.copy(alloc) {
+fn copied(run: &Run, signature: &Signature, twin: &Signature) -> Result<Signature, Stop> {
+    let copy = match signature.copy(run.alloc) {
         Ok(copy) => copy,
         Err(_) => {
             kept(signature == twin, "a refused copy leaves the signature")?;
-            again(signature.copy(alloc))?
+            run.again(signature.copy(run.alloc))?
         }
     };
     kept(copy == *twin, "a copy is equal")?;
@@ -28,12 +27,12 @@ fn copied(alloc: Global, signature: &Signature, twin: &Signature) -> Result<Sign
 }
 
 /// The spelling of a signature that is equal to its twin, encoded again where memory was refused.
-fn encoded(alloc: Global, signature: &Signature, twin: &Signature) -> Result<Vec<u8>, Stop> {
-    match encode(alloc, signature) {
+fn encoded(run: &Run, signature: &Signature, twin: &Signature) -> Result<Vec<u8>, Stop> {
+    match encode(run.alloc, signature) {
         Ok(bytes) => Ok(bytes),
         Err(_) => {
             kept(signature == twin, "a refused encoding leaves the signature")?;
-            again(encode(alloc, signature))
+            run.again(encode(run.alloc, signature))
         }
     }
 }
@@ -45,7 +44,7 @@ fn recognised(blob: SignatureBlob, bytes: &[u8]) -> Result<(), Stop> {
         "what is spelled, and no more, is recognised",
     )?;
     kept(
-        first_index_without_row(bytes, blob.kind, &[1; 45]) == blob.first_without_row,
+        recognise_first_bad(bytes, blob.kind, &[1; 45]) == blob.first_without_row,
         "the first index without a row is that",
     )
 }
@@ -53,48 +52,61 @@ fn recognised(blob: SignatureBlob, bytes: &[u8]) -> Result<(), Stop> {
 /// Appends the spelling of a copy of the signature of a blob, which has to be the shortest one.
 fn spelled(
     spellings: &mut Vec<u8>,
-    alloc: Global,
+    run: &Run,
     blob: SignatureBlob,
     short: &[u8],
 ) -> Result<(), Stop> {
-    let bytes = Vec::from_slice(alloc, blob.bytes)?;
-    let signature = decoded(alloc, blob, &bytes)?;
+    let bytes = Vec::from_slice(run.alloc, blob.bytes)?;
+    let signature = decoded(run, blob, &bytes)?;
     recognised(blob, &bytes)?;
-    let twin = decoded(alloc, blob, &bytes)?;
+    let twin = decoded(run, blob, &bytes)?;
     kept(signature == twin, "what is decoded twice is equal")?;
-    let copy = copied(alloc, &signature, &twin)?;
-    let spelling = encoded(alloc, &copy, &twin)?;
+    let copy = copied(run, &signature, &twin)?;
+    let spelling = encoded(run, &copy, &twin)?;
     kept(spelling.as_slice() == short, "the spelling is the shortest")?;
     spellings.extend_from_slice(&spelling)?;
     Ok(())
 }
 
 /// The spellings of signatures, each decoded, copied and encoded again where memory was refused.
-pub fn spellings(alloc: Global) -> Result<Vec<u8>, Stop> {
-    let mut spellings = Vec::new(alloc);
+pub fn spellings(run: &Run) -> Result<Vec<u8>, Stop> {
+    let mut spellings = Vec::new(run.alloc);
     for blob in SPELLED {
-        spelled(&mut spellings, alloc, blob, blob.bytes)?;
+        spelled(&mut spellings, run, blob, blob.bytes)?;
     }
-    spelled(&mut spellings, alloc, LONGER, &SHORTENED)?;
+    spelled(&mut spellings, run, LONGER, &SHORTENED)?;
     Ok(spellings)
 }
 
 /// That a blob which spells nothing is bad, whatever memory is refused.
-fn bad(alloc: Global, blob: SignatureBlob) -> Result<(), Stop> {
-    let bytes = Vec::from_slice(alloc, blob.bytes)?;
-    match decode(alloc, &bytes, blob.kind) {
+fn bad(run: &Run, blob: SignatureBlob) -> Result<(), Stop> {
+    match decode(run.alloc, blob.bytes, blob.kind) {
         Ok(_) => return Err(Stop::Broken("what spells nothing is not decoded")),
         Err(SigError::Memory) => return Err(Stop::Broken("what spells nothing wants no memory")),
         Err(SigError::Bad) => {}
     }
-    kept(bytes.as_slice() == blob.bytes, "bad bytes stay")?;
-    recognised(blob, &bytes)
+    recognised(blob, blob.bytes)
+}
+
+/// That types of 129 levels are bad: vectors of vectors, and pointers to methods that answer such pointers.
+fn deep_are_bad(run: &Run) -> Result<(), Stop> {
+    let mut vectors = [0x1D; 129];
+    vectors[128] = 0x08;
+    bad(run, SignatureBlob::of_type(&vectors))?;
+    let mut pointers = [0x00; 385];
+    for part in pointers.chunks_mut(3) {
+        if let [first, _, _] = part {
+            *first = 0x1B;
+        }
+    }
+    pointers[384] = 0x08;
+    bad(run, SignatureBlob::of_type(&pointers))
 }
 
 /// That each blob which spells nothing is bad.
-pub fn all_bad(alloc: Global) -> Result<(), Stop> {
+pub fn all_bad(run: &Run) -> Result<(), Stop> {
     for blob in BAD {
-        bad(alloc, blob)?;
+        bad(run, blob)?;
     }
-    Ok(())
+    deep_are_bad(run)
 }

@@ -1,6 +1,7 @@
 use heaps::PoolError;
 use signatures::SigError;
-use std::alloc::{AllocError, AllocFailed};
+use std::alloc::{AllocError, AllocFailed, Global};
+use std::cell::Cell;
 use std::fmt;
 
 /// Why the program ends early.
@@ -21,11 +22,35 @@ pub fn kept(holds: bool, promise: &'static str) -> Result<(), Stop> {
     }
 }
 
-/// What a call answers that is made again. A run has one refusal, so this call has its memory.
-pub fn again<T: Drop, E: Drop>(answer: Result<T, E>) -> Result<T, Stop> {
-    match answer {
-        Ok(value) => Ok(value),
-        Err(_) => Err(Stop::Broken("a refused call answers where it is made again")),
+/// The memory of a run, and how many calls it made again.
+#[derive(Drop)]
+pub struct Run {
+    /// What allocates.
+    pub alloc: Global,
+    retries: Cell<u32>,
+}
+
+impl Run {
+    /// A run that has made no call.
+    pub fn new(alloc: Global) -> Run {
+        Run {
+            alloc,
+            retries: Cell::new(0),
+        }
+    }
+
+    /// What a call answers that is made again. A run has one refusal, so this call has its memory.
+    pub fn again<T: Drop, E: Drop>(&self, answer: Result<T, E>) -> Result<T, Stop> {
+        self.retries.set(self.retries.get().saturating_add(1));
+        match answer {
+            Ok(value) => Ok(value),
+            Err(_) => Err(Stop::Broken("a refused call answers where it is made again")),
+        }
+    }
+
+    /// How many calls were made again.
+    pub fn retries(&self) -> u32 {
+        self.retries.get()
     }
 }
 

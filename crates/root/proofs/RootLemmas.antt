@@ -13,8 +13,8 @@ use Rattle.std.proofs.lemmas.List.{drop_all, drop_more, get_or_append_left, get_
 use Rattle.std.specs.List.{find}
 use Rattle.std.specs.Str.{bytes_eq}
 use Rattle.packed.specs.declared.fault.Fault.{Fault}
-use Rattle.packed.specs.Demand.{AllHold, Answers, demands_from}
-use Rattle.packed.proofs.DemandLemmas.{HoldBefore, all_front, all_back, all_append, before_none, before_more, before_all, before_of_all, before_fewer}
+use Rattle.packed.specs.Demand.{AllHold, Answers, demands_from, HoldBefore}
+use Rattle.packed.proofs.DemandLemmas.{all_front, all_back, all_append, before_none, before_more, before_all, before_of_all, before_fewer}
 use Rattle.root.specs.declared.kind.Kind.{Kind}
 use Rattle.std.specs.Prelude.{IsSome}
 use Rattle.root.specs.declared.kind.Kind.TheVariants.{Tables}

@@ -1,5 +1,6 @@
 -- What a root that was read is, by its fields.
-use Rattle.std.specs.Prelude.{◌≡◌, ℕ, ◌≤◌, ◌<◌, ◌^◌, length}
+use Rattle.std.specs.Prelude.{◌≡◌, ℕ, ◌≤◌, ◌<◌, length}
+use Rattle.packed.specs.Limit.{byte_limit}
 use Rattle.root.specs.declared.root.Root.TheInside.{Inside}
 use Rattle.root.specs.Directory.{header_place, header_number, headers_before}
 use Rattle.root.specs.Root.{EndsWithin}
@@ -11,7 +12,7 @@ root_of root = record { bytes = root.bytes.now; version = root.version.now; head
 
 -- its headers stand, and each stream of the standard ends within it
 pub record IsChecked (root : Inside) : Type 0 where
-  pub small : length root.bytes.now ≤ 2 ^ 30
+  pub small : length root.bytes.now ≤ byte_limit
   pub start : root.start ≡ header_place root.bytes.now 0
   pub shows : AllShow root.bytes.now root.count
   pub within : (i : ℕ) → i < root.count → EndsWithin (length root.bytes.now) (header_number root.bytes.now i)

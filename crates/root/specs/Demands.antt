@@ -1,7 +1,9 @@
 -- What is demanded of a root, in order (ECMA-335 II.24.2.1 and II.24.2.2). A demand is posed only where all before it
 -- hold. Each has a number, and a place at which it fails.
-use Rattle.std.specs.Prelude.{◌≡◌, ℕ, ◌+◌, ◌^◌, ◌%◌, ◌≤◌, List, [], ◌∷◌, ◌++◌, length, drop, IsSome}
+use Rattle.std.specs.Prelude.{◌≡◌, ℕ, ◌+◌, ◌%◌, ◌≤◌, List, [], ◌∷◌, ◌++◌, length, drop, IsSome}
 use Rattle.packed.specs.declared.code.FaultCode.TheVariants.{TooLong, RootSignature, Version, StreamCount, StreamHeader, StreamRange, DuplicateStream, Uncompressed, NoTables}
+use Rattle.packed.specs.declared.fault.Fault.{Fault}
+use Rattle.packed.specs.Limit.{byte_limit}
 use Rattle.packed.specs.Demand.{Demand, demand, demands_from}
 use Rattle.packed.specs.Places.{part}
 use Rattle.root.specs.declared.kind.Kind.TheVariants.{Tables}
@@ -31,16 +33,16 @@ pub record HasHeader (root : List ℕ) (place : ℕ) : Type 0 where
   pub is : IsHeader bytes header
 
 -- of the fields before the stream headers
-abbrev pub demands_of_front : List ℕ → List Demand
+abbrev pub demands_of_front : List ℕ → List (Demand Fault)
 demands_of_front root =
-    demand (length root ≤ 2 ^ 30) TooLong 0
+    demand (length root ≤ byte_limit) TooLong 0
     ∷ demand (HasSignature root) RootSignature 0
     ∷ demand (HasVersion root) Version 12
     ∷ demand (20 + version_length root ≤ length root) StreamCount (16 + version_length root)
     ∷ []
 
 -- of the stream header of a number, counted from 0
-abbrev pub demands_of_header : List ℕ → ℕ → List Demand
+abbrev pub demands_of_header : List ℕ → ℕ → List (Demand Fault)
 demands_of_header root i =
     demand (HasHeader root (header_place root i)) StreamHeader (header_place root i)
     ∷ demand (EndsWithin (length root) (header_number root i)) StreamRange (header_place root i)
@@ -49,10 +51,10 @@ demands_of_header root i =
     ∷ []
 
 -- of the tables, which one of the headers has to name
-abbrev pub demands_of_tables : List ℕ → List Demand
+abbrev pub demands_of_tables : List ℕ → List (Demand Fault)
 demands_of_tables root =
     demand (IsSome (named (stream_name Tables) (headers_before root (header_count root)))) NoTables (18 + version_length root) ∷ []
 
 -- of the whole root: its front, header by header, and the tables
-abbrev pub demands_of_root : List ℕ → List Demand
+abbrev pub demands_of_root : List ℕ → List (Demand Fault)
 demands_of_root root = demands_of_front root ++ (demands_from (demands_of_header root) 0 (header_count root) ++ demands_of_tables root)

@@ -1,5 +1,6 @@
 -- What is left of the stream headers, by the fields of the iterator.
-use Rattle.std.specs.Prelude.{◌≡◌, ◌≤◌, ◌^◌, List, length, drop}
+use Rattle.std.specs.Prelude.{◌≡◌, ◌≤◌, List, length, drop}
+use Rattle.packed.specs.Limit.{byte_limit}
 use Rattle.root.specs.declared.headers.Headers.TheInside.{Inside}
 use Rattle.root.specs.Directory.{header_place, headers_before}
 use Rattle.root.specs.Shown.{AllShow}
@@ -11,7 +12,7 @@ rest_of headers = drop headers.next (headers_before headers.bytes.now headers.co
 
 -- the next header begins at the place that the iterator has come to
 pub record IsOnTheWay (headers : Inside) : Type 0 where
-  pub small : length headers.bytes.now ≤ 2 ^ 30
+  pub small : length headers.bytes.now ≤ byte_limit
   pub place : headers.place ≡ header_place headers.bytes.now headers.next
   pub within : headers.next ≤ headers.count
   pub shows : AllShow headers.bytes.now headers.count

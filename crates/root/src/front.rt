@@ -1,14 +1,12 @@
-ghost use Rattle.std.specs.Prelude.{◌≡◌, ◌+◌, ◌≤◌, ◌^◌, length, IfSome, IfNone, IfOk, IfErr};
+ghost use Rattle.std.specs.Prelude.{◌≡◌, ◌+◌, ◌≤◌, length, IfSome, IfNone, IfOk, IfErr};
+ghost use Rattle.packed.specs.Limit.{byte_limit};
 ghost use Rattle.packed.specs.Demand.{Answers};
 ghost use Rattle.root.specs.Demands.{HasVersion, demands_of_front};
 ghost use Rattle.root.specs.Directory.{version_length, version_of, header_count, header_place};
 
 use crate::header::nul_in;
-use packed::{Fault, FaultCode, u16_at, u32_at};
+use packed::{BYTE_LIMIT, Fault, FaultCode, u16_at, u32_at};
 use simdutf8::basic;
-
-/// The most bytes of a root.
-const LIMIT: usize = 1 << 30;
 
 /// The most bytes of a version.
 const VERSION_LIMIT: usize = 254;
@@ -51,11 +49,11 @@ pub fn read_front(bytes: &[u8]) -> Result<Front<'_>, Fault>
     ensures version { IfOk result (λ front. front.version.now ≡ version_of bytes.now) }
     ensures start { IfOk result (λ front. front.start ≡ header_place bytes.now 0) }
     ensures count { IfOk result (λ front. front.count ≡ header_count bytes.now) }
-    ensures small { IfOk result (λ _. length bytes.now ≤ 2 ^ 30) }
+    ensures small { IfOk result (λ _. length bytes.now ≤ byte_limit) }
     ensures room { IfOk result (λ front. front.start ≤ length bytes.now) }
     ensures within { IfErr result (λ fault. fault.offset ≤ length bytes.now) }
 {
-    if bytes.len() > LIMIT {
+    if bytes.len() > BYTE_LIMIT {
         return Err(Fault::new(FaultCode::TooLong, 0));
     }
     if bytes.len() < 16 {

@@ -1,4 +1,5 @@
-ghost use Rattle.std.specs.Prelude.{position, ◌==◌, ◌≡◌, ◌+◌, ◌*◌, ◌^◌, ◌<◌, ◌≤◌, length, IfSome, IfNone};
+ghost use Rattle.std.specs.Prelude.{position, ◌==◌, ◌≡◌, ◌+◌, ◌*◌, ◌<◌, ◌≤◌, length, IfSome, IfNone};
+ghost use Rattle.packed.specs.Limit.{byte_limit};
 ghost use Rattle.root.specs.Demands.{HasHeader};
 ghost use Rattle.root.specs.Directory.{before_nul, header_at, header_length};
 ghost use Rattle.root.specs.Views.{view};
@@ -30,7 +31,7 @@ pub fn nul_in(bytes: &[u8]) -> Option<usize>
 
 /// The header at a place, where one stands there.
 pub fn read_header(bytes: &[u8], place: usize) -> Option<StreamHeader<'_>>
-    requires { length bytes.now ≤ 2 ^ 30 }
+    requires { length bytes.now ≤ byte_limit }
     ensures found { IfSome result (λ header. HasHeader bytes.now place × (view header ≡ header_at bytes.now place)) }
     ensures end { IfSome result (λ header. place + header_length (view header) ≤ length bytes.now) }
     ensures none { IfNone result (HasHeader bytes.now place → ⊥) }
@@ -61,7 +62,7 @@ impl StreamHeader<'_> {
 
     /// Where the header ends, with its fill.
     pub(crate) fn end(&self) -> usize
-        requires { self.now.place + header_length (view self.now) ≤ 2 ^ 30 }
+        requires { self.now.place + header_length (view self.now) ≤ byte_limit }
         ensures { result ≡ self.now.place + header_length (view self.now) }
     {
         self.place + 8 + (self.name.len() + 4) / 4 * 4

@@ -1,5 +1,6 @@
-ghost use Rattle.std.specs.Prelude.{◌≡◌, ◌≤◌, ◌^◌, length, List};
+ghost use Rattle.std.specs.Prelude.{◌≡◌, ◌≤◌, length, List};
 ghost use Rattle.std.specs.Iterator.{YieldsFirstBy, item_count};
+ghost use Rattle.packed.specs.Limit.{byte_limit};
 ghost use Rattle.root.specs.Directory.{header_place, headers_before};
 ghost use Rattle.root.specs.Shown.{AllShow};
 ghost use Rattle.root.specs.Streams.{Header};
@@ -33,7 +34,7 @@ impl<'a> Model for Headers<'a> {
 impl<'a> Headers<'a> {
     /// So many headers, the first of which begins at `start`.
     pub(crate) fn new(bytes: &'a [u8], start: usize, count: usize) -> Headers<'a>
-        requires small { length bytes.now ≤ 2 ^ 30 }
+        requires small { length bytes.now ≤ byte_limit }
         requires start { start ≡ header_place bytes.now 0 }
         requires shows { AllShow bytes.now count }
         ensures { result ≡ headers_before bytes.now count }

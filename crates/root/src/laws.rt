@@ -1,4 +1,5 @@
-ghost use Rattle.std.specs.Prelude.{◌≡◌, ◌≤◌, ◌^◌, ℕ, List, length, IfSome};
+ghost use Rattle.std.specs.Prelude.{◌≡◌, ◌≤◌, ℕ, List, length, IfSome};
+ghost use Rattle.packed.specs.Limit.{byte_limit};
 ghost use Rattle.packed.specs.Demand.{AllHold};
 ghost use Rattle.root.specs.declared.kind.Kind.{Kind};
 ghost use Rattle.root.specs.Demands.{demands_of_root};
@@ -9,12 +10,12 @@ ghost use Rattle.root.specs.Streams.{Header, place_of};
 /// A root meets all demands and is what its fields say; bytes that meet all demands are such a root,
 /// within which each stream of the standard ends.
 pub fn roots_are_read()
-    ensures demanded { (root version : List ℕ) (headers : List Header) → length root ≤ 2 ^ 30 → IsRoot root version headers
+    ensures demanded { (root version : List ℕ) (headers : List Header) → length root ≤ byte_limit → IsRoot root version headers
         → AllHold (demands_of_root root) }
-    ensures said { (root version : List ℕ) (headers : List Header) → length root ≤ 2 ^ 30 → IsRoot root version headers
+    ensures said { (root version : List ℕ) (headers : List Header) → length root ≤ byte_limit → IsRoot root version headers
         → directory_of root ≡ record { bytes = root; version = version; headers = headers } }
     ensures found { (root : List ℕ) → AllHold (demands_of_root root)
-        → (length root ≤ 2 ^ 30) × IsRoot root (directory_of root).version (directory_of root).headers }
+        → (length root ≤ byte_limit) × IsRoot root (directory_of root).version (directory_of root).headers }
     ensures within { (root : List ℕ) (kind : Kind) → AllHold (demands_of_root root)
         → IfSome (place_of (directory_of root) kind) (λ place. (place.0 ≤ place.1) × (place.1 ≤ length root)) }
 {}

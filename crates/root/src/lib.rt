@@ -27,6 +27,3 @@ pub use kind::Kind;
 pub use laws::roots_are_read;
 pub use packed::{Fault, FaultCode};
 pub use root::{Root, read_root};
-
-#[cfg(test)]
-mod tests;

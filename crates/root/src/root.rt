@@ -1,5 +1,6 @@
-ghost use Rattle.std.specs.Prelude.{◌≡◌, ◌+◌, ◌≤◌, ◌^◌, List, ℕ, length, IfSome, IfOk, IfErr, IsOkAnd, Option, Some, None};
+ghost use Rattle.std.specs.Prelude.{◌≡◌, ◌+◌, ◌≤◌, List, ℕ, length, IfSome, IfOk, IfErr, IsOkAnd, Option, Some, None};
 ghost use Rattle.std.specs.Option.{option_map};
+ghost use Rattle.packed.specs.Limit.{byte_limit};
 ghost use Rattle.packed.specs.Demand.{AllHold, Answers, FirstToFail};
 ghost use Rattle.root.specs.Demands.{demands_of_root};
 ghost use Rattle.root.specs.Directory.{directory_of};
@@ -94,10 +95,10 @@ fn check_root(bytes: &[u8]) -> Result<Root<'_>, Fault>
 /// stream headers. What the streams contain is not looked at.
 pub fn read_root(bytes: &[u8]) -> Result<Root<'_>, Fault>
     // What is read is a root of this version with these stream headers.
-    ensures found { IfOk result (λ root. (length bytes.now ≤ 2 ^ 30) × (root.bytes ≡ bytes.now)
+    ensures found { IfOk result (λ root. (length bytes.now ≤ byte_limit) × (root.bytes ≡ bytes.now)
         × IsRoot bytes.now root.version root.headers) }
     // A root is read, with its one version and its one list of stream headers.
-    ensures only { (version : List ℕ) (headers : List Header) → length bytes.now ≤ 2 ^ 30 → IsRoot bytes.now version headers
+    ensures only { (version : List ℕ) (headers : List Header) → length bytes.now ≤ byte_limit → IsRoot bytes.now version headers
         → IsOkAnd result (λ root. (root.version ≡ version) × (root.headers ≡ headers)) }
     // What is read meets all demands, and says what stands in the fields.
     ensures all { IfOk result (λ root. AllHold (demands_of_root bytes.now) × (root ≡ directory_of bytes.now)) }

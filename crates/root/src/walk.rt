@@ -1,5 +1,6 @@
-ghost use Rattle.std.specs.Prelude.{◌≡◌, ◌+◌, ◌≤◌, ◌^◌, length, IfOk, IfErr};
+ghost use Rattle.std.specs.Prelude.{◌≡◌, ◌+◌, ◌≤◌, length, IfOk, IfErr};
 ghost use Rattle.std.specs.Option.{option_map};
+ghost use Rattle.packed.specs.Limit.{byte_limit};
 ghost use Rattle.packed.specs.Demand.{Answers, demands_from};
 ghost use Rattle.root.specs.Demands.{demands_of_header, demands_of_tables};
 ghost use Rattle.root.specs.Directory.{header_count, header_length, header_number, header_place, headers_before};
@@ -18,7 +19,7 @@ pub fn find_header<'a>(
     count: usize,
     kind: Kind,
 ) -> Option<StreamHeader<'a>>
-    requires small { length bytes.now ≤ 2 ^ 30 }
+    requires small { length bytes.now ≤ byte_limit }
     requires start { start ≡ header_place bytes.now 0 }
     requires shows { AllShow bytes.now count }
     ensures { option_map view result ≡ named (stream_name kind) (headers_before bytes.now count) }
@@ -41,7 +42,7 @@ fn check_header<'a>(
     number: usize,
     place: usize,
 ) -> Result<StreamHeader<'a>, Fault>
-    requires small { length bytes.now ≤ 2 ^ 30 }
+    requires small { length bytes.now ≤ byte_limit }
     requires start { start ≡ header_place bytes.now 0 }
     requires shows { AllShow bytes.now number }
     requires place { place ≡ header_place bytes.now number }
@@ -71,7 +72,7 @@ fn check_header<'a>(
 /// Whether each of the root's headers meets what is demanded of it.
 #[tactic(auto, using(packed::proofs::DemandLemmas::before_none, packed::proofs::DemandLemmas::before_all))]
 pub fn check_headers(bytes: &[u8], start: usize, count: usize) -> Result<(), Fault>
-    requires small { length bytes.now ≤ 2 ^ 30 }
+    requires small { length bytes.now ≤ byte_limit }
     requires start { start ≡ header_place bytes.now 0 }
     requires count { count ≡ header_count bytes.now }
     requires room { start ≤ length bytes.now }
@@ -88,7 +89,7 @@ pub fn check_headers(bytes: &[u8], start: usize, count: usize) -> Result<(), Fau
 
 /// Whether one of the root's headers names the tables.
 pub fn check_tables(bytes: &[u8], start: usize, count: usize) -> Result<(), Fault>
-    requires small { length bytes.now ≤ 2 ^ 30 }
+    requires small { length bytes.now ≤ byte_limit }
     requires start { start ≡ header_place bytes.now 0 }
     requires count { count ≡ header_count bytes.now }
     requires shows { AllShow bytes.now (header_count bytes.now) }

@@ -1,6 +1,6 @@
 -- The bytes of a row, column by column.
 use Rattle.std.proofs.Common.{◌≡◌, ℕ, zero, suc, ◌+◌, ◌^◌, ◌<◌, ◌≤◌, List, [], ◌∷◌, ◌++◌, take, drop, length, get_or, refl, sym, ◌∙◌, ap, append_assoc, length-append, arith}
-use Rattle.std.proofs.lemmas.List.{drop_more, take_all}
+use Rattle.std.proofs.lemmas.List.{drop_all, drop_more, take_all}
 use Rattle.std.proofs.lemmas.List.Sums.{sum_by-cons, sum_by-drop_more}
 use Rattle.packed.specs.Number.{little_endian}
 use Rattle.packed.specs.Places.{part}
@@ -86,3 +86,8 @@ pub width_more : (sizes : Sizes) (columns : List Column) (i : ℕ) (none : Colum
     → columns_width sizes (drop i columns) ≡ width_of sizes (get_or columns i none) + columns_width sizes (drop (i + 1) columns)
 unfolding columns_width
 width_more sizes columns i none h = sum_by-drop_more (width_of sizes) columns i none h
+
+-- none are left behind the last column
+pub width_none : (sizes : Sizes) (columns : List Column) (i : ℕ) → length columns ≤ i → columns_width sizes (drop i columns) ≡ 0
+unfolding columns_width
+width_none sizes columns i h = ap (columns_width sizes) (drop_all i columns h)

@@ -75,13 +75,17 @@ fn first_at_least<K: Keys>(keys: &mut K, low: u32, limit: u64) -> u32
 
 /// Finds the rows with a key by halving, where the keys never fall.
 ///
-/// Rows count from 1. Where no row has the key, `first` is `past`.
+/// Rows count from 1. Where no row has the key, `first` is `past`: the row before which one with the
+/// key would stand.
 pub fn find_key<K: Keys>(keys: &mut K, key: u32) -> Found
     requires sorted { IsNonDecreasing (K.keys keys.old) }
     requires unread { K.asked keys.old ≡ 0 }
     // The rows from `first` to before `past` are those with the key.
     ensures rows { (row : ℕ) → 1 ≤ row → row ≤ length (K.keys keys.old)
         → (key_at (K.keys keys.old) row ≡ key) ↔ ((result.first ≤ row) × (row < result.past)) }
+    // The keys before them are lower, and those behind them greater, also where no row has the key.
+    ensures below { (row : ℕ) → 1 ≤ row → row < result.first → key_at (K.keys keys.old) row < key }
+    ensures above { (row : ℕ) → result.past ≤ row → row ≤ length (K.keys keys.old) → key < key_at (K.keys keys.old) row }
     ensures within { (1 ≤ result.first) × (result.first ≤ result.past) × (result.past ≤ length (K.keys keys.old) + 1) }
     ensures same { K.keys keys.new ≡ K.keys keys.old }
     ensures reads { result.reads ≡ K.asked keys.new }

@@ -20,6 +20,3 @@ mod rows;
 pub use keys::{Found, Keys, find_key};
 pub use put::{put_row, rows_are_read_again};
 pub use rows::Rows;
-
-#[cfg(test)]
-mod tests;

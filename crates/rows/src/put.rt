@@ -4,7 +4,7 @@ ghost use Rattle.packed.specs.Places.{part};
 ghost use Rattle.schema.specs.declared.table.TableId.{TableId as Table};
 ghost use Rattle.schema.specs.Columns.{columns_of};
 ghost use Rattle.schema.specs.Sizes.{Sizes, IsWidth};
-ghost use Rattle.schema.specs.Places.{offset_in_row};
+ghost use Rattle.schema.specs.Places.{row_width, offset_in_row};
 ghost use Rattle.schema.specs.Cells.{cell_width};
 ghost use Rattle.schema.specs.LaidOut.{FitRow, number_bytes, row_bytes};
 
@@ -40,6 +40,10 @@ pub fn put_row(
     requires { FitRow layout.now (columns_of table) numbers.now }
     ensures ok { OnOk result (bytes.new.items ≡ bytes.old.items ++ row_bytes layout.now (columns_of table) numbers.now) }
     ensures err { OnErr result (bytes.new.items ≡ bytes.old.items) }
+    // Where there is room for a row it is taken, and no memory is asked for.
+    ensures len { OnOk result (vec_len bytes.new ≡ vec_len bytes.old + row_width layout.now table) }
+    ensures capacity { vec_capacity bytes.old ≤ vec_capacity bytes.new }
+    ensures succeeds { vec_len bytes.old + row_width layout.now table ≤ vec_capacity bytes.old → IsOk result }
 {
     bytes.reserve(layout.row_width(table))?;
     for (column, number) in numbers.iter().enumerate() {

@@ -9,3 +9,5 @@ pub mod StreamLemmas
 pub mod OneLemmas
 pub mod ReadLemmas
 pub mod Samples
+pub mod CellColumnLemmas
+pub mod FieldLemmas

@@ -2,6 +2,7 @@
 -- Each has a number, and a place at which it fails.
 use Rattle.std.specs.Prelude.{◌≡◌, ℕ, ◌<◌, ◌≤◌, Bool, List, [], ◌∷◌, ◌++◌, length, slice_index_or}
 use Rattle.packed.specs.declared.code.FaultCode.TheVariants.{TablesHeader, TablesVersion, HeapSizes, UnknownTable, RowCounts, RowCount, TablesShort}
+use Rattle.packed.specs.declared.fault.Fault.{Fault}
 use Rattle.packed.specs.Demand.{Demand, demand, demands_from}
 use Rattle.packed.specs.Places.{part}
 use Rattle.schema.specs.declared.table.TableId.{TableId}
@@ -17,7 +18,7 @@ pub record NamesTables (valid : ℕ) : Type 0 where
   pub bits : valid ≡ bits_of counted tables
 
 -- of the fields before the counts, and of all counts together
-abbrev pub demands_of_header : List ℕ → List Demand
+abbrev pub demands_of_header : List ℕ → List (Demand Fault)
 demands_of_header stream =
     demand (24 ≤ length stream) TablesHeader 0
     ∷ demand (part stream 4 2 ≡ 2 ∷ 0 ∷ []) TablesVersion 4
@@ -27,17 +28,17 @@ demands_of_header stream =
     ∷ []
 
 -- of the count of a table
-abbrev pub demands_of_count : List ℕ → TableId → List Demand
+abbrev pub demands_of_count : List ℕ → TableId → List (Demand Fault)
 demands_of_count stream table = demand (count_in stream table ≤ 0xFFFFFF) RowCount (count_place (valid_of stream) table) ∷ []
 
 -- of the count of the table at a position
-abbrev pub demands_of_position : List ℕ → ℕ → List Demand
+abbrev pub demands_of_position : List ℕ → ℕ → List (Demand Fault)
 demands_of_position stream position = demands_of_count stream (slice_index_or tables position Module)
 
 -- of the tables, which end within the stream
-abbrev pub demands_of_tables : List ℕ → List Demand
+abbrev pub demands_of_tables : List ℕ → List (Demand Fault)
 demands_of_tables stream = demand (tables_end (sizes_of stream) ≤ length stream) TablesShort (sizes_of stream).body ∷ []
 
 -- of the whole stream: its header, count by count, and the tables
-abbrev pub demands_of_stream : List ℕ → List Demand
+abbrev pub demands_of_stream : List ℕ → List (Demand Fault)
 demands_of_stream stream = demands_of_header stream ++ (demands_from (demands_of_position stream) 0 38 ++ demands_of_tables stream)

@@ -24,6 +24,12 @@ FitRow sizes [] (number ∷ numbers) = ⊥
 FitRow sizes (column ∷ columns) [] = ⊥
 FitRow sizes (column ∷ columns) (number ∷ numbers) = (number < 256 ^ width_of sizes column) × FitRow sizes columns numbers
 
+-- what the fields of a row hold: of each number what fits its column's width, which its low bytes spell
+abbrev pub fields_of : Sizes → List Column → List ℕ → List ℕ
+fields_of sizes [] numbers = []
+fields_of sizes (column ∷ columns) [] = []
+fields_of sizes (column ∷ columns) (number ∷ numbers) = number % 256 ^ width_of sizes column ∷ fields_of sizes columns numbers
+
 -- the bytes of rows, one behind the other
 abbrev pub rows_bytes : Sizes → List Column → List (List ℕ) → List ℕ
 rows_bytes sizes columns [] = []

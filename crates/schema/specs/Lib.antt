@@ -9,3 +9,4 @@ pub mod Tables
 pub mod Tokens
 pub mod Kept
 pub mod Cells
+pub mod CellColumns

@@ -20,6 +20,11 @@ pub record Sizes : Type 0 where
 abbrev pub count_of : Sizes → TableId → ℕ
 count_of sizes table = slice_index sizes.counts (position_of table)
 
+-- by both each table has as many rows, and HeapSizes is the same; Sorted and where the first table begins may differ
+pub record SameCounts (sizes others : Sizes) : Type 0 where
+  pub counts : (table : TableId) → count_of sizes table ≡ count_of others table
+  pub heap_sizes : sizes.heap_sizes ≡ others.heap_sizes
+
 -- where the first table begins behind a header with the counts of so many tables
 abbrev pub header_size : ℕ → ℕ
 header_size counted = 24 + 4 * counted

@@ -89,7 +89,8 @@ impl Layout {
     pub fn of(counts: &[u32; 45], heap_sizes: u8) -> Layout
         requires counts { (table : Table) → slice_index counts.now (table_number table) ≤ 0xFFFFFF }
         requires heap_sizes { heap_sizes < 8 }
-        ensures { result ≡ sizes_by_number counts.now heap_sizes }
+        ensures value { result ≡ sizes_by_number counts.now heap_sizes }
+        ensures each { (table : Table) → count_of result table ≡ slice_index counts.now (table_number table) }
     {
         let mut listed = [0; 38];
         let mut body = 24;
@@ -160,7 +161,8 @@ impl Layout {
         ensures { result ≡ row_start self.now table row }
     {
         let place = &self.places[table.position()];
-        place.start + (row - 1) as usize * place.row_width as usize
+        let rows_before = (row - 1) as usize;
+        place.start + rows_before * place.row_width as usize
     }
 
     /// Where a cell begins in the stream.

@@ -15,10 +15,12 @@
 #![tactic(auto)]
 
 mod bit_laws;
+mod cell_columns;
 mod coded;
 mod coded_index;
 mod column;
 mod column_lists;
+mod field_laws;
 mod header;
 mod laws;
 mod layout;
@@ -29,10 +31,12 @@ mod table;
 mod token;
 
 pub use bit_laws::bits_are_known;
+pub use cell_columns::{cell_count, cells_have_columns, column_of_cell};
 pub use coded::Coded;
 pub use coded_index::{join, split};
 pub use column::{Column, ColumnKind, SigKind};
 pub use column_lists::{columns, key};
+pub use field_laws::{low_bytes_stand, widths_follow_from_counts};
 pub use laws::{
     cells_stand, columns_stand, numbers_are_spelled, stream_is_one, tables_end_within,
     tables_stand, tags_fit, widths_are_known,

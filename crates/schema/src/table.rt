@@ -1,8 +1,11 @@
-ghost use Rattle.std.specs.Prelude.{◌≡◌};
-ghost use Rattle.schema.specs.Tables.{tables};
+ghost use Rattle.std.specs.Prelude.{Some};
+ghost use Rattle.std.specs.Fmt.{padded};
+ghost use Rattle.schema.specs.Tables.{table_name};
 
-/// A table of metadata (II.22).
-#[derive(Clone, Copy, Debug, PartialEq, Eq)]
+use std::fmt;
+
+/// A table of metadata (II.22). Tables are in the order of their numbers.
+#[derive(Clone, Copy, Debug, PartialEq, Eq, PartialOrd, Ord, Hash)]
 pub enum TableId {
     /// This module, in one row (II.22.30).
     Module,
@@ -127,7 +130,7 @@ static TABLES: [TableId; 38] = [
 impl TableId {
     ghost use Rattle.std.specs.Prelude.{◌≡◌, ◌<◌, IfSome, Some, length};
     ghost use Rattle.schema.specs.declared.table.TableId.{TableId as Table};
-    ghost use Rattle.schema.specs.Tables.{table_number, table_name, position_of};
+    ghost use Rattle.schema.specs.Tables.{tables, table_number, table_name, position_of};
 
     /// All tables, in the order of their numbers.
     #[tactic(auto, unfolding(crate::specs::Tables::tables))]
@@ -285,5 +288,16 @@ impl TableId {
         ensures limit { result < 38 }
     {
         self as usize
+    }
+}
+
+/// A table shows as its name in the standard.
+impl fmt::Display for TableId {
+    ghost output = { λ table. Some (table_name table) };
+
+    ghost styled_output = { λ table spec. Some (padded spec (table_name table)) };
+
+    fn fmt<W: fmt::Write>(&self, f: &mut fmt::Formatter<W>) -> fmt::Result {
+        f.pad(self.name())
     }
 }

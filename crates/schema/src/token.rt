@@ -1,7 +1,12 @@
-use crate::table::TableId;
+ghost use Rattle.std.specs.Prelude.{Some};
+ghost use Rattle.schema.specs.Tokens.{token_text};
 
-/// A row of a table, as code and the CLI header name it (III.1.9).
-#[derive(Clone, Copy, Debug, PartialEq, Eq)]
+use crate::table::TableId;
+use std::fmt;
+
+/// A row of a table, as code and the CLI header name it (III.1.9). Tokens are in order of their tables,
+/// and those of one table in order of their rows.
+#[derive(Clone, Copy, Debug, PartialEq, Eq, PartialOrd, Ord, Hash)]
 pub struct Token {
     /// The table.
     pub table: TableId,
@@ -32,5 +37,17 @@ impl Token {
         ensures { IsToken result self }
     {
         (self.table.number() as u32) << 24 | self.row
+    }
+}
+
+/// A token shows in lower-case hexadecimal: two digits of its table's number and six of its row, and
+/// more of a row that has more.
+impl fmt::Display for Token {
+    ghost output = { λ token. Some (token_text token) };
+
+    fn fmt<W: fmt::Write>(&self, f: &mut fmt::Formatter<W>) -> fmt::Result {
+        let table = self.table.number();
+        let row = self.row;
+        write!(f, "{table:02x}{row:06x}")
     }
 }

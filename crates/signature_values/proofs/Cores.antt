@@ -11,13 +11,14 @@ use Rattle.signature_values.specs.Syntax.{Core, simple, void_pointer, pointer, v
 use Rattle.signature_values.specs.Views.{types_from}
 use Rattle.signature_values.specs.ElementTypes.{element_code}
 use Rattle.signature_values.specs.Parts.{Part, byte, number, index}
-use Rattle.signature_values.specs.Grammar.{named_code, core_parts, typed_parts, types_parts, list_parts, shape_parts, method_parts, count_types}
+use Rattle.signature_values.specs.Grammar.{named_code, core_parts, typed_parts, types_parts, shape_parts, method_parts, count_types}
 use Rattle.signature_values.specs.Limits.{core_depth, types_depth, content_depth, ret_depth, method_depth, IsCore, AreTypes, IsArrayShape, IsCoreWithin, IsTypedWithin}
 use Rattle.signature_values.specs.Reading.{Reader, change, both, deep, number_at, signed_at, index_at, typed_at, target_at, pointer_to, named_at, instance_at, instance_from, counted_at, counted_within, shape_at, shape_from, shape_with, array_at, array_from, method_at, core_by, core_or, core_at, element_of}
 use Rattle.signature_values.proofs.Readers.{IsBytes, Front, Front-append, Front-split, Takes, Reads, IfSome-bind, IfSome-map, IfSome-cond, front_byte, behind_byte}
 use Rattle.signature_values.proofs.Numbers.{NumbersAreRead, Any, number_parts, number_reads, index_parts, index_reads}
 use Rattle.signature_values.proofs.Lists.{both_reads, counted_reads, counted_parts, within_reads, AtMost}
 use Rattle.signature_values.proofs.Numbers.{signed_parts, signed_reads}
+use Rattle.signature_values.proofs.FromLists.{count-types_from, parts-types_from, types_good}
 use Rattle.signature_values.proofs.Codes.{element_found, element_again}
 use Rattle.signature_values.proofs.Contents.{typed_reads, target_reads, target_parts, TargetGood}
 use Rattle.signature_values.proofs.Methods.{method_reads, IsMethodOf}
@@ -32,21 +33,6 @@ types_from_to : (ts : Types) → types_from (types_to ts) ≡ ts
 unfolding types_to
 types_from_to no_types = refl
 types_from_to (type_then t ts) = ap (type_then t) (types_from_to ts)
-
-count-types_from : (xs : List Typed) → count_types (types_from xs) ≡ length xs
-count-types_from [] = refl
-count-types_from (x ∷ xs) = ap suc (count-types_from xs)
-
-parts-types_from : (xs : List Typed) → types_parts (types_from xs) ≡ list_parts typed_parts xs
-parts-types_from [] = refl
-parts-types_from (x ∷ xs) = ap (λ (ps : List Part). typed_parts x ++ ps) (parts-types_from xs)
-
-types_good : (d : ℕ) (xs : List Typed) → AllByRecursion (IsTypedWithin d) xs → (types_depth (types_from xs) ≤ d) × AreTypes (types_from xs)
-types_good d [] h = (omega arith, tt)
-types_good d (x ∷ xs) h =
-    let more = types_good d xs h.1 in
-    let one = h.0.0 in
-    (omega (arith, more.0), (h.0.1, more.1))
 
 types_good_to : (d : ℕ) (ts : Types) → types_depth ts ≤ d → AreTypes ts → AllByRecursion (IsTypedWithin d) (types_to ts)
 unfolding types_to

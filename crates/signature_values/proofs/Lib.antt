@@ -4,8 +4,15 @@ pub mod Lists
 pub mod Leading
 pub mod Codes
 pub mod Contents
+pub mod FromLists
 pub mod Methods
 pub mod Cores
 pub mod Bodies
 pub mod Whole
 pub mod Spelled
+pub mod ViewLemmas
+pub mod Masks
+pub mod FirstBad
+pub mod Samples
+pub mod Tokens
+pub mod Items

@@ -12,6 +12,7 @@ use Rattle.signature_values.specs.Reading.{Reader, number_at, head_is, slot_at, 
 use Rattle.signature_values.proofs.Readers.{IsBytes, Front, Front-append, Front-split, Takes, Reads, IfSome-bind, IfSome-map, IfSome-cond, front_byte, behind_byte}
 use Rattle.signature_values.proofs.Numbers.{NumbersAreRead, Any, number_parts, number_reads}
 use Rattle.signature_values.proofs.Leading.{begins-heads}
+use Rattle.signature_values.proofs.FromLists.{count-slots_from, slots_good}
 use Rattle.signature_values.proofs.Codes.{no, slot_no_sentinel, no_head}
 use Rattle.signature_values.proofs.Contents.{slot_reads, ret_reads}
 
@@ -30,17 +31,6 @@ pub length-slots_to : (ss : Slots) → length (slots_to ss) ≡ count_slots ss
 unfolding slots_to
 length-slots_to no_slots = refl
 length-slots_to (slot_then s ss) = ap suc (length-slots_to ss)
-
-pub count-slots_from : (xs : List Slot) → count_slots (slots_from xs) ≡ length xs
-count-slots_from [] = refl
-count-slots_from (x ∷ xs) = ap suc (count-slots_from xs)
-
-pub slots_good : (d : ℕ) (xs : List Slot) → AllByRecursion (IsSlotWithin d) xs → (slots_depth (slots_from xs) ≤ d) × AreSlots (slots_from xs)
-slots_good d [] h = (omega arith, tt)
-slots_good d (x ∷ xs) h =
-    let more = slots_good d xs h.1 in
-    let one = h.0.0 in
-    (omega (arith, more.0), (h.0.1, more.1))
 
 pub slots_good_to : (d : ℕ) (ss : Slots) → slots_depth ss ≤ d → AreSlots ss → AllByRecursion (IsSlotWithin d) (slots_to ss)
 unfolding slots_to

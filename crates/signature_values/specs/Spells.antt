@@ -1,5 +1,5 @@
 -- Which bytes spell which signature, in which kind of column (ECMA-335 II.23.2 and II.22).
-use Rattle.std.specs.Prelude.{ℕ, ◌^◌, ◌<◌, ◌&&◌, Bool, false, not, nat_lt, nat_le, Option, List, length, flat_map, slice_index, ⊤}
+use Rattle.std.specs.Prelude.{ℕ, ◌^◌, ◌<◌, ◌≤◌, ◌&&◌, Bool, false, not, nat_lt, nat_le, Option, List, length, flat_map, slice_index, ⊤}
 use Rattle.std.specs.List.{AllByRecursion, find}
 use Rattle.schema.specs.declared.token.Token.{Token}
 use Rattle.schema.specs.declared.column.SigKind.{SigKind}
@@ -46,6 +46,10 @@ abbrev pub tokens : Body → List Token
 tokens signature = flat_map part_tokens (body_parts signature)
 
 -- the token names one of the rows of its table, where each table has as many as stand under its number
+abbrev pub HasRow : List ℕ → Token → Type 0
+HasRow counts token = (0 < token.row) × (token.row ≤ slice_index counts (table_number token.table))
+
+-- the same as a test
 abbrev pub has_row : List ℕ → Token → Bool
 has_row counts token = nat_lt 0 token.row && nat_le token.row (slice_index counts (table_number token.table))
 

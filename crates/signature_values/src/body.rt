@@ -10,7 +10,7 @@ pub enum Prefix {
 }
 
 /// A local variable (II.23.2.6).
-#[derive(Debug, PartialEq, Eq, Drop)]
+#[derive(Debug, Drop)]
 pub struct Local {
     /// What stands before its type, in order.
     pub prefix: Vec<Prefix>,
@@ -19,11 +19,11 @@ pub struct Local {
 }
 
 /// The signature of a field (II.23.2.4).
-#[derive(Debug, PartialEq, Eq, Drop)]
+#[derive(Debug, Drop)]
 pub struct FieldSig(pub Slot);
 
 /// The signature of a property (II.23.2.5).
-#[derive(Debug, PartialEq, Eq, Drop)]
+#[derive(Debug, Drop)]
 pub struct PropertySig {
     /// HASTHIS: it belongs to an instance.
     pub this: bool,
@@ -34,15 +34,15 @@ pub struct PropertySig {
 }
 
 /// The type arguments of a generic method (II.23.2.15), in their order.
-#[derive(Debug, PartialEq, Eq, Drop)]
+#[derive(Debug, Drop)]
 pub struct InstanceSig(pub Vec<TypeSig>);
 
 /// The local variables of a method (II.23.2.6), in their order.
-#[derive(Debug, PartialEq, Eq, Drop)]
+#[derive(Debug, Drop)]
 pub struct LocalsSig(pub Vec<Local>);
 
 /// A whole signature (II.23.2).
-#[derive(Debug, PartialEq, Eq, Drop)]
+#[derive(Debug, Drop)]
 pub enum SigBody {
     /// Of a field.
     Field(FieldSig),

@@ -34,3 +34,59 @@ pub enum Element {
     /// OBJECT, `System.Object`.
     Object,
 }
+
+impl Element {
+    ghost use Rattle.std.specs.Prelude.{◌≡◌};
+    ghost use Rattle.signature_values.specs.ElementTypes.{element_code};
+    ghost use Rattle.signature_values.specs.Reading.{element_of};
+
+    /// The byte that spells the type (II.23.1.16).
+    pub fn byte(self) -> u8
+        ensures { result ≡ element_code self }
+    {
+        match self {
+            Element::Boolean => 0x02,
+            Element::Char => 0x03,
+            Element::I1 => 0x04,
+            Element::U1 => 0x05,
+            Element::I2 => 0x06,
+            Element::U2 => 0x07,
+            Element::I4 => 0x08,
+            Element::U4 => 0x09,
+            Element::I8 => 0x0A,
+            Element::U8 => 0x0B,
+            Element::R4 => 0x0C,
+            Element::R8 => 0x0D,
+            Element::String => 0x0E,
+            Element::I => 0x18,
+            Element::U => 0x19,
+            Element::Object => 0x1C,
+        }
+    }
+
+    /// The type that a byte spells alone (II.23.1.16).
+    #[tactic(auto, unfolding(crate::specs::Reading::element_of))]
+    pub fn from_byte(code: u8) -> Option<Element>
+        ensures { result ≡ element_of code }
+    {
+        match code {
+            0x02 => Some(Element::Boolean),
+            0x03 => Some(Element::Char),
+            0x04 => Some(Element::I1),
+            0x05 => Some(Element::U1),
+            0x06 => Some(Element::I2),
+            0x07 => Some(Element::U2),
+            0x08 => Some(Element::I4),
+            0x09 => Some(Element::U4),
+            0x0A => Some(Element::I8),
+            0x0B => Some(Element::U8),
+            0x0C => Some(Element::R4),
+            0x0D => Some(Element::R8),
+            0x0E => Some(Element::String),
+            0x18 => Some(Element::I),
+            0x19 => Some(Element::U),
+            0x1C => Some(Element::Object),
+            _ => None,
+        }
+    }
+}

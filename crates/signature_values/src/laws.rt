@@ -1,4 +1,4 @@
-ghost use Rattle.std.specs.Prelude.{◌≡◌, ◌^◌, ◌<◌, ◌⊎◌, ℕ, List, [], length, get_or, Some, IfSome};
+ghost use Rattle.std.specs.Prelude.{◌≡◌, ◌^◌, ◌<◌, ◌⊎◌, ◌↔◌, ◌∷◌, ◌++◌, ℕ, List, [], length, get_or, Some, None, IfSome};
 ghost use Rattle.std.specs.List.{AllByRecursion};
 ghost use Rattle.schema.specs.declared.column.SigKind.{SigKind};
 ghost use Rattle.schema.specs.declared.coded.Coded.TheVariants.{TypeDefOrRef};
@@ -6,7 +6,7 @@ ghost use Rattle.schema.specs.declared.table.TableId.TheVariants.{TypeDef, TypeR
 ghost use Rattle.schema.specs.declared.token.Token.{Token};
 ghost use Rattle.schema.specs.CodedIndexes.{IsCoded};
 ghost use Rattle.signature_values.specs.Syntax.{Body};
-ghost use Rattle.signature_values.specs.Spells.{Holds, Spells, IsSpellable, short, tokens};
+ghost use Rattle.signature_values.specs.Spells.{Holds, Spells, IsSpellable, HasRow, short, tokens, first_bad};
 ghost use Rattle.signature_values.specs.Reading.{core_at, token_of};
 ghost use Rattle.signature_values.specs.Columns.{body_at};
 
@@ -43,6 +43,14 @@ pub fn indexes_name_types()
     ensures rows { (signature : Body) → IsSpellable signature → AllByRecursion (λ token. token.row < 2 ^ 27) (tokens signature) }
     ensures tables { (signature : Body) → IsSpellable signature
         → AllByRecursion (λ token. (token.table ≡ TypeDef) ⊎ ((token.table ≡ TypeRef) ⊎ (token.table ≡ TypeSpec))) (tokens signature) }
+{}
+
+/// The first type index without a row is the first: there is none exactly where each index has its row,
+/// and else those before it have theirs and it has not.
+pub fn first_bad_is_first()
+    ensures none { (counts : List ℕ) (tokens : List Token) → (first_bad counts tokens ≡ None) ↔ AllByRecursion (HasRow counts) tokens }
+    ensures some { (counts : List ℕ) (tokens : List Token) (bad : Token) → first_bad counts tokens ≡ Some bad
+        → (before behind : List Token) × (tokens ≡ before ++ bad ∷ behind) × AllByRecursion (HasRow counts) before × ¬ HasRow counts bad }
 {}
 
 /// The token that is read from the number of a type index is the one that the number names.

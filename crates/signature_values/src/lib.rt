@@ -4,7 +4,9 @@
 //! arguments of a generic method, or a type. The definitions in `specs/` say which bytes spell
 //! which value in which kind of column, what its shortest spelling is, and which rows of type
 //! tables it names, in the order of the spelling. Reading, checking and writing stand above this
-//! crate, over that one grammar.
+//! crate, over that one grammar. What they share stands here: [`element_type`] and [`Element`] have the
+//! bytes of element types, [`method_byte`] the first byte of a method, [`token_of_index`] the row that an
+//! index names, and [`names_row`] says whether there is one.
 //!
 //! ```text
 //! // 06 08: a field of a 4-byte integer
@@ -14,13 +16,17 @@
 
 mod body;
 mod element;
+pub mod element_type;
+mod index;
 mod laws;
+pub mod method_byte;
 mod types;
 
 pub use body::{FieldSig, InstanceSig, Local, LocalsSig, Prefix, PropertySig, SigBody};
 pub use element::Element;
+pub use index::{names_row, token_of_index};
 pub use laws::{
-    indexes_are_read, indexes_name_types, shortest_spells, signatures_are_read,
+    first_bad_is_first, indexes_are_read, indexes_name_types, shortest_spells, signatures_are_read,
     spelled_is_spellable,
 };
 pub use types::{Core, MethodSig, Modifier, Ret, Shape, Slot, SlotKind, TypeSig};

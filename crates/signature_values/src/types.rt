@@ -11,7 +11,7 @@ pub struct Modifier {
 }
 
 /// A type (II.23.2.12), with the modifiers before it.
-#[derive(Debug, PartialEq, Eq, Drop)]
+#[derive(Debug, Drop)]
 #[cycle(types)]
 pub struct TypeSig {
     /// The modifiers, in their order.
@@ -21,7 +21,7 @@ pub struct TypeSig {
 }
 
 /// A type without modifiers before it (II.23.2.12).
-#[derive(Debug, PartialEq, Eq, Drop)]
+#[derive(Debug, Drop)]
 #[cycle(types)]
 pub enum Core {
     /// A type that one byte spells.
@@ -65,7 +65,7 @@ pub struct Shape {
 }
 
 /// A parameter, a field or a result (II.23.2.10, II.23.2.11), with the modifiers before it.
-#[derive(Debug, PartialEq, Eq, Drop)]
+#[derive(Debug, Drop)]
 #[cycle(types)]
 pub struct Slot {
     /// The modifiers, in their order.
@@ -75,7 +75,7 @@ pub struct Slot {
 }
 
 /// What a parameter, a field, a local variable or a result holds (II.23.2.10).
-#[derive(Debug, PartialEq, Eq, Drop)]
+#[derive(Debug, Drop)]
 #[cycle(types)]
 pub enum SlotKind {
     /// TYPEDBYREF: a reference together with its type.
@@ -87,7 +87,7 @@ pub enum SlotKind {
 }
 
 /// The result of a method (II.23.2.11).
-#[derive(Debug, PartialEq, Eq, Drop)]
+#[derive(Debug, Drop)]
 #[cycle(types)]
 pub enum Ret {
     /// A value.
@@ -97,7 +97,7 @@ pub enum Ret {
 }
 
 /// A method (II.23.2.1 to II.23.2.3).
-#[derive(Debug, PartialEq, Eq, Drop)]
+#[derive(Debug, Drop)]
 #[cycle(types)]
 pub struct MethodSig {
     /// The calling convention: 0 default, 1 C, 2 stdcall, 3 thiscall, 4 fastcall, 5 vararg,

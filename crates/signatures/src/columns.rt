@@ -7,7 +7,7 @@ use schema::SigKind;
 use signature_values::{MethodSig, SigBody};
 
 /// Whether a method has no SENTINEL of its own (II.23.2.1).
-#[tactic(auto, using(copier::proofs::ViewLemmas::view_method))]
+#[tactic(auto, using(signature_values::proofs::ViewLemmas::view_method))]
 fn has_no_sentinel(method: &MethodSig) -> bool
     ensures { IsTrue result ↔ HasOwnSentinel false (method_of method.now) }
 {

@@ -18,13 +18,10 @@ mod signature;
 
 pub use decoder::SigError;
 pub use laws::{encoded_is_decoded, equality_is_tested};
-pub use recogniser::{first_index_without_row, index_of_first_bad, recognise};
+pub use recogniser::{index_of_first_bad, recognise, recognise_first_bad};
 pub use schema::{SigKind, Token};
 pub use signature::{Signature, decode, encode};
 pub use signature_values::{
     Core, Element, FieldSig, InstanceSig, Local, LocalsSig, MethodSig, Modifier, Prefix,
     PropertySig, Ret, Shape, SigBody, Slot, SlotKind, TypeSig,
 };
-
-#[cfg(test)]
-mod tests;

@@ -2,13 +2,13 @@ ghost use Rattle.std.specs.Prelude.{◌≡◌, ◌↔◌, IsTrue, IfOk, IsOk, Is
 ghost use Rattle.std.specs.Cmp.{partial_equiv_from_equiv};
 ghost use Rattle.signature_values.specs.Syntax.{Body};
 ghost use Rattle.signature_values.specs.Views.{body_of};
-ghost use Rattle.signature_values.specs.Spells.{Holds, Spells, IsSpellable, short, tokens, first_bad};
+ghost use Rattle.signature_values.specs.Spells.{Holds, Spells, IsSpellable, short, tokens, first_bad as first_bad_of};
 ghost use Rattle.decoder.specs.declared.error.SigError.TheVariants.{Bad};
 ghost use Rattle.copier.specs.Same.{is_same_body};
 ghost use Rattle.copier.proofs.TestLaws.{same_bodies_equiv};
 
 use crate::columns::holds;
-use copier::{copy_body, first_index_without_row, is_same};
+use copier::{copy_body, first_bad, is_same};
 use decoder::{SigError, decode_body};
 use encoder::{encode_body, spelled_len};
 use schema::{SigKind, Token};
@@ -92,14 +92,15 @@ impl Signature {
     /// `counts` has the number of rows of each table under the table's number; row 0 is never there.
     /// It takes no memory.
     pub fn first_bad(&self, counts: &[u32; 45]) -> Option<Token>
-        ensures { result ≡ first_bad counts.now (tokens self.now) }
+        ensures { result ≡ first_bad_of counts.now (tokens self.now) }
     {
-        first_index_without_row(&self.body, counts)
+        first_bad(&self.body, counts)
     }
 
     /// Whether a column of a kind holds the signature: then its spelling is decoded there (II.22).
     pub fn is_held_by(&self, kind: SigKind) -> bool
-        ensures { IsTrue result ↔ Holds kind self.now }
+        ensures held { IsTrue result ↔ Holds kind self.now }
+        ensures spellable { IsSpellable self.now }
     {
         holds(kind, &self.body)
     }

@@ -1,10 +1,9 @@
-use Rattle.std.proofs.Common.{◌≡◌, ◌<◌, ◌≤◌, true, [], sym, subst, ⊎_elim, arith, rules}
+use Rattle.std.proofs.Common.{◌≡◌, ◌<◌, ◌≤◌, true, [], get_or, sym, subst, ⊎_elim, arith, rules}
 use Rattle.std.proofs.lemmas.Bool.{cases_lt}
 use Rattle.std.proofs.lemmas.List.Elements.{All-from_get_or}
 use Rattle.heaps.specs.Entries.{HasNoNul}
 use Rattle.heaps.specs.Uses.{bytes_of}
-use Rattle.heaps.specs.Ranking.{used_at}
-use Rattle.heaps.proofs.UseLemmas.{used_read, length-bytes}
+use Rattle.bench.proofs.TextLemmas.{text_at, length-bytes}
 use Rattle.bench.proofs.are_plain.Goals as goal
 
 pub loop-text-preserved : goal.loop-text-preserved
@@ -15,7 +14,7 @@ loop-text-preserved c =
     λ k h. ⊎_elim
     (λ (lt : k < i). c.loop-text.invariant k lt)
     (λ (ge : i ≤ k). let e : i ≡ k = omega arith in
-    subst (λ j. HasNoNul (used_at (bytes_of texts) j)) e (subst HasNoNul (sym (used_read texts i (omega arith))) (c.is_plain.ensures yes)))
+    subst (λ j. HasNoNul (get_or (bytes_of texts) j [])) e (subst HasNoNul (sym (text_at texts i (omega arith))) (c.is_plain.ensures yes)))
     (cases_lt k i)
 
 pub returns : goal.returns

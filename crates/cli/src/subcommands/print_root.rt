@@ -1,13 +1,16 @@
 //! `clim root`: the CLI header of a PE file, and the version and the directory of streams of its metadata root.
-ghost use Rattle.std.specs.Prelude.{◌≡◌, ◌≤◌, IfOk, IfErr, false, length, slice_range};
+ghost use Rattle.std.specs.Prelude.{◌≡◌, ◌≤◌, IfOk, IfErr, OnOk, false, length};
 ghost use Rattle.clap.specs.Words.{app_of};
 ghost use Rattle.clap.specs.declared.Command.TheViews.{out-Command as fields_of};
 ghost use Rattle.cli.specs.CommandLine as line;
+ghost use Rattle.cli.specs.Heads.{AreHeads, HasHeads, demands_of_heads};
+ghost use Rattle.cli.specs.Tasks.{TellsFault};
 ghost use Rattle.packed.specs.Demand.{FirstToFail, raised};
+ghost use Rattle.metadata.specs.Streams.{root_in};
 ghost use Rattle.root.specs.Demands.{demands_of_root};
 ghost use Rattle.root.specs.Root.{IsRoot};
 
-use crate::failure::Failure;
+use crate::failure::{Failure, printed};
 use crate::shown::Shown;
 use crate::subcommands::reader;
 use clap::Command;
@@ -16,9 +19,8 @@ use packed::Fault;
 use pe::read_pe;
 use root::{Root, read_root};
 use std::alloc::{AllocError, Global};
+use std::io;
 use std::io::{BufWriter, Write};
-use std::rt::Files;
-use std::{fs, io};
 
 /// The words of the subcommand and its help.
 pub(crate) fn command<'a>(alloc: Global) -> Result<Command<'a>, AllocError>
@@ -55,38 +57,54 @@ Examples:
 
 /// Prints what stands at the head of a file: its CLI header unless it is a bare root, and the
 /// version and the stream headers of its metadata root.
-pub(crate) fn run<'a, R: Files + AllocGlobal, W: Write>(
-    rt: &R,
-    file: &'a str,
+pub(crate) fn run<W: Write>(
+    alloc: Global,
+    bytes: &[u8],
     bare: bool,
     out: &mut W,
-) -> Result<(), Failure<'a>> {
-    let bytes = fs::read(rt, file).map_err(|error| Failure::of_reading(&error, file))?;
-    let (header, root) = read_heads(&bytes, bare)?;
-    print(rt.alloc(), header.as_ref(), &root, out).map_err(|error| Failure::of_printing(&error))
+) -> Result<(), Failure<'static>>
+    ensures found { OnOk result (HasHeads bare bytes.now) }
+    ensures first { IfErr result (TellsFault (demands_of_heads bare bytes.now)) }
+{
+    let (header, root) = read_heads(bytes, bare)?;
+    printed(print(alloc, header.as_ref(), &root, out))
 }
 
 /// The CLI header, which a bare root has not, and the metadata root.
-fn read_heads(bytes: &[u8], bare: bool) -> Result<(Option<CliHeader>, Root<'_>), Fault> {
+fn read_heads(bytes: &[u8], bare: bool) -> Result<(Option<CliHeader>, Root<'_>), Fault>
+    ensures found { IfOk result (λ heads. AreHeads bare bytes.now heads.0 heads.1) }
+    ensures first { IfErr result (FirstToFail (demands_of_heads bare bytes.now)) }
+{
     if bare {
         return Ok((None, read_root(bytes)?));
     }
     let header = read_cli(&read_pe(bytes)?)?;
-    let root = read_root_at(bytes, header.root.start, header.root.end)?;
+    let root = read_root_of(bytes, &header)?;
     Ok((Some(header), root))
 }
 
-/// The metadata root in a part of a file. The place of a fault counts in the file.
-fn read_root_at(file: &[u8], start: usize, end: usize) -> Result<Root<'_>, Fault>
-    requires order { start ≤ end }
-    requires within { end ≤ length file.now }
-    ensures found { IfOk result (λ root. IsRoot (slice_range file.now start end) root.version root.headers) }
-    ensures first { IfErr result (FirstToFail (raised start (demands_of_root (slice_range file.now start end)))) }
+/// The metadata root that the CLI header of a file names. The place of a fault counts in the file.
+fn read_root_of<'a>(file: &'a [u8], header: &CliHeader) -> Result<Root<'a>, Fault>
+    requires order { header.now.root.start ≤ header.now.root.«end» }
+    requires within { header.now.root.«end» ≤ length file.now }
+    ensures found { IfOk result (λ root. IsRoot (root_in file.now header.now) root.version root.headers) }
+    ensures first { IfErr result (FirstToFail (raised header.now.root.start (demands_of_root (root_in file.now header.now)))) }
 {
-    match read_root(&file[start..end]) {
+    match read_root(root_of(file, header)) {
         Ok(root) => Ok(root),
-        Err(fault) => Err(fault.raised(start as u64)),
+        Err(fault) => Err(fault.raised(header.root.start as u64)),
     }
+}
+
+/// The bytes of the metadata root that the CLI header of a file names.
+fn root_of<'a>(file: &'a [u8], header: &CliHeader) -> &'a [u8]
+    requires order { header.now.root.start ≤ header.now.root.«end» }
+    requires within { header.now.root.«end» ≤ length file.now }
+    ensures { result.now ≡ root_in file.now header.now }
+{
+    let (_, rest) = file.split_at(header.root.start);
+    let (root, _) = rest.split_at(header.root.end - header.root.start);
+    root
 }
 
 fn print<W: Write>(

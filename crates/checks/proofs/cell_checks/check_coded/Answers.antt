@@ -1,25 +1,24 @@
 use Rattle.std.proofs.Common.{inl, inr, refl}
-use Rattle.schema.specs.declared.token.Token.{Token}
-use Rattle.checks.proofs.Numbers.{no_tag, one_row}
+use Rattle.std.proofs.lemmas.Option.{same_Some}
 use Rattle.checks.proofs.cell_checks.check_coded.Goals as goal
 
 pub returns-in_default : goal.returns-in_default
-returns-in_default c = λ place. inl (no_tag c.args.coded c.args.number c.split.result c.split.ensures.only c.in_default.is, refl)
+returns-in_default c = λ place. inl (λ has. let some = c.named_by.ensures.only has.0 has.1 in let none = c.in_default.is in absurd cc, refl)
 
 pub returns-then-may_refer : goal.returns-then-may_refer
 returns-then-may_refer c = λ place.
-    let token : Token = record { table = c.in-Some.table; row = c.in-Some.row } in
+    let token = c.in-Some.token in
     ((token, c.in-Some.ensures.found), ((token, c.in-Some.ensures.found, c.may_refer.ensures.0 c.if-may_refer.true), tt))
 
 pub returns-else-may_refer : goal.returns-else-may_refer
 returns-else-may_refer c = λ place.
-    let token : Token = record { table = c.in-Some.table; row = c.in-Some.row } in
+    let token = c.in-Some.token in
     inr (
       (token, c.in-Some.ensures.found),
       inl (
         λ some.
-            let same = one_row c.args.coded c.args.number c.split.result c.in-Some.table c.in-Some.row some.0 c.split.ensures.only c.in-Some.is some.1 in
-            let may = c.may_refer.ensures.1 (rw same at some.2) in
+            let same = same_Some token some.0 (c.in-Some.ensures.only some.0 some.1) in
+            let may = c.may_refer.ensures.1 (rw (← same) at some.2) in
             absurd cc,
         refl,
       ),

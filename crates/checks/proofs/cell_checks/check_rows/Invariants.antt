@@ -1,4 +1,4 @@
-use Rattle.packed.proofs.DemandLemmas.{HoldBefore}
+use Rattle.packed.specs.Demand.{HoldBefore}
 use Rattle.metadata.specs.Demands.{demands_of_row}
 use Rattle.checks.proofs.cell_checks.check_rows.Given as goal
 

@@ -1,4 +1,4 @@
-use Rattle.packed.proofs.DemandLemmas.{HoldBefore}
+use Rattle.packed.specs.Demand.{HoldBefore}
 use Rattle.metadata.specs.Demands.{demands_of_nesting_in}
 use Rattle.checks.proofs.nesting.check_nesting.Given as goal
 

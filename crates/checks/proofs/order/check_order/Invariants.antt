@@ -1,4 +1,4 @@
-use Rattle.packed.proofs.DemandLemmas.{HoldBefore}
+use Rattle.packed.specs.Demand.{HoldBefore}
 use Rattle.metadata.specs.Demands.{demands_of_order_at}
 use Rattle.checks.proofs.order.check_order.Given as goal
 

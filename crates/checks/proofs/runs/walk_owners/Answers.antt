@@ -1,8 +1,9 @@
-use Rattle.std.proofs.Common.{◌≡◌, ◌+◌, ◌-◌, sym, ◌∙◌, ap, arith}
+use Rattle.std.proofs.Common.{ℕ, ◌≡◌, ◌+◌, ◌-◌, sym, ◌∙◌, ap, arith}
 use Rattle.packed.proofs.DemandLemmas.{none_from}
 use Rattle.metadata.specs.Starts.{start_of}
 use Rattle.metadata.specs.Demands.{demands_of_start}
-use Rattle.checks.proofs.Starts.{start_of_end, start_of_step, falls_step}
+use Rattle.reading.specs.KnownStarts.{IsKnown}
+use Rattle.checks.proofs.Starts.{start_of_end, falls_step}
 use Rattle.checks.proofs.runs.walk_owners.Goals as goal
 
 pub loop-row-init : goal.loop-row-init
@@ -14,6 +15,8 @@ loop-row-init c =
       first = ap (λ n. n + 1) c.count-first.ensures.value
           ∙ sym (start_of_end here.source c.args.owner (count + 1) c.args.column c.args.member
           (omega (arith, c.count-count.ensures.value)));
+      room = c.new-known.ensures.room;
+      known = c.new-known.ensures.none (λ r. start_of here.source c.args.owner r c.args.column c.args.member);
       falls = none_from (demands_of_start here c.args.owner c.args.column c.args.member) (count + 2) (count - (count + 1)) (omega arith);
       within = tt;
     }
@@ -23,15 +26,23 @@ loop-row-preserved c =
     let here = c.args.source.now in
     let before = c.loop-row.invariant in
     let row = c.loop-row.row in
-    let start = start_of_step here.source c.args.owner row c.args.column c.args.member
-    c.loop-row.first c.start_or-start.result c.number-number.result
-    (omega (arith, c.count-count.ensures.value, before.row)) c.number-number.ensures.value before.first c.start_or-start.ensures in
+    let starts : ℕ → ℕ = λ r. start_of here.source c.args.owner r c.args.column c.args.member in
+    let start : c.start_before-start.result ≡ starts row = c.start_before-start.ensures in
     let again : row - 1 + 1 ≡ row = omega arith in
+    let known : IsKnown c.keep.new.self starts row c.count-count.result =
+    c.keep.ensures.known starts c.count-count.result start before.known in
     record {
       row = omega (arith, before.row);
-      first = start ∙ ap (λ r. start_of here.source c.args.owner r c.args.column c.args.member) (sym again);
+      first = start ∙ ap starts (sym again);
       falls = falls_step here c.args.owner c.args.column c.args.member
-          row c.count-count.result c.loop-row.first c.start_or-start.result c.loop-row.falls c.fallen-falls.result
+          row c.count-count.result c.loop-row.first c.start_before-start.result c.loop-row.falls c.fallen-falls.result
           (omega arith) before.row before.first start before.falls c.fallen-falls.ensures.value;
+      room = rw c.keep.ensures.step before.room;
+      known = rw again known;
       within = c.fallen-falls.ensures.within before.within;
     }
+
+pub returns-clause-known : goal.returns-clause-known
+returns-clause-known c =
+    let first : c.loop-row.row + 1 ≡ 1 = omega arith in
+    rw (c.count-count.ensures.value, first) at c.loop-row.invariant.known

@@ -1,9 +1,11 @@
 use Rattle.std.proofs.Common.{◌≡◌, ◌∙◌, List, [], true, Some, ap, map, option_map, refl, subst, sym, codes}
 use Rattle.clap.proofs.OnLiterals.{clap_on_literals}
 use Rattle.clap.proofs.WalkLemmas.{first_value-rows, one_text-rows}
-use Rattle.clap.specs.Words.{App, Row, Text, fault_of, first_of, found_of, is_simple, is_simple_and_free, one_of, rows_of, subcommand_of}
+use Rattle.clap.specs.Words.{App, HasMatchesOf, Row, Text, fault_of, first_of, found_of, is_simple, is_simple_and_free, one_of, rows_of, subcommand_name_of, subcommand_of, subcommand_rows_of}
+use Rattle.clap.specs.declared.ArgMatches.{ArgMatches}
 use Rattle.cli.specs.CommandLine.{clim}
-use Rattle.cli.proofs.FileGiven.{has_file}
+use Rattle.cli.specs.Asked.{name_of}
+use Rattle.cli.proofs.ValuesGiven.{AllThere, has_values, is_known, token_takes, values_in}
 use Rattle.cli.proofs.Readings.{named_back, rows_met, flag_is, some_mapped}
 use Rattle.cli.proofs.arguments.ask.Goals as goal
 
@@ -21,15 +23,25 @@ returns-clause-refused c =
     (c.in_ok-matches.ensures.kinds (ap is_simple_and_free c.in_ok-command.ensures ∙ clim_is_free))
 
 -- the subcommand that `clap` gives for the words, and what it gives to its arguments
+entered_by : (a : App) (texts : List Text) (m : ArgMatches) (name : Text) (rows : List Row) → a ≡ clim → HasMatchesOf a texts m
+    → subcommand_name_of m ≡ Some name → option_map (λ p. p.1) (subcommand_rows_of m) ≡ Some rows → subcommand_of clim texts ≡ Some (name, rows)
+entered_by a texts m name rows same has named given =
+    let matched = (has (ap is_simple same ∙ clim_is_simple)).1 ∙ ap (λ (b : App). subcommand_of b texts) same in
+    sym matched ∙ rows_met m name rows named given
+
 entered : (c : goal.Joined-matches) → subcommand_of clim (map (λ word. word.now) c.args.words.now)
     ≡ Some (c.unwrap.result.0.now, rows_of (found_of c.unwrap.result.1.now))
 entered c =
-    let texts : List Text = map (λ word. word.now) c.args.words.now in
-    let matched = (c.in_ok-matches.ensures.matches (ap is_simple c.in_ok-command.ensures ∙ clim_is_simple)).1
-    ∙ ap (λ (a : App). subcommand_of a texts) c.in_ok-command.ensures in
-    sym matched ∙ rows_met c.in_ok-matches.matches _ _
+    entered_by _ _ c.in_ok-matches.matches _ _ c.in_ok-command.ensures c.in_ok-matches.ensures.matches
     (sym c.subcommand.ensures.name ∙ ap (option_map (λ p. p.0.now)) c.unwrap.ensures)
     (sym c.subcommand.ensures.rows ∙ ap (option_map (λ p. rows_of (found_of p.1.now))) c.unwrap.ensures)
+
+pub unwrap-requires-2 : goal.unwrap-requires-2
+unwrap-requires-2 c =
+    let met = entered_by _ (map (λ word. word.now) c.args.words.now) c.in_ok-matches.matches _ _ c.in_ok-command.ensures c.in_ok-matches.ensures.matches
+    (sym c.subcommand.ensures.name ∙ ap (option_map (λ p. p.0.now)) c.unwrap.ensures)
+    (sym c.subcommand.ensures.rows ∙ ap (option_map (λ p. rows_of (found_of p.1.now))) c.unwrap.ensures) in
+    rw c.named.ensures (is_known (map (λ word. word.now) c.args.words.now) _ _ met)
 
 pub returns-clause-given : goal.returns-clause-given
 returns-clause-given c =
@@ -43,11 +55,24 @@ returns-clause-given c =
           (λ none. c.get_one.ensures.none (one_text-rows found (codes "bare") ∙ none))
           (λ t is. c.get_one.ensures.value t (one_text-rows found (codes "bare") ∙ is));
       file = c.get_str.ensures ∙ first_value-rows found (codes "FILE");
+      second = c.get_str-2.ensures ∙ first_value-rows found (codes "second");
     }
+
+-- each value that the subcommand takes is there
+values_there : (c : goal.Joined-matches) → fault_of clim (map (λ word. word.now) c.args.words.now) ≡ []
+    → AllThere (values_in c.unwrap.result.0.now) (rows_of (found_of c.unwrap.result.1.now))
+values_there c none = has_values (map (λ word. word.now) c.args.words.now) _ (rows_of (found_of c.unwrap.result.1.now)) none (entered c)
 
 pub returns-clause-file : goal.returns-clause-file
 returns-clause-file c =
-    let texts : List Text = map (λ word. word.now) c.args.words.now in
     let found = found_of c.unwrap.result.1.now in
     some_mapped (λ s. s.now) c.get_str.result (first_of (codes "FILE") (rows_of found)) (c.get_str.ensures ∙ first_value-rows found (codes "FILE"))
-    (has_file texts _ (rows_of found) (returns-clause-refused c) (entered c))
+    (values_there c (returns-clause-refused c)).0
+
+pub returns-clause-second : goal.returns-clause-second
+returns-clause-second c = λ is.
+    let found = found_of c.unwrap.result.1.now in
+    let word = named_back c.unwrap.result.0.now c.unwrap-2.result (sym c.named.ensures ∙ c.unwrap-2.ensures) in
+    let named : c.unwrap.result.0.now ≡ codes "token" = word ∙ ap name_of is in
+    let there = subst (λ (ids : List Text). AllThere ids (rows_of found)) (ap values_in named ∙ token_takes) (values_there c (returns-clause-refused c)) in
+    some_mapped (λ s. s.now) c.get_str-2.result (first_of (codes "second") (rows_of found)) (c.get_str-2.ensures ∙ first_value-rows found (codes "second")) there.1.0

@@ -15,5 +15,11 @@ returns c =
     (ap app_of_fields c.disable_help_subcommand.ensures ∙ ap (on_top (λ s. record s { disable_help_subcommand = true })) versioned) in
     let with_root = c.in_ok-subcommand.ensures.shape c.in_ok-command.ensures.local
     ∙ ap₂ with_subcommand alone (ap (λ (a : App). a.top) c.in_ok-command.ensures.app) in
-    let given = c.in_ok-command-2.ensures in
-    IfOk-weaker c.subcommand-2.result _ _ (λ r adds. adds.shape given.local ∙ ap₂ with_subcommand with_root (ap (λ (a : App). a.top) given.app)) c.subcommand-2.ensures
+    let with_check = c.in_ok-subcommand-2.ensures.shape c.in_ok-command-2.ensures.local
+    ∙ ap₂ with_subcommand with_root (ap (λ (a : App). a.top) c.in_ok-command-2.ensures.app) in
+    let with_show = c.in_ok-subcommand-3.ensures.shape c.in_ok-command-3.ensures.local
+    ∙ ap₂ with_subcommand with_check (ap (λ (a : App). a.top) c.in_ok-command-3.ensures.app) in
+    let with_types = c.in_ok-subcommand-4.ensures.shape c.in_ok-command-4.ensures.local
+    ∙ ap₂ with_subcommand with_show (ap (λ (a : App). a.top) c.in_ok-command-4.ensures.app) in
+    let given = c.in_ok-command-5.ensures in
+    IfOk-weaker c.subcommand-5.result _ _ (λ r adds. adds.shape given.local ∙ ap₂ with_subcommand with_types (ap (λ (a : App). a.top) given.app)) c.subcommand-5.ensures

@@ -11,7 +11,7 @@ pub returns-in_default-clause-answers : goal.returns-in_default-clause-answers
 returns-in_default-clause-answers c =
     let image = c.args.pe.now in
     let bytes = split_off image c.in_ok-place.place c.bytes.result.now c.split_at.result.1.now c.split_at-2.result.0.now c.in_ok-place.ensures.place c.bytes.ensures c.split_at.ensures.back c.split_at-2.ensures.front in
-    let enough = enough_read image c.split_at-2.result.0.now c.u32_at-cb.result bytes c.u32_at-cb.ensures (omega arith) in
+    let enough = enough_read image c.split_at-2.result.0.now c.u32_at-cb.result bytes c.u32_at-cb.ensures.value (omega arith) in
     let is = metadata_read image c.split_at-2.result.0.now c.read-metadata.result bytes c.read-metadata.ensures in
     let Placed : DataDirectory → Type 0 = λ d. HasPlace image d.rva d.size in
     fails_back (demands_of_directory image) (demands_of_fields image) c.new-in_default.result c.in_ok-place.ensures.answers
@@ -21,7 +21,7 @@ pub returns-clause-answers : goal.returns-clause-answers
 returns-clause-answers c =
     let image = c.args.pe.now in
     let bytes = split_off image c.in_ok-place.place c.bytes.result.now c.split_at.result.1.now c.split_at-2.result.0.now c.in_ok-place.ensures.place c.bytes.ensures c.split_at.ensures.back c.split_at-2.ensures.front in
-    let enough = enough_read image c.split_at-2.result.0.now c.u32_at-cb.result bytes c.u32_at-cb.ensures (omega arith) in
+    let enough = enough_read image c.split_at-2.result.0.now c.u32_at-cb.result bytes c.u32_at-cb.ensures.value (omega arith) in
     let is = metadata_read image c.split_at-2.result.0.now c.read-metadata.result bytes c.read-metadata.ensures in
     let Placed : DataDirectory → Type 0 = λ d. HasPlace image d.rva d.size in
     all_append (demands_of_directory image) (demands_of_fields image) c.in_ok-place.ensures.answers (enough, (subst Placed is (c.in-Some.root.start, c.in-Some.ensures.found.0), tt))
@@ -33,12 +33,12 @@ returns-clause-header c =
     header_is image c.split_at-2.result.0.now _ (record {
       bytes_are = bytes;
       place = c.in_ok-place.ensures.place;
-      cb = c.u32_at-cb.ensures;
-      major = c.u16_at.ensures;
-      minor = c.u16_at-2.ensures;
+      cb = c.u32_at-cb.ensures.value;
+      major = c.u16_at.ensures.value;
+      minor = c.u16_at-2.ensures.value;
       metadata_is = c.read-metadata.ensures;
-      flags = c.u32_at.ensures;
-      entry_point = c.u32_at-2.ensures;
+      flags = c.u32_at.ensures.value;
+      entry_point = c.u32_at-2.ensures.value;
       resources = c.read.ensures;
       strong_name = c.read-2.ensures;
       code_manager = c.read-3.ensures;

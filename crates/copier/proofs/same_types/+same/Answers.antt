@@ -6,7 +6,7 @@ use Rattle.signature_values.specs.declared.types.Slot.{Slot}
 use Rattle.signature_values.specs.Syntax as sig
 use Rattle.signature_values.specs.Views.{core_of, type_of, method_of, slot_of, shape_of}
 use Rattle.copier.specs.Heads.{HaveOneHead}
-use Rattle.copier.proofs.ViewLemmas.{view_vector, view_function}
+use Rattle.signature_values.proofs.ViewLemmas.{view_vector, view_function}
 use Rattle.copier.proofs.SameLemmas.{denied, both_then, both_else, joined_then, joined_else, lists_at, no_pointer, no_vector, no_array, no_instance, no_function, instance_make, instance_split, type_make, type_split, slot_make, slot_split, SameRet, method_make, method_split}
 use Rattle.copier.proofs.same_types.+same.Goals.{same_method-then-same_head, same_method-else-same_head}
 use Rattle.copier.proofs.same_types.+same.Goals as goal

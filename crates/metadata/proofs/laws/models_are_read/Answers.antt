@@ -1,6 +1,6 @@
 use Rattle.metadata.specs.Metadata.{rows_of}
 use Rattle.metadata.specs.Placed.{source_of}
-use Rattle.metadata.proofs.ModelLemmas.{AreRead, version_read, user_read, stream_read, table_read, rows_count, rows_cell, ordered_read, owned_read, nested_read}
+use Rattle.metadata.proofs.ModelLemmas.{AreRead, version_read, user_read, stream_read, table_read, rows_count, rows_long, rows_cell, tables_long, ordered_read, owned_read, nested_read}
 use Rattle.metadata.proofs.laws.models_are_read.Goals as goal
 
 read : goal.After-tables_stand → AreRead
@@ -12,6 +12,7 @@ read c = record {
   stream_said = c.streams_are_read.ensures.said;
   stream_found = c.streams_are_read.ensures.found;
   numbers_are = c.numbers_are_read.ensures.is;
+  columns = record { column = c.cells_have_columns.ensures.column; cell = c.cells_have_columns.ensures.cell };
 }
 
 pub returns-clause-version : goal.returns-clause-version
@@ -32,6 +33,14 @@ pub returns-clause-cells : goal.returns-clause-cells
 returns-clause-cells c = λ root model is table.
     let stand = c.tables_stand.ensures in
     rows_cell (source_of root) table (rows_of model table) (table_read (read c) root model is stand.position stand.stand table)
+
+pub returns-clause-tables : goal.returns-clause-tables
+returns-clause-tables c = λ root model is. tables_long (read c) root model is
+
+pub returns-clause-long : goal.returns-clause-long
+returns-clause-long c = λ root model is table.
+    let stand = c.tables_stand.ensures in
+    rows_long (source_of root) table (rows_of model table) (table_read (read c) root model is stand.position stand.stand table)
 
 pub returns-clause-rules : goal.returns-clause-rules
 returns-clause-rules c = λ root model is. (ordered_read (read c) root model is, owned_read (read c) root model is, nested_read (read c) root model is)

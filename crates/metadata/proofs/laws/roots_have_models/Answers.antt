@@ -11,6 +11,7 @@ read c = record {
   stream_said = c.streams_are_read.ensures.said;
   stream_found = c.streams_are_read.ensures.found;
   numbers_are = c.numbers_are_read.ensures.is;
+  columns = record { column = c.cells_have_columns.ensures.column; cell = c.cells_have_columns.ensures.cell };
 }
 
 one : goal.After-signatures_are_read → AreOne

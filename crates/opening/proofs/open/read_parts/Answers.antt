@@ -1,19 +1,15 @@
-use Rattle.std.proofs.Common.{◌≡◌, ◌+◌, ◌≤◌, ◌^◌, ℕ, List, [], length, ap, sym, ◌∙◌, arith, unwrap_or}
+use Rattle.std.proofs.Common.{◌≡◌, ℕ, List, [], length, ap, ◌∙◌, arith, unwrap_or}
 use Rattle.std.proofs.lemmas.Result.{err_from_is_err_and}
 use Rattle.std.specs.Option.{option_map}
-use Rattle.packed.specs.Demand.{raised, Answers}
-use Rattle.root.specs.Demands.{demands_of_root}
 use Rattle.root.specs.declared.kind.Kind.{Kind}
 use Rattle.root.specs.declared.kind.Kind.TheVariants.{Tables, Strings, UserStrings, Blobs, Guids}
 use Rattle.root.specs.Directory.{directory_of}
 use Rattle.root.specs.Streams.{Directory, stream_of, place_of}
-use Rattle.schema.specs.Demands.{demands_of_stream}
 use Rattle.metadata.specs.Streams.{stream_in}
-use Rattle.metadata.specs.Placed.{Placed, tables_in, tables_place, placed_at}
-use Rattle.metadata.specs.Demands.{demands_of_tables, demands_of_metadata}
+use Rattle.metadata.specs.Placed.{tables_place}
 use Rattle.rows.specs.Cells.{Stream}
 use Rattle.schema.specs.Cells.{numbers_at}
-use Rattle.opening.proofs.Placed.{placed_is, root_fails, stream_fails, stream_holds}
+use Rattle.opening.proofs.Placed.{placed_is, stream_fails, stream_holds}
 use Rattle.opening.proofs.open.read_parts.Goals as goal
 
 -- a stream of what was read is the root's
@@ -28,65 +24,57 @@ bytes_are root directory is = ap (λ (d : Directory). length d.bytes) is
 
 pub overflow_add-place : goal.overflow_add-place
 overflow_add-place c =
-    let bytes = bytes_are c.args.root.now c.in_ok-directory.directory c.in_ok-directory.ensures.directory in
-    let small = c.in_ok-directory.ensures.small in
+    let bytes = bytes_are c.args.root.now c.args.directory.now c.requires.directory in
+    let small = c.requires.small in
     let within = c.tables_place.ensures.within in
-    omega (arith, c.requires)
+    omega (arith, c.requires.place)
 
 pub read_layout-requires : goal.read_layout-requires
 read_layout-requires c =
-    let bytes = bytes_are c.args.root.now c.in_ok-directory.directory c.in_ok-directory.ensures.directory in
-    let small = c.in_ok-directory.ensures.small in
+    let bytes = bytes_are c.args.root.now c.args.directory.now c.requires.directory in
+    let small = c.requires.small in
     let within = c.tables_place.ensures.within in
-    omega (arith, c.requires)
+    omega (arith, c.requires.place)
 
 pub new-source-requires : goal.new-source-requires
 new-source-requires c =
-    let bytes = bytes_are c.args.root.now c.in_ok-directory.directory c.in_ok-directory.ensures.directory in
-    let small = c.in_ok-directory.ensures.small in
+    let bytes = bytes_are c.args.root.now c.args.directory.now c.requires.directory in
+    let small = c.requires.small in
     let within = c.tables_place.ensures.within in
     let long = c.stream_in-tables.ensures.within in
     let is = ap (λ (s : Stream). length s.bytes) c.new-rows.ensures in
-    omega (arith, c.requires)
-
-pub returns-in_err-directory-clause-first : goal.returns-in_err-directory-clause-first
-returns-in_err-directory-clause-first c =
-    let p = err_from_is_err_and c.from_residual.result c.from_residual.ensures.1 in
-    rw (p.1, p.2) (root_fails c.args.root.now c.args.place c.in_err-directory.field-0.0 c.in_err-directory.ensures.answers)
+    omega (arith, c.requires.place)
 
 pub returns-in_err-layout-clause-first : goal.returns-in_err-layout-clause-first
 returns-in_err-layout-clause-first c =
     let root = c.args.root.now in
-    let tables = is_stream root c.in_ok-directory.directory Tables c.stream_in-tables.result.now c.in_ok-directory.ensures.directory c.stream_in-tables.ensures.stream in
-    let at = is_place root c.in_ok-directory.directory c.tables_place.result c.in_ok-directory.ensures.directory c.tables_place.ensures.place in
-    let p = err_from_is_err_and c.from_residual-in_err-layout.result c.from_residual-in_err-layout.ensures.1 in
-    rw (p.1, p.2) (stream_fails root c.args.place c.tables_place.result c.stream_in-tables.result.now tables at c.in_err-layout.field-0.0 c.in_ok-directory.ensures.answers c.in_err-layout.ensures.answers)
+    let tables = is_stream root c.args.directory.now Tables c.stream_in-tables.result.now c.requires.directory c.stream_in-tables.ensures.stream in
+    let at = is_place root c.args.directory.now c.tables_place.result c.requires.directory c.tables_place.ensures.place in
+    let p = err_from_is_err_and c.from_residual.result c.from_residual.ensures.1 in
+    rw (p.1, p.2) (stream_fails root c.args.place c.tables_place.result c.stream_in-tables.result.now tables at c.in_err-layout.field-0.0 c.requires.held c.in_err-layout.ensures.answers)
 
 pub returns-clause-source : goal.returns-clause-source
 returns-clause-source c =
     let root = c.args.root.now in
-    let directory = c.in_ok-directory.ensures.directory in
+    let directory = c.requires.directory in
     placed_is root c.args.place c.tables_place.result c.new-source.result c.stream_in-tables.result.now c.stream_in-texts.result.now c.stream_in-blobs.result.now c.stream_in-guids.result.now c.in_ok-layout.layout
     (c.new-source.ensures.source ∙ ap (λ (s : Stream). record { sizes = s.sizes; numbers = numbers_at s.bytes s.sizes; texts = c.stream_in-texts.result.now; blobs = c.stream_in-blobs.result.now; guids = c.stream_in-guids.result.now }) c.new-rows.ensures) c.new-source.ensures.place
-    (is_place root c.in_ok-directory.directory c.tables_place.result directory c.tables_place.ensures.place)
-    (is_stream root c.in_ok-directory.directory Tables c.stream_in-tables.result.now directory c.stream_in-tables.ensures.stream)
+    (is_place root c.args.directory.now c.tables_place.result directory c.tables_place.ensures.place)
+    (is_stream root c.args.directory.now Tables c.stream_in-tables.result.now directory c.stream_in-tables.ensures.stream)
     c.in_ok-layout.ensures.sizes
-    (is_stream root c.in_ok-directory.directory Strings c.stream_in-texts.result.now directory c.stream_in-texts.ensures.stream)
-    (is_stream root c.in_ok-directory.directory Blobs c.stream_in-blobs.result.now directory c.stream_in-blobs.ensures.stream)
-    (is_stream root c.in_ok-directory.directory Guids c.stream_in-guids.result.now directory c.stream_in-guids.ensures.stream)
-
-pub returns-clause-directory : goal.returns-clause-directory
-returns-clause-directory c = c.in_ok-directory.ensures.answers
+    (is_stream root c.args.directory.now Strings c.stream_in-texts.result.now directory c.stream_in-texts.ensures.stream)
+    (is_stream root c.args.directory.now Blobs c.stream_in-blobs.result.now directory c.stream_in-blobs.ensures.stream)
+    (is_stream root c.args.directory.now Guids c.stream_in-guids.result.now directory c.stream_in-guids.ensures.stream)
 
 pub returns-clause-stream : goal.returns-clause-stream
 returns-clause-stream c =
     let root = c.args.root.now in
-    let tables = is_stream root c.in_ok-directory.directory Tables c.stream_in-tables.result.now c.in_ok-directory.ensures.directory c.stream_in-tables.ensures.stream in
-    let at = is_place root c.in_ok-directory.directory c.tables_place.result c.in_ok-directory.ensures.directory c.tables_place.ensures.place in
+    let tables = is_stream root c.args.directory.now Tables c.stream_in-tables.result.now c.requires.directory c.stream_in-tables.ensures.stream in
+    let at = is_place root c.args.directory.now c.tables_place.result c.requires.directory c.tables_place.ensures.place in
     stream_holds root c.args.place c.tables_place.result c.stream_in-tables.result.now tables at c.in_ok-layout.ensures.answers
 
 pub returns-clause-version : goal.returns-clause-version
-returns-clause-version c = c.version.ensures ∙ ap (λ (d : Directory). d.version) c.in_ok-directory.ensures.directory
+returns-clause-version c = c.version.ensures ∙ ap (λ (d : Directory). d.version) c.requires.directory
 
 pub returns-clause-user : goal.returns-clause-user
-returns-clause-user c = is_stream c.args.root.now c.in_ok-directory.directory UserStrings c.stream_in-user.result.now c.in_ok-directory.ensures.directory c.stream_in-user.ensures.stream
+returns-clause-user c = is_stream c.args.root.now c.args.directory.now UserStrings c.stream_in-user.result.now c.requires.directory c.stream_in-user.ensures.stream

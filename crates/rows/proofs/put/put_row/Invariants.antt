@@ -8,5 +8,7 @@ use Rattle.rows.proofs.put.put_row.Given as goal
 abbrev pub invariant-loop-column : goal.invariant-loop-column
 invariant-loop-column l = record {
   whole : l.bytes.items ++ row_bytes l.layout (drop l.column (columns_of l.table)) (drop l.column l.numbers) ≡ l.fn.bytes.items ++ row_bytes l.layout (columns_of l.table) l.numbers;
+  long : vec_len l.bytes + columns_width l.layout (drop l.column (columns_of l.table)) ≡ vec_len l.fn.bytes + columns_width l.layout (columns_of l.table);
+  capacity : vec_capacity l.fn.bytes ≤ vec_capacity l.bytes;
   room : vec_len l.bytes + columns_width l.layout (drop l.column (columns_of l.table)) ≤ vec_capacity l.bytes;
 }

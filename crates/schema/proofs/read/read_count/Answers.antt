@@ -29,17 +29,17 @@ pub returns-then-count-gt-ROW_LIMIT-clause-answers : goal.returns-then-count-gt-
 returns-then-count-gt-ROW_LIMIT-clause-answers c =
     let set = bit_there c.args.bytes.now c.args.valid c.args.table _ _ c.requires.valid c.is_set.ensures c.if-not-is_set.false in
     let count : c.u32_at-count.result ≡ count_in c.args.bytes.now c.args.table =
-    c.u32_at-count.ensures ∙ ap (λ (at : ℕ). little_endian (part c.args.bytes.now at 4)) c.requires.place ∙ sym (count_counted c.args.bytes.now c.args.table set) in
+    c.u32_at-count.ensures.value ∙ ap (λ (at : ℕ). little_endian (part c.args.bytes.now at 4)) c.requires.place ∙ sym (count_counted c.args.bytes.now c.args.table set) in
     inl (λ low. omega arith, c.new.ensures ∙ ap (fault RowCount) c.requires.place)
 
 pub returns-clause-answers : goal.returns-clause-answers
 returns-clause-answers c =
     let set = bit_there c.args.bytes.now c.args.valid c.args.table _ _ c.requires.valid c.is_set.ensures c.if-not-is_set.false in
     let count : c.u32_at-count.result ≡ count_in c.args.bytes.now c.args.table =
-    c.u32_at-count.ensures ∙ ap (λ (at : ℕ). little_endian (part c.args.bytes.now at 4)) c.requires.place ∙ sym (count_counted c.args.bytes.now c.args.table set) in
+    c.u32_at-count.ensures.value ∙ ap (λ (at : ℕ). little_endian (part c.args.bytes.now at 4)) c.requires.place ∙ sym (count_counted c.args.bytes.now c.args.table set) in
     (omega arith, tt)
 
 pub returns-clause-count : goal.returns-clause-count
 returns-clause-count c =
     let set = bit_there c.args.bytes.now c.args.valid c.args.table _ _ c.requires.valid c.is_set.ensures c.if-not-is_set.false in
-    c.u32_at-count.ensures ∙ ap (λ (at : ℕ). little_endian (part c.args.bytes.now at 4)) c.requires.place ∙ sym (count_counted c.args.bytes.now c.args.table set)
+    c.u32_at-count.ensures.value ∙ ap (λ (at : ℕ). little_endian (part c.args.bytes.now at 4)) c.requires.place ∙ sym (count_counted c.args.bytes.now c.args.table set)

@@ -1,6 +1,6 @@
 use Rattle.std.proofs.Common.{◌≡◌, ℕ, ◌+◌, ◌*◌, ◌<◌, ◌≤◌, length, get_or, take}
 use Rattle.std.specs.List.{count_by}
-use Rattle.packed.proofs.DemandLemmas.{HoldBefore}
+use Rattle.packed.specs.Demand.{HoldBefore}
 use Rattle.schema.specs.declared.table.TableId.TheVariants.{Module}
 use Rattle.schema.specs.Tables.{tables}
 use Rattle.schema.specs.Sizes.{header_size}

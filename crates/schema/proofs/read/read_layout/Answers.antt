@@ -28,14 +28,14 @@ pub new-layout-requires : goal.new-layout-requires
 new-layout-requires c =
     let body : 24 + 4 * c.counted.result ≡ (sizes_of c.args.bytes.now).body =
     ap header_size (c.counted.ensures.value ∙ ap (λ (n : ℕ). count_by (has_bit n) tables) c.in_ok-valid.ensures.valid) in
-    subst AreFew (sym (same_sizes _ (sizes_of c.args.bytes.now) c.in_ok-counts.ensures.counts refl c.u64_at.ensures body)) (few_from c.args.bytes.now c.in_ok-counts.ensures.answers)
+    subst AreFew (sym (same_sizes _ (sizes_of c.args.bytes.now) c.in_ok-counts.ensures.counts refl c.u64_at.ensures.value body)) (few_from c.args.bytes.now c.in_ok-counts.ensures.answers)
 
 pub returns-then-end-bytes-clause-answers : goal.returns-then-end-bytes-clause-answers
 returns-then-end-bytes-clause-answers c =
     let bytes = c.args.bytes.now in
     let body : 24 + 4 * c.counted.result ≡ (sizes_of bytes).body =
     ap header_size (c.counted.ensures.value ∙ ap (λ (n : ℕ). count_by (has_bit n) tables) c.in_ok-valid.ensures.valid) in
-    let layout = c.new-layout.ensures ∙ same_sizes _ (sizes_of bytes) c.in_ok-counts.ensures.counts refl c.u64_at.ensures body in
+    let layout = c.new-layout.ensures ∙ same_sizes _ (sizes_of bytes) c.in_ok-counts.ensures.counts refl c.u64_at.ensures.value body in
     let end : c.end.result ≡ tables_end (sizes_of bytes) = c.end.ensures ∙ ap tables_end layout in
     fails_back (demands_of_header bytes) _ _ c.in_ok-valid.ensures.answers
     (fails_back (demands_from (demands_of_position bytes) 0 38) (demands_of_tables bytes) _ c.in_ok-counts.ensures.answers
@@ -46,7 +46,7 @@ returns-clause-answers c =
     let bytes = c.args.bytes.now in
     let body : 24 + 4 * c.counted.result ≡ (sizes_of bytes).body =
     ap header_size (c.counted.ensures.value ∙ ap (λ (n : ℕ). count_by (has_bit n) tables) c.in_ok-valid.ensures.valid) in
-    let layout = c.new-layout.ensures ∙ same_sizes _ (sizes_of bytes) c.in_ok-counts.ensures.counts refl c.u64_at.ensures body in
+    let layout = c.new-layout.ensures ∙ same_sizes _ (sizes_of bytes) c.in_ok-counts.ensures.counts refl c.u64_at.ensures.value body in
     let end : c.end.result ≡ tables_end (sizes_of bytes) = c.end.ensures ∙ ap tables_end layout in
     let within : tables_end (sizes_of bytes) ≤ length bytes = omega arith in
     all_append (demands_of_header bytes) _ c.in_ok-valid.ensures.answers
@@ -57,4 +57,4 @@ returns-clause-layout c =
     let bytes = c.args.bytes.now in
     let body : 24 + 4 * c.counted.result ≡ (sizes_of bytes).body =
     ap header_size (c.counted.ensures.value ∙ ap (λ (n : ℕ). count_by (has_bit n) tables) c.in_ok-valid.ensures.valid) in
-    c.new-layout.ensures ∙ same_sizes _ (sizes_of bytes) c.in_ok-counts.ensures.counts refl c.u64_at.ensures body
+    c.new-layout.ensures ∙ same_sizes _ (sizes_of bytes) c.in_ok-counts.ensures.counts refl c.u64_at.ensures.value body

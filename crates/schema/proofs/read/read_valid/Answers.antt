@@ -7,6 +7,6 @@ use Rattle.schema.proofs.read.read_valid.Goals as goal
 
 pub returns-then-bytes-counted-clause-answers : goal.returns-then-bytes-counted-clause-answers
 returns-then-bytes-counted-clause-answers c =
-    let named = subst NamesTables c.u64_at-valid.ensures (search rules) in
-    let counted : c.counted.result ≡ count_by (has_bit (valid_of c.args.bytes.now)) tables = c.counted.ensures.value ∙ ap (λ (n : ℕ). count_by (has_bit n) tables) c.u64_at-valid.ensures in
+    let named = subst NamesTables c.u64_at-valid.ensures.value (search rules) in
+    let counted : c.counted.result ≡ count_by (has_bit (valid_of c.args.bytes.now)) tables = c.counted.ensures.value ∙ ap (λ (n : ℕ). count_by (has_bit n) tables) c.u64_at-valid.ensures.value in
     inr (omega arith, inr (search rules, inr (search rules, inr (named, inl (λ h. omega arith, c.new-then-bytes-counted.ensures)))))

@@ -12,16 +12,16 @@ pub returns-in_default-clause-answers : goal.returns-in_default-clause-answers
 returns-in_default-clause-answers c =
     subst (λ l. (place : ℕ) → Answers (demands_of_text l c.args.index place) (at_place place c.text.result)) c.self.view_is c.text.ensures.answers
 
-pub returns-in-Some-ended-clause-only : goal.returns-in-Some-ended-clause-only
-returns-in-Some-ended-clause-only c =
+pub returns-in-Some-ended_at-clause-only : goal.returns-in-Some-ended_at-clause-only
+returns-in-Some-ended_at-clause-only c =
     let heap = c.self.inside.heap.now in
     let index = c.args.index in
-    let bytes = c.in-Some-ended.bytes.now in
+    let bytes = c.in-Some-ended_at.bytes.now in
     let len = index + length bytes - index in
     let whole = whole_is c.self.inside c.in-Some.whole c.in-Some.is c.self.invariant in
-    let cut = ap (λ l. take len (drop index l)) whole.0 ∙ bytes_are heap index bytes c.in-Some-ended.ensures.found len (omega arith) in
+    let cut = ap (λ l. take len (drop index l)) whole.0 ∙ bytes_are heap index bytes c.in-Some-ended_at.ensures.found len (omega arith) in
     subst (λ l. (text : List ℕ) → IsText l index text → c.range.result.now ≡ text) c.self.view_is (λ text is. c.range.ensures.value
-    ∙ (cut ∙ (text_same heap index bytes text (omega (arith, c.if-start-eq0.false)) c.in-Some-ended.ensures.found is).0))
+    ∙ (cut ∙ (text_same heap index bytes text (omega (arith, c.if-start-eq0.false)) c.in-Some-ended_at.ensures.found is).0))
 
 pub returns-in-Some-2-clause-only : goal.returns-in-Some-2-clause-only
 returns-in-Some-2-clause-only c = λ text is.

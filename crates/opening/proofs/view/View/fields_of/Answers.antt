@@ -1,9 +1,13 @@
 use Rattle.schema.specs.declared.table.TableId.TheVariants.{TypeDef}
-use Rattle.opening.proofs.ColumnLemmas.{fields_listed}
 use Rattle.opening.proofs.view.View.fields_of.Goals as goal
 
 pub run-requires : goal.run-requires
-run-requires c = record { list = fields_listed; first = c.requires.first; last = rw (c.source.ensures.rows TypeDef) (c.requires.last) }
+run-requires c = record {
+  list = c.members_are_listed.ensures.fields;
+  known = c.known.ensures _ c.source.ensures.source;
+  first = c.requires.first;
+  last = rw (c.source.ensures.rows TypeDef) (c.requires.last);
+}
 
 pub returns : goal.returns
 returns c = λ model is. c.run.ensures model (c.source.ensures.read model is)

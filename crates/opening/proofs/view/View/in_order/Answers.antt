@@ -17,7 +17,7 @@ bit_tells source bits table number (Some key) tells is e = rw is (tells table ke
 pub returns : goal.returns
 returns c =
     let same : c.self.inside.source.source ≡ source_of c.args.self.now = c.self.invariant.source ∙ ap (λ (root : List ℕ). source_of root) c.self.view_is in
-    let P : Source → Type 0 = λ source. IfSome (key_of c.args.table) (λ key. IsTrue (slice_index_or c.self.inside.in_order c.number.result false) ↔
+    let P : Source → Type 0 = λ source. IfSome (key_of c.args.table) (λ key. IsTrue (slice_index_or c.self.inside.found.in_order c.number.result false) ↔
     IsInOrder source c.args.table key) in
-    subst P same (bit_tells c.self.inside.source.source c.self.inside.in_order c.args.table c.number.result
+    subst P same (bit_tells c.self.inside.source.source c.self.inside.found.in_order c.args.table c.number.result
     (key_of c.args.table) c.self.invariant.order c.number.ensures.value refl)

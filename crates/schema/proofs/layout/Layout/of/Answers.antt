@@ -1,10 +1,10 @@
-use Rattle.std.proofs.Common.{ℕ, ◌∙◌, ap, refl, arith, get_or, ltb, lt-ltb, le-ltb, List, length-set}
+use Rattle.std.proofs.Common.{◌≡◌, ℕ, ◌∙◌, ap, refl, arith, get_or, ltb, lt-ltb, le-ltb, List, length-set}
 use Rattle.std.specs.List.{count_by}
 use Rattle.std.proofs.lemmas.List.{take_all}
 use Rattle.schema.specs.declared.table.TableId.{TableId}
 use Rattle.schema.specs.declared.table.TableId.TheVariants.{Module}
 use Rattle.schema.specs.Tables.{table_number, tables}
-use Rattle.schema.specs.Sizes.{header_size}
+use Rattle.schema.specs.Sizes.{Sizes, header_size, sizes_by_number, count_of}
 use Rattle.schema.proofs.TableFacts.{length-tables}
 use Rattle.schema.proofs.PlaceLemmas.{number_kept}
 use Rattle.schema.proofs.HeaderLemmas.{place_set, place_clear, counts_are, count_is, same_sizes}
@@ -51,4 +51,8 @@ returns c =
     let counts = c.args.counts.now in
     let listed = counts_are (λ table. get_or counts (table_number table) 0) c.loop-position.listed c.loop-position.invariant.room (λ k h. c.loop-position.invariant.listed k (omega arith)) in
     let body = c.loop-position.invariant.body ∙ ap (λ (ts : List TableId). header_size (count_by (λ table. ltb 0 (get_or counts (table_number table) 0)) ts)) (take_all c.loop-position.position tables (omega (arith, length-tables))) in
-    c.new.ensures ∙ same_sizes _ _ listed refl refl body
+    let value : c.new.result ≡ sizes_by_number counts c.args.heap_sizes = c.new.ensures ∙ same_sizes _ _ listed refl refl body in
+    record {
+      value = value;
+      each = λ table. ap (λ (sizes : Sizes). count_of sizes table) value ∙ count_is (λ t. get_or counts (table_number t) 0) _ refl table;
+    }

@@ -1,0 +1,171 @@
+ghost use Rattle.std.specs.Prelude.{◌≡◌, [], ◌∷◌, IfOk};
+ghost use Rattle.schema.specs.declared.table.TableId.TheVariants as table;
+ghost use Rattle.metadata.specs.Cell.{Number, Text, Bytes};
+ghost use Rattle.cells.specs.Said.{all_said};
+
+use records::{Bytes, Cell, FromRow, Record, Row, TableId, Text, record_of};
+use std::alloc::{AllocError, Global};
+
+/// This assembly, in at most one row (II.22.2).
+#[derive(Clone, Copy, Debug, PartialEq, Eq)]
+pub struct Assembly<'m> {
+    /// AssemblyHashAlgorithm (II.23.1.1).
+    pub hash_alg_id: u32,
+    /// The first part of its version.
+    pub major_version: u32,
+    /// The second part of its version.
+    pub minor_version: u32,
+    /// The third part of its version.
+    pub build_number: u32,
+    /// The fourth part of its version.
+    pub revision_number: u32,
+    /// AssemblyFlags (II.23.1.2).
+    pub flags: u32,
+    /// The key of its publisher; empty where it has none.
+    pub public_key: &'m [u8],
+    /// Its name.
+    pub name: &'m str,
+    /// Its culture (II.23.1.3); empty where it is neutral.
+    pub culture: &'m str,
+}
+
+impl<'m, W: Row<'m>> FromRow<'m, W> for Assembly<'m> {
+    ghost table = { table.Assembly };
+
+    ghost fields = { λ r. Number r.hash_alg_id ∷ Number r.major_version ∷ Number r.minor_version
+        ∷ Number r.build_number ∷ Number r.revision_number ∷ Number r.flags ∷ Bytes r.public_key.now ∷ Text r.name.now
+        ∷ Text r.culture.now ∷ [] };
+
+    fn table_id() -> TableId
+        ensures { result ≡ table.Assembly }
+    {
+        TableId::Assembly
+    }
+
+    fn from_row(row: &W) -> Assembly<'m> {
+        Assembly {
+            hash_alg_id: row.number(0),
+            major_version: row.number(1),
+            minor_version: row.number(2),
+            build_number: row.number(3),
+            revision_number: row.number(4),
+            flags: row.number(5),
+            public_key: row.bytes(6),
+            name: row.text(7),
+            culture: row.text(8),
+        }
+    }
+}
+
+impl<'m> Record<'m> for Assembly<'m> {
+    const TABLE: TableId = TableId::Assembly;
+
+    fn from_cells(cells: &'m [Cell]) -> Option<Assembly<'m>> {
+        record_of(cells)
+    }
+
+    fn cells(&self, alloc: Global) -> Result<Vec<Cell>, AllocError> {
+        let cells = vec![in alloc;
+            Cell::Number(self.hash_alg_id),
+            Cell::Number(self.major_version),
+            Cell::Number(self.minor_version),
+            Cell::Number(self.build_number),
+            Cell::Number(self.revision_number),
+            Cell::Number(self.flags),
+            Cell::Bytes(Bytes::from(Vec::from_slice(alloc, self.public_key)?)),
+            Cell::Text(Text::from(String::from_str(alloc, self.name)?)),
+            Cell::Text(Text::from(String::from_str(alloc, self.culture)?)),
+        ]?;
+        Ok(cells)
+    }
+}
+
+/// A processor of this assembly, which is not used (II.22.4).
+#[derive(Clone, Copy, Debug, PartialEq, Eq)]
+pub struct AssemblyProcessor {
+    /// The processor.
+    pub processor: u32,
+}
+
+impl<'m, W: Row<'m>> FromRow<'m, W> for AssemblyProcessor {
+    ghost table = { table.AssemblyProcessor };
+
+    ghost fields = { λ r. Number r.processor ∷ [] };
+
+    fn table_id() -> TableId
+        ensures { result ≡ table.AssemblyProcessor }
+    {
+        TableId::AssemblyProcessor
+    }
+
+    fn from_row(row: &W) -> AssemblyProcessor {
+        AssemblyProcessor {
+            processor: row.number(0),
+        }
+    }
+}
+
+impl<'m> Record<'m> for AssemblyProcessor {
+    const TABLE: TableId = TableId::AssemblyProcessor;
+
+    fn from_cells(cells: &'m [Cell]) -> Option<AssemblyProcessor> {
+        record_of(cells)
+    }
+
+    fn cells(&self, alloc: Global) -> Result<Vec<Cell>, AllocError>
+        ensures { IfOk result (λ cells. all_said cells.items ≡ Number self.now.processor ∷ []) }
+    {
+        let cells = vec![in alloc; Cell::Number(self.processor)]?;
+        Ok(cells)
+    }
+}
+
+/// An operating system of this assembly, which is not used (II.22.3).
+#[derive(Clone, Copy, Debug, PartialEq, Eq)]
+pub struct AssemblyOS {
+    /// The system.
+    pub os_platform_id: u32,
+    /// The first part of its version.
+    pub os_major_version: u32,
+    /// The second part of its version.
+    pub os_minor_version: u32,
+}
+
+impl<'m, W: Row<'m>> FromRow<'m, W> for AssemblyOS {
+    ghost table = { table.AssemblyOS };
+
+    ghost fields = { λ r. Number r.os_platform_id ∷ Number r.os_major_version ∷ Number r.os_minor_version ∷ [] };
+
+    fn table_id() -> TableId
+        ensures { result ≡ table.AssemblyOS }
+    {
+        TableId::AssemblyOS
+    }
+
+    fn from_row(row: &W) -> AssemblyOS {
+        AssemblyOS {
+            os_platform_id: row.number(0),
+            os_major_version: row.number(1),
+            os_minor_version: row.number(2),
+        }
+    }
+}
+
+impl<'m> Record<'m> for AssemblyOS {
+    const TABLE: TableId = TableId::AssemblyOS;
+
+    fn from_cells(cells: &'m [Cell]) -> Option<AssemblyOS> {
+        record_of(cells)
+    }
+
+    fn cells(&self, alloc: Global) -> Result<Vec<Cell>, AllocError>
+        ensures { IfOk result (λ cells. all_said cells.items ≡ Number self.now.os_platform_id ∷ Number self.now.os_major_version ∷ Number self.now.os_minor_version ∷ []) }
+    {
+        let cells = vec![in alloc;
+            Cell::Number(self.os_platform_id),
+            Cell::Number(self.os_major_version),
+            Cell::Number(self.os_minor_version),
+        ]?;
+        Ok(cells)
+    }
+}

@@ -1,0 +1,151 @@
+ghost use Rattle.std.specs.Prelude.{◌≡◌, [], ◌∷◌};
+ghost use Rattle.schema.specs.declared.table.TableId.TheVariants as table;
+ghost use Rattle.metadata.specs.Cell.{Number, Bytes, Ref};
+
+use records::{Bytes, Cell, FromRow, Record, Row, TableId, Token, record_of};
+use std::alloc::{AllocError, Global};
+
+/// The constant value of a field, parameter or property (II.22.9).
+#[derive(Clone, Copy, Debug, PartialEq, Eq)]
+pub struct Constant<'m> {
+    /// The element type of the value (II.23.1.16), in the column Type.
+    pub kind: u32,
+    /// The Field, Param or Property.
+    pub parent: Option<Token>,
+    /// The value: little-endian, or the UTF-16 of a string; four zero bytes are the null of a class.
+    pub value: &'m [u8],
+}
+
+impl<'m, W: Row<'m>> FromRow<'m, W> for Constant<'m> {
+    ghost table = { table.Constant };
+
+    ghost fields = { λ r. Number r.kind ∷ Ref r.parent ∷ Bytes r.value.now ∷ [] };
+
+    fn table_id() -> TableId
+        ensures { result ≡ table.Constant }
+    {
+        TableId::Constant
+    }
+
+    fn from_row(row: &W) -> Constant<'m> {
+        Constant {
+            kind: row.number(0),
+            parent: row.reference(1),
+            value: row.bytes(2),
+        }
+    }
+}
+
+impl<'m> Record<'m> for Constant<'m> {
+    const TABLE: TableId = TableId::Constant;
+
+    fn from_cells(cells: &'m [Cell]) -> Option<Constant<'m>> {
+        record_of(cells)
+    }
+
+    fn cells(&self, alloc: Global) -> Result<Vec<Cell>, AllocError> {
+        let cells = vec![in alloc;
+            Cell::Number(self.kind),
+            Cell::Ref(self.parent),
+            Cell::Bytes(Bytes::from(Vec::from_slice(alloc, self.value)?)),
+        ]?;
+        Ok(cells)
+    }
+}
+
+/// A custom attribute (II.22.10).
+#[derive(Clone, Copy, Debug, PartialEq, Eq)]
+pub struct CustomAttribute<'m> {
+    /// What it stands on: a row of one of the tables of HasCustomAttribute (II.24.2.6).
+    pub parent: Option<Token>,
+    /// The constructor that makes it, a MethodDef or MemberRef, in the column Type.
+    pub kind: Option<Token>,
+    /// The arguments of the constructor, and the fields and properties that are set (II.23.3); empty where it
+    /// takes none.
+    pub value: &'m [u8],
+}
+
+impl<'m, W: Row<'m>> FromRow<'m, W> for CustomAttribute<'m> {
+    ghost table = { table.CustomAttribute };
+
+    ghost fields = { λ r. Ref r.parent ∷ Ref r.kind ∷ Bytes r.value.now ∷ [] };
+
+    fn table_id() -> TableId
+        ensures { result ≡ table.CustomAttribute }
+    {
+        TableId::CustomAttribute
+    }
+
+    fn from_row(row: &W) -> CustomAttribute<'m> {
+        CustomAttribute {
+            parent: row.reference(0),
+            kind: row.reference(1),
+            value: row.bytes(2),
+        }
+    }
+}
+
+impl<'m> Record<'m> for CustomAttribute<'m> {
+    const TABLE: TableId = TableId::CustomAttribute;
+
+    fn from_cells(cells: &'m [Cell]) -> Option<CustomAttribute<'m>> {
+        record_of(cells)
+    }
+
+    fn cells(&self, alloc: Global) -> Result<Vec<Cell>, AllocError> {
+        let cells = vec![in alloc;
+            Cell::Ref(self.parent),
+            Cell::Ref(self.kind),
+            Cell::Bytes(Bytes::from(Vec::from_slice(alloc, self.value)?)),
+        ]?;
+        Ok(cells)
+    }
+}
+
+/// A permission set of a type, a method or the assembly (II.22.11).
+#[derive(Clone, Copy, Debug, PartialEq, Eq)]
+pub struct DeclSecurity<'m> {
+    /// What is asked for: a security action.
+    pub action: u32,
+    /// The TypeDef, MethodDef or Assembly.
+    pub parent: Option<Token>,
+    /// The permissions.
+    pub permission_set: &'m [u8],
+}
+
+impl<'m, W: Row<'m>> FromRow<'m, W> for DeclSecurity<'m> {
+    ghost table = { table.DeclSecurity };
+
+    ghost fields = { λ r. Number r.action ∷ Ref r.parent ∷ Bytes r.permission_set.now ∷ [] };
+
+    fn table_id() -> TableId
+        ensures { result ≡ table.DeclSecurity }
+    {
+        TableId::DeclSecurity
+    }
+
+    fn from_row(row: &W) -> DeclSecurity<'m> {
+        DeclSecurity {
+            action: row.number(0),
+            parent: row.reference(1),
+            permission_set: row.bytes(2),
+        }
+    }
+}
+
+impl<'m> Record<'m> for DeclSecurity<'m> {
+    const TABLE: TableId = TableId::DeclSecurity;
+
+    fn from_cells(cells: &'m [Cell]) -> Option<DeclSecurity<'m>> {
+        record_of(cells)
+    }
+
+    fn cells(&self, alloc: Global) -> Result<Vec<Cell>, AllocError> {
+        let cells = vec![in alloc;
+            Cell::Number(self.action),
+            Cell::Ref(self.parent),
+            Cell::Bytes(Bytes::from(Vec::from_slice(alloc, self.permission_set)?)),
+        ]?;
+        Ok(cells)
+    }
+}

@@ -1,0 +1,10 @@
+use Rattle.std.proofs.Common.{ℕ, ◌≤◌, ◌<◌, Ok}
+use Rattle.std.specs.Option.{IfSome}
+use Rattle.metadata.specs.Source.{number_of}
+use Rattle.checks.proofs.column.first_refused.Given as goal
+
+abbrev pub invariant-loop-row : goal.invariant-loop-row
+invariant-loop-row g l = record {
+  before : (row : ℕ) → 1 ≤ row → row < l.row → goal.F-post g l.check (number_of l.source.source l.table row l.column) (Ok tt);
+  passed : IfSome l.passed (λ number. goal.F-post g l.check number (Ok tt));
+}

@@ -1,0 +1,28 @@
+-- The blob of a cell of a view spells a signature.
+use Rattle.std.proofs.Common.{◌≡◌, ◌∙◌, ℕ, List, subst, sym}
+use Rattle.std.proofs.lemmas.Grind.{not_there}
+use Rattle.schema.specs.declared.table.TableId.{TableId}
+use Rattle.schema.specs.declared.column.SigKind.{SigKind}
+use Rattle.schema.specs.declared.column.ColumnKind.{ColumnKind}
+use Rattle.schema.specs.declared.column.ColumnKind.TheVariants as kind
+use Rattle.schema.specs.Columns.{column_at}
+use Rattle.signature_values.specs.Syntax.{Body}
+use Rattle.signature_values.specs.Spells.{Spells}
+use Rattle.metadata.specs.Metadata.{Metadata, cell_in}
+use Rattle.metadata.specs.Model.{IsModel}
+use Rattle.schema.specs.CellColumns.{column_of}
+use Rattle.reading.specs.declared.cell_ref.CellRef.{CellRef}
+use Rattle.reading.specs.declared.cell_ref.CellRef.TheVariants as seen
+use Rattle.reading.specs.Shown.{Shows, ShowsCell}
+use Rattle.opening.specs.Views.{HasModel}
+
+-- the facts are those of the column's kind and of what a view shows in it
+pub spelled : (root : List ℕ) (table : TableId) (row place : ℕ) (held : ColumnKind) (column : SigKind) (value : CellRef) (blob : _) → HasModel root
+    → held ≡ (column_at table (column_of table place)).kind → held ≡ kind.Signature column → value ≡ seen.Sig blob
+    → ((model : Metadata) → IsModel root model → ShowsCell table place value (cell_in model table row place))
+    → ¬ (¬ ((signature : Body) × Spells column signature blob.now))
+spelled root table row place held column value blob model of is seen_is shows = λ none. not_there model (λ some.
+    let cell = cell_in some.0 table row place in
+    let at_blob = subst (λ (v : CellRef). Shows (column_at table (column_of table place)).kind v cell) seen_is (shows some.0 some.1) in
+    let shown = subst (λ (k : ColumnKind). Shows k (seen.Sig blob) cell) (sym of ∙ is) at_blob in
+    none (shown.0, shown.1))

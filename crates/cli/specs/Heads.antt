@@ -1,0 +1,35 @@
+-- What stands at the head of a file (ECMA-335 II.25.3.3 and II.24.2.1): its CLI header, and the version and the stream
+-- headers of its metadata root.
+use Rattle.std.specs.Prelude.{◌≡◌, ℕ, Bool, true, false, List, ◌++◌, Option, Some, None}
+use Rattle.packed.specs.declared.fault.Fault.{Fault}
+use Rattle.packed.specs.Demand.{Demand, raised}
+use Rattle.pe.specs.Image.{Image, IsImage}
+use Rattle.pe.specs.Headers.{image_of}
+use Rattle.pe.specs.Demands.{demands_of_image}
+use Rattle.cli_header.specs.declared.header.CliHeader.{CliHeader}
+use Rattle.cli_header.specs.Header.{IsCliHeader}
+use Rattle.cli_header.specs.Said.{header_of}
+use Rattle.cli_header.specs.Demands.{demands_of_cli_header}
+use Rattle.root.specs.Root.{IsRoot}
+use Rattle.root.specs.Streams.{Directory}
+use Rattle.root.specs.Demands.{demands_of_root}
+use Rattle.metadata.specs.Streams.{root_in}
+
+-- the bytes are a metadata root with this directory, where they are bare, and else an image with this CLI header, whose
+-- root has this directory
+abbrev pub AreHeads : Bool → List ℕ → Option CliHeader → Directory → Type 0
+AreHeads true bytes header root = (header ≡ None) × IsRoot bytes root.version root.headers
+AreHeads false bytes header root =
+    (image : Image) × (found : CliHeader) × IsImage bytes image × IsCliHeader image found × (header ≡ Some found)
+    × IsRoot (root_in bytes found) root.version root.headers
+
+abbrev pub HasHeads : Bool → List ℕ → Type 0
+HasHeads bare bytes = (header : Option CliHeader) × (root : Directory) × AreHeads bare bytes header root
+
+-- what is demanded of them, in order: of a file its image, its CLI header and its root
+unfoldable pub demands_of_heads : Bool → List ℕ → List (Demand Fault)
+demands_of_heads true bytes = demands_of_root bytes
+demands_of_heads false bytes =
+    demands_of_image bytes
+    ++ (demands_of_cli_header (image_of bytes)
+    ++ raised (header_of (image_of bytes)).root.start (demands_of_root (root_in bytes (header_of (image_of bytes)))))

@@ -1,0 +1,102 @@
+//! A row of a table as a line of text.
+ghost use Rattle.std.specs.Prelude.{◌≡◌, ◌≤◌, ◌<◌, IfOk, length};
+ghost use Rattle.opening.specs.Views.{row_count, HasModel};
+ghost use Rattle.schema.specs.CellColumns.{cell_count, column_of};
+ghost use Rattle.schema.specs.Columns.{columns_of, column_at};
+ghost use Rattle.signature_values.specs.Syntax.{Body};
+ghost use Rattle.signature_values.specs.Spells.{Spells, short};
+
+use crate::shown::{Hex, Shown};
+use heaps::guid_text;
+use opening::{CellRef, TableId, Token, View};
+use schema::{ColumnKind, SigKind, cell_count, column_of_cell, columns};
+use signatures::{SigError, decode, encode};
+use std::alloc::{AllocError, Global};
+use std::io;
+use std::io::Write;
+
+/// What the column of a cell holds.
+fn kind_of(table: TableId, place: usize) -> ColumnKind
+    requires { place < cell_count table }
+    ensures { result ≡ (column_at table (column_of table place)).kind }
+{
+    columns(table)[column_of_cell(table, place)].kind
+}
+
+/// The shortest spelling of the signature that a blob spells (II.23.2). An error is want of memory alone.
+fn shortest(alloc: Global, kind: SigKind, blob: &[u8]) -> Result<Vec<u8>, AllocError>
+    requires { ¬ (¬ ((signature : Body) × Spells kind signature blob.now)) }
+    ensures { IfOk result (λ bytes. (signature : Body) → Spells kind signature blob.now → bytes.items ≡ short signature) }
+{
+    match decode(alloc, blob, kind) {
+        Ok(signature) => encode(alloc, &signature),
+        Err(SigError::Memory) => Err(AllocError),
+        Err(SigError::Bad) => unreachable!(),
+    }
+}
+
+/// Prints a row: its number and a colon, and each cell behind a space.
+pub(crate) fn print_row<W: Write>(
+    alloc: Global,
+    view: &View<'_>,
+    table: TableId,
+    row: u32,
+    out: &mut W,
+) -> io::Result<()>
+    requires model { HasModel view.now }
+    requires first { 1 ≤ row }
+    requires last { row ≤ row_count view.now table }
+{
+    write!(out, "{row}:")?;
+    for place in 0..cell_count(table) {
+        out.write_all(b" ")?;
+        print_cell(alloc, view, table, row, place, out)?;
+    }
+    writeln!(out)
+}
+
+/// Prints a cell by its place in its row.
+fn print_cell<W: Write>(
+    alloc: Global,
+    view: &View<'_>,
+    table: TableId,
+    row: u32,
+    place: usize,
+    out: &mut W,
+) -> io::Result<()>
+    requires model { HasModel view.now }
+    requires first { 1 ≤ row }
+    requires last { row ≤ row_count view.now table }
+    requires place { place < cell_count table }
+{
+    match (kind_of(table, place), view.cell(table, row, place)) {
+        (ColumnKind::Signature(kind), CellRef::Sig(blob)) => {
+            let spelling = shortest(alloc, kind, blob)?;
+            write!(out, "<{}>", Hex(&spelling))
+        }
+        (_, cell) => print_value(alloc, cell, out),
+    }
+}
+
+/// Prints what a cell holds: a text in quotes, bytes between `<` and `>`, a GUID in braces, a reference as
+/// the eight digits of its token, and a start behind a plus.
+fn print_value<W: Write>(alloc: Global, cell: CellRef<'_>, out: &mut W) -> io::Result<()> {
+    match cell {
+        CellRef::Number(number) => write!(out, "{number}"),
+        CellRef::Text(text) => write!(out, "\"{}\"", Shown(text)),
+        CellRef::Bytes(bytes) | CellRef::Sig(bytes) => write!(out, "<{}>", Hex(bytes)),
+        CellRef::Guid(Some(guid)) => {
+            let text = guid_text(alloc, &guid)?;
+            write!(out, "{{{text}}}")
+        }
+        CellRef::Guid(None) | CellRef::Ref(None) => write!(out, "null"),
+        CellRef::Ref(Some(token)) => print_token(token, out),
+        CellRef::Start(start) => write!(out, "+{start}"),
+    }
+}
+
+/// Prints the eight hexadecimal digits of a token: two for the table and six for the row.
+pub(crate) fn print_token<W: Write>(token: Token, out: &mut W) -> io::Result<()> {
+    let (table, row) = (token.table.number(), token.row);
+    write!(out, "{table:02x}{row:06x}")
+}

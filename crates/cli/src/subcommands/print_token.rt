@@ -1,0 +1,164 @@
+//! `clim token`: the row or the user string that a token names.
+ghost use Rattle.std.specs.Prelude.{◌≡◌, ◌≤◌, ◌<◌, ◌^◌, IfOk, IfErr, OnOk, OnErr, IfSome, IfNone, true, false};
+ghost use Rattle.clap.specs.Words.{app_of};
+ghost use Rattle.clap.specs.declared.Command.TheViews.{out-Command as fields_of};
+ghost use Rattle.heaps.specs.Fill.{filled};
+ghost use Rattle.opening.specs.Views.{HasModel, row_count};
+ghost use Rattle.cli.specs.CommandLine as line;
+ghost use Rattle.cli.specs.Tasks.{HasString, HasTokenRow, IsMet, IsNamed, TellsNoString, TellsNone, TellsUnnamed};
+ghost use Rattle.cli.specs.declared.task.Task.TheVariants as task;
+ghost use Rattle.schema.specs.Tokens.{IsToken};
+
+use crate::failure::{Failure, printed};
+use crate::opened::open;
+use crate::row_lines::print_row;
+use crate::shown::ShownUnit;
+use crate::subcommands::reader;
+use clap::{Arg, ArgAction, Command};
+use heaps::{UserString, user_string};
+use opening::{Token, View};
+use std::alloc::{AllocError, Global};
+use std::io;
+use std::io::{BufWriter, Write};
+
+/// The high byte of a token that names an offset in the user bytes.
+const USER_STRINGS: u32 = 0x70;
+
+/// How many rows a token can name, the null one with them: its high byte is the table.
+const ROWS: u32 = 1 << 24;
+
+/// The words of the subcommand and its help.
+pub(crate) fn command<'a>(alloc: Global) -> Result<Command<'a>, AllocError>
+    ensures app { IfOk result (λ command. app_of command ≡ line.token) }
+    ensures local { IfOk result (λ command. (fields_of command).has_globals ≡ false) }
+{
+    let hex = Arg::new(alloc, "second")
+        .value_name("HEX")
+        .required(true)
+        .action(ArgAction::Set)
+        .help("The token: one to eight hexadecimal digits");
+    reader(
+        alloc,
+        "token",
+        "Prints the row or the user string that a token names",
+        OUTPUT,
+    )?
+    .arg(hex)
+}
+
+const OUTPUT: &str = "\
+The high byte of HEX is the number of a table and the rest a row (ECMA-335, III.1.9); the line is that of
+'clim show'. The high byte 70 names an offset in the user strings (II.24.2.4); the line is then 'user TEXT
+FLAG', where a unit that is not printable ASCII or is a backslash stands as \\u and four hexadecimal digits
+and FLAG is the last byte, or 'user' of the empty string. FILE is checked first, as 'clim check' does it.
+
+Examples:
+  $ clim token --bare one_module.root 00000001
+  1: 0 \"a.dll\" {03020100-0504-0706-0809-0a0b0c0d0e0f} null null
+  $ clim token --bare one_module.root 70000000
+  user";
+
+/// Prints what a token names.
+pub(crate) fn run<W: Write>(
+    alloc: Global,
+    bytes: &[u8],
+    bare: bool,
+    number: u32,
+    out: &mut W,
+) -> Result<(), Failure<'static>>
+    ensures found { OnOk result (IsMet (task.Token number) bare bytes.now) }
+    ensures first { IfErr result (TellsNone bare bytes.now number) }
+{
+    let view = open(bytes, bare)?;
+    print_named(alloc, &view, number, out)
+}
+
+/// Prints what a number names in a view.
+#[tactic(auto, using(crate::proofs::Tokens::string_named, crate::proofs::Tokens::string_unnamed, crate::proofs::Tokens::row_named, crate::proofs::Tokens::output_unnamed, crate::proofs::Tokens::none_named))]
+fn print_named<W: Write>(
+    alloc: Global,
+    view: &View<'_>,
+    number: u32,
+    out: &mut W,
+) -> Result<(), Failure<'static>>
+    requires { HasModel view.now }
+    ensures found { OnOk result (IsNamed view.now number) }
+    ensures none { IfErr result (TellsUnnamed view.now number) }
+{
+    if number / ROWS == USER_STRINGS {
+        return print_string_at(alloc, view, number % ROWS, out);
+    }
+    match existing(view, number) {
+        Some(token) => printed(print(alloc, view, token, out)),
+        None => Err(Failure::NoSuchRow),
+    }
+}
+
+/// The token of a number, where it names a row of the view.
+fn existing(view: &View<'_>, number: u32) -> Option<Token>
+    ensures found { IfSome result (λ token. IsToken number token × (1 ≤ token.row) × (token.row ≤ row_count view.now token.table)) }
+    ensures none { IfNone result (¬ HasTokenRow view.now number) }
+{
+    let token = Token::from_u32(number)?;
+    if 1 <= token.row && token.row <= view.count(token.table) {
+        Some(token)
+    } else {
+        None
+    }
+}
+
+fn print<W: Write>(alloc: Global, view: &View<'_>, token: Token, out: &mut W) -> io::Result<()>
+    requires model { HasModel view.now }
+    requires first { 1 ≤ token.row }
+    requires last { token.row ≤ row_count view.now token.table }
+{
+    let mut out = BufWriter::new(alloc, out)?;
+    print_row(alloc, view, token.table, token.row, &mut out)?;
+    out.flush()
+}
+
+/// Prints the user string at an offset in the model's user bytes.
+fn print_string_at<W: Write>(
+    alloc: Global,
+    view: &View<'_>,
+    offset: u32,
+    out: &mut W,
+) -> Result<(), Failure<'static>>
+    ensures found { OnOk result (HasString view.now offset) }
+    ensures none { IfErr result (TellsNoString view.now offset) }
+{
+    let user = filled_copy(alloc, view.user()).map_err(|_| Failure::OutOfMemory)?;
+    let Ok(string) = user_string(&user, offset) else {
+        return Err(Failure::NoSuchRow);
+    };
+    printed(print_user_string(alloc, &string, out))
+}
+
+/// A copy of bytes, filled with zeros to a multiple of four.
+fn filled_copy(alloc: Global, bytes: &[u8]) -> Result<Vec<u8>, AllocError>
+    ensures { IfOk result (λ copy. copy.items ≡ filled bytes.now) }
+{
+    let fill = (4 - bytes.len() % 4) % 4;
+    let mut copy = Vec::with_capacity(alloc, bytes.len() + fill)?;
+    copy.extend_from_slice(bytes)?;
+    copy.resize(bytes.len() + fill, 0)?;
+    Ok(copy)
+}
+
+fn print_user_string<W: Write>(
+    alloc: Global,
+    string: &UserString<'_>,
+    out: &mut W,
+) -> io::Result<()> {
+    let mut out = BufWriter::new(alloc, out)?;
+    write!(out, "user")?;
+    if let Some(flag) = string.flag() {
+        write!(out, " ")?;
+        for unit in string.units() {
+            write!(out, "{}", ShownUnit(unit))?;
+        }
+        write!(out, " {flag}")?;
+    }
+    writeln!(out)?;
+    out.flush()
+}

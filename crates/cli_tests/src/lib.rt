@@ -1,0 +1,21 @@
+//! Tests of `cli`, over its public calls alone: the lines that the program prints, its statuses, its help
+//! and its usage texts, on files that the tests write; and what words ask for, of which [`file_named`]
+//! tells the file.
+#![tactic(auto)]
+
+mod named;
+
+pub use named::file_named;
+
+#[cfg(test)]
+mod heads;
+#[cfg(test)]
+mod printed_rows;
+#[cfg(test)]
+mod runs;
+#[cfg(test)]
+mod samples;
+#[cfg(test)]
+mod words;
+#[cfg(test)]
+mod writers;

@@ -1,0 +1,64 @@
+use crate::samples::put;
+use cli::go;
+use std::fs;
+use std::test::Fail;
+
+/// What a call prints, and its status.
+pub fn answer(rt: &HostRuntime, words: &[&str]) -> Result<(u8, String, String), Fail> {
+    let mut out = Vec::new(rt.alloc());
+    let mut err = Vec::new(rt.alloc());
+    let status = go(rt, words, &mut out, &mut err);
+    let out = String::from_utf8(out).ok().ok_or("no text")?;
+    let err = String::from_utf8(err).ok().ok_or("no text")?;
+    Ok((status, out, err))
+}
+
+/// What is told of a file's first `len` bytes, some of them changed, and with which status.
+#[derive(Clone, Copy)]
+pub struct Case<'a> {
+    len: usize,
+    place: usize,
+    bytes: &'a [u8],
+    status: u8,
+    told: &'a str,
+}
+
+impl<'a> Case<'a> {
+    /// What is told of the first `len` bytes with `bytes` put over those at `place`, on the output where
+    /// the status is 0, and else on standard error.
+    pub const fn new(len: usize, place: usize, bytes: &'a [u8], status: u8, told: &'a str) -> Self {
+        Case {
+            len,
+            place,
+            bytes,
+            status,
+            told,
+        }
+    }
+}
+
+/// What the program answers to a case of a file, by the words before the file's name, where that is
+/// not what is told of the case.
+pub fn other_answer(
+    rt: &HostRuntime,
+    words: &[&str],
+    sample: &[u8],
+    case: &Case,
+) -> Result<Option<String>, Fail> {
+    let mut file: Vec<u8> = sample.iter().copied().take(case.len).collect(rt.alloc())?;
+    put(&mut file, case.place, case.bytes);
+    fs::write(rt, "a.file", file.as_slice())?;
+    let mut words: Vec<&str> = words.to_vec(rt.alloc())?;
+    words.push("a.file")?;
+    let (status, out, err) = answer(rt, &words)?;
+    fs::remove_file(rt, "a.file")?;
+    let (want_out, want_err) = if case.status == 0 {
+        (case.told, "")
+    } else {
+        ("", case.told)
+    };
+    if status == case.status && out.as_str() == want_out && err.as_str() == want_err {
+        return Ok(None);
+    }
+    Ok(Some(format!(in rt.alloc(); "{status}: {out}{err}")?))
+}

@@ -1,0 +1,184 @@
+use crate::named::file_named;
+use crate::runs::answer;
+use cli::{Ask, Subcommand, ask, refuse_words};
+use std::io;
+use std::io::ErrorKind;
+use std::test::Fail;
+
+/// How help shows the lines.
+const LINES_IN_HELP: &str = "\
+  version v4.0.30319
+  stream 80 40 #~
+  stream 120 8 #Strings
+  stream 128 16 #GUID
+";
+
+/// The file named lacks: a status of 2 shows that it was not looked for.
+#[test]
+fn tells_what_the_words_lack(rt: HostRuntime) -> Result<(), Fail> {
+    let refused: [(&[&str], &str); 20] = [
+        (&[], "Usage: clim <COMMAND>"),
+        (&["clim"], "Usage: clim <COMMAND>"),
+        (&["clim", "lacks"], "unrecognized subcommand 'lacks'"),
+        (
+            &["clim", "checks", "--bare", "lacks"],
+            "unrecognized subcommand 'checks'",
+        ),
+        (&["clim", "check"], "Usage: clim check <FILE>"),
+        (
+            &["clim", "check", "lacks", "more"],
+            "unexpected argument 'more'",
+        ),
+        (&["clim", "show"], "Usage: clim show <FILE>"),
+        (&["clim", "types"], "Usage: clim types <FILE>"),
+        (&["clim", "token"], "Usage: clim token <FILE> <HEX>"),
+        (&["clim", "token", "lacks"], "  <HEX>\n"),
+        (
+            &["clim", "token", "lacks", "1", "2"],
+            "unexpected argument '2'",
+        ),
+        (&["clim", "help"], "unrecognized subcommand 'help'"),
+        (
+            &["clim", "--bare", "root", "lacks"],
+            "unexpected argument '--bare'",
+        ),
+        (&["clim", "root"], "Usage: clim root <FILE>"),
+        (&["clim", "root", "--bare"], "  <FILE>\n"),
+        (
+            &["clim", "root", "--bare", "--bare", "lacks"],
+            "cannot be used multiple times",
+        ),
+        (
+            &["clim", "root", "--bare=1", "lacks"],
+            "unexpected value '1' for '--bare'",
+        ),
+        (&["clim", "root", "-b", "lacks"], "unexpected argument '-b'"),
+        (
+            &["clim", "root", "--bare", "lacks", "more"],
+            "unexpected argument 'more'",
+        ),
+        (
+            &["clim", "root", "--version"],
+            "unexpected argument '--version'",
+        ),
+    ];
+    for (words, told) in refused {
+        let (status, out, err) = answer(&rt, words)?;
+        assert_eq!(rt; status, 2, "{told}");
+        assert!(rt; out.is_empty());
+        assert!(rt; err.contains(told), "{err}");
+    }
+    Ok(())
+}
+
+/// Whether the words print these texts with status 0, and nothing else is told.
+fn prints(rt: &HostRuntime, words: &[&str], texts: &[&str]) -> Result<bool, Fail> {
+    let (status, out, err) = answer(rt, words)?;
+    for text in texts {
+        if !out.contains(*text) {
+            return Ok(false);
+        }
+    }
+    Ok(status == 0 && err.is_empty())
+}
+
+#[test]
+fn helps(rt: HostRuntime) -> Result<(), Fail> {
+    let texts = [
+        "Usage: clim <COMMAND>",
+        "\n  root ",
+        "\n  check ",
+        "\n  show ",
+        "\n  types ",
+        "\n  token ",
+        "Exit status:",
+    ];
+    assert!(rt; prints(&rt, &["clim", "--help"], &texts)?);
+    assert!(rt; prints(&rt, &["clim", "--version"], &["clim 0.1.0\n"])?);
+    Ok(())
+}
+
+#[test]
+fn helps_with_each_subcommand(rt: HostRuntime) -> Result<(), Fail> {
+    let helped = [
+        (
+            "root",
+            "Usage: clim root [OPTIONS] <FILE>",
+            "\n  $ clim root --bare ",
+        ),
+        (
+            "check",
+            "Usage: clim check [OPTIONS] <FILE>",
+            "\n  $ clim check --bare ",
+        ),
+        (
+            "show",
+            "Usage: clim show [OPTIONS] <FILE>",
+            "\n  1: 0 \"a.dll\" {03020100-0504-0706-0809-0a0b0c0d0e0f} null null",
+        ),
+        (
+            "types",
+            "Usage: clim types [OPTIONS] <FILE>",
+            "\n  02000002 N.C 2 1\n",
+        ),
+        (
+            "token",
+            "Usage: clim token [OPTIONS] <FILE> <HEX>",
+            "\n  user\n",
+        ),
+    ];
+    for (name, usage, example) in helped {
+        let is_told = prints(&rt, &["clim", name, "--help"], &[usage, example])?;
+        assert!(rt; is_told, "{name}");
+    }
+    assert!(rt; prints(&rt, &["clim", "root", "-h"], &["<FILE>  ", LINES_IN_HELP])?);
+    Ok(())
+}
+
+#[test]
+fn asks(rt: HostRuntime) -> Result<(), Fail> {
+    let want = Ask {
+        subcommand: Subcommand::Root,
+        bare: true,
+        file: Some("a.root"),
+        second: None,
+    };
+    assert_eq!(rt;
+        ask(rt.alloc(), &["clim", "root", "a.root", "--bare"])?,
+        want
+    );
+    let want = Ask {
+        subcommand: Subcommand::Check,
+        bare: false,
+        file: Some("a.dll"),
+        second: None,
+    };
+    assert_eq!(rt; ask(rt.alloc(), &["clim", "check", "a.dll"])?, want);
+    let want = Ask {
+        subcommand: Subcommand::Token,
+        bare: true,
+        file: Some("a.root"),
+        second: Some("6000001"),
+    };
+    assert_eq!(rt;
+        ask(
+            rt.alloc(),
+            &["clim", "token", "a.root", "--bare", "6000001"]
+        )?,
+        want
+    );
+    Ok(())
+}
+
+#[test]
+fn names_the_file(rt: HostRuntime) -> Result<(), Fail> {
+    for words in [
+        ["clim", "root", "a.root", "--bare"].as_slice(),
+        &["clim", "check", "a.root"],
+        &["clim", "token", "--bare", "a.root", "6000001"],
+    ] {
+        assert_eq!(rt; file_named(rt.alloc(), words)?, "a.root");
+    }
+    assert!(rt; file_named(rt.alloc(), &["clim", "token", "a.root"]).is_err());
+    Ok(())
+}

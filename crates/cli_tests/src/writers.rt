@@ -1,0 +1,122 @@
+use crate::samples::{SAMPLE, TWO_TYPES};
+use cli::{go, refuse_words};
+use std::io::{ErrorKind, Write};
+use std::test::Fail;
+use std::{fs, io};
+
+/// A device that takes nothing: it refuses each write or, where `late`, each flush.
+#[derive(Drop)]
+struct Full {
+    late: bool,
+}
+
+impl Write for Full {
+    fn write(&mut self, buf: &[u8]) -> io::Result<usize> {
+        if self.late {
+            Ok(buf.len())
+        } else {
+            Err(io::Error::from(ErrorKind::StorageFull))
+        }
+    }
+
+    fn flush(&mut self) -> io::Result<()> {
+        Err(io::Error::from(ErrorKind::StorageFull))
+    }
+}
+
+#[test]
+fn stands_full_devices(rt: HostRuntime) -> Result<(), Fail> {
+    fs::write(&rt, "b.root", SAMPLE.as_slice())?;
+    fs::write(&rt, "c.root", b"".as_slice())?;
+    for late in [false, true] {
+        for words in [
+            ["clim", "root", "--bare", "b.root"],
+            ["clim", "root", "--bare", "--help"],
+            ["clim", "check", "--bare", "b.root"],
+            ["clim", "show", "--bare", "b.root"],
+        ] {
+            let mut err = Vec::new(rt.alloc());
+            let status = go(&rt, &words, &mut Full { late }, &mut err);
+            assert_eq!(rt; status, 3);
+            assert_eq!(rt; err.as_slice(), b"error: cannot write output\n".as_slice());
+        }
+    }
+    for (file, status) in [("b.root", 0), ("c.root", 1), ("--other", 2), ("lacks", 3)] {
+        let mut out = Vec::new(rt.alloc());
+        let words = ["clim", "root", "--bare", file];
+        assert_eq!(rt;
+            go(&rt, &words, &mut out, &mut Full { late: false }),
+            status
+        );
+        assert_eq!(rt; out.is_empty(), status != 0);
+    }
+    fs::remove_file(&rt, "b.root")?;
+    fs::remove_file(&rt, "c.root")?;
+    for (kind, status, told) in [
+        (
+            ErrorKind::InvalidData,
+            2,
+            "error: an argument is not UTF-8\n",
+        ),
+        (ErrorKind::OutOfMemory, 3, "error: out of memory\n"),
+    ] {
+        let mut err = Vec::new(rt.alloc());
+        assert_eq!(rt; refuse_words(&io::Error::from(kind), &mut err), status);
+        assert_eq!(rt; err.as_slice(), told.as_bytes());
+    }
+    Ok(())
+}
+
+/// A device that takes so many bytes, a few at a time, and then no more.
+#[derive(Drop)]
+struct Narrow {
+    taken: Vec<u8>,
+    room: usize,
+}
+
+impl Write for Narrow {
+    fn write(&mut self, buf: &[u8]) -> io::Result<usize> {
+        let count = buf.len().min(self.room).min(7);
+        if count == 0 {
+            return Err(io::Error::from(ErrorKind::BrokenPipe));
+        }
+        self.taken.extend_from_slice(&buf[..count])?;
+        self.room -= count;
+        Ok(count)
+    }
+
+    fn flush(&mut self) -> io::Result<()> {
+        Ok(())
+    }
+}
+
+/// The lines of the rows are 165 bytes, so that each of these devices but the last fails in mid-stream or at
+/// the end.
+#[test]
+fn stands_a_device_that_fails_at_each_byte(rt: HostRuntime) -> Result<(), Fail> {
+    fs::write(&rt, "narrow.root", TWO_TYPES.as_slice())?;
+    let words = ["clim", "show", "--bare", "narrow.root"];
+    let mut whole = Vec::new(rt.alloc());
+    let mut err = Vec::new(rt.alloc());
+    assert_eq!(rt; go(&rt, &words, &mut whole, &mut err), 0);
+    for room in 0..200 {
+        let mut out = Narrow {
+            taken: Vec::new(rt.alloc()),
+            room,
+        };
+        let mut err = Vec::new(rt.alloc());
+        let status = go(&rt, &words, &mut out, &mut err);
+        assert!(rt; whole.starts_with(out.taken.as_slice()), "{room}");
+        if room < whole.len() {
+            assert_eq!(rt; status, 3, "{room}");
+            assert_eq!(rt; out.taken.len(), room);
+            assert_eq!(rt; err.as_slice(), b"error: cannot write output\n".as_slice());
+        } else {
+            assert_eq!(rt; status, 0, "{room}");
+            assert_eq!(rt; out.taken.as_slice(), whole.as_slice());
+            assert!(rt; err.is_empty());
+        }
+    }
+    fs::remove_file(&rt, "narrow.root")?;
+    Ok(())
+}

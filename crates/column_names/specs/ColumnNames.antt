@@ -1,0 +1,46 @@
+-- The names of the columns of the tables (ECMA-335 II.22), in the order of the columns. The second column of Constant, whose byte
+-- the standard calls padding, has that word for its name.
+use Rattle.std.specs.Prelude.{ℕ, List, [], ◌∷◌, codes}
+use Rattle.schema.specs.declared.table.TableId.{TableId}
+use Rattle.schema.specs.declared.table.TableId.TheVariants.{Module, TypeRef, TypeDef, Field, MethodDef, Param, InterfaceImpl, MemberRef, Constant, CustomAttribute, FieldMarshal, DeclSecurity, ClassLayout, FieldLayout, StandAloneSig, EventMap, Event, PropertyMap, Property, MethodSemantics, MethodImpl, ModuleRef, TypeSpec, ImplMap, FieldRVA, Assembly, AssemblyProcessor, AssemblyOS, AssemblyRef, AssemblyRefProcessor, AssemblyRefOS, File, ExportedType, ManifestResource, NestedClass, GenericParam, MethodSpec, GenericParamConstraint}
+
+-- the names of the columns of each table, in order
+abbrev pub column_names_of : TableId → List (List ℕ)
+column_names_of Module = codes "Generation" ∷ codes "Name" ∷ codes "Mvid" ∷ codes "EncId" ∷ codes "EncBaseId" ∷ []
+column_names_of TypeRef = codes "ResolutionScope" ∷ codes "TypeName" ∷ codes "TypeNamespace" ∷ []
+column_names_of TypeDef = codes "Flags" ∷ codes "TypeName" ∷ codes "TypeNamespace" ∷ codes "Extends" ∷ codes "FieldList" ∷ codes "MethodList" ∷ []
+column_names_of Field = codes "Flags" ∷ codes "Name" ∷ codes "Signature" ∷ []
+column_names_of MethodDef = codes "RVA" ∷ codes "ImplFlags" ∷ codes "Flags" ∷ codes "Name" ∷ codes "Signature" ∷ codes "ParamList" ∷ []
+column_names_of Param = codes "Flags" ∷ codes "Sequence" ∷ codes "Name" ∷ []
+column_names_of InterfaceImpl = codes "Class" ∷ codes "Interface" ∷ []
+column_names_of MemberRef = codes "Class" ∷ codes "Name" ∷ codes "Signature" ∷ []
+column_names_of Constant = codes "Type" ∷ codes "padding" ∷ codes "Parent" ∷ codes "Value" ∷ []
+column_names_of CustomAttribute = codes "Parent" ∷ codes "Type" ∷ codes "Value" ∷ []
+column_names_of FieldMarshal = codes "Parent" ∷ codes "NativeType" ∷ []
+column_names_of DeclSecurity = codes "Action" ∷ codes "Parent" ∷ codes "PermissionSet" ∷ []
+column_names_of ClassLayout = codes "PackingSize" ∷ codes "ClassSize" ∷ codes "Parent" ∷ []
+column_names_of FieldLayout = codes "Offset" ∷ codes "Field" ∷ []
+column_names_of StandAloneSig = codes "Signature" ∷ []
+column_names_of EventMap = codes "Parent" ∷ codes "EventList" ∷ []
+column_names_of Event = codes "EventFlags" ∷ codes "Name" ∷ codes "EventType" ∷ []
+column_names_of PropertyMap = codes "Parent" ∷ codes "PropertyList" ∷ []
+column_names_of Property = codes "Flags" ∷ codes "Name" ∷ codes "Type" ∷ []
+column_names_of MethodSemantics = codes "Semantics" ∷ codes "Method" ∷ codes "Association" ∷ []
+column_names_of MethodImpl = codes "Class" ∷ codes "MethodBody" ∷ codes "MethodDeclaration" ∷ []
+column_names_of ModuleRef = codes "Name" ∷ []
+column_names_of TypeSpec = codes "Signature" ∷ []
+column_names_of ImplMap = codes "MappingFlags" ∷ codes "MemberForwarded" ∷ codes "ImportName" ∷ codes "ImportScope" ∷ []
+column_names_of FieldRVA = codes "RVA" ∷ codes "Field" ∷ []
+column_names_of Assembly = codes "HashAlgId" ∷ codes "MajorVersion" ∷ codes "MinorVersion" ∷ codes "BuildNumber" ∷ codes "RevisionNumber" ∷ codes "Flags" ∷ codes "PublicKey" ∷ codes "Name" ∷ codes "Culture" ∷ []
+column_names_of AssemblyProcessor = codes "Processor" ∷ []
+column_names_of AssemblyOS = codes "OSPlatformID" ∷ codes "OSMajorVersion" ∷ codes "OSMinorVersion" ∷ []
+column_names_of AssemblyRef = codes "MajorVersion" ∷ codes "MinorVersion" ∷ codes "BuildNumber" ∷ codes "RevisionNumber" ∷ codes "Flags" ∷ codes "PublicKeyOrToken" ∷ codes "Name" ∷ codes "Culture" ∷ codes "HashValue" ∷ []
+column_names_of AssemblyRefProcessor = codes "Processor" ∷ codes "AssemblyRef" ∷ []
+column_names_of AssemblyRefOS = codes "OSPlatformID" ∷ codes "OSMajorVersion" ∷ codes "OSMinorVersion" ∷ codes "AssemblyRef" ∷ []
+column_names_of File = codes "Flags" ∷ codes "Name" ∷ codes "HashValue" ∷ []
+column_names_of ExportedType = codes "Flags" ∷ codes "TypeDefId" ∷ codes "TypeName" ∷ codes "TypeNamespace" ∷ codes "Implementation" ∷ []
+column_names_of ManifestResource = codes "Offset" ∷ codes "Flags" ∷ codes "Name" ∷ codes "Implementation" ∷ []
+column_names_of NestedClass = codes "NestedClass" ∷ codes "EnclosingClass" ∷ []
+column_names_of GenericParam = codes "Number" ∷ codes "Flags" ∷ codes "Owner" ∷ codes "Name" ∷ []
+column_names_of MethodSpec = codes "Method" ∷ codes "Instantiation" ∷ []
+column_names_of GenericParamConstraint = codes "Owner" ∷ codes "Constraint" ∷ []

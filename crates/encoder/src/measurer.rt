@@ -1,0 +1,100 @@
+ghost use Rattle.std.specs.Prelude.{◌≡◌, ◌^◌, nat_lt, if◌then◌else◌, Some, None, pos, neg_ℤ, ◌≤ℤ◌, ◌<ℤ◌, length};
+ghost use Rattle.packed.specs.Packed.{short_signed};
+ghost use Rattle.walk.specs.Run.{after};
+ghost use Rattle.encoder.specs.Lengths.{number_of, take_room};
+
+use packed::unsigned_len;
+use schema::{Coded, Token, join};
+use walk::PartSink;
+
+/// The fewest numbers that are too great for a packed number.
+const TOO_GREAT: usize = 1 << 29;
+
+/// A number, where it has a spelling: below 2^29.
+pub fn spelled_number(number: usize) -> Option<u32>
+    ensures { result ≡ (if nat_lt number (2 ^ 29) then Some number else None) }
+{
+    if number < TOO_GREAT {
+        return Some(number as u32);
+    }
+    None
+}
+
+/// The number of an index of a row of TypeDef, TypeRef or TypeSpec (II.23.2.8), where it has a spelling.
+#[tactic(auto, using(crate::proofs::Indexes::code_some, crate::proofs::Indexes::code_great))]
+pub fn index_number(token: Token) -> Option<u32>
+    ensures { result ≡ number_of token }
+{
+    let number = join(Coded::TypeDefOrRef, token.table, token.row)?;
+    spelled_number(number as usize)
+}
+
+/// How many bytes the shortest form of a signed number has (II.23.2.13).
+pub fn signed_len(number: i32) -> usize
+    requires low { neg_ℤ (pos (2 ^ 28)) ≤ℤ number }
+    requires high { number <ℤ pos (2 ^ 28) }
+    ensures { result ≡ length (short_signed number) }
+{
+    match number {
+        -0x40..0x40 => 1,
+        -0x2000..0x2000 => 2,
+        _ => 4,
+    }
+}
+
+/// Measures a spelling: the room, in bytes, that is left behind it.
+#[derive(Clone, Copy, Debug)]
+pub struct Measurer {
+    /// The room that is left.
+    pub left: usize,
+}
+
+impl Measurer {
+    /// Takes the room of so many bytes.
+    #[tactic(auto, unfolding(crate::specs::Lengths::take_room))]
+    fn take(&mut self, count: usize) -> Option<()>
+        ensures { after result self.new ≡ take_room count self.old }
+    {
+        self.left = self.left.checked_sub(count)?;
+        Some(())
+    }
+}
+
+impl PartSink for Measurer {
+    ghost use Rattle.encoder.specs.Lengths.{measurer_step};
+
+    ghost step = { measurer_step };
+
+    #[tactic(auto, unfolding(crate::specs::Lengths::measurer_step))]
+    fn byte(&mut self, code: u16) -> Option<()> {
+        if code > 0xFF {
+            return None;
+        }
+        self.take(1)
+    }
+
+    #[tactic(auto, unfolding(crate::specs::Lengths::measurer_step))]
+    fn number(&mut self, count: usize) -> Option<()> {
+        let number = spelled_number(count)?;
+        self.take(unsigned_len(number))
+    }
+
+    #[tactic(auto, unfolding(crate::specs::Lengths::measurer_step))]
+    fn signed(&mut self, value: i32) -> Option<()> {
+        match value {
+            -0x1000_0000..0x1000_0000 => self.take(signed_len(value)),
+            _ => None,
+        }
+    }
+
+    #[tactic(auto, unfolding(crate::specs::Lengths::measurer_step, crate::specs::Lengths::number_of))]
+    fn index(&mut self, token: Token) -> Option<()> {
+        let number = index_number(token)?;
+        self.take(unsigned_len(number))
+    }
+
+    #[tactic(auto, unfolding(crate::specs::Lengths::measurer_step))]
+    fn broken(&mut self) -> Option<()> {
+        None
+    }
+}

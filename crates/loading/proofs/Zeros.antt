@@ -1,0 +1,12 @@
+-- Bytes that are filled.
+use Rattle.std.proofs.Common.{◌≡◌, ℕ, ◌+◌, ◌-◌, ◌%◌, List, ◌++◌, length, take, replicate, ap, ◌∙◌, arith}
+use Rattle.std.proofs.lemmas.List.{take_all}
+use Rattle.heaps.specs.Fill.{filled}
+
+-- what has room for the fill holds the bytes and the fill
+pub resized : (bytes : List ℕ) (n k : ℕ) → n ≡ length bytes + (4 - length bytes % 4) % 4 → k ≡ length bytes
+    → take n bytes ++ replicate (n - k) 0 ≡ filled bytes
+resized bytes n k e f =
+    let all : take n bytes ≡ bytes = take_all n bytes (omega arith) in
+    let fill : n - k ≡ (4 - length bytes % 4) % 4 = omega arith in
+    ap (λ (front : List ℕ). front ++ replicate (n - k) 0) all ∙ ap (λ (m : ℕ). bytes ++ replicate {A = ℕ} m 0) fill

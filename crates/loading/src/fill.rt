@@ -1,0 +1,15 @@
+ghost use Rattle.std.specs.Prelude.{◌≡◌, IfOk};
+ghost use Rattle.heaps.specs.Fill.{filled};
+
+use std::alloc::{AllocError, Global};
+
+/// A copy of the bytes, filled with zeros to a multiple of four (II.24.2.2).
+pub fn copy_filled(alloc: Global, bytes: &[u8]) -> Result<Vec<u8>, AllocError>
+    ensures { IfOk result (λ copy. copy.items ≡ filled bytes.now) }
+{
+    let len = bytes.len() + (4 - bytes.len() % 4) % 4;
+    let mut copy = Vec::with_capacity(alloc, len)?;
+    copy.extend_from_slice(bytes)?;
+    copy.resize(len, 0)?;
+    Ok(copy)
+}

@@ -1,0 +1,57 @@
+ghost use Rattle.std.specs.Prelude.{◌≡◌, IfOk};
+ghost use Rattle.metadata.specs.Metadata.{Metadata};
+ghost use Rattle.metadata.specs.Model.{IsModel};
+
+use crate::fill::copy_filled;
+use crate::table_rows::load_tables;
+use metadata::{models_are_read, models_of_roots_are_valid};
+use model::Model;
+use opening::View;
+use std::alloc::{AllocError, Global};
+use tables::Tables;
+
+/// The tables of the one model of a view's root.
+fn tables_of(alloc: Global, view: &View) -> Result<Tables, AllocError>
+    ensures { (model : Metadata) → IsModel view.now model → IfOk result (λ tables. tables ≡ model) }
+{
+    models_are_read();
+    let mut tables = Tables::new(alloc, view.version())?;
+    tables.set_user(copy_filled(alloc, view.user())?);
+    load_tables(alloc, view, &mut tables)?;
+    Ok(tables)
+}
+
+/// What a model can be made of.
+pub trait ToModel {
+    ghost use Rattle.std.specs.Prelude.{◌≡◌, IfOk};
+    ghost use Rattle.metadata.specs.Metadata.{Metadata};
+
+    ghost has_model: { Self → Metadata → Type 0 };
+
+    /// The one model, which owns what it holds. An error is want of memory alone.
+    fn model(&self, alloc: Global) -> Result<Model, AllocError>
+        ensures { (model : Metadata) → has_model self.now model → IfOk result (λ loaded. loaded ≡ model) };
+}
+
+impl ToModel for View<'_> {
+    ghost use Rattle.metadata.specs.Model.{IsModel};
+
+    ghost has_model = { λ view model. IsModel view model };
+
+    /// The one model of the root, which owns what it holds. An error is want of memory alone.
+    ///
+    /// The cost is linear in what the root holds, and in what its texts and blobs hold by each cell.
+    fn model(&self, alloc: Global) -> Result<Model, AllocError>
+        ensures model { (model : Metadata) → IsModel self.now model → IfOk result (λ loaded. loaded ≡ model) }
+        ensures found { IfOk result (λ loaded. ∥ IsModel self.now loaded ∥₁) }
+    {
+        models_of_roots_are_valid();
+        let tables = tables_of(alloc, self)?;
+        // The root has a model.
+        let _root = self.root();
+        match Model::from_tables(tables) {
+            Ok(model) => Ok(model),
+            Err(_) => unreachable!(),
+        }
+    }
+}

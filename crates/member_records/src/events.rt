@@ -1,0 +1,98 @@
+ghost use Rattle.std.specs.Prelude.{◌≡◌, [], ◌∷◌, IfOk};
+ghost use Rattle.schema.specs.declared.table.TableId.TheVariants as table;
+ghost use Rattle.metadata.specs.Cell.{Number, Text, Ref, Start};
+ghost use Rattle.cells.specs.Said.{all_said};
+
+use records::{Cell, FromRow, Record, Row, TableId, Text, Token, record_of};
+use std::alloc::{AllocError, Global};
+
+/// A type that has events (II.22.12).
+#[derive(Clone, Copy, Debug, PartialEq, Eq)]
+pub struct EventMap {
+    /// The type, in TypeDef.
+    pub parent: Option<Token>,
+    /// The first of its events, in Event.
+    pub event_list: u32,
+}
+
+impl<'m, W: Row<'m>> FromRow<'m, W> for EventMap {
+    ghost table = { table.EventMap };
+
+    ghost fields = { λ r. Ref r.parent ∷ Start r.event_list ∷ [] };
+
+    fn table_id() -> TableId
+        ensures { result ≡ table.EventMap }
+    {
+        TableId::EventMap
+    }
+
+    fn from_row(row: &W) -> EventMap {
+        EventMap {
+            parent: row.reference(0),
+            event_list: row.start(1),
+        }
+    }
+}
+
+impl<'m> Record<'m> for EventMap {
+    const TABLE: TableId = TableId::EventMap;
+
+    fn from_cells(cells: &'m [Cell]) -> Option<EventMap> {
+        record_of(cells)
+    }
+
+    fn cells(&self, alloc: Global) -> Result<Vec<Cell>, AllocError>
+        ensures { IfOk result (λ cells. all_said cells.items ≡ Ref self.now.parent ∷ Start self.now.event_list ∷ []) }
+    {
+        let cells = vec![in alloc; Cell::Ref(self.parent), Cell::Start(self.event_list)]?;
+        Ok(cells)
+    }
+}
+
+/// An event of a type (II.22.13).
+#[derive(Clone, Copy, Debug, PartialEq, Eq)]
+pub struct Event<'m> {
+    /// EventAttributes (II.23.1.4).
+    pub event_flags: u32,
+    /// The event's name.
+    pub name: &'m str,
+    /// The type of its handlers: a TypeDef, TypeRef or TypeSpec; null where it has none.
+    pub event_type: Option<Token>,
+}
+
+impl<'m, W: Row<'m>> FromRow<'m, W> for Event<'m> {
+    ghost table = { table.Event };
+
+    ghost fields = { λ r. Number r.event_flags ∷ Text r.name.now ∷ Ref r.event_type ∷ [] };
+
+    fn table_id() -> TableId
+        ensures { result ≡ table.Event }
+    {
+        TableId::Event
+    }
+
+    fn from_row(row: &W) -> Event<'m> {
+        Event {
+            event_flags: row.number(0),
+            name: row.text(1),
+            event_type: row.reference(2),
+        }
+    }
+}
+
+impl<'m> Record<'m> for Event<'m> {
+    const TABLE: TableId = TableId::Event;
+
+    fn from_cells(cells: &'m [Cell]) -> Option<Event<'m>> {
+        record_of(cells)
+    }
+
+    fn cells(&self, alloc: Global) -> Result<Vec<Cell>, AllocError> {
+        let cells = vec![in alloc;
+            Cell::Number(self.event_flags),
+            Cell::Text(Text::from(String::from_str(alloc, self.name)?)),
+            Cell::Ref(self.event_type),
+        ]?;
+        Ok(cells)
+    }
+}

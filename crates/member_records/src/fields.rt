@@ -1,0 +1,237 @@
+ghost use Rattle.std.specs.Prelude.{◌≡◌, [], ◌∷◌, IfOk};
+ghost use Rattle.schema.specs.declared.table.TableId.TheVariants as table;
+ghost use Rattle.schema.specs.declared.column.SigKind.TheVariants as column;
+ghost use Rattle.metadata.specs.Cell.{Number, Text, Bytes, Ref, Sig};
+ghost use Rattle.cells.specs.Said.{all_said};
+
+use records::{
+    Bytes, Cell, FromRow, IsSignature, Record, Row, SigKind, Signature, TableId, Text, Token,
+    record_of,
+};
+use std::alloc::{AllocError, Global};
+
+/// A field of a type of this module (II.22.15).
+#[derive(Clone, Copy, Debug, PartialEq, Eq)]
+pub struct Field<'m, S = &'m Signature> {
+    /// FieldAttributes (II.23.1.5).
+    pub flags: u32,
+    /// The field's name.
+    pub name: &'m str,
+    /// Its type (II.23.2.4).
+    pub signature: S,
+}
+
+impl<'m, S: IsSignature, W: Row<'m, Signature = S>> FromRow<'m, W> for Field<'m, S> {
+    ghost table = { table.Field };
+
+    ghost fields = { λ r. Number r.flags ∷ Text r.name.now ∷ Sig (S.body column.Field r.signature) ∷ [] };
+
+    fn table_id() -> TableId
+        ensures { result ≡ table.Field }
+    {
+        TableId::Field
+    }
+
+    fn from_row(row: &W) -> Field<'m, S> {
+        Field {
+            flags: row.number(0),
+            name: row.text(1),
+            signature: row.signature(2, SigKind::Field),
+        }
+    }
+}
+
+impl<'m> Record<'m> for Field<'m> {
+    const TABLE: TableId = TableId::Field;
+
+    fn from_cells(cells: &'m [Cell]) -> Option<Field<'m>> {
+        record_of(cells)
+    }
+
+    fn cells(&self, alloc: Global) -> Result<Vec<Cell>, AllocError> {
+        let cells = vec![in alloc;
+            Cell::Number(self.flags),
+            Cell::Text(Text::from(String::from_str(alloc, self.name)?)),
+            Cell::Sig(self.signature.copy(alloc)?),
+        ]?;
+        Ok(cells)
+    }
+}
+
+/// Where a field lies in its type (II.22.16).
+#[derive(Clone, Copy, Debug, PartialEq, Eq)]
+pub struct FieldLayout {
+    /// Where it begins, in bytes from the start of the type.
+    pub offset: u32,
+    /// The field, in Field.
+    pub field: Option<Token>,
+}
+
+impl<'m, W: Row<'m>> FromRow<'m, W> for FieldLayout {
+    ghost table = { table.FieldLayout };
+
+    ghost fields = { λ r. Number r.offset ∷ Ref r.field ∷ [] };
+
+    fn table_id() -> TableId
+        ensures { result ≡ table.FieldLayout }
+    {
+        TableId::FieldLayout
+    }
+
+    fn from_row(row: &W) -> FieldLayout {
+        FieldLayout {
+            offset: row.number(0),
+            field: row.reference(1),
+        }
+    }
+}
+
+impl<'m> Record<'m> for FieldLayout {
+    const TABLE: TableId = TableId::FieldLayout;
+
+    fn from_cells(cells: &'m [Cell]) -> Option<FieldLayout> {
+        record_of(cells)
+    }
+
+    fn cells(&self, alloc: Global) -> Result<Vec<Cell>, AllocError>
+        ensures { IfOk result (λ cells. all_said cells.items ≡ Number self.now.offset ∷ Ref self.now.field ∷ []) }
+    {
+        let cells = vec![in alloc; Cell::Number(self.offset), Cell::Ref(self.field)]?;
+        Ok(cells)
+    }
+}
+
+/// How a field or parameter is marshalled (II.22.17).
+#[derive(Clone, Copy, Debug, PartialEq, Eq)]
+pub struct FieldMarshal<'m> {
+    /// The Field or Param.
+    pub parent: Option<Token>,
+    /// How it is passed to and from native code: a marshalling descriptor (II.23.4).
+    pub native_type: &'m [u8],
+}
+
+impl<'m, W: Row<'m>> FromRow<'m, W> for FieldMarshal<'m> {
+    ghost table = { table.FieldMarshal };
+
+    ghost fields = { λ r. Ref r.parent ∷ Bytes r.native_type.now ∷ [] };
+
+    fn table_id() -> TableId
+        ensures { result ≡ table.FieldMarshal }
+    {
+        TableId::FieldMarshal
+    }
+
+    fn from_row(row: &W) -> FieldMarshal<'m> {
+        FieldMarshal {
+            parent: row.reference(0),
+            native_type: row.bytes(1),
+        }
+    }
+}
+
+impl<'m> Record<'m> for FieldMarshal<'m> {
+    const TABLE: TableId = TableId::FieldMarshal;
+
+    fn from_cells(cells: &'m [Cell]) -> Option<FieldMarshal<'m>> {
+        record_of(cells)
+    }
+
+    fn cells(&self, alloc: Global) -> Result<Vec<Cell>, AllocError> {
+        let cells = vec![in alloc;
+            Cell::Ref(self.parent),
+            Cell::Bytes(Bytes::from(Vec::from_slice(alloc, self.native_type)?)),
+        ]?;
+        Ok(cells)
+    }
+}
+
+/// Where the initial value of a field stands (II.22.18).
+#[derive(Clone, Copy, Debug, PartialEq, Eq)]
+pub struct FieldRVA {
+    /// The relative virtual address of the value.
+    pub rva: u32,
+    /// The field, in Field.
+    pub field: Option<Token>,
+}
+
+impl<'m, W: Row<'m>> FromRow<'m, W> for FieldRVA {
+    ghost table = { table.FieldRVA };
+
+    ghost fields = { λ r. Number r.rva ∷ Ref r.field ∷ [] };
+
+    fn table_id() -> TableId
+        ensures { result ≡ table.FieldRVA }
+    {
+        TableId::FieldRVA
+    }
+
+    fn from_row(row: &W) -> FieldRVA {
+        FieldRVA {
+            rva: row.number(0),
+            field: row.reference(1),
+        }
+    }
+}
+
+impl<'m> Record<'m> for FieldRVA {
+    const TABLE: TableId = TableId::FieldRVA;
+
+    fn from_cells(cells: &'m [Cell]) -> Option<FieldRVA> {
+        record_of(cells)
+    }
+
+    fn cells(&self, alloc: Global) -> Result<Vec<Cell>, AllocError>
+        ensures { IfOk result (λ cells. all_said cells.items ≡ Number self.now.rva ∷ Ref self.now.field ∷ []) }
+    {
+        let cells = vec![in alloc; Cell::Number(self.rva), Cell::Ref(self.field)]?;
+        Ok(cells)
+    }
+}
+
+/// A field or method of another module, or a call with variable arguments (II.22.25).
+#[derive(Clone, Copy, Debug, PartialEq, Eq)]
+pub struct MemberRef<'m, S = &'m Signature> {
+    /// What has the member: a TypeDef, TypeRef, TypeSpec or ModuleRef, or the MethodDef that is called.
+    pub class: Option<Token>,
+    /// The member's name.
+    pub name: &'m str,
+    /// The type of the field, or the signature of the method or call (II.23.2.2, II.23.2.4).
+    pub signature: S,
+}
+
+impl<'m, S: IsSignature, W: Row<'m, Signature = S>> FromRow<'m, W> for MemberRef<'m, S> {
+    ghost table = { table.MemberRef };
+
+    ghost fields = { λ r. Ref r.class ∷ Text r.name.now ∷ Sig (S.body column.MemberRef r.signature) ∷ [] };
+
+    fn table_id() -> TableId
+        ensures { result ≡ table.MemberRef }
+    {
+        TableId::MemberRef
+    }
+
+    fn from_row(row: &W) -> MemberRef<'m, S> {
+        MemberRef {
+            class: row.reference(0),
+            name: row.text(1),
+            signature: row.signature(2, SigKind::MemberRef),
+        }
+    }
+}
+
+impl<'m> Record<'m> for MemberRef<'m> {
+    const TABLE: TableId = TableId::MemberRef;
+
+    fn from_cells(cells: &'m [Cell]) -> Option<MemberRef<'m>> {
+        record_of(cells)
+    }
+
+    fn cells(&self, alloc: Global) -> Result<Vec<Cell>, AllocError> {
+        let cells = vec![in alloc;
+            Cell::Ref(self.class),
+            Cell::Text(Text::from(String::from_str(alloc, self.name)?)),
+            Cell::Sig(self.signature.copy(alloc)?),
+        ]?;
+        Ok(cells)
+    }
+}

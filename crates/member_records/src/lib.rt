@@ -1,0 +1,23 @@
+//! The rows of tables as records (ECMA-335 II.22): those of the members of types, which are fields,
+//! methods, events and properties. The records of `records` are here too.
+//!
+//! ```text
+//! let record = MethodDef::from_cells(cells)?; // None where they are no row of MethodDef
+//! record.name == ".ctor" && record.signature.body() == &constructor
+//! ```
+#![tactic(auto)]
+
+mod events;
+mod fields;
+mod methods;
+mod properties;
+
+pub use events::{Event, EventMap};
+pub use fields::{Field, FieldLayout, FieldMarshal, FieldRVA, MemberRef};
+pub use methods::{MethodDef, MethodImpl, MethodSemantics, Param, StandAloneSig};
+pub use properties::{Property, PropertyMap};
+pub use records::{
+    Bytes, Cell, CellRow, ClassLayout, FromRow, GenericParam, GenericParamConstraint,
+    InterfaceImpl, IsSignature, MethodSpec, Module, NestedClass, Record, Row, SigKind, Signature,
+    TableId, Text, Token, TypeDef, TypeRef, TypeSpec, is_row_of, record_of,
+};

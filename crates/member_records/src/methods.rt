@@ -1,0 +1,258 @@
+ghost use Rattle.std.specs.Prelude.{◌≡◌, [], ◌∷◌, IfOk};
+ghost use Rattle.schema.specs.declared.table.TableId.TheVariants as table;
+ghost use Rattle.schema.specs.declared.column.SigKind.TheVariants as column;
+ghost use Rattle.metadata.specs.Cell.{Number, Text, Ref, Start, Sig};
+ghost use Rattle.cells.specs.Said.{all_said};
+
+use records::{
+    Cell, FromRow, IsSignature, Record, Row, SigKind, Signature, TableId, Text, Token, record_of,
+};
+use std::alloc::{AllocError, Global};
+
+/// A method of a type of this module (II.22.26).
+#[derive(Clone, Copy, Debug, PartialEq, Eq)]
+pub struct MethodDef<'m, S = &'m Signature> {
+    /// The relative virtual address of its body; 0 where it has none.
+    pub rva: u32,
+    /// MethodImplAttributes (II.23.1.11).
+    pub impl_flags: u32,
+    /// MethodAttributes (II.23.1.10).
+    pub flags: u32,
+    /// The method's name.
+    pub name: &'m str,
+    /// What it takes and returns (II.23.2.1).
+    pub signature: S,
+    /// The first of its parameters, in Param.
+    pub param_list: u32,
+}
+
+impl<'m, S: IsSignature, W: Row<'m, Signature = S>> FromRow<'m, W> for MethodDef<'m, S> {
+    ghost table = { table.MethodDef };
+
+    ghost fields = { λ r. Number r.rva ∷ Number r.impl_flags ∷ Number r.flags ∷ Text r.name.now
+        ∷ Sig (S.body column.MethodDef r.signature) ∷ Start r.param_list ∷ [] };
+
+    fn table_id() -> TableId
+        ensures { result ≡ table.MethodDef }
+    {
+        TableId::MethodDef
+    }
+
+    fn from_row(row: &W) -> MethodDef<'m, S> {
+        MethodDef {
+            rva: row.number(0),
+            impl_flags: row.number(1),
+            flags: row.number(2),
+            name: row.text(3),
+            signature: row.signature(4, SigKind::MethodDef),
+            param_list: row.start(5),
+        }
+    }
+}
+
+impl<'m> Record<'m> for MethodDef<'m> {
+    const TABLE: TableId = TableId::MethodDef;
+
+    fn from_cells(cells: &'m [Cell]) -> Option<MethodDef<'m>> {
+        record_of(cells)
+    }
+
+    fn cells(&self, alloc: Global) -> Result<Vec<Cell>, AllocError> {
+        let cells = vec![in alloc;
+            Cell::Number(self.rva),
+            Cell::Number(self.impl_flags),
+            Cell::Number(self.flags),
+            Cell::Text(Text::from(String::from_str(alloc, self.name)?)),
+            Cell::Sig(self.signature.copy(alloc)?),
+            Cell::Start(self.param_list),
+        ]?;
+        Ok(cells)
+    }
+}
+
+/// A parameter of a method of this module (II.22.33).
+#[derive(Clone, Copy, Debug, PartialEq, Eq)]
+pub struct Param<'m> {
+    /// ParamAttributes (II.23.1.13).
+    pub flags: u32,
+    /// Its place among the parameters, counted from 1; 0 is what the method returns.
+    pub sequence: u32,
+    /// Its name; empty where it has none.
+    pub name: &'m str,
+}
+
+impl<'m, W: Row<'m>> FromRow<'m, W> for Param<'m> {
+    ghost table = { table.Param };
+
+    ghost fields = { λ r. Number r.flags ∷ Number r.sequence ∷ Text r.name.now ∷ [] };
+
+    fn table_id() -> TableId
+        ensures { result ≡ table.Param }
+    {
+        TableId::Param
+    }
+
+    fn from_row(row: &W) -> Param<'m> {
+        Param {
+            flags: row.number(0),
+            sequence: row.number(1),
+            name: row.text(2),
+        }
+    }
+}
+
+impl<'m> Record<'m> for Param<'m> {
+    const TABLE: TableId = TableId::Param;
+
+    fn from_cells(cells: &'m [Cell]) -> Option<Param<'m>> {
+        record_of(cells)
+    }
+
+    fn cells(&self, alloc: Global) -> Result<Vec<Cell>, AllocError> {
+        let cells = vec![in alloc;
+            Cell::Number(self.flags),
+            Cell::Number(self.sequence),
+            Cell::Text(Text::from(String::from_str(alloc, self.name)?)),
+        ]?;
+        Ok(cells)
+    }
+}
+
+/// A method that implements one of another name (II.22.27).
+#[derive(Clone, Copy, Debug, PartialEq, Eq)]
+pub struct MethodImpl {
+    /// The type that says so, in TypeDef.
+    pub class: Option<Token>,
+    /// The method that implements: a MethodDef or MemberRef.
+    pub method_body: Option<Token>,
+    /// The method that it implements: a MethodDef or MemberRef.
+    pub method_declaration: Option<Token>,
+}
+
+impl<'m, W: Row<'m>> FromRow<'m, W> for MethodImpl {
+    ghost table = { table.MethodImpl };
+
+    ghost fields = { λ r. Ref r.class ∷ Ref r.method_body ∷ Ref r.method_declaration ∷ [] };
+
+    fn table_id() -> TableId
+        ensures { result ≡ table.MethodImpl }
+    {
+        TableId::MethodImpl
+    }
+
+    fn from_row(row: &W) -> MethodImpl {
+        MethodImpl {
+            class: row.reference(0),
+            method_body: row.reference(1),
+            method_declaration: row.reference(2),
+        }
+    }
+}
+
+impl<'m> Record<'m> for MethodImpl {
+    const TABLE: TableId = TableId::MethodImpl;
+
+    fn from_cells(cells: &'m [Cell]) -> Option<MethodImpl> {
+        record_of(cells)
+    }
+
+    fn cells(&self, alloc: Global) -> Result<Vec<Cell>, AllocError>
+        ensures { IfOk result (λ cells. all_said cells.items ≡ Ref self.now.class ∷ Ref self.now.method_body ∷ Ref self.now.method_declaration ∷ []) }
+    {
+        let cells = vec![in alloc;
+            Cell::Ref(self.class),
+            Cell::Ref(self.method_body),
+            Cell::Ref(self.method_declaration),
+        ]?;
+        Ok(cells)
+    }
+}
+
+/// A method that belongs to an event or property (II.22.28).
+#[derive(Clone, Copy, Debug, PartialEq, Eq)]
+pub struct MethodSemantics {
+    /// MethodSemanticsAttributes (II.23.1.12): what the method does for it.
+    pub semantics: u32,
+    /// The method, in MethodDef.
+    pub method: Option<Token>,
+    /// The Event or Property.
+    pub association: Option<Token>,
+}
+
+impl<'m, W: Row<'m>> FromRow<'m, W> for MethodSemantics {
+    ghost table = { table.MethodSemantics };
+
+    ghost fields = { λ r. Number r.semantics ∷ Ref r.method ∷ Ref r.association ∷ [] };
+
+    fn table_id() -> TableId
+        ensures { result ≡ table.MethodSemantics }
+    {
+        TableId::MethodSemantics
+    }
+
+    fn from_row(row: &W) -> MethodSemantics {
+        MethodSemantics {
+            semantics: row.number(0),
+            method: row.reference(1),
+            association: row.reference(2),
+        }
+    }
+}
+
+impl<'m> Record<'m> for MethodSemantics {
+    const TABLE: TableId = TableId::MethodSemantics;
+
+    fn from_cells(cells: &'m [Cell]) -> Option<MethodSemantics> {
+        record_of(cells)
+    }
+
+    fn cells(&self, alloc: Global) -> Result<Vec<Cell>, AllocError>
+        ensures { IfOk result (λ cells. all_said cells.items ≡ Number self.now.semantics ∷ Ref self.now.method ∷ Ref self.now.association ∷ []) }
+    {
+        let cells = vec![in alloc;
+            Cell::Number(self.semantics),
+            Cell::Ref(self.method),
+            Cell::Ref(self.association),
+        ]?;
+        Ok(cells)
+    }
+}
+
+/// A signature that no other row has (II.22.36).
+#[derive(Clone, Copy, Debug, PartialEq, Eq)]
+pub struct StandAloneSig<S> {
+    /// The local variables of a method, or what a method takes and returns that is called by its address
+    /// (II.23.2.3, II.23.2.6).
+    pub signature: S,
+}
+
+impl<'m, S: IsSignature, W: Row<'m, Signature = S>> FromRow<'m, W> for StandAloneSig<S> {
+    ghost table = { table.StandAloneSig };
+
+    ghost fields = { λ r. Sig (S.body column.StandAlone r.signature) ∷ [] };
+
+    fn table_id() -> TableId
+        ensures { result ≡ table.StandAloneSig }
+    {
+        TableId::StandAloneSig
+    }
+
+    fn from_row(row: &W) -> StandAloneSig<S> {
+        StandAloneSig {
+            signature: row.signature(0, SigKind::StandAlone),
+        }
+    }
+}
+
+impl<'m> Record<'m> for StandAloneSig<&'m Signature> {
+    const TABLE: TableId = TableId::StandAloneSig;
+
+    fn from_cells(cells: &'m [Cell]) -> Option<StandAloneSig<&'m Signature>> {
+        record_of(cells)
+    }
+
+    fn cells(&self, alloc: Global) -> Result<Vec<Cell>, AllocError> {
+        let cells = vec![in alloc; Cell::Sig(self.signature.copy(alloc)?)]?;
+        Ok(cells)
+    }
+}

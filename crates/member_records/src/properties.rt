@@ -1,0 +1,101 @@
+ghost use Rattle.std.specs.Prelude.{◌≡◌, [], ◌∷◌, IfOk};
+ghost use Rattle.schema.specs.declared.table.TableId.TheVariants as table;
+ghost use Rattle.schema.specs.declared.column.SigKind.TheVariants as column;
+ghost use Rattle.metadata.specs.Cell.{Number, Text, Ref, Start, Sig};
+ghost use Rattle.cells.specs.Said.{all_said};
+
+use records::{
+    Cell, FromRow, IsSignature, Record, Row, SigKind, Signature, TableId, Text, Token, record_of,
+};
+use std::alloc::{AllocError, Global};
+
+/// A type that has properties (II.22.35).
+#[derive(Clone, Copy, Debug, PartialEq, Eq)]
+pub struct PropertyMap {
+    /// The type, in TypeDef.
+    pub parent: Option<Token>,
+    /// The first of its properties, in Property.
+    pub property_list: u32,
+}
+
+impl<'m, W: Row<'m>> FromRow<'m, W> for PropertyMap {
+    ghost table = { table.PropertyMap };
+
+    ghost fields = { λ r. Ref r.parent ∷ Start r.property_list ∷ [] };
+
+    fn table_id() -> TableId
+        ensures { result ≡ table.PropertyMap }
+    {
+        TableId::PropertyMap
+    }
+
+    fn from_row(row: &W) -> PropertyMap {
+        PropertyMap {
+            parent: row.reference(0),
+            property_list: row.start(1),
+        }
+    }
+}
+
+impl<'m> Record<'m> for PropertyMap {
+    const TABLE: TableId = TableId::PropertyMap;
+
+    fn from_cells(cells: &'m [Cell]) -> Option<PropertyMap> {
+        record_of(cells)
+    }
+
+    fn cells(&self, alloc: Global) -> Result<Vec<Cell>, AllocError>
+        ensures { IfOk result (λ cells. all_said cells.items ≡ Ref self.now.parent ∷ Start self.now.property_list ∷ []) }
+    {
+        let cells = vec![in alloc; Cell::Ref(self.parent), Cell::Start(self.property_list)]?;
+        Ok(cells)
+    }
+}
+
+/// A property of a type (II.22.34).
+#[derive(Clone, Copy, Debug, PartialEq, Eq)]
+pub struct Property<'m, S = &'m Signature> {
+    /// PropertyAttributes (II.23.1.14).
+    pub flags: u32,
+    /// The property's name.
+    pub name: &'m str,
+    /// Its type and parameters (II.23.2.5), in the column Type.
+    pub kind: S,
+}
+
+impl<'m, S: IsSignature, W: Row<'m, Signature = S>> FromRow<'m, W> for Property<'m, S> {
+    ghost table = { table.Property };
+
+    ghost fields = { λ r. Number r.flags ∷ Text r.name.now ∷ Sig (S.body column.Property r.kind) ∷ [] };
+
+    fn table_id() -> TableId
+        ensures { result ≡ table.Property }
+    {
+        TableId::Property
+    }
+
+    fn from_row(row: &W) -> Property<'m, S> {
+        Property {
+            flags: row.number(0),
+            name: row.text(1),
+            kind: row.signature(2, SigKind::Property),
+        }
+    }
+}
+
+impl<'m> Record<'m> for Property<'m> {
+    const TABLE: TableId = TableId::Property;
+
+    fn from_cells(cells: &'m [Cell]) -> Option<Property<'m>> {
+        record_of(cells)
+    }
+
+    fn cells(&self, alloc: Global) -> Result<Vec<Cell>, AllocError> {
+        let cells = vec![in alloc;
+            Cell::Number(self.flags),
+            Cell::Text(Text::from(String::from_str(alloc, self.name)?)),
+            Cell::Sig(self.kind.copy(alloc)?),
+        ]?;
+        Ok(cells)
+    }
+}

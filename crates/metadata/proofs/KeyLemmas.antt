@@ -1,0 +1,199 @@
+-- The key numbers of a root are those of its model.
+use Rattle.std.proofs.Common.{◌≡◌, ℕ, zero, suc, ◌+◌, ◌-◌, ◌*◌, ◌^◌, ◌<◌, ◌≤◌, ◌⊎◌, Bool, true, false, not, cond, List, [], ◌∷◌, get_or, length, refl, sym, ap, subst, ◌∙◌, inl, inr, ⊎_elim, Option, Some, None, arith, true≢false}
+use Rattle.std.specs.Prelude.{slice_get}
+use Rattle.std.specs.List.{position_or_len}
+use Rattle.std.proofs.lemmas.Bool.{cases_Bool, cases_lt}
+use Rattle.std.proofs.lemmas.Bool.Decides.{nat_tests}
+use Rattle.schema.specs.declared.table.TableId.{TableId}
+use Rattle.schema.specs.declared.table.TableId.TheVariants.{Module, TypeRef, TypeDef, Field, MethodDef, Param, InterfaceImpl, MemberRef, Constant, CustomAttribute, FieldMarshal, DeclSecurity, ClassLayout, FieldLayout, StandAloneSig, EventMap, Event, PropertyMap, Property, MethodSemantics, MethodImpl, ModuleRef, TypeSpec, ImplMap, FieldRVA, Assembly, AssemblyProcessor, AssemblyOS, AssemblyRef, AssemblyRefProcessor, AssemblyRefOS, File, ExportedType, ManifestResource, NestedClass, GenericParam, MethodSpec, GenericParamConstraint}
+use Rattle.schema.specs.declared.token.Token.{Token}
+use Rattle.schema.specs.declared.coded.Coded.{Coded}
+use Rattle.schema.specs.declared.column.ColumnKind.{ColumnKind}
+use Rattle.schema.specs.declared.column.ColumnKind.TheVariants as kind
+use Rattle.schema.specs.Tables.{tables, position_of, table_number}
+use Rattle.schema.specs.Columns.{columns_of, column_at, key_of, IsReference}
+use Rattle.schema.specs.CodedIndexes.{tables_of, tag_bits, IsCoded}
+use Rattle.schema.specs.CellColumns.{is_padding, cell_count, column_of}
+use Rattle.signature_values.specs.Parts.{is_table}
+use Rattle.metadata.specs.Cell.{Cell}
+use Rattle.metadata.specs.Metadata.{Metadata, count_in, cell_in}
+use Rattle.metadata.specs.Source.{Source, rows_in, number_of}
+use Rattle.metadata.specs.Starts.{start_of}
+use Rattle.metadata.specs.Stands.{StandsFor, Refers}
+use Rattle.metadata.specs.Rows.{IsCell}
+use Rattle.metadata.specs.Rules.{IsInOrder}
+use Rattle.metadata.specs.Lookups.{IsKeyPlace}
+use Rattle.metadata.specs.Valid.{kind_at}
+use Rattle.metadata.specs.KeyOrder.{key_number, key_in, IsKeyOrdered}
+use Rattle.metadata.proofs.TableLemmas.{HaveCells}
+
+-- what the laws of the tables say
+pub record KeysKnown : Type 0 where
+  pub stand : (table : TableId) → get_or tables (position_of table) Module ≡ table
+  pub rise : (lower higher : TableId) → position_of lower < position_of higher → table_number lower < table_number higher
+  pub key : (table : TableId) (column : ℕ) → key_of table ≡ Some column → column < length (columns_of table)
+  pub reference : (table : TableId) (column : ℕ) → key_of table ≡ Some column → IsReference (column_at table column)
+  pub one : (coded : Coded) (a b : ℕ) (table : TableId) → slice_get (tables_of coded) a ≡ Some (Some table)
+      → slice_get (tables_of coded) b ≡ Some (Some table) → a ≡ b
+  pub columns : HaveCells
+
+-- ---- the tag of a table is its position in the list
+
+same_table : KeysKnown → (a b : TableId) → table_number a ≡ table_number b → a ≡ b
+same_table known a b e =
+    let same : position_of a ≡ position_of b = ⊎_elim
+    (λ (l : position_of a < position_of b). let up = known.rise a b l in absurd (omega arith))
+    (λ (h : position_of b ≤ position_of a). ⊎_elim
+    (λ (l : position_of b < position_of a). let up = known.rise b a l in absurd (omega arith))
+    (λ (g : position_of a ≤ position_of b). omega arith)
+    (cases_lt (position_of b) (position_of a)))
+    (cases_lt (position_of a) (position_of b)) in
+    sym (known.stand a) ∙ ap (λ (k : ℕ). get_or tables k Module) same ∙ known.stand b
+
+-- the position is that of some table of the same number
+record IsPlaced (listed : List (Option TableId)) (table : TableId) (position : ℕ) : Type 0 where
+  other : TableId
+  at : slice_get listed position ≡ Some (Some other)
+  number : table_number table ≡ table_number other
+
+later : (first : Option TableId) (listed : List (Option TableId)) (table : TableId) (position : ℕ) → IsPlaced listed table position
+    → IsPlaced (first ∷ listed) table (1 + position)
+later first listed table position is =
+    let up : 1 + position ≡ suc position = omega arith in
+    rw up (record { other = is.other; at = is.at; number = is.number })
+
+placed : (listed : List (Option TableId)) (table : TableId) (tag : ℕ) → slice_get listed tag ≡ Some (Some table)
+    → IsPlaced listed table (position_or_len (is_table table) listed)
+placed [] table tag e = cc
+placed (None ∷ listed) table zero e = cc
+placed (None ∷ listed) table (suc tag) e = later None listed table (position_or_len (is_table table) listed) (placed listed table tag e)
+placed (Some other ∷ listed) table tag e = ⊎_elim
+    (λ (t : is_table table (Some other) ≡ true).
+    let equal : table_number table ≡ table_number other = grind (arith, nat_tests) in
+    subst (λ b. IsPlaced (Some other ∷ listed) table (cond (not b) (1 + position_or_len (is_table table) listed) 0)) (sym t)
+    (record { other = other; at = refl; number = equal }))
+    (λ (f : is_table table (Some other) ≡ false).
+    subst (λ b. IsPlaced (Some other ∷ listed) table (cond (not b) (1 + position_or_len (is_table table) listed) 0)) (sym f)
+    (later (Some other) listed table (position_or_len (is_table table) listed) (behind tag (λ k h. placed listed table k h) e f)))
+    (cases_Bool (is_table table (Some other)))
+  where
+    behind : (tag : ℕ) → ((k : ℕ) → slice_get listed k ≡ Some (Some table) → IsPlaced listed table (position_or_len (is_table table) listed))
+        → slice_get (Some other ∷ listed) tag ≡ Some (Some table) → is_table table (Some other) ≡ false
+        → IsPlaced listed table (position_or_len (is_table table) listed)
+    behind zero rest e f =
+        let same : other ≡ table = cc in
+        let equal = ap table_number same in
+        let again : is_table table (Some other) ≡ true = grind (arith, nat_tests) in
+        absurd (true≢false (sym again ∙ f))
+    behind (suc tag) rest e f = rest tag e
+
+tag_is : KeysKnown → (coded : Coded) (table : TableId) (tag : ℕ) → slice_get (tables_of coded) tag ≡ Some (Some table)
+    → position_or_len (is_table table) (tables_of coded) ≡ tag
+tag_is known coded table tag e =
+    let is = placed (tables_of coded) table tag e in
+    let same = same_table known table is.other is.number in
+    known.one coded _ tag table (is.at ∙ ap (λ (t : TableId). Some (Some t)) (sym same)) e
+
+-- ---- the number of a reference that may not be null
+
+row_key : (source : Source) (table : TableId) (number : ℕ) (cell : Cell) → Refers source false (record { table = table; row = number }) cell
+    → number ≡ key_number (kind.Row table) cell
+row_key source table number cell (inl null) = cc
+row_key source table number cell (inr is) = sym (ap (key_number (kind.Row table)) is.1)
+
+coded_key : KeysKnown → (source : Source) (coded : Coded) (number : ℕ) (cell : Cell) (token : Token) → IsCoded coded number token.table token.row
+    → Refers source false token cell → number ≡ key_number (kind.Coded coded) cell
+coded_key known source coded number cell token is (inl null) = cc
+coded_key known source coded number cell token is (inr there) =
+    let tag = tag_is known coded token.table is.tag is.listed in
+    is.equal ∙ ap (λ (t : ℕ). token.row * 2 ^ tag_bits coded + t) (sym tag) ∙ sym (ap (key_number (kind.Coded coded)) there.1)
+
+reference_key : KeysKnown → (source : Source) (k : ColumnKind) (start : TableId → ℕ) (number : ℕ) (cell : Cell)
+    → ((table : TableId) × (k ≡ kind.Row table)) ⊎ ((coded : Coded) × (k ≡ kind.Coded coded))
+    → StandsFor source k false start number cell → number ≡ key_number k cell
+reference_key known source k start number cell (inl row) stands =
+    subst (λ (j : ColumnKind). number ≡ key_number j cell) (sym row.1)
+    (row_key source row.0 number cell (subst (λ (j : ColumnKind). StandsFor source j false start number cell) row.1 stands))
+reference_key known source k start number cell (inr coded) stands =
+    let is = subst (λ (j : ColumnKind). StandsFor source j false start number cell) coded.1 stands in
+    subst (λ (j : ColumnKind). number ≡ key_number j cell) (sym coded.1) (coded_key known source coded.0 number cell is.0 is.1 is.2)
+
+-- ---- key columns
+
+-- a key is never null
+key_not_null : (table : TableId) (column : ℕ) → key_of table ≡ Some column → (column_at table column).nullable ≡ false
+key_not_null InterfaceImpl column e = let is : 0 ≡ column = cc in subst (λ (i : ℕ). (column_at InterfaceImpl i).nullable ≡ false) is refl
+key_not_null Constant column e = let is : 2 ≡ column = cc in subst (λ (i : ℕ). (column_at Constant i).nullable ≡ false) is refl
+key_not_null CustomAttribute column e = let is : 0 ≡ column = cc in subst (λ (i : ℕ). (column_at CustomAttribute i).nullable ≡ false) is refl
+key_not_null FieldMarshal column e = let is : 0 ≡ column = cc in subst (λ (i : ℕ). (column_at FieldMarshal i).nullable ≡ false) is refl
+key_not_null DeclSecurity column e = let is : 1 ≡ column = cc in subst (λ (i : ℕ). (column_at DeclSecurity i).nullable ≡ false) is refl
+key_not_null ClassLayout column e = let is : 2 ≡ column = cc in subst (λ (i : ℕ). (column_at ClassLayout i).nullable ≡ false) is refl
+key_not_null FieldLayout column e = let is : 1 ≡ column = cc in subst (λ (i : ℕ). (column_at FieldLayout i).nullable ≡ false) is refl
+key_not_null MethodSemantics column e = let is : 2 ≡ column = cc in subst (λ (i : ℕ). (column_at MethodSemantics i).nullable ≡ false) is refl
+key_not_null MethodImpl column e = let is : 0 ≡ column = cc in subst (λ (i : ℕ). (column_at MethodImpl i).nullable ≡ false) is refl
+key_not_null ImplMap column e = let is : 1 ≡ column = cc in subst (λ (i : ℕ). (column_at ImplMap i).nullable ≡ false) is refl
+key_not_null FieldRVA column e = let is : 1 ≡ column = cc in subst (λ (i : ℕ). (column_at FieldRVA i).nullable ≡ false) is refl
+key_not_null NestedClass column e = let is : 0 ≡ column = cc in subst (λ (i : ℕ). (column_at NestedClass i).nullable ≡ false) is refl
+key_not_null GenericParam column e = let is : 2 ≡ column = cc in subst (λ (i : ℕ). (column_at GenericParam i).nullable ≡ false) is refl
+key_not_null GenericParamConstraint column e = let is : 0 ≡ column = cc in subst (λ (i : ℕ). (column_at GenericParamConstraint i).nullable ≡ false) is refl
+key_not_null Module column e = cc
+key_not_null TypeRef column e = cc
+key_not_null TypeDef column e = cc
+key_not_null Field column e = cc
+key_not_null MethodDef column e = cc
+key_not_null Param column e = cc
+key_not_null MemberRef column e = cc
+key_not_null StandAloneSig column e = cc
+key_not_null EventMap column e = cc
+key_not_null Event column e = cc
+key_not_null PropertyMap column e = cc
+key_not_null Property column e = cc
+key_not_null ModuleRef column e = cc
+key_not_null TypeSpec column e = cc
+key_not_null Assembly column e = cc
+key_not_null AssemblyProcessor column e = cc
+key_not_null AssemblyOS column e = cc
+key_not_null AssemblyRef column e = cc
+key_not_null AssemblyRefProcessor column e = cc
+key_not_null AssemblyRefOS column e = cc
+key_not_null File column e = cc
+key_not_null ExportedType column e = cc
+key_not_null ManifestResource column e = cc
+key_not_null MethodSpec column e = cc
+
+no_padding : (table : TableId) (column : ℕ) → IsReference (column_at table column) → is_padding (column_at table column).kind ≡ false
+no_padding table column (inl row) = ap is_padding row.1
+no_padding table column (inr coded) = ap is_padding coded.1
+
+module _ (known : KeysKnown) (source : Source) (model : Metadata)
+    (counts : (table : TableId) → count_in model table ≡ rows_in source table)
+    (cells : (table : TableId) (row place : ℕ) → 1 ≤ row → row ≤ rows_in source table → place < cell_count table
+    → IsCell source table row place (cell_in model table row place)) where
+  key_is : (table : TableId) (key place row : ℕ) → key_of table ≡ Some key → IsKeyPlace table place → 1 ≤ row → row ≤ rows_in source table
+      → number_of source table row key ≡ key_in model table place row
+  key_is table key place row is at first last =
+      let same : column_of table place ≡ key = cc in
+      let stands = cells table row place first last at.within in
+      let plain = key_not_null table (column_of table place) at.key in
+      let stands_plain = subst (λ (n : Bool). StandsFor source (kind_at table place) n (start_of source table row (column_of table place))
+      (number_of source table row (column_of table place)) (cell_in model table row place)) plain stands in
+      subst (λ (c : ℕ). number_of source table row c ≡ key_in model table place row) same
+      (reference_key known source (kind_at table place) (start_of source table row (column_of table place))
+      (number_of source table row (column_of table place)) (cell_in model table row place) (known.reference table (column_of table place) at.key) stands_plain)
+
+  pub order_in_model : (table : TableId) (key : ℕ) → key_of table ≡ Some key → IsInOrder source table key → IsKeyOrdered model table
+  order_in_model table key is ordered = λ place row at second last.
+      let here : row ≤ rows_in source table = omega (arith, counts table, last) in
+      let low = key_is table key place (row - 1) is at (omega arith) (omega arith) in
+      let high = key_is table key place row is at (omega arith) here in
+      let up = ordered row second here in
+      omega (arith, low, high, up)
+
+  pub order_in_root : (table : TableId) (key : ℕ) → key_of table ≡ Some key → IsKeyOrdered model table → IsInOrder source table key
+  order_in_root table key is ordered = λ row second last.
+      let there = known.columns.cell table key (known.key table key is) (no_padding table key (known.reference table key is)) in
+      let at : IsKeyPlace table there.0 = record { within = there.1; key = is ∙ ap (λ (c : ℕ). Some c) (sym there.2) } in
+      let low = key_is table key there.0 (row - 1) is at (omega arith) (omega arith) in
+      let high = key_is table key there.0 row is at (omega arith) last in
+      let up = ordered there.0 row at second (omega (arith, counts table, last)) in
+      omega (arith, low, high, up)

@@ -1,0 +1,65 @@
+-- Models of the same parts are one.
+use Rattle.std.proofs.Common.{◌≡◌, ℕ, zero, suc, ◌+◌, ◌-◌, ◌<◌, List, [], ◌∷◌, length, get_or, map, refl, sym, ap, subst, ◌∙◌, arith}
+use Rattle.std.proofs.lemmas.List.{get_or-map}
+use Rattle.schema.specs.declared.table.TableId.{TableId}
+use Rattle.schema.specs.declared.table.TableId.TheVariants.{Module}
+use Rattle.schema.specs.Tables.{tables, position_of}
+use Rattle.metadata.specs.Cell.{Cell, Number}
+use Rattle.metadata.specs.Metadata.{Metadata, rows_of, row_of}
+use Rattle.metadata.specs.Lookups.{HasRow}
+use Rattle.metadata.specs.Rows.{table_at}
+use Rattle.metadata.specs.Same.{SaysSame}
+
+-- lists with the same items are one
+pub lists_one : {X : Type 0} (d : X) (xs ys : List X) → length xs ≡ length ys → ((k : ℕ) → k < length xs → get_or xs k d ≡ get_or ys k d) → xs ≡ ys
+lists_one d [] [] long each = refl
+lists_one d [] (y ∷ ys) long each = absurd (omega arith)
+lists_one d (x ∷ xs) [] long each = absurd (omega arith)
+lists_one d (x ∷ xs) (y ∷ ys) long each =
+    let head : x ≡ y = each 0 (omega arith) in
+    let tail = lists_one d xs ys (omega arith) (λ k below. each (suc k) (omega arith)) in
+    cc
+
+-- the positions of tables, in order
+abbrev pub count_up : ℕ → ℕ → List ℕ
+count_up from zero = []
+count_up from (suc n) = from ∷ count_up (suc from) n
+
+count_up_at : (from n k : ℕ) → k < n → get_or (count_up from n) k 0 ≡ from + k
+count_up_at from zero k below = absurd (omega arith)
+count_up_at from (suc n) zero below = omega arith
+count_up_at from (suc n) (suc k) below = count_up_at (suc from) n k (omega arith) ∙ omega arith
+
+positions : map position_of tables ≡ count_up 0 38
+unfolding tables
+positions = refl
+
+-- a table is found by its position
+pub position_at : length tables ≡ 38 → (k : ℕ) → k < 38 → position_of (table_at k) ≡ k
+position_at count k below =
+    sym (get_or-map position_of tables k Module 0 (omega (arith, count))) ∙ ap (λ (l : List ℕ). get_or l k 0) positions ∙ count_up_at 0 38 k below
+    ∙ omega arith
+
+module _ (stand : (j : ℕ) → j < 38 → position_of (table_at j) ≡ j) (model other : Metadata) (same : SaysSame model other) where
+  row_one : (table : TableId) (row : ℕ) → HasRow model table row → row_of model table row ≡ row_of other table row
+  row_one table row there =
+      lists_one (Number 0) (row_of model table row) (row_of other table row) (same.long table row there) (λ place below. same.cells table row place there below)
+
+  rows_one : (table : TableId) → rows_of model table ≡ rows_of other table
+  rows_one table =
+      lists_one [] (rows_of model table) (rows_of other table) (same.counts table)
+      (λ k below.
+      let back : k + 1 - 1 ≡ k = omega arith in
+      subst (λ (i : ℕ). get_or (rows_of model table) i [] ≡ get_or (rows_of other table) i []) back (row_one table (k + 1) (omega arith, omega arith)))
+
+  tables_one : model.tables ≡ other.tables
+  tables_one =
+      lists_one [] model.tables other.tables (same.tables ∙ sym same.other_tables)
+      (λ j below.
+      subst (λ (i : ℕ). get_or model.tables i [] ≡ get_or other.tables i []) (stand j (omega (arith, same.tables))) (rows_one (table_at j)))
+
+  pub models_one : model ≡ other
+  models_one =
+      ap (λ (v : List ℕ). let m : Metadata = record { version = v; user = model.user; tables = model.tables } in m) same.version
+      ∙ ap (λ (u : List ℕ). let m : Metadata = record { version = other.version; user = u; tables = model.tables } in m) same.user
+      ∙ ap (λ (t : List (List (List Cell))). let m : Metadata = record { version = other.version; user = other.user; tables = t } in m) tables_one

@@ -1,0 +1,286 @@
+-- The model of a root is valid.
+use Rattle.std.proofs.Common.{◌≡◌, ℕ, zero, suc, ◌+◌, ◌-◌, ◌%◌, ◌^◌, ◌<◌, ◌≤◌, Bool, true, false, cond, eqb, List, [], ◌∷◌, take, drop, length, get_or, Contains, IsUtf8, refl, sym, ap, subst, ◌∙◌, inl, inr, ⊎_elim, Option, Some, None, IfSome, lit<, arith, length-append}
+use Rattle.std.specs.Prelude.{slice_get, unwrap_or, replicate}
+use Rattle.std.specs.Option.{option_map}
+use Rattle.std.proofs.lemmas.Bool.{cases_Bool}
+use Rattle.std.proofs.lemmas.List.{length-take, length-drop, length-replicate}
+use Rattle.std.proofs.lemmas.Str.{IsUtf8-nil}
+use Rattle.packed.specs.Packed.{IsPacked}
+use Rattle.root.specs.declared.kind.Kind.TheVariants.{Tables, UserStrings}
+use Rattle.root.specs.Streams.{Header, named, stream_name}
+use Rattle.heaps.specs.Entries.{HasNoNul, IsText, IsBlob, IsGuid}
+use Rattle.heaps.specs.Fill.{filled}
+use Rattle.schema.specs.declared.table.TableId.{TableId}
+use Rattle.schema.specs.declared.table.TableId.TheVariants.{Module, TypeDef, Field, MethodDef, Param, EventMap, Event, PropertyMap, Property, NestedClass}
+use Rattle.schema.specs.declared.token.Token.{Token}
+use Rattle.schema.specs.declared.column.SigKind.{SigKind}
+use Rattle.schema.specs.declared.column.ColumnKind.{ColumnKind}
+use Rattle.schema.specs.declared.column.ColumnKind.TheVariants as kind
+use Rattle.schema.specs.Tables.{tables, position_of}
+use Rattle.schema.specs.Columns.{columns_of, column_at}
+use Rattle.schema.specs.CodedIndexes.{tables_of}
+use Rattle.schema.specs.Sizes.{Sizes, count_of, kind_width, width_of}
+use Rattle.schema.specs.LaidOut.{IsLaidOut}
+use Rattle.schema.specs.Cells.{HoldsCell}
+use Rattle.signature_values.specs.Syntax.{Body}
+use Rattle.signature_values.specs.Spells.{Spells, IsSpellable, tokens}
+use Rattle.metadata.specs.Cell.{Cell}
+use Rattle.metadata.specs.Cell.{Number, Ref, Start}
+use Rattle.metadata.specs.Metadata.{Metadata, rows_of, row_of, count_in, cell_in}
+use Rattle.metadata.specs.Source.{Source, rows_in, number_of, IsThere}
+use Rattle.metadata.specs.Starts.{start_from, start_of}
+use Rattle.metadata.specs.Stands.{StandsFor, Refers}
+use Rattle.metadata.specs.Streams.{stream_in, source_in}
+use Rattle.schema.specs.CellColumns.{cell_columns, cell_count, column_of}
+use Rattle.metadata.specs.Rows.{IsCell, IsRow, IsTable, IsTableAt}
+use Rattle.metadata.specs.Rules.{IsOwned}
+use Rattle.metadata.specs.Model.{IsModel}
+use Rattle.metadata.specs.Kinds.{IsTo, IsOfKind, IsHeld}
+use Rattle.metadata.specs.Valid.{Names, IsWithinMembers, IsValidCell, IsValidAt, start_in, row_in, HasOwners, IsValid}
+use Rattle.metadata.proofs.ItemLemmas.{all_weaker, items_length, from_at}
+use Rattle.metadata.proofs.TableLemmas.{HaveCells}
+
+-- what the laws of the crates below say of roots and signatures
+pub record Known : Type 0 where
+  pub count : length tables ≡ 38
+  pub position : (table : TableId) → position_of table < 38
+  pub stand : (table : TableId) → get_or tables (position_of table) Module ≡ table
+  pub holds : (stream : List ℕ) (sizes : Sizes) (numbers : List (List (List ℕ))) → IsLaidOut stream sizes numbers
+      → (table : TableId) (row column : ℕ) → 1 ≤ row → row ≤ count_of sizes table → column < length (columns_of table)
+      → HoldsCell stream sizes numbers table row column
+  pub columns : HaveCells
+  pub spellable : (kind : SigKind) (signature : Body) (bytes : List ℕ) → Spells kind signature bytes → IsSpellable signature
+
+-- ---- what a number stands for is valid
+
+packed_small : (n : ℕ) (bytes : List ℕ) → IsPacked n bytes → n < 2 ^ 29
+packed_small n bytes (inl one) = let less = one.0 in omega (arith, less)
+packed_small n bytes (inr (inl two)) = let less = two.0 in omega (arith, less)
+packed_small n bytes (inr (inr four)) = four.0
+
+no_nul_nil : HasNoNul []
+no_nul_nil k d below = absurd (omega arith)
+
+valid_text : (heap : List ℕ) (index : ℕ) (text : List ℕ) → IsText heap index text → HasNoNul text × IsUtf8 text
+valid_text heap index text (inl null) = rw (null.1) (no_nul_nil, IsUtf8-nil)
+valid_text heap index text (inr is) = (is.1.no_nul, is.2)
+
+valid_blob : (heap : List ℕ) (index : ℕ) (blob : List ℕ) → IsBlob heap index blob → length blob < 2 ^ 29
+valid_blob heap index blob (inl null) = rw (null.1) (lit< tt)
+valid_blob heap index blob (inr is) = packed_small (length blob) is.1.count is.1.counts
+
+valid_guid : (heap : List ℕ) (index : ℕ) (guid : Option (List ℕ)) → IsGuid heap index guid → IfSome guid (λ bytes. length bytes ≡ 16)
+valid_guid heap index None is = tt
+valid_guid heap index (Some guid) is = is.1.long
+
+contains_listed : {X : Type 0} (xs : List X) (k : ℕ) (x : X) → slice_get xs k ≡ Some x → Contains xs x
+contains_listed [] k x e = cc
+contains_listed (y ∷ ys) zero x e = let same : y ≡ x = cc in (0, omega arith, same)
+contains_listed (y ∷ ys) (suc k) x e = let rest = contains_listed ys k x e in (suc rest.0, omega (arith, rest.1), rest.2)
+
+module _ (known : Known) (model : Metadata) (source : Source) (counts : (table : TableId) → count_in model table ≡ rows_in source table) where
+  names : (token : Token) → IsThere source token → Names model token
+  names token there = (there.0, rw (counts token.table) (there.1))
+
+  -- a reference that stands for a token is to a row that exists, or null where the column may be
+  refers : (k : ColumnKind) (listed : List (Option TableId)) (nullable : Bool) (token : Token) (cell : Cell)
+      → ((reference : Option Token) → IsTo listed reference → IsOfKind k (Ref reference)) → ((reference : Option Token) → IsHeld k (Ref reference))
+      → ((reference : Option Token) → IsWithinMembers model k (Ref reference))
+      → Contains listed (Some token.table) → Refers source nullable token cell → IsValidCell model k nullable cell
+  refers k listed nullable token cell of_kind held within has (inl null) = subst (IsValidCell model k nullable) (sym null.2) (record {
+    of_kind = of_kind None tt;
+    storable = tt;
+    refers = null.1;
+    within = within None;
+    held = held None;
+    types = tt;
+  })
+  refers k listed nullable token cell of_kind held within has (inr is) = subst (IsValidCell model k nullable) (sym is.1) (record {
+    of_kind = of_kind (Some token) has;
+    storable = tt;
+    refers = names token is.0;
+    within = within (Some token);
+    held = held (Some token);
+    types = tt;
+  })
+
+  number_valid : (k : ColumnKind) (nullable : Bool) (number : ℕ) (cell : Cell) → IsOfKind k (Number number) → IsHeld k (Number number)
+      → IsWithinMembers model k (Number number) → cell ≡ Number number → IsValidCell model k nullable cell
+  number_valid k nullable number cell of_kind held within is = subst (IsValidCell model k nullable) (sym is)
+      (record { of_kind = of_kind; storable = tt; refers = tt; within = within; held = held; types = tt })
+
+  pub valid_cell : (k : ColumnKind) (nullable : Bool) (start : TableId → ℕ) (number : ℕ) (cell : Cell) → number < 256 ^ kind_width source.sizes k
+      → ((member : TableId) → k ≡ kind.List member → start member ≤ rows_in source member + 1)
+      → StandsFor source k nullable start number cell → IsValidCell model k nullable cell
+  valid_cell kind.U8 nullable start number cell fits starts stands = number_valid kind.U8 nullable number cell fits tt tt stands
+  valid_cell kind.U16 nullable start number cell fits starts stands = number_valid kind.U16 nullable number cell fits tt tt stands
+  valid_cell kind.U32 nullable start number cell fits starts stands = number_valid kind.U32 nullable number cell fits tt tt stands
+  valid_cell kind.Padding nullable start number cell fits starts stands = absurd stands
+  valid_cell kind.Text nullable start number cell fits starts stands = subst (IsValidCell model kind.Text nullable) (sym stands.2)
+      (record { of_kind = tt; storable = valid_text source.texts number stands.0 stands.1; refers = tt; within = tt; held = tt; types = tt })
+  valid_cell kind.Guid nullable start number cell fits starts stands = subst (IsValidCell model kind.Guid nullable) (sym stands.2)
+      (record { of_kind = tt; storable = valid_guid source.guids number stands.0 stands.1; refers = tt; within = tt; held = tt; types = tt })
+  valid_cell kind.Blob nullable start number cell fits starts stands = subst (IsValidCell model kind.Blob nullable) (sym stands.2)
+      (record { of_kind = tt; storable = valid_blob source.blobs number stands.0 stands.1; refers = tt; within = tt; held = tt; types = tt })
+  valid_cell (kind.Signature column) nullable start number cell fits starts stands =
+      let signature = stands.1 in
+      let spells = stands.3 in
+      subst (IsValidCell model (kind.Signature column) nullable) (sym stands.5) (record {
+        of_kind = tt;
+        storable = tt;
+        refers = tt;
+        within = tt;
+        held = (spells.column, known.spellable column signature stands.0 spells);
+        types = all_weaker (IsThere source) (Names model) names (tokens signature) stands.4;
+      })
+  valid_cell (kind.Row table) nullable start number cell fits starts stands =
+      refers (kind.Row table) (Some table ∷ []) nullable (record { table = table; row = number }) cell (λ reference is. is) (λ reference. tt) (λ reference. tt)
+      (0, omega arith, refl) stands
+  valid_cell (kind.Coded coded) nullable start number cell fits starts stands =
+      let token = stands.0 in
+      let is = stands.1 in
+      refers (kind.Coded coded) (tables_of coded) nullable token cell (λ reference h. h) (λ reference. tt) (λ reference. tt)
+      (contains_listed _ is.tag (Some token.table) is.listed) stands.2
+  valid_cell (kind.List member) nullable start number cell fits starts stands =
+      let bound = starts member refl in
+      let here : start member ≤ count_in model member + 1 = rw (counts member) bound in
+      subst (IsValidCell model (kind.List member) nullable) (sym stands.1)
+      (record { of_kind = tt; storable = tt; refers = tt; within = here; held = tt; types = tt })
+
+-- ---- the starts of runs
+
+start_bound : (value : ℕ → ℕ) (end row n : ℕ) → ((r : ℕ) → row ≤ r → r < row + n → value r ≤ end) → start_from value end row n ≤ end
+start_bound value end row zero low = omega arith
+start_bound value end row (suc n) low = ⊎_elim
+    (λ (t : eqb (value row) 0 ≡ true). subst (λ b. cond b (start_from value end (row + 1) n) (value row) ≤ end) (sym t)
+    (start_bound value end (row + 1) n (λ r l h. low r (omega arith) (omega arith))))
+    (λ (f : eqb (value row) 0 ≡ false). subst (λ b. cond b (start_from value end (row + 1) n) (value row) ≤ end) (sym f) (low row (omega arith) (omega arith)))
+    (cases_Bool (eqb (value row) 0))
+
+-- ---- the whole
+
+length_zeros : (n : ℕ) → length (replicate {A = ℕ} n 0) ≡ n
+length_zeros n = length-replicate {A = ℕ} n 0
+
+fill_is : (n : ℕ) → (n + (4 - n % 4) % 4) % 4 ≡ 0
+fill_is n = omega arith
+
+length-filled : (bytes : List ℕ) → length (filled bytes) % 4 ≡ 0
+length-filled bytes = rw (length-append bytes (replicate ((4 - length bytes % 4) % 4) 0), length_zeros ((4 - length bytes % 4) % 4)) (fill_is (length bytes))
+
+fill_small : (bytes : List ℕ) → length bytes ≤ 2 ^ 30 → length (filled bytes) ≤ 2 ^ 30
+fill_small bytes small = omega (arith, small, length-append bytes (replicate ((4 - length bytes % 4) % 4) 0), length_zeros ((4 - length bytes % 4) % 4))
+
+part_small : (root : List ℕ) (found : Option Header)
+    → length (unwrap_or (option_map (λ header. take header.size (drop header.offset root)) found) []) ≤ length root
+part_small root None = omega arith
+part_small root (Some header) = omega (arith, length-take header.size (drop header.offset root), length-drop header.offset root)
+
+module _ (known : Known) (root : List ℕ) (model : Metadata) (is : IsModel root model) where
+  source : Source
+  source = source_in root is.headers is.sizes is.numbers
+
+  table_is : (table : TableId) → IsTable source table (rows_of model table)
+  unfolding source IsTableAt
+  table_is table =
+      let here = from_at (IsTableAt source) 0 38 model.tables (position_of table) (position_of table) [] is.cells (known.position table) (omega arith) in
+      subst (λ t. IsTable source t (rows_of model table)) (known.stand table) here
+
+  counts : (table : TableId) → count_in model table ≡ rows_in source table
+  unfolding IsTable
+  counts table = items_length (IsRow source table) 1 (rows_in source table) (rows_of model table) (table_is table)
+
+  row_is : (table : TableId) (row : ℕ) → 1 ≤ row → row ≤ rows_in source table → IsRow source table row (row_of model table row)
+  unfolding IsTable
+  row_is table row first last = from_at (IsRow source table) 1 (rows_in source table) (rows_of model table) (row - 1) row [] (table_is table) (omega arith)
+      (omega arith)
+
+  row_long : (table : TableId) (row : ℕ) → 1 ≤ row → row ≤ rows_in source table → length (row_of model table row) ≡ cell_count table
+  unfolding IsRow
+  row_long table row first last = items_length (IsCell source table row) 0 (cell_count table) (row_of model table row) (row_is table row first last)
+
+  cell_is : (table : TableId) (row place : ℕ) → 1 ≤ row → row ≤ rows_in source table → place < cell_count table
+      → IsCell source table row place (cell_in model table row place)
+  unfolding IsRow
+  cell_is table row place first last below =
+      from_at (IsCell source table row) 0 (cell_count table) (row_of model table row) place place (Number 0) (row_is table row first last) below (omega arith)
+
+  number_fits : (table : TableId) (row column : ℕ) → 1 ≤ row → row ≤ rows_in source table → column < length (columns_of table)
+      → number_of source table row column < 256 ^ width_of is.sizes (column_at table column)
+  unfolding source number_of
+  number_fits table row column first last below =
+      (known.holds (stream_in root is.headers Tables) is.sizes is.numbers is.laid_out table row column first last below).fits
+
+  -- the cell of a list column is the start of its run, which is one of the members or the end
+  list_is : (table : TableId) (row place : ℕ) (member : TableId) → 1 ≤ row → row ≤ rows_in source table → place < cell_count table
+      → (column_at table (column_of table place)).kind ≡ kind.List member
+      → (number_of source table row (column_of table place) ≤ rows_in source member + 1)
+      × (cell_in model table row place ≡ Start (start_of source table row (column_of table place) member))
+  list_is table row place member first last below lists =
+      subst (λ k. StandsFor source k (column_at table (column_of table place)).nullable (start_of source table row (column_of table place))
+      (number_of source table row (column_of table place)) (cell_in model table row place))
+      lists (cell_is table row place first last below)
+
+  start_within : (table : TableId) (row place : ℕ) (member : TableId) → 1 ≤ row → row ≤ rows_in source table → place < cell_count table
+      → (column_at table (column_of table place)).kind ≡ kind.List member
+      → start_of source table row (column_of table place) member ≤ rows_in source member + 1
+  unfolding start_of
+  start_within table row place member first last below lists =
+      start_bound (λ r. number_of source table r (column_of table place)) (rows_in source member + 1) row (rows_in source table + 1 - row)
+      (λ r l h. (list_is table r place member (omega arith) (omega arith) below lists).0)
+
+  cell_valid : (table : TableId) (row place : ℕ) → 1 ≤ row → row ≤ rows_in source table → place < cell_count table
+      → IsValidAt model table place (cell_in model table row place)
+  unfolding source
+  cell_valid table row place first last below =
+      let column = column_at table (column_of table place) in
+      valid_cell known model source counts column.kind column.nullable (start_of source table row (column_of table place))
+      (number_of source table row (column_of table place))
+      (cell_in model table row place)
+      (number_fits table row (column_of table place) first last (known.columns.column table place below).0)
+      (λ member lists. start_within table row place member first last below lists)
+      (cell_is table row place first last below)
+
+  has_owners : (table : TableId) (place : ℕ) (member : TableId) → place < cell_count table → (column_at table (column_of table place)).kind ≡ kind.List member
+      → IsOwned source table (column_of table place) member → HasOwners model table place member
+  has_owners table place member below lists owned =
+      let count = counts table in
+      let start : (row : ℕ) → 1 ≤ row → row ≤ rows_in source table → start_in (cell_in model table row place)
+      ≡ start_of source table row (column_of table place) member =
+      λ row first last. ap start_in (list_is table row place member first last below lists).1 in
+      record {
+        ownerless = λ none. counts member ∙ owned.ownerless (sym count ∙ none);
+        first = λ some. start 1 (omega arith) (omega (arith, count, some)) ∙ owned.first (λ e. some (count ∙ e));
+        rising = λ row second last. rw (start (row - 1) (omega arith) (omega (arith, count)), start row (omega arith) (omega (arith, count)))
+            (owned.rising row second (omega (arith, count)));
+      }
+
+  referred : (nullable : Bool) (table : TableId) (number : ℕ) (cell : Cell) → Refers source nullable (record { table = table; row = number }) cell
+      → row_in cell ≡ number
+  referred nullable table number cell (inl null) = ap row_in null.2 ∙ sym null.0
+  referred nullable table number cell (inr there) = ap row_in there.1
+
+  pub is_valid : IsValid model
+  unfolding source cell_columns
+  is_valid = record {
+    version = is.is_root.version_is;
+    user = record {
+      filled = subst (λ bytes. length bytes % 4 ≡ 0) (sym is.user) (length-filled (stream_in root is.headers UserStrings));
+      small = subst (λ bytes. length bytes ≤ 2 ^ 30) (sym is.user) (fill_small (stream_in root is.headers UserStrings)
+          (omega (arith, is.small, part_small root (named (stream_name UserStrings) is.headers))));
+    };
+    tables = items_length (IsTableAt source) 0 38 model.tables is.cells;
+    few = λ table. rw (counts table) (is.laid_out.few table);
+    long = λ table row there. row_long table row there.0 (omega (arith, counts table, there.1));
+    cells = λ table row place there below. cell_valid table row place there.0 (omega (arith, counts table, there.1)) below;
+    fields = has_owners TypeDef 4 Field (lit< tt) refl is.owned.fields;
+    methods = has_owners TypeDef 5 MethodDef (lit< tt) refl is.owned.methods;
+    params = has_owners MethodDef 5 Param (lit< tt) refl is.owned.params;
+    events = has_owners EventMap 1 Event (lit< tt) refl is.owned.events;
+    properties = has_owners PropertyMap 1 Property (lit< tt) refl is.owned.properties;
+    nested = λ row there.
+        let here : row ≤ rows_in source NestedClass = omega (arith, counts NestedClass, there.1) in
+        let low = referred _ TypeDef _ _ (cell_is NestedClass row 1 there.0 here (lit< tt)) in
+        let high = referred _ TypeDef _ _ (cell_is NestedClass row 0 there.0 here (lit< tt)) in
+        omega (arith, is.nested row there.0 here, low, high);
+  }

@@ -1,0 +1,32 @@
+-- The key numbers of a model's tables, and whether they are in order (ECMA-335 II.22 and II.24.2.6).
+use Rattle.std.specs.Prelude.{ℕ, ◌-◌, ◌+◌, ◌*◌, ◌^◌, ◌≤◌, Some}
+use Rattle.std.specs.List.{position_or_len}
+use Rattle.schema.specs.declared.table.TableId.{TableId}
+use Rattle.schema.specs.declared.token.Token.{Token}
+use Rattle.schema.specs.declared.column.ColumnKind.{ColumnKind}
+use Rattle.schema.specs.declared.column.ColumnKind.TheVariants as kind
+use Rattle.schema.specs.CodedIndexes.{tables_of, tag_bits}
+use Rattle.signature_values.specs.Parts.{is_table}
+use Rattle.metadata.specs.Cell.{Cell, Ref}
+use Rattle.metadata.specs.Metadata.{Metadata, count_in, cell_in}
+use Rattle.metadata.specs.Lookups.{IsKeyPlace}
+use Rattle.metadata.specs.Valid.{kind_at}
+
+-- the number of a row: of a coded index the row, and behind it the tag of the table (II.24.2.6)
+abbrev pub row_number : ColumnKind → Token → ℕ
+row_number (kind.Coded coded) token = token.row * 2 ^ tag_bits coded + position_or_len (is_table token.table) (tables_of coded)
+row_number _ token = token.row
+
+-- the number of a reference; null is 0
+abbrev pub key_number : ColumnKind → Cell → ℕ
+key_number kind (Ref (Some token)) = row_number kind token
+key_number kind _ = 0
+
+-- the key number of a row, by the place of the key among the cells
+abbrev pub key_in : Metadata → TableId → ℕ → ℕ → ℕ
+key_in model table place row = key_number (kind_at table place) (cell_in model table row place)
+
+-- the key numbers of a table never fall
+abbrev pub IsKeyOrdered : Metadata → TableId → Type 0
+IsKeyOrdered model table =
+    (place row : ℕ) → IsKeyPlace table place → 2 ≤ row → row ≤ count_in model table → key_in model table place (row - 1) ≤ key_in model table place row

@@ -1,0 +1,114 @@
+-- What is asked of a model that is made from tables, from the first demand to the last (ECMA-335 II.22 and II.24.2). A demand
+-- is posed only where all before it hold. Each has a code and names a cell: table, row and column are 0 where none is meant,
+-- and a column is counted among the cells of its row.
+use Rattle.std.specs.Prelude.{◌≡◌, ◌≢◌, ℕ, ◌-◌, ◌≤◌, List, [], ◌∷◌, ◌++◌, length}
+use Rattle.packed.specs.declared.code.FaultCode.{FaultCode}
+use Rattle.packed.specs.declared.code.FaultCode.TheVariants.{Version, UserBytes, RowCount, BadCell, BadIndex, BadList, BadRun, NoOwner, NestedOrder, BadSignature, SignatureIndex}
+use Rattle.packed.specs.Codes.{number_of_code}
+use Rattle.packed.specs.Demand.{Demand, demands_from}
+use Rattle.root.specs.Root.{IsVersion}
+use Rattle.schema.specs.declared.table.TableId.{TableId}
+use Rattle.schema.specs.declared.table.TableId.TheVariants.{TypeDef, Field, MethodDef, Param, EventMap, Event, PropertyMap, Property, NestedClass}
+use Rattle.schema.specs.Tables.{table_number}
+use Rattle.schema.specs.CellColumns.{cell_count}
+use Rattle.metadata.specs.declared.refusal.Refusal.{Refusal}
+use Rattle.metadata.specs.Kinds.{IsOfKind, IsStorable, IsHeld}
+use Rattle.metadata.specs.Metadata.{Metadata, row_of, count_in, cell_in}
+use Rattle.metadata.specs.Rows.{table_at}
+use Rattle.metadata.specs.Valid.{MayRefer, IsWithinMembers, NamesTypes, kind_at, nullable_at, start_in, IsBehind, IsUser}
+
+-- that something must hold, or it is refused with this code at this cell
+abbrev pub refuse : Type 0 → FaultCode → ℕ → ℕ → ℕ → Demand Refusal
+refuse holds code table row column =
+    record { holds = holds; fault = record { code = number_of_code code; table = table; row = row; column = column } }
+
+-- the number of rows of a table
+unfoldable pub refusals_of_count : Metadata → ℕ → List (Demand Refusal)
+refusals_of_count model position = refuse (count_in model (table_at position) ≤ 0xFFFFFF) RowCount (table_number (table_at position)) 0 0 ∷ []
+
+unfoldable pub refusals_of_counts : Metadata → List (Demand Refusal)
+refusals_of_counts model = demands_from (refusals_of_count model) 0 38
+
+-- ---- cells, but for what signatures hold
+
+unfoldable pub refusals_of_cell : Metadata → TableId → ℕ → ℕ → List (Demand Refusal)
+refusals_of_cell model table row place =
+    refuse (IsOfKind (kind_at table place) (cell_in model table row place) × IsStorable (cell_in model table row place)) BadCell (table_number table) row place
+    ∷ refuse (MayRefer model (nullable_at table place) (cell_in model table row place)) BadIndex (table_number table) row place
+    ∷ refuse (IsWithinMembers model (kind_at table place) (cell_in model table row place)) BadList (table_number table) row place
+    ∷ []
+
+-- a row has as many cells as its table has; then each of them
+unfoldable pub refusals_of_row : Metadata → TableId → ℕ → List (Demand Refusal)
+refusals_of_row model table row =
+    refuse (length (row_of model table row) ≡ cell_count table) BadCell (table_number table) row 0
+    ∷ demands_from (refusals_of_cell model table row) 0 (cell_count table)
+
+unfoldable pub refusals_of_table_at : Metadata → ℕ → List (Demand Refusal)
+refusals_of_table_at model position = demands_from (refusals_of_row model (table_at position)) 1 (count_in model (table_at position))
+
+-- by table, row and column
+unfoldable pub refusals_of_cells : Metadata → List (Demand Refusal)
+refusals_of_cells model = demands_from (refusals_of_table_at model) 0 38
+
+-- ---- the runs of members
+
+-- of a start, which is no lower than that of the owner before
+unfoldable pub refusals_of_start : Metadata → TableId → ℕ → ℕ → List (Demand Refusal)
+refusals_of_start model owner place row =
+    refuse (start_in (cell_in model owner (row - 1) place) ≤ start_in (cell_in model owner row place)) BadRun (table_number owner) row place ∷ []
+
+-- of the owners of members: where there are none there is no member; the first start is 1; starts never fall
+unfoldable pub refusals_of_run : Metadata → TableId → ℕ → TableId → List (Demand Refusal)
+refusals_of_run model owner place member =
+    refuse (count_in model owner ≡ 0 → count_in model member ≡ 0) NoOwner (table_number member) 1 0
+    ∷ refuse (count_in model owner ≢ 0 → start_in (cell_in model owner 1 place) ≡ 1) BadRun (table_number owner) 1 place
+    ∷ demands_from (refusals_of_start model owner place) 2 (count_in model owner - 1)
+
+unfoldable pub refusals_of_runs : Metadata → List (Demand Refusal)
+refusals_of_runs model =
+    refusals_of_run model TypeDef 4 Field
+    ++ (refusals_of_run model TypeDef 5 MethodDef
+    ++ (refusals_of_run model MethodDef 5 Param
+    ++ (refusals_of_run model EventMap 1 Event
+    ++ refusals_of_run model PropertyMap 1 Property)))
+
+-- ---- nested types
+
+-- of a row of NestedClass, at its cell EnclosingClass
+unfoldable pub refusals_of_nesting_in : Metadata → ℕ → List (Demand Refusal)
+refusals_of_nesting_in model row = refuse (IsBehind model row) NestedOrder (table_number NestedClass) row 1 ∷ []
+
+unfoldable pub refusals_of_nesting : Metadata → List (Demand Refusal)
+refusals_of_nesting model = demands_from (refusals_of_nesting_in model) 1 (count_in model NestedClass)
+
+-- ---- signatures
+
+unfoldable pub refusals_of_signature : Metadata → TableId → ℕ → ℕ → List (Demand Refusal)
+refusals_of_signature model table row place =
+    refuse (IsHeld (kind_at table place) (cell_in model table row place)) BadSignature (table_number table) row place
+    ∷ refuse (NamesTypes model (cell_in model table row place)) SignatureIndex (table_number table) row place
+    ∷ []
+
+unfoldable pub refusals_of_signatures_in : Metadata → TableId → ℕ → List (Demand Refusal)
+refusals_of_signatures_in model table row = demands_from (refusals_of_signature model table row) 0 (cell_count table)
+
+unfoldable pub refusals_of_signatures_at : Metadata → ℕ → List (Demand Refusal)
+refusals_of_signatures_at model position =
+    demands_from (refusals_of_signatures_in model (table_at position)) 1 (count_in model (table_at position))
+
+-- by table, row and column
+unfoldable pub refusals_of_signatures : Metadata → List (Demand Refusal)
+refusals_of_signatures model = demands_from (refusals_of_signatures_at model) 0 38
+
+-- ---- the whole
+
+unfoldable pub refusals_of : Metadata → List (Demand Refusal)
+refusals_of model =
+    refuse (IsVersion model.version) Version 0 0 0
+    ∷ refuse (IsUser model.user) UserBytes 0 0 0
+    ∷ (refusals_of_counts model
+    ++ (refusals_of_cells model
+    ++ (refusals_of_runs model
+    ++ (refusals_of_nesting model
+    ++ refusals_of_signatures model))))

@@ -1,0 +1,16 @@
+-- Two models whose parts are the same.
+use Rattle.std.specs.Prelude.{◌≡◌, ℕ, ◌<◌, length}
+use Rattle.schema.specs.declared.table.TableId.{TableId}
+use Rattle.metadata.specs.Metadata.{Metadata, row_of, count_in, cell_in}
+use Rattle.metadata.specs.Lookups.{HasRow}
+
+-- their versions and user bytes are the same, how many rows each of the 38 tables has, how many cells these have, and the cells
+pub record SaysSame (model other : Metadata) : Type 0 where
+  pub version : model.version ≡ other.version
+  pub user : model.user ≡ other.user
+  pub tables : length model.tables ≡ 38
+  pub other_tables : length other.tables ≡ 38
+  pub counts : (table : TableId) → count_in model table ≡ count_in other table
+  pub long : (table : TableId) (row : ℕ) → HasRow model table row → length (row_of model table row) ≡ length (row_of other table row)
+  pub cells : (table : TableId) (row place : ℕ) → HasRow model table row → place < length (row_of model table row)
+      → cell_in model table row place ≡ cell_in other table row place

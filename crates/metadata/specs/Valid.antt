@@ -1,0 +1,106 @@
+-- Which models are valid: what is asked of their parts, whatever root they may come from (ECMA-335 II.22 and II.24.2).
+use Rattle.std.specs.Prelude.{◌≡◌, ◌≢◌, ℕ, ◌-◌, ◌+◌, ◌^◌, ◌%◌, ◌<◌, ◌≤◌, ⊤, Bool, true, List, length, Some, None}
+use Rattle.std.specs.List.{AllByRecursion}
+use Rattle.root.specs.Root.{IsVersion}
+use Rattle.schema.specs.declared.table.TableId.{TableId}
+use Rattle.schema.specs.declared.table.TableId.TheVariants.{TypeDef, Field, MethodDef, Param, EventMap, Event, PropertyMap, Property, NestedClass}
+use Rattle.schema.specs.declared.token.Token.{Token}
+use Rattle.schema.specs.declared.column.ColumnKind.{ColumnKind}
+use Rattle.schema.specs.declared.column.ColumnKind.TheVariants as kind
+use Rattle.schema.specs.Columns.{column_at}
+use Rattle.schema.specs.CellColumns.{cell_count, column_of}
+use Rattle.signature_values.specs.Spells.{tokens}
+use Rattle.metadata.specs.Cell.{Cell, Ref, Start, Sig}
+use Rattle.metadata.specs.Kinds.{IsOfKind, IsStorable, IsHeld}
+use Rattle.metadata.specs.Metadata.{Metadata, row_of, count_in, cell_in}
+use Rattle.metadata.specs.Lookups.{HasRow}
+
+-- ---- cells
+
+-- the row that a token names exists
+abbrev pub Names : Metadata → Token → Type 0
+Names model token = HasRow model token.table token.row
+
+-- a reference is to a row that exists, or null where the column may be
+abbrev pub MayRefer : Metadata → Bool → Cell → Type 0
+MayRefer model nullable (Ref None) = nullable ≡ true
+MayRefer model nullable (Ref (Some token)) = Names model token
+MayRefer model nullable _ = ⊤
+
+-- a start is at most one past the last member
+abbrev pub IsWithinMembers : Metadata → ColumnKind → Cell → Type 0
+IsWithinMembers model (kind.List member) (Start start) = start ≤ count_in model member + 1
+IsWithinMembers model _ _ = ⊤
+
+-- each type index of a signature names a row that exists (II.23.2.8)
+abbrev pub NamesTypes : Metadata → Cell → Type 0
+NamesTypes model (Sig signature) = AllByRecursion (Names model) (tokens signature)
+NamesTypes model _ = ⊤
+
+-- a column of a kind can hold the cell
+pub record IsValidCell (model : Metadata) (kind : ColumnKind) (nullable : Bool) (cell : Cell) : Type 0 where
+  pub of_kind : IsOfKind kind cell
+  pub storable : IsStorable cell
+  pub refers : MayRefer model nullable cell
+  pub within : IsWithinMembers model kind cell
+  pub held : IsHeld kind cell
+  pub types : NamesTypes model cell
+
+-- the kind of the column of a cell, by its place in a row, and whether that column may be null
+abbrev pub kind_at : TableId → ℕ → ColumnKind
+kind_at table place = (column_at table (column_of table place)).kind
+
+abbrev pub nullable_at : TableId → ℕ → Bool
+nullable_at table place = (column_at table (column_of table place)).nullable
+
+-- the cell can stand at a place of a row
+abbrev pub IsValidAt : Metadata → TableId → ℕ → Cell → Type 0
+IsValidAt model table place cell = IsValidCell model (kind_at table place) (nullable_at table place) cell
+
+-- ---- the runs of members, and nested types
+
+-- the number of a start
+abbrev pub start_in : Cell → ℕ
+start_in (Start start) = start
+start_in _ = 0
+
+-- the row of a reference; null is 0
+abbrev pub row_in : Cell → ℕ
+row_in (Ref (Some token)) = token.row
+row_in _ = 0
+
+-- each member has one owner, by the starts at a place of the owners' rows: without owners there are no members; the first
+-- start is 1; and starts never fall
+pub record HasOwners (model : Metadata) (owner : TableId) (place : ℕ) (member : TableId) : Type 0 where
+  pub ownerless : count_in model owner ≡ 0 → count_in model member ≡ 0
+  pub first : count_in model owner ≢ 0 → start_in (cell_in model owner 1 place) ≡ 1
+  pub rising : (row : ℕ) → 2 ≤ row → row ≤ count_in model owner → start_in (cell_in model owner (row - 1) place) ≤ start_in (cell_in model owner row place)
+
+-- a type stands behind the one that it is nested in (II.22.32)
+abbrev pub IsBehind : Metadata → ℕ → Type 0
+IsBehind model row = row_in (cell_in model NestedClass row 1) < row_in (cell_in model NestedClass row 0)
+
+-- ---- the whole
+
+-- the bytes of `#US`: filled to a multiple of four, and at most 2^30
+pub record IsUser (user : List ℕ) : Type 0 where
+  pub filled : length user % 4 ≡ 0
+  pub small : length user ≤ 2 ^ 30
+
+-- A valid model: a version; user bytes; 38 tables of few rows, each of as many cells as its table has, each of its column;
+-- owned members (II.22.12, II.22.26, II.22.35 and II.22.37); and nested types behind those that they are nested in. Keys may
+-- stand in any order.
+pub record IsValid (model : Metadata) : Type 0 where
+  pub version : IsVersion model.version
+  pub user : IsUser model.user
+  pub tables : length model.tables ≡ 38
+  pub few : (table : TableId) → count_in model table ≤ 0xFFFFFF
+  pub long : (table : TableId) (row : ℕ) → HasRow model table row → length (row_of model table row) ≡ cell_count table
+  pub cells : (table : TableId) (row place : ℕ) → HasRow model table row → place < cell_count table
+      → IsValidAt model table place (cell_in model table row place)
+  pub fields : HasOwners model TypeDef 4 Field
+  pub methods : HasOwners model TypeDef 5 MethodDef
+  pub params : HasOwners model MethodDef 5 Param
+  pub events : HasOwners model EventMap 1 Event
+  pub properties : HasOwners model PropertyMap 1 Property
+  pub nested : (row : ℕ) → HasRow model NestedClass row → IsBehind model row

@@ -1,4 +1,0 @@
-use Rattle.opening.proofs.cell.blob_at.Goals as goal
-
-pub unreachable-requires : goal.unreachable-requires
-unreachable-requires c = c.requires (λ some. c.in-Err.ensures.only some.0 some.1)

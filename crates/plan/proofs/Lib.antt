@@ -1,0 +1,5 @@
+pub mod FlatLemmas
+pub mod LawLemmas
+pub mod OverLemmas
+pub mod ReadyLemmas
+pub mod TextLemmas

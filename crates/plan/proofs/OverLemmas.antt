@@ -1,0 +1,94 @@
+-- A heap that is longer than 2^30 bytes stays so, whatever is pooled more.
+use Rattle.std.proofs.Common.{◌≡◌, ℕ, ◌+◌, ◌<◌, ◌≤◌, inl, inr, Bool, true, false, cond, List, [], ◌∷◌, ◌++◌, length, get_or, drop, sym, ap, subst, ◌∙◌, length-append, arith}
+use Rattle.std.specs.Prelude.{flat_map}
+use Rattle.std.proofs.lemmas.Bool.{cases_Bool}
+use Rattle.std.proofs.lemmas.List.{drop_more}
+use Rattle.std.proofs.lemmas.List.Concat.{flat_map-append}
+use Rattle.schema.specs.declared.column.Column.{Column}
+use Rattle.schema.specs.declared.table.TableId.{TableId}
+use Rattle.schema.specs.declared.table.TableId.TheVariants.{Module}
+use Rattle.schema.specs.Tables.{tables}
+use Rattle.schema.specs.Columns.{columns_of}
+use Rattle.schema.specs.CellColumns.{is_padding}
+use Rattle.heaps.specs.Distinct.{is_among, pooled}
+use Rattle.heaps.specs.BlobHeap.{blob_heap, counted}
+use Rattle.heaps.specs.GuidHeap.{guid_heap}
+use Rattle.metadata.specs.Cell.{Cell}
+use Rattle.metadata.specs.Metadata.{Metadata, rows_of}
+use Rattle.canonical.specs.Pools.{blobs_of, guids_of}
+use Rattle.plan.specs.Numbered.{Numbered, IsOver, pooled_all, with_values, with_number, with_cell, with_next_cell, with_row, with_rows, with_tables}
+
+longer_blobs : (entries : List (List ℕ)) (value : List ℕ) → length (blob_heap entries) ≤ length (blob_heap (entries ++ value ∷ []))
+longer_blobs [] value = omega arith
+longer_blobs (entry ∷ entries) value =
+    omega (arith, ap length (flat_map-append counted (entry ∷ entries) (value ∷ [])), length-append (flat_map counted (entry ∷ entries)) (flat_map counted (value ∷ [])))
+
+longer_guids : (entries : List (List ℕ)) (value : List ℕ) → length (guid_heap entries) ≤ length (guid_heap (entries ++ value ∷ []))
+longer_guids entries value =
+    omega (arith, ap length (flat_map-append (λ (guid : List ℕ). guid) entries (value ∷ [])), length-append (guid_heap entries) (guid_heap (value ∷ [])))
+
+-- a pool is as it was, or has one more entry
+pooled_grows : (size : List (List ℕ) → ℕ) → ((entries : List (List ℕ)) (value : List ℕ) → size entries ≤ size (entries ++ value ∷ []))
+    → (entries : List (List ℕ)) (value : List ℕ) → size entries ≤ size (pooled entries value)
+pooled_grows size longer entries value =
+    elim (cases_Bool (is_among ([] ∷ entries) value)) [
+      | inl there ↦ subst (λ b. size entries ≤ size (cond b entries (entries ++ value ∷ []))) (sym there) (omega arith)
+      | inr new ↦ subst (λ b. size entries ≤ size (cond b entries (entries ++ value ∷ []))) (sym new) (longer entries value)
+    ]
+
+all_grow : (size : List (List ℕ) → ℕ) → ((entries : List (List ℕ)) (value : List ℕ) → size entries ≤ size (entries ++ value ∷ []))
+    → (entries values : List (List ℕ)) → size entries ≤ size (pooled_all entries values)
+all_grow size longer entries [] = omega arith
+all_grow size longer entries (value ∷ values) =
+    omega (arith, pooled_grows size longer entries value, all_grow size longer (pooled entries value) values)
+
+over_values : (so_far : Numbered) (cell : Cell) → IsOver so_far → IsOver (with_values so_far cell)
+over_values so_far cell (inl blobs) = inl (omega (arith, blobs, all_grow (λ entries. length (blob_heap entries)) longer_blobs so_far.blobs (blobs_of cell)))
+over_values so_far cell (inr guids) = inr (omega (arith, guids, all_grow (λ entries. length (guid_heap entries)) longer_guids so_far.guids (guids_of cell)))
+
+over_next : (padding : Bool) (put : Cell → Numbered → Numbered) (rest : List Cell → Numbered → Numbered)
+    → ((cell : Cell) (so_far : Numbered) → IsOver so_far → IsOver (put cell so_far))
+    → ((cells : List Cell) (so_far : Numbered) → IsOver so_far → IsOver (rest cells so_far))
+    → (cells : List Cell) (so_far : Numbered) → IsOver so_far → IsOver (with_next_cell padding put rest cells so_far)
+over_next true put rest here behind cells so_far over = behind cells (with_number so_far 0) over
+over_next false put rest here behind [] so_far over = behind [] (with_number so_far 0) over
+over_next false put rest here behind (cell ∷ cells) so_far over = behind cells (put cell so_far) (here cell so_far over)
+
+pub over_row : (texts : List (List ℕ)) (columns : List Column) (cells : List Cell) (so_far : Numbered) → IsOver so_far → IsOver (with_row texts columns cells so_far)
+over_row texts [] cells so_far over = over
+over_row texts (column ∷ columns) cells so_far over =
+    over_next (is_padding column.kind) (with_cell texts column.kind) (with_row texts columns) (λ cell here o. over_values here cell o) (over_row texts columns) cells so_far over
+
+pub over_rows : (texts : List (List ℕ)) (columns : List Column) (rows : List (List Cell)) (so_far : Numbered) → IsOver so_far → IsOver (with_rows texts columns rows so_far)
+over_rows texts columns [] so_far over = over
+over_rows texts columns (row ∷ rows) so_far over = over_rows texts columns rows (with_row texts columns row so_far) (over_row texts columns row so_far over)
+
+pub over_tables : (texts : List (List ℕ)) (model : Metadata) (listed : List TableId) (so_far : Numbered) → IsOver so_far → IsOver (with_tables texts model listed so_far)
+over_tables texts model [] so_far over = over
+over_tables texts model (table ∷ listed) so_far over =
+    over_tables texts model listed (with_rows texts (columns_of table) (rows_of model table) so_far) (over_rows texts (columns_of table) (rows_of model table) so_far over)
+
+-- ---- of what is left
+
+pub row_at : (texts : List (List ℕ)) (columns : List Column) (i : ℕ) (d : Column) (cells : List Cell) (so_far whole : Numbered) → i < length columns
+    → with_row texts (drop i columns) cells so_far ≡ whole
+    → with_next_cell (is_padding (get_or columns i d).kind) (with_cell texts (get_or columns i d).kind) (with_row texts (drop (i + 1) columns)) cells so_far ≡ whole
+row_at texts columns i d cells so_far whole below e = sym (ap (λ list. with_row texts list cells so_far) (drop_more columns i d below)) ∙ e
+
+pub over_rows_at : (texts : List (List ℕ)) (columns : List Column) (rows : List (List Cell)) (i : ℕ) (d row : List Cell) (so_far whole : Numbered) → i < length rows
+    → row ≡ get_or rows i d → with_rows texts columns (drop i rows) so_far ≡ whole → IsOver (with_row texts columns row so_far) → IsOver whole
+over_rows_at texts columns rows i d row so_far whole below is e over =
+    let same = ap (λ r. with_rows texts columns (drop (i + 1) rows) (with_row texts columns r so_far)) is
+    ∙ sym (ap (λ list. with_rows texts columns list so_far) (drop_more rows i d below)) ∙ e in
+    subst IsOver same (over_rows texts columns (drop (i + 1) rows) (with_row texts columns row so_far) over)
+
+pub over_tables_at : (texts : List (List ℕ)) (model : Metadata) (i : ℕ) (table : TableId) (columns : List Column) (rows : List (List Cell)) (so_far whole : Numbered)
+    → i < length tables → table ≡ get_or tables i Module → columns ≡ columns_of table → rows ≡ rows_of model table
+    → with_tables texts model (drop i tables) so_far ≡ whole → IsOver (with_rows texts columns rows so_far) → IsOver whole
+over_tables_at texts model i table columns rows so_far whole below at have are e over =
+    let more : List TableId = drop (i + 1) tables in
+    let same = ap (λ cs. with_tables texts model more (with_rows texts cs rows so_far)) have
+    ∙ ap (λ rs. with_tables texts model more (with_rows texts (columns_of table) rs so_far)) are
+    ∙ ap (λ t. with_tables texts model more (with_rows texts (columns_of t) (rows_of model t) so_far)) at
+    ∙ sym (ap (λ list. with_tables texts model list so_far) (drop_more tables i Module below)) ∙ e in
+    subst IsOver same (over_tables texts model more (with_rows texts columns rows so_far) over)

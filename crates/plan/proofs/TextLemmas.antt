@@ -1,0 +1,36 @@
+-- The texts of tables, one table after another.
+use Rattle.std.proofs.Common.{◌≡◌, ℕ, ◌+◌, ◌<◌, ◌≤◌, List, [], ◌++◌, map, length, get_or, drop, refl, sym, ap, ◌∙◌, append_assoc, append-nil, arith}
+use Rattle.std.specs.Prelude.{flat_map}
+use Rattle.std.specs.List.{range_with_len}
+use Rattle.std.proofs.lemmas.List.{drop_all, drop_more, get_or-map}
+use Rattle.std.proofs.lemmas.List.FromFn.{get_or-range_with_len}
+use Rattle.schema.specs.declared.table.TableId.{TableId}
+use Rattle.schema.specs.declared.table.TableId.TheVariants.{Module}
+use Rattle.schema.specs.Tables.{tables, position_of}
+use Rattle.metadata.specs.Cell.{Cell}
+use Rattle.metadata.specs.Metadata.{Metadata, rows_of}
+
+positions : map position_of tables ≡ range_with_len 0 38
+unfolding tables
+positions = refl
+
+-- a table is found by its position
+pub position_at : length tables ≡ 38 → (k : ℕ) → k < 38 → position_of (get_or tables k Module) ≡ k
+position_at count k below =
+    sym (get_or-map position_of tables k Module 0 (omega (arith, count))) ∙ ap (λ (l : List ℕ). get_or l k 0) positions ∙ get_or-range_with_len 0 38 k 0 below ∙ omega arith
+
+pub next_rows : (values : Cell → List (List ℕ)) (model : Metadata) (i : ℕ) (table : TableId) (before after whole : List (List ℕ)) (rows : List (List Cell))
+    → i < length model.tables → position_of table ≡ i → rows ≡ rows_of model table → after ≡ before ++ flat_map (flat_map values) rows
+    → before ++ flat_map (flat_map (flat_map values)) (drop i model.tables) ≡ whole
+    → after ++ flat_map (flat_map (flat_map values)) (drop (i + 1) model.tables) ≡ whole
+next_rows values model i table before after whole rows below at are more e =
+    let rest = flat_map (flat_map (flat_map values)) (drop (i + 1) model.tables) in
+    ap (λ list. list ++ rest) more ∙ append_assoc before (flat_map (flat_map values) rows) rest
+    ∙ ap (λ r. before ++ (flat_map (flat_map values) r ++ rest)) (are ∙ ap (λ k. get_or model.tables k []) at)
+    ∙ sym (ap (λ list. before ++ flat_map (flat_map (flat_map values)) list) (drop_more model.tables i [] below))
+    ∙ e
+
+pub no_rows : (values : Cell → List (List ℕ)) (model : Metadata) (i : ℕ) (before whole : List (List ℕ)) → length model.tables ≤ i
+    → before ++ flat_map (flat_map (flat_map values)) (drop i model.tables) ≡ whole → before ≡ whole
+no_rows values model i before whole past e =
+    sym (append-nil before) ∙ sym (ap (λ list. before ++ flat_map (flat_map (flat_map values)) list) (drop_all i model.tables past)) ∙ e

@@ -1,0 +1,6 @@
+pub mod CountLemmas
+pub mod HeadingLemmas
+pub mod HeldLemmas
+pub mod PutsLemmas
+pub mod RowLemmas
+pub mod TableLemmas

@@ -1,0 +1,24 @@
+-- The numbers of tables as one list, by table, row and column.
+use Rattle.std.specs.Prelude.{ℕ, zero, suc, ◌*◌, List, [], ◌∷◌, length, take, drop}
+use Rattle.schema.specs.declared.table.TableId.{TableId}
+use Rattle.schema.specs.Columns.{columns_of}
+use Rattle.schema.specs.Sizes.{Sizes, count_of}
+
+-- how many numbers a table has
+abbrev pub cells_of : Sizes → TableId → ℕ
+cells_of sizes table = length (columns_of table) * count_of sizes table
+
+-- so many rows of so many columns, from the front of a list
+abbrev pub rows_in : ℕ → ℕ → List ℕ → List (List ℕ)
+rows_in columns zero numbers = []
+rows_in columns (suc count) numbers = take columns numbers ∷ rows_in columns count (drop columns numbers)
+
+-- the rows of a table, from the front of a list
+abbrev pub table_in : Sizes → TableId → List ℕ → List (List ℕ)
+table_in sizes table numbers = rows_in (length (columns_of table)) (count_of sizes table) numbers
+
+-- the rows of tables, one behind the other
+abbrev pub tables_in : Sizes → List TableId → List ℕ → List (List (List ℕ))
+tables_in sizes [] numbers = []
+tables_in sizes (table ∷ listed) numbers =
+    table_in sizes table (take (cells_of sizes table) numbers) ∷ tables_in sizes listed (drop (cells_of sizes table) numbers)

@@ -1,0 +1,4 @@
+pub mod Written
+pub mod Heading
+pub mod TableHeader
+pub mod Flat

@@ -1,0 +1,26 @@
+ghost use Rattle.std.specs.Prelude.{◌≡◌, ◌++◌, ℕ, length, flat_map};
+ghost use Rattle.schema.specs.Sizes.{Sizes};
+ghost use Rattle.root.specs.declared.kind.Kind.{Kind as TheKind};
+ghost use Rattle.metadata.specs.Metadata.{Metadata};
+ghost use Rattle.canonical.specs.Canonical.{canonical, stream};
+ghost use Rattle.canonical.specs.TableStream.{sizes_of, header_bytes};
+ghost use Rattle.put.specs.Heading.{heading, held};
+ghost use Rattle.put.specs.TableHeader.{table_header};
+
+use schema::tables_stand;
+
+/// The canonical root is what [`Writer::put_heading`](crate::Writer::put_heading) writes for the sizes of
+/// its streams, and behind that the streams that have bytes.
+pub fn canonical_roots_are_put()
+    ensures { (model : Metadata) (size : TheKind → ℕ) → ((kind : TheKind) → size kind ≡ length (stream model kind))
+        → canonical model ≡ heading model.version size (held size) ++ flat_map (stream model) (held size) }
+{}
+
+/// What stands before the rows in the table stream of a model is what
+/// [`Writer::put_table_header`](crate::Writer::put_table_header) writes for its counts.
+pub fn table_headers_are_put()
+    ensures { (model : Metadata) (sizes : Sizes) → sizes.counts ≡ (sizes_of model).counts
+        → header_bytes model ≡ table_header (sizes_of model).heap_sizes (sizes_of model).sorted sizes }
+{
+    tables_stand();
+}

@@ -1,0 +1,19 @@
+use Rattle.std.proofs.Common.{◌≡◌, ℕ, Some, sym, ◌∙◌, ap}
+use Rattle.std.proofs.lemmas.Option.{same_Some}
+use Rattle.schema.specs.declared.table.TableId.{TableId}
+use Rattle.schema.specs.declared.token.Token.{Token}
+use Rattle.reading.proofs.coded.named_by.Goals as goal
+
+pub returns-in_err-table-clause-only : goal.returns-in_err-table-clause-only
+returns-in_err-table-clause-only c = λ token is.
+    let some = c.split.ensures.only token.table token.row is in
+    let none = c.in_err-table.was in
+    absurd cc
+
+pub returns-clause-only : goal.returns-clause-only
+returns-clause-only c = λ token is.
+    let row : TableId × ℕ = (c.in_ok-table.table, c.in_ok-table.row) in
+    let same : row ≡ (token.table, token.row) =
+    same_Some row (token.table, token.row) (sym c.in_ok-table.was ∙ c.split.ensures.only token.table token.row is) in
+    let token_of : TableId × ℕ → Token = λ named. record { table = named.0; row = named.1 } in
+    ap (λ named. Some (token_of named)) same

@@ -1,0 +1,7 @@
+pub mod Sources
+pub mod Codes
+pub mod ReadFrom
+pub mod Starts
+pub mod KnownStarts
+pub mod Shown
+pub mod KeyRows

@@ -1,0 +1,39 @@
+-- The cell that a value in place shows.
+use Rattle.std.specs.Prelude.{◌≡◌, ℕ, List}
+use Rattle.schema.specs.declared.table.TableId.{TableId}
+use Rattle.schema.specs.declared.column.ColumnKind.{ColumnKind}
+use Rattle.schema.specs.declared.column.ColumnKind.TheVariants as kind
+use Rattle.schema.specs.Columns.{column_at}
+use Rattle.schema.specs.CellColumns.{column_of}
+use Rattle.heaps.specs.Entries.{IsBlob}
+use Rattle.signature_values.specs.Syntax.{Body}
+use Rattle.signature_values.specs.Spells.{Spells}
+use Rattle.metadata.specs.Cell.{Cell}
+use Rattle.metadata.specs.Cell.{Number, Text, Bytes, Guid, Ref, Start, Sig}
+use Rattle.metadata.specs.Source.{Source}
+use Rattle.reading.specs.declared.cell_ref.CellRef.{CellRef}
+use Rattle.reading.specs.declared.cell_ref.CellRef.TheVariants as seen
+
+-- the blob spells the signature of a cell, in a column of signatures
+abbrev pub ShowsSignature : ColumnKind → List ℕ → Cell → Type 0
+ShowsSignature (kind.Signature column) blob cell = (signature : Body) × Spells column signature blob × (cell ≡ Sig signature)
+ShowsSignature _ blob cell = ⊥
+
+-- the value shows the cell, in a column of a kind: a signature by its blob, and any other cell as it is
+abbrev pub Shows : ColumnKind → CellRef → Cell → Type 0
+Shows column (seen.Number number) cell = cell ≡ Number number
+Shows column (seen.Text text) cell = cell ≡ Text text.now
+Shows column (seen.Bytes blob) cell = cell ≡ Bytes blob.now
+Shows column (seen.Guid guid) cell = cell ≡ Guid guid
+Shows column (seen.Ref token) cell = cell ≡ Ref token
+Shows column (seen.Start start) cell = cell ≡ Start start
+Shows column (seen.Sig blob) cell = ShowsSignature column blob.now cell
+
+-- the blob of a signature is that of a number
+abbrev pub ShowsBlob : Source → ℕ → CellRef → Type 0
+ShowsBlob source number (seen.Sig blob) = IsBlob source.blobs number blob.now
+ShowsBlob source number _ = Unit {0}
+
+-- the value shows a cell of a table, by its place in its row
+abbrev pub ShowsCell : TableId → ℕ → CellRef → Cell → Type 0
+ShowsCell table place value cell = Shows (column_at table (column_of table place)).kind value cell

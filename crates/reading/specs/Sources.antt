@@ -1,0 +1,26 @@
+-- What a source stands for, by its fields.
+use Rattle.std.specs.Prelude.{◌≡◌, ◌≤◌, ◌+◌, ◌^◌, length, slice_index}
+use Rattle.schema.specs.declared.table.TableId.{TableId}
+use Rattle.schema.specs.Tables.{table_number}
+use Rattle.schema.specs.Cells.{numbers_at}
+use Rattle.metadata.specs.Source.{rows_in}
+use Rattle.metadata.specs.Placed.{Placed}
+use Rattle.reading.specs.declared.source.Source.TheInside.{Inside}
+
+abbrev pub source_seen : Inside → Placed
+source_seen source = record {
+  source = record {
+    sizes = source.rows.sizes;
+    numbers = numbers_at source.rows.bytes source.rows.sizes;
+    texts = source.texts.now;
+    blobs = source.blobs.now;
+    guids = source.guids.now;
+  };
+  place = source.place;
+}
+
+-- its counts are those of the tables, under their numbers, and the texts are those that were looked at
+pub record IsSource (source : Inside) : Type 0 where
+  pub counts : (table : TableId) → slice_index source.counts (table_number table) ≡ rows_in (source_seen source).source table
+  pub strings : source.strings ≡ source.texts.now
+  pub low : source.place + length source.rows.bytes ≤ 2 ^ 32

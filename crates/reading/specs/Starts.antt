@@ -1,0 +1,21 @@
+-- The starts of owners, from one of them back to the first.
+use Rattle.std.specs.Prelude.{◌≡◌, ℕ, zero, suc, ◌+◌, ◌≤◌, ◌<◌, List, [], ◌∷◌, length}
+use Rattle.schema.specs.Columns.{columns_of}
+use Rattle.metadata.specs.Source.{rows_in}
+use Rattle.metadata.specs.Starts.{start_of}
+use Rattle.reading.specs.declared.starts.Starts.TheInside.{Inside}
+
+-- what stands at a number, then at the one before, and so on down to 1
+abbrev pub down_from : (ℕ → ℕ) → ℕ → List ℕ
+down_from value zero = []
+down_from value (suc n) = value (suc n) ∷ down_from value n
+
+-- the starts that are left, that of the last owner that is left first
+abbrev pub starts_left : Inside → List ℕ
+starts_left left = down_from (λ row. start_of left.source.now.source left.owner row left.column left.member) left.row
+
+-- the owners lie in the table, and the start behind them is that of the next
+pub record AreStartsLeft (left : Inside) : Type 0 where
+  pub column : left.column < length (columns_of left.owner)
+  pub within : left.row ≤ rows_in left.source.now.source left.owner
+  pub behind : left.next ≡ start_of left.source.now.source left.owner (left.row + 1) left.column left.member

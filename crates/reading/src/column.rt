@@ -1,0 +1,12 @@
+ghost use Rattle.std.specs.Prelude.{◌≡◌, ◌<◌, length};
+ghost use Rattle.schema.specs.Columns.{columns_of, column_at};
+
+use schema::{Column, TableId, columns};
+
+/// The column of an index.
+pub fn column_at(table: TableId, index: usize) -> Column
+    requires { index < length (columns_of table) }
+    ensures { result ≡ column_at table index }
+{
+    columns(table)[index]
+}

@@ -1,0 +1,81 @@
+ghost use Rattle.std.specs.Prelude.{◌≡◌, ◌<◌, length};
+ghost use Rattle.schema.specs.Columns.{columns_of};
+ghost use Rattle.reading.specs.KeyRows.{keys_in};
+
+use crate::source::Source;
+use rows::Keys;
+use schema::TableId;
+
+/// What has the key numbers of the rows of a table.
+///
+/// Rows count from 1. A value stands for one list of numbers, and reading changes nothing.
+pub trait KeyNumbers: Drop {
+    ghost use Rattle.std.specs.Prelude.{◌≡◌, ℕ, ◌≤◌, List, length};
+    ghost use Rattle.rows.specs.Keys.{key_at};
+
+    // The numbers, that of row 1 first.
+    ghost numbers: { Self → List ℕ };
+
+    /// How many rows there are.
+    fn count(&self) -> u32
+        ensures value { result ≡ length (numbers self.now) }
+        ensures limit { result ≤ 0xFFFFFF };
+
+    /// The key number of a row.
+    fn number(&self, row: u32) -> u32
+        requires first { 1 ≤ row }
+        requires last { row ≤ length (numbers self.now) }
+        ensures { result ≡ key_at (numbers self.now) row };
+}
+
+/// The key numbers of a table of a source.
+#[derive(Drop)]
+pub struct SourceKeys<'v, 'a> {
+    /// What the numbers are read from.
+    pub source: &'v Source<'a>,
+    /// The table.
+    pub table: TableId,
+    /// Its key column.
+    pub column: usize,
+    ghost within: { column < length (columns_of table) },
+}
+
+impl<'v, 'a> KeyNumbers for SourceKeys<'v, 'a> {
+    ghost numbers = { λ keys. keys_in keys.source.now.source keys.table keys.column };
+
+    fn count(&self) -> u32 {
+        self.source.count(self.table)
+    }
+
+    fn number(&self, row: u32) -> u32 {
+        self.source.number(self.table, row, self.column)
+    }
+}
+
+/// Key numbers whose readings are counted.
+#[derive(Drop)]
+pub struct CountedKeys<'k, K: KeyNumbers> {
+    /// The numbers.
+    pub numbers: &'k K,
+    /// How many were read.
+    pub asked: u64,
+}
+
+impl<'k, K: KeyNumbers> Keys for CountedKeys<'k, K> {
+    ghost keys = { λ keys. K.numbers keys.numbers.now };
+
+    ghost asked = { λ keys. keys.asked };
+
+    fn count(&self) -> u32 {
+        self.numbers.count()
+    }
+
+    fn asked(&self) -> u64 {
+        self.asked
+    }
+
+    fn key(&mut self, row: u32) -> u32 {
+        self.asked += 1;
+        self.numbers.number(row)
+    }
+}

@@ -1,0 +1,135 @@
+ghost use Rattle.std.specs.Prelude.{◌≡◌, ◌≢◌, ◌≤◌, ◌<◌, ◌+◌, ◌*◌, ℕ, Some, IfSome, IfNone};
+ghost use Rattle.schema.specs.declared.table.TableId.{TableId as Table};
+ghost use Rattle.schema.specs.declared.column.ColumnKind.TheVariants.{List};
+ghost use Rattle.schema.specs.Columns.{column_at};
+ghost use Rattle.metadata.specs.Source.{Source as TheSource, rows_in};
+ghost use Rattle.metadata.specs.Starts.{start_of};
+
+use crate::source::Source;
+use schema::TableId;
+
+/// How many starts of a column are kept at most.
+const KEPT: u32 = 256;
+
+/// Where the runs of some owners begin: of those whose row is a multiple of `step`.
+///
+/// A null start is that of the next owner, so a look-up walks to the next that is not null. With these it
+/// walks over fewer than `step` owners, a 256th of all.
+#[derive(Clone, Copy)]
+pub struct KnownStarts {
+    /// How far the owners are apart.
+    pub step: u32,
+    /// Their starts: that of row `step * (k + 1)` stands at `k`.
+    pub starts: [u32; 256],
+    ghost moves: { 0 < step },
+}
+
+impl KnownStarts {
+    ghost use Rattle.reading.specs.KnownStarts.{IsKnown};
+
+    /// Room for the starts of every 256th part of the owners, none of which is known.
+    pub fn new(owners: u32) -> KnownStarts
+        requires { owners ≤ 0xFFFFFF }
+        ensures room { owners < 256 * result.step }
+        ensures none { (start : ℕ → ℕ) → IsKnown result start (owners + 1) owners }
+    {
+        KnownStarts {
+            step: owners / KEPT + 1,
+            starts: [0; 256],
+        }
+    }
+
+    /// The starts of none of so many owners.
+    pub fn none(owners: u32) -> KnownStarts
+        requires { owners ≤ 0xFFFFFF }
+        ensures { (start : ℕ → ℕ) → IsKnown result start 1 owners }
+    {
+        KnownStarts {
+            step: owners + 1,
+            starts: [0; 256],
+        }
+    }
+
+    /// Where the start of an owner is kept, `None` where it is not one of those.
+    fn place(&self, row: u32) -> Option<usize>
+        requires { 1 ≤ row }
+        ensures kept { IfSome result (λ k. row ≡ self.now.step * (k + 1)) }
+        ensures other { IfNone result ((k : ℕ) → row ≢ self.now.step * (k + 1)) }
+    {
+        if row % self.step == 0 {
+            Some((row / self.step - 1) as usize)
+        } else {
+            None
+        }
+    }
+
+    /// Keeps the start of an owner, if it is one of those.
+    pub fn keep(&mut self, row: u32, first: u32)
+        requires first { 1 ≤ row }
+        requires room { row < 256 * self.old.step }
+        ensures step { self.new.step ≡ self.old.step }
+        ensures known { (start : ℕ → ℕ) (owners : ℕ) → first ≡ start row → IsKnown self.old start (row + 1) owners → IsKnown self.new start row owners }
+    {
+        if let Some(place) = self.place(row) {
+            self.starts[place] = first;
+        }
+    }
+
+    /// The start of an owner, if it is known.
+    pub fn at(&self, row: u32) -> Option<u32>
+        requires { 1 ≤ row }
+        ensures { (start : ℕ → ℕ) (owners : ℕ) → row ≤ owners → IsKnown self.now start 1 owners → IfSome result (λ first. first ≡ start row) }
+    {
+        let place = self.place(row)?;
+        self.starts.get(place).copied()
+    }
+}
+
+/// The known starts of the five runs of members (II.22.37, II.22.26, II.22.12 and II.22.35).
+#[derive(Clone, Copy)]
+pub struct KnownRuns {
+    /// Of the fields of types.
+    pub fields: KnownStarts,
+    /// Of the methods of types.
+    pub methods: KnownStarts,
+    /// Of the parameters of methods.
+    pub params: KnownStarts,
+    /// Of the events of rows of EventMap.
+    pub events: KnownStarts,
+    /// Of the properties of rows of PropertyMap.
+    pub properties: KnownStarts,
+}
+
+impl KnownRuns {
+    ghost use Rattle.reading.specs.KnownStarts.{AreKnown};
+
+    /// No starts of the runs of a source.
+    pub fn none(source: &Source) -> KnownRuns
+        ensures { AreKnown source.now.source result }
+    {
+        KnownRuns {
+            fields: KnownStarts::none(source.count(TableId::TypeDef)),
+            methods: KnownStarts::none(source.count(TableId::TypeDef)),
+            params: KnownStarts::none(source.count(TableId::MethodDef)),
+            events: KnownStarts::none(source.count(TableId::EventMap)),
+            properties: KnownStarts::none(source.count(TableId::PropertyMap)),
+        }
+    }
+
+    /// The start of an owner in a column that lists members, if it is known.
+    pub fn at(&self, owner: TableId, column: usize, row: u32) -> Option<u32>
+        requires { 1 ≤ row }
+        ensures { (source : TheSource) (member : Table) → AreKnown source self.now → (column_at owner column).kind ≡ List member
+            → row ≤ rows_in source owner → IfSome result (λ first. first ≡ start_of source owner row column member) }
+    {
+        let known = match (owner, column) {
+            (TableId::TypeDef, 4) => &self.fields,
+            (TableId::TypeDef, 5) => &self.methods,
+            (TableId::MethodDef, 5) => &self.params,
+            (TableId::EventMap, 1) => &self.events,
+            (TableId::PropertyMap, 1) => &self.properties,
+            _ => return None,
+        };
+        known.at(row)
+    }
+}

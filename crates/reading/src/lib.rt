@@ -1,0 +1,41 @@
+//! Reads the tables of a root in place (ECMA-335 II.22).
+//!
+//! A [`Source`] is what cells are read from: the rows of a table stream, and the heaps. It answers numbers,
+//! whether or not they stand for cells, and [`cell_of`] the cell of a number that stands for one. Runs of
+//! members, types by name and rows by key are looked up here too: [`Starts`] gives all starts of a column in
+//! one walk, [`KnownRuns`] keeps some of them for single look-ups, and [`KeyRows`] are found by halving over
+//! whatever has [`KeyNumbers`]. Nothing here takes memory.
+//!
+//! ```text
+//! let source = Source::new(rows, texts, blobs, guids, place);
+//! let number = source.number(TableId::TypeDef, 1, 4);
+//! ```
+#![tactic(auto)]
+
+mod by_key;
+mod cell;
+mod cell_ref;
+mod coded;
+mod column;
+mod key_numbers;
+mod key_rows;
+mod known_starts;
+mod laws;
+mod runs_of;
+mod source;
+mod starts;
+mod type_names;
+
+pub use by_key::rows_by_key;
+pub use cell::cell_of;
+pub use cell_ref::CellRef;
+pub use coded::named_by;
+pub use column::column_at;
+pub use key_numbers::{KeyNumbers, SourceKeys};
+pub use key_rows::KeyRows;
+pub use known_starts::{KnownRuns, KnownStarts};
+pub use laws::members_are_listed;
+pub use runs_of::{run, start_before};
+pub use source::Source;
+pub use starts::{Starts, starts_of};
+pub use type_names::find_type;

@@ -1,0 +1,179 @@
+use heaps::{Strings, blob, guid};
+use packed::{Fault, FaultCode};
+use rows::Rows;
+use schema::{TableId, numbers_are_read};
+use std::marker::Model;
+
+/// What the cells of a root are read from, in the bytes that were handed in.
+#[derive(Drop)]
+pub struct Source<'a> {
+    rows: Rows<'a>,
+    texts: &'a [u8],
+    strings: Strings<'a>,
+    blobs: &'a [u8],
+    guids: &'a [u8],
+    counts: [u32; 45],
+    place: usize,
+}
+
+impl<'a> Model for Source<'a> {
+    ghost use Rattle.metadata.specs.Placed.{Placed};
+
+    ghost Value = { Placed };
+
+    ghost use Rattle.reading.specs.Sources.{source_seen, IsSource};
+
+    ghost view = { source_seen };
+
+    ghost invariant = { IsSource };
+}
+
+impl<'a> Source<'a> {
+    ghost use Rattle.std.specs.Prelude.{◌≡◌, ◌≤◌, ◌<◌, ◌+◌, ◌^◌, ◌↔◌, ℕ, IsTrue, length, slice_index};
+    ghost use Rattle.packed.specs.Demand.{Answers, fault};
+    ghost use Rattle.heaps.specs.Demands.{demands_of_text, demands_of_blob, demands_of_guid};
+    ghost use Rattle.schema.specs.declared.table.TableId.{TableId as Table};
+    ghost use Rattle.schema.specs.Tables.{table_number};
+    ghost use Rattle.schema.specs.Columns.{columns_of};
+    ghost use Rattle.schema.specs.Cells.{cell_width, numbers_at};
+    ghost use Rattle.metadata.specs.Source.{rows_in, number_of, IsThere};
+    ghost use Rattle.metadata.specs.Rules.{is_said_sorted};
+    ghost use Rattle.metadata.specs.Placed.{cell_place};
+    ghost use Rattle.reading.specs.Codes.{code_at};
+
+    /// What the cells of a root are read from, whose table stream begins at a place.
+    pub fn new(
+        rows: Rows<'a>,
+        texts: &'a [u8],
+        blobs: &'a [u8],
+        guids: &'a [u8],
+        place: usize,
+    ) -> Source<'a>
+        requires { place + length rows.bytes ≤ 2 ^ 32 }
+        ensures source { result.source ≡ record { sizes = rows.entry.sizes; numbers = numbers_at rows.entry.bytes rows.entry.sizes; texts = texts.now; blobs = blobs.now; guids = guids.now } }
+        ensures place { result.place ≡ place }
+    {
+        let counts = rows.layout().counts();
+        Source {
+            rows,
+            texts,
+            strings: Strings::new(texts),
+            blobs,
+            guids,
+            counts,
+            place,
+        }
+    }
+
+    /// How many rows a table has.
+    pub fn count(&self, table: TableId) -> u32
+        ensures value { result ≡ rows_in self.now.source table }
+        ensures limit { result ≤ 0xFFFFFF }
+    {
+        self.rows.layout().count(table)
+    }
+
+    /// How many rows each table has, under its number.
+    pub fn counts(&self) -> &[u32; 45]
+        ensures { (table : Table) → slice_index result.now (table_number table) ≡ rows_in self.now.source table }
+    {
+        &self.counts
+    }
+
+    /// Whether a table is said to be in order of its key.
+    pub fn is_said_sorted(&self, table: TableId) -> bool
+        ensures { result ≡ is_said_sorted self.now.source table }
+    {
+        self.rows.layout().sorted() >> table.number() & 1 == 1
+    }
+
+    /// The number of a column, in a row counted from 1.
+    #[tactic(auto, unfolding(metadata::specs::Source::number_of))]
+    pub fn number(&self, table: TableId, row: u32, column: usize) -> u32
+        requires first { 1 ≤ row }
+        requires last { row ≤ rows_in self.now.source table }
+        requires column { column < length (columns_of table) }
+        ensures value { result ≡ number_of self.now.source table row column }
+        ensures fits { result < 256 ^ cell_width self.now.source.sizes table column }
+    {
+        numbers_are_read();
+        self.rows.number(table, row, column)
+    }
+
+    /// The fault of a demand on a cell.
+    #[tactic(auto, unfolding(metadata::specs::Placed::cell_place))]
+    pub fn fault(&self, code: FaultCode, table: TableId, row: u32, column: usize) -> Fault
+        requires first { 1 ≤ row }
+        requires last { row ≤ rows_in self.now.source table }
+        requires column { column < length (columns_of table) }
+        ensures { result ≡ fault code (cell_place self.now table row column) }
+    {
+        let place = self.place + self.rows.place(table, row, column);
+        Fault::new(code, place as u64)
+    }
+
+    /// Whether a row exists.
+    pub fn has_row(&self, table: TableId, row: u32) -> bool
+        ensures { IsTrue result ↔ IsThere self.now.source (record { table = table; row = row }) }
+    {
+        1 <= row && row <= self.count(table)
+    }
+
+    /// The heap of texts.
+    pub fn texts(&self) -> &'a [u8]
+        ensures { result.now ≡ self.now.source.texts }
+    {
+        self.texts
+    }
+
+    /// The heap of texts, looked at once as a whole.
+    pub fn strings(&self) -> &Strings<'a>
+        ensures { result.now ≡ self.now.source.texts }
+    {
+        &self.strings
+    }
+
+    /// The heap of blobs.
+    pub fn blobs(&self) -> &'a [u8]
+        ensures { result.now ≡ self.now.source.blobs }
+    {
+        self.blobs
+    }
+
+    /// The heap of GUIDs.
+    pub fn guids(&self) -> &'a [u8]
+        ensures { result.now ≡ self.now.source.guids }
+    {
+        self.guids
+    }
+
+    /// A text stands at an index of `#Strings`.
+    pub fn check_text(&self, index: u32) -> Result<(), FaultCode>
+        ensures { (place : ℕ) → Answers (demands_of_text self.now.source.texts index place) (code_at place result) }
+    {
+        match self.strings().check(index) {
+            Ok(()) => Ok(()),
+            Err(found) => Err(found.code()),
+        }
+    }
+
+    /// A blob stands at an index of `#Blob`.
+    pub fn check_blob(&self, index: u32) -> Result<(), FaultCode>
+        ensures { (place : ℕ) → Answers (demands_of_blob self.now.source.blobs index place) (code_at place result) }
+    {
+        match blob(self.blobs(), index) {
+            Ok(_) => Ok(()),
+            Err(found) => Err(found.code()),
+        }
+    }
+
+    /// A GUID has the number, or it is null.
+    pub fn check_guid(&self, index: u32) -> Result<(), FaultCode>
+        ensures { (place : ℕ) → Answers (demands_of_guid self.now.source.guids index place) (code_at place result) }
+    {
+        match guid(self.guids(), index) {
+            Ok(_) => Ok(()),
+            Err(found) => Err(found.code()),
+        }
+    }
+}

@@ -1,0 +1,70 @@
+-- Owned cells of the kinds of columns hold what such columns hold, and what they say is their record.
+use Rattle.std.proofs.Common.{◌≡◌, ℕ, zero, suc, ◌+◌, List, [], ◌∷◌, drop, Some, option_map, slice_get, sym, ◌∙◌, ap, refl, arith, add-one}
+use Rattle.std.proofs.lemmas.Grind.{common_steps}
+use Rattle.schema.specs.declared.column.ColumnKind.{ColumnKind}
+use Rattle.schema.specs.declared.column.ColumnKind.TheVariants as kind
+use Rattle.metadata.specs.Cell.{Cell}
+use Rattle.metadata.specs.Kinds.{IsOfKind}
+use Rattle.cells.specs.declared.cell.Cell.{Cell as Owned}
+use Rattle.cells.specs.declared.cell.Cell.TheVariants as cell
+use Rattle.cells.specs.Said.{said, all_said}
+use Rattle.records.specs.Kinds.{AreOfKinds}
+use Rattle.records.specs.Shapes.{shape_of, IsOfShape, AreHeld, AreSaid}
+
+-- the first item from a place on stands there
+get_at : (all : List Owned) (place : ℕ) (c : Owned) (rest : List Owned) → drop place all ≡ c ∷ rest → slice_get all place ≡ Some c
+get_at [] zero c rest h = absurd cc
+get_at [] (suc p) c rest h = absurd cc
+get_at (x ∷ xs) zero c rest h = grind (arith, common_steps, h)
+get_at (x ∷ xs) (suc p) c rest h = get_at xs p c rest h
+
+-- the others stand from the next place on
+drop_next : (all : List Owned) (place : ℕ) (c : Owned) (rest : List Owned) → drop place all ≡ c ∷ rest → drop (place + 1) all ≡ rest
+drop_next [] zero c rest h = absurd cc
+drop_next [] (suc p) c rest h = absurd cc
+drop_next (x ∷ xs) zero c rest h = grind (arith, common_steps, h)
+drop_next (x ∷ xs) (suc p) c rest h = ap (λ n. drop n (x ∷ xs)) (add-one (suc p)) ∙ ap (λ n. drop n xs) (sym (add-one p)) ∙ drop_next xs p c rest h
+
+-- a cell of a column's kind holds what the column's cells hold
+kind_shape : (k : ColumnKind) (c : Owned) → IsOfKind k (said c) → IsOfShape (Some c) (shape_of k)
+kind_shape kind.U8 (cell.Number n) h = tt
+kind_shape kind.U16 (cell.Number n) h = tt
+kind_shape kind.U32 (cell.Number n) h = tt
+kind_shape kind.Text (cell.Text t) h = tt
+kind_shape kind.Guid (cell.Guid g) h = tt
+kind_shape kind.Blob (cell.Bytes b) h = tt
+kind_shape (kind.Signature column) (cell.Sig s) h = tt
+kind_shape (kind.Row table) (cell.Ref r) h = tt
+kind_shape (kind.Coded coded) (cell.Ref r) h = tt
+kind_shape (kind.List member) (cell.Start n) h = tt
+kind_shape _ _ h = absurd h
+
+held_from : (all : List Owned) (place : ℕ) (kinds : List ColumnKind) (rest : List Owned) → drop place all ≡ rest → AreOfKinds kinds (all_said rest)
+    → AreHeld (λ p s. IsOfShape (slice_get all p) s) place kinds
+held_from all place [] rest at are = tt
+held_from all place (k ∷ ks) [] at are = absurd are
+held_from all place (k ∷ ks) (c ∷ cs) at are =
+    (rw (get_at all place c cs at) (kind_shape k c are.0), held_from all (place + 1) ks cs (drop_next all place c cs at) are.1)
+
+-- rows of a table's number and kinds can be read
+pub cells_are_held : (all : List Owned) (kinds : List ColumnKind) → AreOfKinds kinds (all_said all) → AreHeld (λ p s. IsOfShape (slice_get all p) s) 0 kinds
+cells_are_held all kinds are = held_from all 0 kinds all refl are
+
+said_one : (all : List Owned) (place : ℕ) (c : Owned) (said_as : Cell) → slice_get all place ≡ Some c → option_map said (slice_get all place) ≡ Some said_as → said_as ≡ said c
+said_one all place c said_as at says = grind (arith, common_steps, at, says)
+
+said_from : (all : List Owned) (place : ℕ) (kinds : List ColumnKind) (rest : List Owned) (cells : List Cell) → drop place all ≡ rest
+    → AreOfKinds kinds (all_said rest) → AreSaid (λ p c. option_map said (slice_get all p) ≡ Some c) place kinds cells → cells ≡ all_said rest
+said_from all place [] [] [] at are say = refl
+said_from all place [] [] (x ∷ xs) at are say = absurd say
+said_from all place [] (c ∷ cs) _ at are say = absurd are
+said_from all place (k ∷ ks) [] _ at are say = absurd are
+said_from all place (k ∷ ks) (c ∷ cs) [] at are say = absurd say
+said_from all place (k ∷ ks) (c ∷ cs) (x ∷ xs) at are say =
+    ap (λ rest. x ∷ rest) (said_from all (place + 1) ks cs xs (drop_next all place c cs at) are.1 say.1)
+    ∙ ap (λ first. first ∷ all_said cs) (said_one all place c x (get_at all place c cs at) say.0)
+
+-- what is read of them is what they say
+pub cells_are_said : (all : List Owned) (kinds : List ColumnKind) (cells : List Cell) → AreOfKinds kinds (all_said all)
+    → AreSaid (λ p c. option_map said (slice_get all p) ≡ Some c) 0 kinds cells → cells ≡ all_said all
+cells_are_said all kinds cells are say = said_from all 0 kinds all cells refl are say

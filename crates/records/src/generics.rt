@@ -1,0 +1,151 @@
+ghost use Rattle.std.specs.Prelude.{◌≡◌, [], ◌∷◌, IfOk};
+ghost use Rattle.schema.specs.declared.table.TableId.TheVariants as table;
+ghost use Rattle.schema.specs.declared.column.SigKind.TheVariants as column;
+ghost use Rattle.metadata.specs.Cell.{Number, Text, Ref, Sig};
+ghost use Rattle.cells.specs.Said.{all_said};
+
+use crate::record::{FromRow, Record, record_of};
+use crate::row::Row;
+use crate::signature::IsSignature;
+use cells::{Cell, Signature, Text, Token};
+use schema::{SigKind, TableId};
+use std::alloc::{AllocError, Global};
+
+/// A generic parameter of a type or method (II.22.20).
+#[derive(Clone, Copy, Debug, PartialEq, Eq)]
+pub struct GenericParam<'m> {
+    /// Its place among the parameters of its owner, counted from 0.
+    pub number: u32,
+    /// GenericParamAttributes (II.23.1.7).
+    pub flags: u32,
+    /// What it is a parameter of: a TypeDef or MethodDef.
+    pub owner: Option<Token>,
+    /// Its name.
+    pub name: &'m str,
+}
+
+impl<'m, W: Row<'m>> FromRow<'m, W> for GenericParam<'m> {
+    ghost table = { table.GenericParam };
+
+    ghost fields = { λ r. Number r.number ∷ Number r.flags ∷ Ref r.owner ∷ Text r.name.now ∷ [] };
+
+    fn table_id() -> TableId
+        ensures { result ≡ table.GenericParam }
+    {
+        TableId::GenericParam
+    }
+
+    fn from_row(row: &W) -> GenericParam<'m> {
+        GenericParam {
+            number: row.number(0),
+            flags: row.number(1),
+            owner: row.reference(2),
+            name: row.text(3),
+        }
+    }
+}
+
+impl<'m> Record<'m> for GenericParam<'m> {
+    const TABLE: TableId = TableId::GenericParam;
+
+    fn from_cells(cells: &'m [Cell]) -> Option<GenericParam<'m>> {
+        record_of(cells)
+    }
+
+    fn cells(&self, alloc: Global) -> Result<Vec<Cell>, AllocError> {
+        let cells = vec![in alloc;
+            Cell::Number(self.number),
+            Cell::Number(self.flags),
+            Cell::Ref(self.owner),
+            Cell::Text(Text::from(String::from_str(alloc, self.name)?)),
+        ]?;
+        Ok(cells)
+    }
+}
+
+/// A constraint on a generic parameter (II.22.21).
+#[derive(Clone, Copy, Debug, PartialEq, Eq)]
+pub struct GenericParamConstraint {
+    /// The parameter, in GenericParam.
+    pub owner: Option<Token>,
+    /// What it has to derive from or implement: a TypeDef, TypeRef or TypeSpec.
+    pub constraint: Option<Token>,
+}
+
+impl<'m, W: Row<'m>> FromRow<'m, W> for GenericParamConstraint {
+    ghost table = { table.GenericParamConstraint };
+
+    ghost fields = { λ r. Ref r.owner ∷ Ref r.constraint ∷ [] };
+
+    fn table_id() -> TableId
+        ensures { result ≡ table.GenericParamConstraint }
+    {
+        TableId::GenericParamConstraint
+    }
+
+    fn from_row(row: &W) -> GenericParamConstraint {
+        GenericParamConstraint {
+            owner: row.reference(0),
+            constraint: row.reference(1),
+        }
+    }
+}
+
+impl<'m> Record<'m> for GenericParamConstraint {
+    const TABLE: TableId = TableId::GenericParamConstraint;
+
+    fn from_cells(cells: &'m [Cell]) -> Option<GenericParamConstraint> {
+        record_of(cells)
+    }
+
+    fn cells(&self, alloc: Global) -> Result<Vec<Cell>, AllocError>
+        ensures { IfOk result (λ cells. all_said cells.items ≡ Ref self.now.owner ∷ Ref self.now.constraint ∷ []) }
+    {
+        let cells = vec![in alloc; Cell::Ref(self.owner), Cell::Ref(self.constraint)]?;
+        Ok(cells)
+    }
+}
+
+/// An instance of a generic method (II.22.29).
+#[derive(Clone, Copy, Debug, PartialEq, Eq)]
+pub struct MethodSpec<S> {
+    /// The generic method: a MethodDef or MemberRef.
+    pub method: Option<Token>,
+    /// Its arguments (II.23.2.15).
+    pub instantiation: S,
+}
+
+impl<'m, S: IsSignature, W: Row<'m, Signature = S>> FromRow<'m, W> for MethodSpec<S> {
+    ghost table = { table.MethodSpec };
+
+    ghost fields = { λ r. Ref r.method ∷ Sig (S.body column.Instance r.instantiation) ∷ [] };
+
+    fn table_id() -> TableId
+        ensures { result ≡ table.MethodSpec }
+    {
+        TableId::MethodSpec
+    }
+
+    fn from_row(row: &W) -> MethodSpec<S> {
+        MethodSpec {
+            method: row.reference(0),
+            instantiation: row.signature(1, SigKind::Instance),
+        }
+    }
+}
+
+impl<'m> Record<'m> for MethodSpec<&'m Signature> {
+    const TABLE: TableId = TableId::MethodSpec;
+
+    fn from_cells(cells: &'m [Cell]) -> Option<MethodSpec<&'m Signature>> {
+        record_of(cells)
+    }
+
+    fn cells(&self, alloc: Global) -> Result<Vec<Cell>, AllocError> {
+        let cells = vec![in alloc;
+            Cell::Ref(self.method),
+            Cell::Sig(self.instantiation.copy(alloc)?),
+        ]?;
+        Ok(cells)
+    }
+}

@@ -1,0 +1,60 @@
+ghost use Rattle.std.specs.Prelude.{◌≡◌, ◌↔◌, List, IsSome, IfSome, IfOk};
+ghost use Rattle.schema.specs.declared.table.TableId.{TableId as Table};
+ghost use Rattle.metadata.specs.Cell.{Cell as TheCell};
+ghost use Rattle.cells.specs.Said.{all_said};
+ghost use Rattle.records.specs.Kinds.{kinds_of, AreOfKinds};
+ghost use Rattle.records.specs.Shapes.{AreHeld, AreSaid};
+
+use crate::cell_row::CellRow;
+use crate::kinds::is_row_of;
+use crate::row::Row;
+use cells::Cell;
+use schema::TableId;
+use std::alloc::{AllocError, Global};
+
+/// A record that is read from a row of any form.
+pub trait FromRow<'m, W: Row<'m>>: Sized {
+    // the table whose row the record is
+    ghost table: { Table };
+
+    // what the record stands for: its fields in the order of the columns
+    ghost fields: { Self → List TheCell };
+
+    /// The table whose row the record is.
+    fn table_id() -> TableId
+        ensures { result ≡ table };
+
+    /// The record that stands for a row.
+    fn from_row(row: &W) -> Self
+        requires { AreHeld (W.holds row.now) 0 (kinds_of table) }
+        ensures { AreSaid (W.says row.now) 0 (kinds_of table) (fields result) };
+}
+
+/// A row of a table as a record, whose fields have the names of the columns (II.22).
+pub trait Record<'m>: FromRow<'m, CellRow<'m>> {
+    /// The table whose row the record is.
+    const TABLE: TableId;
+
+    /// The record that stands for cells, `None` where they are not of its table's number and kinds.
+    ///
+    /// It borrows from the cells, and takes no memory.
+    fn from_cells(cells: &'m [Cell]) -> Option<Self>
+        ensures kinds { IsSome result ↔ AreOfKinds (kinds_of Self.table) (all_said cells.now) }
+        ensures fields { IfSome result (λ it. Self.fields it ≡ all_said cells.now) };
+
+    /// The cells that the record stands for. An error is want of memory alone.
+    fn cells(&self, alloc: Global) -> Result<Vec<Cell>, AllocError>
+        ensures { IfOk result (λ cells. all_said cells.items ≡ Self.fields self.now) };
+}
+
+/// The record that stands for cells, `None` where they are not of its table's number and kinds.
+#[tactic(auto, using(crate::proofs::RowLemmas::cells_are_held))]
+pub fn record_of<'m, R: FromRow<'m, CellRow<'m>>>(cells: &'m [Cell]) -> Option<R>
+    ensures kinds { IsSome result ↔ AreOfKinds (kinds_of R.table) (all_said cells.now) }
+    ensures fields { IfSome result (λ it. R.fields it ≡ all_said cells.now) }
+{
+    if !is_row_of(R::table_id(), cells) {
+        return None;
+    }
+    Some(R::from_row(&CellRow { cells }))
+}

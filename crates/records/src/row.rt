@@ -1,0 +1,54 @@
+ghost use Rattle.std.specs.Prelude.{ℕ};
+ghost use Rattle.metadata.specs.Cell.{Cell as TheCell, Number, Text, Bytes, Guid, Ref, Start, Sig};
+ghost use Rattle.records.specs.Shapes.{Shape};
+ghost use Rattle.records.specs.Shapes as shape;
+
+use crate::signature::IsSignature;
+use schema::{SigKind, Token};
+
+/// A row of a table, which is read cell by cell. Places count from 0, as in `Cell`s: padding has none.
+pub trait Row<'m> {
+    /// What a cell of a signature gives.
+    type Signature: IsSignature;
+
+    // the cell at a place holds this
+    ghost holds: { Self → ℕ → Shape → Type 0 };
+
+    // the cell at a place says this
+    ghost says: { Self → ℕ → TheCell → Type 0 };
+
+    /// A number.
+    fn number(&self, place: usize) -> u32
+        requires { holds self.now place shape.number }
+        ensures { says self.now place (Number result) };
+
+    /// A text.
+    fn text(&self, place: usize) -> &'m str
+        requires { holds self.now place shape.text }
+        ensures { says self.now place (Text result.now) };
+
+    /// Bytes.
+    fn bytes(&self, place: usize) -> &'m [u8]
+        requires { holds self.now place shape.bytes }
+        ensures { says self.now place (Bytes result.now) };
+
+    /// A GUID, or null.
+    fn guid(&self, place: usize) -> Option<[u8; 16]>
+        requires { holds self.now place shape.guid }
+        ensures { says self.now place (Guid result) };
+
+    /// A row of a table, or null.
+    fn reference(&self, place: usize) -> Option<Token>
+        requires { holds self.now place shape.reference }
+        ensures { says self.now place (Ref result) };
+
+    /// The first row of an owner's run, in the table of its members.
+    fn start(&self, place: usize) -> u32
+        requires { holds self.now place shape.start }
+        ensures { says self.now place (Start result) };
+
+    /// A signature, in a column of a kind.
+    fn signature(&self, place: usize, column: SigKind) -> Self::Signature
+        requires { holds self.now place (shape.signature column) }
+        ensures { says self.now place (Sig (Self.Signature.body column result)) };
+}

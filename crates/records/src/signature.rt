@@ -1,0 +1,14 @@
+ghost use Rattle.schema.specs.declared.column.SigKind.{SigKind as Kind};
+ghost use Rattle.signature_values.specs.Syntax.{Body};
+
+use cells::Signature;
+
+/// A signature (II.23.2), or what tells one in a column of a kind.
+pub trait IsSignature: Copy + Drop {
+    // what it says in a column of a kind
+    ghost body: { Kind → Self → Body };
+}
+
+impl IsSignature for &Signature {
+    ghost body = { λ column signature. signature.now };
+}

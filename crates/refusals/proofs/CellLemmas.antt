@@ -1,0 +1,50 @@
+-- What the cells of a row say, one by one.
+use Rattle.std.proofs.Common.{◌≡◌, ℕ, ◌<◌, List, Option, Some, None, length, slice_index_or, unwrap_or, option_map, Bool, inl, inr, refl, ap, sym, ◌∙◌}
+use Rattle.std.proofs.Math.ListN.{get_or-map}
+use Rattle.std.proofs.lemmas.List as lists
+use Rattle.packed.specs.declared.code.FaultCode.TheVariants.{BadIndex}
+use Rattle.packed.specs.Codes.{number_of_code}
+use Rattle.packed.specs.Demand.{FirstToFail}
+use Rattle.schema.specs.declared.table.TableId.{TableId}
+use Rattle.schema.specs.declared.column.ColumnKind.{ColumnKind}
+use Rattle.schema.specs.Tables.{table_number}
+use Rattle.metadata.specs.Cell as says
+use Rattle.metadata.specs.declared.refusal.Refusal.{Refusal}
+use Rattle.metadata.specs.Kinds.{IsOfKind, IsStorable}
+use Rattle.metadata.specs.Metadata.{Metadata, cell_in}
+use Rattle.metadata.specs.Valid.{MayRefer, kind_at, nullable_at}
+use Rattle.metadata.specs.Refusals.{refusals_of_cell}
+use Rattle.cells.specs.declared.cell.Cell.{Cell}
+use Rattle.cells.specs.declared.cell.Cell.TheVariants.{Number}
+use Rattle.cells.specs.Said.{said, all_said}
+
+said_or : (found : Option Cell) → said (unwrap_or found (Number 0)) ≡ unwrap_or (option_map said found) (says.Number 0)
+said_or None = refl
+said_or (Some cell) = refl
+
+said_at : (cells : List Cell) (place : ℕ) → slice_index_or (all_said cells) place (says.Number 0) ≡ said (slice_index_or cells place (Number 0))
+said_at cells place = get_or-map said cells place (Number 0)
+
+-- a cell that is got, or none behind the last
+pub got_said : (cells : List Cell) (row : List says.Cell) (place : ℕ) (found : Option Cell) → all_said cells ≡ row
+    → ((d : Cell) → unwrap_or found d ≡ slice_index_or cells place d) → unwrap_or (option_map said found) (says.Number 0) ≡ slice_index_or row place (says.Number 0)
+got_said cells row place found same got = rw (← same, said_at cells place, ← got (Number 0)) (sym (said_or found))
+
+-- a cell of a slice
+pub item_said : (cells : List Cell) (row : List says.Cell) (place : ℕ) (cell : Cell) → all_said cells ≡ row → place < length cells
+    → cell ≡ slice_index_or cells place cell → said cell ≡ slice_index_or row place (says.Number 0)
+item_said cells row place cell same within is =
+    rw (← same) (sym (lists.get_or-map said cells place cell (says.Number 0) within ∙ ap said (sym is)))
+
+pub all_length : (cells : List Cell) (row : List says.Cell) → all_said cells ≡ row → length row ≡ length cells
+all_length cells row same = rw (← same) (lists.length-map cells said)
+
+-- a cell of its column whose reference is none
+pub cell_index : (model : Metadata) (table : TableId) (row place : ℕ) (kind : ColumnKind) (nullable : Bool) (cell : says.Cell) (found : Refusal)
+    → kind ≡ kind_at table place → nullable ≡ nullable_at table place → cell ≡ cell_in model table row place
+    → IsOfKind kind cell × IsStorable cell → ¬ MayRefer model nullable cell
+    → found ≡ record { code = number_of_code BadIndex; table = table_number table; row = row; column = place }
+    → FirstToFail (refusals_of_cell model table row place) found
+unfolding refusals_of_cell
+cell_index model table row place kind nullable cell found is_kind is_nullable is_cell fits no_row is_found =
+    inr (rw (is_kind, is_cell) at fits, inl (λ refers. no_row (rw (is_nullable, is_cell) refers), is_found))

@@ -1,0 +1,40 @@
+-- Key numbers that never fall, one row after another.
+use Rattle.std.proofs.Common.{◌≡◌, ℕ, ◌+◌, ◌-◌, ◌<◌, ◌≤◌, List, [], length, slice_index_or, refl, sym, ◌∙◌, ap, inl, inr, arith}
+use Rattle.std.proofs.lemmas.Bool.{cases_eq}
+use Rattle.std.proofs.lemmas.List.{get_or_read}
+use Rattle.schema.specs.declared.table.TableId.{TableId}
+use Rattle.schema.specs.declared.column.ColumnKind.{ColumnKind}
+use Rattle.metadata.specs.Cell.{Cell, Number}
+use Rattle.metadata.specs.Metadata.{Metadata, rows_of}
+use Rattle.metadata.specs.KeyOrder.{key_number, key_in}
+use Rattle.metadata.specs.Valid.{kind_at}
+
+-- the key number of a row that was met
+pub key_here : (model : Metadata) (table : TableId) (place i : ℕ) (rows : List (List Cell)) (row : List Cell) (kind : ColumnKind) (number : ℕ)
+    → rows ≡ rows_of model table → i < length rows → row ≡ slice_index_or rows i row → kind ≡ kind_at table place
+    → number ≡ key_number kind (slice_index_or row place (Number 0)) → number ≡ key_in model table place (i + 1)
+key_here model table place i rows row kind number are within is is_kind is_number =
+    let back : (i + 1) - 1 ≡ i = omega arith in
+    let same : slice_index_or rows i [] ≡ row = sym (get_or_read rows i row within is []) in
+    is_number ∙ rw (back, ← are, same, is_kind) refl
+
+module _ (f : ℕ → ℕ) (i before number : ℕ) (here : number ≡ f (i + 1)) (last : 1 ≤ i → before ≡ f i) where
+  back : (i + 1) - 1 ≡ i
+  back = omega arith
+
+  pub rising_more : before ≤ number → ((row : ℕ) → 2 ≤ row → row ≤ i → f (row - 1) ≤ f row) → (row : ℕ) → 2 ≤ row → row ≤ i + 1 → f (row - 1) ≤ f row
+  rising_more rises rising row second within =
+      elim (cases_eq row (i + 1)) [
+        | inl same ↦ let e = last (omega arith) in rw (same, back, ← e, ← here) rises
+        | inr other ↦ rising row second (omega arith)
+      ]
+
+  pub falls_there : (n : ℕ) → (i ≡ 0 → before ≡ 0) → number < before → i < n → ((row : ℕ) → 2 ≤ row → row ≤ n → f (row - 1) ≤ f row) → ⊥
+  falls_there n none falls within rising =
+      elim (cases_eq i 0) [
+        | inl first ↦ let e = none first in omega arith
+        | inr other ↦
+            let e = last (omega arith) in
+            let h = rw back at (rising (i + 1) (omega arith) (omega arith)) in
+            omega arith
+      ]

@@ -1,0 +1,5 @@
+pub mod CellLemmas
+pub mod CountLemmas
+pub mod KeyLemmas
+pub mod TokenLemmas
+pub mod WholeLemmas

@@ -1,0 +1,21 @@
+use Rattle.std.proofs.Common.{◌≡◌, ◌↔◌, ℕ, Bool, false, IsTrue, Some, List, slice_index_or, ap, arith, ◌∙◌, length-set}
+use Rattle.schema.specs.declared.table.TableId.{TableId}
+use Rattle.schema.specs.declared.table.TableId.TheVariants.{Module}
+use Rattle.schema.specs.Columns.{key_of}
+use Rattle.metadata.specs.KeyOrder.{IsKeyOrdered}
+use Rattle.refusals.proofs.CountLemmas.{known_more}
+use Rattle.refusals.proofs.order.find_order.Goals as goal
+
+pub loop-position-preserved : goal.loop-position-preserved
+loop-position-preserved c =
+    let long = c.loop-position.invariant.long in
+    let limit = c.number.ensures.limit in
+    record {
+      long = length-set _ _ _ ∙ long;
+      told = known_more c.tables_stand.ensures.stand c.tables_stand.ensures.rise
+          (λ (bit : Bool) (table : TableId). (key : ℕ) → key_of table ≡ Some key → IsTrue bit ↔ IsKeyOrdered c.args.tables.now table) false
+          c.loop-position.in_order c.loop-position.position c.number.result
+          (slice_index_or c.all-all.result.now c.loop-position.position Module) c.is_in_order.result
+          (ap (λ (ts : List TableId). slice_index_or ts c.loop-position.position Module) c.all-all.ensures.value)
+          c.number.ensures.value (omega arith) c.is_in_order.ensures c.loop-position.invariant.told;
+    }

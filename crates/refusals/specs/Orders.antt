@@ -1,0 +1,12 @@
+-- Which tables are in order of their keys.
+use Rattle.std.specs.Prelude.{◌≡◌, ℕ, ◌↔◌, Bool, false, IsTrue, List, Some, slice_index_or}
+use Rattle.schema.specs.declared.table.TableId.{TableId}
+use Rattle.schema.specs.Tables.{table_number}
+use Rattle.schema.specs.Columns.{key_of}
+use Rattle.metadata.specs.Metadata.{Metadata}
+use Rattle.metadata.specs.KeyOrder.{IsKeyOrdered}
+
+-- whether the keys of each table with a key never fall, under the numbers of the tables
+abbrev pub TellsOrder : Metadata → List Bool → Type 0
+TellsOrder model bits =
+    (table : TableId) (key : ℕ) → key_of table ≡ Some key → IsTrue (slice_index_or bits (table_number table) false) ↔ IsKeyOrdered model table

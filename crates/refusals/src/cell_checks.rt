@@ -1,0 +1,122 @@
+ghost use Rattle.std.specs.Prelude.{◌≡◌, ◌≤◌, ◌<◌, ◌↔◌, IsTrue, length};
+ghost use Rattle.packed.specs.Demand.{Answers, demands_from};
+ghost use Rattle.schema.specs.CellColumns.{cell_count};
+ghost use Rattle.cells.specs.Said.{said, all_said};
+ghost use Rattle.metadata.specs.Kinds.{IsOfKind, IsStorable};
+ghost use Rattle.metadata.specs.Metadata.{row_of, count_in, cell_in};
+ghost use Rattle.metadata.specs.Valid.{MayRefer, IsWithinMembers};
+ghost use Rattle.metadata.specs.Refusals.{refusals_of_cell, refusals_of_row, refusals_of_cells};
+
+use crate::column::column_at;
+use crate::counted::Counted;
+use cells::Cell;
+use metadata::Refusal;
+use packed::FaultCode;
+use schema::{ColumnKind, TableId, cell_count};
+
+/// Each row has the cells of its table, each of which is of its column (II.22), but for what
+/// signatures say.
+#[tactic(auto, using(packed::proofs::DemandLemmas::before_none, packed::proofs::DemandLemmas::before_more, packed::proofs::DemandLemmas::before_all, packed::proofs::DemandLemmas::before_fails), unfolding(metadata::specs::Refusals::refusals_of_cells, metadata::specs::Refusals::refusals_of_table_at))]
+pub fn check_cells(counted: &Counted) -> Result<(), Refusal>
+    ensures { Answers (refusals_of_cells counted.now) result }
+{
+    let tables = TableId::all();
+    for position in 0..tables.len() {
+        check_rows(counted, tables[position])?;
+    }
+    Ok(())
+}
+
+/// Each row of a table has its cells.
+#[tactic(auto, using(packed::proofs::DemandLemmas::before_none, packed::proofs::DemandLemmas::before_more, packed::proofs::DemandLemmas::before_all, packed::proofs::DemandLemmas::before_fails))]
+fn check_rows(counted: &Counted, table: TableId) -> Result<(), Refusal>
+    ensures { Answers (demands_from (refusals_of_row counted.now table) 1 (count_in counted.now table)) result }
+{
+    let count = counted.count(table);
+    for row in 1..count + 1 {
+        check_row(counted, table, row)?;
+    }
+    Ok(())
+}
+
+/// A row has as many cells as its table, each of its column.
+#[tactic(auto, using(crate::proofs::CellLemmas::all_length), unfolding(metadata::specs::Refusals::refusals_of_row))]
+fn check_row(counted: &Counted, table: TableId, row: u32) -> Result<(), Refusal>
+    requires first { 1 ≤ row }
+    requires last { row ≤ count_in counted.now table }
+    ensures { Answers (refusals_of_row counted.now table row) result }
+{
+    let cells = counted.cells(table, row);
+    if cells.len() != cell_count(table) {
+        return Err(Refusal::new(FaultCode::BadCell, table.number(), row, 0));
+    }
+    check_places(counted, table, row, cells)
+}
+
+/// Each cell of a row is of its column.
+#[tactic(auto, using(packed::proofs::DemandLemmas::before_none, packed::proofs::DemandLemmas::before_more, packed::proofs::DemandLemmas::before_all, packed::proofs::DemandLemmas::before_fails, crate::proofs::CellLemmas::item_said))]
+fn check_places(counted: &Counted, table: TableId, row: u32, cells: &[Cell]) -> Result<(), Refusal>
+    requires cells { all_said cells.now ≡ row_of counted.now table row }
+    requires long { length cells.now ≡ cell_count table }
+    ensures { Answers (demands_from (refusals_of_cell counted.now table row) 0 (cell_count table)) result }
+{
+    for place in 0..cells.len() {
+        check_cell(counted, table, row, place, &cells[place])?;
+    }
+    Ok(())
+}
+
+/// The cell at a place of a row is of its column.
+#[tactic(auto, unfolding(metadata::specs::Refusals::refusals_of_cell))]
+fn check_cell(
+    counted: &Counted,
+    table: TableId,
+    row: u32,
+    place: usize,
+    cell: &Cell,
+) -> Result<(), Refusal>
+    requires place { place < cell_count table }
+    requires cell { said cell.now ≡ cell_in counted.now table row place }
+    ensures { Answers (refusals_of_cell counted.now table row place) result }
+{
+    let column = column_at(table, place);
+    let number = table.number();
+    if !is_of_column(column.kind, cell) {
+        return Err(Refusal::new(FaultCode::BadCell, number, row, place));
+    }
+    if !may_refer(counted, column.nullable, cell) {
+        return Err(Refusal::new(FaultCode::BadIndex, number, row, place));
+    }
+    if !is_within_members(counted, column.kind, cell) {
+        return Err(Refusal::new(FaultCode::BadList, number, row, place));
+    }
+    Ok(())
+}
+
+/// Whether a cell is of the kind of a column, and a heap can hold it.
+fn is_of_column(kind: ColumnKind, cell: &Cell) -> bool
+    ensures { IsTrue result ↔ (IsOfKind kind (said cell.now) × IsStorable (said cell.now)) }
+{
+    cell.is_of_kind(kind) && cell.is_storable()
+}
+
+/// Whether a reference is to a row that exists, or null where it may be.
+fn may_refer(counted: &Counted, nullable: bool, cell: &Cell) -> bool
+    ensures { IsTrue result ↔ MayRefer counted.now nullable (said cell.now) }
+{
+    match cell {
+        Cell::Ref(None) => nullable,
+        Cell::Ref(Some(token)) => 1 <= token.row && token.row <= counted.count(token.table),
+        _ => true,
+    }
+}
+
+/// Whether a start is at most one past the last member.
+fn is_within_members(counted: &Counted, kind: ColumnKind, cell: &Cell) -> bool
+    ensures { IsTrue result ↔ IsWithinMembers counted.now kind (said cell.now) }
+{
+    match (kind, cell) {
+        (ColumnKind::List(member), Cell::Start(start)) => *start <= counted.count(member) + 1,
+        _ => true,
+    }
+}

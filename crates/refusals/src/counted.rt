@@ -1,0 +1,114 @@
+ghost use Rattle.std.specs.Prelude.{◌≡◌, ◌<◌, IfOk};
+ghost use Rattle.packed.specs.Demand.{Answers};
+ghost use Rattle.metadata.specs.Metadata.{count_in};
+ghost use Rattle.metadata.specs.Rows.{table_at};
+ghost use Rattle.metadata.specs.Refusals.{refusals_of_count};
+
+use cells::Cell;
+use metadata::Refusal;
+use packed::FaultCode;
+use schema::{TableId, tables_stand};
+use std::marker::Model;
+use tables::Tables;
+
+/// A table has at most so many rows (II.22).
+const ROW_LIMIT: usize = 0xFF_FFFF;
+
+/// Tables of few rows, and how many each has, under its number.
+#[derive(Drop)]
+pub struct Counted<'a> {
+    tables: &'a Tables,
+    counts: [u32; 45],
+}
+
+impl<'a> Model for Counted<'a> {
+    ghost use Rattle.metadata.specs.Metadata.{Metadata};
+    ghost use Rattle.tables.specs.Code.{metadata_code};
+
+    ghost Value = { Metadata };
+
+    ghost coded = { metadata_code };
+
+    ghost use Rattle.refusals.specs.Counts.{IsCounted};
+
+    ghost view = { λ c. c.tables.now };
+
+    ghost invariant = { IsCounted };
+}
+
+impl<'a> Counted<'a> {
+    ghost use Rattle.std.specs.Prelude.{◌≡◌, ◌≤◌, IfOk, slice_index, unwrap_or, option_map};
+    ghost use Rattle.std.specs.Option.{option_copied};
+    ghost use Rattle.packed.specs.Demand.{Answers};
+    ghost use Rattle.schema.specs.declared.table.TableId.{TableId as Table};
+    ghost use Rattle.schema.specs.Tables.{table_number};
+    ghost use Rattle.cells.specs.Said.{said, all_said};
+    ghost use Rattle.metadata.specs.Cell.{Number as NumberCell};
+    ghost use Rattle.metadata.specs.Metadata.{row_of, count_in, cell_in};
+    ghost use Rattle.metadata.specs.Refusals.{refusals_of_counts};
+
+    /// Tables, whose rows are counted: each has few.
+    #[tactic(auto, using(packed::proofs::DemandLemmas::before_none, packed::proofs::DemandLemmas::before_more, packed::proofs::DemandLemmas::before_all, packed::proofs::DemandLemmas::before_fails), unfolding(metadata::specs::Refusals::refusals_of_counts))]
+    pub fn new(tables: &'a Tables) -> Result<Counted<'a>, Refusal>
+        ensures answers { Answers (refusals_of_counts tables.now) result }
+        ensures tables { IfOk result (λ counted. counted ≡ tables.now) }
+    {
+        tables_stand();
+        let all = TableId::all();
+        let mut counts = [0; 45];
+        for position in 0..all.len() {
+            let number = all[position].number();
+            counts[number as usize] = count_rows(tables, position)?;
+        }
+        Ok(Counted { tables, counts })
+    }
+
+    /// How many rows a table has.
+    pub fn count(&self, table: TableId) -> u32
+        ensures value { result ≡ count_in self.now table }
+        ensures limit { result ≤ 0xFFFFFF }
+    {
+        self.counts[table.number() as usize]
+    }
+
+    /// How many rows each table has, under its number.
+    pub fn counts(&self) -> &[u32; 45]
+        ensures { (table : Table) → slice_index result.now (table_number table) ≡ count_in self.now table }
+    {
+        &self.counts
+    }
+
+    /// The cells of a row, counted from 1.
+    pub fn cells(&self, table: TableId, row: u32) -> &'a [Cell]
+        requires first { 1 ≤ row }
+        requires last { row ≤ count_in self.now table }
+        ensures { all_said result.now ≡ row_of self.now table row }
+    {
+        self.tables.cells(table, row as usize)
+    }
+
+    /// The cell at a place of a row, `None` behind the last.
+    #[tactic(auto, using(crate::proofs::CellLemmas::got_said))]
+    pub fn cell(&self, table: TableId, row: u32, place: usize) -> Option<&'a Cell>
+        requires first { 1 ≤ row }
+        requires last { row ≤ count_in self.now table }
+        ensures { unwrap_or (option_map said (option_copied result)) (NumberCell 0) ≡ cell_in self.now table row place }
+    {
+        self.cells(table, row).get(place)
+    }
+}
+
+/// How many rows the table at a position has, where they are few.
+#[tactic(auto, unfolding(metadata::specs::Refusals::refusals_of_count))]
+fn count_rows(tables: &Tables, position: usize) -> Result<u32, Refusal>
+    requires { position < 38 }
+    ensures answers { Answers (refusals_of_count tables.now position) result }
+    ensures count { IfOk result (λ count. count ≡ count_in tables.now (table_at position)) }
+{
+    let table = TableId::all()[position];
+    let count = tables.count(table);
+    if count > ROW_LIMIT {
+        return Err(Refusal::new(FaultCode::RowCount, table.number(), 0, 0));
+    }
+    Ok(count as u32)
+}

@@ -1,0 +1,84 @@
+ghost use Rattle.std.specs.Prelude.{◌≡◌, ◌≤◌, ◌-◌, unwrap_or, option_map};
+ghost use Rattle.std.specs.Option.{option_copied};
+ghost use Rattle.packed.specs.Demand.{Answers, demands_from};
+ghost use Rattle.cells.specs.Said.{said};
+ghost use Rattle.metadata.specs.Cell.{Number as NumberCell};
+ghost use Rattle.metadata.specs.Metadata.{count_in, cell_in};
+ghost use Rattle.metadata.specs.Valid.{start_in};
+ghost use Rattle.metadata.specs.Refusals.{refusals_of_start, refusals_of_run, refusals_of_runs};
+
+use crate::counted::Counted;
+use cells::Cell;
+use metadata::Refusal;
+use packed::FaultCode;
+use schema::TableId;
+
+/// Each member of the five runs has one owner (II.22.37, II.22.26, II.22.12 and II.22.35).
+#[tactic(auto, using(packed::proofs::DemandLemmas::fails_front, packed::proofs::DemandLemmas::fails_back, packed::proofs::DemandLemmas::all_append), unfolding(metadata::specs::Refusals::refusals_of_runs))]
+pub fn check_members(counted: &Counted) -> Result<(), Refusal>
+    ensures { Answers (refusals_of_runs counted.now) result }
+{
+    check_run(counted, TableId::TypeDef, 4, TableId::Field)?;
+    check_run(counted, TableId::TypeDef, 5, TableId::MethodDef)?;
+    check_run(counted, TableId::MethodDef, 5, TableId::Param)?;
+    check_run(counted, TableId::EventMap, 1, TableId::Event)?;
+    check_run(counted, TableId::PropertyMap, 1, TableId::Property)
+}
+
+/// Each member has one owner, by the starts at a place of the owners' rows.
+#[tactic(auto, using(packed::proofs::DemandLemmas::none_from), unfolding(metadata::specs::Refusals::refusals_of_run))]
+fn check_run(
+    counted: &Counted,
+    owner: TableId,
+    place: usize,
+    member: TableId,
+) -> Result<(), Refusal>
+    ensures { Answers (refusals_of_run counted.now owner place member) result }
+{
+    if counted.count(owner) == 0 {
+        if counted.count(member) == 0 {
+            return Ok(());
+        }
+        return Err(Refusal::new(FaultCode::NoOwner, member.number(), 1, 0));
+    }
+    if start_of(counted.cell(owner, 1, place)) != 1 {
+        return Err(Refusal::new(FaultCode::BadRun, owner.number(), 1, place));
+    }
+    check_starts(counted, owner, place)
+}
+
+/// The starts at a place of the owners' rows never fall.
+#[tactic(auto, using(packed::proofs::DemandLemmas::before_none, packed::proofs::DemandLemmas::before_more, packed::proofs::DemandLemmas::before_all, packed::proofs::DemandLemmas::before_fails))]
+fn check_starts(counted: &Counted, owner: TableId, place: usize) -> Result<(), Refusal>
+    ensures { Answers (demands_from (refusals_of_start counted.now owner place) 2 (count_in counted.now owner - 1)) result }
+{
+    for row in 2..counted.count(owner) + 1 {
+        check_start(counted, owner, place, row)?;
+    }
+    Ok(())
+}
+
+/// A start is no lower than that of the owner before.
+#[tactic(auto, unfolding(metadata::specs::Refusals::refusals_of_start))]
+fn check_start(counted: &Counted, owner: TableId, place: usize, row: u32) -> Result<(), Refusal>
+    requires first { 2 ≤ row }
+    requires last { row ≤ count_in counted.now owner }
+    ensures { Answers (refusals_of_start counted.now owner place row) result }
+{
+    let before = start_of(counted.cell(owner, row - 1, place));
+    let start = start_of(counted.cell(owner, row, place));
+    if start < before {
+        return Err(Refusal::new(FaultCode::BadRun, owner.number(), row, place));
+    }
+    Ok(())
+}
+
+/// The number of a start; any other cell has none.
+fn start_of(cell: Option<&Cell>) -> u32
+    ensures { result ≡ start_in (unwrap_or (option_map said (option_copied cell.entry)) (NumberCell 0)) }
+{
+    match cell {
+        Some(Cell::Start(start)) => *start,
+        _ => 0,
+    }
+}

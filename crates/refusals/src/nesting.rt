@@ -1,0 +1,58 @@
+ghost use Rattle.std.specs.Prelude.{◌≡◌, ◌≤◌, unwrap_or, option_map};
+ghost use Rattle.std.specs.Option.{option_copied};
+ghost use Rattle.packed.specs.Demand.{Answers};
+ghost use Rattle.schema.specs.declared.table.TableId.TheVariants.{NestedClass};
+ghost use Rattle.cells.specs.Said.{said};
+ghost use Rattle.metadata.specs.Cell.{Number as NumberCell};
+ghost use Rattle.metadata.specs.Metadata.{count_in};
+ghost use Rattle.metadata.specs.Valid.{row_in};
+ghost use Rattle.metadata.specs.Refusals.{refusals_of_nesting_in, refusals_of_nesting};
+
+use crate::counted::Counted;
+use cells::Cell;
+use metadata::Refusal;
+use packed::FaultCode;
+use schema::TableId;
+
+/// The places of a nested type and of the type around it.
+const NESTED: usize = 0;
+
+const ENCLOSING: usize = 1;
+
+/// Each type stands behind the one that it is nested in (II.22.32).
+#[tactic(auto, using(packed::proofs::DemandLemmas::before_none, packed::proofs::DemandLemmas::before_more, packed::proofs::DemandLemmas::before_all, packed::proofs::DemandLemmas::before_fails), unfolding(metadata::specs::Refusals::refusals_of_nesting))]
+pub fn check_nesting(counted: &Counted) -> Result<(), Refusal>
+    ensures { Answers (refusals_of_nesting counted.now) result }
+{
+    let count = counted.count(TableId::NestedClass);
+    for row in 1..count + 1 {
+        check_nested(counted, row)?;
+    }
+    Ok(())
+}
+
+/// The nested type of a row stands behind the one around it.
+#[tactic(auto, unfolding(metadata::specs::Refusals::refusals_of_nesting_in))]
+fn check_nested(counted: &Counted, row: u32) -> Result<(), Refusal>
+    requires first { 1 ≤ row }
+    requires last { row ≤ count_in counted.now NestedClass }
+    ensures { Answers (refusals_of_nesting_in counted.now row) result }
+{
+    let table = TableId::NestedClass;
+    let nested = row_of(counted.cell(table, row, NESTED));
+    let enclosing = row_of(counted.cell(table, row, ENCLOSING));
+    if enclosing < nested {
+        return Ok(());
+    }
+    Err(Refusal::new(FaultCode::NestedOrder, table.number(), row, ENCLOSING))
+}
+
+/// The row of a reference; null and any other cell have none.
+fn row_of(cell: Option<&Cell>) -> u32
+    ensures { result ≡ row_in (unwrap_or (option_map said (option_copied cell.entry)) (NumberCell 0)) }
+{
+    match cell {
+        Some(Cell::Ref(Some(token))) => token.row,
+        _ => 0,
+    }
+}

@@ -1,0 +1,76 @@
+ghost use Rattle.std.specs.Prelude.{◌≡◌, ◌<◌, ◌≤◌, ◌-◌, ◌↔◌, ℕ, Some, IsTrue, slice_index_or};
+ghost use Rattle.schema.specs.Columns.{key_of};
+ghost use Rattle.schema.specs.CellColumns.{cell_count};
+ghost use Rattle.metadata.specs.Metadata.{count_in};
+ghost use Rattle.metadata.specs.Cell.{Number as NumberCell};
+ghost use Rattle.metadata.specs.KeyOrder.{key_number, key_in, IsKeyOrdered};
+ghost use Rattle.refusals.specs.Orders.{TellsOrder};
+
+use crate::column::column_at;
+use crate::key_numbers::key_number;
+use schema::{ColumnKind, TableId, cell_count, column_of_cell, key, tables_stand};
+use tables::{Row, Tables};
+
+/// Whether each table with a key is in order of it (II.22), under the tables' numbers; false of tables
+/// without a key. It takes no memory, and reads each key once.
+pub fn find_order(tables: &Tables) -> [bool; 45]
+    ensures { TellsOrder tables.now result }
+{
+    tables_stand();
+    let all = TableId::all();
+    let mut in_order = [false; 45];
+    for position in 0..all.len() {
+        let table = all[position];
+        in_order[table.number() as usize] = is_in_order(tables, table);
+    }
+    in_order
+}
+
+/// Whether a table is in order of its key.
+fn is_in_order(tables: &Tables, table: TableId) -> bool
+    ensures { (key : ℕ) → key_of table ≡ Some key → IsTrue result ↔ IsKeyOrdered tables.now table }
+{
+    match key(table) {
+        Some(key) => never_fall(tables, table, key),
+        None => false,
+    }
+}
+
+/// Whether the key numbers of a table never fall, which stand in the cells of one column.
+fn never_fall(tables: &Tables, table: TableId, key: usize) -> bool
+    requires { key_of table ≡ Some key }
+    ensures { IsTrue result ↔ IsKeyOrdered tables.now table }
+{
+    for place in 0..cell_count(table) {
+        if column_of_cell(table, place) == key && !never_falls(tables, table, place) {
+            return false;
+        }
+    }
+    true
+}
+
+/// Whether the key numbers at a place of a table's rows never fall.
+fn never_falls(tables: &Tables, table: TableId, place: usize) -> bool
+    requires { place < cell_count table }
+    ensures { IsTrue result ↔ ((row : ℕ) → 2 ≤ row → row ≤ count_in tables.now table
+        → key_in tables.now table place (row - 1) ≤ key_in tables.now table place row) }
+{
+    let kind = column_at(table, place).kind;
+    let mut before = 0;
+    for row in tables.rows(table) {
+        let number = key_at(kind, row, place);
+        if number < before {
+            return false;
+        }
+        before = number;
+    }
+    true
+}
+
+/// The key number of a row, by the place of the key among the cells.
+#[tactic(auto, using(crate::proofs::CellLemmas::got_said))]
+fn key_at(kind: ColumnKind, row: &Row, place: usize) -> u64
+    ensures { result ≡ key_number kind (slice_index_or row.now place (NumberCell 0)) }
+{
+    key_number(kind, row.as_slice().get(place))
+}

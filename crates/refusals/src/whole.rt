@@ -1,0 +1,45 @@
+ghost use Rattle.std.specs.Prelude.{◌≡◌, ◌↔◌, IsOk, length};
+ghost use Rattle.packed.specs.Demand.{Answers};
+ghost use Rattle.metadata.specs.Valid.{IsValid};
+ghost use Rattle.metadata.specs.Refusals.{refusals_of};
+
+use crate::cell_checks::check_cells;
+use crate::counted::Counted;
+use crate::heads::{is_user, is_version};
+use crate::members::check_members;
+use crate::nesting::check_nesting;
+use crate::signature_checks::check_signatures;
+use metadata::{Refusal, valid_models_are_not_refused};
+use packed::FaultCode;
+use tables::Tables;
+
+/// Checks what is asked of tables, in the order in which it is posed (II.22 and II.24.2): the first
+/// demand that they do not meet is answered, with its code and its cell.
+///
+/// None is exactly where a model can be made of them.
+pub fn check_tables(tables: &Tables) -> Result<(), Refusal>
+    ensures answers { Answers (refusals_of tables.now) result }
+    ensures valid { IsOk result ↔ IsValid tables.now }
+{
+    valid_models_are_not_refused();
+    check_demands(tables)
+}
+
+/// The demands, from the first to the last.
+#[tactic(auto, using(packed::proofs::DemandLemmas::fails_front, packed::proofs::DemandLemmas::fails_back, packed::proofs::DemandLemmas::all_append), unfolding(metadata::specs::Refusals::refusals_of))]
+fn check_demands(tables: &Tables) -> Result<(), Refusal>
+    ensures answers { Answers (refusals_of tables.now) result }
+    ensures tables { length tables.now.tables ≡ 38 }
+{
+    if !is_version(tables.version()) {
+        return Err(Refusal::new(FaultCode::Version, 0, 0, 0));
+    }
+    if !is_user(tables.user()) {
+        return Err(Refusal::new(FaultCode::UserBytes, 0, 0, 0));
+    }
+    let counted = Counted::new(tables)?;
+    check_cells(&counted)?;
+    check_members(&counted)?;
+    check_nesting(&counted)?;
+    check_signatures(&counted)
+}

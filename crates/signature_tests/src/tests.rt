@@ -1,0 +1,5 @@
+mod bodies;
+mod bytes;
+mod indexes;
+mod spelled;
+mod values;

@@ -1,0 +1,80 @@
+use std::alloc::Global;
+use std::io;
+use std::io::{ErrorKind, Write};
+
+/// What a writer does when it is called.
+#[derive(Clone, Copy, Debug, PartialEq, Eq)]
+pub enum Step {
+    /// It takes so many bytes, or all where there are fewer.
+    Take(usize),
+    /// It fails.
+    Fail,
+    /// It is interrupted.
+    Interrupt,
+}
+
+/// A writer into memory that follows a list of steps, one a call, and behind the last one takes all.
+#[derive(Drop)]
+pub struct Scripted<'a> {
+    bytes: Vec<u8>,
+    steps: &'a [Step],
+}
+
+impl<'a> Scripted<'a> {
+    ghost use Rattle.std.specs.Prelude.{◌≡◌, []};
+    ghost use Rattle.sink_tests.specs.Scripted.{bytes_of};
+
+    /// A writer that holds no bytes.
+    pub fn new(alloc: Global, steps: &'a [Step]) -> Scripted<'a>
+        ensures { bytes_of result ≡ [] }
+    {
+        Scripted {
+            bytes: Vec::new(alloc),
+            steps,
+        }
+    }
+
+    /// The bytes that were taken.
+    pub fn bytes(&self) -> &[u8]
+        ensures { result.now ≡ bytes_of self.now }
+    {
+        &self.bytes
+    }
+
+    /// The step of the next call.
+    fn next(&mut self) -> Step
+        ensures { bytes_of self.new ≡ bytes_of self.old }
+    {
+        match self.steps {
+            [step, rest @ ..] => {
+                self.steps = rest;
+                *step
+            }
+            [] => Step::Take(usize::MAX),
+        }
+    }
+}
+
+impl Write for Scripted<'_> {
+    ghost use Rattle.std.specs.Prelude.{Some};
+    ghost use Rattle.sink_tests.specs.Scripted.{bytes_of};
+
+    ghost contents = { λ writer. Some (bytes_of writer) };
+
+    fn write(&mut self, bytes: &[u8]) -> io::Result<usize> {
+        match self.next() {
+            Step::Take(count) => {
+                let taken = count.min(bytes.len());
+                let (front, _) = bytes.split_at(taken);
+                self.bytes.extend_from_slice(front)?;
+                Ok(taken)
+            }
+            Step::Fail => Err(io::Error::from(ErrorKind::Other)),
+            Step::Interrupt => Err(io::Error::from(ErrorKind::Interrupted)),
+        }
+    }
+
+    fn flush(&mut self) -> io::Result<()> {
+        Ok(())
+    }
+}

@@ -1,0 +1,59 @@
+-- What cells say tells them apart.
+use Rattle.std.proofs.Common.{◌≡◌, ℕ, List, [], ◌∷◌, map, refl, ap, sym, ◌∙◌}
+use Rattle.std.specs.Bool.{Decides}
+use Rattle.std.specs.Cmp.Lexicographic.{pointwise, pointwise_decides}
+use Rattle.std.proofs.lemmas.Bool.Decides.{Decides-like, Decides-and, Decides-eqb}
+use Rattle.metadata.specs.Cell as says
+use Rattle.metadata.specs.Metadata.{Metadata}
+use Rattle.cells.specs.declared.cell.Cell.{Cell}
+use Rattle.cells.specs.declared.cell.Cell.TheVariants.{Number, Text, Bytes, Guid, Ref, Start, Sig}
+use Rattle.cells.specs.contracts.cell.CellPartialEq.TheImpl.{eq-value}
+use Rattle.cells.specs.Said.{said, all_said}
+use Rattle.tables.specs.Code.{saying, said_saying}
+use Rattle.tables.specs.Same.{is_same_cell}
+use Rattle.tables.specs.contracts.tables.TablesPartialEq.TheImpl as tables
+
+pub saying_said : (cell : Cell) → saying (said cell) ≡ cell
+saying_said (Number number) = refl
+saying_said (Text text) = refl
+saying_said (Bytes bytes) = refl
+saying_said (Guid guid) = refl
+saying_said (Ref reference) = refl
+saying_said (Start row) = refl
+saying_said (Sig signature) = refl
+
+all_saying : (cells : List Cell) → map saying (all_said cells) ≡ cells
+all_saying [] = refl
+all_saying (cell ∷ cells) = rw (saying_said cell, all_saying cells) refl
+
+-- cells that say the same are the same
+pub said_once : (cells others : List Cell) → all_said cells ≡ all_said others → cells ≡ others
+said_once cells others same = sym (all_saying cells) ∙ ap (map saying) same ∙ all_saying others
+
+-- rows are equal where their cells are
+pub same_rows : (cells others : List Cell) → pointwise is_same_cell (all_said cells) (all_said others) ≡ pointwise eq-value.it cells others
+same_rows [] [] = refl
+same_rows [] (other ∷ others) = refl
+same_rows (cell ∷ cells) [] = refl
+same_rows (cell ∷ cells) (other ∷ others) = rw (saying_said cell, saying_said other, same_rows cells others) refl
+
+-- ---- equality of tables
+
+module _ (decides : (a b : Cell) → Decides (eq-value.it a b) (a ≡ b)) where
+  cell_decides : (a b : says.Cell) → Decides (is_same_cell a b) (a ≡ b)
+  cell_decides a b =
+      Decides-like _ (λ same. sym (said_saying a) ∙ ap said same ∙ said_saying b) (λ same. ap saying same) (decides (saying a) (saying b))
+
+  metadata_same : (a b : Metadata) → a.version ≡ b.version → a.user ≡ b.user → a.tables ≡ b.tables → a ≡ b
+  metadata_same a b version user tables =
+      ap (λ (v : List ℕ). record { version = v; user = a.user; tables = a.tables }) version
+      ∙ ap (λ (u : List ℕ). record { version = b.version; user = u; tables = a.tables }) user
+      ∙ ap (λ (t : List (List (List says.Cell))). record { version = b.version; user = b.user; tables = t }) tables
+
+  pub metadata_decides : (a b : Metadata) → Decides (tables.eq-value.it a b) (a ≡ b)
+  metadata_decides a b =
+      Decides-like _ (λ same. metadata_same a b same.0 same.1.0 same.1.1)
+      (λ same. (ap (λ (m : Metadata). m.version) same, (ap (λ (m : Metadata). m.user) same, ap (λ (m : Metadata). m.tables) same)))
+      (Decides-and _ _ (pointwise_decides Decides-eqb a.version b.version)
+      (Decides-and _ _ (pointwise_decides Decides-eqb a.user b.user)
+      (pointwise_decides (pointwise_decides (pointwise_decides cell_decides)) a.tables b.tables)))

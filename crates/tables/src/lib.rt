@@ -1,0 +1,23 @@
+//! The tables of a model, as a client fills them: a version, user bytes, and rows of cells (ECMA-335
+//! II.22 and II.24.2).
+//!
+//! [`Tables`] own what they hold, and take any cells in any order: whether a model can be made of them
+//! is asked elsewhere. A clause sees tables as what they say, without where it lies in memory, so `==`
+//! compares that: versions, user bytes and cells.
+//!
+//! ```text
+//! let mut tables = Tables::new(alloc, "v4.0.30319")?;
+//! tables.push(TableId::Module, cells)?; // its first row
+//! tables.count(TableId::Module) == 1
+//! ```
+#![tactic(auto)]
+
+mod laws;
+mod table_rows;
+mod tables;
+
+pub use cells::{Bytes, Cell, Signature, Text};
+pub use laws::{equality_is_tested, rows_are_added};
+pub use schema::{TableId, Token};
+pub use table_rows::Row;
+pub use tables::Tables;

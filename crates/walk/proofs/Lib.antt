@@ -1,0 +1,4 @@
+pub mod Steps
+pub mod Loops
+pub mod Forms
+pub mod Says

@@ -1,0 +1,110 @@
+ghost use Rattle.std.specs.Prelude.{◌≡◌};
+ghost use Rattle.signature_values.specs.Views.{shape_of};
+ghost use Rattle.signature_values.specs.Grammar.{modifier_parts, modifiers_parts, prefix_parts, prefixes_parts, numbers_parts, bounds_parts, shape_parts};
+ghost use Rattle.walk.specs.Run.{after, run};
+ghost use Rattle.walk.specs.Items.{parts_items, demand, is_shape, shape_items};
+
+use crate::sink::PartSink;
+use signature_values::element_type::{CMOD_OPT, CMOD_REQD, PINNED};
+use signature_values::{Modifier, Prefix, Shape};
+
+/// Tells where something is not as it must be.
+#[tactic(auto, using(crate::proofs::Steps::steps), unfolding(crate::specs::Items::demand))]
+pub fn visit_demand<S: PartSink>(sink: &mut S, holds: bool) -> Option<()>
+    ensures { after result sink.new ≡ run S.step (demand holds) sink.old }
+{
+    if holds {
+        return Some(());
+    }
+    sink.broken()
+}
+
+/// A modifier (II.23.2.7).
+#[tactic(auto, using(crate::proofs::Steps::steps))]
+fn visit_modifier<S: PartSink>(sink: &mut S, modifier: &Modifier) -> Option<()>
+    ensures { after result sink.new ≡ run S.step (parts_items (modifier_parts modifier.now)) sink.old }
+{
+    sink.byte(u16::from(if modifier.required {
+        CMOD_REQD
+    } else {
+        CMOD_OPT
+    }))?;
+    sink.index(modifier.of)
+}
+
+/// Modifiers, one after another.
+#[tactic(auto, using(crate::proofs::Steps::steps, crate::proofs::Loops::list_steps))]
+pub fn visit_modifiers<S: PartSink>(sink: &mut S, modifiers: &[Modifier]) -> Option<()>
+    ensures { after result sink.new ≡ run S.step (parts_items (modifiers_parts modifiers.now)) sink.old }
+{
+    for modifier in modifiers {
+        visit_modifier(sink, modifier)?;
+    }
+    Some(())
+}
+
+/// What may stand before the type of a local variable (II.23.2.6).
+#[tactic(auto, using(crate::proofs::Steps::steps))]
+fn visit_prefix<S: PartSink>(sink: &mut S, prefix: &Prefix) -> Option<()>
+    ensures { after result sink.new ≡ run S.step (parts_items (prefix_parts prefix.now)) sink.old }
+{
+    match prefix {
+        Prefix::Mod(modifier) => visit_modifier(sink, modifier),
+        Prefix::Pinned => sink.byte(u16::from(PINNED)),
+    }
+}
+
+/// All that stands before the type of a local variable.
+#[tactic(auto, using(crate::proofs::Steps::steps, crate::proofs::Loops::list_steps))]
+pub fn visit_prefixes<S: PartSink>(sink: &mut S, prefixes: &[Prefix]) -> Option<()>
+    ensures { after result sink.new ≡ run S.step (parts_items (prefixes_parts prefixes.now)) sink.old }
+{
+    for prefix in prefixes {
+        visit_prefix(sink, prefix)?;
+    }
+    Some(())
+}
+
+/// The sizes of dimensions.
+#[tactic(auto, using(crate::proofs::Steps::steps, crate::proofs::Loops::list_steps))]
+fn visit_sizes<S: PartSink>(sink: &mut S, sizes: &[u32]) -> Option<()>
+    ensures { after result sink.new ≡ run S.step (parts_items (numbers_parts sizes.now)) sink.old }
+{
+    for size in sizes {
+        sink.number(*size as usize)?;
+    }
+    Some(())
+}
+
+/// The low bounds of dimensions.
+#[tactic(auto, using(crate::proofs::Steps::steps, crate::proofs::Loops::list_steps))]
+fn visit_bounds<S: PartSink>(sink: &mut S, low: &[i32]) -> Option<()>
+    ensures { after result sink.new ≡ run S.step (parts_items (bounds_parts low.now)) sink.old }
+{
+    for bound in low {
+        sink.signed(*bound)?;
+    }
+    Some(())
+}
+
+/// Whether an array may have the shape (II.23.2.13).
+fn can_be(shape: &Shape) -> bool
+    ensures { result ≡ is_shape (shape_of shape.now) }
+{
+    0 < shape.rank
+        && shape.sizes.len() <= shape.rank as usize
+        && shape.low.len() <= shape.rank as usize
+}
+
+/// The shape of an array (II.23.2.13).
+#[tactic(auto, using(crate::proofs::Steps::steps, crate::proofs::Steps::items_both))]
+pub fn visit_shape<S: PartSink>(sink: &mut S, shape: &Shape) -> Option<()>
+    ensures { after result sink.new ≡ run S.step (shape_items (shape_of shape.now)) sink.old }
+{
+    visit_demand(sink, can_be(shape))?;
+    sink.number(shape.rank as usize)?;
+    sink.number(shape.sizes.len())?;
+    visit_sizes(sink, &shape.sizes)?;
+    sink.number(shape.low.len())?;
+    visit_bounds(sink, &shape.low)
+}
