@@ -8,7 +8,7 @@ ghost use Rattle.loading.specs.Refused.{IsRefused, HasHeaderAndModel};
 
 use crate::error::LoadError;
 use crate::to_model::ToModel;
-use model::Model;
+use owned_model::Model;
 use opening::{CliHeader, open_image, open_root};
 use std::alloc::Global;
 

@@ -13,9 +13,9 @@
 #![tactic(auto)]
 
 mod laws;
-mod model;
+mod valid_model;
 
 pub use laws::equality_is_tested;
-pub use model::Model;
+pub use valid_model::Model;
 pub use refusals::Refusal;
 pub use tables::{Bytes, Cell, Row, Signature, TableId, Tables, Text, Token};

@@ -23,7 +23,7 @@ impl marker::Model for Model {
 
     ghost coded = { metadata_code };
 
-    ghost use Rattle.model.specs.Models.{IsWhole};
+    ghost use Rattle.owned_model.specs.Models.{IsWhole};
 
     ghost view = { λ m. m.tables };
 
