@@ -1,8 +1,7 @@
 -- Equality of what clauses see of two values, from that of their parts.
-use Rattle.std.proofs.Common.{◌≡◌, ℕ, ◌+◌, ◌<◌, ◌≤◌, Bool, true, false, Option, Some, None, Vec, Global, List, [], ◌∷◌, map, drop, length, get_or, add-one, drop-cons, refl, ap, sym, ◌∙◌, subst}
+use Rattle.std.proofs.Common.{◌≡◌, ℕ, Bool, true, false, Option, Some, None, Vec, Global, List, [], ◌∷◌, map, drop, refl, ap, sym, ◌∙◌, subst}
 use Rattle.std.specs.Bool.{Decides}
 use Rattle.std.specs.declared.boxed.Box.{Box}
-use Rattle.std.proofs.lemmas.List.{drop_all, length-map}
 use Rattle.std.specs.Prelude.{ℤ, nat_eq}
 use Rattle.std.specs.Ordering.{int_eq}
 use Rattle.std.specs.Cmp.Lexicographic.{pointwise}
@@ -33,11 +32,10 @@ use Rattle.signature_values.specs.declared.types.Core.TheOpen as layers
 use Rattle.signature_values.specs.declared.types.Core.TheVariants.{rolls-Simple, rolls-Pointer, rolls-Vector, rolls-Array, rolls-Class, rolls-Value, rolls-Var, rolls-MVar, rolls-Instance, rolls-Function}
 use Rattle.signature_values.specs.declared.types.SlotKind as kinds
 use Rattle.signature_values.specs.declared.types.SlotKind.{SlotKind-F, out-SlotKind, roll-SlotKind, roll-out-SlotKind}
-use Rattle.signature_values.specs.declared.types.SlotKind.TheVariants.{rolls-TypedRef, rolls-Plain, rolls-ByRef}
 use Rattle.signature_values.specs.Views.{core_of, type_of, content_of, slot_of, ret_of, method_of, shape_of, types_from, slots_from}
 use Rattle.signature_values.specs.Syntax as sig
 use Rattle.copier.specs.Heads.{HaveOneHead}
-use Rattle.signature_values.proofs.ViewLemmas.{view_simple, view_void_pointer, view_pointer, view_vector, view_array, view_class, view_value, view_var, view_mvar, view_instance, view_function, view_typed_ref, view_plain, view_by_ref, view_type, view_slot, view_method}
+use Rattle.signature_values.proofs.ViewLemmas.{view_simple, view_void_pointer, view_pointer, view_vector, view_array, view_class, view_value, view_var, view_mvar, view_instance, view_function, view_type, view_slot, view_method}
 
 -- ---- tests
 
@@ -189,34 +187,6 @@ module _ (c : cores.Core) where
   pub no_function : (m : sig.Method) → ((x : Box MethodSig Global) → c ≡ cores.Function x → ⊥) → sig.function m ≡ core_of c → ⊥
   no_function m never is = let s : Shows (sig.function m) c = shows c (sig.function m) is in never s.0 s.1
 
-abbrev ShowsContent : sig.Content → kinds.SlotKind → Type 0
-ShowsContent sig.typed_ref k = k ≡ kinds.TypedRef
-ShowsContent (sig.plain c) k = (core : cores.Core) × (k ≡ kinds.Plain core)
-ShowsContent (sig.by_ref ms c) k = (mods : Vec Modifier Global) × (core : cores.Core) × (k ≡ kinds.ByRef mods core)
-
-content_by_layer : (l : SlotKind-F cores.Core Ret kinds.SlotKind MethodSig Slot TypeSig) (k : kinds.SlotKind) → roll-SlotKind l ≡ k
-    → ShowsContent (content_of k) k
-content_by_layer layers.TypedRef k h =
-    let is : k ≡ kinds.TypedRef = sym h ∙ rolls-TypedRef in subst (λ v. ShowsContent v k) (sym (ap content_of is ∙ view_typed_ref)) is
-content_by_layer (layers.Plain c) k h =
-    let is : k ≡ kinds.Plain c = sym h ∙ rolls-Plain c in subst (λ v. ShowsContent v k) (sym (ap content_of is ∙ view_plain c)) (c, is)
-content_by_layer (layers.ByRef mods c) k h =
-    let is : k ≡ kinds.ByRef mods c = sym h ∙ rolls-ByRef mods c in subst (λ v. ShowsContent v k) (sym (ap content_of is ∙ view_by_ref mods c)) (mods, c, is)
-
-shows_content : (k : kinds.SlotKind) (v : sig.Content) → v ≡ content_of k → ShowsContent v k
-shows_content k v e = subst (λ w. ShowsContent w k) (sym e) (content_by_layer (out-SlotKind k) k (roll-out-SlotKind k))
-
-module _ (k : kinds.SlotKind) where
-  pub no_typed_ref : (k ≡ kinds.TypedRef → ⊥) → sig.typed_ref ≡ content_of k → ⊥
-  no_typed_ref never is = never (shows_content k sig.typed_ref is)
-
-  pub no_plain : (c : sig.Core) → ((x : cores.Core) → k ≡ kinds.Plain x → ⊥) → sig.plain c ≡ content_of k → ⊥
-  no_plain c never is = let s : ShowsContent (sig.plain c) k = shows_content k (sig.plain c) is in never s.0 s.1
-
-  pub no_by_ref : (ms : List Modifier) (c : sig.Core) → ((x : Vec Modifier Global) (y : cores.Core) → k ≡ kinds.ByRef x y → ⊥)
-      → sig.by_ref ms c ≡ content_of k → ⊥
-  no_by_ref ms c never is = let s : ShowsContent (sig.by_ref ms c) k = shows_content k (sig.by_ref ms c) is in never s.0 s.1 s.2
-
 -- ---- a type of a form, by what it is made of
 
 class_one : (t u : Token) → sig.class t ≡ sig.class u → t ≡ u
@@ -340,32 +310,3 @@ module _ {A B : Type 0} (view : A → B) (xs ys : List A) where
   abbrev pub SameFrom : ℕ → Type 0
   SameFrom k =
       (map view (drop k xs) ≡ map view (drop k ys) → map view xs ≡ map view ys) × (map view xs ≡ map view ys → map view (drop k xs) ≡ map view (drop k ys))
-
-  here : (zs : List A) (k : ℕ) (z : A) → k < length zs → z ≡ get_or zs k z → map view (drop k zs) ≡ view z ∷ map view (drop (k + 1) zs)
-  here zs k z lt is =
-      let e : drop k zs ≡ get_or zs k z ∷ drop (k + 1) zs = rw (add-one, drop-cons zs k z) refl in
-      ap (map view) e ∙ ap (λ (w : A). view w ∷ map view (drop (k + 1) zs)) (sym is)
-
-  module _ (k : ℕ) (x y : A) (r : Bool) (lx : k < length xs) (ly : k < length ys) (ix : x ≡ get_or xs k x)
-      (iy : y ≡ get_or ys k y) (test : Decides r (view x ≡ view y)) (from : SameFrom k) where
-    pub same_next : r ≡ true → SameFrom (k + 1)
-    same_next h = (
-      λ e. from.0 (
-          here xs k x lx ix ∙ ap (λ (b : B). b ∷ map view (drop (k + 1) xs)) (test.0 h)
-          ∙ ap (λ (bs : List B). view y ∷ bs) e ∙ sym (here ys k y ly iy)),
-      λ e. let both : view x ∷ map view (drop (k + 1) xs) ≡ view y ∷ map view (drop (k + 1) ys) =
-          sym (here xs k x lx ix) ∙ from.1 e ∙ here ys k y ly iy in cc both,
-    )
-
-    pub same_stop : r ≡ false → Decides false (map view xs ≡ map view ys)
-    same_stop h = denied (λ e.
-        let both : view x ∷ map view (drop (k + 1) xs) ≡ view y ∷ map view (drop (k + 1) ys) = sym (here xs k x lx ix) ∙ from.1 e ∙ here ys k y ly iy in
-        let one : view x ≡ view y = cc both in
-        let told : r ≡ true = test.1 one in
-        cc (told, h))
-
-  pub same_end : (k : ℕ) → length xs ≤ k → length ys ≤ k → SameFrom k → Decides true (map view xs ≡ map view ys)
-  same_end k lx ly from = (λ h. from.0 (ap (map view) (drop_all k xs lx) ∙ sym (ap (map view) (drop_all k ys ly))), λ h. refl)
-
-  pub other_lengths : (length xs ≡ length ys → ⊥) → Decides false (map view xs ≡ map view ys)
-  other_lengths never = denied (λ e. never (sym (length-map xs view) ∙ ap length e ∙ length-map ys view))

@@ -1,5 +1,5 @@
 -- The test whether two signatures are the same decides that they are equal.
-use Rattle.std.proofs.Common.{◌≡◌, Bool, refl, ap, sym}
+use Rattle.std.proofs.Common.{◌≡◌, refl, ap, sym}
 use Rattle.std.specs.Bool.{Decides}
 use Rattle.std.specs.Cmp.{IsEquivalence}
 use Rattle.std.proofs.lemmas.Bool.Decides.{same_from_decides, Decides-and, Decides-like, Decides-eqb}
