@@ -1,5 +1,4 @@
-use Rattle.std.proofs.Common.{◌≡◌, ◌+◌, ◌^◌, ◌<◌, ◌++◌, length, ap, sym, ◌∙◌, subst, arith}
-use Rattle.std.specs.Prelude.{sum_by}
+use Rattle.std.proofs.Common.{length, ap, ◌∙◌, arith}
 use Rattle.heaps.specs.TextHeap.{text_heap}
 use Rattle.heaps.specs.BlobHeap.{blob_heap}
 use Rattle.heaps.specs.GuidHeap.{guid_heap}
