@@ -11,6 +11,7 @@ use Rattle.metadata.specs.Model.{IsModel, IsImage}
 use Rattle.metadata.specs.Placed.{source_of}
 use Rattle.reading.specs.KnownStarts.{AreKnown}
 use Rattle.checks.specs.Orders.{TellsOrder}
+use Rattle.opening.specs.declared.found.Found.{Found}
 use Rattle.opening.specs.declared.view.View.TheInside.{Inside}
 
 -- some model fits a root
@@ -37,3 +38,8 @@ pub record IsView (view : Inside) : Type 0 where
   pub user : view.user.now ≡ user_of view.root.now
   pub order : TellsOrder view.source.source view.found.in_order
   pub known : AreKnown view.source.source view.found.known
+
+-- what was found of a root: which tables are in order, and the starts of runs
+pub record AreFound (root : List ℕ) (found : Found) : Type 0 where
+  pub order : TellsOrder (source_of root) found.in_order
+  pub known : AreKnown (source_of root) found.known

@@ -13,12 +13,14 @@
 //! ```
 #![tactic(auto)]
 
+mod found;
 mod heads;
 mod image;
 mod open;
 mod view;
 
 pub use cli_header::CliHeader;
+pub use found::Found;
 pub use heads::{Heads, read_heads};
 pub use image::open_image;
 pub use open::{open_root, view_again};

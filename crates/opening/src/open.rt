@@ -13,15 +13,16 @@ ghost use Rattle.metadata.specs.Metadata.{Metadata};
 ghost use Rattle.metadata.specs.Model.{IsModel};
 ghost use Rattle.reading.specs.KnownStarts.{AreKnown};
 ghost use Rattle.checks.specs.Orders.{TellsOrder};
-ghost use Rattle.opening.specs.Views.{HasModel};
+ghost use Rattle.opening.specs.Views.{HasModel, AreFound};
 ghost use Rattle.metadata.specs.Placed.{tables_in, tables_place, placed_at, source_of};
 ghost use Rattle.metadata.specs.Demands.{demands_of_tables, demands_of_metadata};
 
+use crate::found::Found;
 use crate::view::View;
 use checks::{Checked, check_tables};
 use metadata::roots_have_models;
 use packed::Fault;
-use reading::{KnownRuns, Source};
+use reading::Source;
 use root::{Kind, Root, read_root};
 use rows::Rows;
 use schema::{Layout, streams_are_read};
@@ -191,25 +192,23 @@ fn read_whole(root: &[u8]) -> Result<Parts<'_>, Fault>
     read_parts(root, &directory, 0)
 }
 
-/// The view of a root that was opened before, by the order of its tables that was found then.
+/// The view of a root that was opened before, by what was found of it then.
 ///
-/// Its directory and its layout are read again, and no cell is checked. A null start is walked to the next
-/// that is not null, over as many owners as stand between.
+/// Its directory and its layout are read again, and no cell is checked.
 #[tactic(auto, unfolding(crate::specs::Views::user_of))]
-pub fn view_again<'a>(root: &'a [u8], in_order: &[bool; 45]) -> View<'a>
+pub fn view_again<'a>(root: &'a [u8], found: &Found) -> View<'a>
     requires model { HasModel root.now }
-    requires order { TellsOrder (source_of root.now) in_order.now }
+    requires found { AreFound root.now found.now }
     ensures { result ≡ root.now }
 {
     roots_have_models();
     match read_whole(root) {
         Ok(parts) => {
-            let known = KnownRuns::none(&parts.source);
-            let found = Checked {
-                in_order: *in_order,
-                known,
+            let checked = Checked {
+                in_order: found.in_order,
+                known: found.known,
             };
-            View::new(root, parts.source, parts.version, parts.user, found)
+            View::new(root, parts.source, parts.version, parts.user, checked)
         }
         Err(_) => unreachable!(),
     }

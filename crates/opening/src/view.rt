@@ -20,8 +20,9 @@ ghost use Rattle.reading.specs.ReadFrom.{IsReadFrom, IsReadable};
 ghost use Rattle.reading.specs.KnownStarts.{AreKnown};
 ghost use Rattle.reading.specs.Shown.{ShowsCell, ShowsBlob};
 ghost use Rattle.checks.specs.Orders.{TellsOrder};
-ghost use Rattle.opening.specs.Views.{HasModel, row_count, user_of};
+ghost use Rattle.opening.specs.Views.{HasModel, AreFound, row_count, user_of};
 
+use crate::found::Found;
 use checks::Checked;
 use metadata::models_are_read;
 use reading::{
@@ -108,11 +109,14 @@ impl<'a> View<'a> {
         self.root
     }
 
-    /// Which tables with a key are in order of it, under their numbers (II.22).
-    pub fn order(&self) -> [bool; 45]
-        ensures { TellsOrder (source_of self.now) result }
+    /// What was found of the root when it was opened.
+    pub fn found(&self) -> Found
+        ensures { AreFound self.now result }
     {
-        self.found.in_order
+        Found {
+            known: self.found.known,
+            in_order: self.found.in_order,
+        }
     }
 
     /// The version that the root names (II.24.2.1).

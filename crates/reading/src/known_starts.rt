@@ -15,6 +15,7 @@ const KEPT: u32 = 256;
 ///
 /// A null start is that of the next owner, so a look-up walks to the next that is not null. With these it
 /// walks over fewer than `step` owners, a 256th of all.
+#[repr(C)]
 #[derive(Clone, Copy)]
 pub struct KnownStarts {
     /// How far the owners are apart.
@@ -86,6 +87,7 @@ impl KnownStarts {
 }
 
 /// The known starts of the five runs of members (II.22.37, II.22.26, II.22.12 and II.22.35).
+#[repr(C)]
 #[derive(Clone, Copy)]
 pub struct KnownRuns {
     /// Of the fields of types.

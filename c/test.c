@@ -1,0 +1,463 @@
+/* Tests of clim from C.
+ *
+ *     test show FILE [bare]      prints the tables as clim show does, each signature as its blob
+ *     test vary FILE [bare]      checks each front of the file, and the file with each of its bytes 00 and FF, and prints
+ *                                what clim check prints of it, a line each
+ *     test write FILE FOLDER     writes these inputs into files of a folder, which are in the same order
+ *     test calls FILE [bare]     compares calls with one another, and makes calls that are to be refused; the last line
+ *                                is 'N passed, M failed'
+ *     test times FILE [bare]     prints how long calls take
+ *
+ * Each input ends where a page does behind which nothing may be read.
+ */
+#define _DEFAULT_SOURCE
+#include "clim.h"
+
+#include <inttypes.h>
+#include <stdio.h>
+#include <stdlib.h>
+#include <string.h>
+#include <sys/mman.h>
+#include <time.h>
+#include <unistd.h>
+
+_Static_assert(sizeof(clim_bytes) == 16, "clim_bytes");
+_Static_assert(sizeof(clim_fault) == 16 && offsetof(clim_fault, layer) == 10, "clim_fault");
+_Static_assert(sizeof(clim_header) == 96 && offsetof(clim_header, managed_native_header) == 88, "clim_header");
+_Static_assert(sizeof(clim_starts) == 1028, "clim_starts");
+_Static_assert(offsetof(clim_found, in_order) == 5140, "clim_found");
+_Static_assert(sizeof(clim_view) == 5208 && offsetof(clim_view, is_open) == 5204, "clim_view");
+_Static_assert(sizeof(clim_cell) == 40 && offsetof(clim_cell, guid) == 22, "clim_cell");
+
+static const clim_cell NO_CELL = CLIM_NO_CELL;
+static const clim_view CLOSED = CLIM_CLOSED;
+
+static unsigned passed, failed;
+
+#define CHECK(fact) check(fact, #fact, __LINE__)
+
+static void check(bool fact, const char *text, int line) {
+    if (fact) {
+        passed++;
+    } else if (failed++ < 20) {
+        printf("test.c:%d: not so: %s\n", line, text);
+    }
+}
+
+static void stop(const char *text) {
+    fprintf(stderr, "error: %s\n", text);
+    exit(3);
+}
+
+/* Bytes that end where a page does, behind which nothing may be read. */
+typedef struct guarded {
+    uint8_t *at;
+    size_t len;
+    uint8_t *pages;
+    size_t room;
+} guarded;
+
+static guarded guard(size_t len) {
+    size_t page = (size_t)sysconf(_SC_PAGESIZE), room = (len + page - 1) / page * page;
+    uint8_t *pages = mmap(NULL, room + page, PROT_READ | PROT_WRITE, MAP_PRIVATE | MAP_ANONYMOUS, -1, 0);
+    if (pages == MAP_FAILED || mprotect(pages + room, page, PROT_NONE) != 0) stop("no memory");
+    return (guarded){pages + room - len, len, pages, room + page};
+}
+
+static guarded read_file(const char *path) {
+    FILE *file = fopen(path, "rb");
+    if (file == NULL || fseek(file, 0, SEEK_END) != 0) stop("cannot read the file");
+    long len = ftell(file);
+    if (len < 0) stop("cannot read the file");
+    rewind(file);
+    guarded read = guard((size_t)len);
+    if (fread(read.at, 1, read.len, file) != read.len) stop("cannot read the file");
+    fclose(file);
+    return read;
+}
+
+/* Whether two views are alike, but for what lies behind their last field. */
+static bool same_view(const clim_view *a, const clim_view *b) {
+    return memcmp(a, b, offsetof(clim_view, is_open) + 1) == 0;
+}
+
+/* ---- inputs made of a file */
+
+typedef void what_is_done(const uint8_t *bytes, size_t len, void *with);
+
+static void with_each(guarded file, what_is_done *act, void *with) {
+    uint8_t *end = file.at + file.len;
+    uint8_t *kept = malloc(file.len + 1);
+    if (kept == NULL) stop("no memory");
+    memcpy(kept, file.at, file.len);
+    for (size_t len = 0; len <= file.len; len++) {
+        memcpy(end - len, kept, len);
+        act(end - len, len, with);
+    }
+    for (size_t at = 0; at < file.len; at++) {
+        for (int byte = 0x00; byte <= 0xFF; byte += 0xFF) {
+            file.at[at] = (uint8_t)byte;
+            act(file.at, file.len, with);
+        }
+        file.at[at] = kept[at];
+    }
+    free(kept);
+}
+
+static void print_fault(clim_fault fault) {
+    clim_bytes name = CLIM_NO_BYTES;
+    clim_fault_name(fault.code, &name);
+    printf("fault %u %u at %" PRIu64 ": %.*s\n", fault.layer, fault.code, fault.offset, (int)name.len,
+           (const char *)name.at);
+}
+
+/* Checks and opens: both answer alike, and what a call does not write stays. */
+static void answer(const uint8_t *bytes, size_t len, void *with) {
+    bool bare = *(bool *)with;
+    clim_fault fault = {7, 7, 7}, same = {7, 7, 7};
+    clim_view view = CLOSED;
+    bool checked = bare ? clim_check_root(bytes, len, &fault) : clim_check(bytes, len, &fault);
+    bool opened = bare ? clim_open_root(bytes, len, &view, &same) : clim_open(bytes, len, &view, &same);
+    if (checked != opened || fault.offset != same.offset || fault.code != same.code || fault.layer != same.layer ||
+        view.is_open != opened || (!opened && !same_view(&view, &CLOSED))) {
+        printf("check and open differ\n");
+    } else if (checked) {
+        printf(fault.offset == 7 && fault.code == 7 && fault.layer == 7 ? "ok\n" : "a fault is written beside ok\n");
+    } else {
+        print_fault(fault);
+    }
+}
+
+typedef struct folder {
+    const char *path;
+    unsigned count;
+} folder;
+
+static void write_input(const uint8_t *bytes, size_t len, void *with) {
+    folder *to = with;
+    char path[4096];
+    snprintf(path, sizeof path, "%s/%05u", to->path, to->count++);
+    FILE *file = fopen(path, "wb");
+    if (file == NULL || fwrite(bytes, 1, len, file) != len || fclose(file) != 0) stop("cannot write an input");
+}
+
+/* ---- the tables, as clim show prints them */
+
+static void print_hex(clim_bytes bytes) {
+    putchar('<');
+    for (size_t i = 0; i < bytes.len; i++) printf("%02x", bytes.at[i]);
+    putchar('>');
+}
+
+static void print_text(clim_bytes text) {
+    putchar('"');
+    for (size_t i = 0; i < text.len; i++) {
+        uint8_t byte = text.at[i];
+        if (byte >= ' ' && byte <= '~' && byte != '"' && byte != '\\') putchar(byte);
+        else printf("\\x%02x", byte);
+    }
+    putchar('"');
+}
+
+static void print_cell(const clim_cell *cell) {
+    const uint8_t *g = cell->guid;
+    putchar(' ');
+    switch (cell->kind) {
+    case CLIM_NUMBER: printf("%u", cell->number); break;
+    case CLIM_TEXT: print_text(cell->bytes); break;
+    case CLIM_BLOB: print_hex(cell->bytes); break;
+    case CLIM_SIGNATURE: print_hex(cell->bytes); break;
+    case CLIM_NULL_GUID: printf("null"); break;
+    case CLIM_NULL_ROW: printf("null"); break;
+    case CLIM_ROW: printf("%02x%06x", cell->table, cell->number); break;
+    case CLIM_START: printf("+%u", cell->number); break;
+    case CLIM_GUID:
+        printf("{%02x%02x%02x%02x-%02x%02x-%02x%02x-%02x%02x-%02x%02x%02x%02x%02x%02x}", g[3], g[2], g[1], g[0], g[5],
+               g[4], g[7], g[6], g[8], g[9], g[10], g[11], g[12], g[13], g[14], g[15]);
+        break;
+    default: printf("?");
+    }
+}
+
+/* The cells of a table, column by column, which the caller frees. */
+static clim_cell *read_cells(const clim_view *view, uint8_t table) {
+    size_t rows = clim_count(view, table), columns = clim_cell_count(table);
+    clim_cell *cells = malloc((rows * columns + 1) * sizeof *cells);
+    if (cells == NULL) stop("no memory");
+    for (size_t i = 0; i < rows * columns; i++) cells[i] = NO_CELL;
+    for (size_t column = 0; column < columns; column++) {
+        if (clim_cells(view, table, 1, column, cells + column * rows, rows) != rows) stop("cells are missing");
+    }
+    return cells;
+}
+
+static void show(const clim_view *view) {
+    for (unsigned table = 0; table < 256; table++) {
+        uint32_t rows = clim_count(view, (uint8_t)table);
+        size_t columns = clim_cell_count((uint8_t)table);
+        if (rows == 0) continue;
+        clim_bytes name = CLIM_NO_BYTES;
+        clim_table_name((uint8_t)table, &name);
+        printf("table %02X %.*s %u\n", table, (int)name.len, (const char *)name.at, rows);
+        clim_cell *cells = read_cells(view, (uint8_t)table);
+        for (uint32_t row = 0; row < rows; row++) {
+            printf("%u:", row + 1);
+            for (size_t column = 0; column < columns; column++) print_cell(&cells[column * rows + row]);
+            putchar('\n');
+        }
+        free(cells);
+    }
+}
+
+/* ---- calls against one another */
+
+static bool same_bytes(clim_bytes a, clim_bytes b) {
+    return a.len == b.len && memcmp(a.at, b.at, a.len) == 0;
+}
+
+static bool same_cell(const clim_cell *a, const clim_cell *b) {
+    return a->kind == b->kind && a->number == b->number && a->table == b->table && memcmp(a->guid, b->guid, 16) == 0 &&
+           same_bytes(a->bytes, b->bytes);
+}
+
+/* Cells one by one are those of their column; outside of the table there are none, and nothing is written. */
+static void compare_cells(const clim_view *view, uint8_t table) {
+    size_t rows = clim_count(view, table), columns = clim_cell_count(table);
+    clim_cell *cells = read_cells(view, table), cell = NO_CELL, two[2] = {NO_CELL, NO_CELL};
+    bool same = true, alone = true;
+    for (size_t i = 0; i < rows * columns; i++) {
+        same &= clim_cell_at(view, table, (uint32_t)(i % rows + 1), i / rows, &cell) && same_cell(&cell, &cells[i]);
+        two[1] = NO_CELL;
+        alone &= clim_cells(view, table, (uint32_t)(i % rows + 1), i / rows, two, 1) == 1;
+        alone &= same_cell(&two[0], &cells[i]) && same_cell(&two[1], &NO_CELL);
+    }
+    CHECK(same);
+    CHECK(alone);
+    cell = NO_CELL;
+    CHECK(!clim_cell_at(view, table, 0, 0, &cell) && !clim_cell_at(view, table, (uint32_t)rows + 1, 0, &cell));
+    CHECK(!clim_cell_at(view, table, UINT32_MAX, 0, &cell) && !clim_cell_at(view, table, 1, columns, &cell));
+    CHECK(!clim_cell_at(view, table, 1, SIZE_MAX, &cell) && same_cell(&cell, &NO_CELL));
+    CHECK(clim_cells(view, table, 0, 0, &cell, 1) == 0 && clim_cells(view, table, (uint32_t)rows + 1, 0, &cell, 1) == 0);
+    CHECK(clim_cells(view, table, UINT32_MAX, 0, &cell, 1) == 0 && clim_cells(view, table, 1, columns, &cell, 1) == 0);
+    CHECK(clim_cells(view, table, 1, 0, &cell, 0) == 0 && same_cell(&cell, &NO_CELL));
+    free(cells);
+}
+
+/* The runs of all owners are the rows of the members, one run behind the other, and begin where the cells say. */
+static void compare_runs(const clim_view *view, uint8_t owner, size_t column, uint8_t member) {
+    uint32_t next = 1, first = 7, past = 7, rows = clim_count(view, owner);
+    bool joined = true, begins = true;
+    for (uint32_t row = 1; row <= rows; row++) {
+        clim_cell start = NO_CELL;
+        joined &= clim_members(view, owner, row, member, &first, &past) && (row == 1 || first == next) && first <= past;
+        begins &= clim_cell_at(view, owner, row, column, &start) && start.kind == CLIM_START && start.number == first;
+        next = past;
+    }
+    CHECK(joined);
+    CHECK(begins);
+    CHECK(rows == 0 || next == clim_count(view, member) + 1);
+    first = past = 7;
+    CHECK(!clim_members(view, owner, 0, member, &first, &past) && !clim_members(view, owner, rows + 1, member, &first, &past));
+    CHECK(!clim_members(view, member, 1, owner, &first, &past) && !clim_members(view, owner, 1, 0xFF, &first, &past));
+    CHECK(first == 7 && past == 7);
+}
+
+/* Each type is found by its names, or one before it with the same names. */
+static void compare_types(const clim_view *view) {
+    bool found = true;
+    clim_cell name = NO_CELL, space = NO_CELL, its_name = NO_CELL, its_space = NO_CELL;
+    uint32_t rows = clim_count(view, CLIM_TYPE_DEF), step = rows / 500 + 1;
+    for (uint32_t row = 1; row <= rows; row += step) {
+        clim_cell_at(view, CLIM_TYPE_DEF, row, 1, &name);
+        clim_cell_at(view, CLIM_TYPE_DEF, row, 2, &space);
+        uint32_t first = clim_find_type(view, space.bytes.at, space.bytes.len, name.bytes.at, name.bytes.len);
+        found &= first >= 1 && first <= row && clim_cell_at(view, CLIM_TYPE_DEF, first, 1, &its_name) &&
+                 clim_cell_at(view, CLIM_TYPE_DEF, first, 2, &its_space) && same_bytes(name.bytes, its_name.bytes) &&
+                 same_bytes(space.bytes, its_space.bytes);
+    }
+    CHECK(found);
+    const uint8_t *none = (const uint8_t *)"\xFF";
+    CHECK(clim_find_type(view, none, 1, none, 1) == 0 && clim_find_type(view, none, 0, none, 1) == 0);
+    CHECK(clim_find_type(view, none, 1, (const uint8_t *)"<Module>", 8) == 0);
+    CHECK(clim_find_type(view, none, 0, (const uint8_t *)"no such type", 12) == 0);
+}
+
+/* The rows with the key of a row ascend, have that key, and the row is one of them. */
+static void compare_keys(const clim_view *view, uint8_t table, size_t column) {
+    uint32_t rows = clim_count(view, table), step = rows / 200 + 1;
+    uint32_t *told = malloc((rows + 1) * sizeof *told);
+    clim_cell key = NO_CELL, its_key = NO_CELL;
+    bool is_there = true, keyed = true, front = true;
+    if (told == NULL) stop("no memory");
+    for (uint32_t row = 1; row <= rows; row += step) {
+        clim_cell_at(view, table, row, column, &key);
+        told[rows] = 7;
+        size_t count = clim_rows_by_key(view, table, key.table, key.number, told, rows);
+        bool found = false;
+        for (size_t i = 0; i < count; i++) {
+            found |= told[i] == row;
+            keyed &= (i == 0 || told[i - 1] < told[i]) && clim_cell_at(view, table, told[i], column, &its_key);
+            keyed &= its_key.table == key.table && its_key.number == key.number && its_key.kind == CLIM_ROW;
+        }
+        is_there &= found && told[rows] == 7;
+        uint32_t one[2] = {7, 7};
+        front &= clim_rows_by_key(view, table, key.table, key.number, one, 1) == 1 && one[0] == told[0] && one[1] == 7;
+        front &= clim_rows_by_key(view, table, key.table, key.number, one, 0) == 0;
+        front &= clim_rows_by_key(view, table, 0xFF, key.number, one, 1) == 0;
+    }
+    CHECK(is_there);
+    CHECK(keyed);
+    CHECK(front);
+    free(told);
+}
+
+/* A view that is not open answers nothing, and nothing is written. */
+static void ask_closed(void) {
+    clim_view view = CLOSED;
+    clim_cell cell = NO_CELL;
+    clim_bytes text = {(const uint8_t *)"a", 1};
+    uint32_t first = 7, past = 7;
+    for (unsigned table = 0; table < 256; table++) {
+        CHECK(clim_count(&view, (uint8_t)table) == 0 && !clim_cell_at(&view, (uint8_t)table, 1, 0, &cell));
+        CHECK(clim_cells(&view, (uint8_t)table, 1, 0, &cell, 1) == 0 && same_cell(&cell, &NO_CELL));
+        CHECK(clim_rows_by_key(&view, (uint8_t)table, 2, 1, &first, 1) == 0 && first == 7);
+    }
+    CHECK(!clim_members(&view, CLIM_TYPE_DEF, 1, CLIM_FIELD, &first, &past) && first == 7 && past == 7);
+    CHECK(clim_find_type(&view, text.at, 0, text.at, 0) == 0);
+    clim_version(&view, &text);
+    CHECK(text.len == 0);
+    text.len = 1;
+    clim_user(&view, &text);
+    CHECK(text.len == 0);
+}
+
+/* The names of tables and columns: a table has a name, and names for its cells and no more. */
+static void ask_names(void) {
+    unsigned tables = 0;
+    for (unsigned table = 0; table < 256; table++) {
+        clim_bytes name = {(const uint8_t *)"a", 1}, column = name;
+        size_t columns = clim_cell_count((uint8_t)table);
+        clim_table_name((uint8_t)table, &name);
+        tables += name.len > 0;
+        CHECK((name.len > 0) == (columns > 0));
+        for (size_t i = 0; i < columns; i++) {
+            clim_column_name((uint8_t)table, i, &column);
+            CHECK(column.len > 0 && memcmp(column.at, "padding", column.len < 7 ? column.len : 7) != 0);
+        }
+        clim_column_name((uint8_t)table, columns, &column);
+        CHECK(column.len == 0);
+    }
+    CHECK(tables == 38);
+}
+
+/* The header names the root that a view has. */
+static void ask_header(guarded file, const clim_view *view) {
+    clim_header header = CLIM_NO_HEADER;
+    clim_fault fault = {7, 7, 7};
+    CHECK(clim_read_header(file.at, file.len, &header, &fault) && fault.code == 7 && header.cb >= 72);
+    CHECK(view->root.at == file.at + header.root_start && view->root.len == header.root_end - header.root_start);
+    CHECK(header.metadata.size == view->root.len && header.place + 72 <= file.len);
+    clim_header same = header;
+    CHECK(!clim_read_header(file.at, 0, &same, &fault) && fault.code == 102);
+    CHECK(memcmp(&same, &header, sizeof same) == 0);
+}
+
+static void calls(guarded file, clim_view *view, bool bare) {
+    static const struct { uint8_t owner, column, member; } runs[] = {
+        {CLIM_TYPE_DEF, 4, CLIM_FIELD}, {CLIM_TYPE_DEF, 5, CLIM_METHOD_DEF}, {CLIM_METHOD_DEF, 5, CLIM_PARAM},
+        {CLIM_EVENT_MAP, 1, CLIM_EVENT}, {CLIM_PROPERTY_MAP, 1, CLIM_PROPERTY}};
+    static const struct { uint8_t table, column; } keys[] = {
+        {CLIM_INTERFACE_IMPL, 0}, {CLIM_CONSTANT, 1}, {CLIM_CUSTOM_ATTRIBUTE, 0}, {CLIM_CLASS_LAYOUT, 2},
+        {CLIM_FIELD_LAYOUT, 1}, {CLIM_METHOD_SEMANTICS, 2}, {CLIM_METHOD_IMPL, 0}, {CLIM_IMPL_MAP, 1},
+        {CLIM_FIELD_RVA, 1}, {CLIM_NESTED_CLASS, 0}, {CLIM_GENERIC_PARAM, 2}, {CLIM_GENERIC_PARAM_CONSTRAINT, 0}};
+    uint32_t row = 7;
+    ask_closed();
+    ask_names();
+    if (!bare) ask_header(file, view);
+    for (unsigned table = 0; table < 256; table++) {
+        if (clim_count(view, (uint8_t)table) > 0 && clim_count(view, (uint8_t)table) < 30000) compare_cells(view, (uint8_t)table);
+    }
+    for (size_t i = 0; i < sizeof runs / sizeof *runs; i++) compare_runs(view, runs[i].owner, runs[i].column, runs[i].member);
+    compare_types(view);
+    for (size_t i = 0; i < sizeof keys / sizeof *keys; i++) compare_keys(view, keys[i].table, keys[i].column);
+    CHECK(clim_rows_by_key(view, CLIM_MODULE, CLIM_TYPE_DEF, 1, &row, 1) == 0 && row == 7);
+    clim_view copy = *view;
+    CHECK(clim_count(&copy, CLIM_MODULE) == clim_count(view, CLIM_MODULE));
+    /* A fault leaves a view that is open as it is. */
+    clim_fault fault = CLIM_NO_FAULT;
+    CHECK(!clim_open(file.at, 0, &copy, &fault) && fault.code == 102 && same_view(&copy, view));
+    CHECK(!clim_open_root(file.at, 0, &copy, &fault) && same_view(&copy, view));
+}
+
+/* ---- times */
+
+static double now(void) {
+    struct timespec time;
+    clock_gettime(CLOCK_MONOTONIC, &time);
+    return (double)time.tv_sec * 1e6 + (double)time.tv_nsec * 1e-3;
+}
+
+static void times(guarded file, bool bare) {
+    clim_view view = CLOSED;
+    clim_fault fault = CLIM_NO_FAULT;
+    clim_cell cell = NO_CELL;
+    double begun = now();
+    if (bare) clim_open_root(file.at, file.len, &view, &fault);
+    else clim_open(file.at, file.len, &view, &fault);
+    printf("open %.0f us\n", now() - begun);
+    uint32_t rows = clim_count(&view, CLIM_TYPE_DEF), first = 0, past = 0, sum = 0;
+    begun = now();
+    for (int i = 0; i < 10000; i++) sum += clim_count(&view, CLIM_TYPE_DEF);
+    printf("clim_count %.2f us\n", (now() - begun) / 10000);
+    begun = now();
+    for (uint32_t i = 0; i < 10000; i++) clim_cell_at(&view, CLIM_TYPE_DEF, i % rows + 1, 1, &cell);
+    printf("clim_cell_at %.2f us\n", (now() - begun) / 10000);
+    begun = now();
+    for (uint32_t i = 0; i < 10000; i++) clim_members(&view, CLIM_TYPE_DEF, i % rows + 1, CLIM_METHOD_DEF, &first, &past);
+    printf("clim_members %.2f us\n", (now() - begun) / 10000);
+    size_t cells = 0;
+    static clim_cell column[1 << 14];
+    for (size_t i = 0; i < 1 << 14; i++) column[i] = NO_CELL;
+    begun = now();
+    for (unsigned table = 0; table < 256; table++) {
+        for (size_t place = 0; place < clim_cell_count((uint8_t)table); place++) {
+            uint32_t row = 1;
+            size_t count;
+            while ((count = clim_cells(&view, (uint8_t)table, row, place, column, 1 << 14)) > 0) {
+                row += (uint32_t)count;
+                cells += count;
+            }
+        }
+    }
+    double taken = now() - begun;
+    printf("clim_cells %zu cells %.0f us, %.1f ns a cell (%u)\n", cells, taken, taken * 1e3 / (double)cells, sum + first + past);
+}
+
+int main(int count, char **words) {
+    if (count < 3) stop("test show|vary|write|calls|times FILE ..");
+    guarded file = read_file(words[2]);
+    bool bare = count > 3 && strcmp(words[3], "bare") == 0;
+    if (strcmp(words[1], "vary") == 0) {
+        with_each(file, answer, &bare);
+    } else if (strcmp(words[1], "write") == 0 && count > 3) {
+        folder to = {words[3], 0};
+        with_each(file, write_input, &to);
+    } else if (strcmp(words[1], "times") == 0) {
+        times(file, bare);
+    } else {
+        clim_view view = CLOSED;
+        clim_fault fault = CLIM_NO_FAULT;
+        if (!(bare ? clim_open_root(file.at, file.len, &view, &fault) : clim_open(file.at, file.len, &view, &fault))) {
+            print_fault(fault);
+            return 1;
+        }
+        if (strcmp(words[1], "show") == 0) {
+            show(&view);
+        } else {
+            calls(file, &view, bare);
+            printf("%u passed, %u failed\n", passed, failed);
+        }
+    }
+    munmap(file.pages, file.room);
+    return failed > 0;
+}

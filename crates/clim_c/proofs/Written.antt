@@ -1,0 +1,44 @@
+-- What a loop leaves that writes one element after another.
+use Rattle.std.proofs.Common.{◌≡◌, ℕ, ◌+◌, ◌≤◌, ◌<◌, ◌⊎◌, inl, inr, List, [], ◌∷◌, ◌++◌, length, take, get_or, set, append_assoc, sym, ◌∙◌, ap, subst, arith}
+use Rattle.std.specs.List.{SameFrom}
+use Rattle.std.proofs.lemmas.Bool.{cases_lt}
+use Rattle.std.proofs.lemmas.List.{append-nil, length-take-le, take_all, take_at, take_more_set, get_or-set_same, get_or-set_other}
+
+module _ {X : Type 0} where
+  -- the first elements hold what they should, with one more written
+  module _ (P : ℕ → X → Type 0) (xs : List X) (k : ℕ) (x : X) (within : k < length xs) (here : P k x)
+      (before : (j : ℕ) (d : X) → j < k → P j (get_or xs j d)) where
+    by_place : (j : ℕ) (d : X) → j < k + 1 → (j < k) ⊎ (k ≤ j) → P j (get_or (set xs k x) j d)
+    by_place j d below (inl low) =
+        subst (λ y. P j y) (sym (get_or-set_other xs k j x d (λ e. omega (arith, low, e)))) (before j d low)
+    by_place j d below (inr high) =
+        let e : j ≡ k = omega (arith, below, high) in
+        subst (λ i. P i (get_or (set xs k x) i d)) (sym e) (subst (λ y. P k y) (sym (get_or-set_same xs k x d within)) here)
+
+    pub one_more : (j : ℕ) (d : X) → j < k + 1 → P j (get_or (set xs k x) j d)
+    one_more j d below = by_place j d below (cases_lt j k)
+
+  -- the rest stays
+  pub rest_stays : (old xs : List X) (k : ℕ) (x : X) → SameFrom old xs k → SameFrom old (set xs k x) (k + 1)
+  rest_stays old xs k x same = λ j d past.
+      get_or-set_other xs k j x d (λ e. omega (arith, past, e)) ∙ same j d (omega (arith, past))
+
+  -- the items of a list are written from the first on: one more, all of them, and as many as there is room for
+  pub next_left : (all xs left rest : List X) (k : ℕ) (x : X) → all ≡ take k xs ++ left → left ≡ x ∷ rest → k < length xs
+      → all ≡ take (k + 1) (set xs k x) ++ rest
+  next_left all xs left rest k x is first within =
+      is ∙ ap (λ (l : List X). take k xs ++ l) first ∙ sym (append_assoc (take k xs) (x ∷ []) rest)
+      ∙ sym (ap (λ (l : List X). l ++ rest) (take_more_set xs k x within))
+
+  pub all_left : (all xs left : List X) (k room : ℕ) → all ≡ take k xs ++ left → left ≡ [] → k ≤ length xs → length xs ≡ room
+      → take k xs ≡ take room all
+  all_left all xs left k room is none within long =
+      let whole : all ≡ take k xs = is ∙ ap (λ (l : List X). take k xs ++ l) none ∙ append-nil (take k xs) in
+      let short = length-take-le k xs within in
+      sym (take_all room (take k xs) (omega (arith, short, within, long))) ∙ sym (ap (λ (l : List X). take room l) whole)
+
+  pub room_left : (all xs left : List X) (k room : ℕ) → all ≡ take k xs ++ left → k ≡ length xs → length xs ≡ room
+      → take k xs ≡ take room all
+  room_left all xs left k room is full long =
+      let short = length-take-le k xs (omega (arith, full)) in
+      sym (take_at (take k xs) left room (omega (arith, short, full, long))) ∙ sym (ap (λ (l : List X). take room l) is)

@@ -1,0 +1,12 @@
+use Rattle.std.proofs.Common.{◌≡◌, ◌≤◌, ◌++◌, length, take}
+use Rattle.std.specs.List.{SameFrom}
+use Rattle.clim_c.proofs.look_ups.write_rows.Given as goal
+
+-- the rows so far are the first that were found
+abbrev pub invariant-loop-row : goal.invariant-loop-row
+invariant-loop-row l = record {
+  left : l.fn.found.rows ≡ take l.count l.rows ++ l.row-iterator.rows;
+  within : l.count ≤ length l.rows;
+  same : SameFrom l.fn.rows l.rows l.count;
+  long : length l.rows ≡ length l.fn.rows;
+}

@@ -1,0 +1,9 @@
+use Rattle.std.proofs.Common.{ℕ, List, sym, subst}
+use Rattle.metadata.specs.Model.{IsModel}
+use Rattle.clim_c.proofs.view_parts.clim_version.Goals as goal
+
+pub returns-in-Some-clause-open : goal.returns-in-Some-clause-open
+returns-in-Some-clause-open c = λ is_open model is.
+    let P : List ℕ → Type 0 = λ root. IsModel root model in
+    let version = c.version.ensures model (subst P (sym (c.in-Some.ensures.found).0) is) in
+    cc

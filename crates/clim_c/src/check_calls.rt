@@ -1,0 +1,43 @@
+ghost use Rattle.std.specs.Prelude.{◌≡◌, IsTrue};
+ghost use Rattle.std.specs.Bool.{OnTrue, OnFalse};
+ghost use Rattle.packed.specs.Demand.{FirstToFail};
+ghost use Rattle.metadata.specs.Demands.{demands_of_file, demands_of_metadata};
+ghost use Rattle.opening.specs.Views.{HasModel};
+ghost use Rattle.clim_c.specs.Faults.{fault_of, IsWhole};
+
+use crate::fault::ClimFault;
+use opening::{open_image, open_root};
+
+/// Whether a file meets all demands; else the first that it does not meet.
+#[unsafe(no_mangle)]
+pub extern "C" fn clim_check(file: &[u8], fault: &mut ClimFault) -> bool
+    ensures found { OnTrue result (IsWhole file.now) }
+    ensures only { IsWhole file.now → IsTrue result }
+    ensures first { OnFalse result (FirstToFail (demands_of_file file.now) (fault_of fault.new)) }
+    ensures same { OnTrue result (fault.new ≡ fault.old) }
+{
+    match open_image(file) {
+        Ok(_) => true,
+        Err(found) => {
+            *fault = ClimFault::of(found);
+            false
+        }
+    }
+}
+
+/// Whether a metadata root meets all demands; else the first that it does not meet.
+#[unsafe(no_mangle)]
+pub extern "C" fn clim_check_root(root: &[u8], fault: &mut ClimFault) -> bool
+    ensures found { OnTrue result (HasModel root.now) }
+    ensures only { HasModel root.now → IsTrue result }
+    ensures first { OnFalse result (FirstToFail (demands_of_metadata 0 root.now) (fault_of fault.new)) }
+    ensures same { OnTrue result (fault.new ≡ fault.old) }
+{
+    match open_root(root) {
+        Ok(_) => true,
+        Err(found) => {
+            *fault = ClimFault::of(found);
+            false
+        }
+    }
+}

@@ -1,0 +1,35 @@
+//! `opening`, for C: a file is checked, opened and shown in place (ECMA-335 II.22 to II.25).
+//!
+//! `c/clim.h` declares what is exported here, and says what a caller owes. Nothing takes memory or keeps
+//! anything between calls but in what the caller holds. Nothing checks that a C caller meets a condition, so
+//! no function has one: each tests its arguments, and its result tells what was refused.
+//!
+//! ```text
+//! clim_view view = CLIM_CLOSED;
+//! if (clim_open(file, len, &view, &fault))
+//!     for (uint32_t row = 1; row <= clim_count(&view, CLIM_TYPE_DEF); row++)
+//!         clim_cell_at(&view, CLIM_TYPE_DEF, row, 1, &cell);
+//! ```
+#![tactic(auto)]
+
+mod check_calls;
+mod fault;
+mod look_ups;
+mod names;
+mod opened;
+mod read_header;
+mod shown;
+mod told_cell;
+mod view;
+mod view_parts;
+
+pub use check_calls::{clim_check, clim_check_root};
+pub use fault::ClimFault;
+pub use look_ups::{clim_find_type, clim_members, clim_rows_by_key};
+pub use names::{clim_cell_count, clim_column_name, clim_fault_name, clim_table_name};
+pub use opened::{clim_open, clim_open_root};
+pub use read_header::{ClimDirectory, ClimHeader, clim_read_header};
+pub use shown::{clim_cell_at, clim_cells};
+pub use told_cell::ClimCell;
+pub use view::ClimView;
+pub use view_parts::{clim_count, clim_user, clim_version};

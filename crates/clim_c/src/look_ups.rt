@@ -1,0 +1,146 @@
+ghost use Rattle.std.specs.Prelude.{◌≡◌, ◌≤◌, ◌<◌, ℕ, true, false, IsSome, IfSome, IfNone, length, take};
+ghost use Rattle.std.specs.Bool.{OnTrue, OnFalse};
+ghost use Rattle.std.specs.List.{SameFrom};
+ghost use Rattle.schema.specs.declared.table.TableId.{TableId as Table};
+ghost use Rattle.schema.specs.declared.table.TableId.TheVariants.{TypeDef};
+ghost use Rattle.schema.specs.Tables.{table_number};
+ghost use Rattle.schema.specs.Columns.{key_of};
+ghost use Rattle.metadata.specs.Metadata.{Metadata};
+ghost use Rattle.metadata.specs.Model.{IsModel};
+ghost use Rattle.metadata.specs.Lookups.{IsFirstType, HasRow, HasNames};
+ghost use Rattle.opening.specs.Views.{row_count};
+ghost use Rattle.clim_c.specs.LookUps.{AreFirstByKey, IsOwned, Owns};
+
+use crate::opened::seen;
+use crate::view::ClimView;
+use metadata::models_are_read;
+use opening::{KeyRows, SourceKeys, TableId, Token, View};
+use schema::key;
+use std::ops::Range;
+use std::str;
+
+/// The first type with a namespace and a name, by its row; 0 where no type has them (II.22.37), and of a view
+/// that is not open. Names that are not UTF-8 are no type's.
+#[unsafe(no_mangle)]
+pub extern "C" fn clim_find_type(view: &ClimView, namespace: &[u8], name: &[u8]) -> u32
+    ensures found { 0 < result → (model : Metadata) → IsModel view.now.root.now model → IsFirstType model namespace.now name.now result }
+    ensures none { view.now.is_open ≡ true → result ≡ 0 → (model : Metadata) → IsModel view.now.root.now model
+        → (row : ℕ) → HasRow model TypeDef row → ¬ HasNames model namespace.now name.now row }
+    ensures closed { view.now.is_open ≡ false → result ≡ 0 }
+{
+    models_are_read();
+    let (Ok(namespace), Ok(name)) = (str::from_utf8(namespace), str::from_utf8(name)) else {
+        return 0;
+    };
+    let Some(seen) = seen(view) else {
+        return 0;
+    };
+    seen.find_type(namespace, name).unwrap_or(0)
+}
+
+/// The run of the rows of a table that a row of another owns, `None` where the one owns none of the other.
+fn run_of(seen: &View, owner: TableId, row: u32, member: TableId) -> Option<Range<u32>>
+    requires first { 1 ≤ row }
+    requires last { row ≤ row_count seen.now owner }
+    ensures found { IfSome result (λ run. (model : Metadata) → IsModel seen.now model → IsOwned model owner member row run.start run.«end») }
+    ensures none { IfNone result (¬ Owns owner member) }
+{
+    let run = match (owner, member) {
+        (TableId::TypeDef, TableId::Field) => seen.fields_of(row),
+        (TableId::TypeDef, TableId::MethodDef) => seen.methods_of(row),
+        (TableId::MethodDef, TableId::Param) => seen.params_of(row),
+        (TableId::EventMap, TableId::Event) => seen.events_of(row),
+        (TableId::PropertyMap, TableId::Property) => seen.properties_of(row),
+        _ => return None,
+    };
+    Some(run)
+}
+
+/// The rows of a table that a row of another owns, from `first` to before `past` (II.22). It answers where the
+/// view is open and has the row, and the one table owns rows of the other; else both stay.
+#[unsafe(no_mangle)]
+pub extern "C" fn clim_members(
+    view: &ClimView,
+    owner: u8,
+    row: u32,
+    member: u8,
+    first: &mut u32,
+    past: &mut u32,
+) -> bool
+    ensures run { OnTrue result ((model : Metadata) → IsModel view.now.root.now model
+        → (owning owned : Table) → table_number owning ≡ owner → table_number owned ≡ member
+        → IsOwned model owning owned row first.new past.new) }
+    ensures only { view.now.is_open ≡ true → (owning owned : Table) → table_number owning ≡ owner → table_number owned ≡ member
+        → Owns owning owned → 1 ≤ row → row ≤ row_count view.now.root.now owning → result ≡ true }
+    ensures there { OnTrue result ((view.now.is_open ≡ true) × (1 ≤ row)
+        × ((owning : Table) → table_number owning ≡ owner → row ≤ row_count view.now.root.now owning)) }
+    ensures same { OnFalse result ((first.new ≡ first.old) × (past.new ≡ past.old)) }
+{
+    let (Some(owner), Some(member)) = (TableId::from_number(owner), TableId::from_number(member))
+    else {
+        return false;
+    };
+    let Some(seen) = seen(view) else {
+        return false;
+    };
+    if row < 1 || row > seen.count(owner) {
+        return false;
+    }
+    let Some(run) = run_of(&seen, owner, row, member) else {
+        return false;
+    };
+    *first = run.start;
+    *past = run.end;
+    true
+}
+
+/// Writes the rows with a key, as many as there is room for: how many were written.
+fn write_rows(found: KeyRows<SourceKeys>, rows: &mut [u32]) -> usize
+    ensures written { take result rows.new ≡ take (length rows.old) found.entry.rows }
+    ensures within { result ≤ length rows.old }
+    ensures same { SameFrom rows.old rows.new result }
+{
+    let mut count = 0;
+    for row in found {
+        if count == rows.len() {
+            break;
+        }
+        rows[count] = row;
+        count += 1;
+    }
+    count
+}
+
+/// The rows of a table whose key is a row, from the lowest on, as many as there are and as there is room for:
+/// how many were written (II.22). The others stay; none are written for a table without a key.
+#[unsafe(no_mangle)]
+pub extern "C" fn clim_rows_by_key(
+    view: &ClimView,
+    table: u8,
+    key_table: u8,
+    key_row: u32,
+    rows: &mut [u32],
+) -> usize
+    ensures found { view.now.is_open ≡ true → (model : Metadata) → IsModel view.now.root.now model
+        → (known keyed : Table) → table_number known ≡ table → table_number keyed ≡ key_table → IsSome (key_of known)
+        → AreFirstByKey model known (record { table = keyed; row = key_row }) (length rows.old) (take result rows.new) }
+    ensures there { 0 < result → (view.now.is_open ≡ true) × ((known : Table) → table_number known ≡ table → IsSome (key_of known)) }
+    ensures within { result ≤ length rows.old }
+    ensures same { SameFrom rows.old rows.new result }
+{
+    let (Some(table), Some(keyed)) = (TableId::from_number(table), TableId::from_number(key_table))
+    else {
+        return 0;
+    };
+    let Some(seen) = seen(view) else {
+        return 0;
+    };
+    if key(table).is_none() {
+        return 0;
+    }
+    let token = Token {
+        table: keyed,
+        row: key_row,
+    };
+    write_rows(seen.by_key(table, token), rows)
+}

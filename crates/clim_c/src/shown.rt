@@ -1,0 +1,146 @@
+ghost use Rattle.std.specs.Prelude.{◌≡◌, ◌≤◌, ◌<◌, ◌+◌, ◌-◌, ℕ, min, true, false, length, slice_index_or};
+ghost use Rattle.std.specs.Bool.{OnTrue, OnFalse};
+ghost use Rattle.std.specs.List.{SameFrom};
+ghost use Rattle.schema.specs.declared.table.TableId.{TableId as Table};
+ghost use Rattle.schema.specs.Tables.{table_number};
+ghost use Rattle.schema.specs.CellColumns.{cell_count};
+ghost use Rattle.metadata.specs.Metadata.{Metadata};
+ghost use Rattle.metadata.specs.Model.{IsModel};
+ghost use Rattle.opening.specs.Views.{row_count};
+ghost use Rattle.clim_c.specs.declared.told_cell.ClimCell.{ClimCell as Told};
+ghost use Rattle.clim_c.specs.Told.{Tells, TellsCell};
+
+use crate::opened::seen;
+use crate::told_cell::ClimCell;
+use crate::view::ClimView;
+use opening::{CellRef, TableId, View};
+use schema::cell_count;
+
+/// A value, for C.
+fn told<'a>(cell: CellRef<'a>) -> ClimCell<'a>
+    ensures { Tells result cell.entry }
+{
+    let none = ClimCell {
+        bytes: &[],
+        number: 0,
+        kind: 0,
+        table: 0,
+        guid: [0; 16],
+    };
+    match cell {
+        CellRef::Number(number) => ClimCell {
+            kind: 1,
+            number,
+            ..none
+        },
+        CellRef::Text(text) => ClimCell {
+            kind: 2,
+            bytes: text.as_bytes(),
+            ..none
+        },
+        CellRef::Bytes(bytes) => ClimCell {
+            kind: 3,
+            bytes,
+            ..none
+        },
+        CellRef::Guid(None) => ClimCell { kind: 4, ..none },
+        CellRef::Guid(Some(guid)) => ClimCell {
+            kind: 5,
+            guid,
+            ..none
+        },
+        CellRef::Ref(None) => ClimCell { kind: 6, ..none },
+        CellRef::Ref(Some(token)) => ClimCell {
+            kind: 7,
+            table: token.table.number(),
+            number: token.row,
+            ..none
+        },
+        CellRef::Start(number) => ClimCell {
+            kind: 8,
+            number,
+            ..none
+        },
+        CellRef::Sig(bytes) => ClimCell {
+            kind: 9,
+            bytes,
+            ..none
+        },
+    }
+}
+
+/// A cell of a row of a table, for C.
+fn told_at<'a>(seen: &View<'a>, table: TableId, row: u32, column: usize) -> ClimCell<'a>
+    requires first { 1 ≤ row }
+    requires last { row ≤ row_count seen.now table }
+    requires column { column < cell_count table }
+    ensures { (model : Metadata) → IsModel seen.now model → TellsCell seen.now model table row column result }
+{
+    told(seen.cell(table, row, column))
+}
+
+/// A cell of a row, counted from 1, by its place in the row, counted from 0. It answers where the view is
+/// open and has the cell; else the cell stays.
+#[unsafe(no_mangle)]
+pub extern "C" fn clim_cell_at<'a>(
+    view: &ClimView<'a>,
+    table: u8,
+    row: u32,
+    column: usize,
+    cell: &mut ClimCell<'a>,
+) -> bool
+    ensures shown { OnTrue result ((model : Metadata) → IsModel view.now.root.now model
+        → (known : Table) → table_number known ≡ table → TellsCell view.now.root.now model known row column cell.new) }
+    ensures there { OnTrue result ((view.now.is_open ≡ true) × (1 ≤ row)
+        × ((known : Table) → table_number known ≡ table → (row ≤ row_count view.now.root.now known) × (column < cell_count known))) }
+    ensures only { view.now.is_open ≡ true → (known : Table) → table_number known ≡ table
+        → 1 ≤ row → row ≤ row_count view.now.root.now known → column < cell_count known → result ≡ true }
+    ensures same { OnFalse result (cell.new ≡ cell.old) }
+{
+    let Some(table) = TableId::from_number(table) else {
+        return false;
+    };
+    let Some(seen) = seen(view) else {
+        return false;
+    };
+    if row < 1 || row > seen.count(table) || column >= cell_count(table) {
+        return false;
+    }
+    *cell = told_at(&seen, table, row, column);
+    true
+}
+
+/// The cells of a column, from a row on, as many as there are and as there is room for: how many were
+/// written. The others stay.
+#[unsafe(no_mangle)]
+pub extern "C" fn clim_cells<'a>(
+    view: &ClimView<'a>,
+    table: u8,
+    first: u32,
+    column: usize,
+    cells: &mut [ClimCell<'a>],
+) -> usize
+    ensures shown { (model : Metadata) → IsModel view.now.root.now model → (known : Table) → table_number known ≡ table
+        → (k : ℕ) (d : Told) → k < result → TellsCell view.now.root.now model known (first + k) column (slice_index_or cells.new k d) }
+    ensures count { view.now.is_open ≡ true → (known : Table) → table_number known ≡ table → 1 ≤ first → column < cell_count known
+        → result ≡ min (length cells.old) (row_count view.now.root.now known + 1 - first) }
+    ensures there { 0 < result → (view.now.is_open ≡ true) × (1 ≤ first)
+        × ((known : Table) → table_number known ≡ table → column < cell_count known) }
+    ensures same { SameFrom cells.old cells.new result }
+{
+    let Some(table) = TableId::from_number(table) else {
+        return 0;
+    };
+    let Some(seen) = seen(view) else {
+        return 0;
+    };
+    if first < 1 || column >= cell_count(table) {
+        return 0;
+    }
+    let left = (seen.count(table) + 1).saturating_sub(first) as usize;
+    let count = left.min(cells.len());
+    for k in 0..count {
+        cells[k] = told_at(&seen, table, first + k as u32, column);
+    }
+    count
+}
