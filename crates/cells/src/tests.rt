@@ -87,3 +87,39 @@ fn columns_take_cells_of_their_kinds(rt: HostRuntime) -> Result<(), Fail> {
     }
     Ok(())
 }
+
+/// Which cells a heap can hold.
+#[test]
+fn heaps_hold_texts_without_nul(rt: HostRuntime) -> Result<(), Fail> {
+    for cell in &each_cell(&rt, rt.alloc())? {
+        assert!(rt; cell.is_storable(), "{cell:?}");
+    }
+    for (text, is_storable) in [("", true), ("\u{1}", true), ("\0", false), ("a\0b", false)] {
+        let cell = Cell::Text(Text::from(String::from_str(rt.alloc(), text)?));
+        assert_eq!(rt; cell.is_storable(), is_storable, "{cell:?}");
+    }
+    Ok(())
+}
+
+/// Which columns hold the signature of a field, and that any hold a cell that is none.
+#[test]
+fn columns_hold_signatures_of_their_kinds(rt: HostRuntime) {
+    let cell = Cell::Sig(field(&rt, rt.alloc()));
+    for (kind, is_held) in [
+        (SigKind::Field, true),
+        (SigKind::MethodDef, false),
+        (SigKind::MemberRef, true),
+        (SigKind::StandAlone, true),
+        (SigKind::Property, false),
+        (SigKind::TypeSpec, false),
+        (SigKind::Instance, false),
+    ] {
+        assert_eq!(rt;
+            cell.is_held(ColumnKind::Signature(kind)),
+            is_held,
+            "{kind:?}"
+        );
+        assert!(rt; Cell::Number(0).is_held(ColumnKind::Signature(kind)));
+    }
+    assert!(rt; cell.is_held(ColumnKind::Blob));
+}

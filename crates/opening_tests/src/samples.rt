@@ -1,4 +1,4 @@
-use crate::builder::RootBuilder;
+use sample_roots::RootBuilder;
 use std::alloc::Global;
 use std::test::Fail;
 

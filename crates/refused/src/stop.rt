@@ -1,4 +1,5 @@
 use heaps::PoolError;
+use loading::LoadError;
 use signatures::SigError;
 use std::alloc::{AllocError, AllocFailed, Global};
 use std::cell::Cell;
@@ -86,6 +87,15 @@ impl From<SigError> for Stop {
         match error {
             SigError::Memory => Stop::Memory,
             SigError::Bad => Stop::Broken("a signature that is spelled is not bad"),
+        }
+    }
+}
+
+impl From<LoadError> for Stop {
+    fn from(error: LoadError) -> Stop {
+        match error {
+            LoadError::Memory => Stop::Memory,
+            LoadError::Fault(_) => Stop::Broken("a root that has a model is loaded"),
         }
     }
 }
