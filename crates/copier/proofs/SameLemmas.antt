@@ -5,7 +5,7 @@ use Rattle.std.specs.declared.boxed.Box.{Box}
 use Rattle.std.specs.Prelude.{ℤ, nat_eq}
 use Rattle.std.specs.Ordering.{int_eq}
 use Rattle.std.specs.Cmp.Lexicographic.{pointwise}
-use Rattle.std.proofs.lemmas.Bool.Decides.{Decides-and, Decides-like, Decides-at, Decides-eqb, Decides-int_eq}
+use Rattle.std.proofs.lemmas.Bool.Decides.{Decides-and, Decides-like, Decides-eqb, Decides-int_eq}
 use Rattle.std.proofs.lemmas.Slice.Eq.{slice_eq-Decides}
 use Rattle.std.specs.contracts.prelude.BoolPartialEq.TheImpl as bools
 use denote.Enum.Bare.{same_true, true_same}
@@ -22,9 +22,9 @@ use Rattle.signature_values.specs.contracts.body.PrefixPartialEq.TheImpl as pref
 use Rattle.signature_values.specs.declared.body.Prefix.TheVariants.{Mod, Pinned}
 use Rattle.signature_values.specs.declared.types.Shape.{Shape}
 use Rattle.signature_values.specs.contracts.types.ShapePartialEq.TheImpl as shapes
-use Rattle.signature_values.specs.declared.types.TypeSig.{TypeSig, out-TypeSig}
-use Rattle.signature_values.specs.declared.types.MethodSig.{MethodSig, out-MethodSig}
-use Rattle.signature_values.specs.declared.types.Slot.{Slot, out-Slot}
+use Rattle.signature_values.specs.declared.types.TypeSig.{TypeSig}
+use Rattle.signature_values.specs.declared.types.MethodSig.{MethodSig}
+use Rattle.signature_values.specs.declared.types.Slot.{Slot}
 use Rattle.signature_values.specs.declared.types.Ret.{Ret}
 use Rattle.signature_values.specs.declared.types.Core as cores
 use Rattle.signature_values.specs.declared.types.Core.{Core-F, out-Core, roll-Core, roll-out-Core}
@@ -32,25 +32,14 @@ use Rattle.signature_values.specs.declared.types.Core.TheOpen as layers
 use Rattle.signature_values.specs.declared.types.Core.TheVariants.{rolls-Simple, rolls-Pointer, rolls-Vector, rolls-Array, rolls-Class, rolls-Value, rolls-Var, rolls-MVar, rolls-Instance, rolls-Function}
 use Rattle.signature_values.specs.declared.types.SlotKind as kinds
 use Rattle.signature_values.specs.declared.types.SlotKind.{SlotKind-F, out-SlotKind, roll-SlotKind, roll-out-SlotKind}
-use Rattle.signature_values.specs.Views.{core_of, type_of, content_of, slot_of, ret_of, method_of, shape_of, types_from, slots_from}
+use Rattle.signature_values.specs.Views.{core_of, shape_of, types_from, slots_from}
 use Rattle.signature_values.specs.Syntax as sig
-use Rattle.copier.specs.Heads.{HaveOneHead}
-use Rattle.signature_values.proofs.ViewLemmas.{view_simple, view_void_pointer, view_pointer, view_vector, view_array, view_class, view_value, view_var, view_mvar, view_instance, view_function, view_type, view_slot, view_method}
+use Rattle.signature_values.proofs.ViewLemmas.{view_simple, view_void_pointer, view_pointer, view_vector, view_array, view_class, view_value, view_var, view_mvar, view_instance, view_function}
 
 -- ---- tests
 
 pub denied : {P : Type 0} → (P → ⊥) → Decides false P
 denied never = (λ h. absurd cc, λ p. absurd (never p))
-
-pub both_then : (p q : Bool) {P Q R : Type 0} → Decides p P → p ≡ true → Decides q Q → (P → Q → R) → (R → P × Q) → Decides q R
-both_then p q first told second make split = (λ h. make (first.0 told) (second.0 h), λ r. second.1 (split r).1)
-
-pub both_else : (p : Bool) {P R : Type 0} → Decides p P → p ≡ false → (R → P) → Decides p R
-both_else p first told split = (λ h. absurd (let e : true ≡ false = sym h ∙ told in cc e), λ r. first.1 (split r))
-
--- of lists that are two others
-pub lists_at : {A C : Type 0} (f : List A → C) (p : Bool) (a b xs ys : List A) → a ≡ xs → b ≡ ys → Decides p (f a ≡ f b) → Decides p (f xs ≡ f ys)
-lists_at f p a b xs ys h k test = (λ t. sym (ap f h) ∙ test.0 t ∙ ap f k, λ e. test.1 (ap f h ∙ e ∙ sym (ap f k)))
 
 -- ---- what is compared in place
 
@@ -110,102 +99,51 @@ shape_decides s t =
     (λ e. (ap (λ (a : sig.ArrayShape). a.rank) e, (ap (λ (a : sig.ArrayShape). a.sizes) e, ap (λ (a : sig.ArrayShape). a.low) e)))
     (Decides-and _ _ (Decides-eqb s.rank t.rank) (Decides-and _ _ sizes low))
 
--- ---- which form of value shows which form of syntax
+-- ---- a type of another form
 
-abbrev Shows : sig.Core → cores.Core → Type 0
-Shows (sig.simple e) c = (x : Element) × (c ≡ cores.Simple x)
-Shows (sig.void_pointer ms) c = (mods : Vec Modifier Global) × (to : Option (Box cores.Core Global)) × (c ≡ cores.Pointer mods to)
-Shows (sig.pointer ms t) c = (mods : Vec Modifier Global) × (to : Option (Box cores.Core Global)) × (c ≡ cores.Pointer mods to)
-Shows (sig.vector t) c = (of : Box TypeSig Global) × (c ≡ cores.Vector of)
-Shows (sig.array t s) c = (of : Box TypeSig Global) × (shape : Shape) × (c ≡ cores.Array of shape)
-Shows (sig.class t) c = (of : Token) × (c ≡ cores.Class of)
-Shows (sig.value t) c = (of : Token) × (c ≡ cores.Value of)
-Shows (sig.var n) c = (m : ℕ) × (c ≡ cores.Var m)
-Shows (sig.mvar n) c = (m : ℕ) × (c ≡ cores.MVar m)
-Shows (sig.instance v t ts) c = (is_value : Bool) × (of : Token) × (args : Vec TypeSig Global) × (c ≡ cores.Instance is_value of args)
-Shows (sig.function m) c = (method : Box MethodSig Global) × (c ≡ cores.Function method)
+-- the type has not the form that shows that syntax
+abbrev Never : sig.Core → cores.Core → Type 0
+Never (sig.simple e) c = (x : Element) → c ≡ cores.Simple x → ⊥
+Never (sig.void_pointer ms) c = (x : Vec Modifier Global) (y : Option (Box cores.Core Global)) → c ≡ cores.Pointer x y → ⊥
+Never (sig.pointer ms t) c = (x : Vec Modifier Global) (y : Option (Box cores.Core Global)) → c ≡ cores.Pointer x y → ⊥
+Never (sig.vector t) c = (x : Box TypeSig Global) → c ≡ cores.Vector x → ⊥
+Never (sig.array t s) c = (x : Box TypeSig Global) (y : Shape) → c ≡ cores.Array x y → ⊥
+Never (sig.class t) c = (x : Token) → c ≡ cores.Class x → ⊥
+Never (sig.value t) c = (x : Token) → c ≡ cores.Value x → ⊥
+Never (sig.var n) c = (x : ℕ) → c ≡ cores.Var x → ⊥
+Never (sig.mvar n) c = (x : ℕ) → c ≡ cores.MVar x → ⊥
+Never (sig.instance v t ts) c = (x : Bool) (y : Token) (z : Vec TypeSig Global) → c ≡ cores.Instance x y z → ⊥
+Never (sig.function m) c = (x : Box MethodSig Global) → c ≡ cores.Function x → ⊥
 
-by_layer : (l : Core-F cores.Core Ret kinds.SlotKind MethodSig Slot TypeSig) (c : cores.Core) → roll-Core l ≡ c → Shows (core_of c) c
-by_layer (layers.Simple e) c h = let is : c ≡ cores.Simple e = sym h ∙ rolls-Simple e in subst (λ v. Shows v c) (sym (ap core_of is ∙ view_simple e)) (e, is)
-by_layer (layers.Pointer mods None) c h =
-    let is : c ≡ cores.Pointer mods None = sym h ∙ rolls-Pointer mods None in
-    subst (λ v. Shows v c) (sym (ap core_of is ∙ view_void_pointer mods)) (mods, None, is)
-by_layer (layers.Pointer mods (Some to)) c h =
-    let is : c ≡ cores.Pointer mods (Some to) = sym h ∙ rolls-Pointer mods (Some to) in
-    subst (λ v. Shows v c) (sym (ap core_of is ∙ view_pointer mods to)) (mods, Some to, is)
-by_layer (layers.Vector of) c h =
-    let is : c ≡ cores.Vector of = sym h ∙ rolls-Vector of in subst (λ v. Shows v c) (sym (ap core_of is ∙ view_vector of)) (of, is)
-by_layer (layers.Array of shape) c h =
-    let is : c ≡ cores.Array of shape = sym h ∙ rolls-Array of shape in subst (λ v. Shows v c) (sym (ap core_of is ∙ view_array of shape)) (of, shape, is)
-by_layer (layers.Class t) c h = let is : c ≡ cores.Class t = sym h ∙ rolls-Class t in subst (λ v. Shows v c) (sym (ap core_of is ∙ view_class t)) (t, is)
-by_layer (layers.Value t) c h = let is : c ≡ cores.Value t = sym h ∙ rolls-Value t in subst (λ v. Shows v c) (sym (ap core_of is ∙ view_value t)) (t, is)
-by_layer (layers.Var n) c h = let is : c ≡ cores.Var n = sym h ∙ rolls-Var n in subst (λ v. Shows v c) (sym (ap core_of is ∙ view_var n)) (n, is)
-by_layer (layers.MVar n) c h = let is : c ≡ cores.MVar n = sym h ∙ rolls-MVar n in subst (λ v. Shows v c) (sym (ap core_of is ∙ view_mvar n)) (n, is)
-by_layer (layers.Instance is_value of args) c h =
-    let is : c ≡ cores.Instance is_value of args = sym h ∙ rolls-Instance is_value of args in
-    subst (λ v. Shows v c) (sym (ap core_of is ∙ view_instance is_value of args)) (is_value, of, args, is)
-by_layer (layers.Function m) c h =
-    let is : c ≡ cores.Function m = sym h ∙ rolls-Function m in subst (λ v. Shows v c) (sym (ap core_of is ∙ view_function m)) (m, is)
+module _ {c made : cores.Core} {v : sig.Core} (is : c ≡ made) (seen : core_of made ≡ v) where
+  -- so a type that is made as that form is not without it
+  has_form : (Never v made → ⊥) → Never (core_of c) c → ⊥
+  has_form made_so never = made_so (subst (λ d. Never v d) is (subst (λ w. Never w c) (ap core_of is ∙ seen) never))
 
-shows : (c : cores.Core) (v : sig.Core) → v ≡ core_of c → Shows v c
-shows c v e = subst (λ w. Shows w c) (sym e) (by_layer (out-Core c) c (roll-out-Core c))
+form_of : (l : Core-F cores.Core Ret kinds.SlotKind MethodSig Slot TypeSig) → Never (core_of (roll-Core l)) (roll-Core l) → ⊥
+form_of (layers.Simple e) = has_form (rolls-Simple e) (view_simple e) (λ never. never e refl)
+form_of (layers.Pointer mods None) = has_form (rolls-Pointer mods None) (view_void_pointer mods) (λ never. never mods None refl)
+form_of (layers.Pointer mods (Some to)) = has_form (rolls-Pointer mods (Some to)) (view_pointer mods to) (λ never. never mods (Some to) refl)
+form_of (layers.Vector of) = has_form (rolls-Vector of) (view_vector of) (λ never. never of refl)
+form_of (layers.Array of shape) = has_form (rolls-Array of shape) (view_array of shape) (λ never. never of shape refl)
+form_of (layers.Class t) = has_form (rolls-Class t) (view_class t) (λ never. never t refl)
+form_of (layers.Value t) = has_form (rolls-Value t) (view_value t) (λ never. never t refl)
+form_of (layers.Var n) = has_form (rolls-Var n) (view_var n) (λ never. never n refl)
+form_of (layers.MVar n) = has_form (rolls-MVar n) (view_mvar n) (λ never. never n refl)
+form_of (layers.Instance v t args) = has_form (rolls-Instance v t args) (view_instance v t args) (λ never. never v t args refl)
+form_of (layers.Function m) = has_form (rolls-Function m) (view_function m) (λ never. never m refl)
 
-module _ (c : cores.Core) where
-  pub no_simple : (e : Element) → ((x : Element) → c ≡ cores.Simple x → ⊥) → sig.simple e ≡ core_of c → ⊥
-  no_simple e never is = let s : Shows (sig.simple e) c = shows c (sig.simple e) is in never s.0 s.1
+pub of_another_form : (c : cores.Core) (v : sig.Core) → Never v c → Decides false (v ≡ core_of c)
+of_another_form c v never =
+    let no : Never (core_of c) c → ⊥ = subst (λ d. Never (core_of d) d → ⊥) (roll-out-Core c) (form_of (out-Core c)) in
+    denied (λ e. no (subst (λ w. Never w c) e never))
 
-  pub no_void_pointer : (ms : List Modifier) → ((x : Vec Modifier Global) (y : Option (Box cores.Core Global)) → c ≡ cores.Pointer x y → ⊥)
-      → sig.void_pointer ms ≡ core_of c → ⊥
-  no_void_pointer ms never is = let s : Shows (sig.void_pointer ms) c = shows c (sig.void_pointer ms) is in never s.0 s.1 s.2
+pub shown_as : {A : Type 0} {u v w : A} → u ≡ v → Decides false (v ≡ w) → Decides false (u ≡ w)
+shown_as same = Decides-like _ (λ e. same ∙ e) (λ e. sym same ∙ e)
 
-  pub no_pointer : (ms : List Modifier) (t : sig.Core) → ((x : Vec Modifier Global) (y : Option (Box cores.Core Global)) → c ≡ cores.Pointer x y → ⊥)
-      → sig.pointer ms t ≡ core_of c → ⊥
-  no_pointer ms t never is = let s : Shows (sig.pointer ms t) c = shows c (sig.pointer ms t) is in never s.0 s.1 s.2
+-- ---- lists of types and of parameters
 
-  pub no_vector : (t : sig.Typed) → ((x : Box TypeSig Global) → c ≡ cores.Vector x → ⊥) → sig.vector t ≡ core_of c → ⊥
-  no_vector t never is = let s : Shows (sig.vector t) c = shows c (sig.vector t) is in never s.0 s.1
-
-  pub no_array : (t : sig.Typed) (a : sig.ArrayShape) → ((x : Box TypeSig Global) (y : Shape) → c ≡ cores.Array x y → ⊥) → sig.array t a ≡ core_of c → ⊥
-  no_array t a never is = let s : Shows (sig.array t a) c = shows c (sig.array t a) is in never s.0 s.1 s.2
-
-  pub no_class : (t : Token) → ((x : Token) → c ≡ cores.Class x → ⊥) → sig.class t ≡ core_of c → ⊥
-  no_class t never is = let s : Shows (sig.class t) c = shows c (sig.class t) is in never s.0 s.1
-
-  pub no_value : (t : Token) → ((x : Token) → c ≡ cores.Value x → ⊥) → sig.value t ≡ core_of c → ⊥
-  no_value t never is = let s : Shows (sig.value t) c = shows c (sig.value t) is in never s.0 s.1
-
-  pub no_var : (n : ℕ) → ((x : ℕ) → c ≡ cores.Var x → ⊥) → sig.var n ≡ core_of c → ⊥
-  no_var n never is = let s : Shows (sig.var n) c = shows c (sig.var n) is in never s.0 s.1
-
-  pub no_mvar : (n : ℕ) → ((x : ℕ) → c ≡ cores.MVar x → ⊥) → sig.mvar n ≡ core_of c → ⊥
-  no_mvar n never is = let s : Shows (sig.mvar n) c = shows c (sig.mvar n) is in never s.0 s.1
-
-  pub no_instance : (v : Bool) (t : Token) (ts : sig.Types) → ((x : Bool) (y : Token) (z : Vec TypeSig Global) → c ≡ cores.Instance x y z → ⊥)
-      → sig.instance v t ts ≡ core_of c → ⊥
-  no_instance v t ts never is = let s : Shows (sig.instance v t ts) c = shows c (sig.instance v t ts) is in never s.0 s.1 s.2 s.3
-
-  pub no_function : (m : sig.Method) → ((x : Box MethodSig Global) → c ≡ cores.Function x → ⊥) → sig.function m ≡ core_of c → ⊥
-  no_function m never is = let s : Shows (sig.function m) c = shows c (sig.function m) is in never s.0 s.1
-
--- ---- a type of a form, by what it is made of
-
-class_one : (t u : Token) → sig.class t ≡ sig.class u → t ≡ u
-class_one t u e = cc e
-
-pub class_decides : (c : cores.Core) (t u : Token) (r : Bool) → c ≡ cores.Class u → r ≡ tokens.eq-value.it t u → Decides r (sig.class t ≡ core_of c)
-class_decides c t u r is told =
-    let seen : core_of c ≡ sig.class u = ap core_of is ∙ view_class u in
-    Decides-at _ _ told (Decides-like _ (λ h. ap sig.class h ∙ sym seen) (λ e. class_one t u (e ∙ seen)) (token_decides t u))
-
-value_one : (t u : Token) → sig.value t ≡ sig.value u → t ≡ u
-value_one t u e = cc e
-
-pub value_decides : (c : cores.Core) (t u : Token) (r : Bool) → c ≡ cores.Value u → r ≡ tokens.eq-value.it t u → Decides r (sig.value t ≡ core_of c)
-value_decides c t u r is told =
-    let seen : core_of c ≡ sig.value u = ap core_of is ∙ view_value u in
-    Decides-at _ _ told (Decides-like _ (λ h. ap sig.value h ∙ sym seen) (λ e. value_one t u (e ∙ seen)) (token_decides t u))
-
-types_one : (ts us : List sig.Typed) → types_from ts ≡ types_from us → ts ≡ us
+pub types_one : (ts us : List sig.Typed) → types_from ts ≡ types_from us → ts ≡ us
 types_one [] [] e = refl
 types_one [] (u ∷ us) e = absurd (cc e)
 types_one (t ∷ ts) [] e = absurd (cc e)
@@ -214,7 +152,7 @@ types_one (t ∷ ts) (u ∷ us) e =
     let tail : types_from ts ≡ types_from us = cc e in
     ap (λ (v : sig.Typed). v ∷ ts) head ∙ ap (λ (vs : List sig.Typed). u ∷ vs) (types_one ts us tail)
 
-slots_one : (ss us : List sig.Slot) → slots_from ss ≡ slots_from us → ss ≡ us
+pub slots_one : (ss us : List sig.Slot) → slots_from ss ≡ slots_from us → ss ≡ us
 slots_one [] [] e = refl
 slots_one [] (u ∷ us) e = absurd (cc e)
 slots_one (s ∷ ss) [] e = absurd (cc e)
@@ -222,86 +160,6 @@ slots_one (s ∷ ss) (u ∷ us) e =
     let head : s ≡ u = cc e in
     let tail : slots_from ss ≡ slots_from us = cc e in
     ap (λ (v : sig.Slot). v ∷ ss) head ∙ ap (λ (vs : List sig.Slot). u ∷ vs) (slots_one ss us tail)
-
-module _ (c : cores.Core) (v w : Bool) (t u : Token) (ts : List sig.Typed) (args : Vec TypeSig Global) (is : c ≡ cores.Instance w u args) where
-  seen_instance : core_of c ≡ sig.instance w u (types_from (map type_of args.items))
-  seen_instance = ap core_of is ∙ view_instance w u args
-
-  pub instance_make : (v ≡ w) × (t ≡ u) → ts ≡ map type_of args.items → sig.instance v t (types_from ts) ≡ core_of c
-  instance_make h k =
-      ap (λ (b : Bool). sig.instance b t (types_from ts)) h.0 ∙ ap (λ (a : Token). sig.instance w a (types_from ts)) h.1
-      ∙ ap (λ (xs : List sig.Typed). sig.instance w u (types_from xs)) k ∙ sym seen_instance
-
-  pub instance_split : sig.instance v t (types_from ts) ≡ core_of c → ((v ≡ w) × (t ≡ u)) × (ts ≡ map type_of args.items)
-  instance_split e =
-      let both : sig.instance v t (types_from ts) ≡ sig.instance w u (types_from (map type_of args.items)) = e ∙ seen_instance in
-      let one : v ≡ w = cc both in
-      let two : t ≡ u = cc both in
-      let three : types_from ts ≡ types_from (map type_of args.items) = cc both in
-      ((one, two), types_one ts (map type_of args.items) three)
-
--- ---- types, parameters and methods, by their fields
-
-module _ (t u : TypeSig) where
-  pub type_make : (out-TypeSig t).mods.items ≡ (out-TypeSig u).mods.items → core_of (out-TypeSig t).core ≡ core_of (out-TypeSig u).core → type_of t ≡ type_of u
-  type_make h k =
-      view_type t ∙ ap (λ (ms : List Modifier). sig.typed ms (core_of (out-TypeSig t).core)) h
-      ∙ ap (λ (c : sig.Core). sig.typed (out-TypeSig u).mods.items c) k ∙ sym (view_type u)
-
-  pub type_split : type_of t ≡ type_of u
-      → ((out-TypeSig t).mods.items ≡ (out-TypeSig u).mods.items) × (core_of (out-TypeSig t).core ≡ core_of (out-TypeSig u).core)
-  type_split e =
-      let both : sig.typed (out-TypeSig t).mods.items (core_of (out-TypeSig t).core) ≡ sig.typed (out-TypeSig u).mods.items (core_of (out-TypeSig u).core) =
-      sym (view_type t) ∙ e ∙ view_type u in
-      let one : (out-TypeSig t).mods.items ≡ (out-TypeSig u).mods.items = cc both in
-      let two : core_of (out-TypeSig t).core ≡ core_of (out-TypeSig u).core = cc both in
-      (one, two)
-
-module _ (s u : Slot) where
-  pub slot_make : (out-Slot s).mods.items ≡ (out-Slot u).mods.items → content_of (out-Slot s).kind ≡ content_of (out-Slot u).kind → slot_of s ≡ slot_of u
-  slot_make h k =
-      view_slot s ∙ ap (λ (ms : List Modifier). sig.slot ms (content_of (out-Slot s).kind)) h
-      ∙ ap (λ (c : sig.Content). sig.slot (out-Slot u).mods.items c) k ∙ sym (view_slot u)
-
-  pub slot_split : slot_of s ≡ slot_of u → ((out-Slot s).mods.items ≡ (out-Slot u).mods.items) × (content_of (out-Slot s).kind ≡ content_of (out-Slot u).kind)
-  slot_split e =
-      let both : sig.slot (out-Slot s).mods.items (content_of (out-Slot s).kind) ≡ sig.slot (out-Slot u).mods.items (content_of (out-Slot u).kind) =
-      sym (view_slot s) ∙ e ∙ view_slot u in
-      let one : (out-Slot s).mods.items ≡ (out-Slot u).mods.items = cc both in
-      let two : content_of (out-Slot s).kind ≡ content_of (out-Slot u).kind = cc both in
-      (one, two)
-
-module _ (m n : MethodSig) where
-  abbrev whole : MethodSig → sig.Method
-  whole a =
-      sig.method (out-MethodSig a).kind (out-MethodSig a).this (out-MethodSig a).explicit (out-MethodSig a).generic (ret_of (out-MethodSig a).ret)
-      (slots_from (map slot_of (out-MethodSig a).params.items)) (out-MethodSig a).sentinel
-
-  abbrev pub SameRet : Type 0
-  SameRet = ret_of (out-MethodSig m).ret ≡ ret_of (out-MethodSig n).ret
-
-  abbrev pub SameParams : Type 0
-  SameParams = map slot_of (out-MethodSig m).params.items ≡ map slot_of (out-MethodSig n).params.items
-
-  pub method_make : HaveOneHead m n × SameRet → SameParams → method_of m ≡ method_of n
-  method_make h k =
-      let kind = h.0.kind in let this = h.0.this in let explicit = h.0.explicit in let generic = h.0.generic in let sentinel = h.0.sentinel in let ret = h.1 in
-      let both : whole m ≡ whole n = cc (kind, this, explicit, generic, sentinel, ret, k) in
-      view_method m ∙ both ∙ sym (view_method n)
-
-  pub method_split : method_of m ≡ method_of n → (HaveOneHead m n × SameRet) × SameParams
-  method_split e =
-      let both : whole m ≡ whole n = sym (view_method m) ∙ e ∙ view_method n in
-      let head : HaveOneHead m n = record { kind = cc both; this = cc both; explicit = cc both; generic = cc both; sentinel = cc both } in
-      let ret : SameRet = cc both in
-      let params : slots_from (map slot_of (out-MethodSig m).params.items) ≡ slots_from (map slot_of (out-MethodSig n).params.items) = cc both in
-      ((head, ret), slots_one _ _ params)
-
-pub joined_then : (p q v : Bool) {P Q : Type 0} → Decides p P → p ≡ true → Decides q Q → v ≡ q → Decides v (P × Q)
-joined_then p q v first told second is = Decides-at _ _ is (λ h. (first.0 told, second.0 h), λ b. second.1 b.1)
-
-pub joined_else : (p v : Bool) {P Q : Type 0} → Decides p P → p ≡ false → v ≡ p → Decides v (P × Q)
-joined_else p v first told is = Decides-at _ _ (is ∙ told) (denied (λ b. let e : true ≡ false = sym (first.1 b.0) ∙ told in cc e))
 
 -- ---- lists, from a place on
 

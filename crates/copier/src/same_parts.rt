@@ -26,6 +26,13 @@ pub fn same_shape(shape: &Shape, other: &Shape) -> bool
     shape == other
 }
 
+/// Whether two tokens are the same.
+fn same_token(of: Token, other: Token) -> bool
+    ensures { IsTrue result ↔ (of ≡ other) }
+{
+    of == other
+}
+
 /// Whether two generic types are the same: both value types or both classes, and of one row.
 pub fn same_generic(is_value: bool, of: Token, other_is_value: bool, other: Token) -> bool
     ensures { IsTrue result ↔ ((is_value ≡ other_is_value) × (of ≡ other)) }
@@ -64,7 +71,7 @@ pub fn is_class(of: Token, core: &Core) -> bool
     ensures { IsTrue result ↔ (sig.class of ≡ core_of core.now) }
 {
     match core {
-        Core::Class(other) => of == *other,
+        Core::Class(other) => same_token(of, *other),
         _ => false,
     }
 }
@@ -75,7 +82,7 @@ pub fn is_value_type(of: Token, core: &Core) -> bool
     ensures { IsTrue result ↔ (sig.value of ≡ core_of core.now) }
 {
     match core {
-        Core::Value(other) => of == *other,
+        Core::Value(other) => same_token(of, *other),
         _ => false,
     }
 }

@@ -70,7 +70,7 @@ fn is_array(of: &TypeSig, shape: &Shape, core: &Core) -> bool
 
 /// Whether a type is the instance of a generic type with type arguments.
 #[cycle(same)]
-#[tactic(auto, using(signature_values::proofs::ViewLemmas::views))]
+#[tactic(auto, using(signature_values::proofs::ViewLemmas::views, crate::proofs::SameLemmas::types_one))]
 fn is_instance(is_value: bool, of: Token, args: &[TypeSig], core: &Core) -> bool
     ensures { IsTrue result ↔ (sig.instance is_value of (types_from (map type_of args.now)) ≡ core_of core.now) }
 {
@@ -86,6 +86,7 @@ fn is_instance(is_value: bool, of: Token, args: &[TypeSig], core: &Core) -> bool
 
 /// Whether two types are the same.
 #[cycle(same)]
+#[tactic(auto, using(signature_values::proofs::ViewLemmas::view_type))]
 fn same_type(of: &TypeSig, other: &TypeSig) -> bool
     ensures { IsTrue result ↔ (type_of of.now ≡ type_of other.now) }
 {
@@ -134,6 +135,7 @@ pub fn same_content(kind: &SlotKind, other: &SlotKind) -> bool
 
 /// Whether two parameters, fields or results are the same.
 #[cycle(same)]
+#[tactic(auto, using(signature_values::proofs::ViewLemmas::view_slot))]
 pub fn same_slot(slot: &Slot, other: &Slot) -> bool
     ensures { IsTrue result ↔ (slot_of slot.now ≡ slot_of other.now) }
 {
@@ -187,6 +189,7 @@ fn same_head(method: &MethodSig, other: &MethodSig) -> bool
 
 /// Whether two methods are the same (II.23.2.1 to II.23.2.3).
 #[cycle(same)]
+#[tactic(auto, using(signature_values::proofs::ViewLemmas::view_method, crate::proofs::SameLemmas::slots_one))]
 pub fn same_method(method: &MethodSig, other: &MethodSig) -> bool
     ensures { IsTrue result ↔ (method_of method.now ≡ method_of other.now) }
 {

@@ -1,5 +1,5 @@
-use Rattle.copier.proofs.SameLemmas.{denied, no_void_pointer}
+use Rattle.copier.proofs.SameLemmas.{of_another_form}
 use Rattle.copier.proofs.same_parts.is_void_pointer.Goals as goal
 
 pub returns-in_default : goal.returns-in_default
-returns-in_default c = denied (no_void_pointer c.args.core.now c.args.mods.now c.in_default.not-Pointer)
+returns-in_default c = of_another_form c.args.core.now _ c.in_default.not-Pointer
