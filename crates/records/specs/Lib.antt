@@ -1,3 +1,4 @@
 pub mod Kinds
 pub mod Names
 pub mod Shapes
+pub mod Signatures

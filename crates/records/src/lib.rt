@@ -15,6 +15,7 @@
 mod cell_row;
 mod generics;
 mod kinds;
+mod laws;
 mod record;
 mod row;
 mod signature;
@@ -24,6 +25,7 @@ pub use cell_row::CellRow;
 pub use cells::{Bytes, Cell, Signature, Text, Token};
 pub use generics::{GenericParam, GenericParamConstraint, MethodSpec};
 pub use kinds::is_row_of;
+pub use laws::{blobs_say_signatures, cells_have_kinds, valid_rows_are_of_kinds};
 pub use record::{FromRow, Record, record_of};
 pub use row::Row;
 pub use schema::{SigKind, TableId};

@@ -1,5 +1,6 @@
 ghost use Rattle.schema.specs.declared.column.SigKind.{SigKind as Kind};
 ghost use Rattle.signature_values.specs.Syntax.{Body};
+ghost use Rattle.records.specs.Signatures.{spelled};
 
 use cells::Signature;
 
@@ -11,4 +12,9 @@ pub trait IsSignature: Copy + Drop {
 
 impl IsSignature for &Signature {
     ghost body = { λ column signature. signature.now };
+}
+
+/// The blob of a signature, which says what it spells.
+impl IsSignature for &[u8] {
+    ghost body = { λ column blob. spelled column blob.now };
 }

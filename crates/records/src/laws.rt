@@ -1,0 +1,34 @@
+ghost use Rattle.std.specs.Prelude.{◌≡◌, ◌<◌, ℕ, List, Some, length, slice_get};
+ghost use Rattle.schema.specs.declared.table.TableId.{TableId as Table};
+ghost use Rattle.schema.specs.declared.column.SigKind.{SigKind as Kind};
+ghost use Rattle.schema.specs.Columns.{column_at};
+ghost use Rattle.schema.specs.CellColumns.{cell_count, column_of};
+ghost use Rattle.signature_values.specs.Syntax.{Body};
+ghost use Rattle.signature_values.specs.Spells.{Spells};
+ghost use Rattle.metadata.specs.Metadata.{Metadata, row_of};
+ghost use Rattle.metadata.specs.Lookups.{HasRow};
+ghost use Rattle.metadata.specs.Valid.{IsValid};
+ghost use Rattle.records.specs.Kinds.{kinds_of, AreOfKinds};
+ghost use Rattle.records.specs.Signatures.{spelled};
+
+use signature_values::signatures_are_read;
+
+/// A blob that spells a signature in a column of a kind says this signature there (II.23.2).
+pub fn blobs_say_signatures()
+    ensures { (column : Kind) (signature : Body) (blob : List ℕ) → Spells column signature blob → spelled column blob ≡ signature }
+{
+    signatures_are_read();
+}
+
+/// The kinds of a table's cells are those of the columns that have a cell (II.22).
+pub fn cells_have_kinds()
+    ensures count { (table : Table) → length (kinds_of table) ≡ cell_count table }
+    ensures kind { (table : Table) (place : ℕ) → place < cell_count table
+        → slice_get (kinds_of table) place ≡ Some (column_at table (column_of table place)).kind }
+{}
+
+/// The rows of a valid model have the cells of their tables, of their number and kinds (II.22).
+pub fn valid_rows_are_of_kinds()
+    ensures { (model : Metadata) → IsValid model → (table : Table) (row : ℕ) → HasRow model table row
+        → AreOfKinds (kinds_of table) (row_of model table row) }
+{}

@@ -1,0 +1,2 @@
+pub mod RefRows
+pub mod RowsLeft
