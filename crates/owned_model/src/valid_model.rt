@@ -50,11 +50,12 @@ impl Eq for Model {
 }
 
 impl Model {
-    ghost use Rattle.std.specs.Prelude.{◌≡◌, ◌↔◌, ◌≤◌, IsTrue, IsOk, IfOk, IfErr, IsSome};
+    ghost use Rattle.std.specs.Prelude.{◌≡◌, ◌↔◌, ◌≤◌, ◌<◌, IsTrue, IsOk, IfOk, IfErr, IsSome};
     ghost use Rattle.packed.specs.Demand.{FirstToFail};
     ghost use Rattle.schema.specs.Columns.{key_of};
-    ghost use Rattle.cells.specs.Said.{all_said};
-    ghost use Rattle.metadata.specs.Metadata.{row_of, count_in};
+    ghost use Rattle.schema.specs.CellColumns.{cell_count};
+    ghost use Rattle.cells.specs.Said.{said, all_said};
+    ghost use Rattle.metadata.specs.Metadata.{row_of, count_in, cell_in};
     ghost use Rattle.metadata.specs.KeyOrder.{IsKeyOrdered};
     ghost use Rattle.metadata.specs.Valid.{IsValid};
     ghost use Rattle.metadata.specs.Refusals.{refusals_of};
@@ -114,6 +115,19 @@ impl Model {
         ensures { all_said result.now ≡ row_of self.now table row }
     {
         self.tables.cells(table, row as usize)
+    }
+
+    /// The cell at a place of a row.
+    #[tactic(auto, using(crate::proofs::CellLemmas::item_said))]
+    pub(crate) fn cell(&self, table: TableId, row: u32, place: usize) -> &Cell
+        requires first { 1 ≤ row }
+        requires last { row ≤ count_in self.now table }
+        requires place { place < cell_count table }
+        ensures { said result.now ≡ cell_in self.now table row place }
+    {
+        // The tables are valid: a row has as many cells as its table.
+        let _tables = self.tables();
+        &self.cells(table, row)[place]
     }
 
     /// Whether the key numbers of a table never fall (II.22).
