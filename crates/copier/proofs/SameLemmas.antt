@@ -2,11 +2,8 @@
 use Rattle.std.proofs.Common.{◌≡◌, ℕ, Bool, true, false, Option, Some, None, Vec, Global, List, [], ◌∷◌, map, drop, refl, ap, sym, ◌∙◌, subst}
 use Rattle.std.specs.Bool.{Decides}
 use Rattle.std.specs.declared.boxed.Box.{Box}
-use Rattle.std.specs.Prelude.{ℤ, nat_eq}
-use Rattle.std.specs.Ordering.{int_eq}
-use Rattle.std.specs.Cmp.Lexicographic.{pointwise}
+use Rattle.std.specs.Cmp.Lexicographic.{pointwise_decides}
 use Rattle.std.proofs.lemmas.Bool.Decides.{Decides-and, Decides-like, Decides-eqb, Decides-int_eq}
-use Rattle.std.proofs.lemmas.Slice.Eq.{slice_eq-Decides}
 use Rattle.std.specs.contracts.prelude.BoolPartialEq.TheImpl as bools
 use denote.Enum.Bare.{same_true, true_same}
 use Rattle.schema.specs.declared.table.TableId.{TableId}
@@ -43,7 +40,7 @@ denied never = (λ h. absurd cc, λ p. absurd (never p))
 
 -- ---- what is compared in place
 
-pub bool_decides : (a b : Bool) → Decides (bools.eq-value.it a b) (a ≡ b)
+bool_decides : (a b : Bool) → Decides (bools.eq-value.it a b) (a ≡ b)
 bool_decides true true = (λ h. refl, λ e. refl)
 bool_decides false false = (λ h. refl, λ e. refl)
 bool_decides true false = denied (λ e. absurd cc)
@@ -52,60 +49,47 @@ bool_decides false true = denied (λ e. absurd cc)
 table_decides : (a b : TableId) → Decides (tables.eq-value.it a b) (a ≡ b)
 table_decides a b = (λ h. same_true table.the_type tt a b h, λ e. true_same table.the_type a b e)
 
-token_same : (a b : Token) → a.table ≡ b.table → a.row ≡ b.row → a ≡ b
-token_same a b h k =
-    let first : TableId → Token = λ t. record { table = t; row = a.row } in
-    let second : ℕ → Token = λ n. record { table = b.table; row = n } in
-    ap first h ∙ ap second k
-
-pub token_decides : (a b : Token) → Decides (tokens.eq-value.it a b) (a ≡ b)
+token_decides : (a b : Token) → Decides (tokens.eq-value.it a b) (a ≡ b)
 token_decides a b =
-    Decides-like _ (λ p. token_same a b p.0 p.1) (λ e. (ap (λ (t : Token). t.table) e, ap (λ (t : Token). t.row) e))
+    Decides-like _ (λ p i. record { table = p.0 i; row = p.1 i })
+    (λ e. (ap (λ (t : Token). t.table) e, ap (λ (t : Token). t.row) e))
     (Decides-and _ _ (table_decides a.table b.table) (Decides-eqb a.row b.row))
-
-modifier_same : (a b : Modifier) → a.required ≡ b.required → a.of ≡ b.of → a ≡ b
-modifier_same a b h k =
-    let first : Bool → Modifier = λ r. record { required = r; of = a.of } in
-    let second : Token → Modifier = λ t. record { required = b.required; of = t } in
-    ap first h ∙ ap second k
 
 pub modifier_decides : (a b : Modifier) → Decides (modifiers.eq-value.it a b) (a ≡ b)
 modifier_decides a b =
-    Decides-like _ (λ p. modifier_same a b p.0 p.1) (λ e. (ap (λ (m : Modifier). m.required) e, ap (λ (m : Modifier). m.of) e))
+    Decides-like _ (λ p i. record { required = p.0 i; of = p.1 i })
+    (λ e. (ap (λ (m : Modifier). m.required) e, ap (λ (m : Modifier). m.of) e))
     (Decides-and _ _ (bool_decides a.required b.required) (token_decides a.of b.of))
 
-mod_one : (m n : Modifier) → Mod m ≡ Mod n → m ≡ n
-mod_one m n e = cc e
-
 pub prefix_decides : (a b : Prefix) → Decides (prefixes.eq-value.it a b) (a ≡ b)
-prefix_decides (Mod m) (Mod n) = Decides-like _ (λ e. ap Mod e) (mod_one m n) (modifier_decides m n)
+prefix_decides (Mod m) (Mod n) = Decides-like _ (λ e. ap Mod e) (λ e. cc e) (modifier_decides m n)
 prefix_decides (Mod m) Pinned = denied (λ e. absurd cc)
 prefix_decides Pinned (Mod n) = denied (λ e. absurd cc)
 prefix_decides Pinned Pinned = (λ h. refl, λ e. refl)
 
-pub shape_same : (s t : sig.ArrayShape) → s.rank ≡ t.rank → s.sizes ≡ t.sizes → s.low ≡ t.low → s ≡ t
-shape_same s t h k l =
-    let first : ℕ → sig.ArrayShape = λ n. record { rank = n; sizes = s.sizes; low = s.low } in
-    let second : List ℕ → sig.ArrayShape = λ ns. record { rank = t.rank; sizes = ns; low = s.low } in
-    let third : List ℤ → sig.ArrayShape = λ zs. record { rank = t.rank; sizes = t.sizes; low = zs } in
-    ap first h ∙ ap second k ∙ ap third l
-
 pub shape_decides : (s t : Shape) → Decides (shapes.eq-value.it s t) (shape_of s ≡ shape_of t)
 shape_decides s t =
-    let sizes : Decides (pointwise nat_eq s.sizes.items t.sizes.items) (s.sizes.items ≡ t.sizes.items) =
-    slice_eq-Decides Decides-eqb s.sizes.items t.sizes.items _ refl in
-    let low : Decides (pointwise int_eq s.low.items t.low.items) (s.low.items ≡ t.low.items) = slice_eq-Decides Decides-int_eq s.low.items t.low.items _ refl in
-    Decides-like _ (λ p. shape_same (shape_of s) (shape_of t) p.0 p.1.0 p.1.1)
-    (λ e. (ap (λ (a : sig.ArrayShape). a.rank) e, (ap (λ (a : sig.ArrayShape). a.sizes) e, ap (λ (a : sig.ArrayShape). a.low) e)))
-    (Decides-and _ _ (Decides-eqb s.rank t.rank) (Decides-and _ _ sizes low))
+    Decides-like _ (λ p i. record { rank = p.0 i; sizes = p.1.0 i; low = p.1.1 i })
+    (λ e. (
+      ap (λ (a : sig.ArrayShape). a.rank) e,
+      (
+        ap (λ (a : sig.ArrayShape). a.sizes) e,
+        ap (λ (a : sig.ArrayShape). a.low) e,
+      ),
+    ))
+    (Decides-and _ _ (Decides-eqb s.rank t.rank)
+    (Decides-and _ _ (pointwise_decides Decides-eqb s.sizes.items t.sizes.items)
+    (pointwise_decides Decides-int_eq s.low.items t.low.items)))
 
 -- ---- a type of another form
 
 -- the type has not the form that shows that syntax
 abbrev Never : sig.Core → cores.Core → Type 0
 Never (sig.simple e) c = (x : Element) → c ≡ cores.Simple x → ⊥
-Never (sig.void_pointer ms) c = (x : Vec Modifier Global) (y : Option (Box cores.Core Global)) → c ≡ cores.Pointer x y → ⊥
-Never (sig.pointer ms t) c = (x : Vec Modifier Global) (y : Option (Box cores.Core Global)) → c ≡ cores.Pointer x y → ⊥
+Never (sig.void_pointer ms) c =
+    (x : Vec Modifier Global) (y : Option (Box cores.Core Global)) → c ≡ cores.Pointer x y → ⊥
+Never (sig.pointer ms t) c =
+    (x : Vec Modifier Global) (y : Option (Box cores.Core Global)) → c ≡ cores.Pointer x y → ⊥
 Never (sig.vector t) c = (x : Box TypeSig Global) → c ≡ cores.Vector x → ⊥
 Never (sig.array t s) c = (x : Box TypeSig Global) (y : Shape) → c ≡ cores.Array x y → ⊥
 Never (sig.class t) c = (x : Token) → c ≡ cores.Class x → ⊥
@@ -120,22 +104,27 @@ module _ {c made : cores.Core} {v : sig.Core} (is : c ≡ made) (seen : core_of 
   has_form : (Never v made → ⊥) → Never (core_of c) c → ⊥
   has_form made_so never = made_so (subst (λ d. Never v d) is (subst (λ w. Never w c) (ap core_of is ∙ seen) never))
 
-form_of : (l : Core-F cores.Core Ret kinds.SlotKind MethodSig Slot TypeSig) → Never (core_of (roll-Core l)) (roll-Core l) → ⊥
+form_of : (l : Core-F cores.Core Ret kinds.SlotKind MethodSig Slot TypeSig)
+    → Never (core_of (roll-Core l)) (roll-Core l) → ⊥
 form_of (layers.Simple e) = has_form (rolls-Simple e) (view_simple e) (λ never. never e refl)
-form_of (layers.Pointer mods None) = has_form (rolls-Pointer mods None) (view_void_pointer mods) (λ never. never mods None refl)
-form_of (layers.Pointer mods (Some to)) = has_form (rolls-Pointer mods (Some to)) (view_pointer mods to) (λ never. never mods (Some to) refl)
+form_of (layers.Pointer mods None) =
+    has_form (rolls-Pointer mods None) (view_void_pointer mods) (λ never. never mods None refl)
+form_of (layers.Pointer mods (Some to)) =
+    has_form (rolls-Pointer mods (Some to)) (view_pointer mods to) (λ never. never mods (Some to) refl)
 form_of (layers.Vector of) = has_form (rolls-Vector of) (view_vector of) (λ never. never of refl)
 form_of (layers.Array of shape) = has_form (rolls-Array of shape) (view_array of shape) (λ never. never of shape refl)
 form_of (layers.Class t) = has_form (rolls-Class t) (view_class t) (λ never. never t refl)
 form_of (layers.Value t) = has_form (rolls-Value t) (view_value t) (λ never. never t refl)
 form_of (layers.Var n) = has_form (rolls-Var n) (view_var n) (λ never. never n refl)
 form_of (layers.MVar n) = has_form (rolls-MVar n) (view_mvar n) (λ never. never n refl)
-form_of (layers.Instance v t args) = has_form (rolls-Instance v t args) (view_instance v t args) (λ never. never v t args refl)
+form_of (layers.Instance v t args) =
+    has_form (rolls-Instance v t args) (view_instance v t args) (λ never. never v t args refl)
 form_of (layers.Function m) = has_form (rolls-Function m) (view_function m) (λ never. never m refl)
 
 pub of_another_form : (c : cores.Core) (v : sig.Core) → Never v c → Decides false (v ≡ core_of c)
 of_another_form c v never =
-    let no : Never (core_of c) c → ⊥ = subst (λ d. Never (core_of d) d → ⊥) (roll-out-Core c) (form_of (out-Core c)) in
+    let no : Never (core_of c) c → ⊥ =
+    subst (λ d. Never (core_of d) d → ⊥) (roll-out-Core c) (form_of (out-Core c)) in
     denied (λ e. no (subst (λ w. Never w c) e never))
 
 pub shown_as : {A : Type 0} {u v w : A} → u ≡ v → Decides false (v ≡ w) → Decides false (u ≡ w)

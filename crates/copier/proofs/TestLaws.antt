@@ -13,11 +13,14 @@ tree_decides : (g h : Gv) → Decides (is_same_tree g h) (g ≡ h)
 tree_decides gnil gnil = (λ _. refl, λ _. refl)
 tree_decides (gnum m) (gnum n) = Decides-like _ (λ e. ap gnum e) (λ e. cc e) (Decides-eqb m n)
 tree_decides (gcons a b) (gcons c d) =
-    Decides-like _ (λ p i. gcons (p.0 i) (p.1 i)) (λ e. (cc e, cc e)) (Decides-and _ _ (tree_decides a c) (tree_decides b d))
+    Decides-like _ (λ p i. gcons (p.0 i) (p.1 i)) (λ e. (cc e, cc e))
+    (Decides-and _ _ (tree_decides a c) (tree_decides b d))
 tree_decides _ _ = denied (λ e. absurd (cc e))
 
 pub body_decides : (a b : Body) → Decides (is_same_body a b) (a ≡ b)
-body_decides a b = Decides-like _ (body_code.inj a b) (λ e. ap body_code.code e) (tree_decides (body_code.code a) (body_code.code b))
+body_decides a b =
+    Decides-like _ (body_code.inj a b) (λ e. ap body_code.code e)
+    (tree_decides (body_code.code a) (body_code.code b))
 
 -- so it is an equivalence
 pub same_bodies_equiv : IsEquivalence is_same_body

@@ -1,4 +1,5 @@
--- Whether two signatures are the same (ECMA-335 II.23.2), as a test: whether their codes are, since no two signatures have one.
+-- Whether two signatures are the same (ECMA-335 II.23.2), as a test: whether the trees are that they are stored as.
+-- No two signatures have one tree, so this is equality.
 use Rattle.std.specs.Prelude.{◌&&◌, Bool, true, false, nat_eq}
 use base.Stored.{Gv, gnil, gnum, gcons}
 use Rattle.signature_values.specs.Syntax.{Body}
