@@ -1,9 +1,11 @@
 pub mod Filled
+pub mod NoHelp
 pub mod ValuesGiven
+pub mod TaskFiles
 pub mod Readings
 pub mod Outcomes
 pub mod Heads
-pub mod HexNumbers
+pub mod NumbersRead
 pub mod Tokens
 pub mod TypeTexts
 pub mod Signatures

@@ -7,8 +7,8 @@ use Rattle.schema.specs.declared.token.Token.{Token}
 use Rattle.schema.specs.Tokens.{IsToken}
 use Rattle.opening.specs.Views.{row_count, user_of}
 use Rattle.cli.specs.declared.failure.Failure.{Failure}
-use Rattle.cli.specs.declared.failure.Failure.TheVariants.{Fault, NoSuchRow, NoToken, CannotRead, CannotWriteOutput, OutOfMemory}
-use Rattle.cli.specs.declared.task.Task.TheVariants as task
+use Rattle.cli.specs.declared.failure.Failure.TheVariants.{Fault, NoSuchRow, NoToken, NoCode, CannotRead, CannotWriteOutput, OutOfMemory}
+use Rattle.cli.specs.declared.reports.Report.TheVariants as report
 use Rattle.cli.specs.Checked.{IsOpened}
 use Rattle.cli.specs.Status.{IsOutput}
 use Rattle.cli.specs.Tasks.{HasString, HasTokenRow, IsMet, IsNamed, TellsNone, TellsNoString, TellsUnnamed}
@@ -18,6 +18,7 @@ module _ (root : List ℕ) (number : ℕ) where
   string_told (Fault found) is told = told
   string_told NoSuchRow is told = λ named. elim named [ inl at ↦ told at.1 | inr at ↦ at.0 is ]
   string_told (NoToken word) is told = told
+  string_told (NoCode word) is told = told
   string_told (CannotRead file) is told = told
   string_told CannotWriteOutput is told = told
   string_told OutOfMemory is told = told
@@ -26,6 +27,7 @@ module _ (root : List ℕ) (number : ℕ) where
   output_told (Fault found) told = told
   output_told NoSuchRow told = absurd told
   output_told (NoToken word) told = told
+  output_told (NoCode word) told = told
   output_told (CannotRead file) told = told
   output_told CannotWriteOutput told = told
   output_told OutOfMemory told = told
@@ -54,12 +56,13 @@ module _ (root : List ℕ) (number : ℕ) where
   unnamed_in bare bytes opened (Fault found) told = absurd told
   unnamed_in bare bytes opened NoSuchRow told = (root, opened, told)
   unnamed_in bare bytes opened (NoToken word) told = told
+  unnamed_in bare bytes opened (NoCode word) told = told
   unnamed_in bare bytes opened (CannotRead file) told = told
   unnamed_in bare bytes opened CannotWriteOutput told = told
   unnamed_in bare bytes opened OutOfMemory told = told
 
   pub named_met : (bare : Bool) (bytes : List ℕ) (result : Result (Unit {0}) Failure) → IsOpened bare bytes root → OnOk result (IsNamed root number)
-      → OnOk result (IsMet (task.Token number) bare bytes)
+      → OnOk result (IsMet (report.Token number) bare bytes)
   named_met bare bytes (Ok done) opened named = (root, opened, named)
   named_met bare bytes (Err failure) opened named = tt
 

@@ -1,11 +1,11 @@
 -- What the words of a command line ask for, by what `clap` gives for them.
-use Rattle.std.specs.Prelude.{◌≡◌, ◌↔◌, IsTrue, IsSome, Bool, List, Option, Some, None, codes, if◌then◌else◌, option_map}
+use Rattle.std.specs.Prelude.{◌≡◌, ◌≢◌, ◌↔◌, IsTrue, IsSome, Bool, List, Option, Some, None, codes, if◌then◌else◌, option_map}
 use Rattle.std.specs.Str.{bytes_eq}
 use Rattle.clap.specs.Words.{Row, Text, first_of, one_of, subcommand_of}
 use Rattle.cli.specs.CommandLine.{clim}
 use Rattle.cli.specs.declared.asked.Ask.{Ask}
 use Rattle.cli.specs.declared.asked.Subcommand.{Subcommand}
-use Rattle.cli.specs.declared.asked.Subcommand.TheVariants.{Root, Check, Show, Types, Token}
+use Rattle.cli.specs.declared.asked.Subcommand.TheVariants.{Root, Check, Show, Types, Token, Explain}
 
 -- the word of a subcommand
 abbrev pub name_of : Subcommand → Text
@@ -14,6 +14,7 @@ name_of Check = codes "check"
 name_of Show = codes "show"
 name_of Types = codes "types"
 name_of Token = codes "token"
+name_of Explain = codes "explain"
 
 -- the subcommand that a word names
 abbrev pub subcommand_named : Text → Option Subcommand
@@ -23,11 +24,8 @@ subcommand_named word =
     else if bytes_eq word (name_of Show) then Some Show
     else if bytes_eq word (name_of Types) then Some Types
     else if bytes_eq word (name_of Token) then Some Token
+    else if bytes_eq word (name_of Explain) then Some Explain
     else None
-
--- whether a subcommand has a second value, by its word
-abbrev pub has_second : Text → Bool
-has_second word = bytes_eq word (name_of Token)
 
 -- the words name the subcommand, and give it the flag and the values
 pub record Gives (words : List Text) (ask : Ask) : Type 0 where
@@ -37,6 +35,11 @@ pub record Gives (words : List Text) (ask : Ask) : Type 0 where
   pub bare : IsTrue ask.bare ↔ (one_of (codes "bare") rows ≡ Some (codes "true"))
   pub file : option_map (λ word. word.now) ask.file ≡ first_of (codes "FILE") rows
   pub second : option_map (λ word. word.now) ask.second ≡ first_of (codes "second") rows
+  pub code : option_map (λ word. word.now) ask.code ≡ first_of (codes "CODE") rows
+
+-- the file is there where the subcommand reads one
+abbrev pub HasFile : Ask → Type 0
+HasFile ask = ask.subcommand ≢ Explain → IsSome ask.file
 
 -- the second value is there where the subcommand has one
 abbrev pub HasSecond : Ask → Type 0

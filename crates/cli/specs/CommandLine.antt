@@ -17,6 +17,10 @@ second = record (new_rule (codes "second")) { action = Some Set; value_names = 1
 abbrev pub bare : Rule
 bare = record (new_rule (codes "bare")) { long = Some (codes "bare"); action = Some SetTrue }
 
+-- `CODE`, one word, which may be there
+abbrev pub code : Rule
+code = record (new_rule (codes "CODE")) { action = Some Set }
+
 -- a subcommand that reads a file: `NAME [--bare] FILE`
 abbrev pub reader : Text → App
 reader name = with_rule (with_rule (new_app name) file) bare
@@ -41,13 +45,16 @@ types = reader (codes "types")
 abbrev pub token : App
 token = with_rule (reader (codes "token")) second
 
--- `clim SUBCOMMAND ..`, where the subcommand must be there and `help` is none
-abbrev pub without_subcommands : App
-without_subcommands = on_top (λ s. record s {
-  has_version = true;
-  disable_help_subcommand = true;
-  subcommand_required = true;
-}) (new_app (codes "clim"))
+-- `explain [CODE]`
+abbrev pub explain : App
+explain = with_rule (new_app (codes "explain")) code
 
+-- `clim SUBCOMMAND ..`, where the subcommand must be there
+abbrev pub without_subcommands : App
+without_subcommands = on_top (λ s. record s { has_version = true; subcommand_required = true }) (new_app (codes "clim"))
+
+-- the subcommands that read a file, and `explain`; `clap` adds `help`
 abbrev pub clim : App
-clim = with_subcommand (with_subcommand (with_subcommand (with_subcommand (with_subcommand without_subcommands root.top) check.top) show.top) types.top) token.top
+clim =
+    with_subcommand (with_subcommand (with_subcommand (with_subcommand (with_subcommand (with_subcommand
+    without_subcommands root.top) check.top) show.top) types.top) token.top) explain.top

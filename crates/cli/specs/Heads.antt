@@ -2,18 +2,15 @@
 -- headers of its metadata root.
 use Rattle.std.specs.Prelude.{◌≡◌, ℕ, Bool, true, false, List, ◌++◌, Option, Some, None}
 use Rattle.packed.specs.declared.fault.Fault.{Fault}
-use Rattle.packed.specs.Demand.{Demand, raised}
+use Rattle.packed.specs.Demand.{Demand}
 use Rattle.pe.specs.Image.{Image, IsImage}
-use Rattle.pe.specs.Headers.{image_of}
-use Rattle.pe.specs.Demands.{demands_of_image}
 use Rattle.cli_header.specs.declared.header.CliHeader.{CliHeader}
 use Rattle.cli_header.specs.Header.{IsCliHeader}
-use Rattle.cli_header.specs.Said.{header_of}
-use Rattle.cli_header.specs.Demands.{demands_of_cli_header}
 use Rattle.root.specs.Root.{IsRoot}
 use Rattle.root.specs.Streams.{Directory}
 use Rattle.root.specs.Demands.{demands_of_root}
 use Rattle.metadata.specs.Streams.{root_in}
+use Rattle.opening.specs.Heads.{demands_of_heads as demands_of_file_heads}
 
 -- the bytes are a metadata root with this directory, where they are bare, and else an image with this CLI header, whose
 -- root has this directory
@@ -29,7 +26,4 @@ HasHeads bare bytes = (header : Option CliHeader) × (root : Directory) × AreHe
 -- what is demanded of them, in order: of a file its image, its CLI header and its root
 unfoldable pub demands_of_heads : Bool → List ℕ → List (Demand Fault)
 demands_of_heads true bytes = demands_of_root bytes
-demands_of_heads false bytes =
-    demands_of_image bytes
-    ++ (demands_of_cli_header (image_of bytes)
-    ++ raised (header_of (image_of bytes)).root.start (demands_of_root (root_in bytes (header_of (image_of bytes)))))
+demands_of_heads false bytes = demands_of_file_heads bytes

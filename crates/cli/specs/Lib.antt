@@ -2,6 +2,6 @@ pub mod CommandLine
 pub mod Asked
 pub mod Checked
 pub mod Heads
-pub mod HexNumber
+pub mod Numbers
 pub mod Status
 pub mod Tasks

@@ -1,6 +1,8 @@
--- What is asked of a file, what it means that it was done, and what is told where it was not.
-use Rattle.std.specs.Prelude.{◌≡◌, ◌≢◌, ℕ, ◌/◌, ◌%◌, ◌^◌, ◌≤◌, ◌⊎◌, Bool, List, Result, Ok, IfSome, MatchResult}
+-- What is to be done, what it means that something was printed of a file, and what is told where it was not.
+use Rattle.std.specs.Prelude.{◌≡◌, ◌≢◌, ℕ, ◌/◌, ◌%◌, ◌^◌, ◌≤◌, ◌⊎◌, Bool, List, Option, Some, None, Result, Ok, IfSome, MatchOption, MatchResult}
+use Rattle.std.specs.Borrow.{Bor}
 use Rattle.std.specs.Str.Parse.{digits_value}
+use Rattle.packed.specs.declared.code.FaultCode.{FaultCode}
 use Rattle.packed.specs.declared.fault.Fault.{Fault}
 use Rattle.packed.specs.Demand.{Demand, FirstToFail}
 use Rattle.heaps.specs.Entries.{IsUserString, UserText}
@@ -15,22 +17,35 @@ use Rattle.cli.specs.declared.failure.Failure.{Failure}
 use Rattle.cli.specs.declared.failure.Failure.TheVariants as failed
 use Rattle.cli.specs.declared.task.Task.{Task}
 use Rattle.cli.specs.declared.task.Task.TheVariants as task
+use Rattle.cli.specs.declared.reports.Report.{Report}
+use Rattle.cli.specs.declared.reports.Report.TheVariants as report
 use Rattle.cli.specs.Checked.{IsWhole, IsOpened, demands_of}
 use Rattle.cli.specs.Heads.{HasHeads, demands_of_heads}
-use Rattle.cli.specs.HexNumber.{IsHexNumber}
+use Rattle.cli.specs.Numbers.{IsHexNumber, NamesCode}
 use Rattle.cli.specs.Status.{IsOutput}
 
 -- a word is the token, where it is a number, and else it is refused
 abbrev pub IsTokenTask : List ℕ → Result Task Failure → Type 0
-IsTokenTask hex result = MatchResult result (λ made. IsHexNumber hex × (made ≡ task.Token (digits_value 16 hex))) (λ _. ¬ IsHexNumber hex)
+IsTokenTask hex result = MatchResult result (λ made. IsHexNumber hex × (made ≡ task.Print (report.Token (digits_value 16 hex)))) (λ _. ¬ IsHexNumber hex)
+
+-- a word is the number of a fault to explain, where it is one, and else it is refused
+abbrev pub IsCodeTask : List ℕ → Result Task Failure → Type 0
+IsCodeTask given result =
+    MatchResult result (λ made. (code : FaultCode) × NamesCode given code × (made ≡ task.Explain (Some code)))
+    (λ _. (code : FaultCode) → ¬ NamesCode given code)
+
+-- a fault is explained, or all are listed where there is no word
+abbrev pub IsExplainTask : Option (Bor (List ℕ)) → Result Task Failure → Type 0
+IsExplainTask code result = MatchOption code (result ≡ Ok (task.Explain None)) (λ given. IsCodeTask given.now result)
 
 -- what a subcommand asks for
 abbrev pub IsTask : Subcommand → Ask → Result Task Failure → Type 0
-IsTask word.Root ask result = result ≡ Ok task.Root
-IsTask word.Check ask result = result ≡ Ok task.Check
-IsTask word.Show ask result = result ≡ Ok task.Show
-IsTask word.Types ask result = result ≡ Ok task.Types
+IsTask word.Root ask result = result ≡ Ok (task.Print report.Root)
+IsTask word.Check ask result = result ≡ Ok (task.Print report.Check)
+IsTask word.Show ask result = result ≡ Ok (task.Print report.Show)
+IsTask word.Types ask result = result ≡ Ok (task.Print report.Types)
 IsTask word.Token ask result = IfSome ask.second (λ hex. IsTokenTask hex.now result)
+IsTask word.Explain ask result = IsExplainTask ask.code result
 
 -- a user string stands at an offset of a root's user bytes
 abbrev pub HasString : List ℕ → ℕ → Type 0
@@ -46,16 +61,16 @@ IsNamed root number =
     ((number / 2 ^ 24 ≡ 0x70) × HasString root (number % 2 ^ 24))
     ⊎ ((number / 2 ^ 24 ≢ 0x70) × HasTokenRow root number)
 
--- what the bytes are where a task is done
-abbrev pub IsMet : Task → Bool → List ℕ → Type 0
-IsMet task.Root bare bytes = HasHeads bare bytes
-IsMet (task.Token number) bare bytes = (root : List ℕ) × IsOpened bare bytes root × IsNamed root number
+-- what the bytes are where a report of them was printed
+abbrev pub IsMet : Report → Bool → List ℕ → Type 0
+IsMet report.Root bare bytes = HasHeads bare bytes
+IsMet (report.Token number) bare bytes = (root : List ℕ) × IsOpened bare bytes root × IsNamed root number
 IsMet _ bare bytes = IsWhole bare bytes
 
--- what a task demands of the bytes, in order
-abbrev pub demands_of_task : Task → Bool → List ℕ → List (Demand Fault)
-demands_of_task task.Root bare bytes = demands_of_heads bare bytes
-demands_of_task _ bare bytes = demands_of bare bytes
+-- what a report demands of the bytes, in order
+abbrev pub demands_of_report : Report → Bool → List ℕ → List (Demand Fault)
+demands_of_report report.Root bare bytes = demands_of_heads bare bytes
+demands_of_report _ bare bytes = demands_of bare bytes
 
 -- a failure is the fault of the first demand that fails, or the output or memory was refused
 abbrev pub TellsFault : List (Demand Fault) → Failure → Type 0
@@ -77,7 +92,7 @@ abbrev pub TellsNone : Bool → List ℕ → ℕ → Failure → Type 0
 TellsNone bare bytes number failed.NoSuchRow = (root : List ℕ) × IsOpened bare bytes root × (¬ IsNamed root number)
 TellsNone bare bytes number failure = TellsFault (demands_of bare bytes) failure
 
--- what is told where a task is not done
-abbrev pub Tells : Task → Bool → List ℕ → Failure → Type 0
-Tells (task.Token number) bare bytes failure = TellsNone bare bytes number failure
-Tells task bare bytes failure = TellsFault (demands_of_task task bare bytes) failure
+-- what is told where a report is not printed
+abbrev pub Tells : Report → Bool → List ℕ → Failure → Type 0
+Tells (report.Token number) bare bytes failure = TellsNone bare bytes number failure
+Tells printed bare bytes failure = TellsFault (demands_of_report printed bare bytes) failure

@@ -1,11 +1,13 @@
 //! The command line, and what its words ask for.
-ghost use Rattle.std.specs.Prelude.{◌≡◌, IfOk, IsSome, map};
+ghost use Rattle.std.specs.Prelude.{◌≡◌, IfOk, map};
 ghost use Rattle.clap.specs.Words.{FailsBy, app_of, fault_of};
-ghost use Rattle.cli.specs.Asked.{Gives, HasSecond};
+ghost use Rattle.cli.specs.Asked.{Gives, HasFile, HasSecond};
 ghost use Rattle.cli.specs.CommandLine.{clim};
 
 use crate::asked::{Ask, Subcommand};
-use crate::subcommands::{check_file, print_root, print_token, print_types, show_tables};
+use crate::subcommands::{
+    check_file, explain_fault, print_root, print_token, print_types, show_tables,
+};
 use clap::{Command, Error};
 use std::alloc::{AllocError, Global};
 
@@ -18,7 +20,7 @@ use std::alloc::{AllocError, Global};
 /// Its `Display` is the text for the user.
 pub fn ask<'a>(alloc: Global, words: &'a [&'a str]) -> Result<Ask<'a>, Error>
     ensures given { IfOk result (Gives (map (λ word. word.now) words.entry.now)) }
-    ensures file { IfOk result (λ ask. IsSome ask.file) }
+    ensures file { IfOk result HasFile }
     ensures second { IfOk result HasSecond }
     ensures refused { FailsBy (fault_of clim (map (λ word. word.now) words.entry.now)) result }
 {
@@ -29,6 +31,7 @@ pub fn ask<'a>(alloc: Global, words: &'a [&'a str]) -> Result<Ask<'a>, Error>
         bare: given.get_one::<bool>("bare") == Some(true),
         file: given.get_str("FILE"),
         second: given.get_str("second"),
+        code: given.get_str("CODE"),
     })
 }
 
@@ -40,17 +43,17 @@ fn command<'a>(alloc: Global) -> Result<Command<'a>, AllocError>
         .about("Reads and checks the metadata of .NET assemblies (ECMA-335, Partition II)")
         .version("0.1.0")
         .after_help(STATUSES)
-        .disable_help_subcommand(true)
         .subcommand_required(true)
         .subcommand(print_root::command(alloc)?)?
         .subcommand(check_file::command(alloc)?)?
         .subcommand(show_tables::command(alloc)?)?
         .subcommand(print_types::command(alloc)?)?
-        .subcommand(print_token::command(alloc)?)
+        .subcommand(print_token::command(alloc)?)?
+        .subcommand(explain_fault::command(alloc)?)
 }
 
 const STATUSES: &str = "\
-'clim <COMMAND> --help' has an example of each command.
+'clim <COMMAND> --help' has an example of each command, and 'clim explain CODE' tells what a fault means.
 
 Exit status:
   0  done

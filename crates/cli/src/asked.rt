@@ -8,13 +8,15 @@ pub struct Ask<'a> {
     pub subcommand: Subcommand,
     /// Whether the file is a metadata root, and no PE file.
     pub bare: bool,
-    /// The file to read, as its word has it.
+    /// The file to read, as its word has it. `explain` has none.
     pub file: Option<&'a str>,
     /// The value behind the file, as its word has it: the token of `token`.
     pub second: Option<&'a str>,
+    /// The number of the fault that `explain` is asked about, as its word has it.
+    pub code: Option<&'a str>,
 }
 
-/// What the program can do with a file, each by a word of its own.
+/// What the program can do, each by a word of its own.
 #[derive(Clone, Copy, Debug, PartialEq, Eq)]
 pub enum Subcommand {
     /// `root`: print the metadata root's version and its directory of streams.
@@ -27,6 +29,8 @@ pub enum Subcommand {
     Types,
     /// `token`: print the row or the user string that a token names.
     Token,
+    /// `explain`: tell what a fault means, or list all.
+    Explain,
 }
 
 impl Subcommand {
@@ -40,6 +44,7 @@ impl Subcommand {
             "show" => Some(Subcommand::Show),
             "types" => Some(Subcommand::Types),
             "token" => Some(Subcommand::Token),
+            "explain" => Some(Subcommand::Explain),
             _ => None,
         }
     }

@@ -15,6 +15,8 @@ pub(crate) enum Failure<'a> {
     NoSuchRow,
     /// The word that is to be a token is none.
     NoToken(&'a str),
+    /// The word that is to be the number of a fault is none.
+    NoCode(&'a str),
     /// The file, by the word that names it, could not be opened or read to its end.
     CannotRead(&'a str),
     CannotWriteOutput,
@@ -49,7 +51,7 @@ impl<'a> Failure<'a> {
     {
         match self {
             Failure::Fault(_) | Failure::NoSuchRow => 1,
-            Failure::NoToken(_) => 2,
+            Failure::NoToken(_) | Failure::NoCode(_) => 2,
             Failure::CannotRead(_) | Failure::CannotWriteOutput | Failure::OutOfMemory => 3,
         }
     }
@@ -86,6 +88,12 @@ impl fmt::Display for Failure<'_> {
                 write!(
                     f,
                     "error: HEX is one to eight hexadecimal digits, not '{word}'"
+                )
+            }
+            Failure::NoCode(word) => {
+                write!(
+                    f,
+                    "error: CODE is the number of a fault, which 'clim explain' lists, not '{word}'"
                 )
             }
             Failure::CannotRead(file) => write!(f, "error: cannot read {file}"),

@@ -14,10 +14,11 @@
 mod arguments;
 mod asked;
 mod failure;
-mod hex_number;
 mod input;
+mod numbers;
 mod opened;
 mod program;
+mod reports;
 mod row_lines;
 mod shown;
 mod subcommands;

@@ -1,12 +1,14 @@
-ghost use Rattle.std.specs.Prelude.{◌≡◌, IfErr, IfOk, IsSome};
-ghost use Rattle.cli.specs.Asked.{HasSecond};
+ghost use Rattle.std.specs.Prelude.{◌≡◌, IfErr, IfOk};
+ghost use Rattle.cli.specs.Asked.{HasFile, HasSecond};
 ghost use Rattle.cli.specs.Status.{status_of};
 
 use crate::arguments::ask;
 use crate::asked::Ask;
 use crate::failure::{Failure, printed};
 use crate::input::read_file;
-use crate::task;
+use crate::reports;
+use crate::subcommands::explain_fault;
+use crate::task::{Task, task_of};
 use clap::error::ErrorKind;
 use std::alloc::Global;
 use std::io;
@@ -77,12 +79,16 @@ fn run<'a, R: Files + AllocGlobal, W: Write>(
     ask: Ask<'a>,
     out: &mut W,
 ) -> Result<(), Failure<'a>>
-    requires file { IsSome ask.file }
+    requires file { HasFile ask }
     requires second { HasSecond ask }
 {
-    let task = task::task_of(ask)?;
-    let bytes = read_file(rt, ask.file.unwrap())?;
-    task::run(rt.alloc(), task, ask.bare, &bytes, out)
+    match task_of(ask)? {
+        Task::Print(report) => {
+            let bytes = read_file(rt, ask.file.unwrap())?;
+            reports::print(rt.alloc(), report, ask.bare, &bytes, out)
+        }
+        Task::Explain(code) => explain_fault::run(rt.alloc(), code, out),
+    }
 }
 
 /// Prints the help or the version.

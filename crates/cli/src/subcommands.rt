@@ -8,6 +8,7 @@ use clap::{Arg, ArgAction, Command};
 use std::alloc::{AllocError, Global};
 
 pub(crate) mod check_file;
+pub(crate) mod explain_fault;
 pub(crate) mod print_root;
 pub(crate) mod print_token;
 pub(crate) mod print_types;

@@ -1,24 +1,20 @@
-//! What is done with the bytes of a file.
-ghost use Rattle.std.specs.Prelude.{IfErr, OnOk};
+//! What is to be done, by the words.
 ghost use Rattle.cli.specs.Asked.{HasSecond};
-ghost use Rattle.cli.specs.Tasks.{IsTask, IsMet, Tells};
+ghost use Rattle.cli.specs.Tasks.{IsTask, IsExplainTask};
 
 use crate::asked::{Ask, Subcommand};
 use crate::failure::Failure;
-use crate::hex_number::number_of;
-use crate::subcommands::{check_file, print_root, print_token, print_types, show_tables};
-use std::alloc::Global;
-use std::io::Write;
+use crate::numbers::{code_of, token_of};
+use crate::reports::Report;
+use packed::FaultCode;
 
-/// What is to be done with the bytes of a file.
+/// What is to be done.
 #[derive(Clone, Copy, Debug, PartialEq, Eq)]
 pub(crate) enum Task {
-    Root,
-    Check,
-    Show,
-    Types,
-    /// The number is the token.
-    Token(u32),
+    /// Print something of a file.
+    Print(Report),
+    /// Explain a fault, or list all.
+    Explain(Option<FaultCode>),
 }
 
 /// What the words ask for, before the file is read.
@@ -27,35 +23,26 @@ pub(crate) fn task_of<'a>(ask: Ask<'a>) -> Result<Task, Failure<'a>>
     ensures { IsTask ask.entry.subcommand ask.entry result }
 {
     Ok(match ask.subcommand {
-        Subcommand::Root => Task::Root,
-        Subcommand::Check => Task::Check,
-        Subcommand::Show => Task::Show,
-        Subcommand::Types => Task::Types,
+        Subcommand::Root => Task::Print(Report::Root),
+        Subcommand::Check => Task::Print(Report::Check),
+        Subcommand::Show => Task::Print(Report::Show),
+        Subcommand::Types => Task::Print(Report::Types),
         Subcommand::Token => {
             let word = ask.second.unwrap();
-            Task::Token(number_of(word).ok_or(Failure::NoToken(word))?)
+            let number = token_of(word).ok_or(Failure::NoToken(word))?;
+            Task::Print(Report::Token(number))
         }
+        Subcommand::Explain => return explanation_of(ask.code),
     })
 }
 
-/// Does it, with the bytes of a metadata root where they are `bare`, and else of a file.
-pub(crate) fn run<W: Write>(
-    alloc: Global,
-    task: Task,
-    bare: bool,
-    bytes: &[u8],
-    out: &mut W,
-) -> Result<(), Failure<'static>>
-    // It is done only where the bytes meet what the task demands of them.
-    ensures met { OnOk result (IsMet task bare bytes.now) }
-    // Else what is told is the first demand that fails, or that a token names nothing.
-    ensures first { IfErr result (Tells task bare bytes.now) }
+/// What `explain` is to do: explain the fault whose number a word writes, or list all where there is no word.
+fn explanation_of<'a>(code: Option<&'a str>) -> Result<Task, Failure<'a>>
+    ensures { IsExplainTask code.entry result }
 {
-    match task {
-        Task::Root => print_root::run(alloc, bytes, bare, out),
-        Task::Check => check_file::run(alloc, bytes, bare, out),
-        Task::Show => show_tables::run(alloc, bytes, bare, out),
-        Task::Types => print_types::run(alloc, bytes, bare, out),
-        Task::Token(number) => print_token::run(alloc, bytes, bare, number, out),
-    }
+    let Some(word) = code else {
+        return Ok(Task::Explain(None));
+    };
+    let code = code_of(word).ok_or(Failure::NoCode(word))?;
+    Ok(Task::Explain(Some(code)))
 }

@@ -8,6 +8,8 @@ mod named;
 pub use named::file_named;
 
 #[cfg(test)]
+mod explained;
+#[cfg(test)]
 mod heads;
 #[cfg(test)]
 mod printed_rows;

@@ -16,7 +16,7 @@ const LINES_IN_HELP: &str = "\
 /// The file named lacks: a status of 2 shows that it was not looked for.
 #[test]
 fn tells_what_the_words_lack(rt: HostRuntime) -> Result<(), Fail> {
-    let refused: [(&[&str], &str); 20] = [
+    let refused: [(&[&str], &str); 22] = [
         (&[], "Usage: clim <COMMAND>"),
         (&["clim"], "Usage: clim <COMMAND>"),
         (&["clim", "lacks"], "unrecognized subcommand 'lacks'"),
@@ -37,7 +37,18 @@ fn tells_what_the_words_lack(rt: HostRuntime) -> Result<(), Fail> {
             &["clim", "token", "lacks", "1", "2"],
             "unexpected argument '2'",
         ),
-        (&["clim", "help"], "unrecognized subcommand 'help'"),
+        (
+            &["clim", "help", "lacks"],
+            "unrecognized subcommand 'lacks'",
+        ),
+        (
+            &["clim", "explain", "501", "502"],
+            "unexpected argument '502'",
+        ),
+        (
+            &["clim", "explain", "--bare"],
+            "unexpected argument '--bare'",
+        ),
         (
             &["clim", "--bare", "root", "lacks"],
             "unexpected argument '--bare'",
@@ -91,9 +102,12 @@ fn helps(rt: HostRuntime) -> Result<(), Fail> {
         "\n  show ",
         "\n  types ",
         "\n  token ",
+        "\n  explain ",
+        "\n  help ",
         "Exit status:",
     ];
     assert!(rt; prints(&rt, &["clim", "--help"], &texts)?);
+    assert!(rt; prints(&rt, &["clim", "help"], &texts)?);
     assert!(rt; prints(&rt, &["clim", "--version"], &["clim 0.1.0\n"])?);
     Ok(())
 }
@@ -126,10 +140,19 @@ fn helps_with_each_subcommand(rt: HostRuntime) -> Result<(), Fail> {
             "Usage: clim token [OPTIONS] <FILE> <HEX>",
             "\n  user\n",
         ),
+        (
+            "explain",
+            "Usage: clim explain [CODE]",
+            "\n  504 BadGuid: no GUID at an index into '#GUID'\n",
+        ),
     ];
     for (name, usage, example) in helped {
         let is_told = prints(&rt, &["clim", name, "--help"], &[usage, example])?;
         assert!(rt; is_told, "{name}");
+        let (status, out, err) = answer(&rt, &["clim", "help", name])?;
+        assert_eq!(rt; status, 0);
+        assert_eq!(rt; out, answer(&rt, &["clim", name, "--help"])?.1);
+        assert!(rt; err.is_empty());
     }
     assert!(rt; prints(&rt, &["clim", "root", "-h"], &["<FILE>  ", LINES_IN_HELP])?);
     Ok(())
@@ -142,6 +165,7 @@ fn asks(rt: HostRuntime) -> Result<(), Fail> {
         bare: true,
         file: Some("a.root"),
         second: None,
+        code: None,
     };
     assert_eq!(rt;
         ask(rt.alloc(), &["clim", "root", "a.root", "--bare"])?,
@@ -152,13 +176,29 @@ fn asks(rt: HostRuntime) -> Result<(), Fail> {
         bare: false,
         file: Some("a.dll"),
         second: None,
+        code: None,
     };
     assert_eq!(rt; ask(rt.alloc(), &["clim", "check", "a.dll"])?, want);
+    for (words, code) in [
+        (["clim", "explain"].as_slice(), None),
+        (&["clim", "explain", "501"], Some("501")),
+        (&["clim", "explain", "help"], Some("help")),
+    ] {
+        let want = Ask {
+            subcommand: Subcommand::Explain,
+            bare: false,
+            file: None,
+            second: None,
+            code,
+        };
+        assert_eq!(rt; ask(rt.alloc(), words)?, want);
+    }
     let want = Ask {
         subcommand: Subcommand::Token,
         bare: true,
         file: Some("a.root"),
         second: Some("6000001"),
+        code: None,
     };
     assert_eq!(rt;
         ask(
@@ -177,8 +217,9 @@ fn names_the_file(rt: HostRuntime) -> Result<(), Fail> {
         &["clim", "check", "a.root"],
         &["clim", "token", "--bare", "a.root", "6000001"],
     ] {
-        assert_eq!(rt; file_named(rt.alloc(), words)?, "a.root");
+        assert_eq!(rt; file_named(rt.alloc(), words)?, Some("a.root"));
     }
+    assert_eq!(rt; file_named(rt.alloc(), &["clim", "explain", "501"])?, None);
     assert!(rt; file_named(rt.alloc(), &["clim", "token", "a.root"]).is_err());
     Ok(())
 }

@@ -30,13 +30,16 @@ fn stands_full_devices(rt: HostRuntime) -> Result<(), Fail> {
     fs::write(&rt, "c.root", b"".as_slice())?;
     for late in [false, true] {
         for words in [
-            ["clim", "root", "--bare", "b.root"],
-            ["clim", "root", "--bare", "--help"],
-            ["clim", "check", "--bare", "b.root"],
-            ["clim", "show", "--bare", "b.root"],
+            ["clim", "root", "--bare", "b.root"].as_slice(),
+            &["clim", "root", "--bare", "--help"],
+            &["clim", "check", "--bare", "b.root"],
+            &["clim", "show", "--bare", "b.root"],
+            &["clim", "explain"],
+            &["clim", "explain", "501"],
+            &["clim", "help"],
         ] {
             let mut err = Vec::new(rt.alloc());
-            let status = go(&rt, &words, &mut Full { late }, &mut err);
+            let status = go(&rt, words, &mut Full { late }, &mut err);
             assert_eq!(rt; status, 3);
             assert_eq!(rt; err.as_slice(), b"error: cannot write output\n".as_slice());
         }

@@ -22,15 +22,23 @@ pub(crate) fn command<'a>(alloc: Global) -> Result<Command<'a>, AllocError>
     reader(
         alloc,
         "check",
-        "Tells whether a file keeps the rules of II.22 to II.25 that docs/DECISIONS.md lists",
+        "Tells whether a file keeps the rules of ECMA-335, II.22 to II.25, that docs/FAULTS.md lists",
         OUTPUT,
     )
 }
 
 const OUTPUT: &str = "\
 The line is 'ok' where FILE breaks none of these rules. Else nothing is printed but the first fault, to
-standard error: LAYER is 1 for the PE headers, 2 the CLI header, 3 the root, 4 the table stream, 5 a
-cell, 6 the order of rows, 7 a signature and 8 the entry point. OFFSET counts in FILE.
+standard error. OFFSET counts in FILE. LAYER is, with the sections whose rules are checked:
+  1  the headers of the PE file (II.25.2, II.25.3)
+  2  the CLI header (II.25.3.3)
+  3  the metadata root and its stream headers (II.24.2.1, II.24.2.2)
+  4  the table stream (II.24.2.6)
+  5  a cell, and the heaps (II.22, II.24.2.3 to II.24.2.6)
+  6  the order of rows, members and nested types (II.22)
+  7  a signature (II.23.2)
+  8  the entry point (II.25.3.3)
+'clim explain CODE' tells what a fault means, and docs/FAULTS.md has all of them.
 
 Examples:
   $ clim check one_module.dll

@@ -1,23 +1,21 @@
 //! `clim root`: the CLI header of a PE file, and the version and the directory of streams of its metadata root.
-ghost use Rattle.std.specs.Prelude.{◌≡◌, ◌≤◌, IfOk, IfErr, OnOk, false, length};
+ghost use Rattle.std.specs.Prelude.{◌≡◌, IfOk, IfErr, OnOk, false};
 ghost use Rattle.clap.specs.Words.{app_of};
 ghost use Rattle.clap.specs.declared.Command.TheViews.{out-Command as fields_of};
 ghost use Rattle.cli.specs.CommandLine as line;
 ghost use Rattle.cli.specs.Heads.{AreHeads, HasHeads, demands_of_heads};
 ghost use Rattle.cli.specs.Tasks.{TellsFault};
-ghost use Rattle.packed.specs.Demand.{FirstToFail, raised};
-ghost use Rattle.metadata.specs.Streams.{root_in};
-ghost use Rattle.root.specs.Demands.{demands_of_root};
-ghost use Rattle.root.specs.Root.{IsRoot};
+ghost use Rattle.packed.specs.Demand.{FirstToFail};
 
 use crate::failure::{Failure, printed};
 use crate::shown::Shown;
 use crate::subcommands::reader;
 use clap::Command;
-use cli_header::{CliHeader, read_cli};
+use cli_header::{CliHeader, headers_are_read};
+use opening::read_heads;
 use packed::Fault;
-use pe::read_pe;
-use root::{Root, read_root};
+use pe::images_are_read;
+use root::{Root, read_root, roots_are_read};
 use std::alloc::{AllocError, Global};
 use std::io;
 use std::io::{BufWriter, Write};
@@ -66,45 +64,23 @@ pub(crate) fn run<W: Write>(
     ensures found { OnOk result (HasHeads bare bytes.now) }
     ensures first { IfErr result (TellsFault (demands_of_heads bare bytes.now)) }
 {
-    let (header, root) = read_heads(bytes, bare)?;
+    let (header, root) = heads_of(bytes, bare)?;
     printed(print(alloc, header.as_ref(), &root, out))
 }
 
 /// The CLI header, which a bare root has not, and the metadata root.
-fn read_heads(bytes: &[u8], bare: bool) -> Result<(Option<CliHeader>, Root<'_>), Fault>
+fn heads_of(bytes: &[u8], bare: bool) -> Result<(Option<CliHeader>, Root<'_>), Fault>
     ensures found { IfOk result (λ heads. AreHeads bare bytes.now heads.0 heads.1) }
     ensures first { IfErr result (FirstToFail (demands_of_heads bare bytes.now)) }
 {
     if bare {
         return Ok((None, read_root(bytes)?));
     }
-    let header = read_cli(&read_pe(bytes)?)?;
-    let root = read_root_of(bytes, &header)?;
-    Ok((Some(header), root))
-}
-
-/// The metadata root that the CLI header of a file names. The place of a fault counts in the file.
-fn read_root_of<'a>(file: &'a [u8], header: &CliHeader) -> Result<Root<'a>, Fault>
-    requires order { header.now.root.start ≤ header.now.root.«end» }
-    requires within { header.now.root.«end» ≤ length file.now }
-    ensures found { IfOk result (λ root. IsRoot (root_in file.now header.now) root.version root.headers) }
-    ensures first { IfErr result (FirstToFail (raised header.now.root.start (demands_of_root (root_in file.now header.now)))) }
-{
-    match read_root(root_of(file, header)) {
-        Ok(root) => Ok(root),
-        Err(fault) => Err(fault.raised(header.root.start as u64)),
-    }
-}
-
-/// The bytes of the metadata root that the CLI header of a file names.
-fn root_of<'a>(file: &'a [u8], header: &CliHeader) -> &'a [u8]
-    requires order { header.now.root.start ≤ header.now.root.«end» }
-    requires within { header.now.root.«end» ≤ length file.now }
-    ensures { result.now ≡ root_in file.now header.now }
-{
-    let (_, rest) = file.split_at(header.root.start);
-    let (root, _) = rest.split_at(header.root.end - header.root.start);
-    root
+    images_are_read();
+    headers_are_read();
+    roots_are_read();
+    let heads = read_heads(bytes)?;
+    Ok((Some(heads.header), heads.root))
 }
 
 fn print<W: Write>(

@@ -6,7 +6,7 @@ ghost use Rattle.heaps.specs.Fill.{filled};
 ghost use Rattle.opening.specs.Views.{HasModel, row_count};
 ghost use Rattle.cli.specs.CommandLine as line;
 ghost use Rattle.cli.specs.Tasks.{HasString, HasTokenRow, IsMet, IsNamed, TellsNoString, TellsNone, TellsUnnamed};
-ghost use Rattle.cli.specs.declared.task.Task.TheVariants as task;
+ghost use Rattle.cli.specs.declared.reports.Report.TheVariants as report;
 ghost use Rattle.schema.specs.Tokens.{IsToken};
 
 use crate::failure::{Failure, printed};
@@ -66,7 +66,7 @@ pub(crate) fn run<W: Write>(
     number: u32,
     out: &mut W,
 ) -> Result<(), Failure<'static>>
-    ensures found { OnOk result (IsMet (task.Token number) bare bytes.now) }
+    ensures found { OnOk result (IsMet (report.Token number) bare bytes.now) }
     ensures first { IfErr result (TellsNone bare bytes.now number) }
 {
     let view = open(bytes, bare)?;

@@ -5,7 +5,7 @@ use Rattle.clap.specs.Words.{App, HasMatchesOf, Row, Text, fault_of, first_of, f
 use Rattle.clap.specs.declared.ArgMatches.{ArgMatches}
 use Rattle.cli.specs.CommandLine.{clim}
 use Rattle.cli.specs.Asked.{name_of}
-use Rattle.cli.proofs.ValuesGiven.{AllThere, has_values, is_known, token_takes, values_in}
+use Rattle.cli.proofs.ValuesGiven.{AllThere, file_first, has_values, is_known, token_takes, values_in}
 use Rattle.cli.proofs.Readings.{named_back, rows_met, flag_is, some_mapped}
 use Rattle.cli.proofs.arguments.ask.Goals as goal
 
@@ -41,7 +41,9 @@ unwrap-requires-2 c =
     let met = entered_by _ (map (λ word. word.now) c.args.words.now) c.in_ok-matches.matches _ _ c.in_ok-command.ensures c.in_ok-matches.ensures.matches
     (sym c.subcommand.ensures.name ∙ ap (option_map (λ p. p.0.now)) c.unwrap.ensures)
     (sym c.subcommand.ensures.rows ∙ ap (option_map (λ p. rows_of (found_of p.1.now))) c.unwrap.ensures) in
-    rw c.named.ensures (is_known (map (λ word. word.now) c.args.words.now) _ _ met)
+    let none = subst (λ (a : App). fault_of a (map (λ word. word.now) c.args.words.now) ≡ []) c.in_ok-command.ensures
+    (c.in_ok-matches.ensures.kinds (ap is_simple_and_free c.in_ok-command.ensures ∙ clim_is_free)) in
+    rw c.named.ensures (is_known (map (λ word. word.now) c.args.words.now) _ _ none met)
 
 pub returns-clause-given : goal.returns-clause-given
 returns-clause-given c =
@@ -56,6 +58,7 @@ returns-clause-given c =
           (λ t is. c.get_one.ensures.value t (one_text-rows found (codes "bare") ∙ is));
       file = c.get_str.ensures ∙ first_value-rows found (codes "FILE");
       second = c.get_str-2.ensures ∙ first_value-rows found (codes "second");
+      code = c.get_str-3.ensures ∙ first_value-rows found (codes "CODE");
     }
 
 -- each value that the subcommand takes is there
@@ -64,10 +67,12 @@ values_there : (c : goal.Joined-matches) → fault_of clim (map (λ word. word.n
 values_there c none = has_values (map (λ word. word.now) c.args.words.now) _ (rows_of (found_of c.unwrap.result.1.now)) none (entered c)
 
 pub returns-clause-file : goal.returns-clause-file
-returns-clause-file c =
+returns-clause-file c = λ other.
     let found = found_of c.unwrap.result.1.now in
+    let word = named_back c.unwrap.result.0.now c.unwrap-2.result (sym c.named.ensures ∙ c.unwrap-2.ensures) in
+    let there = subst (λ (ids : List Text). AllThere ids (rows_of found)) (ap values_in word) (values_there c (returns-clause-refused c)) in
     some_mapped (λ s. s.now) c.get_str.result (first_of (codes "FILE") (rows_of found)) (c.get_str.ensures ∙ first_value-rows found (codes "FILE"))
-    (values_there c (returns-clause-refused c)).0
+    (file_first c.unwrap-2.result (rows_of found) other there)
 
 pub returns-clause-second : goal.returns-clause-second
 returns-clause-second c = λ is.

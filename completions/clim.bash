@@ -1,0 +1,30 @@
+# Completions of clim for bash.
+
+_clim() {
+    local word=${COMP_WORDS[COMP_CWORD]}
+    local subcommands='root check show types token explain help'
+    local line
+    COMPREPLY=()
+    if [ "$COMP_CWORD" -eq 1 ]; then
+        while read -r line; do COMPREPLY+=("$line"); done < <(compgen -W "$subcommands --help --version" -- "$word")
+        return
+    fi
+    case ${COMP_WORDS[1]} in
+        help)
+            while read -r line; do COMPREPLY+=("$line"); done < <(compgen -W "$subcommands" -- "$word")
+            ;;
+        explain)
+            # The first word of each line is the number of a fault.
+            while read -r line; do COMPREPLY+=("$line"); done < <(compgen -W "$(clim explain 2>/dev/null | cut -c 1-3)" -- "$word")
+            ;;
+        *)
+            if [[ $word == -* ]]; then
+                while read -r line; do COMPREPLY+=("$line"); done < <(compgen -W '--bare --help' -- "$word")
+            else
+                while read -r line; do COMPREPLY+=("$line"); done < <(compgen -f -- "$word")
+            fi
+            ;;
+    esac
+}
+
+complete -o filenames -F _clim clim

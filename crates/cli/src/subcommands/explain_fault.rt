@@ -1,0 +1,115 @@
+//! `clim explain`: what faults mean.
+ghost use Rattle.std.specs.Prelude.{◌≡◌, IfOk, IfErr, false};
+ghost use Rattle.clap.specs.Words.{app_of};
+ghost use Rattle.clap.specs.declared.Command.TheViews.{out-Command as fields_of};
+ghost use Rattle.cli.specs.CommandLine as line;
+ghost use Rattle.cli.specs.Status.{IsOutput};
+
+use crate::failure::{Failure, printed};
+use clap::{Arg, ArgAction, Command};
+use explanations::{all_codes, explain};
+use packed::{Fault, FaultCode};
+use std::alloc::{AllocError, Global};
+use std::io;
+use std::io::{BufWriter, Write};
+
+/// How many columns a line has at most.
+const WIDTH: usize = 100;
+
+/// The words of the subcommand and its help.
+pub(crate) fn command<'a>(alloc: Global) -> Result<Command<'a>, AllocError>
+    ensures app { IfOk result (λ command. app_of command ≡ line.explain) }
+    ensures local { IfOk result (λ command. (fields_of command).has_globals ≡ false) }
+{
+    let code = Arg::new(alloc, "CODE").action(ArgAction::Set).help(
+        "The number of the fault; without it all faults are listed",
+    );
+    Command::new(alloc, "explain")
+        .about("Tells what a fault means, or lists all faults in a line each")
+        .after_help(OUTPUT)
+        .arg(code)
+}
+
+const OUTPUT: &str = "\
+The lines are the number of the fault, its name and what is wrong; then, each behind a dash, what is
+demanded, the section of ECMA-335, where OFFSET points, and what usually makes such a file, where that
+is known. docs/FAULTS.md has all of them.
+
+Examples:
+  $ clim explain 504
+  504 BadGuid: no GUID at an index into '#GUID'
+
+  - Demand: An index into '#GUID' is 0, null, or the number of an entry of 16 bytes within the heap,
+    counted from 1.
+  - Section: II.24.2.5
+  - Offset: That of the cell with the index.
+  - Usual cause: An index that counts bytes in place of entries.";
+
+/// Explains a fault, or prints a line of each where none is named.
+pub(crate) fn run<W: Write>(
+    alloc: Global,
+    code: Option<FaultCode>,
+    out: &mut W,
+) -> Result<(), Failure<'static>>
+    ensures { IfErr result IsOutput }
+{
+    printed(print(alloc, code, out))
+}
+
+fn print<W: Write>(alloc: Global, code: Option<FaultCode>, out: &mut W) -> io::Result<()> {
+    let mut out = BufWriter::new(alloc, out)?;
+    match code {
+        Some(code) => print_explanation(code, &mut out)?,
+        None => print_list(&mut out)?,
+    }
+    out.flush()
+}
+
+fn print_list<W: Write>(out: &mut W) -> io::Result<()> {
+    for code in all_codes() {
+        print_heading(*code, out)?;
+    }
+    Ok(())
+}
+
+/// Prints the number of a demand, its name where it has one, and what is wrong.
+fn print_heading<W: Write>(code: FaultCode, out: &mut W) -> io::Result<()> {
+    let (number, summary) = (code.number(), explain(code).summary);
+    let name = Fault::new(code, 0).name();
+    if name.is_empty() {
+        writeln!(out, "{number}: {summary}")
+    } else {
+        writeln!(out, "{number} {name}: {summary}")
+    }
+}
+
+fn print_explanation<W: Write>(code: FaultCode, out: &mut W) -> io::Result<()> {
+    let told = explain(code);
+    print_heading(code, out)?;
+    writeln!(out)?;
+    print_item("Demand:", told.demand, out)?;
+    if let Some(section) = told.section {
+        print_item("Section:", section, out)?;
+    }
+    print_item("Offset:", told.offset, out)?;
+    if let Some(cause) = told.cause {
+        print_item("Usual cause:", cause, out)?;
+    }
+    Ok(())
+}
+
+/// Prints a text behind a dash and a label, in lines of at most so many columns as [`WIDTH`] says.
+fn print_item<W: Write>(label: &str, text: &str, out: &mut W) -> io::Result<()> {
+    write!(out, "- {label}")?;
+    let mut room = (WIDTH - 2).saturating_sub(label.len());
+    for word in text.split_whitespace() {
+        if word.len() < room {
+            write!(out, " {word}")?;
+            room -= word.len() + 1;
+        } else {
+            write!(out, "\n  {word}")?;
+            room = (WIDTH - 2).saturating_sub(word.len());
+        }
+    }
+    writeln!(out)
+}
