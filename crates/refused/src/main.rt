@@ -1,5 +1,5 @@
-//! Every call of `packed`, `heaps`, `signatures`, `rows`, `tables` and `loading` that has an answer for want
-//! of memory, once and, where it gives that answer, once more.
+//! Every call of `packed`, `heaps`, `signatures`, `rows`, `tables`, `loading` and `writer` that has an answer
+//! for want of memory, once and, where it gives that answer, once more.
 //!
 //! It is run with ample memory, and then ends with status 0; with each allocation refused in turn, and
 //! then prints the same and ends with status 5 where a call was made again, or prints nothing and ends
@@ -17,6 +17,7 @@ mod pools;
 mod signature_blobs;
 mod signature_calls;
 mod stop;
+mod written;
 
 use crate::stop::{Run, Stop};
 use std::process::ExitCode;
@@ -42,7 +43,7 @@ fn report(run: &Run) -> Result<String, Stop> {
     signature_calls::all_bad(run)?;
     faults::all_refused(run)?;
     faults::empty_tables_are_taken(run)?;
-    let mut lines = String::with_capacity(run.alloc, 1024)?;
+    let mut lines = String::with_capacity(run.alloc, 4096)?;
     for (name, bytes) in [
         ("numbers", numbers::spelled(run)?),
         ("texts", pools::texts(run)?),
@@ -52,6 +53,7 @@ fn report(run: &Run) -> Result<String, Stop> {
         ("signatures", signature_calls::spellings(run)?),
         ("module", module_row::module_behind_a_byte(run)?),
         ("rows", loaded_models::row_counts(run)?),
+        ("roots", written::roots(run)?),
     ] {
         write!(lines, "{name}")?;
         for byte in &bytes {

@@ -4,6 +4,7 @@ use signatures::SigError;
 use std::alloc::{AllocError, AllocFailed, Global};
 use std::cell::Cell;
 use std::fmt;
+use writer::WriteError;
 
 /// Why the program ends early.
 #[derive(Clone, Copy, Debug, PartialEq, Eq)]
@@ -96,6 +97,16 @@ impl From<LoadError> for Stop {
         match error {
             LoadError::Memory => Stop::Memory,
             LoadError::Fault(_) => Stop::Broken("a root that has a model is loaded"),
+        }
+    }
+}
+
+impl From<WriteError> for Stop {
+    fn from(error: WriteError) -> Stop {
+        match error {
+            WriteError::Memory => Stop::Memory,
+            WriteError::TooLarge => Stop::Broken("a small root is not too large"),
+            WriteError::Device { .. } => Stop::Broken("a writer in place does not fail"),
         }
     }
 }

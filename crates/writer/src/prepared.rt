@@ -100,8 +100,8 @@ fn parts_of<'a>(model: &'a Model, plan: &'a RootPlan) -> RootParts<'a>
 
 /// Makes the canonical root of a model, where it has at most so many bytes.
 ///
-/// Its memory is taken once, when its length is known. Beside it, as long as the call lasts, stand a
-/// copy of each text and each blob, and a number for each cell.
+/// Its memory is taken once, when its length is known, and each byte is written once. Beside it, while
+/// the call lasts, stand the heaps and a number of four bytes for each column of each row.
 ///
 /// # Errors
 ///
