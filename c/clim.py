@@ -313,7 +313,7 @@ class Row:
         return self.table.column(name)[self.number - 1]
 
     def __getattr__(self, name):
-        if name not in self.table.columns:
+        if name.startswith("_") or name not in self.table.columns:
             raise AttributeError(name)
         return self[name]
 
