@@ -1,16 +1,16 @@
 -- A plan whose parts are those of a model's canonical root.
-use Rattle.std.proofs.Common.{◌≡◌, ℕ, ◌+◌, ◌-◌, ◌%◌, ◌<◌, ◌≤◌, List, ◌++◌, length, map, get_or, ltb, replicate, refl, sym, ap, ◌∙◌, arith}
+use Rattle.std.proofs.Common.{◌≡◌, ℕ, ◌+◌, ◌<◌, ◌≤◌, List, ◌++◌, length, map, get_or, ltb, refl, sym, ap, ◌∙◌, arith}
 use Rattle.std.specs.Prelude.{count_by}
 use Rattle.std.proofs.Math.Path.{fun_ext}
 use Rattle.schema.specs.declared.table.TableId.{TableId}
 use Rattle.schema.specs.Tables.{tables, table_number}
-use Rattle.schema.specs.Sizes.{Sizes, sizes_by_number, header_size, count_of}
+use Rattle.schema.specs.Sizes.{sizes_by_number, header_size}
 use Rattle.root.specs.declared.kind.Kind.{Kind}
 use Rattle.root.specs.declared.kind.Kind.TheVariants.{Tables, Strings, UserStrings, Guids, Blobs}
 use Rattle.schema.specs.LaidOut.{tables_bytes, bits_of}
 use Rattle.metadata.specs.Metadata.{Metadata, count_in}
 use Rattle.canonical.specs.Numbers.{numbers}
-use Rattle.canonical.specs.TableStream.{has_rows, is_sorted, sizes_of, header_bytes, table_stream}
+use Rattle.canonical.specs.TableStream.{is_sorted, sizes_of, header_bytes, table_stream}
 use Rattle.canonical.specs.Canonical.{canonical, stream}
 use Rattle.put.specs.Heading.{size_of}
 use Rattle.put.specs.Written.{fill}
@@ -83,14 +83,6 @@ sizes_are model plan sizes is in_tables lens user Strings = lens.strings
 sizes_are model plan sizes is in_tables lens user UserStrings = user
 sizes_are model plan sizes is in_tables lens user Guids = lens.guids
 sizes_are model plan sizes is in_tables lens user Blobs = lens.blobs
-
-pub sizes_low : (sizes : StreamSizes) (limit : ℕ) → sizes.tables ≤ limit → sizes.strings ≤ limit → sizes.user_strings ≤ limit → sizes.guids ≤ limit → sizes.blobs ≤ limit
-    → (kind : Kind) → size_of sizes kind ≤ limit
-sizes_low sizes limit in_tables in_strings in_user in_guids in_blobs Tables = in_tables
-sizes_low sizes limit in_tables in_strings in_user in_guids in_blobs Strings = in_strings
-sizes_low sizes limit in_tables in_strings in_user in_guids in_blobs UserStrings = in_user
-sizes_low sizes limit in_tables in_strings in_user in_guids in_blobs Guids = in_guids
-sizes_low sizes limit in_tables in_strings in_user in_guids in_blobs Blobs = in_blobs
 
 pub sorted_is : (model : Metadata) → (sizes_of model).sorted ≡ bits_of (is_sorted model) tables
 unfolding sizes_of

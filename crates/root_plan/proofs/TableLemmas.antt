@@ -1,5 +1,5 @@
 -- How long a table stream is, and that it goes by the counts of its tables and HeapSizes alone.
-use Rattle.std.proofs.Common.{◌≡◌, ℕ, zero, suc, ◌+◌, ◌-◌, ◌*◌, ◌/◌, ◌<◌, ◌≤◌, inl, inr, Bool, true, false, cond, ltb, lit<, List, [], ◌∷◌, ◌++◌, length, get_or, take, drop, map, refl, sym, ap, subst, ◌∙◌, length-append, length-drop, arith}
+use Rattle.std.proofs.Common.{◌≡◌, ℕ, zero, suc, ◌+◌, ◌-◌, ◌*◌, ◌/◌, ◌<◌, ◌≤◌, inl, inr, Bool, cond, lit<, List, [], ◌∷◌, ◌++◌, length, get_or, take, drop, refl, ap, ◌∙◌, length-append, length-drop, arith}
 use Rattle.std.proofs.Math.Path.{fun_ext}
 use Rattle.std.specs.Prelude.{sum_by, count_by}
 use Rattle.std.proofs.lemmas.Bool.{cases_Bool}
@@ -8,7 +8,7 @@ use Rattle.std.proofs.lemmas.List.Sums.{sum_by-cons, sum_by_more}
 use Rattle.schema.specs.declared.table.TableId.{TableId}
 use Rattle.schema.specs.declared.table.TableId.TheVariants.{Module, GenericParamConstraint}
 use Rattle.schema.specs.declared.column.Column.{Column}
-use Rattle.schema.specs.Tables.{tables, table_number, position_of}
+use Rattle.schema.specs.Tables.{tables, position_of}
 use Rattle.schema.specs.Columns.{columns_of}
 use Rattle.schema.specs.Sizes.{Sizes, count_of, width_of, header_size}
 use Rattle.schema.specs.Places.{columns_width, row_width, table_size, tables_size, row_start, tables_end}
@@ -30,8 +30,13 @@ length-row sizes [] [] same = refl
 length-row sizes [] (number ∷ numbers) same = refl
 length-row sizes (column ∷ columns) [] same = absurd (omega (arith, same))
 length-row sizes (column ∷ columns) (number ∷ numbers) same =
-    omega (arith, length-append (number_bytes (width_of sizes column) number) (row_bytes sizes columns numbers), length-number_bytes (width_of sizes column) number,
-    length-row sizes columns numbers (omega (arith, same)), sum_by-cons (width_of sizes) column columns)
+    omega (
+      arith,
+      length-append (number_bytes (width_of sizes column) number) (row_bytes sizes columns numbers),
+      length-number_bytes (width_of sizes column) number,
+      length-row sizes columns numbers (omega (arith, same)),
+      sum_by-cons (width_of sizes) column columns,
+    )
 
 one_more : (width count row : ℕ) → row ≡ width * (count + 1) → (row - width ≡ width * count) × (width ≤ row)
 one_more width count row all = (omega arith, omega arith)
@@ -73,10 +78,21 @@ length-counts test sizes (table ∷ listed) =
     let here = number_bytes 4 (count_of sizes table) in
     let one : Bool → ℕ = λ b. cond b 1 0 in
     elim (cases_Bool (test table)) [
-      | inl set ↦ omega (arith, ap (λ b. length (cond b here [] ++ rest)) set, ap one set, length-append here rest,
-          sum_by-cons (λ t. one (test t)) table listed, length-counts test sizes listed)
-      | inr clear ↦ omega (arith, ap (λ b. length (cond b here [] ++ rest)) clear, ap one clear,
-          sum_by-cons (λ t. one (test t)) table listed, length-counts test sizes listed)
+      | inl set ↦ omega (
+        arith,
+        ap (λ b. length (cond b here [] ++ rest)) set,
+        ap one set,
+        length-append here rest,
+        sum_by-cons (λ t. one (test t)) table listed,
+        length-counts test sizes listed,
+      )
+      | inr clear ↦ omega (
+        arith,
+        ap (λ b. length (cond b here [] ++ rest)) clear,
+        ap one clear,
+        sum_by-cons (λ t. one (test t)) table listed,
+        length-counts test sizes listed,
+      )
     ]
 
 length-header : (model : Metadata) → length (header_bytes model) ≡ header_size (count_by (has_rows model) tables)
@@ -110,8 +126,14 @@ stream_long they {flat} found model =
     let sizes = sizes_of model in
     let count = count_is they model in
     let rows = ap (λ rows. length (tables_bytes sizes tables rows)) (found.back model sizes count) in
-    omega (arith, length-append (header_bytes model) (tables_bytes sizes tables (numbers model)), length-header model, body_is model, rows,
-    length-tables sizes tables (flat (numbers model)) (found.many model sizes count))
+    omega (
+      arith,
+      length-append (header_bytes model) (tables_bytes sizes tables (numbers model)),
+      length-header model,
+      body_is model,
+      rows,
+      length-tables sizes tables (flat (numbers model)) (found.many model sizes count),
+    )
 
 -- ---- where the last table ends
 

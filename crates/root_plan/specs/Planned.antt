@@ -1,5 +1,5 @@
 -- What is known of the canonical root of a model before a byte of it is written (ECMA-335 II.24.2).
-use Rattle.std.specs.Prelude.{◌≡◌, ◌+◌, ◌^◌, ◌<◌, ◌≤◌, ℕ, List, ◌++◌, length, sum_by}
+use Rattle.std.specs.Prelude.{◌≡◌, ◌+◌, ◌^◌, ◌≤◌, ℕ, List, ◌++◌, length, sum_by}
 use Rattle.root.specs.declared.kind.Kind.{Kind}
 use Rattle.schema.specs.Tables.{tables}
 use Rattle.schema.specs.LaidOut.{tables_bytes}

@@ -63,12 +63,7 @@ impl RootPlan {
     }
 
     /// The plan with these pools and numbers, `None` where the root has more bytes than the limit.
-    fn measure(
-        model: &Model,
-        texts: TextPool,
-        numbering: Numbering,
-        limit: u32,
-    ) -> Option<RootPlan>
+    fn measure(model: &Model, texts: TextPool, numbering: Numbering, limit: u32) -> Option<RootPlan>
         requires limit { limit ≤ 2 ^ 30 }
         requires valid { IsValid model.now }
         requires pools { ArePooled model.now texts numbering }

@@ -30,6 +30,11 @@ pub fn root_len(version: &str, sizes: &StreamSizes) -> usize
 {
     canonical_roots_are_put();
     let kinds = HeldKinds::new(sizes);
-    let heaps = sizes.strings as usize + sizes.user_strings as usize + sizes.guids as usize + sizes.blobs as usize;
-    heading_len(version, kinds.as_slice()) + sizes.tables as usize + heaps
+    let mut len = heading_len(version, kinds.as_slice());
+    len += sizes.tables as usize;
+    len += sizes.strings as usize;
+    len += sizes.user_strings as usize;
+    len += sizes.guids as usize;
+    len += sizes.blobs as usize;
+    len
 }

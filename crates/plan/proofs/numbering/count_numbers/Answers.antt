@@ -1,8 +1,6 @@
-use Rattle.std.proofs.Common.{◌≡◌, ◌≤◌, ◌*◌, List, ap, ◌∙◌, get_or, length, arith}
-use Rattle.schema.specs.declared.table.TableId.{TableId}
+use Rattle.std.proofs.Common.{◌≡◌, ◌≤◌, ◌*◌, ap, ◌∙◌, get_or, length, arith}
 use Rattle.schema.specs.declared.table.TableId.TheVariants.{Module}
 use Rattle.schema.specs.Columns.{columns_of}
-use Rattle.metadata.specs.Metadata.{count_in}
 use Rattle.plan.specs.Numbered.{numbers_in}
 use Rattle.plan.proofs.CountLemmas.{cells_low, more_numbers, all_numbers}
 use Rattle.plan.proofs.numbering.count_numbers.Goals as goal

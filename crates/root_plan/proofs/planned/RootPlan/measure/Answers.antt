@@ -1,23 +1,22 @@
-use Rattle.std.proofs.Common.{◌≡◌, ℕ, ◌+◌, List, length, get_or, sym, ap, ◌∙◌, arith}
+use Rattle.std.proofs.Common.{ℕ, ◌+◌, List, length, get_or, sym, ap, ◌∙◌, arith}
 use Rattle.std.specs.Prelude.{sum_by}
 use Rattle.root.specs.declared.kind.Kind.{Kind}
 use Rattle.root.specs.declared.kind.Kind.TheVariants.{Tables}
 use Rattle.schema.specs.declared.table.TableId.{TableId}
 use Rattle.schema.specs.Tables.{tables, position_of}
-use Rattle.schema.specs.Sizes.{Sizes, count_of}
+use Rattle.schema.specs.Sizes.{Sizes}
 use Rattle.schema.specs.LaidOut.{tables_bytes}
-use Rattle.metadata.specs.Metadata.{count_in}
 use Rattle.canonical.specs.Numbers.{numbers}
-use Rattle.canonical.specs.TableStream.{sizes_of, header_bytes}
+use Rattle.canonical.specs.TableStream.{sizes_of}
 use Rattle.canonical.specs.Canonical.{stream}
 use Rattle.put.specs.Flat.{tables_in}
 use Rattle.put.specs.Heading.{size_of, held, heading_size}
 use Rattle.put.specs.TableHeader.{table_header}
 use Rattle.put.specs.declared.sizes.StreamSizes.{StreamSizes}
-use Rattle.root_plan.specs.Planned.{AreHeapLens, IsTablesPlan}
+use Rattle.root_plan.specs.Planned.{IsTablesPlan}
 use Rattle.root_plan.proofs.CountLemmas.{TheyStand}
 use Rattle.root_plan.proofs.TableLemmas.{count_is}
-use Rattle.root_plan.proofs.PlanLemmas.{lens_are, sizes_are, sizes_low, tables_over, stream_is}
+use Rattle.root_plan.proofs.PlanLemmas.{lens_are, sizes_are, tables_over, stream_is}
 use Rattle.root_plan.proofs.planned.RootPlan.measure.Goals as goal
 
 pub returns-then-tables-limit-clause-too_large : goal.returns-then-tables-limit-clause-too_large
@@ -69,10 +68,10 @@ returns c =
     let count = λ (table : TableId). alike table ∙ count_is they model table in
     let numbered = c.requires.pools.numbering.numbers in
     let header = ap (λ n. table_header n plan.sorted layout) is.heap_sizes ∙ ap (λ n. table_header (sizes_of model).heap_sizes n layout) is.sorted
-        ∙ sym (c.table_headers_are_put.ensures model layout is.counts) in
+    ∙ sym (c.table_headers_are_put.ensures model layout is.counts) in
     let rows = ap (λ (flat : List ℕ). tables_bytes layout tables (tables_in layout tables flat)) numbered
-        ∙ ap (tables_bytes layout tables) (c.numbers_are_put.ensures.back model layout count)
-        ∙ c.widths_follow_from_counts.ensures.tables layout (sizes_of model) (record { counts = alike; heap_sizes = is.widths }) tables (numbers model) in
+    ∙ ap (tables_bytes layout tables) (c.numbers_are_put.ensures.back model layout count)
+    ∙ c.widths_follow_from_counts.ensures.tables layout (sizes_of model) (record { counts = alike; heap_sizes = is.widths }) tables (numbers model) in
     record {
       plan = record {
         texts = c.requires.pools.texts;

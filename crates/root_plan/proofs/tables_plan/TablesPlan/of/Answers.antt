@@ -1,4 +1,4 @@
-use Rattle.std.proofs.Common.{◌≡◌, ℕ, refl, sym, ap, ◌∙◌}
+use Rattle.std.proofs.Common.{◌≡◌, sym, ap, ◌∙◌}
 use Rattle.schema.specs.declared.table.TableId.{TableId}
 use Rattle.schema.specs.Sizes.{Sizes}
 use Rattle.canonical.specs.TableStream.{sizes_of}
