@@ -8,8 +8,8 @@ ghost use Rattle.loading.specs.Refused.{IsRefused, HasHeaderAndModel};
 
 use crate::error::LoadError;
 use crate::to_model::ToModel;
-use owned_model::Model;
 use opening::{CliHeader, open_image, open_root};
+use owned_model::Model;
 use std::alloc::Global;
 
 /// Loads the metadata root that these bytes are (II.24.2).

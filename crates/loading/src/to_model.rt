@@ -5,8 +5,8 @@ ghost use Rattle.metadata.specs.Model.{IsModel};
 use crate::fill::copy_filled;
 use crate::table_rows::load_tables;
 use metadata::{models_are_read, models_of_roots_are_valid};
-use owned_model::Model;
 use opening::View;
+use owned_model::Model;
 use std::alloc::{AllocError, Global};
 use tables::Tables;
 
