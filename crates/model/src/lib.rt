@@ -1,0 +1,87 @@
+//! The metadata of .NET assemblies (ECMA-335 II.22 to II.25), from files that strangers made: all that a
+//! client names, in one crate.
+//!
+//! **Opening** shows the one model of a file or a root in place, in the bytes that are handed in, and takes
+//! no memory. It answers exactly where there is a model, else the [`Fault`] of the first demand that the
+//! bytes do not meet:
+//!
+//! ```text
+//! let (header, view) = open_image(&file)?;
+//! let row = view.find_type("System", "Object")?;
+//! for method in view.methods_of(row) { view.cell(TableId::MethodDef, method, 3) } // CellRef::Text(".ctor")
+//! ```
+//!
+//! **Loading** makes the same model as one that owns what it holds, so that the bytes may go. Want of memory
+//! comes only where a model fits:
+//!
+//! ```text
+//! let (header, model) = load_image(alloc, &file)?;
+//! for row in model.by_key(TableId::CustomAttribute, token) { model.cells(TableId::CustomAttribute, row) }
+//! let model = view.model(alloc)?; // of a view that is open already
+//! ```
+//!
+//! **Building** makes a model of rows that a program has, without memory; else it answers the [`Refusal`] of
+//! the first demand that they do not meet, and hands them back. A row is a vector of [`Cell`]s, or a record
+//! that makes them:
+//!
+//! ```text
+//! let mut tables = Tables::new(alloc, "v4.0.30319")?;
+//! tables.push(TableId::ModuleRef, ModuleRef { name: "a.dll" }.cells(alloc)?)?;
+//! match Model::from_tables(tables) {
+//!     Ok(model) => model.count(TableId::ModuleRef), // 1
+//!     Err((refusal, tables)) => // `refusal.code` of the cell at `refusal.table`, `.row`, `.column`
+//! }
+//! ```
+//!
+//! **Writing** makes the one canonical root of a model, which loads to an equal model:
+//!
+//! ```text
+//! let root = write_root(alloc, &model)?;               // its bytes, or
+//! write_root_to(alloc, &model, &mut Counted::new(out))? // through a writer that may fail
+//! ```
+//!
+//! What is proved of a call stands at the call: this crate has no code.
+#![tactic(auto)]
+
+// Bytes and files in place.
+pub use opening::{
+    CellRef, CliHeader, Fault, FaultCode, Heads, KeyNumbers, KeyRows, Pe, Root, SourceKeys, Starts,
+    TableId, Token, View, open_image, open_root, read_heads,
+};
+
+// The heaps, for user strings and for what is shown of a GUID.
+pub use heaps::{HeapFault, Units, UserString, guid_text, user_string};
+
+// What columns hold.
+pub use schema::{Coded, Column, ColumnKind, cell_count, columns, key};
+
+// Models that own what they hold.
+pub use loading::{LoadError, ToModel, load_image, load_root};
+pub use owned_model::{Bytes, Cell, Model, ModelKeys, Refusal, Row, Tables, Text};
+
+// Signatures, and what they say.
+pub use signatures::{
+    Core, Element, FieldSig, InstanceSig, Local, LocalsSig, MethodSig, Modifier, Prefix,
+    PropertySig, Ret, Shape, SigBody, SigError, SigKind, Signature, Slot, SlotKind, TypeSig,
+    decode, encode, recognise,
+};
+
+// Rows as records.
+pub use assembly_records::{
+    Assembly, AssemblyOS, AssemblyProcessor, AssemblyRef, AssemblyRefOS, AssemblyRefProcessor,
+    CellRow, ClassLayout, Constant, CustomAttribute, DeclSecurity, Event, EventMap, ExportedType,
+    Field, FieldLayout, FieldMarshal, FieldRVA, File, FromRow, GenericParam,
+    GenericParamConstraint, ImplMap, InterfaceImpl, IsSignature, ManifestResource, MemberRef,
+    MethodDef, MethodImpl, MethodSemantics, MethodSpec, Module, ModuleRef, NestedClass, Param,
+    Property, PropertyMap, Record, Row as AnyRow, StandAloneSig, TypeDef, TypeRef, TypeSpec,
+    record_of,
+};
+
+// Rows of a model and of a view as records.
+pub use model_records::{RecordsOf, row as row_of_model, rows as rows_of_model};
+pub use view_records::{RecordsIn, RefRow, cells_of, row as row_of_view, rows as rows_of_view};
+
+// The canonical root of a model.
+pub use writer::{
+    Counted, Prepared, Sink, WriteError, prepare, write_root, write_root_to, write_root_within,
+};
