@@ -8,7 +8,6 @@ use Rattle.schema.specs.Sizes.{Sizes}
 use Rattle.schema.specs.LaidOut.{tables_bytes}
 use Rattle.canonical.specs.Numbers.{numbers}
 use Rattle.canonical.specs.TableStream.{sizes_of}
-use Rattle.canonical.specs.Canonical.{stream}
 use Rattle.put.specs.Flat.{tables_in}
 use Rattle.put.specs.Heading.{size_of, held, heading_size}
 use Rattle.put.specs.TableHeader.{table_header}
