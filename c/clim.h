@@ -12,6 +12,9 @@
  * answer what its contract in crates/clim_c says. It takes no memory and keeps nothing between calls, so that
  * threads may call at once. Rows count from 1, and columns, which are cells of a row, from 0.
  *
+ * A call on a view reads the directory of the root again and looks once over its texts: microseconds of a small
+ * file, and tens of a large one. So ask a large file for columns, by clim_cells, and not for cells.
+ *
  * What a caller owes, which nothing checks:
  *   - No pointer is null, also where the length beside it is 0: "" will do.
  *   - A pointer and a length name that many bytes or items, which nobody writes during the call.
