@@ -59,12 +59,12 @@ impl Buffer {
 
 impl Write for Buffer {
     fn write(&mut self, bytes: &[u8]) -> io::Result<usize> {
-        let mut taken = 0;
+        let mut taken = 0usize;
         for byte in bytes.iter().take(7) {
             if let Some(slot) = self.bytes.get_mut(self.len) {
                 *slot = *byte;
                 self.len = self.len.saturating_add(1);
-                taken += 1;
+                taken = taken.saturating_add(1);
             }
         }
         Ok(taken)

