@@ -147,7 +147,7 @@ fn seen(alloc: Global, model: Model, view: &View) -> Result<Model, Fail> {
 
 /// The model of the bytes, or the fault that they are loaded and opened with.
 #[derive(Debug, Drop)]
-pub enum Loaded {
+pub enum Answer {
     /// The model.
     Model(Model),
     /// The fault.
@@ -155,10 +155,10 @@ pub enum Loaded {
 }
 
 /// Loads bytes and opens them, which has to answer alike.
-pub fn loaded(alloc: Global, form: Form, bytes: &[u8]) -> Result<Loaded, Fail> {
+pub fn loaded(alloc: Global, form: Form, bytes: &[u8]) -> Result<Answer, Fail> {
     match (load(alloc, form, bytes), open(form, bytes)) {
-        (Ok(model), Ok(view)) => Ok(Loaded::Model(seen(alloc, model, &view)?)),
-        (Err(LoadError::Fault(fault)), Err(opened)) if fault == opened => Ok(Loaded::Fault(fault)),
+        (Ok(model), Ok(view)) => Ok(Answer::Model(seen(alloc, model, &view)?)),
+        (Err(LoadError::Fault(fault)), Err(opened)) if fault == opened => Ok(Answer::Fault(fault)),
         _ => Err(Fail::from("loading answers otherwise than opening")),
     }
 }
@@ -166,16 +166,16 @@ pub fn loaded(alloc: Global, form: Form, bytes: &[u8]) -> Result<Loaded, Fail> {
 /// The model of the bytes.
 pub fn model_in(alloc: Global, form: Form, bytes: &[u8]) -> Result<Model, Fail> {
     match loaded(alloc, form, bytes)? {
-        Loaded::Model(model) => Ok(model),
-        Loaded::Fault(fault) => Err(Fail::from(fault)),
+        Answer::Model(model) => Ok(model),
+        Answer::Fault(fault) => Err(Fail::from(fault)),
     }
 }
 
 /// The fault of the bytes.
 pub fn fault_in(alloc: Global, form: Form, bytes: &[u8]) -> Result<Option<Fault>, Fail> {
     match loaded(alloc, form, bytes)? {
-        Loaded::Model(_) => Ok(None),
-        Loaded::Fault(fault) => Ok(Some(fault)),
+        Answer::Model(_) => Ok(None),
+        Answer::Fault(fault) => Ok(Some(fault)),
     }
 }
 
