@@ -101,7 +101,7 @@ fn root_of_names(alloc: Global, heap: &[u8], name: u8, namespace: u8) -> Result<
     let mut root = RootBuilder::new(alloc);
     root.row(0x01, &[0, 0, name, 0, namespace, 0])?;
     root.heap("#Strings", heap)?;
-    root.finish()
+    Ok(root.finish()?)
 }
 
 #[test]

@@ -25,11 +25,11 @@ fn have_same_runs(one: &View, other: &View) -> bool {
 /// Whether the view of a root that is made again shows the same as the first: cells, runs and order.
 fn is_shown_again(root: &[u8]) -> Result<bool, Fail> {
     let first = open_root(root)?;
-    let again = view_again(first.root(), &first.order());
+    let again = view_again(first.root(), &first.found());
     Ok(
         are_same(&first, &again)
             && have_same_runs(&first, &again)
-            && first.order() == again.order()
+            && first.found().in_order == again.found().in_order
             && first.find_type("N", "C") == again.find_type("N", "C"),
     )
 }
@@ -64,7 +64,7 @@ fn a_view_that_is_made_again_finds_rows_as_before(rt: HostRuntime) -> Result<(),
         let root = root_of_attributes(alloc, OTHERS_SORTED, &attributes)?;
         assert!(rt; is_shown_again(root.as_slice())?);
         let first = open_root(root.as_slice())?;
-        let again = view_again(first.root(), &first.order());
+        let again = view_again(first.root(), &first.found());
         let (rows, reads) = rows_of_assembly(alloc, &first)?;
         let (rows_again, reads_again) = rows_of_assembly(alloc, &again)?;
         assert_eq!(rt; rows.as_slice(), rows_again.as_slice());
