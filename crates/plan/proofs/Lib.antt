@@ -1,3 +1,4 @@
+pub mod CountLemmas
 pub mod FlatLemmas
 pub mod LawLemmas
 pub mod OverLemmas

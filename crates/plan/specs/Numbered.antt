@@ -1,5 +1,5 @@
 -- The numbers of cells, and the pools of the blobs and GUIDs that they use, one cell after another (ECMA-335 II.24.2.6).
-use Rattle.std.specs.Prelude.{◌≡◌, ℕ, ◌^◌, ◌<◌, ◌≤◌, ◌⊎◌, ⊤, Bool, true, false, List, [], ◌∷◌, ◌++◌, length, flat_map, Contains, Some}
+use Rattle.std.specs.Prelude.{◌≡◌, ℕ, ◌*◌, ◌^◌, ◌<◌, ◌≤◌, ◌⊎◌, ⊤, Bool, true, false, List, [], ◌∷◌, ◌++◌, length, flat_map, Contains, Some}
 use Rattle.schema.specs.declared.column.Column.{Column}
 use Rattle.schema.specs.declared.column.ColumnKind.{ColumnKind}
 use Rattle.schema.specs.declared.table.TableId.{TableId}
@@ -12,7 +12,7 @@ use Rattle.heaps.specs.TextPlan.{TextPlan}
 use Rattle.signature_values.specs.Spells.{short}
 use Rattle.metadata.specs.Cell.{Cell}
 use Rattle.metadata.specs.Cell.{Text, Bytes, Ref, Sig}
-use Rattle.metadata.specs.Metadata.{Metadata, rows_of}
+use Rattle.metadata.specs.Metadata.{Metadata, rows_of, count_in}
 use Rattle.canonical.specs.Pools.{Pools, pools_of, used, texts_of, blobs_of, guids_of}
 use Rattle.canonical.specs.Numbers.{cell_number, numbers}
 
@@ -62,6 +62,10 @@ with_row texts (column ∷ columns) cells so_far = with_next_cell (is_padding co
 abbrev pub with_rows : List (List ℕ) → List Column → List (List Cell) → Numbered → Numbered
 with_rows texts columns [] so_far = so_far
 with_rows texts columns (row ∷ rows) so_far = with_rows texts columns rows (with_row texts columns row so_far)
+
+-- how many numbers the rows of a table have, one a column
+abbrev pub numbers_in : Metadata → TableId → ℕ
+numbers_in model table = length (columns_of table) * count_in model table
 
 -- with those of tables
 abbrev pub with_tables : List (List ℕ) → Metadata → List TableId → Numbered → Numbered

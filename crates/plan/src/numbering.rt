@@ -1,4 +1,4 @@
-ghost use Rattle.std.specs.Prelude.{◌≡◌, ◌^◌, ◌≤◌, Err, OnOk, IfOk, length};
+ghost use Rattle.std.specs.Prelude.{◌≡◌, ◌^◌, ◌≤◌, Err, OnOk, IfOk, length, sum_by};
 ghost use Rattle.std.specs.List.{AllByRecursion};
 ghost use Rattle.heaps.specs.declared.pool_error.PoolError.TheVariants.{Full};
 ghost use Rattle.schema.specs.declared.table.TableId.{TableId as Table};
@@ -6,21 +6,34 @@ ghost use Rattle.schema.specs.Tables.{tables as all_tables};
 ghost use Rattle.schema.specs.CellColumns.{is_padding};
 ghost use Rattle.cells.specs.Said.{said, all_said};
 ghost use Rattle.metadata.specs.Cell.{Cell as Says};
-ghost use Rattle.metadata.specs.Metadata.{rows_of};
+ghost use Rattle.metadata.specs.Metadata.{rows_of, count_in};
 ghost use Rattle.metadata.specs.Valid.{IsValid};
 ghost use Rattle.heaps.specs.BlobHeap.{blob_heap};
 ghost use Rattle.heaps.specs.GuidHeap.{guid_heap};
 ghost use Rattle.canonical.specs.Pools.{pools_of};
 ghost use Rattle.canonical.specs.Numbers.{cell_number};
-ghost use Rattle.plan.specs.Numbered.{Numbered, CanBeNumbered, IsOver, with_values, with_number, pools_in, with_cell, with_next_cell, with_row, with_rows, with_tables, none_numbered, ArePlanned, IsNumbering, IsTooLong};
+ghost use Rattle.plan.specs.Numbered.{Numbered, CanBeNumbered, IsOver, with_values, with_number, pools_in, with_cell, with_next_cell, with_row, with_rows, with_tables, none_numbered, numbers_in, ArePlanned, IsNumbering, IsTooLong};
 
 use crate::references::row_number;
 use heaps::{BlobPool, GuidPool, PoolError, TextPool, indexes_stay, pooled_are_distinct};
-use schema::{Column, ColumnKind, TableId, columns, tables_stand};
+use schema::{Column, ColumnKind, TableId, columns, columns_stand, tables_stand};
 use signatures::encode;
 use std::alloc::Global;
 use std::marker::Model;
 use tables::{Cell, Row, Tables};
+
+/// How many numbers the rows of all tables have, one a column.
+fn count_numbers(tables: &Tables) -> usize
+    requires { (table : Table) → count_in tables.now table ≤ 0xFFFFFF }
+    ensures { result ≡ sum_by (numbers_in tables.now) all_tables }
+{
+    columns_stand();
+    let mut count = 0;
+    for table in TableId::all() {
+        count += columns(*table).len() * tables.count(*table);
+    }
+    count
+}
 
 /// The numbers of cells, one a column, and the pools of the blobs and GUIDs that they use.
 #[derive(Drop)]
@@ -128,6 +141,7 @@ impl Numbering {
 
     /// The numbers of all cells, by table, row and column, each once its values are pooled.
     fn all(alloc: Global, texts: &TextPool, tables: &Tables) -> Result<Numbering, PoolError>
+        requires few { (table : Table) → count_in tables.now table ≤ 0xFFFFFF }
         requires ready { (table : Table) → AllByRecursion (AllByRecursion (CanBeNumbered texts.now)) (rows_of tables.now table) }
         ensures ok { IfOk result (λ numbering. numbering ≡ with_tables texts.now.entries tables.now all_tables none_numbered) }
         ensures full { result ≡ Err PoolError.Full → IsOver (with_tables texts.now.entries tables.now all_tables none_numbered) }
@@ -136,7 +150,7 @@ impl Numbering {
             alloc,
             blobs: BlobPool::new(alloc),
             guids: GuidPool::new(alloc),
-            numbers: Vec::new(alloc),
+            numbers: Vec::with_capacity(alloc, count_numbers(tables))?,
         };
         for table in TableId::all() {
             numbering.put_rows(texts, columns(*table), tables.rows(*table))?;
@@ -145,7 +159,8 @@ impl Numbering {
     }
 
     /// The numbers of the cells of valid tables, by table, row and column, and their pools; the texts
-    /// are those that [`text_pool`](crate::text_pool) plans of the same tables.
+    /// are those that [`text_pool`](crate::text_pool) plans of the same tables. The memory of the numbers
+    /// is taken at once.
     ///
     /// `Full` is told where one of the two heaps would pass 2^30 bytes.
     pub fn of(alloc: Global, texts: &TextPool, tables: &Tables) -> Result<Numbering, PoolError>

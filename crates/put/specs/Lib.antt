@@ -2,3 +2,4 @@ pub mod Written
 pub mod Heading
 pub mod TableHeader
 pub mod Flat
+pub mod Root

@@ -6,6 +6,8 @@ ghost use Rattle.canonical.specs.Canonical.{canonical, stream};
 ghost use Rattle.canonical.specs.TableStream.{sizes_of, header_bytes};
 ghost use Rattle.put.specs.Heading.{heading, held};
 ghost use Rattle.put.specs.TableHeader.{table_header};
+ghost use Rattle.put.specs.declared.root_parts.RootParts.{RootParts as TheParts};
+ghost use Rattle.put.specs.Root.{root_bytes, ArePartsOf};
 
 use schema::tables_stand;
 
@@ -23,4 +25,12 @@ pub fn table_headers_are_put()
         → header_bytes model ≡ table_header (sizes_of model).heap_sizes (sizes_of model).sorted sizes }
 {
     tables_stand();
+}
+
+/// What [`Writer::put_root`](crate::Writer::put_root) writes of the parts of a model is the model's
+/// canonical root.
+pub fn parts_are_canonical()
+    ensures { (model : Metadata) (parts : TheParts) → ArePartsOf model parts → root_bytes parts ≡ canonical model }
+{
+    canonical_roots_are_put();
 }

@@ -5,17 +5,16 @@
 //! streams, the counts of the tables and the numbers of the cells: the laws of `laws.rt` say so.
 //!
 //! ```text
-//! let held = HeldKinds::new(&sizes);                      // the streams that have bytes
 //! let mut writer = Writer::with_room(alloc, len)?;
-//! writer.put_heading("v4.0.30319", &sizes, held.as_slice());
-//! writer.put_table_header(&layout, heap_sizes, sorted);   // then all tables, and the fill
-//! writer.put_tables(&layout, &numbers);
+//! writer.put_root(&parts);    // the version, sizes, layout, numbers and heaps: a `RootParts`
+//! let bytes = writer.into_bytes();
 //! ```
 #![tactic(auto)]
 
 mod heading;
 mod held;
 mod laws;
+mod root_parts;
 mod sizes;
 mod table_header;
 mod table_rows;
@@ -23,6 +22,7 @@ mod writer;
 
 pub use heading::heading_len;
 pub use held::HeldKinds;
-pub use laws::{canonical_roots_are_put, table_headers_are_put};
+pub use laws::{canonical_roots_are_put, parts_are_canonical, table_headers_are_put};
+pub use root_parts::RootParts;
 pub use sizes::StreamSizes;
 pub use writer::Writer;

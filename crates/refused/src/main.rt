@@ -1,4 +1,4 @@
-//! Every call of `packed`, `heaps`, `signatures` and `rows` that has an answer for want of memory,
+//! Every call of `packed`, `heaps`, `signatures`, `rows` and `writer` that has an answer for want of memory,
 //! once and, where it gives that answer, once more.
 //!
 //! It is run with ample memory, and then ends with status 0; with each allocation refused in turn, and
@@ -15,6 +15,7 @@ mod pools;
 mod signature_blobs;
 mod signature_calls;
 mod stop;
+mod written;
 
 use crate::stop::{Run, Stop};
 use std::process::ExitCode;
@@ -38,7 +39,7 @@ fn main(rt: HostRuntime) -> ExitCode {
 /// run with all memory refused makes no call that it would have to make again.
 fn report(run: &Run) -> Result<String, Stop> {
     signature_calls::all_bad(run)?;
-    let mut lines = String::with_capacity(run.alloc, 1024)?;
+    let mut lines = String::with_capacity(run.alloc, 4096)?;
     for (name, bytes) in [
         ("numbers", numbers::spelled(run)?),
         ("texts", pools::texts(run)?),
@@ -47,6 +48,7 @@ fn report(run: &Run) -> Result<String, Stop> {
         ("user strings", pools::user_strings(run)?),
         ("signatures", signature_calls::spellings(run)?),
         ("module", module_row::module_behind_a_byte(run)?),
+        ("roots", written::roots(run)?),
     ] {
         write!(lines, "{name}")?;
         for byte in &bytes {

@@ -14,6 +14,6 @@ returns-in_err-put_rows-clause-full c =
     let items = c.all-table-items in
     let below : i < length tables = omega (arith, ap length items.ensures.value, c.loop-table-test.true) in
     let at = ap (λ (listed : List TableId). get_or listed i Module) items.ensures.value in
-    let full : c.from_residual.result ≡ Err Full → IsOver (with_rows texts c.columns.result.now c.rows.result.now c.loop-table.numbering) = search rules in
+    let full : c.from_residual-in_err-put_rows.result ≡ Err Full → IsOver (with_rows texts c.columns.result.now c.rows.result.now c.loop-table.numbering) = search rules in
     λ is. over_tables_at texts c.args.tables.now i (get_or items.result.now i Module) _ _ c.loop-table.numbering _ below at c.columns.ensures c.rows.ensures.rows
     c.loop-table.invariant (full is)

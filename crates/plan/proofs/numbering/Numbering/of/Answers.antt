@@ -8,7 +8,7 @@ use Rattle.plan.proofs.numbering.Numbering.of.Goals as goal
 
 pub all-requires : goal.all-requires
 all-requires c =
-    record { ready = rows_ready c.args.texts.now c.args.tables.now c.tables_stand.ensures.position c.requires.valid c.requires.planned }
+    record { few = c.requires.valid.few; ready = rows_ready c.args.texts.now c.args.tables.now c.tables_stand.ensures.position c.requires.valid c.requires.planned }
 
 pub returns-clause-ok : goal.returns-clause-ok
 returns-clause-ok c =

@@ -1,0 +1,4 @@
+pub mod LengthLemmas
+pub mod CountLemmas
+pub mod TableLemmas
+pub mod PlanLemmas

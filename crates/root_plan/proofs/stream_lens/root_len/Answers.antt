@@ -1,0 +1,28 @@
+use Rattle.std.proofs.Common.{◌≡◌, ◌+◌, ℕ, List, ap, sym, ◌∙◌, arith, length}
+use Rattle.std.specs.Prelude.{sum_by}
+use Rattle.root.specs.declared.kind.Kind.{Kind}
+use Rattle.root.specs.declared.kind.Kind.TheVariants.{Tables, Strings, UserStrings, Guids, Blobs}
+use Rattle.put.specs.Heading.{size_of, held, heading, heading_size}
+use Rattle.root_plan.proofs.LengthLemmas.{five_sum, root_long}
+use Rattle.root_plan.proofs.stream_lens.root_len.Goals as goal
+
+pub returns-clause-parts : goal.returns-clause-parts
+returns-clause-parts c =
+    let version = c.args.version.now in
+    let size = size_of c.args.sizes.now in
+    let kinds : c.as_slice.result.now ≡ held size = c.as_slice.ensures.kinds ∙ c.new-kinds.ensures in
+    let front = c.heading_len.ensures.offset size ∙ ap (heading_size version size) kinds in
+    omega (arith, front, five_sum size)
+
+pub returns-clause-len : goal.returns-clause-len
+returns-clause-len c model named same =
+    let size = size_of c.args.sizes.now in
+    let kinds : c.as_slice.result.now ≡ held size = c.as_slice.ensures.kinds ∙ c.new-kinds.ensures in
+    let front = c.heading_len.ensures.len size ∙ ap (λ (listed : List Kind). length (heading c.args.version.now size listed)) kinds
+        ∙ ap (λ (version : List ℕ). length (heading version size (held size))) (sym named) in
+    omega (arith, front, five_sum size, root_long c.canonical_roots_are_put.ensures model size same)
+
+pub returns-clause-limit : goal.returns-clause-limit
+returns-clause-limit c =
+    let low = c.requires.low in
+    omega (arith, c.heading_len.ensures.limit, low Tables, low Strings, low UserStrings, low Guids, low Blobs)

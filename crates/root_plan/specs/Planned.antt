@@ -1,0 +1,67 @@
+-- What is known of the canonical root of a model before a byte of it is written (ECMA-335 II.24.2).
+use Rattle.std.specs.Prelude.{◌≡◌, ◌+◌, ◌^◌, ◌<◌, ◌≤◌, ℕ, List, ◌++◌, length, sum_by}
+use Rattle.root.specs.declared.kind.Kind.{Kind}
+use Rattle.schema.specs.Tables.{tables}
+use Rattle.schema.specs.LaidOut.{tables_bytes}
+use Rattle.heaps.specs.declared.pool_error.PoolError.{PoolError}
+use Rattle.heaps.specs.declared.pool_error.PoolError.TheVariants as pool
+use Rattle.heaps.specs.TextPlan.{TextPlan}
+use Rattle.metadata.specs.Metadata.{Metadata}
+use Rattle.canonical.specs.Pools.{pools_of, texts_stream, blobs_stream, guids_stream}
+use Rattle.canonical.specs.Numbers.{numbers}
+use Rattle.canonical.specs.TableStream.{sizes_of, header_bytes, table_stream}
+use Rattle.canonical.specs.Canonical.{canonical, stream}
+use Rattle.put.specs.Flat.{cells_of, tables_in}
+use Rattle.put.specs.Heading.{size_of, held, heading_size}
+use Rattle.put.specs.TableHeader.{table_header}
+use Rattle.put.specs.Written.{fill}
+use Rattle.plan.specs.Numbered.{Numbered, IsNumbering}
+use Rattle.root_plan.specs.declared.heap_lens.HeapLens.{HeapLens}
+use Rattle.root_plan.specs.declared.tables_plan.TablesPlan.{TablesPlan}
+use Rattle.root_plan.specs.declared.planned.RootPlan.{RootPlan}
+use Rattle.root_plan.specs.declared.plan_error.PlanError.{PlanError}
+use Rattle.root_plan.specs.declared.plan_error.PlanError.TheVariants as error
+
+-- a heap that would pass 2^30 bytes makes a root that does
+abbrev pub plan_error : PoolError → PlanError
+plan_error pool.Memory = error.Memory
+plan_error pool.Full = error.TooLarge
+
+-- the pools are those of the model, and the numbers those of its cells
+pub record ArePooled (model : Metadata) (plan : TextPlan) (numbered : Numbered) : Type 0 where
+  pub texts : plan.entries ≡ (pools_of model).texts
+  pub numbering : IsNumbering model numbered
+
+-- how many bytes the streams of the model's heaps have
+pub record AreHeapLens (model : Metadata) (lens : HeapLens) : Type 0 where
+  pub strings : lens.strings ≡ length (texts_stream model)
+  pub guids : lens.guids ≡ length (guids_stream model)
+  pub blobs : lens.blobs ≡ length (blobs_stream model)
+
+-- The plan is that of the model's table stream: of its counts and its HeapSizes, from which the widths of columns follow; of
+-- its Sorted; and of its length without fill.
+pub record IsTablesPlan (model : Metadata) (plan : TablesPlan) : Type 0 where
+  pub counts : plan.layout.counts ≡ (sizes_of model).counts
+  pub widths : plan.layout.heap_sizes ≡ (sizes_of model).heap_sizes
+  pub heap_sizes : plan.heap_sizes ≡ (sizes_of model).heap_sizes
+  pub sorted : plan.sorted ≡ (sizes_of model).sorted
+  pub len : plan.len ≡ length (header_bytes model ++ tables_bytes (sizes_of model) tables (numbers model))
+
+-- the header and the rows of a table stream that is planned, with these numbers, and the fill
+abbrev pub planned_tables : TablesPlan → List ℕ → List ℕ
+planned_tables plan numbers =
+    table_header plan.heap_sizes plan.sorted plan.layout ++ tables_bytes plan.layout tables (tables_in plan.layout tables numbers) ++ fill plan.len
+
+-- The plan is that of the model's canonical root: its pools and numbers; its table stream, of which the plan and the numbers
+-- tell each byte; how many bytes each stream has; and how many the root has, which stand behind one another.
+pub record IsRootPlan (model : Metadata) (plan : RootPlan) : Type 0 where
+  pub texts : plan.texts.entries ≡ (pools_of model).texts
+  pub numbering : IsNumbering model plan.numbering
+  pub many : length plan.numbering.numbers ≡ sum_by (cells_of plan.tables.layout) tables
+  pub table_stream : planned_tables plan.tables plan.numbering.numbers ≡ table_stream model
+  pub tables : IsTablesPlan model plan.tables
+  pub sizes : (kind : Kind) → size_of plan.sizes kind ≡ length (stream model kind)
+  pub len : plan.len ≡ length (canonical model)
+  pub parts : plan.len ≡ heading_size model.version (size_of plan.sizes) (held (size_of plan.sizes)) + sum_by (size_of plan.sizes) (held (size_of plan.sizes))
+  pub short : length model.version ≤ 254
+  pub limit : plan.len ≤ 2 ^ 30

@@ -1,0 +1,56 @@
+ghost use Rattle.std.specs.Prelude.{◌≡◌, ◌<◌, ◌^◌, ◌≤◌, ℕ, List, length};
+ghost use Rattle.heaps.specs.Fill.{filled};
+ghost use Rattle.heaps.specs.TextHeap.{text_heap};
+ghost use Rattle.heaps.specs.BlobHeap.{blob_heap};
+ghost use Rattle.heaps.specs.GuidHeap.{guid_heap};
+ghost use Rattle.metadata.specs.Metadata.{Metadata};
+ghost use Rattle.canonical.specs.TableStream.{wide_bit as bit_of_heap, sizes_of};
+ghost use Rattle.root_plan.specs.Planned.{AreHeapLens};
+
+use crate::stream_lens::filled_len;
+use heaps::TextPool;
+use plan::Numbering;
+
+/// How many bytes the streams of the heaps have, filled to a multiple of four.
+#[derive(Clone, Copy)]
+pub struct HeapLens {
+    /// `#Strings`.
+    pub strings: u32,
+    /// `#GUID`.
+    pub guids: u32,
+    /// `#Blob`.
+    pub blobs: u32,
+}
+
+/// The bit of a heap in HeapSizes, set where its stream has so many bytes that indexes take four.
+fn wide_bit(len: u32, bit: u8) -> u8
+    ensures value { (stream : List ℕ) → len ≡ length stream → result ≡ bit_of_heap stream bit }
+    ensures limit { result ≤ bit }
+{
+    if len >= 1 << 16 { bit } else { 0 }
+}
+
+impl HeapLens {
+    /// Those of these pools.
+    pub fn of(texts: &TextPool, numbering: &Numbering) -> HeapLens
+        ensures strings { result.strings ≡ length (filled (text_heap texts.now.entries)) }
+        ensures guids { result.guids ≡ length (filled (guid_heap numbering.now.guids)) }
+        ensures blobs { result.blobs ≡ length (filled (blob_heap numbering.now.blobs)) }
+        ensures few { (result.strings ≤ 2 ^ 30) × (result.guids ≤ 2 ^ 30) × (result.blobs ≤ 2 ^ 30) }
+    {
+        HeapLens {
+            strings: filled_len(texts.bytes().len()),
+            guids: filled_len(numbering.guids().len()),
+            blobs: filled_len(numbering.blobs().len()),
+        }
+    }
+
+    /// HeapSizes (II.24.2.6).
+    #[tactic(auto, unfolding(canonical::specs::TableStream::sizes_of))]
+    pub fn heap_sizes(&self) -> u8
+        ensures value { (model : Metadata) → AreHeapLens model self.now → result ≡ (sizes_of model).heap_sizes }
+        ensures low { result < 8 }
+    {
+        wide_bit(self.strings, 1) + wide_bit(self.guids, 2) + wide_bit(self.blobs, 4)
+    }
+}

@@ -1,0 +1,19 @@
+ghost use Rattle.std.specs.Prelude.{◌^◌, ◌<◌, ◌≤◌, length};
+ghost use Rattle.root.specs.declared.kind.Kind.{Kind as TheKind};
+ghost use Rattle.heaps.specs.TextHeap.{text_heap};
+ghost use Rattle.metadata.specs.Metadata.{Metadata};
+ghost use Rattle.canonical.specs.Pools.{pools_of};
+ghost use Rattle.canonical.specs.Canonical.{canonical, stream};
+ghost use Rattle.plan.specs.Numbered.{IsTooLong};
+
+use put::canonical_roots_are_put;
+
+/// Each stream of a canonical root, with its fill, is no longer than the root: so where a heap of a
+/// model is longer than 2^30 bytes, its canonical root is too.
+pub fn streams_are_within_roots()
+    ensures stream { (model : Metadata) (kind : TheKind) → length (stream model kind) ≤ length (canonical model) }
+    ensures texts { (model : Metadata) → 2 ^ 30 < length (text_heap (pools_of model).texts) → 2 ^ 30 < length (canonical model) }
+    ensures pools { (model : Metadata) → IsTooLong model → 2 ^ 30 < length (canonical model) }
+{
+    canonical_roots_are_put();
+}

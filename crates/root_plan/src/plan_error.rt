@@ -1,0 +1,36 @@
+use heaps::PoolError;
+use std::alloc::AllocError;
+
+/// Why a root is not planned.
+#[derive(Debug, Clone, Copy, PartialEq, Eq)]
+pub enum PlanError {
+    /// The canonical root is longer than the limit.
+    TooLarge,
+    /// There is no more memory.
+    Memory,
+}
+
+impl From<AllocError> for PlanError {
+    ghost use Rattle.std.specs.Prelude.{◌≡◌};
+    ghost use Rattle.root_plan.specs.declared.plan_error.PlanError.TheVariants.{Memory};
+
+    ghost from_gives = { λ _ e. e ≡ Memory };
+
+    fn from(_: AllocError) -> PlanError {
+        PlanError::Memory
+    }
+}
+
+impl From<PoolError> for PlanError {
+    ghost use Rattle.std.specs.Prelude.{◌≡◌};
+    ghost use Rattle.root_plan.specs.Planned.{plan_error};
+
+    ghost from_gives = { λ pool e. e ≡ plan_error pool };
+
+    fn from(error: PoolError) -> PlanError {
+        match error {
+            PoolError::Memory => PlanError::Memory,
+            PoolError::Full => PlanError::TooLarge,
+        }
+    }
+}

@@ -1,0 +1,35 @@
+ghost use Rattle.std.specs.Prelude.{◌≡◌, ◌+◌, ◌^◌, ◌<◌, ◌≤◌, ℕ, List, length, sum_by};
+ghost use Rattle.root.specs.declared.kind.Kind.{Kind as TheKind};
+ghost use Rattle.heaps.specs.Fill.{filled};
+ghost use Rattle.metadata.specs.Metadata.{Metadata};
+ghost use Rattle.canonical.specs.Canonical.{canonical, stream};
+ghost use Rattle.put.specs.Heading.{size_of, held, heading_size};
+
+use put::{HeldKinds, StreamSizes, canonical_roots_are_put, heading_len};
+
+/// The most bytes of a stream, and of a root.
+const STREAM_LIMIT: usize = 1 << 30;
+
+/// How many bytes a stream has that holds so many, filled to a multiple of four (II.24.2.2).
+pub fn filled_len(len: usize) -> u32
+    requires { len ≤ STREAM_LIMIT }
+    ensures value { (bytes : List ℕ) → length bytes ≡ len → result ≡ length (filled bytes) }
+    ensures limit { result ≤ STREAM_LIMIT }
+{
+    (len + (4 - len % 4) % 4) as u32
+}
+
+/// How many bytes the root of a version has whose streams have these sizes.
+pub fn root_len(version: &str, sizes: &StreamSizes) -> usize
+    requires short { length version.now ≤ 254 }
+    requires low { (kind : TheKind) → size_of sizes.now kind ≤ STREAM_LIMIT }
+    ensures parts { result ≡ heading_size version.now (size_of sizes.now) (held (size_of sizes.now)) + sum_by (size_of sizes.now) (held (size_of sizes.now)) }
+    ensures len { (model : Metadata) → model.version ≡ version.now → ((kind : TheKind) → size_of sizes.now kind ≡ length (stream model kind))
+        → result ≡ length (canonical model) }
+    ensures limit { result < 2 ^ 33 }
+{
+    canonical_roots_are_put();
+    let kinds = HeldKinds::new(sizes);
+    let heaps = sizes.strings as usize + sizes.user_strings as usize + sizes.guids as usize + sizes.blobs as usize;
+    heading_len(version, kinds.as_slice()) + sizes.tables as usize + heaps
+}

@@ -1,0 +1,24 @@
+//! Tests of `writer`, over its public calls alone, and [`rewritten`], the canonical root of the model of a
+//! root.
+//!
+//! Models that are made cell by cell, and models of roots that are laid out by hand, are written, and the
+//! bytes compared with what ECMA-335 Partition II (22 to 24) asks of the one canonical root. It is then
+//! given out through writers that fail where their steps say so.
+#![tactic(auto)]
+
+mod rewriting;
+
+pub use rewriting::rewritten;
+
+#[cfg(test)]
+mod builder;
+#[cfg(test)]
+mod given_out;
+#[cfg(test)]
+mod loaded;
+#[cfg(test)]
+mod made;
+#[cfg(test)]
+mod models;
+#[cfg(test)]
+mod samples;
