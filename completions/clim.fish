@@ -1,6 +1,6 @@
 # Completions of clim for fish.
 
-set -l readers root check show types token
+set -l readers root check show types token rewrite
 set -l subcommands $readers explain help
 
 complete -c clim -f
@@ -11,6 +11,7 @@ complete -c clim -n "not __fish_seen_subcommand_from $subcommands" -a check -d '
 complete -c clim -n "not __fish_seen_subcommand_from $subcommands" -a show -d 'Print the rows of all tables'
 complete -c clim -n "not __fish_seen_subcommand_from $subcommands" -a types -d 'Print the types, and how many fields and methods each has'
 complete -c clim -n "not __fish_seen_subcommand_from $subcommands" -a token -d 'Print the row or the user string that a token names'
+complete -c clim -n "not __fish_seen_subcommand_from $subcommands" -a rewrite -d 'Write the canonical metadata root of a file'
 complete -c clim -n "not __fish_seen_subcommand_from $subcommands" -a explain -d 'Tell what a fault means, or list all faults'
 complete -c clim -n "not __fish_seen_subcommand_from $subcommands" -a help -d 'Print help of a command'
 complete -c clim -n "__fish_seen_subcommand_from $readers" -F

@@ -9,3 +9,4 @@ pub mod NumbersRead
 pub mod Tokens
 pub mod TypeTexts
 pub mod Signatures
+pub mod Rewritings

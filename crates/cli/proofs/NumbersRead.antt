@@ -1,6 +1,6 @@
 -- What digits write, where a word begins with no plus.
-use Rattle.std.proofs.Common.{◌≡◌, ◌==◌, ◌∙◌, ℕ, ◌^◌, ◌<◌, ◌≤◌, Bool, true, false, cond, List, drop, length, Result, Ok, Err, Option, Some, None, arith, refl, subst, sym}
-use Rattle.std.specs.Prelude.{slice_index, IfSome}
+use Rattle.std.proofs.Common.{◌≡◌, ◌==◌, ℕ, ◌^◌, ◌<◌, ◌≤◌, Bool, true, false, cond, List, drop, length, Result, Ok, Err, Option, arith, refl, subst}
+use Rattle.std.specs.Prelude.{slice_index}
 use Rattle.std.specs.Option.{SomeIff}
 use Rattle.std.specs.Result.{result_ok}
 use Rattle.std.specs.Str.Parse.{IsNumeral, ParsesUnsigned, digits_value}

@@ -3,7 +3,7 @@ use Rattle.std.proofs.Common.{List, Result, Ok, Err, IsOk, refl}
 use Rattle.packed.specs.declared.fault.Fault.{Fault as First}
 use Rattle.packed.specs.Demand.{Demand}
 use Rattle.cli.specs.declared.failure.Failure.{Failure}
-use Rattle.cli.specs.declared.failure.Failure.TheVariants.{Fault, NoSuchRow, NoToken, NoCode, CannotRead, CannotWriteOutput, OutOfMemory}
+use Rattle.cli.specs.declared.failure.Failure.TheVariants.{Fault, NoSuchRow, NoToken, NoCode, CannotRead, CannotWriteFile, CannotWriteOutput, OutOfMemory}
 use Rattle.cli.specs.Status.{IsOutput}
 use Rattle.cli.specs.Tasks.{TellsFault}
 
@@ -18,5 +18,6 @@ tells_output demands NoSuchRow is = is
 tells_output demands (NoToken word) is = is
 tells_output demands (NoCode word) is = is
 tells_output demands (CannotRead file) is = is
+tells_output demands (CannotWriteFile file) is = is
 tells_output demands CannotWriteOutput is = is
 tells_output demands OutOfMemory is = is

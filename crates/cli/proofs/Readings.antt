@@ -11,7 +11,7 @@ use Rattle.clap.specs.declared.ArgMatches.{ArgMatches}
 use Rattle.clap.specs.declared.ArgMatches.TheViews.{out-ArgMatches}
 use Rattle.cli.specs.Asked.{name_of, subcommand_named}
 use Rattle.cli.specs.declared.asked.Subcommand.{Subcommand}
-use Rattle.cli.specs.declared.asked.Subcommand.TheVariants.{Root, Check, Show, Types, Token, Explain}
+use Rattle.cli.specs.declared.asked.Subcommand.TheVariants.{Root, Check, Show, Types, Token, Rewrite, Explain}
 
 option_map_map : {A B C : Type 0} (f : B → C) (g : A → B) (o : Option A) → option_map f (option_map g o) ≡ option_map (λ x. f (g x)) o
 option_map_map f g None = refl
@@ -42,8 +42,9 @@ named_back word s e =
     (named_by word (bytes_eq word (name_of Show)) Show _ s (bytes_eq-Decides word (name_of Show)).0
     (named_by word (bytes_eq word (name_of Types)) Types _ s (bytes_eq-Decides word (name_of Types)).0
     (named_by word (bytes_eq word (name_of Token)) Token _ s (bytes_eq-Decides word (name_of Token)).0
+    (named_by word (bytes_eq word (name_of Rewrite)) Rewrite _ s (bytes_eq-Decides word (name_of Rewrite)).0
     (named_by word (bytes_eq word (name_of Explain)) Explain _ s (bytes_eq-Decides word (name_of Explain)).0
-    (λ none. cc)))))) e
+    (λ none. cc))))))) e
 
 -- a flag reads as true exactly where its text is `true`
 flag_reads : (E : Type 0) (o : Option Text) (r : Option Bool) → (o ≡ None → r ≡ None)

@@ -1,25 +1,38 @@
--- What is printed is of a file, which the words name.
-use Rattle.std.proofs.Common.{◌≡◌, ◌≢◌, ℕ, List, Result, Ok, Option, Some, None, subst}
+-- What is printed or written is of a file, which the words name.
+use Rattle.std.proofs.Common.{◌≡◌, ℕ, List, Result, Ok, Err, Option, Some, None, ap, sym, subst}
 use Rattle.std.specs.Prelude.{IsSome}
 use Rattle.std.specs.Borrow.{Bor}
 use Rattle.cli.specs.declared.asked.Ask.{Ask}
 use Rattle.cli.specs.declared.asked.Subcommand.{Subcommand}
 use Rattle.cli.specs.declared.asked.Subcommand.TheVariants as word
-use Rattle.cli.specs.declared.failure.Failure.{Failure}
 use Rattle.cli.specs.declared.task.Task.{Task}
 use Rattle.cli.specs.declared.task.Task.TheVariants as task
 use Rattle.cli.specs.declared.reports.Report.{Report}
 use Rattle.cli.specs.Asked.{HasFile}
 use Rattle.cli.specs.Tasks.{IsTask, IsExplainTask}
 
--- what `explain` asks for is no report
-explained : (ask : Ask) (report : Report) → ¬ IsTask word.Explain ask (Ok (task.Print report))
-explained ask report is = go ask.code is
-  where
-    go : (code : Option (Bor (List ℕ))) → ¬ IsExplainTask code (Ok (task.Print report))
-    go None same = cc
-    go (Some given) told = let same = told.2 in cc
+abbrev result_or : {T E : Type 0} → Result T E → T → T
+result_or (Ok x) y = x
+result_or (Err e) y = y
 
--- a report is of a file
-pub file_there : (ask : Ask) (report : Report) → HasFile ask → IsTask ask.subcommand ask (Ok (task.Print report)) → IsSome ask.file
-file_there ask report has is = has (λ same. explained ask report (subst (λ (s : Subcommand). IsTask s ask (Ok (task.Print report))) same is))
+abbrev IsExplanation : Task → Type 0
+IsExplanation (task.Explain code) = Unit {0}
+IsExplanation _ = ⊥
+
+-- `explain` asks for nothing else
+explained : (ask : Ask) (made : Task) → IsTask word.Explain ask (Ok made) → IsExplanation made
+explained ask made is = go ask.code is
+  where
+    go : (code : Option (Bor (List ℕ))) → IsExplainTask code (Ok made) → IsExplanation made
+    go None same = subst IsExplanation (ap (λ r. result_or r made) (sym same)) tt
+    go (Some given) told = subst IsExplanation (sym told.2) tt
+
+-- what is not explained is of a file
+pub file_there : (ask : Ask) (made : Task) → ¬ IsExplanation made → HasFile ask → IsTask ask.subcommand ask (Ok made) → IsSome ask.file
+file_there ask made other has is = has (λ same. other (explained ask made (subst (λ (s : Subcommand). IsTask s ask (Ok made)) same is)))
+
+pub report_is : (made : Task) (report : Report) → made ≡ task.Print report → ¬ IsExplanation made
+report_is made report is = λ explains. subst IsExplanation is explains
+
+pub rewriting_is : (made : Task) (path : Bor (List ℕ)) → made ≡ task.Rewrite path → ¬ IsExplanation made
+rewriting_is made path is = λ explains. subst IsExplanation is explains

@@ -7,7 +7,7 @@ use Rattle.schema.specs.declared.token.Token.{Token}
 use Rattle.schema.specs.Tokens.{IsToken}
 use Rattle.opening.specs.Views.{row_count, user_of}
 use Rattle.cli.specs.declared.failure.Failure.{Failure}
-use Rattle.cli.specs.declared.failure.Failure.TheVariants.{Fault, NoSuchRow, NoToken, NoCode, CannotRead, CannotWriteOutput, OutOfMemory}
+use Rattle.cli.specs.declared.failure.Failure.TheVariants.{Fault, NoSuchRow, NoToken, NoCode, CannotRead, CannotWriteFile, CannotWriteOutput, OutOfMemory}
 use Rattle.cli.specs.declared.reports.Report.TheVariants as report
 use Rattle.cli.specs.Checked.{IsOpened}
 use Rattle.cli.specs.Status.{IsOutput}
@@ -20,6 +20,7 @@ module _ (root : List ℕ) (number : ℕ) where
   string_told (NoToken word) is told = told
   string_told (NoCode word) is told = told
   string_told (CannotRead file) is told = told
+  string_told (CannotWriteFile file) is told = told
   string_told CannotWriteOutput is told = told
   string_told OutOfMemory is told = told
 
@@ -29,6 +30,7 @@ module _ (root : List ℕ) (number : ℕ) where
   output_told (NoToken word) told = told
   output_told (NoCode word) told = told
   output_told (CannotRead file) told = told
+  output_told (CannotWriteFile file) told = told
   output_told CannotWriteOutput told = told
   output_told OutOfMemory told = told
 
@@ -58,6 +60,7 @@ module _ (root : List ℕ) (number : ℕ) where
   unnamed_in bare bytes opened (NoToken word) told = told
   unnamed_in bare bytes opened (NoCode word) told = told
   unnamed_in bare bytes opened (CannotRead file) told = told
+  unnamed_in bare bytes opened (CannotWriteFile file) told = told
   unnamed_in bare bytes opened CannotWriteOutput told = told
   unnamed_in bare bytes opened OutOfMemory told = told
 

@@ -8,14 +8,15 @@ use Rattle.clap.specs.Walk.{Row, Rule, Text, answers_to, first_of, nothing_held,
 use Rattle.clap.specs.Simple.{App, Shape, argument_words, built, built_leaf, entered, inherited, filled, label_of, names_of, rows_at, subcommand_of, with_index}
 use Rattle.clap.specs.Kinds.{check_kinds}
 use Rattle.clap.specs.Takes.{is_given}
+use Rattle.clap.specs.Words.{with_rule}
 use Rattle.clap.specs.Faults.{entered_fault, fault_of, level_fault, use_fault}
 use Rattle.clap.specs.declared.parser.matches.ValueSource.TheVariants.{CommandLine}
 use Rattle.clap.proofs.OnLiterals.{clap_on_literals}
 use Rattle.std.proofs.lemmas.Slice.Eq.{bytes_eq-Decides}
 use Rattle.cli.specs.Asked.{name_of, subcommand_named}
-use Rattle.cli.specs.declared.asked.Subcommand.TheVariants.{Root, Check, Show, Types, Token, Explain}
+use Rattle.cli.specs.declared.asked.Subcommand.TheVariants.{Root, Check, Show, Types, Token, Rewrite, Explain}
 use Rattle.cli.specs.declared.asked.Subcommand.{Subcommand}
-use Rattle.cli.specs.CommandLine.{bare, clim, code, explain, file, reader, second, token}
+use Rattle.cli.specs.CommandLine.{bare, clim, code, explain, file, reader, second}
 use Rattle.cli.proofs.NoHelp.{StopsElsewhere, is_help, stops_elsewhere}
 use Rattle.cli.proofs.Filled.{AllFill, Fills, IsFilled, below_none, check_none, filled_with, filled_without, first_none, given_has_value, level_filled}
 
@@ -42,7 +43,7 @@ built_bare = with_index 2 (filled bare)
 abbrev pub values_in : Text → List Text
 values_in name =
     if bytes_eq name (name_of Explain) then []
-    else codes "FILE" ∷ (if bytes_eq name (name_of Token) then codes "second" ∷ [] else [])
+    else codes "FILE" ∷ (if bytes_eq name (name_of Token) || bytes_eq name (name_of Rewrite) then codes "second" ∷ [] else [])
 
 abbrev AllGiven : List Text → List Row → Type 0
 AllGiven [] rows = Unit {0}
@@ -135,6 +136,10 @@ pub token_takes : values_in (codes "token") ≡ codes "FILE" ∷ codes "second" 
 unfolding clap_on_literals
 token_takes = refl
 
+pub rewrite_takes : values_in (codes "rewrite") ≡ codes "FILE" ∷ codes "second" ∷ []
+unfolding clap_on_literals
+rewrite_takes = refl
+
 explain_takes : values_in (codes "explain") ≡ []
 unfolding clap_on_literals
 explain_takes = refl
@@ -159,6 +164,10 @@ token_known : IsSome (subcommand_named (codes "token"))
 unfolding clap_on_literals
 token_known = refl
 
+rewrite_known : IsSome (subcommand_named (codes "rewrite"))
+unfolding clap_on_literals
+rewrite_known = refl
+
 explain_known : IsSome (subcommand_named (codes "explain"))
 unfolding clap_on_literals
 explain_known = refl
@@ -176,12 +185,16 @@ reader_ready name takes known = record {
   needs = λ rows all. (needed (is_given (codes "FILE") rows) _ all, tt);
 }
 
-token_ready : IsReady (built_leaf (inherited (built clim).top token.top))
-token_ready = record {
+-- one that has a second value beside the file
+abbrev built_second : Text → Shape
+built_second name = built_leaf (inherited (built clim).top (with_rule (reader name) second).top)
+
+second_ready : (name : Text) → values_in name ≡ codes "FILE" ∷ codes "second" ∷ [] → IsSome (subcommand_named name) → IsReady (built_second name)
+second_ready name takes known = record {
   fills = (file_fills, (bare_fills, (second_fills, ((λ again values rows none f. f), tt))));
   values = codes "FILE" ∷ codes "second" ∷ [];
-  takes = token_takes;
-  known = token_known;
+  takes = takes;
+  known = known;
   needs = λ rows all. (
     needed (is_given (codes "FILE") rows) _ all,
     (needed (is_given (codes "second") rows) _ (not_needed (is_given (codes "FILE") rows) _ all), tt),
@@ -216,8 +229,11 @@ clim_ready word other = (
       (
         (λ is. reader_ready (codes "types") types_takes types_known),
         (
-          (λ is. token_ready),
-          ((λ is. explain_ready), ((λ is. let help = answers_help word is in cc), tt)),
+          (λ is. second_ready (codes "token") token_takes token_known),
+          (
+            (λ is. second_ready (codes "rewrite") rewrite_takes rewrite_known),
+            ((λ is. explain_ready), ((λ is. let help = answers_help word is in cc), tt)),
+          ),
         ),
       ),
     ),
@@ -231,6 +247,7 @@ file_first Check rows other there = (subst (λ (ids : List Text). AllThere ids r
 file_first Show rows other there = (subst (λ (ids : List Text). AllThere ids rows) show_takes there).0
 file_first Types rows other there = (subst (λ (ids : List Text). AllThere ids rows) types_takes there).0
 file_first Token rows other there = (subst (λ (ids : List Text). AllThere ids rows) token_takes there).0
+file_first Rewrite rows other there = (subst (λ (ids : List Text). AllThere ids rows) rewrite_takes there).0
 file_first Explain rows other there = absurd (other refl)
 
 -- nothing is wanted that is not there

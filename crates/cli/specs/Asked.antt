@@ -5,7 +5,7 @@ use Rattle.clap.specs.Words.{Row, Text, first_of, one_of, subcommand_of}
 use Rattle.cli.specs.CommandLine.{clim}
 use Rattle.cli.specs.declared.asked.Ask.{Ask}
 use Rattle.cli.specs.declared.asked.Subcommand.{Subcommand}
-use Rattle.cli.specs.declared.asked.Subcommand.TheVariants.{Root, Check, Show, Types, Token, Explain}
+use Rattle.cli.specs.declared.asked.Subcommand.TheVariants.{Root, Check, Show, Types, Token, Rewrite, Explain}
 
 -- the word of a subcommand
 abbrev pub name_of : Subcommand → Text
@@ -14,6 +14,7 @@ name_of Check = codes "check"
 name_of Show = codes "show"
 name_of Types = codes "types"
 name_of Token = codes "token"
+name_of Rewrite = codes "rewrite"
 name_of Explain = codes "explain"
 
 -- the subcommand that a word names
@@ -24,6 +25,7 @@ subcommand_named word =
     else if bytes_eq word (name_of Show) then Some Show
     else if bytes_eq word (name_of Types) then Some Types
     else if bytes_eq word (name_of Token) then Some Token
+    else if bytes_eq word (name_of Rewrite) then Some Rewrite
     else if bytes_eq word (name_of Explain) then Some Explain
     else None
 
@@ -43,4 +45,4 @@ HasFile ask = ask.subcommand ≢ Explain → IsSome ask.file
 
 -- the second value is there where the subcommand has one
 abbrev pub HasSecond : Ask → Type 0
-HasSecond ask = ask.subcommand ≡ Token → IsSome ask.second
+HasSecond ask = (ask.subcommand ≡ Token → IsSome ask.second) × (ask.subcommand ≡ Rewrite → IsSome ask.second)

@@ -45,6 +45,10 @@ types = reader (codes "types")
 abbrev pub token : App
 token = with_rule (reader (codes "token")) second
 
+-- `rewrite [--bare] FILE OUT`
+abbrev pub rewrite : App
+rewrite = with_rule (reader (codes "rewrite")) second
+
 -- `explain [CODE]`
 abbrev pub explain : App
 explain = with_rule (new_app (codes "explain")) code
@@ -56,5 +60,5 @@ without_subcommands = on_top (λ s. record s { has_version = true; subcommand_re
 -- the subcommands that read a file, and `explain`; `clap` adds `help`
 abbrev pub clim : App
 clim =
-    with_subcommand (with_subcommand (with_subcommand (with_subcommand (with_subcommand (with_subcommand
-    without_subcommands root.top) check.top) show.top) types.top) token.top) explain.top
+    with_subcommand (with_subcommand (with_subcommand (with_subcommand (with_subcommand (with_subcommand (with_subcommand
+    without_subcommands root.top) check.top) show.top) types.top) token.top) rewrite.top) explain.top

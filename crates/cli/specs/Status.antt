@@ -1,7 +1,7 @@
 -- The status that the process is to end with.
 use Rattle.std.specs.Prelude.{ℕ}
 use Rattle.cli.specs.declared.failure.Failure.{Failure}
-use Rattle.cli.specs.declared.failure.Failure.TheVariants.{Fault, NoSuchRow, NoToken, NoCode, CannotRead, CannotWriteOutput, OutOfMemory}
+use Rattle.cli.specs.declared.failure.Failure.TheVariants.{Fault, NoSuchRow, NoToken, NoCode, CannotRead, CannotWriteOutput, CannotWriteFile, OutOfMemory}
 
 -- the status of a failure
 abbrev pub status_of : Failure → ℕ
@@ -11,6 +11,7 @@ status_of (NoToken word) = 2
 status_of (NoCode word) = 2
 status_of (CannotRead file) = 3
 status_of CannotWriteOutput = 3
+status_of (CannotWriteFile file) = 3
 status_of OutOfMemory = 3
 
 -- the output or memory was refused

@@ -45,6 +45,7 @@ IsTask word.Check ask result = result ≡ Ok (task.Print report.Check)
 IsTask word.Show ask result = result ≡ Ok (task.Print report.Show)
 IsTask word.Types ask result = result ≡ Ok (task.Print report.Types)
 IsTask word.Token ask result = IfSome ask.second (λ hex. IsTokenTask hex.now result)
+IsTask word.Rewrite ask result = IfSome ask.second (λ out. result ≡ Ok (task.Rewrite out))
 IsTask word.Explain ask result = IsExplainTask ask.code result
 
 -- a user string stands at an offset of a root's user bytes

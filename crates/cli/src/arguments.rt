@@ -6,7 +6,7 @@ ghost use Rattle.cli.specs.CommandLine.{clim};
 
 use crate::asked::{Ask, Subcommand};
 use crate::subcommands::{
-    check_file, explain_fault, print_root, print_token, print_types, show_tables,
+    check_file, explain_fault, print_root, print_token, print_types, rewrite_file, show_tables,
 };
 use clap::{Command, Error};
 use std::alloc::{AllocError, Global};
@@ -40,7 +40,9 @@ fn command<'a>(alloc: Global) -> Result<Command<'a>, AllocError>
     ensures { IfOk result (λ command. app_of command ≡ clim) }
 {
     Command::new(alloc, "clim")
-        .about("Reads and checks the metadata of .NET assemblies (ECMA-335, Partition II)")
+        .about(
+            "Reads, checks and rewrites the metadata of .NET assemblies (ECMA-335, Partition II)",
+        )
         .version("0.1.0")
         .after_help(STATUSES)
         .subcommand_required(true)
@@ -49,6 +51,7 @@ fn command<'a>(alloc: Global) -> Result<Command<'a>, AllocError>
         .subcommand(show_tables::command(alloc)?)?
         .subcommand(print_types::command(alloc)?)?
         .subcommand(print_token::command(alloc)?)?
+        .subcommand(rewrite_file::command(alloc)?)?
         .subcommand(explain_fault::command(alloc)?)
 }
 

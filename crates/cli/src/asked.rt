@@ -10,7 +10,7 @@ pub struct Ask<'a> {
     pub bare: bool,
     /// The file to read, as its word has it. `explain` has none.
     pub file: Option<&'a str>,
-    /// The value behind the file, as its word has it: the token of `token`.
+    /// The value behind the file, as its word has it: the token of `token`, the output of `rewrite`.
     pub second: Option<&'a str>,
     /// The number of the fault that `explain` is asked about, as its word has it.
     pub code: Option<&'a str>,
@@ -29,6 +29,8 @@ pub enum Subcommand {
     Types,
     /// `token`: print the row or the user string that a token names.
     Token,
+    /// `rewrite`: write the canonical metadata root of the file.
+    Rewrite,
     /// `explain`: tell what a fault means, or list all.
     Explain,
 }
@@ -44,6 +46,7 @@ impl Subcommand {
             "show" => Some(Subcommand::Show),
             "types" => Some(Subcommand::Types),
             "token" => Some(Subcommand::Token),
+            "rewrite" => Some(Subcommand::Rewrite),
             "explain" => Some(Subcommand::Explain),
             _ => None,
         }

@@ -20,6 +20,8 @@ pub(crate) enum Failure<'a> {
     /// The file, by the word that names it, could not be opened or read to its end.
     CannotRead(&'a str),
     CannotWriteOutput,
+    /// The file, by the word that names it, could not be made, emptied or written to its end.
+    CannotWriteFile(&'a str),
     OutOfMemory,
 }
 
@@ -32,6 +34,14 @@ impl<'a> Failure<'a> {
         match error.kind() {
             ErrorKind::OutOfMemory => Failure::OutOfMemory,
             _ => Failure::CannotRead(file),
+        }
+    }
+
+    /// What a refused opening of the file to write is.
+    pub(crate) fn of_opening(error: &io::Error, file: &'a str) -> Failure<'a> {
+        match error.kind() {
+            ErrorKind::OutOfMemory => Failure::OutOfMemory,
+            _ => Failure::CannotWriteFile(file),
         }
     }
 
@@ -52,7 +62,10 @@ impl<'a> Failure<'a> {
         match self {
             Failure::Fault(_) | Failure::NoSuchRow => 1,
             Failure::NoToken(_) | Failure::NoCode(_) => 2,
-            Failure::CannotRead(_) | Failure::CannotWriteOutput | Failure::OutOfMemory => 3,
+            Failure::CannotRead(_)
+            | Failure::CannotWriteOutput
+            | Failure::CannotWriteFile(_)
+            | Failure::OutOfMemory => 3,
         }
     }
 }
@@ -98,6 +111,7 @@ impl fmt::Display for Failure<'_> {
             }
             Failure::CannotRead(file) => write!(f, "error: cannot read {file}"),
             Failure::CannotWriteOutput => write!(f, "error: cannot write output"),
+            Failure::CannotWriteFile(file) => write!(f, "error: cannot write {file}"),
             Failure::OutOfMemory => write!(f, "error: out of memory"),
         }
     }

@@ -7,7 +7,7 @@ use crate::asked::Ask;
 use crate::failure::{Failure, printed};
 use crate::input::read_file;
 use crate::reports;
-use crate::subcommands::explain_fault;
+use crate::subcommands::{explain_fault, rewrite_file};
 use crate::task::{Task, task_of};
 use clap::error::ErrorKind;
 use std::alloc::Global;
@@ -19,9 +19,9 @@ use std::rt::Files;
 ///
 /// - 0: it did what was asked, or printed its help or version;
 /// - 1: the file breaks a rule of the standard, told as `fault LAYER CODE at OFFSET: NAME`, or lacks the
-///   row that was asked for;
+///   row that was asked for, or its canonical root is too long;
 /// - 2: the words ask for nothing that the program does; no file was read;
-/// - 3: the file could not be read, `out` could not be written, or memory was refused.
+/// - 3: the file could not be read, `out` or the file to write could not be written, or memory was refused.
 ///
 /// Results go to `out`, and only once all of the file was read; what went wrong goes to `err`. An
 /// `err` that can't be written changes nothing.
@@ -82,10 +82,15 @@ fn run<'a, R: Files + AllocGlobal, W: Write>(
     requires file { HasFile ask }
     requires second { HasSecond ask }
 {
-    match task_of(ask)? {
+    let task = task_of(ask)?;
+    match task {
         Task::Print(report) => {
             let bytes = read_file(rt, ask.file.unwrap())?;
             reports::print(rt.alloc(), report, ask.bare, &bytes, out)
+        }
+        Task::Rewrite(path) => {
+            let bytes = read_file(rt, ask.file.unwrap())?;
+            rewrite_file::run(rt, &bytes, ask.bare, path, out)
         }
         Task::Explain(code) => explain_fault::run(rt.alloc(), code, out),
     }

@@ -12,6 +12,7 @@ pub(crate) mod explain_fault;
 pub(crate) mod print_root;
 pub(crate) mod print_token;
 pub(crate) mod print_types;
+pub(crate) mod rewrite_file;
 pub(crate) mod show_tables;
 
 /// The words of a subcommand that reads a file, and its help: what it does and what it prints.

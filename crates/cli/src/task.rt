@@ -10,15 +10,17 @@ use packed::FaultCode;
 
 /// What is to be done.
 #[derive(Clone, Copy, Debug, PartialEq, Eq)]
-pub(crate) enum Task {
+pub(crate) enum Task<'a> {
     /// Print something of a file.
     Print(Report),
+    /// Write the canonical root of a file to the path that a word names.
+    Rewrite(&'a str),
     /// Explain a fault, or list all.
     Explain(Option<FaultCode>),
 }
 
 /// What the words ask for, before the file is read.
-pub(crate) fn task_of<'a>(ask: Ask<'a>) -> Result<Task, Failure<'a>>
+pub(crate) fn task_of<'a>(ask: Ask<'a>) -> Result<Task<'a>, Failure<'a>>
     requires { HasSecond ask }
     ensures { IsTask ask.entry.subcommand ask.entry result }
 {
@@ -32,12 +34,13 @@ pub(crate) fn task_of<'a>(ask: Ask<'a>) -> Result<Task, Failure<'a>>
             let number = token_of(word).ok_or(Failure::NoToken(word))?;
             Task::Print(Report::Token(number))
         }
+        Subcommand::Rewrite => Task::Rewrite(ask.second.unwrap()),
         Subcommand::Explain => return explanation_of(ask.code),
     })
 }
 
 /// What `explain` is to do: explain the fault whose number a word writes, or list all where there is no word.
-fn explanation_of<'a>(code: Option<&'a str>) -> Result<Task, Failure<'a>>
+fn explanation_of<'a>(code: Option<&'a str>) -> Result<Task<'a>, Failure<'a>>
     ensures { IsExplainTask code.entry result }
 {
     let Some(word) = code else {

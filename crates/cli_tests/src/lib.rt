@@ -14,6 +14,8 @@ mod heads;
 #[cfg(test)]
 mod printed_rows;
 #[cfg(test)]
+mod rewriting;
+#[cfg(test)]
 mod runs;
 #[cfg(test)]
 mod samples;

@@ -16,7 +16,7 @@ const LINES_IN_HELP: &str = "\
 /// The file named lacks: a status of 2 shows that it was not looked for.
 #[test]
 fn tells_what_the_words_lack(rt: HostRuntime) -> Result<(), Fail> {
-    let refused: [(&[&str], &str); 22] = [
+    let refused: [(&[&str], &str); 25] = [
         (&[], "Usage: clim <COMMAND>"),
         (&["clim"], "Usage: clim <COMMAND>"),
         (&["clim", "lacks"], "unrecognized subcommand 'lacks'"),
@@ -40,6 +40,12 @@ fn tells_what_the_words_lack(rt: HostRuntime) -> Result<(), Fail> {
         (
             &["clim", "help", "lacks"],
             "unrecognized subcommand 'lacks'",
+        ),
+        (&["clim", "rewrite"], "Usage: clim rewrite <FILE> <OUT>"),
+        (&["clim", "rewrite", "lacks"], "  <OUT>\n"),
+        (
+            &["clim", "rewrite", "lacks", "out", "more"],
+            "unexpected argument 'more'",
         ),
         (
             &["clim", "explain", "501", "502"],
@@ -102,6 +108,7 @@ fn helps(rt: HostRuntime) -> Result<(), Fail> {
         "\n  show ",
         "\n  types ",
         "\n  token ",
+        "\n  rewrite ",
         "\n  explain ",
         "\n  help ",
         "Exit status:",
@@ -139,6 +146,11 @@ fn helps_with_each_subcommand(rt: HostRuntime) -> Result<(), Fail> {
             "token",
             "Usage: clim token [OPTIONS] <FILE> <HEX>",
             "\n  user\n",
+        ),
+        (
+            "rewrite",
+            "Usage: clim rewrite [OPTIONS] <FILE> <OUT>",
+            "\n  wrote 144 bytes\n",
         ),
         (
             "explain",
@@ -205,6 +217,22 @@ fn asks(rt: HostRuntime) -> Result<(), Fail> {
             rt.alloc(),
             &["clim", "token", "a.root", "--bare", "6000001"]
         )?,
+        want
+    );
+    Ok(())
+}
+
+#[test]
+fn asks_for_an_output(rt: HostRuntime) -> Result<(), Fail> {
+    let want = Ask {
+        subcommand: Subcommand::Rewrite,
+        bare: false,
+        file: Some("a.dll"),
+        second: Some("a.root"),
+        code: None,
+    };
+    assert_eq!(rt;
+        ask(rt.alloc(), &["clim", "rewrite", "a.dll", "a.root"])?,
         want
     );
     Ok(())

@@ -6,8 +6,8 @@ use std::{fs, io};
 
 /// A device that takes nothing: it refuses each write or, where `late`, each flush.
 #[derive(Drop)]
-struct Full {
-    late: bool,
+pub struct Full {
+    pub late: bool,
 }
 
 impl Write for Full {

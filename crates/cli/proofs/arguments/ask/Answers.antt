@@ -1,11 +1,14 @@
-use Rattle.std.proofs.Common.{◌≡◌, ◌∙◌, List, [], true, Some, ap, map, option_map, refl, subst, sym, codes}
+use Rattle.std.proofs.Common.{◌≡◌, ◌∙◌, List, [], ◌∷◌, true, Some, ap, map, option_map, refl, subst, sym, codes}
+use Rattle.std.specs.Prelude.{IsSome}
 use Rattle.clap.proofs.OnLiterals.{clap_on_literals}
 use Rattle.clap.proofs.WalkLemmas.{first_value-rows, one_text-rows}
-use Rattle.clap.specs.Words.{App, HasMatchesOf, Row, Text, fault_of, first_of, found_of, is_simple, is_simple_and_free, one_of, rows_of, subcommand_name_of, subcommand_of, subcommand_rows_of}
+use Rattle.std.proofs.lemmas.Result.{err_from_is_err_and}
+use Rattle.clap.specs.declared.error.Error.{Error}
+use Rattle.clap.specs.Words.{App, HasKind, HasMatchesOf, Row, Text, fault_of, first_of, found_of, is_simple, is_simple_and_free, one_of, rows_of, subcommand_name_of, subcommand_of, subcommand_rows_of}
 use Rattle.clap.specs.declared.ArgMatches.{ArgMatches}
 use Rattle.cli.specs.CommandLine.{clim}
 use Rattle.cli.specs.Asked.{name_of}
-use Rattle.cli.proofs.ValuesGiven.{AllThere, file_first, has_values, is_known, token_takes, values_in}
+use Rattle.cli.proofs.ValuesGiven.{AllThere, file_first, has_values, is_known, rewrite_takes, token_takes, values_in}
 use Rattle.cli.proofs.Readings.{named_back, rows_met, flag_is, some_mapped}
 use Rattle.cli.proofs.arguments.ask.Goals as goal
 
@@ -16,6 +19,15 @@ clim_is_simple = refl
 clim_is_free : is_simple_and_free clim ≡ true
 unfolding clap_on_literals
 clim_is_free = refl
+
+-- an error that `clap` makes has the kind of its first fault
+refused_by : (a : App) (words : List Text) (e : Error) → a ≡ clim → (is_simple_and_free a ≡ true → HasKind (fault_of a words) e) → HasKind (fault_of clim words) e
+refused_by a words e same fails = subst (λ (b : App). HasKind (fault_of b words) e) same (fails (ap is_simple_and_free same ∙ clim_is_free))
+
+pub returns-in_err-matches-clause-refused : goal.returns-in_err-matches-clause-refused
+returns-in_err-matches-clause-refused c =
+    let p = err_from_is_err_and c.from_residual-in_err-matches.result c.from_residual-in_err-matches.ensures.1 in
+    rw (p.1, p.2) (refused_by _ (map (λ word. word.now) c.args.words.now) c.in_err-matches.field-0.0 c.in_ok-command.ensures c.in_err-matches.ensures.kinds)
 
 pub returns-clause-refused : goal.returns-clause-refused
 returns-clause-refused c =
@@ -74,10 +86,17 @@ returns-clause-file c = λ other.
     some_mapped (λ s. s.now) c.get_str.result (first_of (codes "FILE") (rows_of found)) (c.get_str.ensures ∙ first_value-rows found (codes "FILE"))
     (file_first c.unwrap-2.result (rows_of found) other there)
 
-pub returns-clause-second : goal.returns-clause-second
-returns-clause-second c = λ is.
+-- the second value is there, where the words name a subcommand that takes one
+second_there : (c : goal.Joined-matches) (name : Text) → c.unwrap.result.0.now ≡ name → values_in name ≡ codes "FILE" ∷ codes "second" ∷ []
+    → fault_of clim (map (λ word. word.now) c.args.words.now) ≡ [] → IsSome c.get_str-2.result
+second_there c name is takes none =
     let found = found_of c.unwrap.result.1.now in
-    let word = named_back c.unwrap.result.0.now c.unwrap-2.result (sym c.named.ensures ∙ c.unwrap-2.ensures) in
-    let named : c.unwrap.result.0.now ≡ codes "token" = word ∙ ap name_of is in
-    let there = subst (λ (ids : List Text). AllThere ids (rows_of found)) (ap values_in named ∙ token_takes) (values_there c (returns-clause-refused c)) in
+    let there = subst (λ (ids : List Text). AllThere ids (rows_of found)) (ap values_in is ∙ takes) (values_there c none) in
     some_mapped (λ s. s.now) c.get_str-2.result (first_of (codes "second") (rows_of found)) (c.get_str-2.ensures ∙ first_value-rows found (codes "second")) there.1.0
+
+pub returns-clause-second : goal.returns-clause-second
+returns-clause-second c =
+    let word = named_back c.unwrap.result.0.now c.unwrap-2.result (sym c.named.ensures ∙ c.unwrap-2.ensures) in (
+      (λ is. second_there c (codes "token") (word ∙ ap name_of is) token_takes (returns-clause-refused c)),
+      (λ is. second_there c (codes "rewrite") (word ∙ ap name_of is) rewrite_takes (returns-clause-refused c)),
+    )

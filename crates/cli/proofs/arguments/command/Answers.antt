@@ -22,5 +22,7 @@ returns c =
     ∙ ap₂ with_subcommand with_show (ap (λ (a : App). a.top) c.in_ok-command-4.ensures.app) in
     let with_token = c.in_ok-subcommand-5.ensures.shape c.in_ok-command-5.ensures.local
     ∙ ap₂ with_subcommand with_types (ap (λ (a : App). a.top) c.in_ok-command-5.ensures.app) in
-    let given = c.in_ok-command-6.ensures in
-    IfOk-weaker c.subcommand-6.result _ _ (λ r adds. adds.shape given.local ∙ ap₂ with_subcommand with_token (ap (λ (a : App). a.top) given.app)) c.subcommand-6.ensures
+    let with_rewrite = c.in_ok-subcommand-6.ensures.shape c.in_ok-command-6.ensures.local
+    ∙ ap₂ with_subcommand with_token (ap (λ (a : App). a.top) c.in_ok-command-6.ensures.app) in
+    let given = c.in_ok-command-7.ensures in
+    IfOk-weaker c.subcommand-7.result _ _ (λ r adds. adds.shape given.local ∙ ap₂ with_subcommand with_rewrite (ap (λ (a : App). a.top) given.app)) c.subcommand-7.ensures

@@ -1,0 +1,28 @@
+-- The canonical root that is written of a file.
+use Rattle.std.specs.Prelude.{◌≡◌, ◌<◌, ◌^◌, ◌⊎◌, ℕ, Bool, List, length}
+use Rattle.packed.specs.declared.code.FaultCode.TheVariants.{TooLarge}
+use Rattle.packed.specs.Demand.{FirstToFail, fault}
+use Rattle.metadata.specs.Metadata.{Metadata}
+use Rattle.metadata.specs.Model.{IsModel}
+use Rattle.canonical.specs.Canonical.{canonical}
+use Rattle.cli.specs.declared.failure.Failure.{Failure}
+use Rattle.cli.specs.declared.failure.Failure.TheVariants as failed
+use Rattle.cli.specs.Checked.{IsOpened, demands_of}
+use Rattle.cli.specs.Status.{IsOutput}
+
+-- the bytes have a model of which something holds
+abbrev HasModelWith : Bool → List ℕ → (Metadata → Type 0) → Type 0
+HasModelWith bare bytes P = ∥ ((root : List ℕ) × (model : Metadata) × IsOpened bare bytes root × IsModel root model × P model) ∥₁
+
+-- this is the canonical root of the bytes' model
+abbrev pub IsRewritten : Bool → List ℕ → List ℕ → Type 0
+IsRewritten bare bytes written = HasModelWith bare bytes (λ model. written ≡ canonical model)
+
+-- the canonical root of the bytes' model is too long
+abbrev pub IsTooLong : Bool → List ℕ → Type 0
+IsTooLong bare bytes = HasModelWith bare bytes (λ model. 2 ^ 30 < length (canonical model))
+
+-- a failure is the fault of the first demand that fails, or that the root is too long, or memory was refused
+abbrev pub TellsUnwritten : Bool → List ℕ → Failure → Type 0
+TellsUnwritten bare bytes (failed.Fault found) = FirstToFail (demands_of bare bytes) found ⊎ ((found ≡ fault TooLarge 0) × IsTooLong bare bytes)
+TellsUnwritten bare bytes failure = IsOutput failure

@@ -1,0 +1,99 @@
+//! `clim rewrite`: the canonical root of a file.
+ghost use Rattle.std.specs.Prelude.{◌≡◌, IfOk, IfErr, false};
+ghost use Rattle.clap.specs.Words.{app_of};
+ghost use Rattle.clap.specs.declared.Command.TheViews.{out-Command as fields_of};
+ghost use Rattle.cli.specs.CommandLine as line;
+ghost use Rattle.cli.specs.Rewritten.{IsRewritten, TellsUnwritten};
+
+use crate::failure::{Failure, printed};
+use crate::opened::open;
+use crate::subcommands::reader;
+use clap::{Arg, ArgAction, Command};
+use loading::ToModel;
+use packed::{Fault, FaultCode};
+use std::alloc::{AllocError, Global};
+use std::io::{BufWriter, Write};
+use std::rt::Files;
+use std::{fs, io};
+use writer::{Counted, Prepared, WriteError, prepare};
+
+/// The most bytes of a root that is written.
+const LIMIT: u32 = 1 << 30;
+
+/// The words of the subcommand and its help.
+pub(crate) fn command<'a>(alloc: Global) -> Result<Command<'a>, AllocError>
+    ensures app { IfOk result (λ command. app_of command ≡ line.rewrite) }
+    ensures local { IfOk result (λ command. (fields_of command).has_globals ≡ false) }
+{
+    let out = Arg::new(alloc, "second")
+        .value_name("OUT")
+        .required(true)
+        .action(ArgAction::Set)
+        .help("The file to write");
+    reader(
+        alloc,
+        "rewrite",
+        "Writes the canonical metadata root of a file",
+        OUTPUT,
+    )?
+    .arg(out)
+}
+
+const OUTPUT: &str = "\
+OUT is made, or emptied, once FILE was read whole and checked as 'clim check' does it, and the root is
+ready: it may be FILE, and a FILE that is refused leaves OUT as it was. The root is a metadata root
+alone, which '--bare' reads: the one spelling of what FILE's metadata says, with the heaps in order of
+first use, each text, blob and GUID once, and the narrowest indexes (ECMA-335, II.24.2). Methods'
+bodies and resources are not in it.
+
+Examples:
+  $ clim rewrite one_module.dll out.root
+  wrote 144 bytes
+  $ clim check --bare out.root
+  ok";
+
+/// Writes the canonical root to the file of a path, and prints how many bytes it has.
+pub(crate) fn run<'a, R: Files + AllocGlobal, W: Write>(
+    rt: &R,
+    bytes: &[u8],
+    bare: bool,
+    path: &'a str,
+    out: &mut W,
+) -> Result<(), Failure<'a>> {
+    let root = canonical_root(rt.alloc(), bytes, bare)?;
+    write_file(rt, &root, path)?;
+    printed(print(rt.alloc(), root.len(), out))
+}
+
+/// The canonical root of bytes, before anything is written.
+fn canonical_root(alloc: Global, bytes: &[u8], bare: bool) -> Result<Prepared, Failure<'static>>
+    ensures found { IfOk result (IsRewritten bare bytes.now) }
+    ensures first { IfErr result (TellsUnwritten bare bytes.now) }
+{
+    let view = open(bytes, bare)?;
+    let Ok(model) = view.model(alloc) else {
+        return Err(Failure::OutOfMemory);
+    };
+    match prepare(alloc, &model, LIMIT) {
+        Ok(root) => Ok(root),
+        Err(WriteError::TooLarge) => Err(Failure::Fault(Fault::new(FaultCode::TooLarge, 0))),
+        Err(_) => Err(Failure::OutOfMemory),
+    }
+}
+
+/// Writes a root to the file of a path, which is made or emptied first.
+fn write_file<'a, R: Files>(rt: &R, root: &Prepared, path: &'a str) -> Result<(), Failure<'a>> {
+    match fs::create(rt, path) {
+        Ok(file) => match root.send(&mut Counted::new(file)) {
+            Ok(()) => Ok(()),
+            Err(_) => Err(Failure::CannotWriteFile(path)),
+        },
+        Err(error) => Err(Failure::of_opening(&error, path)),
+    }
+}
+
+fn print<W: Write>(alloc: Global, count: u32, out: &mut W) -> io::Result<()> {
+    let mut out = BufWriter::new(alloc, out)?;
+    writeln!(out, "wrote {count} bytes")?;
+    out.flush()
+}
