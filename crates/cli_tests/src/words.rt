@@ -13,73 +13,75 @@ const LINES_IN_HELP: &str = "\
   stream 128 16 #GUID
 ";
 
+/// Words that ask for nothing that the program does, and what is told of them.
+const REFUSED: [(&[&str], &str); 25] = [
+    (&[], "Usage: clim <COMMAND>"),
+    (&["clim"], "Usage: clim <COMMAND>"),
+    (&["clim", "lacks"], "unrecognized subcommand 'lacks'"),
+    (
+        &["clim", "checks", "--bare", "lacks"],
+        "unrecognized subcommand 'checks'",
+    ),
+    (&["clim", "check"], "Usage: clim check <FILE>"),
+    (
+        &["clim", "check", "lacks", "more"],
+        "unexpected argument 'more'",
+    ),
+    (&["clim", "show"], "Usage: clim show <FILE>"),
+    (&["clim", "types"], "Usage: clim types <FILE>"),
+    (&["clim", "token"], "Usage: clim token <FILE> <HEX>"),
+    (&["clim", "token", "lacks"], "  <HEX>\n"),
+    (
+        &["clim", "token", "lacks", "1", "2"],
+        "unexpected argument '2'",
+    ),
+    (
+        &["clim", "help", "lacks"],
+        "unrecognized subcommand 'lacks'",
+    ),
+    (&["clim", "rewrite"], "Usage: clim rewrite <FILE> <OUT>"),
+    (&["clim", "rewrite", "lacks"], "  <OUT>\n"),
+    (
+        &["clim", "rewrite", "lacks", "out", "more"],
+        "unexpected argument 'more'",
+    ),
+    (
+        &["clim", "explain", "501", "502"],
+        "unexpected argument '502'",
+    ),
+    (
+        &["clim", "explain", "--bare"],
+        "unexpected argument '--bare'",
+    ),
+    (
+        &["clim", "--bare", "root", "lacks"],
+        "unexpected argument '--bare'",
+    ),
+    (&["clim", "root"], "Usage: clim root <FILE>"),
+    (&["clim", "root", "--bare"], "  <FILE>\n"),
+    (
+        &["clim", "root", "--bare", "--bare", "lacks"],
+        "cannot be used multiple times",
+    ),
+    (
+        &["clim", "root", "--bare=1", "lacks"],
+        "unexpected value '1' for '--bare'",
+    ),
+    (&["clim", "root", "-b", "lacks"], "unexpected argument '-b'"),
+    (
+        &["clim", "root", "--bare", "lacks", "more"],
+        "unexpected argument 'more'",
+    ),
+    (
+        &["clim", "root", "--version"],
+        "unexpected argument '--version'",
+    ),
+];
+
 /// The file named lacks: a status of 2 shows that it was not looked for.
 #[test]
 fn tells_what_the_words_lack(rt: HostRuntime) -> Result<(), Fail> {
-    let refused: [(&[&str], &str); 25] = [
-        (&[], "Usage: clim <COMMAND>"),
-        (&["clim"], "Usage: clim <COMMAND>"),
-        (&["clim", "lacks"], "unrecognized subcommand 'lacks'"),
-        (
-            &["clim", "checks", "--bare", "lacks"],
-            "unrecognized subcommand 'checks'",
-        ),
-        (&["clim", "check"], "Usage: clim check <FILE>"),
-        (
-            &["clim", "check", "lacks", "more"],
-            "unexpected argument 'more'",
-        ),
-        (&["clim", "show"], "Usage: clim show <FILE>"),
-        (&["clim", "types"], "Usage: clim types <FILE>"),
-        (&["clim", "token"], "Usage: clim token <FILE> <HEX>"),
-        (&["clim", "token", "lacks"], "  <HEX>\n"),
-        (
-            &["clim", "token", "lacks", "1", "2"],
-            "unexpected argument '2'",
-        ),
-        (
-            &["clim", "help", "lacks"],
-            "unrecognized subcommand 'lacks'",
-        ),
-        (&["clim", "rewrite"], "Usage: clim rewrite <FILE> <OUT>"),
-        (&["clim", "rewrite", "lacks"], "  <OUT>\n"),
-        (
-            &["clim", "rewrite", "lacks", "out", "more"],
-            "unexpected argument 'more'",
-        ),
-        (
-            &["clim", "explain", "501", "502"],
-            "unexpected argument '502'",
-        ),
-        (
-            &["clim", "explain", "--bare"],
-            "unexpected argument '--bare'",
-        ),
-        (
-            &["clim", "--bare", "root", "lacks"],
-            "unexpected argument '--bare'",
-        ),
-        (&["clim", "root"], "Usage: clim root <FILE>"),
-        (&["clim", "root", "--bare"], "  <FILE>\n"),
-        (
-            &["clim", "root", "--bare", "--bare", "lacks"],
-            "cannot be used multiple times",
-        ),
-        (
-            &["clim", "root", "--bare=1", "lacks"],
-            "unexpected value '1' for '--bare'",
-        ),
-        (&["clim", "root", "-b", "lacks"], "unexpected argument '-b'"),
-        (
-            &["clim", "root", "--bare", "lacks", "more"],
-            "unexpected argument 'more'",
-        ),
-        (
-            &["clim", "root", "--version"],
-            "unexpected argument '--version'",
-        ),
-    ];
-    for (words, told) in refused {
+    for (words, told) in REFUSED {
         let (status, out, err) = answer(&rt, words)?;
         assert_eq!(rt; status, 2, "{told}");
         assert!(rt; out.is_empty());
