@@ -45,16 +45,19 @@ fn each_demand_on_a_file_is_the_first_to_fail(rt: HostRuntime) -> Result<(), Fai
 
 #[test]
 fn each_demand_on_a_root_is_the_first_to_fail(rt: HostRuntime) -> Result<(), Fail> {
-    for (sample, faults) in [
-        (ONE_MODULE.as_slice(), MODULE_FAULTS.as_slice()),
-        (&TWO_TYPES, &TWO_TYPE_FAULTS),
-        (&THREE_TYPES, &NESTED_TYPE_FAULTS),
-    ] {
-        assert_eq!(rt;
-            first_difference(rt.alloc(), Form::Root, sample, faults)?,
-            None
-        );
-    }
+    let alloc = rt.alloc();
+    assert_eq!(rt;
+        first_difference(alloc, Form::Root, &ONE_MODULE, &MODULE_FAULTS)?,
+        None
+    );
+    assert_eq!(rt;
+        first_difference(alloc, Form::Root, &TWO_TYPES, &TWO_TYPE_FAULTS)?,
+        None
+    );
+    assert_eq!(rt;
+        first_difference(alloc, Form::Root, &THREE_TYPES, &NESTED_TYPE_FAULTS)?,
+        None
+    );
     Ok(())
 }
 

@@ -24,18 +24,21 @@ fn fault_with(alloc: Global, changes: &[(usize, u8)]) -> Result<Option<(u16, u64
     Ok(fault.map(|fault| (fault.code, fault.offset)))
 }
 
+/// Changes to the file, and the code and the place of the fault that it has then.
+const CHANGES: [(&[(usize, u8)], (u16, u64)); 6] = [
+    (&[(0x21C, 1), (0x21F, 6)], (801, 540)),
+    (&[(592 + 41, 0x2D)], (307, 624)),
+    (&[(592 + 94, 0x01)], (404, 680)),
+    (&[(592 + 110, 8)], (501, 702)),
+    (&[(0x99, 0x02)], (105, 148)),
+    (&[(0x214, 0)], (301, 592)),
+];
+
 #[test]
 fn faults_of_a_root_are_told_at_their_place_in_the_file(rt: HostRuntime) -> Result<(), Fail> {
     let alloc = rt.alloc();
-    for (changes, fault) in [
-        ([(0x21C, 1), (0x21F, 6)].as_slice(), (801, 540)),
-        (&[(592 + 41, 0x2D)], (307, 624)),
-        (&[(592 + 94, 0x01)], (404, 680)),
-        (&[(592 + 110, 8)], (501, 702)),
-        (&[(0x99, 0x02)], (105, 148)),
-        (&[(0x214, 0)], (301, 592)),
-    ] {
-        assert_eq!(rt; fault_with(alloc, changes)?, Some(fault), "{changes:?}");
+    for (changes, fault) in &CHANGES {
+        assert_eq!(rt; fault_with(alloc, changes)?, Some(*fault), "{changes:?}");
     }
     let file = image();
     for (len, fault) in [(735, Some((204, 528))), (736, None)] {

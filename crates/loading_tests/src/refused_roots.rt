@@ -41,13 +41,12 @@ fn first_difference(
 #[test]
 fn each_demand_is_the_first_to_fail(rt: HostRuntime) -> Result<(), Fail> {
     let alloc = rt.alloc();
-    for (root, faults) in [
-        (ONE_MODULE.as_slice(), MODULE_FAULTS.as_slice()),
-        (&TWO_TYPES, &TWO_TYPE_FAULTS),
-        (&THREE_TYPES, &NESTED_TYPE_FAULTS),
-    ] {
-        assert_eq!(rt; first_difference(alloc, Form::Root, root, faults)?, None);
-    }
+    let one_module = first_difference(alloc, Form::Root, &ONE_MODULE, &MODULE_FAULTS)?;
+    assert_eq!(rt; one_module, None);
+    let two_types = first_difference(alloc, Form::Root, &TWO_TYPES, &TWO_TYPE_FAULTS)?;
+    assert_eq!(rt; two_types, None);
+    let three_types = first_difference(alloc, Form::Root, &THREE_TYPES, &NESTED_TYPE_FAULTS)?;
+    assert_eq!(rt; three_types, None);
     assert_eq!(rt;
         first_difference(alloc, Form::Image, &image(), &FILE_FAULTS)?,
         None
