@@ -27,6 +27,4 @@ mod samples;
 #[cfg(test)]
 mod shown;
 #[cfg(test)]
-mod shown_again;
-#[cfg(test)]
 mod spellings;
