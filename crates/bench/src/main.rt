@@ -6,19 +6,11 @@ ghost use Rattle.std.specs.Prelude.{◌≡◌, true, All};
 ghost use Rattle.heaps.specs.Entries.{HasNoNul};
 ghost use Rattle.heaps.specs.Uses.{bytes_of};
 
-mod rows_loaded;
 mod rows_opened;
-mod signatures_opened;
 mod signatures_read;
-mod starts_sought;
-mod texts_checked;
 
-use crate::rows_loaded::report_models;
 use crate::rows_opened::report_rows;
-use crate::signatures_opened::report_blobs;
 use crate::signatures_read::report_signatures;
-use crate::starts_sought::report_starts;
-use crate::texts_checked::report_checks;
 use anyhow::Result;
 use heaps::TextPool;
 use std::alloc::Global;
@@ -178,9 +170,5 @@ fn main(rt: HostRuntime) -> Result<()> {
     report_random(&rt, alloc, "100000 the same of 20", 100_000, 20, 0)?;
     report_random(&rt, alloc, "1000 the same of 7000", 1000, 7000, 0)?;
     report_rows(&rt, alloc)?;
-    report_models(&rt, alloc)?;
-    report_signatures(&rt, alloc)?;
-    report_blobs(&rt, alloc)?;
-    report_starts(&rt, alloc)?;
-    report_checks(&rt, alloc)
+    report_signatures(&rt, alloc)
 }

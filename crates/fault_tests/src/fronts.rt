@@ -1,5 +1,6 @@
 use crate::answers::{Form, fault_of};
-use sample_roots::{ONE_MODULE, TWO_TYPES, image};
+use crate::samples::{ONE_MODULE, TWO_TYPES, image};
+use std::test::Fail;
 
 /// The length of the longest front of the root of one module with this fault.
 const ONE_MODULE_FRONTS: [(usize, u16, u64); 7] = [
@@ -58,11 +59,13 @@ fn each_front_of_a_root_is_refused(rt: HostRuntime) {
 }
 
 #[test]
-fn each_front_of_a_file_is_refused_up_to_the_end_of_its_root(rt: HostRuntime) {
+fn each_front_of_a_file_is_refused_up_to_the_end_of_its_root(rt: HostRuntime) -> Result<(), Fail> {
+    let file = image(rt.alloc())?;
     assert_eq!(rt;
-        first_difference(Form::Image, &image(), &IMAGE_FRONTS),
+        first_difference(Form::Image, file.as_slice(), &IMAGE_FRONTS),
         None
     );
+    Ok(())
 }
 
 #[test]

@@ -1,21 +1,15 @@
+use crate::builder::{ALL_SORTED, RootBuilder};
+use crate::key_order::{OF_ASSEMBLY, OF_MODULE, OTHERS_SORTED, root_of_attributes};
 use opening::{View, open_root};
-use sample_roots::{
-    ALL_SORTED, OF_ASSEMBLY, OF_MODULE, OTHERS_SORTED, RootBuilder, root_of_attributes,
-};
 use schema::{TableId, Token, key};
 use std::alloc::Global;
 use std::test::Fail;
 
 /// Rows, and how many keys were read to find them.
-pub type Keyed = (Vec<u32>, u64);
+type Keyed = (Vec<u32>, u64);
 
 /// The rows of a table that a view finds by a key, and how many keys it tells behind them to have read.
-pub fn rows_by_key(
-    alloc: Global,
-    view: &View,
-    table: TableId,
-    token: Token,
-) -> Result<Keyed, Fail> {
+fn rows_by_key(alloc: Global, view: &View, table: TableId, token: Token) -> Result<Keyed, Fail> {
     key(table).ok_or("no key")?;
     let mut found = view.by_key(table, token);
     let mut rows = Vec::new(alloc);

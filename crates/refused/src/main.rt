@@ -1,23 +1,20 @@
-//! Every call of `packed`, `heaps`, `signatures`, `rows`, `tables`, `loading` and `writer` that has an answer
-//! for want of memory, once and, where it gives that answer, once more.
+//! Every call of `packed`, `heaps`, `signatures` and `rows` that has an answer for want of memory,
+//! once and, where it gives that answer, once more.
 //!
 //! It is run with ample memory, and then ends with status 0; with each allocation refused in turn, and
 //! then prints the same and ends with status 5 where a call was made again, or prints nothing and ends
 //! with status 3 where its own buffers had no memory; and with all refused, and then ends with status 3.
 //! Status 4 says that a call broke a promise: that a refused call changes nothing, that it answers with
-//! memory when it is made again, that bytes which spell no signature are bad and bytes without a model
-//! answer their fault even without memory, or that a call which takes no memory does not want any.
+//! memory when it is made again, that bytes which spell no signature are bad even without memory, or
+//! that a call which takes no memory does not want any.
 #![tactic(auto)]
 
-mod faults;
-mod loaded_models;
 mod module_row;
 mod numbers;
 mod pools;
 mod signature_blobs;
 mod signature_calls;
 mod stop;
-mod written;
 
 use crate::stop::{Run, Stop};
 use std::process::ExitCode;
@@ -41,9 +38,7 @@ fn main(rt: HostRuntime) -> ExitCode {
 /// run with all memory refused makes no call that it would have to make again.
 fn report(run: &Run) -> Result<String, Stop> {
     signature_calls::all_bad(run)?;
-    faults::all_refused(run)?;
-    faults::empty_tables_are_taken(run)?;
-    let mut lines = String::with_capacity(run.alloc, 4096)?;
+    let mut lines = String::with_capacity(run.alloc, 1024)?;
     for (name, bytes) in [
         ("numbers", numbers::spelled(run)?),
         ("texts", pools::texts(run)?),
@@ -52,8 +47,6 @@ fn report(run: &Run) -> Result<String, Stop> {
         ("user strings", pools::user_strings(run)?),
         ("signatures", signature_calls::spellings(run)?),
         ("module", module_row::module_behind_a_byte(run)?),
-        ("rows", loaded_models::row_counts(run)?),
-        ("roots", written::roots(run)?),
     ] {
         write!(lines, "{name}")?;
         for byte in &bytes {

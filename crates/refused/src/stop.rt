@@ -1,10 +1,8 @@
 use heaps::PoolError;
-use loading::LoadError;
 use signatures::SigError;
 use std::alloc::{AllocError, AllocFailed, Global};
 use std::cell::Cell;
 use std::fmt;
-use writer::WriteError;
 
 /// Why the program ends early.
 #[derive(Clone, Copy, Debug, PartialEq, Eq)]
@@ -88,25 +86,6 @@ impl From<SigError> for Stop {
         match error {
             SigError::Memory => Stop::Memory,
             SigError::Bad => Stop::Broken("a signature that is spelled is not bad"),
-        }
-    }
-}
-
-impl From<LoadError> for Stop {
-    fn from(error: LoadError) -> Stop {
-        match error {
-            LoadError::Memory => Stop::Memory,
-            LoadError::Fault(_) => Stop::Broken("a root that has a model is loaded"),
-        }
-    }
-}
-
-impl From<WriteError> for Stop {
-    fn from(error: WriteError) -> Stop {
-        match error {
-            WriteError::Memory => Stop::Memory,
-            WriteError::TooLarge => Stop::Broken("a small root is not too large"),
-            WriteError::Device { .. } => Stop::Broken("a writer in place does not fail"),
         }
     }
 }

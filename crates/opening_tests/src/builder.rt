@@ -1,4 +1,5 @@
-use std::alloc::{AllocError, Global};
+use std::alloc::Global;
+use std::test::Fail;
 
 /// The Sorted bits of all tables that have a key.
 pub const ALL_SORTED: u64 = 0x1600_3301_FA00;
@@ -32,7 +33,7 @@ fn filled(len: usize) -> usize {
 }
 
 /// Appends bytes, filled with zeros to so many.
-fn put_filled(bytes: &mut Vec<u8>, part: &[u8], len: usize) -> Result<(), AllocError> {
+fn put_filled(bytes: &mut Vec<u8>, part: &[u8], len: usize) -> Result<(), Fail> {
     bytes.extend_from_slice(part)?;
     for _ in part.len()..len {
         bytes.push(0)?;
@@ -41,14 +42,14 @@ fn put_filled(bytes: &mut Vec<u8>, part: &[u8], len: usize) -> Result<(), AllocE
 }
 
 /// Appends a number of four bytes.
-fn put_u32(bytes: &mut Vec<u8>, number: usize) -> Result<(), AllocError> {
-    let number = number.min(0xFFFF_FFFF) as u32;
+fn put_u32(bytes: &mut Vec<u8>, number: usize) -> Result<(), Fail> {
+    let number = u32::try_from(number)?;
     bytes.extend_from_slice(number.to_le_bytes().as_slice())?;
     Ok(())
 }
 
 /// Appends a stream header.
-fn put_header(bytes: &mut Vec<u8>, place: usize, len: usize, name: &str) -> Result<(), AllocError> {
+fn put_header(bytes: &mut Vec<u8>, place: usize, len: usize, name: &str) -> Result<(), Fail> {
     put_u32(bytes, place)?;
     put_u32(bytes, filled(len))?;
     put_filled(bytes, name.as_bytes(), name_len(name))
@@ -73,25 +74,23 @@ impl RootBuilder {
         }
     }
 
-    /// Adds a row to the table of a number, which is below 64, behind the rows of that table and of those
-    /// of lower numbers.
-    pub fn row(&mut self, number: u8, row: &[u8]) -> Result<(), AllocError> {
-        if let Some(count) = self.counts.get_mut(number as usize) {
-            *count = count.saturating_add(1);
-        }
+    /// Adds a row to a table, behind the rows of that table and of those of lower numbers.
+    pub fn row(&mut self, number: u8, row: &[u8]) -> Result<(), Fail> {
+        let count = self.counts.get_mut(number as usize).ok_or("no such table")?;
+        *count = count.saturating_add(1);
         self.rows.extend_from_slice(row)?;
         Ok(())
     }
 
     /// Adds a stream behind the others.
-    pub fn heap(&mut self, name: &'static str, bytes: &[u8]) -> Result<(), AllocError> {
+    pub fn heap(&mut self, name: &'static str, bytes: &[u8]) -> Result<(), Fail> {
         let bytes = Vec::from_slice(self.alloc, bytes)?;
         self.streams.push(Stream { name, bytes })?;
         Ok(())
     }
 
     /// The table stream: its header, the counts of rows, and the rows.
-    fn tables(&self) -> Result<Vec<u8>, AllocError> {
+    fn tables(&self) -> Result<Vec<u8>, Fail> {
         let mut bytes = Vec::from_slice(
             self.alloc,
             [0, 0, 0, 0, 2, 0, self.heap_sizes, 1].as_slice(),
@@ -112,12 +111,12 @@ impl RootBuilder {
     }
 
     /// The root, up to its first stream header.
-    fn front(&self) -> Result<Vec<u8>, AllocError> {
+    fn front(&self) -> Result<Vec<u8>, Fail> {
         let mut bytes = Vec::from_slice(self.alloc, b"BSJB\x01\0\x01\0\0\0\0\0".as_slice())?;
         let len = name_len(self.version);
         put_u32(&mut bytes, len)?;
         put_filled(&mut bytes, self.version.as_bytes(), len)?;
-        let streams = self.streams.len().min(254) as u8 + 1;
+        let streams = u8::try_from(self.streams.len())?.saturating_add(1);
         bytes.extend_from_slice([0, 0, streams, 0].as_slice())?;
         Ok(bytes)
     }
@@ -134,7 +133,7 @@ impl RootBuilder {
     }
 
     /// The bytes of the root.
-    pub fn finish(self) -> Result<Vec<u8>, AllocError> {
+    pub fn finish(self) -> Result<Vec<u8>, Fail> {
         let tables = self.tables()?;
         let mut bytes = self.front()?;
         let mut place = self.tables_place(bytes.len());

@@ -1,4 +1,5 @@
-//! Roots byte by byte, each the canonical one of its model.
+use std::alloc::Global;
+use std::test::Fail;
 
 /// A root of one row of Module, with the streams `#~`, `#Strings` and `#GUID`.
 pub const ONE_MODULE: [u8; 144] = [
@@ -38,3 +39,48 @@ pub const NO_ROWS: [u8; 60] = [
     0x23, 0x7E, 0x00, 0x00, 0x00, 0x00, 0x00, 0x00, 0x02, 0x00, 0x00, 0x01, 0x00, 0x00, 0x00, 0x00,
     0x00, 0x00, 0x00, 0x00, 0x00, 0xFA, 0x01, 0x33, 0x00, 0x16, 0x00, 0x00,
 ];
+
+/// A PE32 file of one section and a CLI header: where its bytes that are not 0 stand. Its root stands at 592.
+const IMAGE: [(usize, &[u8]); 14] = [
+    (0x000, b"MZ"),
+    (0x03C, b"\x80\0\0\0"),
+    (0x080, b"PE\0\0"),
+    (0x084, b"\x4C\x01"),
+    (0x086, b"\x01\0"),
+    (0x094, b"\xE0\0"),
+    (0x098, b"\x0B\x01"),
+    (0x0F4, b"\x10\0\0\0"),
+    (0x168, b"\x08\x20\0\0\x48\0\0\0"),
+    (0x184, b"\0\x20\0\0\0\x02\0\0\0\x02\0\0"),
+    (0x208, b"\x48\0\0\0\x02\0\x05\0"),
+    (0x210, b"\x50\x20\0\0\x90\0\0\0"),
+    (0x218, b"\x01\0\0\0"),
+    (0x250, &ONE_MODULE),
+];
+
+/// The file of 1024 bytes whose root is that of one module.
+pub fn image(alloc: Global) -> Result<Vec<u8>, Fail> {
+    let mut file = vec![in alloc; 0; 1024]?;
+    for (place, part) in IMAGE {
+        write_at(&mut file, place, part);
+    }
+    Ok(file)
+}
+
+/// Writes bytes at a place.
+pub fn write_at(bytes: &mut Vec<u8>, place: usize, part: &[u8]) {
+    for (i, byte) in part.iter().enumerate() {
+        if let Some(slot) = bytes.get_mut(place.saturating_add(i)) {
+            *slot = *byte;
+        }
+    }
+}
+
+/// Bytes of which some are changed.
+pub fn changed(alloc: Global, bytes: &[u8], changes: &[(usize, u8)]) -> Result<Vec<u8>, Fail> {
+    let mut bytes = Vec::from_slice(alloc, bytes)?;
+    for (place, byte) in changes {
+        write_at(&mut bytes, *place, &[*byte]);
+    }
+    Ok(bytes)
+}
