@@ -37,9 +37,9 @@ fn lists_all_faults(rt: HostRuntime) -> Result<(), Fail> {
         list.starts_with("101 TooLong: the input has more than 2^30 bytes\n102 DosHeader: ")
     );
     assert!(rt; list.ends_with("\n901 TooLarge: the canonical root is too long\n"));
-    let mut count = 0;
+    let mut count = 0u32;
     for line in list.lines() {
-        count += 1;
+        count = count.saturating_add(1);
         let code = line.get(..3).ok_or("no number")?;
         let (status, out, _) = answer(&rt, &["clim", "explain", code])?;
         assert_eq!(rt; status, 0, "{code}");
