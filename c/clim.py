@@ -81,7 +81,7 @@ class _Starts(ctypes.Structure):
 
 
 class _Found(ctypes.Structure):
-    _fields_ = [("runs", _Starts * 5), ("in_order", c_bool * 45)]
+    _fields_ = [("runs", _Starts * 5), ("in_order", c_bool * 45), ("utf8_texts", c_bool)]
 
 
 class _View(ctypes.Structure):

@@ -25,7 +25,7 @@ _Static_assert(sizeof(clim_bytes) == 16, "clim_bytes");
 _Static_assert(sizeof(clim_fault) == 16 && offsetof(clim_fault, layer) == 10, "clim_fault");
 _Static_assert(sizeof(clim_header) == 96 && offsetof(clim_header, managed_native_header) == 88, "clim_header");
 _Static_assert(sizeof(clim_starts) == 1028, "clim_starts");
-_Static_assert(offsetof(clim_found, in_order) == 5140, "clim_found");
+_Static_assert(offsetof(clim_found, in_order) == 5140 && offsetof(clim_found, utf8_texts) == 5185, "clim_found");
 _Static_assert(sizeof(clim_view) == 5208 && offsetof(clim_view, is_open) == 5204, "clim_view");
 _Static_assert(sizeof(clim_cell) == 40 && offsetof(clim_cell, guid) == 22, "clim_cell");
 
@@ -397,6 +397,14 @@ static double now(void) {
     return (double)time.tv_sec * 1e6 + (double)time.tv_nsec * 1e-3;
 }
 
+/* How long a call takes, over many of them. */
+#define TIME(name, call)                                                            \
+    do {                                                                            \
+        double at = now();                                                          \
+        for (uint32_t i = 0; i < 10000; i++) call;                                  \
+        printf("%s %.2f us\n", name, (now() - at) / 10000);                         \
+    } while (0)
+
 static void times(guarded file, bool bare) {
     clim_view view = CLOSED;
     clim_fault fault = CLIM_NO_FAULT;
@@ -406,15 +414,16 @@ static void times(guarded file, bool bare) {
     else clim_open(file.at, file.len, &view, &fault);
     printf("open %.0f us\n", now() - begun);
     uint32_t rows = clim_count(&view, CLIM_TYPE_DEF), first = 0, past = 0, sum = 0;
-    begun = now();
-    for (int i = 0; i < 10000; i++) sum += clim_count(&view, CLIM_TYPE_DEF);
-    printf("clim_count %.2f us\n", (now() - begun) / 10000);
-    begun = now();
-    for (uint32_t i = 0; i < 10000; i++) clim_cell_at(&view, CLIM_TYPE_DEF, i % rows + 1, 1, &cell);
-    printf("clim_cell_at %.2f us\n", (now() - begun) / 10000);
-    begun = now();
-    for (uint32_t i = 0; i < 10000; i++) clim_members(&view, CLIM_TYPE_DEF, i % rows + 1, CLIM_METHOD_DEF, &first, &past);
-    printf("clim_members %.2f us\n", (now() - begun) / 10000);
+    if (rows == 0) stop("no types");
+    TIME("clim_count", sum += clim_count(&view, CLIM_TYPE_DEF));
+    TIME("clim_version", clim_version(&view, &cell.bytes));
+    TIME("clim_cell_at, a text", clim_cell_at(&view, CLIM_TYPE_DEF, i % rows + 1, 1, &cell));
+    TIME("clim_cell_at, a run", clim_cell_at(&view, CLIM_TYPE_DEF, i % rows + 1, 4, &cell));
+    TIME("clim_members", clim_members(&view, CLIM_TYPE_DEF, i % rows + 1, CLIM_METHOD_DEF, &first, &past));
+    TIME("clim_rows_by_key", clim_rows_by_key(&view, CLIM_CUSTOM_ATTRIBUTE, CLIM_TYPE_DEF, i % rows + 1, &sum, 1));
+    clim_cell_at(&view, CLIM_TYPE_DEF, 1, 1, &cell);
+    TIME("clim_find_type, the first", sum += clim_find_type(&view, cell.bytes.at, 0, cell.bytes.at, cell.bytes.len));
+    TIME("clim_find_type, none", sum += clim_find_type(&view, cell.bytes.at, 0, cell.bytes.at, 0));
     size_t cells = 0;
     static clim_cell column[1 << 14];
     for (size_t i = 0; i < 1 << 14; i++) column[i] = NO_CELL;

@@ -6,7 +6,7 @@
 //! well, and walks that row for its fault. Nothing here takes memory.
 //!
 //! ```text
-//! let source = Source::new(rows, texts, blobs, guids, place);
+//! let source = Source::new(rows, Strings::new(texts), blobs, guids, place);
 //! let checked = check_tables(&source)?;
 //! ```
 #![tactic(auto)]

@@ -24,10 +24,14 @@ pub struct Checked {
 
 /// Checks what is demanded of the tables of a root, in the order in which it is posed (II.22).
 ///
-/// Where all of it holds, it answers what was found on the way, else the fault of the first demand that
-/// fails. It takes no memory. The cost is that of the rows, and of the texts and blobs that they name. The
-/// blob of a signature is walked again only where another number with the same low ten bits was accepted in
-/// between. Blobs may overlap, so that their lengths can add up to the square of the bytes.
+/// Where all of it holds, it answers what was found on the way. It takes no memory. The cost is that of the
+/// rows, and of the texts and blobs that they name. The blob of a signature is walked again only where another
+/// number with the same low ten bits was accepted in between. Blobs may overlap, so that their lengths can add
+/// up to the square of the bytes.
+///
+/// # Errors
+///
+/// The fault of the first demand that fails, with its place in the root.
 #[tactic(auto, using(packed::proofs::DemandLemmas::fails_front, packed::proofs::DemandLemmas::fails_back, packed::proofs::DemandLemmas::all_append), unfolding(metadata::specs::Demands::demands_of_tables))]
 pub fn check_tables(source: &Source) -> Result<Checked, Fault>
     ensures answers { Answers (demands_of_tables source.now) result }

@@ -7,6 +7,4 @@ pub mod Outcomes
 pub mod Heads
 pub mod NumbersRead
 pub mod Tokens
-pub mod TypeTexts
-pub mod Signatures
 pub mod Rewritings

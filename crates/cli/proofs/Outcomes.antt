@@ -2,9 +2,9 @@
 use Rattle.std.proofs.Common.{List, Result, Ok, Err, IsOk, refl}
 use Rattle.packed.specs.declared.fault.Fault.{Fault as First}
 use Rattle.packed.specs.Demand.{Demand}
-use Rattle.cli.specs.declared.failure.Failure.{Failure}
-use Rattle.cli.specs.declared.failure.Failure.TheVariants.{Fault, NoSuchRow, NoToken, NoCode, CannotRead, CannotWriteFile, CannotWriteOutput, OutOfMemory}
-use Rattle.cli.specs.Status.{IsOutput}
+use Rattle.printed_faults.specs.declared.failure.Failure.{Failure}
+use Rattle.printed_faults.specs.declared.failure.Failure.TheVariants.{Fault, NoSuchRow, NoToken, NoCode, CannotRead, CannotWriteFile, CannotWriteOutput, OutOfMemory}
+use Rattle.printed_faults.specs.Status.{IsOutput}
 use Rattle.cli.specs.Tasks.{TellsFault}
 
 pub ok_unless_not : {T E : Type 0} (r : Result T E) → ¬ (¬ IsOk r) → IsOk r

@@ -6,12 +6,13 @@ use Rattle.heaps.specs.Fill.{filled}
 use Rattle.schema.specs.declared.token.Token.{Token}
 use Rattle.schema.specs.Tokens.{IsToken}
 use Rattle.opening.specs.Views.{row_count, user_of}
-use Rattle.cli.specs.declared.failure.Failure.{Failure}
-use Rattle.cli.specs.declared.failure.Failure.TheVariants.{Fault, NoSuchRow, NoToken, NoCode, CannotRead, CannotWriteFile, CannotWriteOutput, OutOfMemory}
+use Rattle.printed_faults.specs.declared.failure.Failure.{Failure}
+use Rattle.printed_faults.specs.declared.failure.Failure.TheVariants.{Fault, NoSuchRow, NoToken, NoCode, CannotRead, CannotWriteFile, CannotWriteOutput, OutOfMemory}
 use Rattle.cli.specs.declared.reports.Report.TheVariants as report
 use Rattle.cli.specs.Checked.{IsOpened}
-use Rattle.cli.specs.Status.{IsOutput}
-use Rattle.cli.specs.Tasks.{HasString, HasTokenRow, IsMet, IsNamed, TellsNone, TellsNoString, TellsUnnamed}
+use Rattle.printed_faults.specs.Status.{IsOutput}
+use Rattle.cli.specs.Tasks.{HasString, IsMet, IsNamed, TellsNone, TellsNoString, TellsUnnamed}
+use Rattle.printed_rows.specs.Named.{HasTokenRow}
 
 module _ (root : List ℕ) (number : ℕ) where
   string_told : (failure : Failure) → number / 16777216 ≡ 112 → TellsNoString root (number % 16777216) failure → TellsUnnamed root number failure

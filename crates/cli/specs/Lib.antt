@@ -3,6 +3,5 @@ pub mod Asked
 pub mod Checked
 pub mod Heads
 pub mod Numbers
-pub mod Status
 pub mod Rewritten
 pub mod Tasks

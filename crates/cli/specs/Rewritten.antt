@@ -5,10 +5,10 @@ use Rattle.packed.specs.Demand.{FirstToFail, fault}
 use Rattle.metadata.specs.Metadata.{Metadata}
 use Rattle.metadata.specs.Model.{IsModel}
 use Rattle.canonical.specs.Canonical.{canonical}
-use Rattle.cli.specs.declared.failure.Failure.{Failure}
-use Rattle.cli.specs.declared.failure.Failure.TheVariants as failed
+use Rattle.printed_faults.specs.declared.failure.Failure.{Failure}
+use Rattle.printed_faults.specs.declared.failure.Failure.TheVariants as failed
 use Rattle.cli.specs.Checked.{IsOpened, demands_of}
-use Rattle.cli.specs.Status.{IsOutput}
+use Rattle.printed_faults.specs.Status.{IsOutput}
 
 -- the bytes have a model of which something holds
 abbrev HasModelWith : Bool → List ℕ → (Metadata → Type 0) → Type 0

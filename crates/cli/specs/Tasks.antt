@@ -1,5 +1,5 @@
 -- What is to be done, what it means that something was printed of a file, and what is told where it was not.
-use Rattle.std.specs.Prelude.{◌≡◌, ◌≢◌, ℕ, ◌/◌, ◌%◌, ◌^◌, ◌≤◌, ◌⊎◌, Bool, List, Option, Some, None, Result, Ok, IfSome, MatchOption, MatchResult}
+use Rattle.std.specs.Prelude.{◌≡◌, ◌≢◌, ℕ, ◌/◌, ◌%◌, ◌^◌, ◌⊎◌, Bool, List, Option, Some, None, Result, Ok, IfSome, MatchOption, MatchResult}
 use Rattle.std.specs.Borrow.{Bor}
 use Rattle.std.specs.Str.Parse.{digits_value}
 use Rattle.packed.specs.declared.code.FaultCode.{FaultCode}
@@ -7,14 +7,12 @@ use Rattle.packed.specs.declared.fault.Fault.{Fault}
 use Rattle.packed.specs.Demand.{Demand, FirstToFail}
 use Rattle.heaps.specs.Entries.{IsUserString, UserText}
 use Rattle.heaps.specs.Fill.{filled}
-use Rattle.schema.specs.declared.token.Token.{Token}
-use Rattle.schema.specs.Tokens.{IsToken}
-use Rattle.opening.specs.Views.{row_count, user_of}
+use Rattle.opening.specs.Views.{user_of}
 use Rattle.cli.specs.declared.asked.Ask.{Ask}
 use Rattle.cli.specs.declared.asked.Subcommand.{Subcommand}
 use Rattle.cli.specs.declared.asked.Subcommand.TheVariants as word
-use Rattle.cli.specs.declared.failure.Failure.{Failure}
-use Rattle.cli.specs.declared.failure.Failure.TheVariants as failed
+use Rattle.printed_faults.specs.declared.failure.Failure.{Failure}
+use Rattle.printed_faults.specs.declared.failure.Failure.TheVariants as failed
 use Rattle.cli.specs.declared.task.Task.{Task}
 use Rattle.cli.specs.declared.task.Task.TheVariants as task
 use Rattle.cli.specs.declared.reports.Report.{Report}
@@ -22,7 +20,8 @@ use Rattle.cli.specs.declared.reports.Report.TheVariants as report
 use Rattle.cli.specs.Checked.{IsWhole, IsOpened, demands_of}
 use Rattle.cli.specs.Heads.{HasHeads, demands_of_heads}
 use Rattle.cli.specs.Numbers.{IsHexNumber, NamesCode}
-use Rattle.cli.specs.Status.{IsOutput}
+use Rattle.printed_faults.specs.Status.{IsOutput}
+use Rattle.printed_rows.specs.Named.{HasTokenRow}
 
 -- a word is the token, where it is a number, and else it is refused
 abbrev pub IsTokenTask : List ℕ → Result Task Failure → Type 0
@@ -51,10 +50,6 @@ IsTask word.Explain ask result = IsExplainTask ask.code result
 -- a user string stands at an offset of a root's user bytes
 abbrev pub HasString : List ℕ → ℕ → Type 0
 HasString root offset = (string : UserText) × IsUserString (filled (user_of root)) offset string
-
--- a number is the token of a row of a root
-abbrev pub HasTokenRow : List ℕ → ℕ → Type 0
-HasTokenRow root number = (token : Token) × IsToken number token × (1 ≤ token.row) × (token.row ≤ row_count root token.table)
 
 -- a number names something in a root: a user string where its high byte is 0x70, and else a row
 abbrev pub IsNamed : List ℕ → ℕ → Type 0

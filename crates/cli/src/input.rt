@@ -1,5 +1,8 @@
 //! The file that is asked about.
-use crate::failure::Failure;
+ghost use Rattle.std.specs.Prelude.{IfErr};
+ghost use Rattle.printed_faults.specs.Status.{IsUnread};
+
+use printed_faults::Failure;
 use std::fs::OpenFile;
 use std::io::{ErrorKind, Read};
 use std::rt::Files;
@@ -16,7 +19,9 @@ const PART: usize = 1 << 16;
 pub(crate) fn read_file<'a, R: Files + AllocGlobal>(
     rt: &R,
     file: &'a str,
-) -> Result<Vec<u8>, Failure<'a>> {
+) -> Result<Vec<u8>, Failure<'a>>
+    ensures { IfErr result (IsUnread file.now) }
+{
     read_front(rt, file).map_err(|error| Failure::of_reading(&error, file))
 }
 

@@ -13,14 +13,11 @@
 
 mod arguments;
 mod asked;
-mod failure;
 mod input;
 mod numbers;
 mod opened;
 mod program;
 mod reports;
-mod row_lines;
-mod shown;
 mod subcommands;
 mod task;
 

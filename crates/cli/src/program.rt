@@ -1,15 +1,15 @@
 ghost use Rattle.std.specs.Prelude.{◌≡◌, IfErr, IfOk};
 ghost use Rattle.cli.specs.Asked.{HasFile, HasSecond};
-ghost use Rattle.cli.specs.Status.{status_of};
+ghost use Rattle.printed_faults.specs.Status.{status_of};
 
 use crate::arguments::ask;
 use crate::asked::Ask;
-use crate::failure::{Failure, printed};
 use crate::input::read_file;
 use crate::reports;
 use crate::subcommands::{explain_fault, rewrite_file};
 use crate::task::{Task, task_of};
 use clap::error::ErrorKind;
+use printed_faults::{Failure, printed};
 use std::alloc::Global;
 use std::io;
 use std::io::{BufWriter, Write};

@@ -2,8 +2,8 @@
 ghost use Rattle.std.specs.Prelude.{IfErr, OnOk};
 ghost use Rattle.cli.specs.Tasks.{IsMet, Tells};
 
-use crate::failure::Failure;
 use crate::subcommands::{check_file, print_root, print_token, print_types, show_tables};
+use printed_faults::Failure;
 use std::alloc::Global;
 use std::io::Write;
 

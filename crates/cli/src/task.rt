@@ -3,10 +3,10 @@ ghost use Rattle.cli.specs.Asked.{HasSecond};
 ghost use Rattle.cli.specs.Tasks.{IsTask, IsExplainTask};
 
 use crate::asked::{Ask, Subcommand};
-use crate::failure::Failure;
 use crate::numbers::{code_of, token_of};
 use crate::reports::Report;
 use packed::FaultCode;
+use printed_faults::Failure;
 
 /// What is to be done.
 #[derive(Clone, Copy, Debug, PartialEq, Eq)]

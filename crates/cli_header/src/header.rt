@@ -129,6 +129,10 @@ fn check_cli(pe: &Pe) -> Result<CliHeader, Fault>
 ///
 /// There is no memory to want, and the cost is linear in the section headers. What the flags and the
 /// entry point say is not looked at.
+///
+/// # Errors
+///
+/// The fault of the first demand on the directory and the header that fails, with its place in the file.
 pub fn read_cli(pe: &Pe) -> Result<CliHeader, Fault>
     // What is read is the image's header.
     ensures found { IfOk result (λ header. IsCliHeader pe.now header) }

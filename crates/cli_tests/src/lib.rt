@@ -8,11 +8,13 @@ mod named;
 pub use named::file_named;
 
 #[cfg(test)]
+mod examples;
+#[cfg(test)]
 mod explained;
 #[cfg(test)]
 mod heads;
 #[cfg(test)]
-mod printed_rows;
+mod lines_of_rows;
 #[cfg(test)]
 mod rewriting;
 #[cfg(test)]

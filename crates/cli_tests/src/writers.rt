@@ -1,4 +1,4 @@
-use crate::samples::{SAMPLE, TWO_TYPES};
+use crate::samples::{SAMPLE, TWO_TYPES, many_rows};
 use cli::{go, refuse_words};
 use std::io::{ErrorKind, Write};
 use std::test::Fail;
@@ -34,6 +34,9 @@ fn stands_full_devices(rt: HostRuntime) -> Result<(), Fail> {
             &["clim", "root", "--bare", "--help"],
             &["clim", "check", "--bare", "b.root"],
             &["clim", "show", "--bare", "b.root"],
+            &["clim", "types", "--bare", "b.root"],
+            &["clim", "token", "--bare", "b.root", "1"],
+            &["clim", "token", "--bare", "b.root", "70000000"],
             &["clim", "explain"],
             &["clim", "explain", "501"],
             &["clim", "help"],
@@ -121,5 +124,39 @@ fn stands_a_device_that_fails_at_each_byte(rt: HostRuntime) -> Result<(), Fail> 
         }
     }
     fs::remove_file(&rt, "narrow.root")?;
+    Ok(())
+}
+
+/// A device that takes all and keeps nothing: how many bytes it took, and how many at most in one call.
+#[derive(Drop)]
+struct Counting {
+    taken: usize,
+    most: usize,
+}
+
+impl Write for Counting {
+    fn write(&mut self, buf: &[u8]) -> io::Result<usize> {
+        self.taken = self.taken.saturating_add(buf.len());
+        self.most = self.most.max(buf.len());
+        Ok(buf.len())
+    }
+
+    fn flush(&mut self) -> io::Result<()> {
+        Ok(())
+    }
+}
+
+/// Lines of more than 2 MB go out through one buffer of 8 KiB, as they are made.
+#[test]
+fn gives_lines_out_as_they_are_made(rt: HostRuntime) -> Result<(), Fail> {
+    fs::write(&rt, "many.root", many_rows(rt.alloc())?.as_slice())?;
+    let mut out = Counting { taken: 0, most: 0 };
+    let mut err = Vec::new(rt.alloc());
+    let words = ["clim", "show", "--bare", "many.root"];
+    assert_eq!(rt; go(&rt, &words, &mut out, &mut err), 0);
+    assert_eq!(rt; out.taken, 2726513);
+    assert!(rt; out.most <= 8192, "{}", out.most);
+    assert!(rt; err.is_empty());
+    fs::remove_file(&rt, "many.root")?;
     Ok(())
 }

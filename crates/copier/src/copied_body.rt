@@ -25,10 +25,14 @@ fn copy_locals(alloc: Global, locals: &[Local]) -> Result<Vec<Local>, AllocError
     Ok(copies)
 }
 
-/// A copy of a signature: a value of its own that says the same.
+/// A copy of a signature (II.23.2): a value of its own that says the same.
 ///
-/// Each list in it is reserved once, at its length, and each box is one allocation; an error is want
-/// of memory alone. It goes as deep as types nest in the value, and so does the stack.
+/// Each list in it is reserved once, at its length, and each box is one allocation. It goes as deep as types
+/// nest in the value, and so does the stack.
+///
+/// # Errors
+///
+/// Want of memory alone.
 pub fn copy_body(alloc: Global, body: &SigBody) -> Result<SigBody, AllocError>
     ensures { IfOk result (λ copy. body_of copy ≡ body_of body.now) }
 {

@@ -16,10 +16,13 @@ const DEPTH: u8 = 128;
 
 /// The value of the signature that bytes, all of them, spell in a column of a kind (II.23.2).
 ///
-/// The bytes are recognised first, without memory: so bytes that spell nothing are `Bad` even where
-/// no memory can be had, and no count in them asks for more than they hold. `Memory` comes only where
-/// they spell a signature and memory for its value was refused. A type index may name a row that is
-/// not there.
+/// The bytes are recognised first, without memory, so that no count in them asks for more than they hold. A
+/// type index may name a row that is not there.
+///
+/// # Errors
+///
+/// `Bad` exactly where the bytes spell nothing, even where no memory can be had; `Memory` only where they spell
+/// a signature and memory for its value was refused.
 pub fn decode_body(alloc: Global, bytes: &[u8], kind: SigKind) -> Result<SigBody, SigError>
     // What is built is what the bytes spell.
     ensures found { IfOk result (λ body. Spells kind (body_of body) bytes.now) }

@@ -25,7 +25,9 @@ pub fn spell_into(bytes: Vec<u8>, body: &SigBody) -> Vec<u8>
 /// The shortest spelling of a signature that has one (II.23.2): each number and each index in its shortest
 /// form. [`spelled_len`] says whether a signature has one.
 ///
-/// `Err` only where memory is refused; it is asked for once, as much as the spelling takes.
+/// # Errors
+///
+/// Want of memory alone, which is asked for once, as much as the spelling takes.
 pub fn encode_body(alloc: Global, body: &SigBody) -> Result<Vec<u8>, AllocError>
     requires { IsSpellable (body_of body.now) }
     ensures { IfOk result (λ bytes. bytes.items ≡ short (body_of body.now)) }

@@ -1,23 +1,42 @@
 -- Texts in a heap that is UTF-8 as a whole, and what its last NUL says.
-use Rattle.std.proofs.Common.{◌≡◌, ◌≢◌, ℕ, suc, zero, ◌+◌, ◌-◌, ◌<◌, ◌≤◌, List, [], ◌∷◌, ◌++◌, length, take, drop, slice_index, IsUtf8, Option, Some, None, sym, ap, subst, ◌∙◌, arith, length-drop, eq-eqb, ⊎_elim, inl, inr}
+use Rattle.std.proofs.Common.{◌≡◌, ◌≢◌, ℕ, suc, zero, ◌+◌, ◌-◌, ◌<◌, ◌≤◌, List, [], ◌∷◌, ◌++◌, length, take, drop, slice_index, IsUtf8, Option, Some, None, is_some, Result, Ok, Err, MatchResult, sym, ap, subst, ◌∙◌, arith, length-drop, ⊎_elim, inl, inr}
 use Rattle.std.specs.Borrow.{Bor}
+use Rattle.std.specs.Result.{result_ok}
+use Rattle.std.specs.Str.{is_utf8}
 use Rattle.std.specs.Prelude.{IsCharBoundary, IfSome}
-use Rattle.std.proofs.lemmas.Str.{IsCharBoundary-start, IsCharBoundary-from_rest, IsCharBoundary-before_ascii, IsUtf8-between}
+use Rattle.std.proofs.lemmas.Str.{IsCharBoundary-start, IsCharBoundary-from_rest, IsCharBoundary-before_ascii, IsUtf8-between, IsUtf8-from_is_utf8, is_utf8-from_IsUtf8}
 use Rattle.std.proofs.lemmas.List.{get_or-drop, take-append-drop, length-take-le}
 use Rattle.std.proofs.lemmas.List.Elements.{All-cons}
-use Rattle.std.proofs.lemmas.Bool.{cases_lt, eqb-true}
+use Rattle.std.proofs.lemmas.Bool.{cases_lt, eqb-true, false_from_ne_true}
 use Rattle.memchr.specs.Find.{IsLastByte, is_byte}
 use Rattle.heaps.specs.declared.strings.Strings.TheInside.{Inside}
-use Rattle.heaps.specs.StringsView.{heap_of, IsKnown}
+use Rattle.heaps.specs.StringsView.{heap_of, IsWhole, IsKnown}
 use Rattle.heaps.specs.Entries.{IsEnded, IsText, HasNoNul}
 use Rattle.heaps.proofs.TextLemmas.{ended_length, nul_behind, rest_is, bytes_are}
 
 -- what is known of the whole, and of the last NUL
 pub whole_is : (strings : Inside) (text : Bor (List ℕ)) → strings.whole ≡ Some text → IsKnown strings → (text.now ≡ heap_of strings) × IsUtf8 (heap_of strings)
-whole_is strings text is known = subst (λ whole. IfSome whole (λ w. (w.now ≡ heap_of strings) × IsUtf8 (heap_of strings))) is known.whole
+whole_is strings text is known = subst (IsWhole (heap_of strings)) is known.whole
 
-pub last_is : (strings : Inside) (heap : List ℕ) (last : Option ℕ) → heap_of strings ≡ heap → strings.last_nul ≡ last → IsKnown strings → IsLastByte (is_byte 0) heap last
-last_is strings heap last here is known = subst (λ l. IsLastByte (is_byte 0) l last) here (subst (IsLastByte (is_byte 0) (heap_of strings)) is known.last)
+pub last_is : (strings : Inside) (heap : List ℕ) (last : ℕ) → heap_of strings ≡ heap → strings.last_nul ≡ Some last → IsKnown strings → IsLastByte (is_byte 0) heap (Some last)
+last_is strings heap last here is known =
+    let P : Option ℕ → Type 0 = λ found. IfSome found (λ l. IsLastByte (is_byte 0) (heap_of strings) (Some l)) in
+    subst (λ l. IsLastByte (is_byte 0) l (Some last)) here (subst P is known.last)
+
+-- what a look at the heap finds
+pub whole_found : {E : Type 0} (heap : List ℕ) (found : Result (Bor (List ℕ)) E)
+    → MatchResult found (λ text. (text.now ≡ heap) × IsUtf8 heap) (λ _. ¬ IsUtf8 heap) → IsWhole heap (result_ok found)
+whole_found heap (Ok text) is = is
+whole_found heap (Err fault) is = is
+
+pub last_found : (heap : List ℕ) (last : Option ℕ) → IsLastByte (is_byte 0) heap last → IfSome last (λ l. IsLastByte (is_byte 0) heap (Some l))
+last_found heap None is = tt
+last_found heap (Some last) is = is
+
+-- whether the heap is UTF-8, by the whole
+pub utf8_is : (heap : List ℕ) (whole : Option (Bor (List ℕ))) → IsWhole heap whole → is_some whole ≡ is_utf8 heap
+utf8_is heap None is = sym (false_from_ne_true (is_utf8 heap) (λ e. is (IsUtf8-from_is_utf8 heap e)))
+utf8_is heap (Some text) is = sym (is_utf8-from_IsUtf8 heap is.1)
 
 -- a character begins where a text does, before its NUL
 front_boundary : (text after : List ℕ) → IsUtf8 text → IsCharBoundary (text ++ 0 ∷ after) 0
@@ -72,17 +91,6 @@ module _ (heap : List ℕ) (index : ℕ) where
           no_nul = split.3;
         },
       )
-
-  -- none stand ended behind it
-  pub ended_by_last : (last : ℕ) (bytes : List ℕ) → IsLastByte (is_byte 0) heap (Some last) → IsEnded heap index bytes → index ≤ last
-  ended_by_last last bytes is stands = ⊎_elim
-      (λ (behind : last < index). absurd (is.0.after (index + length bytes) (omega (arith, behind)) (ended_length heap index bytes stands) (eq-eqb _ 0 (nul_stands heap index bytes stands))))
-      (λ (up_to : index ≤ last). up_to)
-      (cases_lt last index)
-
-  -- and none where there is no NUL
-  pub none_ended : (bytes : List ℕ) → IsLastByte (is_byte 0) heap None → IsEnded heap index bytes → ⊥
-  none_ended bytes none stands = none (index + length bytes) (omega arith) (ended_length heap index bytes stands) (eq-eqb _ 0 (nul_stands heap index bytes stands))
 
 -- a character begins at an index above 0 of a text
 pub text_begins : (heap : List ℕ) (index : ℕ) (text : List ℕ) → 0 < index → IsText heap index text → IsCharBoundary heap index

@@ -68,10 +68,13 @@ impl BlobPool {
         }
     }
 
-    /// Pools a blob of at most 2^29 - 1 bytes and answers its index, which counts bytes; no bytes
+    /// Pools a blob of at most 2^29 - 1 bytes and answers its index, which counts bytes (II.24.2.4); no bytes
     /// have index 0 and no entry.
     ///
-    /// A blob that is there already is refused no memory. `Full` is told before any is taken.
+    /// # Errors
+    ///
+    /// `Full` where the heap would pass 2^30 bytes, told before any memory is taken; `Memory` where memory for a
+    /// new entry is refused, but never of a blob that is there already. Each leaves the pool as it was.
     pub fn add(&mut self, blob: &[u8]) -> Result<u32, PoolError>
         requires { length blob.now < 2 ^ 29 }
         ensures entries { OnOk result (self.new ≡ pooled self.old blob.now) }

@@ -27,8 +27,11 @@ fn counted_at(heap: &[u8], start: usize) -> Option<&[u8]>
 /// The blob of an index into `#Blob` (II.24.2.4), in the bytes of the heap.
 ///
 /// The index counts bytes. Index 0 is no bytes, also of an absent heap, which is no bytes. The length
-/// before a blob may be spelled in a longer form than it needs. The fault is `BadBlob` where no
-/// length stands at the index, or fewer bytes than it says stand behind it.
+/// before a blob may be spelled in a longer form than it needs.
+///
+/// # Errors
+///
+/// `BadBlob` where no length stands at the index, or fewer bytes than it says stand behind it.
 pub fn blob(heap: &[u8], index: u32) -> Result<&[u8], HeapFault>
     // What is answered is the blob of the index.
     ensures found { IfOk result (λ blob. IsBlob heap.now index blob.now) }

@@ -48,9 +48,12 @@ impl GuidPool {
         }
     }
 
-    /// Pools a GUID and answers its index, which counts entries from 1; null has index 0 and no entry.
+    /// Pools a GUID and answers its index, which counts entries from 1 (II.24.2.5); null has index 0 and no entry.
     ///
-    /// A GUID that is there already is refused no memory. `Full` is told before any is taken.
+    /// # Errors
+    ///
+    /// `Full` where the heap would pass 2^30 bytes, told before any memory is taken; `Memory` where memory for a
+    /// new entry is refused, but never of a GUID that is there already. Each leaves the pool as it was.
     pub fn add(&mut self, guid: Option<[u8; 16]>) -> Result<u32, PoolError>
         ensures entries { IfOk result (λ _. self.new ≡ pooled_guid self.old guid) }
         ensures index { IfOk result (λ index. index ≡ guid_index self.new guid) }

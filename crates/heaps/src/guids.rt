@@ -11,7 +11,11 @@ const GUID_LEN: usize = 16;
 /// The GUID of an index into `#GUID` (II.24.2.5), null for index 0.
 ///
 /// The index numbers entries of sixteen bytes from 1; a rest of fewer bytes at the end of the heap
-/// is none. Sixteen zero bytes are a GUID. The fault is `BadGuid` where there is no such entry.
+/// is none. Sixteen zero bytes are a GUID.
+///
+/// # Errors
+///
+/// `BadGuid` where there is no such entry.
 pub fn guid(heap: &[u8], index: u32) -> Result<Option<[u8; 16]>, HeapFault>
     // What is answered is the GUID of the index.
     ensures found { IfOk result (λ guid. IsGuid heap.now index guid) }

@@ -105,10 +105,12 @@ impl UserHeap {
         }
     }
 
-    /// Appends a user string, also one of no units, and answers its offset, which is its index.
+    /// Appends a user string, also one of no units, and answers its offset, which is its index (II.24.2.4).
     ///
-    /// `Full` is told before any memory is taken: where the string would have more than 2^29 - 1
-    /// bytes, and where the heap would pass 2^30 bytes.
+    /// # Errors
+    ///
+    /// `Full` where the string would have more than 2^29 - 1 bytes, and where the heap would pass 2^30 bytes, told
+    /// before any memory is taken; `Memory` where memory is refused. Each leaves the heap as it was.
     pub fn push(&mut self, units: &[u16]) -> Result<u32, PoolError>
         ensures heap { OnOk result (self.new ≡ self.old ++ user_entry units.now) }
         ensures offset { IfOk result (λ offset. offset ≡ length self.old) }
@@ -127,8 +129,11 @@ impl UserHeap {
         Ok(start as u32)
     }
 
-    /// The heap filled with zeros to a multiple of four bytes, or the heap as it was where memory
-    /// is refused.
+    /// The heap filled with zeros to a multiple of four bytes.
+    ///
+    /// # Errors
+    ///
+    /// The heap as it was, where memory is refused.
     pub fn padded(self) -> Result<Vec<u8>, UserHeap>
         ensures ok { IfOk result (λ bytes. bytes.items ≡ filled self) }
         ensures err { IfErr result (λ heap. heap ≡ self) }

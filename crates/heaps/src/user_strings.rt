@@ -87,9 +87,12 @@ fn is_spelled(blob: &[u8]) -> bool
 
 /// The user string of an index into `#US` (II.24.2.4), in the bytes of the heap.
 ///
-/// The index counts bytes; index 0 is the string of no bytes. The fault is `BadBlob` where no blob
-/// stands at the index, and `BadUserString` where its number of bytes is even and not 0. Any last
-/// byte is accepted.
+/// The index counts bytes; index 0 is the string of no bytes. Any last byte is accepted.
+///
+/// # Errors
+///
+/// `BadBlob` where no blob stands at the index, and `BadUserString` where its number of bytes is even and
+/// not 0.
 pub fn user_string(heap: &[u8], index: u32) -> Result<UserString<'_>, HeapFault>
     // What is answered is the user string of the index.
     ensures found { IfOk result (λ string. IsUserString heap.now index string) }

@@ -12,10 +12,13 @@ use opening::{CliHeader, open_image, open_root};
 use owned_model::Model;
 use std::alloc::Global;
 
-/// Loads the metadata root that these bytes are (II.24.2).
+/// Loads the metadata root that these bytes are (II.24.2). It is loaded exactly where it has a model, memory
+/// aside.
 ///
-/// It is loaded exactly where it has a model, memory aside: a fault is the one that
-/// [`open_root`](opening::open_root) answers, and it is told without memory.
+/// # Errors
+///
+/// A fault is the one that [`open_root`](opening::open_root) answers, and it is told without memory; `Memory`
+/// is told only of bytes that have a model.
 pub fn load_root(alloc: Global, root: &[u8]) -> Result<Model, LoadError>
     // What is loaded is a model of the root.
     ensures found { IfOk result (λ loaded. ∥ IsModel root.now loaded ∥₁) }
@@ -28,10 +31,13 @@ pub fn load_root(alloc: Global, root: &[u8]) -> Result<Model, LoadError>
     Ok(view.model(alloc)?)
 }
 
-/// Loads the file that these bytes are (II.25), with its CLI header.
+/// Loads the file that these bytes are (II.25), with its CLI header. It is loaded exactly where it has a header
+/// and a model, memory aside.
 ///
-/// It is loaded exactly where it has a header and a model, memory aside: a fault is the one that
-/// [`open_image`](opening::open_image) answers, and it is told without memory.
+/// # Errors
+///
+/// A fault is the one that [`open_image`](opening::open_image) answers, and it is told without memory; `Memory`
+/// is told only of bytes that have a model.
 pub fn load_image(alloc: Global, file: &[u8]) -> Result<(CliHeader, Model), LoadError>
     // What is loaded are a header and a model of the file.
     ensures found { IfOk result (λ loaded. ∥ IsImage file.now loaded.0 loaded.1 ∥₁) }

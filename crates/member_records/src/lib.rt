@@ -17,7 +17,7 @@ pub use fields::{Field, FieldLayout, FieldMarshal, FieldRVA, MemberRef};
 pub use methods::{MethodDef, MethodImpl, MethodSemantics, Param, StandAloneSig};
 pub use properties::{Property, PropertyMap};
 pub use records::{
-    Bytes, Cell, CellRow, ClassLayout, FromRow, GenericParam, GenericParamConstraint,
+    Bytes, Cell, CellRow, ClassLayout, CodedRow, FromRow, GenericParam, GenericParamConstraint,
     InterfaceImpl, IsSignature, MethodSpec, Module, NestedClass, Record, Row, SigKind, Signature,
-    TableId, Text, Token, TypeDef, TypeRef, TypeSpec, is_row_of, record_of,
+    TableId, Text, Token, TypeDef, TypeRef, TypeSpec, coded_row_of, is_row_of, lists, record_of,
 };

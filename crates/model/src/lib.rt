@@ -69,17 +69,23 @@ pub use signatures::{
 // Rows as records.
 pub use assembly_records::{
     Assembly, AssemblyOS, AssemblyProcessor, AssemblyRef, AssemblyRefOS, AssemblyRefProcessor,
-    CellRow, ClassLayout, Constant, CustomAttribute, DeclSecurity, Event, EventMap, ExportedType,
-    Field, FieldLayout, FieldMarshal, FieldRVA, File, FromRow, GenericParam,
-    GenericParamConstraint, ImplMap, InterfaceImpl, IsSignature, ManifestResource, MemberRef,
-    MethodDef, MethodImpl, MethodSemantics, MethodSpec, Module, ModuleRef, NestedClass, Param,
-    Property, PropertyMap, Record, Row as AnyRow, StandAloneSig, TypeDef, TypeRef, TypeSpec,
-    record_of,
+    CellRow, ClassLayout, CodedRow, Constant, CustomAttribute, CustomAttributeType, DeclSecurity,
+    Event, EventMap, ExportedType, Field, FieldLayout, FieldMarshal, FieldRVA, File, FromRow,
+    GenericParam, GenericParamConstraint, ImplMap, Implementation, InterfaceImpl, IsSignature,
+    ManifestResource, MemberRef, MemberRefParent, MethodDef, MethodDefOrRef, MethodImpl,
+    MethodSemantics, MethodSpec, Module, ModuleRef, NestedClass, Param, Property, PropertyMap,
+    Record, ResolutionScope, Row as AnyRow, StandAloneSig, TypeDef, TypeDefOrRef, TypeOrMethodDef,
+    TypeRef, TypeSpec, record_of,
 };
 
 // Rows of a model and of a view as records.
-pub use model_records::{RecordsOf, row as row_of_model, rows as rows_of_model};
-pub use view_records::{RecordsIn, RefRow, cells_of, row as row_of_view, rows as rows_of_view};
+pub use model_records::{
+    RecordsOf, resolve as resolve_in_model, row as row_of_model, rows as rows_of_model,
+};
+pub use view_records::{
+    RecordsIn, RefRow, cells_of, resolve as resolve_in_view, row as row_of_view,
+    rows as rows_of_view,
+};
 
 // The canonical root of a model.
 pub use writer::{

@@ -1,14 +1,17 @@
 //! The rows of a model's tables as records, whose fields have the names of the columns (ECMA-335 II.22).
 //!
-//! [`rows`] goes over the records of a table, and [`row`] answers one. They borrow from the model, and
-//! take no memory.
+//! [`rows`] goes over the records of a table, [`row`] answers one, and [`resolve`] the one that a reference
+//! names. They borrow from the model, and take no memory.
 //!
 //! ```text
 //! for class in rows::<TypeDef>(&model) { class.type_name }
-//! let method = row::<MethodDef>(&model, 1)?; // None where there is no such row
+//! let method = row::<MethodDef<_>>(&model, 1)?; // None where there is no such row
+//! let base = resolve::<TypeDefOrRef<_>>(&model, class.extends?)?; // one of three records
 //! ```
 #![tactic(auto)]
 
+mod coded_rows;
 mod records_of;
 
+pub use coded_rows::resolve;
 pub use records_of::{RecordsOf, row, rows};

@@ -1,5 +1,6 @@
 -- What a view of a root stands for, and how its parts are those of the root's model.
 use Rattle.std.specs.Prelude.{◌≡◌, ℕ, List}
+use Rattle.std.specs.Str.{is_utf8}
 use Rattle.root.specs.Directory.{directory_of}
 use Rattle.root.specs.declared.kind.Kind.TheVariants.{UserStrings}
 use Rattle.schema.specs.declared.table.TableId.{TableId}
@@ -39,7 +40,8 @@ pub record IsView (view : Inside) : Type 0 where
   pub order : TellsOrder view.source.source view.found.in_order
   pub known : AreKnown view.source.source view.found.known
 
--- what was found of a root: which tables are in order, and the starts of runs
+-- what was found of a root: which tables are in order, the starts of runs, and whether its texts are UTF-8 as a whole
 pub record AreFound (root : List ℕ) (found : Found) : Type 0 where
   pub order : TellsOrder (source_of root) found.in_order
   pub known : AreKnown (source_of root) found.known
+  pub texts : found.utf8_texts ≡ is_utf8 (source_of root).texts

@@ -33,10 +33,13 @@ pub fn root_of<'a>(file: &'a [u8], header: &CliHeader) -> &'a [u8]
     root
 }
 
-/// Reads what stands before the streams of the file that these bytes are (II.25); else the first demand on
-/// its image, its CLI header and the directory of its root that it does not meet.
+/// Reads what stands before the streams of the file that these bytes are (II.25). Tables, heaps and signatures
+/// are not looked at. It takes no memory.
 ///
-/// Tables, heaps and signatures are not looked at. It takes no memory.
+/// # Errors
+///
+/// The fault of the first demand on its image, its CLI header and the directory of its root that fails, with its
+/// place in the file.
 pub fn read_heads(file: &[u8]) -> Result<Heads<'_>, Fault>
     ensures answers { Answers (demands_of_heads file.now) result }
     ensures image { IfOk result (λ heads. heads.image ≡ image_of file.now) }

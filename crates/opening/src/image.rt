@@ -76,6 +76,10 @@ fn check_file(file: &[u8]) -> Result<(CliHeader, View<'_>), Fault>
 /// Every demand on its headers, on its metadata root and on its entry point is checked, and it is opened
 /// exactly where it meets them all: then it has one CLI header and one model, which the view shows. It
 /// takes no memory, and costs what [`open_root`](crate::open_root) costs of its root.
+///
+/// # Errors
+///
+/// The fault of the first demand that fails, with its place in the file.
 pub fn open_image(file: &[u8]) -> Result<(CliHeader, View<'_>), Fault>
     // What is opened is the root that the header names, and the file has this header and a model.
     ensures found { IfOk result (λ opened. HasImage file.now opened.0) }

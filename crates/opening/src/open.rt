@@ -1,4 +1,5 @@
-ghost use Rattle.std.specs.Prelude.{◌≡◌, ◌≤◌, ◌+◌, ◌^◌, [], IfOk, IfErr, IsOk, length, unwrap_or};
+ghost use Rattle.std.specs.Prelude.{◌≡◌, ◌≤◌, ◌+◌, ◌^◌, [], IfSome, IfOk, IfErr, IsOk, length, unwrap_or};
+ghost use Rattle.std.specs.Str.{is_utf8};
 ghost use Rattle.packed.specs.Demand.{AllHold, Answers, FirstToFail, raised};
 ghost use Rattle.root.specs.Demands.{demands_of_root};
 ghost use Rattle.root.specs.Directory.{directory_of};
@@ -20,6 +21,7 @@ ghost use Rattle.metadata.specs.Demands.{demands_of_tables, demands_of_metadata}
 use crate::found::Found;
 use crate::view::View;
 use checks::{Checked, check_tables};
+use heaps::Strings;
 use metadata::roots_have_models;
 use packed::Fault;
 use reading::Source;
@@ -76,6 +78,17 @@ fn tables_place(directory: &Root) -> usize
     }
 }
 
+/// The heap of texts of a root: it is looked at as a whole, unless the root was opened before.
+fn strings_of<'a>(texts: &'a [u8], found: Option<&Found>) -> Strings<'a>
+    requires { IfSome found (λ found. found.now.utf8_texts ≡ is_utf8 texts.now) }
+    ensures { result ≡ texts.now }
+{
+    match found {
+        Some(found) => Strings::again(texts, found.utf8_texts),
+        None => Strings::new(texts),
+    }
+}
+
 /// What a root is read into.
 #[derive(Drop)]
 struct Parts<'a> {
@@ -84,13 +97,19 @@ struct Parts<'a> {
     source: Source<'a>,
 }
 
-/// The parts of a root that begins at a place, by its directory; else the first demand on its table stream
-/// that it does not meet.
-fn read_parts<'a>(root: &[u8], directory: &Root<'a>, place: usize) -> Result<Parts<'a>, Fault>
+/// The parts of a root that begins at a place, by its directory, and by what was found of it where it was
+/// opened before; else the first demand on its table stream that it does not meet.
+fn read_parts<'a>(
+    root: &[u8],
+    directory: &Root<'a>,
+    place: usize,
+    found: Option<&Found>,
+) -> Result<Parts<'a>, Fault>
     requires place { place ≤ 2 ^ 30 }
     requires directory { directory.now ≡ directory_of root.now }
     requires small { length root.now ≤ 2 ^ 30 }
     requires held { AllHold (raised place (demands_of_root root.now)) }
+    requires found { IfSome found (λ found. AreFound root.now found.now) }
     ensures first { IfErr result (FirstToFail (demands_of_metadata place root.now)) }
     ensures source { IfOk result (λ parts. parts.source ≡ placed_at place root.now) }
     ensures version { IfOk result (λ parts. parts.version.now ≡ (directory_of root.now).version) }
@@ -104,7 +123,7 @@ fn read_parts<'a>(root: &[u8], directory: &Root<'a>, place: usize) -> Result<Par
     let blobs = stream_in(directory, Kind::Blobs);
     let guids = stream_in(directory, Kind::Guids);
     let rows = Rows::new(tables, layout);
-    let source = Source::new(rows, texts, blobs, guids, place);
+    let source = Source::new(rows, strings_of(texts, found), blobs, guids, place);
     let user = stream_in(directory, Kind::UserStrings);
     Ok(Parts {
         version: directory.version(),
@@ -131,7 +150,7 @@ fn check_root<'a>(
     ensures order { IfOk result (λ checked. TellsOrder checked.0.source.source checked.1.in_order) }
     ensures known { IfOk result (λ checked. AreKnown checked.0.source.source checked.1.known) }
 {
-    let parts = read_parts(root, directory, place)?;
+    let parts = read_parts(root, directory, place, None)?;
     let found = check_tables(&parts.source)?;
     Ok((parts, found))
 }
@@ -166,6 +185,10 @@ fn check_whole(root: &[u8]) -> Result<View<'_>, Fault>
 /// exactly where it meets them all: then it has one model, and the view shows it. It takes no memory. The
 /// cost is that of the bytes where texts and blobs stand apart; where they overlap, it can grow with the
 /// square of the bytes.
+///
+/// # Errors
+///
+/// The fault of the first demand that fails, with its place in the root.
 pub fn open_root(root: &[u8]) -> Result<View<'_>, Fault>
     // What is opened is the root, and it has a model.
     ensures found { IfOk result (λ view. (view ≡ root.now) × HasModel root.now) }
@@ -180,21 +203,23 @@ pub fn open_root(root: &[u8]) -> Result<View<'_>, Fault>
     check_whole(root)
 }
 
-/// The parts of a root on its own; else the first demand on its directory and its table stream that it does
-/// not meet.
-fn read_whole(root: &[u8]) -> Result<Parts<'_>, Fault>
+/// The parts of a root on its own, by what was found of it before; else the first demand on its directory and
+/// its table stream that it does not meet.
+fn read_whole<'a>(root: &'a [u8], found: &Found) -> Result<Parts<'a>, Fault>
+    requires { AreFound root.now found.now }
     ensures first { IfErr result (FirstToFail (demands_of_metadata 0 root.now)) }
     ensures source { IfOk result (λ parts. parts.source ≡ placed_at 0 root.now) }
     ensures version { IfOk result (λ parts. parts.version.now ≡ (directory_of root.now).version) }
     ensures user { IfOk result (λ parts. parts.user.now ≡ stream_in root.now (directory_of root.now).headers UserStrings) }
 {
     let directory = read_directory(root, 0)?;
-    read_parts(root, &directory, 0)
+    read_parts(root, &directory, 0, Some(found))
 }
 
 /// The view of a root that was opened before, by what was found of it then.
 ///
-/// Its directory and its layout are read again, and no cell is checked.
+/// Its directory and its layout are read again. No cell is checked, and no heap is looked at: so this costs
+/// the same whatever the sizes of the tables and the heaps.
 #[tactic(auto, unfolding(crate::specs::Views::user_of))]
 pub fn view_again<'a>(root: &'a [u8], found: &Found) -> View<'a>
     requires model { HasModel root.now }
@@ -202,7 +227,7 @@ pub fn view_again<'a>(root: &'a [u8], found: &Found) -> View<'a>
     ensures { result ≡ root.now }
 {
     roots_have_models();
-    match read_whole(root) {
+    match read_whole(root, found) {
         Ok(parts) => {
             let checked = Checked {
                 in_order: found.in_order,

@@ -13,6 +13,7 @@ ghost use Rattle.metadata.specs.Cell.{Start};
 ghost use Rattle.metadata.specs.Source.{Source as TheSource, rows_in, number_of};
 ghost use Rattle.schema.specs.CellColumns.{cell_count, column_of};
 ghost use Rattle.metadata.specs.Rules.{IsInOrder};
+ghost use Rattle.metadata.specs.KeyOrder.{IsKeyOrdered};
 ghost use Rattle.metadata.specs.Model.{IsModel};
 ghost use Rattle.metadata.specs.Placed.{source_of};
 ghost use Rattle.metadata.specs.Lookups.{IsRun, IsFirstType, HasRow, HasNames, HasKey};
@@ -24,7 +25,7 @@ ghost use Rattle.opening.specs.Views.{HasModel, AreFound, row_count, user_of};
 
 use crate::found::Found;
 use checks::Checked;
-use metadata::models_are_read;
+use metadata::{keys_are_in_order, models_are_read};
 use reading::{
     CellRef, KeyRows, KnownRuns, Source, SourceKeys, Starts, cell_of, find_type,
     members_are_listed, rows_by_key, run, starts_of,
@@ -116,6 +117,7 @@ impl<'a> View<'a> {
         Found {
             known: self.found.known,
             in_order: self.found.in_order,
+            utf8_texts: self.source.strings().is_utf8(),
         }
     }
 
@@ -292,8 +294,10 @@ impl<'a> View<'a> {
     /// A table that is said to be in order is, and another may be.
     pub fn in_order(&self, table: TableId) -> bool
         requires { IsSome (key_of table) }
-        ensures { IfSome (key_of table) (λ key. IsTrue result ↔ IsInOrder (source_of self.now) table key) }
+        ensures bytes { IfSome (key_of table) (λ key. IsTrue result ↔ IsInOrder (source_of self.now) table key) }
+        ensures model { (model : Metadata) → IsModel self.now model → IsTrue result ↔ IsKeyOrdered model table }
     {
+        keys_are_in_order();
         self.found.in_order[table.number() as usize]
     }
 
@@ -306,10 +310,11 @@ impl<'a> View<'a> {
         ensures ascending { IsStrictlyIncreasing result.rows }
         ensures rows { (model : Metadata) → IsModel self.now model → (row : ℕ)
             → Contains result.rows row ↔ (HasRow model table row × HasKey model table token row) }
-        ensures found { (key : ℕ) → key_of table ≡ Some key → IsInOrder (source_of self.now) table key
-            → result.reads ≤ 2 * binary_digits (row_count self.now table) + 2 }
-        ensures walked { (key : ℕ) → key_of table ≡ Some key → ¬ IsInOrder (source_of self.now) table key → result.reads ≡ 0 }
+        ensures found { (model : Metadata) → IsModel self.now model → IsKeyOrdered model table
+            → result.reads ≤ 2 * binary_digits (count_in model table) + 2 }
+        ensures walked { (model : Metadata) → IsModel self.now model → ¬ IsKeyOrdered model table → result.reads ≡ 0 }
     {
+        keys_are_in_order();
         match key(table) {
             Some(column) => rows_by_key(self.source(), table, column, self.in_order(table), token),
             None => unreachable!(),

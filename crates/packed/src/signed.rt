@@ -58,7 +58,11 @@ fn rotated_bits(number: i32, sign_bit: i32) -> u32
 }
 
 /// Appends the shortest form of a number (II.23.2): 7 bits from -64 to 63, 14 bits from -8192 to 8191,
-/// else 29 bits. Where memory is refused the bytes stay as they were.
+/// else 29 bits.
+///
+/// # Errors
+///
+/// Want of memory alone; the bytes stay as they were.
 pub fn put_signed(bytes: &mut Vec<u8>, number: i32) -> Result<(), AllocError>
     requires low { neg_ℤ (pos (2 ^ 28)) ≤ℤ number }
     requires high { number <ℤ pos (2 ^ 28) }

@@ -90,7 +90,11 @@ pub(crate) fn in_four_bytes(number: u32) -> [u8; 4]
     ]
 }
 
-/// Appends the shortest form of a number (II.23.2). Where memory is refused the bytes stay as they were.
+/// Appends the shortest form of a number (II.23.2).
+///
+/// # Errors
+///
+/// Want of memory alone; the bytes stay as they were.
 pub fn put_unsigned(bytes: &mut Vec<u8>, number: u32) -> Result<(), AllocError>
     requires { number < 2 ^ 29 }
     ensures ok { OnOk result (bytes.new.items ≡ bytes.old.items ++ short_unsigned number) }

@@ -102,6 +102,10 @@ fn check_image(bytes: &[u8]) -> Result<Pe<'_>, Fault>
 ///
 /// There is no memory to want, and the cost does not grow with the file. Machine, characteristics,
 /// alignments and the sizes of sections in memory are not looked at.
+///
+/// # Errors
+///
+/// The fault of the first demand on the headers that fails, with its place in the file.
 pub fn read_pe(bytes: &[u8]) -> Result<Pe<'_>, Fault>
     // What is read is an image.
     ensures found { IfOk result (λ image. IsImage bytes.now image) }

@@ -162,7 +162,9 @@ impl Numbering {
     /// are those that [`text_pool`](crate::text_pool) plans of the same tables. The memory of the numbers
     /// is taken at once.
     ///
-    /// `Full` is told where one of the two heaps would pass 2^30 bytes.
+    /// # Errors
+    ///
+    /// `Full` where the heap of the blobs or of the GUIDs would pass 2^30 bytes; `Memory` where memory is refused.
     pub fn of(alloc: Global, texts: &TextPool, tables: &Tables) -> Result<Numbering, PoolError>
         requires valid { IsValid tables.now }
         requires entries { texts.now.entries ≡ (pools_of tables.now).texts }

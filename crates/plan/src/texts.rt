@@ -58,7 +58,9 @@ fn used_texts<'a>(alloc: Global, tables: &'a Tables) -> Result<Vec<&'a str>, All
 
 /// The strings heap of tables, planned from the texts of all cells (II.24.2.3).
 ///
-/// `Full` is told where the heap would pass 2^30 bytes.
+/// # Errors
+///
+/// `Full` where the heap would pass 2^30 bytes; `Memory` where memory is refused.
 pub fn text_pool(alloc: Global, tables: &Tables) -> Result<TextPool, PoolError>
     requires valid { IsValid tables.now }
     ensures entries { IfOk result (λ pool. pool.entries ≡ (pools_of tables.now).texts) }

@@ -26,6 +26,10 @@ impl Model for Writer {
 
 impl Writer {
     /// A writer with room for so many bytes.
+    ///
+    /// # Errors
+    ///
+    /// Want of memory alone.
     pub fn with_room(alloc: Global, room: usize) -> Result<Writer, AllocError>
         ensures bytes { IfOk result (λ writer. writer.bytes ≡ []) }
         ensures room { IfOk result (λ writer. room ≤ writer.room) }

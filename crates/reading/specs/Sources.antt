@@ -12,15 +12,14 @@ source_seen source = record {
   source = record {
     sizes = source.rows.sizes;
     numbers = numbers_at source.rows.bytes source.rows.sizes;
-    texts = source.texts.now;
+    texts = source.strings;
     blobs = source.blobs.now;
     guids = source.guids.now;
   };
   place = source.place;
 }
 
--- its counts are those of the tables, under their numbers, and the texts are those that were looked at
+-- its counts are those of the tables, under their numbers
 pub record IsSource (source : Inside) : Type 0 where
   pub counts : (table : TableId) → slice_index source.counts (table_number table) ≡ rows_in (source_seen source).source table
-  pub strings : source.strings ≡ source.texts.now
   pub low : source.place + length source.rows.bytes ≤ 2 ^ 32

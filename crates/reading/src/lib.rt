@@ -7,7 +7,7 @@
 //! whatever has [`KeyNumbers`]. Nothing here takes memory.
 //!
 //! ```text
-//! let source = Source::new(rows, texts, blobs, guids, place);
+//! let source = Source::new(rows, Strings::new(texts), blobs, guids, place);
 //! let number = source.number(TableId::TypeDef, 1, 4);
 //! ```
 #![tactic(auto)]

@@ -8,7 +8,6 @@ use std::marker::Model;
 #[derive(Drop)]
 pub struct Source<'a> {
     rows: Rows<'a>,
-    texts: &'a [u8],
     strings: Strings<'a>,
     blobs: &'a [u8],
     guids: &'a [u8],
@@ -42,22 +41,23 @@ impl<'a> Source<'a> {
     ghost use Rattle.reading.specs.Codes.{code_at};
 
     /// What the cells of a root are read from, whose table stream begins at a place.
+    ///
+    /// No heap is looked at.
     pub fn new(
         rows: Rows<'a>,
-        texts: &'a [u8],
+        strings: Strings<'a>,
         blobs: &'a [u8],
         guids: &'a [u8],
         place: usize,
     ) -> Source<'a>
         requires { place + length rows.bytes ≤ 2 ^ 32 }
-        ensures source { result.source ≡ record { sizes = rows.entry.sizes; numbers = numbers_at rows.entry.bytes rows.entry.sizes; texts = texts.now; blobs = blobs.now; guids = guids.now } }
+        ensures source { result.source ≡ record { sizes = rows.entry.sizes; numbers = numbers_at rows.entry.bytes rows.entry.sizes; texts = strings.entry; blobs = blobs.now; guids = guids.now } }
         ensures place { result.place ≡ place }
     {
         let counts = rows.layout().counts();
         Source {
             rows,
-            texts,
-            strings: Strings::new(texts),
+            strings,
             blobs,
             guids,
             counts,
@@ -123,7 +123,7 @@ impl<'a> Source<'a> {
     pub fn texts(&self) -> &'a [u8]
         ensures { result.now ≡ self.now.source.texts }
     {
-        self.texts
+        self.strings.heap()
     }
 
     /// The heap of texts, looked at once as a whole.
@@ -147,7 +147,11 @@ impl<'a> Source<'a> {
         self.guids
     }
 
-    /// A text stands at an index of `#Strings`.
+    /// A text stands at an index of `#Strings` (II.24.2.3).
+    ///
+    /// # Errors
+    ///
+    /// The code of what the heap refuses the index for.
     pub fn check_text(&self, index: u32) -> Result<(), FaultCode>
         ensures { (place : ℕ) → Answers (demands_of_text self.now.source.texts index place) (code_at place result) }
     {
@@ -157,7 +161,11 @@ impl<'a> Source<'a> {
         }
     }
 
-    /// A blob stands at an index of `#Blob`.
+    /// A blob stands at an index of `#Blob` (II.24.2.4).
+    ///
+    /// # Errors
+    ///
+    /// The code of what the heap refuses the index for.
     pub fn check_blob(&self, index: u32) -> Result<(), FaultCode>
         ensures { (place : ℕ) → Answers (demands_of_blob self.now.source.blobs index place) (code_at place result) }
     {
@@ -167,7 +175,11 @@ impl<'a> Source<'a> {
         }
     }
 
-    /// A GUID has the number, or it is null.
+    /// A GUID has the number, or it is null (II.24.2.5).
+    ///
+    /// # Errors
+    ///
+    /// The code of what the heap refuses the number for.
     pub fn check_guid(&self, index: u32) -> Result<(), FaultCode>
         ensures { (place : ℕ) → Answers (demands_of_guid self.now.source.guids index place) (code_at place result) }
     {

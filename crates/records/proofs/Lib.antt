@@ -1,2 +1,3 @@
-pub mod RowLemmas
 pub mod KindLemmas
+pub mod ListedLemmas
+pub mod RowLemmas

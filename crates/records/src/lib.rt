@@ -13,6 +13,7 @@
 #![tactic(auto)]
 
 mod cell_row;
+mod coded_row;
 mod generics;
 mod kinds;
 mod laws;
@@ -23,6 +24,7 @@ mod types;
 
 pub use cell_row::CellRow;
 pub use cells::{Bytes, Cell, Signature, Text, Token};
+pub use coded_row::{CodedRow, coded_row_of, lists};
 pub use generics::{GenericParam, GenericParamConstraint, MethodSpec};
 pub use kinds::is_row_of;
 pub use laws::{blobs_say_signatures, cells_have_kinds, valid_rows_are_of_kinds};

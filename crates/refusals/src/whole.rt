@@ -13,10 +13,12 @@ use metadata::{Refusal, valid_models_are_not_refused};
 use packed::FaultCode;
 use tables::Tables;
 
-/// Checks what is asked of tables, in the order in which it is posed (II.22 and II.24.2): the first
-/// demand that they do not meet is answered, with its code and its cell.
+/// Checks what is asked of tables, in the order in which it is posed (II.22 and II.24.2). It takes no memory.
 ///
-/// None is exactly where a model can be made of them.
+/// # Errors
+///
+/// The first demand that they do not meet, with its code and its cell; none exactly where a model can be made of
+/// them.
 pub fn check_tables(tables: &Tables) -> Result<(), Refusal>
     ensures answers { Answers (refusals_of tables.now) result }
     ensures valid { IsOk result ↔ IsValid tables.now }

@@ -93,6 +93,10 @@ fn check_root(bytes: &[u8]) -> Result<Root<'_>, Fault>
 ///
 /// Every offset counts from the first of them. It takes no memory, and its cost is linear in the
 /// stream headers. What the streams contain is not looked at.
+///
+/// # Errors
+///
+/// The fault of the first demand on the root's front and its stream headers that fails, with its place.
 pub fn read_root(bytes: &[u8]) -> Result<Root<'_>, Fault>
     // What is read is a root of this version with these stream headers.
     ensures found { IfOk result (λ root. (length bytes.now ≤ byte_limit) × (root.bytes ≡ bytes.now)

@@ -29,7 +29,9 @@ fn put_number(bytes: &mut Vec<u8>, width: usize, number: u32) -> Result<(), Allo
 
 /// Appends a row of a table, as a table stream of this layout has it (II.24.2.6).
 ///
-/// Where memory is refused the bytes stay as they were.
+/// # Errors
+///
+/// Want of memory alone; the bytes stay as they were.
 pub fn put_row(
     bytes: &mut Vec<u8>,
     layout: &Layout,

@@ -149,6 +149,10 @@ impl Layout {
     ///
     /// Only the header is looked at, and that the tables end within the bytes: what is in their
     /// cells is not. Bytes behind the last table are ignored.
+    ///
+    /// # Errors
+    ///
+    /// The fault of the first demand on the header that fails, with its place in the stream.
     pub fn read(bytes: &[u8]) -> Result<Layout, Fault>
         // What is read are the sizes of a table stream, which these bytes are.
         ensures found { IfOk result (λ layout. IsTableStream bytes.now layout) }

@@ -55,11 +55,12 @@ impl Eq for Signature {
 }
 
 impl Signature {
-    /// The signature of a body.
+    /// The signature of a body (II.23.2). It takes no memory, and goes as deep as types nest, up to 128.
     ///
-    /// No bytes spell a body that breaks the grammar, whose types nest deeper than 128, which has a
-    /// number or a row that is too great, or whose shortest spelling has 2^29 bytes or more: it is
-    /// handed back. It takes no memory, and goes as deep as types nest, up to 128.
+    /// # Errors
+    ///
+    /// The body is handed back where no bytes spell it: it breaks the grammar, its types nest deeper than 128, it
+    /// has a number or a row that is too great, or its shortest spelling has 2^29 bytes or more.
     pub fn new(body: SigBody) -> Result<Signature, SigBody>
         ensures spellable { IsOk result ↔ IsSpellable (body_of body) }
         ensures same { MatchResult result (λ signature. signature ≡ body_of body) (λ refused. body_of refused ≡ body_of body) }
@@ -78,7 +79,11 @@ impl Signature {
         &self.body
     }
 
-    /// A copy. An error is want of memory alone.
+    /// A copy that says the same.
+    ///
+    /// # Errors
+    ///
+    /// Want of memory alone.
     pub fn copy(&self, alloc: Global) -> Result<Signature, AllocError>
         ensures { IfOk result (λ copy. copy ≡ self.now) }
     {
@@ -106,18 +111,25 @@ impl Signature {
     }
 }
 
-/// The shortest spelling of a signature. An error is want of memory alone.
+/// The shortest spelling of a signature (II.23.2).
+///
+/// # Errors
+///
+/// Want of memory alone.
 pub fn encode(alloc: Global, signature: &Signature) -> Result<Vec<u8>, AllocError>
     ensures { IfOk result (λ bytes. bytes.items ≡ short signature.now) }
 {
     encode_body(alloc, &signature.body)
 }
 
-/// The signature that bytes, all of them, spell in a column of a kind.
+/// The signature that bytes, all of them, spell in a column of a kind (II.23.2).
 ///
-/// Numbers and indexes may stand in longer forms than they need. Bytes that spell nothing are `Bad`,
-/// even where no memory can be had. `Memory` comes only where they spell a signature and memory for
-/// its value was refused. A type index may name a row that is not there.
+/// Numbers and indexes may stand in longer forms than they need. A type index may name a row that is not there.
+///
+/// # Errors
+///
+/// `Bad` exactly where the bytes spell nothing, even where no memory can be had; `Memory` only where they spell
+/// a signature and memory for its value was refused.
 pub fn decode(alloc: Global, bytes: &[u8], kind: SigKind) -> Result<Signature, SigError>
     // What is built is what the bytes spell.
     ensures found { IfOk result (λ signature. Spells kind signature bytes.now) }

@@ -10,10 +10,13 @@ pub struct Stopped {
     pub given: u64,
 }
 
-/// Gives out all the bytes, in as many calls of [`Sink::offer`] as it takes. It takes no memory.
+/// Gives out all the bytes, in as many calls of [`Sink::offer`] as it takes. It takes no memory. No bytes are
+/// offered where there are none.
 ///
-/// The first failure ends it, whatever its kind: no bytes are offered again, after an interruption
-/// neither. No bytes are offered where there are none.
+/// # Errors
+///
+/// How many bytes went out before the first failure, which ends it, whatever its kind: no byte is offered again,
+/// after an interruption neither.
 pub fn send_all<W: Sink>(bytes: &[u8], sink: &mut W) -> Result<(), Stopped>
     requires few { W.failed sink.old < 2 ^ 63 }
     // All bytes went out, and nothing else; and no call failed.

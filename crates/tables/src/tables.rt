@@ -39,8 +39,11 @@ impl Model for Tables {
 }
 
 impl Tables {
-    /// Tables of a version, without user bytes and without rows. An error is want of memory for the
-    /// version alone.
+    /// Tables of a version, without user bytes and without rows.
+    ///
+    /// # Errors
+    ///
+    /// Want of memory for the version alone.
     pub fn new(alloc: Global, version: &str) -> Result<Tables, AllocError>
         ensures version { IfOk result (λ t. t.version ≡ version.now) }
         ensures user { IfOk result (λ t. t.user ≡ []) }
@@ -55,7 +58,11 @@ impl Tables {
         })
     }
 
-    /// Adds a row at the end of a table. Where memory is refused, it hands the row back.
+    /// Adds a row at the end of a table.
+    ///
+    /// # Errors
+    ///
+    /// The row is handed back where memory is refused, and the tables stay as they were.
     #[tactic(auto, using(crate::proofs::SaidLemmas::said_once))]
     pub fn push(&mut self, table: TableId, row: Vec<Cell>) -> Result<(), Vec<Cell>>
         ensures ok { OnOk result (self.new ≡ with_row self.old table (all_said row.items)) }
@@ -68,6 +75,10 @@ impl Tables {
 
     /// Takes memory for some more rows of a table at once, so that so many can be added to it without
     /// moving those that are there.
+    ///
+    /// # Errors
+    ///
+    /// Want of memory alone; the tables stay as they were.
     pub fn reserve(&mut self, table: TableId, more: usize) -> Result<(), AllocError>
         ensures { self.new ≡ self.old }
     {

@@ -6,10 +6,10 @@ ghost use Rattle.cli.specs.Checked.{IsWhole, demands_of};
 ghost use Rattle.cli.specs.CommandLine as line;
 ghost use Rattle.cli.specs.Tasks.{TellsFault};
 
-use crate::failure::{Failure, printed};
 use crate::opened::open;
 use crate::subcommands::reader;
 use clap::Command;
+use printed_faults::{Failure, printed};
 use std::alloc::{AllocError, Global};
 use std::io;
 use std::io::{BufWriter, Write};

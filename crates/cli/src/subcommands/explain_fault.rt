@@ -3,18 +3,14 @@ ghost use Rattle.std.specs.Prelude.{◌≡◌, IfOk, IfErr, false};
 ghost use Rattle.clap.specs.Words.{app_of};
 ghost use Rattle.clap.specs.declared.Command.TheViews.{out-Command as fields_of};
 ghost use Rattle.cli.specs.CommandLine as line;
-ghost use Rattle.cli.specs.Status.{IsOutput};
+ghost use Rattle.printed_faults.specs.Status.{IsOutput};
 
-use crate::failure::{Failure, printed};
 use clap::{Arg, ArgAction, Command};
-use explanations::{all_codes, explain};
-use packed::{Fault, FaultCode};
+use packed::FaultCode;
+use printed_faults::{Failure, print_explanation, print_list, printed};
 use std::alloc::{AllocError, Global};
 use std::io;
 use std::io::{BufWriter, Write};
-
-/// How many columns a line has at most.
-const WIDTH: usize = 100;
 
 /// The words of the subcommand and its help.
 pub(crate) fn command<'a>(alloc: Global) -> Result<Command<'a>, AllocError>
@@ -63,53 +59,4 @@ fn print<W: Write>(alloc: Global, code: Option<FaultCode>, out: &mut W) -> io::R
         None => print_list(&mut out)?,
     }
     out.flush()
-}
-
-fn print_list<W: Write>(out: &mut W) -> io::Result<()> {
-    for code in all_codes() {
-        print_heading(*code, out)?;
-    }
-    Ok(())
-}
-
-/// Prints the number of a demand, its name where it has one, and what is wrong.
-fn print_heading<W: Write>(code: FaultCode, out: &mut W) -> io::Result<()> {
-    let (number, summary) = (code.number(), explain(code).summary);
-    let name = Fault::new(code, 0).name();
-    if name.is_empty() {
-        writeln!(out, "{number}: {summary}")
-    } else {
-        writeln!(out, "{number} {name}: {summary}")
-    }
-}
-
-fn print_explanation<W: Write>(code: FaultCode, out: &mut W) -> io::Result<()> {
-    let told = explain(code);
-    print_heading(code, out)?;
-    writeln!(out)?;
-    print_item("Demand:", told.demand, out)?;
-    if let Some(section) = told.section {
-        print_item("Section:", section, out)?;
-    }
-    print_item("Offset:", told.offset, out)?;
-    if let Some(cause) = told.cause {
-        print_item("Usual cause:", cause, out)?;
-    }
-    Ok(())
-}
-
-/// Prints a text behind a dash and a label, in lines of at most so many columns as [`WIDTH`] says.
-fn print_item<W: Write>(label: &str, text: &str, out: &mut W) -> io::Result<()> {
-    write!(out, "- {label}")?;
-    let mut room = (WIDTH - 2).saturating_sub(label.len());
-    for word in text.split_whitespace() {
-        if word.len() < room {
-            write!(out, " {word}")?;
-            room -= word.len() + 1;
-        } else {
-            write!(out, "\n  {word}")?;
-            room = (WIDTH - 2).saturating_sub(word.len());
-        }
-    }
-    writeln!(out)
 }

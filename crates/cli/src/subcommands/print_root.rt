@@ -7,14 +7,14 @@ ghost use Rattle.cli.specs.Heads.{AreHeads, HasHeads, demands_of_heads};
 ghost use Rattle.cli.specs.Tasks.{TellsFault};
 ghost use Rattle.packed.specs.Demand.{FirstToFail};
 
-use crate::failure::{Failure, printed};
-use crate::shown::Shown;
 use crate::subcommands::reader;
 use clap::Command;
 use cli_header::{CliHeader, headers_are_read};
 use opening::read_heads;
 use packed::Fault;
 use pe::images_are_read;
+use printed_faults::{Failure, printed};
+use printed_rows::Shown;
 use root::{Root, read_root, roots_are_read};
 use std::alloc::{AllocError, Global};
 use std::io;

@@ -1,22 +1,20 @@
 //! `clim token`: the row or the user string that a token names.
-ghost use Rattle.std.specs.Prelude.{◌≡◌, ◌≤◌, ◌<◌, ◌^◌, IfOk, IfErr, OnOk, OnErr, IfSome, IfNone, true, false};
+ghost use Rattle.std.specs.Prelude.{◌≡◌, ◌≤◌, IfOk, IfErr, OnOk, false};
 ghost use Rattle.clap.specs.Words.{app_of};
 ghost use Rattle.clap.specs.declared.Command.TheViews.{out-Command as fields_of};
 ghost use Rattle.heaps.specs.Fill.{filled};
 ghost use Rattle.opening.specs.Views.{HasModel, row_count};
 ghost use Rattle.cli.specs.CommandLine as line;
-ghost use Rattle.cli.specs.Tasks.{HasString, HasTokenRow, IsMet, IsNamed, TellsNoString, TellsNone, TellsUnnamed};
+ghost use Rattle.cli.specs.Tasks.{HasString, IsMet, IsNamed, TellsNoString, TellsNone, TellsUnnamed};
 ghost use Rattle.cli.specs.declared.reports.Report.TheVariants as report;
-ghost use Rattle.schema.specs.Tokens.{IsToken};
 
-use crate::failure::{Failure, printed};
 use crate::opened::open;
-use crate::row_lines::print_row;
-use crate::shown::ShownUnit;
 use crate::subcommands::reader;
 use clap::{Arg, ArgAction, Command};
 use heaps::{UserString, user_string};
 use opening::{Token, View};
+use printed_faults::{Failure, printed};
+use printed_rows::{existing_row, print_row};
 use std::alloc::{AllocError, Global};
 use std::io;
 use std::io::{BufWriter, Write};
@@ -88,22 +86,9 @@ fn print_named<W: Write>(
     if number / ROWS == USER_STRINGS {
         return print_string_at(alloc, view, number % ROWS, out);
     }
-    match existing(view, number) {
+    match existing_row(view, number) {
         Some(token) => printed(print(alloc, view, token, out)),
         None => Err(Failure::NoSuchRow),
-    }
-}
-
-/// The token of a number, where it names a row of the view.
-fn existing(view: &View<'_>, number: u32) -> Option<Token>
-    ensures found { IfSome result (λ token. IsToken number token × (1 ≤ token.row) × (token.row ≤ row_count view.now token.table)) }
-    ensures none { IfNone result (¬ HasTokenRow view.now number) }
-{
-    let token = Token::from_u32(number)?;
-    if 1 <= token.row && token.row <= view.count(token.table) {
-        Some(token)
-    } else {
-        None
     }
 }
 
@@ -151,14 +136,6 @@ fn print_user_string<W: Write>(
     out: &mut W,
 ) -> io::Result<()> {
     let mut out = BufWriter::new(alloc, out)?;
-    write!(out, "user")?;
-    if let Some(flag) = string.flag() {
-        write!(out, " ")?;
-        for unit in string.units() {
-            write!(out, "{}", ShownUnit(unit))?;
-        }
-        write!(out, " {flag}")?;
-    }
-    writeln!(out)?;
+    printed_rows::print_user_string(string, &mut out)?;
     out.flush()
 }

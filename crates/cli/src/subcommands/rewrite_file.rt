@@ -4,13 +4,14 @@ ghost use Rattle.clap.specs.Words.{app_of};
 ghost use Rattle.clap.specs.declared.Command.TheViews.{out-Command as fields_of};
 ghost use Rattle.cli.specs.CommandLine as line;
 ghost use Rattle.cli.specs.Rewritten.{IsRewritten, TellsUnwritten};
+ghost use Rattle.printed_faults.specs.Status.{IsUnwritten};
 
-use crate::failure::{Failure, printed};
 use crate::opened::open;
 use crate::subcommands::reader;
 use clap::{Arg, ArgAction, Command};
 use loading::ToModel;
 use packed::{Fault, FaultCode};
+use printed_faults::{Failure, printed};
 use std::alloc::{AllocError, Global};
 use std::io::{BufWriter, Write};
 use std::rt::Files;
@@ -82,7 +83,9 @@ fn canonical_root(alloc: Global, bytes: &[u8], bare: bool) -> Result<Prepared, F
 }
 
 /// Writes a root to the file of a path, which is made or emptied first.
-fn write_file<'a, R: Files>(rt: &R, root: &Prepared, path: &'a str) -> Result<(), Failure<'a>> {
+fn write_file<'a, R: Files>(rt: &R, root: &Prepared, path: &'a str) -> Result<(), Failure<'a>>
+    ensures { IfErr result (IsUnwritten path.now) }
+{
     match fs::create(rt, path) {
         Ok(file) => match root.send(&mut Counted::new(file)) {
             Ok(()) => Ok(()),

@@ -7,12 +7,12 @@ ghost use Rattle.cli.specs.Checked.{IsWhole, demands_of};
 ghost use Rattle.cli.specs.CommandLine as line;
 ghost use Rattle.cli.specs.Tasks.{TellsFault};
 
-use crate::failure::{Failure, printed};
 use crate::opened::open;
-use crate::row_lines::print_row;
 use crate::subcommands::reader;
 use clap::Command;
-use opening::{TableId, View};
+use opening::View;
+use printed_faults::{Failure, printed};
+use printed_rows::print_tables;
 use std::alloc::{AllocError, Global};
 use std::io;
 use std::io::{BufWriter, Write};
@@ -55,28 +55,6 @@ fn print<W: Write>(alloc: Global, view: &View<'_>, out: &mut W) -> io::Result<()
     requires { HasModel view.now }
 {
     let mut out = BufWriter::new(alloc, out)?;
-    for table in TableId::all() {
-        print_table(alloc, view, *table, &mut out)?;
-    }
+    print_tables(alloc, view, &mut out)?;
     out.flush()
-}
-
-fn print_table<W: Write>(
-    alloc: Global,
-    view: &View<'_>,
-    table: TableId,
-    out: &mut W,
-) -> io::Result<()>
-    requires { HasModel view.now }
-{
-    let count = view.count(table);
-    if count == 0 {
-        return Ok(());
-    }
-    let (number, name) = (table.number(), table.name());
-    writeln!(out, "table {number:02X} {name} {count}")?;
-    for row in 1..=count {
-        print_row(alloc, view, table, row, out)?;
-    }
-    Ok(())
 }

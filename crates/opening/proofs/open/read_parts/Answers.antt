@@ -1,4 +1,6 @@
-use Rattle.std.proofs.Common.{◌≡◌, ℕ, List, [], length, ap, ◌∙◌, arith, unwrap_or}
+use Rattle.std.proofs.Common.{◌≡◌, ℕ, List, [], length, Option, Some, None, IfSome, ap, sym, ◌∙◌, arith, unwrap_or}
+use Rattle.std.specs.Borrow.{Bor}
+use Rattle.std.specs.Str.{is_utf8}
 use Rattle.std.proofs.lemmas.Result.{err_from_is_err_and}
 use Rattle.std.specs.Option.{option_map}
 use Rattle.root.specs.declared.kind.Kind.{Kind}
@@ -6,9 +8,11 @@ use Rattle.root.specs.declared.kind.Kind.TheVariants.{Tables, Strings, UserStrin
 use Rattle.root.specs.Directory.{directory_of}
 use Rattle.root.specs.Streams.{Directory, stream_of, place_of}
 use Rattle.metadata.specs.Streams.{stream_in}
-use Rattle.metadata.specs.Placed.{tables_place}
+use Rattle.metadata.specs.Placed.{tables_place, source_of}
 use Rattle.rows.specs.Cells.{Stream}
 use Rattle.schema.specs.Cells.{numbers_at}
+use Rattle.opening.specs.declared.found.Found.{Found}
+use Rattle.opening.specs.Views.{AreFound}
 use Rattle.opening.proofs.Placed.{placed_is, stream_fails, stream_holds}
 use Rattle.opening.proofs.open.read_parts.Goals as goal
 
@@ -21,6 +25,12 @@ is_place root directory place is e = e ∙ ap (λ (d : Directory). unwrap_or (op
 
 bytes_are : (root : List ℕ) (directory : Directory) → directory ≡ directory_of root → length directory.bytes ≡ length root
 bytes_are root directory is = ap (λ (d : Directory). length d.bytes) is
+
+-- what was found of the root's texts is so of these
+texts_found : (root texts : List ℕ) (found : Option (Bor Found)) → texts ≡ (source_of root).texts → IfSome found (λ f. AreFound root f.now)
+    → IfSome found (λ f. f.now.utf8_texts ≡ is_utf8 texts)
+texts_found root texts None same are = tt
+texts_found root texts (Some found) same are = are.texts ∙ ap is_utf8 (sym same)
 
 pub overflow_add-place : goal.overflow_add-place
 overflow_add-place c =
@@ -35,6 +45,12 @@ read_layout-requires c =
     let small = c.requires.small in
     let within = c.tables_place.ensures.within in
     omega (arith, c.requires.place)
+
+pub strings_of-requires : goal.strings_of-requires
+strings_of-requires c =
+    let root = c.args.root.now in
+    let texts = c.stream_in-texts.result.now in
+    texts_found root texts c.args.found (is_stream root c.args.directory.now Strings texts c.requires.directory c.stream_in-texts.ensures.stream) c.requires.found
 
 pub new-source-requires : goal.new-source-requires
 new-source-requires c =
@@ -57,12 +73,12 @@ pub returns-clause-source : goal.returns-clause-source
 returns-clause-source c =
     let root = c.args.root.now in
     let directory = c.requires.directory in
-    placed_is root c.args.place c.tables_place.result c.new-source.result c.stream_in-tables.result.now c.stream_in-texts.result.now c.stream_in-blobs.result.now c.stream_in-guids.result.now c.in_ok-layout.layout
-    (c.new-source.ensures.source ∙ ap (λ (s : Stream). record { sizes = s.sizes; numbers = numbers_at s.bytes s.sizes; texts = c.stream_in-texts.result.now; blobs = c.stream_in-blobs.result.now; guids = c.stream_in-guids.result.now }) c.new-rows.ensures) c.new-source.ensures.place
+    placed_is root c.args.place c.tables_place.result c.new-source.result c.stream_in-tables.result.now c.strings_of.result c.stream_in-blobs.result.now c.stream_in-guids.result.now c.in_ok-layout.layout
+    (c.new-source.ensures.source ∙ ap (λ (s : Stream). record { sizes = s.sizes; numbers = numbers_at s.bytes s.sizes; texts = c.strings_of.result; blobs = c.stream_in-blobs.result.now; guids = c.stream_in-guids.result.now }) c.new-rows.ensures) c.new-source.ensures.place
     (is_place root c.args.directory.now c.tables_place.result directory c.tables_place.ensures.place)
     (is_stream root c.args.directory.now Tables c.stream_in-tables.result.now directory c.stream_in-tables.ensures.stream)
     c.in_ok-layout.ensures.sizes
-    (is_stream root c.args.directory.now Strings c.stream_in-texts.result.now directory c.stream_in-texts.ensures.stream)
+    (c.strings_of.ensures ∙ is_stream root c.args.directory.now Strings c.stream_in-texts.result.now directory c.stream_in-texts.ensures.stream)
     (is_stream root c.args.directory.now Blobs c.stream_in-blobs.result.now directory c.stream_in-blobs.ensures.stream)
     (is_stream root c.args.directory.now Guids c.stream_in-guids.result.now directory c.stream_in-guids.ensures.stream)
 

@@ -1,0 +1,62 @@
+use crate::runs::answer;
+use crate::samples::{SAMPLE, TWO_TYPES, image};
+use std::fs;
+use std::test::Fail;
+
+/// Runs an example of help, which begins behind its prompt: the words, and then in lines of their own, two columns
+/// in, what they print. The error is what they print where that is something else.
+fn run_example(rt: &HostRuntime, example: &str) -> Result<(), Fail> {
+    let (command, below) = example.split_once('\n').ok_or("no line below")?;
+    let words: Vec<&str> = command.split_whitespace().collect(rt.alloc())?;
+    let mut wanted = String::new(rt.alloc());
+    for line in below.lines() {
+        wanted.push_str(line.strip_prefix("  ").unwrap_or(line))?;
+        wanted.push('\n')?;
+    }
+    let (status, out, err) = answer(rt, &words)?;
+    if status == 0 && err.is_empty() && out.trim_ascii_end() == wanted.trim_ascii_end() {
+        return Ok(());
+    }
+    let other = format!(in rt.alloc(); "{command}: {status}: {out}{err}")?;
+    Err::<(), String>(other)?;
+    Ok(())
+}
+
+/// Runs the examples in the help of a subcommand, and answers how many there are.
+fn run_examples(rt: &HostRuntime, name: &str) -> Result<usize, Fail> {
+    let (_, help, _) = answer(rt, &["clim", name, "--help"])?;
+    let (_, examples) = help.split_once("\nExamples:\n").ok_or("no examples")?;
+    let mut count = 0usize;
+    for example in examples.split("  $ ").skip(1) {
+        run_example(rt, example)?;
+        count = count.saturating_add(1);
+    }
+    Ok(count)
+}
+
+#[test]
+fn print_what_help_tells(rt: HostRuntime) -> Result<(), Fail> {
+    fs::write(&rt, "one_module.dll", image(rt.alloc())?.as_slice())?;
+    fs::write(&rt, "one_module.root", SAMPLE.as_slice())?;
+    fs::write(&rt, "two_types.root", TWO_TYPES.as_slice())?;
+    for (name, count) in [
+        ("root", 2),
+        ("check", 2),
+        ("show", 1),
+        ("types", 1),
+        ("token", 2),
+        ("rewrite", 2),
+        ("explain", 1),
+    ] {
+        assert_eq!(rt; run_examples(&rt, name)?, count, "{name}");
+    }
+    for file in [
+        "one_module.dll",
+        "one_module.root",
+        "two_types.root",
+        "out.root",
+    ] {
+        fs::remove_file(&rt, file)?;
+    }
+    Ok(())
+}

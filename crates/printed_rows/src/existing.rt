@@ -1,0 +1,20 @@
+ghost use Rattle.std.specs.Prelude.{◌≤◌, IfSome, IfNone};
+ghost use Rattle.opening.specs.Views.{row_count};
+ghost use Rattle.printed_rows.specs.Named.{HasTokenRow};
+ghost use Rattle.schema.specs.Tokens.{IsToken};
+
+use opening::{Token, View};
+
+/// The token that a number spells (III.1.9), where it names a row of the view; `None` where its high byte is the
+/// number of no table, or the three bytes below are 0 or a row that the table has not.
+pub fn existing_row(view: &View<'_>, number: u32) -> Option<Token>
+    ensures found { IfSome result (λ token. IsToken number token × (1 ≤ token.row) × (token.row ≤ row_count view.now token.table)) }
+    ensures none { IfNone result (¬ HasTokenRow view.now number) }
+{
+    let token = Token::from_u32(number)?;
+    if 1 <= token.row && token.row <= view.count(token.table) {
+        Some(token)
+    } else {
+        None
+    }
+}

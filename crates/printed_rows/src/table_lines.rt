@@ -1,0 +1,45 @@
+//! All tables of a view, in lines.
+ghost use Rattle.opening.specs.Views.{HasModel};
+
+use crate::row_lines::print_row;
+use opening::{TableId, View};
+use std::alloc::Global;
+use std::io;
+use std::io::Write;
+
+/// Prints each table that has rows, the lowest number first: the line `table NN NAME COUNT`, where NN is the
+/// table's number in two upper-case hexadecimal digits (II.22), and the line of each row, as [`print_row`] has it.
+///
+/// Lines go out as they are made: no more memory is held at a time than one cell takes.
+///
+/// # Errors
+///
+/// Those of [`print_row`]. The writer has then been given the front of the lines.
+pub fn print_tables<W: Write>(alloc: Global, view: &View<'_>, out: &mut W) -> io::Result<()>
+    requires { HasModel view.now }
+{
+    for table in TableId::all() {
+        print_table(alloc, view, *table, out)?;
+    }
+    Ok(())
+}
+
+fn print_table<W: Write>(
+    alloc: Global,
+    view: &View<'_>,
+    table: TableId,
+    out: &mut W,
+) -> io::Result<()>
+    requires { HasModel view.now }
+{
+    let count = view.count(table);
+    if count == 0 {
+        return Ok(());
+    }
+    let (number, name) = (table.number(), table.name());
+    writeln!(out, "table {number:02X} {name} {count}")?;
+    for row in 1..=count {
+        print_row(alloc, view, table, row, out)?;
+    }
+    Ok(())
+}

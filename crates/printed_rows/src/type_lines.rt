@@ -1,0 +1,68 @@
+//! The types of a view, in lines.
+ghost use Rattle.std.specs.Prelude.{◌≡◌, ◌≤◌, ◌⊎◌};
+ghost use Rattle.metadata.specs.Cell.{Text};
+ghost use Rattle.metadata.specs.Metadata.{Metadata, cell_in};
+ghost use Rattle.metadata.specs.Model.{IsModel};
+ghost use Rattle.opening.specs.Views.{row_count, HasModel};
+ghost use Rattle.schema.specs.declared.table.TableId.TheVariants.{TypeDef};
+
+use crate::shown::Shown;
+use metadata::models_are_read;
+use opening::{CellRef, TableId, Token, View};
+use std::io;
+use std::io::Write;
+
+/// Prints a line for each row of TypeDef (II.22.37): its token in eight hexadecimal digits; its namespace and a
+/// dot, where there is one, and its name, both shown as [`Shown`] has them; and how many fields and how many
+/// methods it has.
+///
+/// It takes no memory. The error is that of the writer, which has then been given the front of the lines.
+pub fn print_types<W: Write>(view: &View<'_>, out: &mut W) -> io::Result<()>
+    requires { HasModel view.now }
+{
+    for row in 1..=view.count(TableId::TypeDef) {
+        print_type(view, row, out)?;
+    }
+    Ok(())
+}
+
+fn print_type<W: Write>(view: &View<'_>, row: u32, out: &mut W) -> io::Result<()>
+    requires model { HasModel view.now }
+    requires first { 1 ≤ row }
+    requires last { row ≤ row_count view.now TypeDef }
+{
+    let token = Token {
+        table: TableId::TypeDef,
+        row,
+    };
+    write!(out, "{token}")?;
+    let namespace = text_of(view, row, 2);
+    if namespace.is_empty() {
+        write!(out, " {}", Shown(text_of(view, row, 1)))?;
+    } else {
+        write!(
+            out,
+            " {}.{}",
+            Shown(namespace),
+            Shown(text_of(view, row, 1))
+        )?;
+    }
+    let (fields, methods) = (view.fields_of(row).len(), view.methods_of(row).len());
+    writeln!(out, " {fields} {methods}")
+}
+
+/// The name of a type, which is its cell at 1, or its namespace, at 2 (II.22.37).
+#[tactic(auto, unfolding(schema::specs::CellColumns::cell_columns))]
+fn text_of<'a>(view: &View<'a>, row: u32, place: usize) -> &'a str
+    requires model { HasModel view.now }
+    requires first { 1 ≤ row }
+    requires last { row ≤ row_count view.now TypeDef }
+    requires place { (place ≡ 1) ⊎ (place ≡ 2) }
+    ensures { (model : Metadata) → IsModel view.now model → cell_in model TypeDef row place ≡ Text result.now }
+{
+    models_are_read();
+    match view.cell(TableId::TypeDef, row, place) {
+        CellRef::Text(text) => text,
+        _ => unreachable!(),
+    }
+}

@@ -1,0 +1,12 @@
+//! Loads every changed sample, and each front of one, whose first fault is known. It asks for no memory, so a
+//! load tells its fault also where all memory is refused.
+
+mod faults;
+
+use std::process::ExitCode;
+
+fn main(rt: HostRuntime) -> ExitCode {
+    let (passed, failed) = faults::count_told(rt.alloc());
+    let _ = println!(rt; "{passed} passed, {failed} failed");
+    ExitCode::from(u8::from(failed != 0))
+}

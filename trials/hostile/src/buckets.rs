@@ -1,0 +1,40 @@
+use std::alloc::{AllocError, Global};
+
+/// How many buckets there are.
+const COUNT: usize = 256;
+
+/// The places of values, by their first bytes, so that an equal one is found soon.
+#[derive(Drop)]
+pub struct Buckets {
+    places: Vec<Vec<usize>>,
+}
+
+impl Buckets {
+    /// No values.
+    pub fn new(alloc: Global) -> Result<Buckets, AllocError> {
+        let mut places = Vec::with_capacity(alloc, COUNT)?;
+        for _bucket in 0..COUNT {
+            places.push(Vec::new(alloc))?;
+        }
+        Ok(Buckets { places })
+    }
+
+    /// Notes the place of a value.
+    pub fn note(&mut self, value: &[u8], place: usize) -> Result<(), AllocError> {
+        self.places[bucket_of(value)].push(place)?;
+        Ok(())
+    }
+
+    /// The places of the values among which one stands.
+    pub fn near(&self, value: &[u8]) -> &[usize] {
+        self.places[bucket_of(value)].as_slice()
+    }
+}
+
+fn bucket_of(value: &[u8]) -> usize {
+    let mut sum = value.len();
+    for byte in value.iter().take(16) {
+        sum = sum.wrapping_mul(31).wrapping_add(*byte as usize);
+    }
+    sum % COUNT
+}

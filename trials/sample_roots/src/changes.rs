@@ -1,0 +1,28 @@
+use std::alloc::{AllocError, Global};
+
+/// Writes bytes over those that stand at a place; what lies behind the end is left out.
+pub fn write_at(bytes: &mut [u8], place: usize, part: &[u8]) {
+    for (i, byte) in part.iter().enumerate() {
+        if let Some(slot) = bytes.get_mut(place.saturating_add(i)) {
+            *slot = *byte;
+        }
+    }
+}
+
+/// Writes each byte at its place.
+pub fn change(bytes: &mut [u8], changes: &[(usize, u8)]) {
+    for (place, byte) in changes {
+        write_at(bytes, *place, &[*byte]);
+    }
+}
+
+/// Bytes of which some are changed. An error is want of memory alone.
+pub fn changed(
+    alloc: Global,
+    bytes: &[u8],
+    changes: &[(usize, u8)],
+) -> Result<Vec<u8>, AllocError> {
+    let mut copy = Vec::from_slice(alloc, bytes)?;
+    change(copy.as_mut_slice(), changes);
+    Ok(copy)
+}
