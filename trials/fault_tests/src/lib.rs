@@ -5,7 +5,6 @@
 //! 0 and to 0xFF, and each with the changes that make one demand of ECMA-335 Partition II (22 to 25) the
 //! first to fail. What is expected of changed bytes was found by another reader, written from the standard
 //! alone, and not by the calls that are tested.
-#![tactic(auto)]
 
 mod refusals;
 

@@ -4,7 +4,6 @@
 //! II.23.2 and II.23.1.16: every production, every element type, and lists of three. Each blob is
 //! recognised, decoded, encoded, copied and compared. [`first_bad_of_spelled`] tells in two passes which
 //! type index is the first that names no row.
-#![tactic(auto)]
 
 mod blobs;
 mod two_passes;

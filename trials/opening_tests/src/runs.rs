@@ -48,7 +48,6 @@ fn a_null_start_is_that_of_the_next_owner(rt: HostRuntime) -> Result<(), Fail> {
 }
 
 #[test]
-#[tactic(auto, unfolding(schema::specs::CellColumns::cell_columns))]
 fn all_starts_are_given_from_the_last_to_the_first(rt: HostRuntime) -> Result<(), Fail> {
     let root = root_of_starts(rt.alloc(), [1, 0, 3])?;
     let view = open_root(root.as_slice())?;

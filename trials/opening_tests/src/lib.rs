@@ -4,7 +4,6 @@
 //! A plain builder lays out roots from rows and heaps. They are opened, and the cells, the runs, the texts
 //! and the order of keys that a view shows, or the first fault, are compared with what ECMA-335 Partition II
 //! (22 to 24) says of them.
-#![tactic(auto)]
 
 mod cells_there;
 
