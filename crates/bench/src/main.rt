@@ -6,9 +6,11 @@ ghost use Rattle.std.specs.Prelude.{◌≡◌, true, All};
 ghost use Rattle.heaps.specs.Entries.{HasNoNul};
 ghost use Rattle.heaps.specs.Uses.{bytes_of};
 
+mod hostile_roots;
 mod rows_opened;
 mod signatures_read;
 
+use crate::hostile_roots::report_hostile;
 use crate::rows_opened::report_rows;
 use crate::signatures_read::report_signatures;
 use anyhow::Result;
@@ -170,5 +172,6 @@ fn main(rt: HostRuntime) -> Result<()> {
     report_random(&rt, alloc, "100000 the same of 20", 100_000, 20, 0)?;
     report_random(&rt, alloc, "1000 the same of 7000", 1000, 7000, 0)?;
     report_rows(&rt, alloc)?;
-    report_signatures(&rt, alloc)
+    report_signatures(&rt, alloc)?;
+    report_hostile(&rt, alloc)
 }
