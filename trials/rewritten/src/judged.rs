@@ -1,33 +1,35 @@
 use crate::copied::copied_tables;
 use loading::{load_image, load_root};
 use owned_model::Model;
-use std::alloc::Global;
+use std::alloc::{AllocError, Global};
 use writer::write_root;
 
 /// How a root begins (II.24.2.1); a file begins otherwise.
 const SIGNATURE: &[u8] = b"BSJB";
 
+/// How long a file is at most of which each front is loaded too, and the file with each byte changed.
+const SMALL: usize = 2048;
+
 /// The model of a file, or of a bare root.
-fn loaded(alloc: Global, bytes: &[u8]) -> Option<Model> {
-    if bytes.starts_with(SIGNATURE) {
+fn loaded(alloc: Global, bytes: &[u8], is_root: bool) -> Option<Model> {
+    if is_root {
         return load_root(alloc, bytes).ok();
     }
     let (_, model) = load_image(alloc, bytes).ok()?;
     Some(model)
 }
 
-/// What is not as it has to be of the model of these bytes and of its canonical root.
-pub fn judged(alloc: Global, bytes: &[u8]) -> Result<(), &'static str> {
-    let model = loaded(alloc, bytes).ok_or("it does not load")?;
-    let tables = copied_tables(alloc, &model).map_err(|_| "out of memory")?;
+/// What is not as it has to be of a model and of its canonical root.
+fn judge_model(alloc: Global, model: &Model) -> Result<(), &'static str> {
+    let tables = copied_tables(alloc, model).map_err(|_| "out of memory")?;
     let tables = tables.ok_or("a copy of a row is refused")?;
     let copied = Model::from_tables(tables).map_err(|_| "a copy of its tables is refused")?;
-    if model != copied {
+    if *model != copied {
         return Err("a copy of its tables makes another model");
     }
-    let root = write_root(alloc, &model).map_err(|_| "its root is not written")?;
+    let root = write_root(alloc, model).map_err(|_| "its root is not written")?;
     let again = load_root(alloc, &root).map_err(|_| "its canonical root does not load")?;
-    if model != again {
+    if *model != again {
         return Err("its canonical root loads to another model");
     }
     let rewritten = write_root(alloc, &again).map_err(|_| "its root is not written again")?;
@@ -35,4 +37,41 @@ pub fn judged(alloc: Global, bytes: &[u8]) -> Result<(), &'static str> {
         return Err("its canonical root is written otherwise");
     }
     Ok(())
+}
+
+/// What is not as it has to be of what loads among the fronts of a file, and among the files that have one byte
+/// 00 or FF in its place.
+fn judge_changed(alloc: Global, bytes: &[u8], is_root: bool) -> Result<(), &'static str> {
+    for end in 0..bytes.len() {
+        if let Some(model) = loaded(alloc, &bytes[..end], is_root) {
+            judge_model(alloc, &model)?;
+        }
+    }
+    for place in 0..bytes.len() {
+        for byte in [0, 0xFF] {
+            let changed = with_byte(alloc, bytes, place, byte).map_err(|_| "out of memory")?;
+            if let Some(model) = loaded(alloc, &changed, is_root) {
+                judge_model(alloc, &model)?;
+            }
+        }
+    }
+    Ok(())
+}
+
+/// The bytes, with another one at a place.
+fn with_byte(alloc: Global, bytes: &[u8], place: usize, byte: u8) -> Result<Vec<u8>, AllocError> {
+    let mut changed = bytes.to_vec(alloc)?;
+    changed[place] = byte;
+    Ok(changed)
+}
+
+/// What is not as it has to be of a file that loads, and of a small one with changes.
+pub fn judged(alloc: Global, bytes: &[u8]) -> Result<(), &'static str> {
+    let is_root = bytes.starts_with(SIGNATURE);
+    let model = loaded(alloc, bytes, is_root).ok_or("it does not load")?;
+    judge_model(alloc, &model)?;
+    if bytes.len() > SMALL {
+        return Ok(());
+    }
+    judge_changed(alloc, bytes, is_root)
 }
