@@ -5,7 +5,6 @@ ghost use Rattle.schema.specs.Columns.{column_at};
 ghost use Rattle.metadata.specs.Source.{Source as TheSource, rows_in};
 ghost use Rattle.metadata.specs.Starts.{start_of};
 
-use crate::source::Source;
 use schema::TableId;
 
 /// How many starts of a column are kept at most.
@@ -36,17 +35,6 @@ impl KnownStarts {
     {
         KnownStarts {
             step: owners / KEPT + 1,
-            starts: [0; 256],
-        }
-    }
-
-    /// The starts of none of so many owners.
-    pub fn none(owners: u32) -> KnownStarts
-        requires { owners ≤ 0xFFFFFF }
-        ensures { (start : ℕ → ℕ) → IsKnown result start 1 owners }
-    {
-        KnownStarts {
-            step: owners + 1,
             starts: [0; 256],
         }
     }
@@ -104,19 +92,6 @@ pub struct KnownRuns {
 
 impl KnownRuns {
     ghost use Rattle.reading.specs.KnownStarts.{AreKnown};
-
-    /// No starts of the runs of a source.
-    pub fn none(source: &Source) -> KnownRuns
-        ensures { AreKnown source.now.source result }
-    {
-        KnownRuns {
-            fields: KnownStarts::none(source.count(TableId::TypeDef)),
-            methods: KnownStarts::none(source.count(TableId::TypeDef)),
-            params: KnownStarts::none(source.count(TableId::MethodDef)),
-            events: KnownStarts::none(source.count(TableId::EventMap)),
-            properties: KnownStarts::none(source.count(TableId::PropertyMap)),
-        }
-    }
 
     /// The start of an owner in a column that lists members, if it is known.
     pub fn at(&self, owner: TableId, column: usize, row: u32) -> Option<u32>
