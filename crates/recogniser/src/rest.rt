@@ -1,4 +1,4 @@
-ghost use Rattle.std.specs.Prelude.{◌≡◌, ℕ, [], ◌∷◌, option_map, MatchOption, length};
+ghost use Rattle.std.specs.Prelude.{◌≡◌, [], ◌∷◌, option_map, MatchOption};
 ghost use Rattle.recogniser.specs.Skips.{left, number_left, skip_number};
 
 use schema::Token;
