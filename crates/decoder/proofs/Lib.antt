@@ -1,4 +1,4 @@
 pub mod Cores
-pub mod Fronts
+pub mod Leaves
 pub mod Items
 pub mod Parameters

@@ -4,47 +4,38 @@ ghost use Rattle.decoder.specs.declared.error.SigError.TheVariants.{Bad};
 ghost use Rattle.decoder.specs.Gives.{Gives};
 
 use crate::error::SigError;
-use packed::{read_signed, read_unsigned};
 use schema::Token;
-use signature_values::token_of_index;
 use std::alloc::{AllocError, Global};
 
 /// The first byte, and those behind it.
 pub fn byte(bytes: &[u8]) -> Result<(u8, &[u8]), SigError>
     ensures { MatchResult result (λ x. bytes.now ≡ x.0 ∷ x.1.now) (λ error. (error ≡ Bad) × (bytes.now ≡ [])) }
 {
-    let (byte, rest) = bytes.split_first().ok_or(SigError::Bad)?;
-    Ok((*byte, rest))
+    signature_leaves::byte(bytes).ok_or(SigError::Bad)
 }
 
 /// The packed number at the front.
-#[tactic(auto, unfolding(signature_values::specs::Reading::number_at))]
+#[tactic(auto, using(crate::proofs::Leaves::given))]
 pub fn number(bytes: &[u8]) -> Result<(u32, &[u8]), SigError>
     ensures { Gives (λ x. (x.0, x.1.now)) result (number_at bytes.now) }
 {
-    let (number, count) = read_unsigned(bytes).ok_or(SigError::Bad)?;
-    let (_, rest) = bytes.split_at(count);
-    Ok((number, rest))
+    signature_leaves::number(bytes).ok_or(SigError::Bad)
 }
 
 /// The packed signed number at the front.
-#[tactic(auto, unfolding(signature_values::specs::Reading::signed_at))]
+#[tactic(auto, using(crate::proofs::Leaves::given))]
 pub fn signed(bytes: &[u8]) -> Result<(i32, &[u8]), SigError>
     ensures { Gives (λ x. (x.0, x.1.now)) result (signed_at bytes.now) }
 {
-    let (number, count) = read_signed(bytes).ok_or(SigError::Bad)?;
-    let (_, rest) = bytes.split_at(count);
-    Ok((number, rest))
+    signature_leaves::signed(bytes).ok_or(SigError::Bad)
 }
 
 /// The type index at the front (II.23.2.8).
-#[tactic(auto, unfolding(signature_values::specs::Reading::index_at))]
+#[tactic(auto, using(crate::proofs::Leaves::given))]
 pub fn index(bytes: &[u8]) -> Result<(Token, &[u8]), SigError>
     ensures { Gives (λ x. (x.0, x.1.now)) result (index_at bytes.now) }
 {
-    let (number, rest) = number(bytes)?;
-    let token = token_of_index(number).ok_or(SigError::Bad)?;
-    Ok((token, rest))
+    signature_leaves::index(bytes).ok_or(SigError::Bad)
 }
 
 /// An empty list with room for so many values, each of which is spelled by a byte at least: more than

@@ -1,15 +1,14 @@
-ghost use Rattle.std.specs.Prelude.{◌≡◌, ◌&&◌, ◌/◌, ◌%◌, ◌==◌, true, if◌then◌else◌, drop, map};
+ghost use Rattle.std.specs.Prelude.{◌≡◌, ◌&&◌, ◌/◌, ◌%◌, ◌==◌, true, map};
 ghost use Rattle.signature_values.specs.Syntax as sig;
-ghost use Rattle.signature_values.specs.ElementTypes as code;
 ghost use Rattle.signature_values.specs.Views.{core_of, slot_of, method_of};
-ghost use Rattle.signature_values.specs.Reading.{change, core_at, head_is, params_at};
+ghost use Rattle.signature_values.specs.Reading.{change, core_at, params_at};
 ghost use Rattle.signature_values.specs.Reading.{takes_sentinel as kind_takes_sentinel, generic_at, method_at};
 ghost use Rattle.decoder.specs.Gives.{Gives};
 
 use crate::error::SigError;
 use crate::front::{byte, number, with_room};
 use crate::slots::{ret, slot};
-use signature_values::element_type::SENTINEL;
+use signature_leaves::sentinel;
 use signature_values::method_byte::{
     begins_method, calling_convention, has_explicit_this, has_this, is_generic, may_have_sentinel,
 };
@@ -35,17 +34,6 @@ fn generic(bytes: &[u8], code: u8) -> Result<(Option<u32>, &[u8]), SigError>
     }
     let (count, rest) = number(bytes)?;
     Ok((Some(count), rest))
-}
-
-/// Whether SENTINEL stands at the front, where it may stand, and what is behind it.
-fn sentinel(bytes: &[u8], allowed: bool) -> (bool, &[u8])
-    ensures marked { result.0 ≡ (allowed && head_is code.SENTINEL bytes.now) }
-    ensures behind { result.1.now ≡ (if result.0 then drop 1 bytes.now else bytes.now) }
-{
-    match bytes.split_first() {
-        Some((&SENTINEL, behind)) if allowed => (true, behind),
-        _ => (false, bytes),
-    }
 }
 
 /// So many parameters, and how many of them stand before SENTINEL, where one may and does stand.

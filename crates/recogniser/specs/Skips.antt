@@ -6,9 +6,9 @@ use Rattle.schema.specs.declared.column.SigKind.{SigKind}
 use Rattle.schema.specs.declared.column.SigKind.TheVariants as column
 use Rattle.signature_values.specs.ElementTypes.{VOID, PTR, BYREF, VALUETYPE, CLASS, VAR, ARRAY, GENERICINST, TYPEDBYREF, FNPTR, SZARRAY, MVAR, SENTINEL}
 use Rattle.signature_values.specs.Parts.{Part, part_tokens}
-use Rattle.signature_values.specs.Grammar.{modifier_parts, modifiers_parts, prefix_parts, prefixes_parts}
+use Rattle.signature_values.specs.Grammar.{modifiers_parts, prefixes_parts}
 use Rattle.signature_values.specs.Spells.{first_bad}
-use Rattle.signature_values.specs.Reading.{number_at, token_of, modifier_at, modifiers_at, prefix_at, prefixes_at, element_of, head_is, is_method_code, takes_sentinel}
+use Rattle.signature_values.specs.Reading.{number_at, index_at, modifiers_at, prefixes_at, element_of, head_is, is_method_code, takes_sentinel}
 use Rattle.std.specs.List.{flat_map}
 use Rattle.recogniser.specs.declared.rest.Rest.{Rest}
 
@@ -42,26 +42,12 @@ number_left here = option_map (with_bad here.1) (number_at here.0)
 unfoldable pub skip_number : Skip
 skip_number here = option_map (λ x. x.1) (number_left here)
 
-abbrev pub with_token : List ℕ → Left → Token → Left
-with_token counts here token = (here.0, noted counts here.1 (token ∷ []))
-
 unfoldable pub skip_index : List ℕ → Skip
-skip_index counts here =
-    option_and_then (λ x. option_map (with_token counts x.1) (token_of x.0)) (number_left here)
+skip_index counts here = option_map (λ x. (x.1, noted counts here.1 (x.0 ∷ []))) (index_at here.0)
 
--- the items at the front, and one item at the front
-abbrev pub item_parts : {A : Type 0} → (A → List Part) → Option A → List Part
-item_parts parts None = []
-item_parts parts (Some item) = parts item
-
-unfoldable pub skip_modifier : List ℕ → Skip
-skip_modifier counts here = passed counts here.1 (item_parts modifier_parts) (modifier_at here.0)
-
+-- the items at the front
 unfoldable pub skip_modifiers : List ℕ → Skip
 skip_modifiers counts here = passed counts here.1 modifiers_parts (modifiers_at here.0)
-
-unfoldable pub skip_prefix : List ℕ → Skip
-skip_prefix counts here = passed counts here.1 (item_parts prefix_parts) (prefix_at here.0)
 
 unfoldable pub skip_prefixes : List ℕ → Skip
 skip_prefixes counts here = passed counts here.1 prefixes_parts (prefixes_at here.0)
@@ -130,8 +116,7 @@ abbrev pub is_marked : Bool → Left → Bool
 is_marked allowed here = allowed && head_is SENTINEL here.0
 
 abbrev pub behind_mark : Bool → Left → Left
-behind_mark true here = (drop 1 here.0, here.1)
-behind_mark false here = here
+behind_mark marked here = (if marked then drop 1 here.0 else here.0, here.1)
 
 -- so many parameters, with SENTINEL before one of them where it may stand
 unfoldable pub skip_params : List ℕ → Skip → Bool → ℕ → Skip

@@ -1,7 +1,6 @@
-ghost use Rattle.std.specs.Prelude.{◌≡◌, ℕ, [], ◌∷◌, option_map, MatchOption, length};
+ghost use Rattle.std.specs.Prelude.{◌≡◌, [], ◌∷◌, option_map, MatchOption};
 ghost use Rattle.recogniser.specs.Skips.{left, number_left, skip_number};
 
-use packed::read_unsigned;
 use schema::Token;
 
 /// What is left of a signature behind the part that was walked over.
@@ -17,30 +16,17 @@ pub struct Rest<'a> {
 pub fn byte(rest: Rest<'_>) -> Option<(u8, Rest<'_>)>
     ensures { MatchOption result (rest.entry.bytes.now ≡ []) (λ x. (rest.entry.bytes.now ≡ x.0 ∷ x.1.bytes.now) × (x.1.bad ≡ rest.entry.bad)) }
 {
-    let (byte, bytes) = rest.bytes.split_first()?;
-    Some((
-        *byte,
-        Rest {
-            bytes,
-            bad: rest.bad,
-        },
-    ))
+    let (byte, bytes) = signature_leaves::byte(rest.bytes)?;
+    Some((byte, Rest { bytes, ..rest }))
 }
 
 /// The packed number at the front, and what is left behind it.
-#[tactic(auto, unfolding(crate::specs::Skips::number_left, signature_values::specs::Reading::number_at))]
+#[tactic(auto, unfolding(crate::specs::Skips::number_left))]
 pub fn number(rest: Rest<'_>) -> Option<(u32, Rest<'_>)>
     ensures { option_map (λ x. (x.0, left x.1)) result ≡ number_left (left rest.entry) }
 {
-    let (number, count) = read_unsigned(rest.bytes)?;
-    let (_, bytes) = rest.bytes.split_at(count);
-    Some((
-        number,
-        Rest {
-            bytes,
-            bad: rest.bad,
-        },
-    ))
+    let (number, bytes) = signature_leaves::number(rest.bytes)?;
+    Some((number, Rest { bytes, ..rest }))
 }
 
 /// What is left behind a packed number.

@@ -1,13 +1,13 @@
 ghost use Rattle.std.specs.Prelude.{◌≡◌, ◌/◌, ◌%◌, ◌==◌, option_map};
-ghost use Rattle.recogniser.specs.Skips.{left, is_marked, behind_mark, skip_core, skip_by, skip_typed, skip_target, skip_instance, skip_many, skip_content, skip_slot, skip_ret, skip_params, skip_generic, skip_method};
+ghost use Rattle.recogniser.specs.Skips.{left, skip_core, skip_by, skip_typed, skip_target, skip_instance, skip_many, skip_content, skip_slot, skip_ret, skip_params, skip_generic, skip_method};
 
 use crate::index::{after_index, after_modifiers};
 use crate::rest::{Rest, after_number, byte, number};
 use crate::shape::after_shape;
+use signature_leaves::sentinel;
 use signature_values::Element;
 use signature_values::element_type::{
-    ARRAY, BYREF, CLASS, FNPTR, GENERICINST, MVAR, PTR, SENTINEL, SZARRAY, TYPEDBYREF, VALUETYPE,
-    VAR, VOID,
+    ARRAY, BYREF, CLASS, FNPTR, GENERICINST, MVAR, PTR, SZARRAY, TYPEDBYREF, VALUETYPE, VAR, VOID,
 };
 use signature_values::method_byte::{begins_method, is_generic, may_have_sentinel};
 
@@ -150,17 +150,6 @@ pub fn after_ret<'a>(rest: Rest<'a>, depth: u8, counts: &[u32; 45]) -> Option<Re
     }
 }
 
-/// Whether SENTINEL stands at the front, where it may stand, and what is left behind it.
-fn sentinel(rest: Rest<'_>, allowed: bool) -> (bool, Rest<'_>)
-    ensures marked { result.0 ≡ is_marked allowed (left rest.entry) }
-    ensures rest { left result.1 ≡ behind_mark (is_marked allowed (left rest.entry)) (left rest.entry) }
-{
-    match byte(rest) {
-        Some((SENTINEL, tail)) if allowed => (true, tail),
-        _ => (false, rest),
-    }
-}
-
 /// What is left behind so many parameters, with SENTINEL before one of them where it may stand.
 #[cycle(walk)]
 #[tactic(auto, using(crate::proofs::Loops::skip_params_next, crate::proofs::Loops::skip_params_end))]
@@ -176,8 +165,9 @@ fn after_params<'a>(
     let mut rest = rest;
     let mut allowed = allowed;
     for done in 0..count {
-        let (marked, slot) = sentinel(rest, allowed);
+        let (marked, bytes) = sentinel(rest.bytes, allowed);
         allowed = allowed && !marked;
+        let slot = Rest { bytes, ..rest };
         rest = after_slot(slot, depth, counts)?;
     }
     Some(rest)

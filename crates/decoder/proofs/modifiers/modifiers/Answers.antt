@@ -3,19 +3,24 @@ use Rattle.signature_values.specs.declared.types.Modifier.{Modifier}
 use Rattle.signature_values.specs.Reading.{starts_modifier}
 use Rattle.decoder.specs.Gives.{Fails}
 use Rattle.decoder.proofs.Items.{modifiers_next, modifiers_end, modifiers_bad, modifier_shorter}
+use Rattle.decoder.proofs.Leaves.{given}
 use Rattle.decoder.proofs.modifiers.modifiers.Goals as goal
 
 pub returns-in_err-one : goal.returns-in_err-one
 returns-in_err-one c =
-    let h = subst (λ (o : Option (List Modifier × List ℕ)). Fails c.in_err-one.field-0.0 o) c.loop-rest.invariant (modifiers_bad c.in_err-one.field-0.0 c.loop-rest.rest.now c.loop-rest.all.items c.in_err-one.ensures) in
+    let bad = given _ _ _ _ c.modifier.ensures c.in_err-one.ensures.value in
+    let h = subst (λ (o : Option (List Modifier × List ℕ)). Fails c.in_err-one.field-0.0 o) c.loop-rest.invariant (modifiers_bad c.in_err-one.field-0.0 c.loop-rest.rest.now c.loop-rest.all.items bad) in
     search rules
 
 pub loop-rest-smaller : goal.loop-rest-smaller
-loop-rest-smaller c = modifier_shorter c.loop-rest.rest.now c.in_ok-one.next.now c.in_ok-one.one c.in_ok-one.ensures
+loop-rest-smaller c =
+    let found = given _ _ _ _ c.modifier.ensures c.in_ok-one.ensures.value in
+    modifier_shorter c.loop-rest.rest.now c.in_ok-one.next.now c.in_ok-one.one found
 
 pub loop-rest-preserved : goal.loop-rest-preserved
 loop-rest-preserved c =
-    let e = modifiers_next c.loop-rest.rest.now c.in_ok-one.next.now c.loop-rest.all.items c.in_ok-one.one c.in_ok-one.ensures in
+    let found = given _ _ _ _ c.modifier.ensures c.in_ok-one.ensures.value in
+    let e = modifiers_next c.loop-rest.rest.now c.in_ok-one.next.now c.loop-rest.all.items c.in_ok-one.one found in
     rw (c.in_ok-push.ensures.items) (sym e ∙ c.loop-rest.invariant)
 
 pub returns : goal.returns

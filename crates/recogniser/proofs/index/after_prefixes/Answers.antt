@@ -1,21 +1,18 @@
-use Rattle.std.proofs.Common.{◌≡◌, ◌∙◌, sym, true, false}
+use Rattle.std.proofs.Common.{◌≡◌, ◌∙◌, sym, false}
 use Rattle.signature_values.specs.Reading.{starts_prefix}
-use Rattle.recogniser.proofs.Items.{prefixes_next, prefixes_bad, prefixes_end}
+use Rattle.recogniser.proofs.Items.{prefix_shorter, prefixes_next, prefixes_bad, prefixes_end}
 use Rattle.recogniser.proofs.index.after_prefixes.Goals as goal
 
-pub returns-in_err-rest : goal.returns-in_err-rest
-returns-in_err-rest c =
-    rw c.from_residual.ensures (sym (sym c.loop-rest.invariant ∙ prefixes_bad c.args.counts.now c.loop-rest.rest.bytes.now c.loop-rest.rest.bad (sym c.in_err-rest.ensures)))
+pub returns-in_err-prefix : goal.returns-in_err-prefix
+returns-in_err-prefix c =
+    rw c.from_residual.ensures (sym (sym c.loop-rest.invariant ∙ prefixes_bad c.args.counts.now c.loop-rest.rest.bytes.now c.loop-rest.rest.bad (sym c.in_err-prefix.ensures)))
 
 pub loop-rest-smaller : goal.loop-rest-smaller
-loop-rest-smaller c =
-    let starts : starts_prefix c.loop-rest.rest.bytes.now ≡ true = sym c.has_prefix.ensures ∙ c.loop-rest-test.true in
-    (prefixes_next c.args.counts.now c.loop-rest.rest.bytes.now c.in_ok-rest.rest.bytes.now c.loop-rest.rest.bad c.in_ok-rest.rest.bad starts (sym c.in_ok-rest.ensures)).1
+loop-rest-smaller c = prefix_shorter c.loop-rest.rest.bytes.now c.in_ok-prefix.bytes.now c.in_ok-prefix.prefix (sym c.in_ok-prefix.ensures)
 
 pub loop-rest-preserved : goal.loop-rest-preserved
 loop-rest-preserved c =
-    let starts : starts_prefix c.loop-rest.rest.bytes.now ≡ true = sym c.has_prefix.ensures ∙ c.loop-rest-test.true in
-    sym (prefixes_next c.args.counts.now c.loop-rest.rest.bytes.now c.in_ok-rest.rest.bytes.now c.loop-rest.rest.bad c.in_ok-rest.rest.bad starts (sym c.in_ok-rest.ensures)).0 ∙ c.loop-rest.invariant
+    rw c.first_bad_with-bad.ensures (sym (prefixes_next c.args.counts.now c.loop-rest.rest.bytes.now c.in_ok-prefix.bytes.now c.loop-rest.rest.bad c.in_ok-prefix.prefix (sym c.in_ok-prefix.ensures)) ∙ c.loop-rest.invariant)
 
 pub returns : goal.returns
 returns c =

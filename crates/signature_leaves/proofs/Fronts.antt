@@ -6,27 +6,21 @@ use Rattle.schema.specs.declared.token.Token.{Token}
 use Rattle.signature_values.specs.declared.types.Modifier.{Modifier}
 use Rattle.signature_values.specs.declared.body.Prefix.TheVariants.{Mod, Pinned}
 use Rattle.signature_values.specs.Reading.{index_at, modifier_at, modifier_after, starts_modifier, prefix_of, prefix_at, starts_prefix}
-use Rattle.decoder.specs.declared.error.SigError.{SigError}
-use Rattle.decoder.specs.declared.error.SigError.TheVariants.{Bad, Memory}
-use Rattle.decoder.specs.Gives.{Fails}
 
-modifier_is : (c : ℕ) (b : List ℕ) → starts_modifier (c ∷ b) ≡ true → modifier_at (c ∷ b) ≡ modifier_after (eqb c 0x1F) b
+modifier_is : (c : ℕ) (b rest : List ℕ) → starts_modifier b ≡ true → b ≡ c ∷ rest → modifier_at b ≡ modifier_after (eqb c 0x1F) rest
 unfolding modifier_at
-modifier_is c b h = at_test (eqb c 0x1F) (eqb c 0x20) h
+modifier_is c b rest starts h = let s = subst (λ (t : List ℕ). starts_modifier t ≡ true) h starts in rw h (at_test (eqb c 0x1F) (eqb c 0x20) s)
   where
-    at_test : (p q : Bool) → (p || q) ≡ true → cond p (modifier_after true b) (cond q (modifier_after false b) (Some (None, c ∷ b))) ≡ modifier_after p b
+    at_test : (p q : Bool) → (p || q) ≡ true → cond p (modifier_after true rest) (cond q (modifier_after false rest) (Some (None, c ∷ rest))) ≡ modifier_after p rest
     at_test true q h = refl
     at_test false true h = refl
     at_test false false h = absurd cc
 
 pub modifier_found : (c : ℕ) (b rest next : List ℕ) (of : Token) → starts_modifier b ≡ true → b ≡ c ∷ rest → index_at rest ≡ Some (of, next) → modifier_at b ≡ Some (Some (record { required = eqb c 0x1F; of = of }), next)
-modifier_found c b rest next of starts h e =
-    let m = modifier_is c rest (subst (λ (t : List ℕ). starts_modifier t ≡ true) h starts) in
-    rw (h, m, e) refl
+modifier_found c b rest next of starts h e = let m = modifier_is c b rest starts h in rw (m, e) refl
 
-pub modifier_bad : (c : ℕ) (e : SigError) (b rest : List ℕ) → starts_modifier b ≡ true → b ≡ c ∷ rest → Fails e (index_at rest) → Fails e (modifier_at b)
-modifier_bad c Bad b rest starts h k = let m = modifier_is c rest (subst (λ (t : List ℕ). starts_modifier t ≡ true) h starts) in rw (h, m, k) refl
-modifier_bad c Memory b rest starts h k = tt
+pub modifier_none : (c : ℕ) (b rest : List ℕ) → starts_modifier b ≡ true → b ≡ c ∷ rest → index_at rest ≡ None → modifier_at b ≡ None
+modifier_none c b rest starts h e = let m = modifier_is c b rest starts h in rw (m, e) refl
 
 -- ---- with PINNED
 
@@ -47,6 +41,5 @@ prefix_is c b rest h e = let other = ne_eqb c 0x45 e in rw (h, other) refl
 pub prefix_found : (c : ℕ) (b rest next : List ℕ) (m : Modifier) → b ≡ c ∷ rest → c ≢ 0x45 → modifier_at b ≡ Some (Some m, next) → prefix_at b ≡ Some (Some (Mod m), next)
 prefix_found c b rest next m h e f = let i = prefix_is c b rest h e in rw (i, f) refl
 
-pub prefix_bad : (c : ℕ) (e : SigError) (b rest : List ℕ) → b ≡ c ∷ rest → c ≢ 0x45 → Fails e (modifier_at b) → Fails e (prefix_at b)
-prefix_bad c Bad b rest h e f = let i = prefix_is c b rest h e in rw (i, f) refl
-prefix_bad c Memory b rest h e f = tt
+pub prefix_none : (c : ℕ) (b rest : List ℕ) → b ≡ c ∷ rest → c ≢ 0x45 → modifier_at b ≡ None → prefix_at b ≡ None
+prefix_none c b rest h e f = let i = prefix_is c b rest h e in rw (i, f) refl

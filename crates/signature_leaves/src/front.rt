@@ -1,0 +1,60 @@
+ghost use Rattle.std.specs.Prelude.{◌≡◌, ◌∷◌, [], ◌&&◌, MatchOption, option_map, if◌then◌else◌, drop};
+ghost use Rattle.signature_values.specs.ElementTypes as code;
+ghost use Rattle.signature_values.specs.Reading.{number_at, signed_at, index_at, head_is};
+
+use packed::{read_signed, read_unsigned};
+use schema::Token;
+use signature_values::element_type::SENTINEL;
+use signature_values::token_of_index;
+
+/// The first byte, and those behind it; `None` where there is none.
+pub fn byte(bytes: &[u8]) -> Option<(u8, &[u8])>
+    ensures { MatchOption result (bytes.now ≡ []) (λ x. bytes.now ≡ x.0 ∷ x.1.now) }
+{
+    let (byte, rest) = bytes.split_first()?;
+    Some((*byte, rest))
+}
+
+/// The packed number at the front (II.23.2), and what is behind it; `None` where the bytes end within
+/// it, and where the first of them is 0xE0 or more.
+#[tactic(auto, unfolding(signature_values::specs::Reading::number_at))]
+pub fn number(bytes: &[u8]) -> Option<(u32, &[u8])>
+    ensures { option_map (λ x. (x.0, x.1.now)) result ≡ number_at bytes.now }
+{
+    let (number, count) = read_unsigned(bytes)?;
+    let (_, rest) = bytes.split_at(count);
+    Some((number, rest))
+}
+
+/// The packed signed number at the front (II.23.2), and what is behind it; `None` as for [`number`].
+#[tactic(auto, unfolding(signature_values::specs::Reading::signed_at))]
+pub fn signed(bytes: &[u8]) -> Option<(i32, &[u8])>
+    ensures { option_map (λ x. (x.0, x.1.now)) result ≡ signed_at bytes.now }
+{
+    let (number, count) = read_signed(bytes)?;
+    let (_, rest) = bytes.split_at(count);
+    Some((number, rest))
+}
+
+/// The token of the type index at the front (II.23.2.8), and what is behind it; `None` where no number
+/// is read, and where its tag names no table. The row may be one that is not there.
+#[tactic(auto, unfolding(signature_values::specs::Reading::index_at))]
+pub fn index(bytes: &[u8]) -> Option<(Token, &[u8])>
+    ensures { option_map (λ x. (x.0, x.1.now)) result ≡ index_at bytes.now }
+{
+    let (number, rest) = number(bytes)?;
+    let token = token_of_index(number)?;
+    Some((token, rest))
+}
+
+/// Whether SENTINEL stands at the front (II.23.2.2), where it may stand, and what is behind it; all
+/// bytes where it does not.
+pub fn sentinel(bytes: &[u8], allowed: bool) -> (bool, &[u8])
+    ensures marked { result.0 ≡ (allowed && head_is code.SENTINEL bytes.now) }
+    ensures behind { result.1.now ≡ (if result.0 then drop 1 bytes.now else bytes.now) }
+{
+    match bytes.split_first() {
+        Some((&SENTINEL, behind)) if allowed => (true, behind),
+        _ => (false, bytes),
+    }
+}

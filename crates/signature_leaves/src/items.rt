@@ -1,0 +1,48 @@
+ghost use Rattle.std.specs.Prelude.{◌≡◌, true, Some, option_map};
+ghost use Rattle.signature_values.specs.Reading.{starts_modifier, modifier_at, starts_prefix, prefix_at};
+
+use crate::front::{byte, index};
+use signature_values::element_type::{CMOD_OPT, CMOD_REQD, PINNED};
+use signature_values::{Modifier, Prefix};
+
+/// Whether a modifier stands at the front (II.23.2.7).
+pub fn has_modifier(bytes: &[u8]) -> bool
+    ensures { result ≡ starts_modifier bytes.now }
+{
+    matches!(bytes.first(), Some(&(CMOD_REQD | CMOD_OPT)))
+}
+
+/// The modifier at the front (II.23.2.7), which [`has_modifier`] tells, and what is behind it; `None`
+/// where no index follows its code.
+#[tactic(auto, using(crate::proofs::Fronts::modifier_found, crate::proofs::Fronts::modifier_none))]
+pub fn modifier(bytes: &[u8]) -> Option<(Modifier, &[u8])>
+    requires { starts_modifier bytes.now ≡ true }
+    ensures { option_map (λ x. (Some x.0, x.1.now)) result ≡ modifier_at bytes.now }
+{
+    let (code, rest) = byte(bytes)?;
+    let (of, rest) = index(rest)?;
+    let required = code == CMOD_REQD;
+    Some((Modifier { required, of }, rest))
+}
+
+/// Whether a modifier or PINNED stands at the front (II.23.2.6).
+pub fn has_prefix(bytes: &[u8]) -> bool
+    ensures { result ≡ starts_prefix bytes.now }
+{
+    matches!(bytes.first(), Some(&(CMOD_REQD | CMOD_OPT | PINNED)))
+}
+
+/// The modifier or PINNED at the front (II.23.2.6), which [`has_prefix`] tells, and what is behind it;
+/// `None` where no index follows a modifier's code.
+#[tactic(auto, using(crate::proofs::Fronts::prefix_starts, crate::proofs::Fronts::prefix_none))]
+pub fn prefix(bytes: &[u8]) -> Option<(Prefix, &[u8])>
+    requires { starts_prefix bytes.now ≡ true }
+    ensures { option_map (λ x. (Some x.0, x.1.now)) result ≡ prefix_at bytes.now }
+{
+    let (code, rest) = byte(bytes)?;
+    if code == PINNED {
+        return Some((Prefix::Pinned, rest));
+    }
+    let (modifier, rest) = modifier(bytes)?;
+    Some((Prefix::Mod(modifier), rest))
+}
