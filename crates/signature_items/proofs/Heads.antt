@@ -55,6 +55,10 @@ pub method_is : (own allowed : Bool) (d c n : ℕ) (b b1 b2 b3 : List ℕ) (g : 
 unfolding method_told method_at method_from place_at params_told joined
 method_is own allowed d c n b b1 b2 b3 g h k e f may = rw (h, k, e, f, ← may) (of_ret c n d allowed g (ret_at (core_at d) b3))
 
+pub place_method : (d : ℕ) (b : List ℕ) → place_at (place.Method d) b ≡ method_told true d b
+unfolding place_at
+place_method d b = refl
+
 -- ---- a field, a property, local variables, type arguments
 
 pub field_is : (b : List ℕ) → item_then item.Field (place_at (place.Slot 128) b) ≡ field_told b

@@ -130,12 +130,26 @@ told_somewhere p fs b some none =
     cc
 
 -- nothing is left where no place and no frame is
-pub nothing_left : (b : List ℕ) → items_left None [] b ≡ []
+nothing_left : (b : List ℕ) → items_left None [] b ≡ []
 unfolding items_left all_at joined stack_at
 nothing_left b = refl
 
+pub ended_items : (p : Option Place) (fs : List Frame) (b : List ℕ) → p ≡ None → IsRoomy p fs → items_left p fs b ≡ []
+ended_items None fs b e roomy = let none = roomy.ended e in rw none (nothing_left b)
+ended_items (Some p) fs b e roomy = absurd cc
+
 -- ---- the first place
 
-pub first_told : (kind : SigKind) (signature : Body) (b : List ℕ) → body_at kind (core_at 128) b ≡ Some (signature, []) → (items_left (Some (place.Body kind)) [] b ≡ items_of signature) × (is_some (all_at (Some (place.Body kind)) [] b) ≡ true)
-unfolding items_left all_at joined stack_at place_at
-first_told kind signature b e = rw e (append-nil (items_of signature), refl)
+first_told : (kind : SigKind) (signature : Body) (b : List ℕ) → body_at kind (core_at 128) b ≡ Some (signature, []) → all_at (Some (place.Body kind)) [] b ≡ Some (items_of signature, [])
+unfolding all_at joined stack_at place_at
+first_told kind signature b e = rw e (ap (λ (t : List Item). Some (t, [])) (append-nil (items_of signature)))
+
+pub first_items : (kind : SigKind) (signature : Body) (b : List ℕ) → body_at kind (core_at 128) b ≡ Some (signature, []) → items_left (Some (place.Body kind)) [] b ≡ items_of signature
+unfolding items_left
+first_items kind signature b e = ap items_in (first_told kind signature b e)
+
+pub first_ready : (kind : SigKind) (signature : Body) (b : List ℕ) → body_at kind (core_at 128) b ≡ Some (signature, []) → IsReady (Some (place.Body kind)) [] b
+first_ready kind signature b e = record {
+  told = ap is_some (first_told kind signature b e);
+  roomy = record { stacked = tt; placed = omega arith; ended = λ none. absurd cc };
+}

@@ -20,6 +20,7 @@ use signature_values::signatures_are_read;
 use std::marker::Model;
 
 /// The first item at a place.
+#[tactic(auto, using(crate::proofs::Heads::place_method))]
 fn first_item(place: Place, bytes: &[u8]) -> Option<Step<'_>>
     ensures told { told result ≡ place_at place bytes.now }
     ensures within { IfSome result (IsWithin (place_depth place)) }

@@ -1,5 +1,5 @@
-ghost use Rattle.std.specs.Prelude.{◌≡◌, ◌/◌, ◌%◌, ◌==◌, ℕ, suc, List, None, IfSome, option_map};
-ghost use Rattle.signature_values.specs.Reading.{generic_at};
+ghost use Rattle.std.specs.Prelude.{◌≡◌, ◌&&◌, ◌/◌, ◌%◌, ◌==◌, ℕ, suc, List, None, IfSome, option_map};
+ghost use Rattle.signature_values.specs.Reading.{generic_at, takes_sentinel as kind_takes_sentinel};
 ghost use Rattle.signature_items.specs.Places.{next_at, params_told, method_told, frame_depth};
 ghost use Rattle.signature_items.specs.Steps.{told, IsWithin};
 
@@ -39,6 +39,14 @@ fn generic(bytes: &[u8], code: u8) -> Option<(Option<u32>, &[u8])>
     Some((Some(count), rest))
 }
 
+/// Whether a method of that first byte has a SENTINEL where one may stand: C and vararg have, and only
+/// where it may be the method's own.
+fn takes_sentinel(code: u8, own: bool) -> bool
+    ensures { result ≡ (own && kind_takes_sentinel (code % 16)) }
+{
+    own && may_have_sentinel(code)
+}
+
 /// The head of a method, which may have a SENTINEL of its own or not (II.23.2.1 to II.23.2.3).
 #[tactic(auto, using(crate::proofs::Heads::method_end, crate::proofs::Heads::method_bad, crate::proofs::Heads::method_no_generic, crate::proofs::Heads::method_no_count))]
 pub fn method(bytes: &[u8], own: bool, depth: u8) -> Option<Step<'_>>
@@ -60,7 +68,7 @@ pub fn method(bytes: &[u8], own: bool, depth: u8) -> Option<Step<'_>>
     };
     Some(Step {
         item: Item::Method(head),
-        frame: params(count, own && may_have_sentinel(code), depth),
+        frame: params(count, takes_sentinel(code, own), depth),
         place: Some(Place::Ret { depth }),
         rest,
     })
