@@ -1,0 +1,6 @@
+pub mod Joins
+pub mod Leading
+pub mod Counts
+pub mod Arms
+pub mod Heads
+pub mod Stacks

@@ -1,0 +1,3 @@
+pub mod ItemsOf
+pub mod Places
+pub mod Steps

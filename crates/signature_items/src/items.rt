@@ -1,0 +1,101 @@
+ghost use Rattle.std.specs.Prelude.{◌≡◌, IfSome, IsSomeAnd};
+ghost use Rattle.signature_values.specs.Syntax.{Body};
+ghost use Rattle.signature_values.specs.Spells.{Spells};
+ghost use Rattle.signature_items.specs.ItemsOf.{items_of};
+ghost use Rattle.signature_items.specs.Places.{place_at, place_depth};
+ghost use Rattle.signature_items.specs.Steps.{told, IsWithin};
+
+use crate::bodies::body;
+use crate::follow::followed;
+use crate::frames::Frames;
+use crate::item::Item;
+use crate::methods::method;
+use crate::place::Place;
+use crate::shape::{low_bound, low_count, shape, size};
+use crate::step::Step;
+use crate::types::{local, marked, ret, slot, target, typed};
+use recogniser::recognise;
+use schema::SigKind;
+use signature_values::signatures_are_read;
+use std::marker::Model;
+
+/// The first item at a place.
+#[tactic(auto, using(crate::proofs::Heads::place_method))]
+fn first_item(place: Place, bytes: &[u8]) -> Option<Step<'_>>
+    ensures told { told result ≡ place_at place bytes.now }
+    ensures within { IfSome result (IsWithin (place_depth place)) }
+{
+    match place {
+        Place::Body(kind) => body(bytes, kind),
+        Place::Method { depth } => method(bytes, true, depth),
+        Place::Typed { depth } => typed(bytes, depth),
+        Place::Target { depth } => target(bytes, depth),
+        Place::Slot { depth } => slot(bytes, depth),
+        Place::Ret { depth } => ret(bytes, depth),
+        Place::Local { depth } => local(bytes, depth),
+        Place::Marked { depth } => marked(bytes, depth),
+        Place::Shape => shape(bytes),
+        Place::Sizes { further, rank } => size(bytes, further, rank),
+        Place::LowCount { rank } => low_count(bytes, rank),
+        Place::LowBounds { further } => low_bound(bytes, further),
+    }
+}
+
+/// The items of a signature (II.23.2), in the order of its spelling, read from its bytes without memory.
+///
+/// Contracts see the list of those that are still to come.
+#[derive(Drop)]
+pub struct Items<'a> {
+    bytes: &'a [u8],
+    place: Option<Place>,
+    frames: Frames,
+}
+
+impl<'a> Model for Items<'a> {
+    ghost use Rattle.std.specs.Prelude.{List};
+    ghost use Rattle.signature_items.specs.declared.item.Item.{Item};
+    ghost use Rattle.signature_items.specs.Steps.{items_left, IsReady};
+
+    ghost Value = { List Item };
+
+    ghost view = { λ s. items_left s.place s.frames s.bytes.now };
+
+    ghost invariant = { λ s. IsReady s.place s.frames s.bytes.now };
+}
+
+impl<'a> Items<'a> {
+    /// The items of the signature that bytes, all of them, spell in a column of this kind; `None` where they
+    /// spell none. A type index may name a row that is not there.
+    pub fn of(bytes: &'a [u8], kind: SigKind) -> Option<Items<'a>>
+        ensures found { IfSome result (λ items. (signature : Body) × Spells kind signature bytes.now × (items ≡ items_of signature)) }
+        ensures only { (signature : Body) → Spells kind signature bytes.now → IsSomeAnd result (λ items. items ≡ items_of signature) }
+    {
+        signatures_are_read();
+        if !recognise(bytes, kind) {
+            return None;
+        }
+        Some(Items {
+            bytes,
+            place: Some(Place::Body(kind)),
+            frames: Frames::new(),
+        })
+    }
+}
+
+impl<'a> Iterator for Items<'a> {
+    ghost use Rattle.std.specs.Iterator.{YieldsFirst, item_count};
+
+    type Item = Item;
+
+    ghost next_gives = { YieldsFirst (λ s. s) };
+
+    ghost remaining = { item_count (λ s. s) };
+
+    /// The next item; `None` from the end on. It reads the bytes of that item alone.
+    fn next(&mut self) -> Option<Item> {
+        let step = first_item(self.place?, self.bytes)?;
+        self.place = followed(&mut self.frames, step);
+        self.bytes = step.rest;
+        Some(step.item)
+    }
+}

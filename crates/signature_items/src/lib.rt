@@ -1,0 +1,27 @@
+//! The items of signatures (ECMA-335 II.23.2), one after another, without memory.
+//!
+//! [`Items`] goes over the bytes of a blob that spell a signature and gives an [`Item`] at a time, in the
+//! order of the spelling: heads with their counts, types, modifiers, shapes. Each step reads the bytes of
+//! one item and takes constant time beside that; what is still to come is kept in a fixed array, since
+//! types nest at most 128 deep. The grammar is that of `signature_values`.
+//!
+//! ```text
+//! // a field of a 4-byte integer
+//! Items::of(&[0x06, 0x08], SigKind::Field)? // gives Item::Field, Item::Simple(Element::I4)
+//! ```
+#![tactic(auto)]
+
+mod frames;
+mod item;
+mod items;
+mod place;
+mod bodies;
+mod follow;
+mod methods;
+mod shape;
+mod step;
+mod types;
+
+pub use item::{Item, MethodHead};
+pub use items::Items;
+pub use schema::{SigKind, Token};

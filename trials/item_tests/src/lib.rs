@@ -1,0 +1,11 @@
+//! Tests of `signature_items` over its public calls alone: the items of a signature of each form, by ECMA-335
+//! II.23.2, of types that nest as deep as they may, and none of bytes that spell nothing.
+
+#[cfg(test)]
+mod bodies;
+#[cfg(test)]
+mod cores;
+#[cfg(test)]
+mod edges;
+#[cfg(test)]
+mod told;
