@@ -13,12 +13,17 @@ const FIRST: u32 = 72;
 /// A table stream up to the tables that it has: texts and blobs have indexes of four bytes (II.24.2.6).
 const TABLES: &[u8] = b"\0\0\0\0\x02\0\x05\x01";
 
+/// A length as a number of four bytes; the greatest one where it is longer.
+fn length_of(bytes: &[u8]) -> u32 {
+    bytes.len().min(0xFFFF_FFFF) as u32
+}
+
 /// Puts the header of a stream, whose name is filled, and answers where the next one stands.
 fn put_header(root: &mut Vec<u8>, at: u32, stream: &[u8], name: &[u8]) -> Result<u32> {
     root.extend_from_slice(&at.to_le_bytes())?;
-    root.extend_from_slice(&(stream.len() as u32).to_le_bytes())?;
+    root.extend_from_slice(&length_of(stream).to_le_bytes())?;
     root.extend_from_slice(name)?;
-    Ok(at.wrapping_add(stream.len() as u32))
+    Ok(at.wrapping_add(length_of(stream)))
 }
 
 /// The root of a table stream, texts and blobs.
@@ -66,7 +71,7 @@ fn two_signatures(alloc: Global, size: u32) -> Result<Vec<u8>> {
     let mut tables = table_of(alloc, TableId::StandAloneSig, size)?;
     let mut blobs = vec![in alloc; 0u8; 1]?;
     put_locals(&mut blobs, size)?;
-    let second = blobs.len() as u32;
+    let second = length_of(&blobs);
     put_locals(&mut blobs, size)?;
     for row in 0..size {
         let blob = if row % 2 == 0 { 1 } else { second };
@@ -82,11 +87,11 @@ fn overlapping_blobs(alloc: Global, size: u32) -> Result<Vec<u8>> {
     let mut blobs = vec![in alloc; 0u8; 1]?;
     for behind in (0..size).rev() {
         blobs.push(0x20)?;
-        tables.extend_from_slice(&(blobs.len() as u32).to_le_bytes())?;
+        tables.extend_from_slice(&length_of(&blobs).to_le_bytes())?;
         put_packed(&mut blobs, behind.wrapping_mul(8).wrapping_add(6))?;
         blobs.extend_from_slice(&[0x20, 0x80, 0x06])?;
     }
-    let last = (blobs.len() as u32).wrapping_sub(7);
+    let last = length_of(&blobs).wrapping_sub(7);
     blobs.extend_from_slice(&[0x20, 0x06, 0x08])?;
     for _ in 0..size {
         tables.extend_from_slice(&last.to_le_bytes())?;
@@ -149,12 +154,28 @@ fn report(rt: &HostRuntime, name: &str, small: &[u8], large: &[u8]) -> Result<()
 pub(crate) fn report_hostile(rt: &HostRuntime, alloc: Global) -> Result<()> {
     let (small, large) = (two_signatures(alloc, 2000)?, two_signatures(alloc, 20_000)?);
     report(rt, "two long signatures in turn", &small, &large)?;
-    let (small, large) = (overlapping_blobs(alloc, 500)?, overlapping_blobs(alloc, 5000)?);
+    let (small, large) = (
+        overlapping_blobs(alloc, 500)?,
+        overlapping_blobs(alloc, 5000)?,
+    );
     report(rt, "overlapping blobs of TypeSpec", &small, &large)?;
-    let (small, large) = (endings(alloc, 1600, b"\0\xFF\0")?, endings(alloc, 16_000, b"\0\xFF\0")?);
-    report(rt, "endings of a text where a heap is not UTF-8", &small, &large)?;
+    let (small, large) = (
+        endings(alloc, 1600, b"\0\xFF\0")?,
+        endings(alloc, 16_000, b"\0\xFF\0")?,
+    );
+    report(
+        rt,
+        "endings of a text where a heap is not UTF-8",
+        &small,
+        &large,
+    )?;
     let (small, large) = (endings(alloc, 1600, b"\0")?, endings(alloc, 16_000, b"\0")?);
     report(rt, "endings of a text", &small, &large)?;
     let (small, large) = (null_starts(alloc, 1600)?, null_starts(alloc, 16_000)?);
-    report(rt, "null starts, and the fields of each type", &small, &large)
+    report(
+        rt,
+        "null starts, and the fields of each type",
+        &small,
+        &large,
+    )
 }
