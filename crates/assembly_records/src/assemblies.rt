@@ -3,7 +3,7 @@ ghost use Rattle.schema.specs.declared.table.TableId.TheVariants as table;
 ghost use Rattle.metadata.specs.Cell.{Number, Text, Bytes};
 ghost use Rattle.cells.specs.Said.{all_said};
 
-use records::{Bytes, Cell, FromRow, Record, Row, TableId, Text, record_of};
+use records::{Cell, FieldValue, FromRow, Record, Row, TableId, owned_cells, record_of};
 use std::alloc::{AllocError, Global};
 
 /// This assembly, in at most one row (II.22.2).
@@ -65,18 +65,20 @@ impl<'m> Record<'m> for Assembly<'m> {
     }
 
     fn cells(&self, alloc: Global) -> Result<Vec<Cell>, AllocError> {
-        let cells = vec![in alloc;
-            Cell::Number(self.hash_alg_id),
-            Cell::Number(self.major_version),
-            Cell::Number(self.minor_version),
-            Cell::Number(self.build_number),
-            Cell::Number(self.revision_number),
-            Cell::Number(self.flags),
-            Cell::Bytes(Bytes::from(Vec::from_slice(alloc, self.public_key)?)),
-            Cell::Text(Text::from(String::from_str(alloc, self.name)?)),
-            Cell::Text(Text::from(String::from_str(alloc, self.culture)?)),
-        ]?;
-        Ok(cells)
+        owned_cells(
+            alloc,
+            &[
+                FieldValue::Number(self.hash_alg_id),
+                FieldValue::Number(self.major_version),
+                FieldValue::Number(self.minor_version),
+                FieldValue::Number(self.build_number),
+                FieldValue::Number(self.revision_number),
+                FieldValue::Number(self.flags),
+                FieldValue::Bytes(self.public_key),
+                FieldValue::Text(self.name),
+                FieldValue::Text(self.culture),
+            ],
+        )
     }
 }
 
@@ -115,8 +117,7 @@ impl<'m> Record<'m> for AssemblyProcessor {
     fn cells(&self, alloc: Global) -> Result<Vec<Cell>, AllocError>
         ensures { IfOk result (λ cells. all_said cells.items ≡ Number self.now.processor ∷ []) }
     {
-        let cells = vec![in alloc; Cell::Number(self.processor)]?;
-        Ok(cells)
+        owned_cells(alloc, &[FieldValue::Number(self.processor)])
     }
 }
 
@@ -161,11 +162,13 @@ impl<'m> Record<'m> for AssemblyOS {
     fn cells(&self, alloc: Global) -> Result<Vec<Cell>, AllocError>
         ensures { IfOk result (λ cells. all_said cells.items ≡ Number self.now.os_platform_id ∷ Number self.now.os_major_version ∷ Number self.now.os_minor_version ∷ []) }
     {
-        let cells = vec![in alloc;
-            Cell::Number(self.os_platform_id),
-            Cell::Number(self.os_major_version),
-            Cell::Number(self.os_minor_version),
-        ]?;
-        Ok(cells)
+        owned_cells(
+            alloc,
+            &[
+                FieldValue::Number(self.os_platform_id),
+                FieldValue::Number(self.os_major_version),
+                FieldValue::Number(self.os_minor_version),
+            ],
+        )
     }
 }

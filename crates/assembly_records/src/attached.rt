@@ -2,7 +2,7 @@ ghost use Rattle.std.specs.Prelude.{◌≡◌, [], ◌∷◌};
 ghost use Rattle.schema.specs.declared.table.TableId.TheVariants as table;
 ghost use Rattle.metadata.specs.Cell.{Number, Bytes, Ref};
 
-use records::{Bytes, Cell, FromRow, Record, Row, TableId, Token, record_of};
+use records::{Cell, FieldValue, FromRow, Record, Row, TableId, Token, owned_cells, record_of};
 use std::alloc::{AllocError, Global};
 
 /// The constant value of a field, parameter or property (II.22.9).
@@ -44,12 +44,14 @@ impl<'m> Record<'m> for Constant<'m> {
     }
 
     fn cells(&self, alloc: Global) -> Result<Vec<Cell>, AllocError> {
-        let cells = vec![in alloc;
-            Cell::Number(self.kind),
-            Cell::Ref(self.parent),
-            Cell::Bytes(Bytes::from(Vec::from_slice(alloc, self.value)?)),
-        ]?;
-        Ok(cells)
+        owned_cells(
+            alloc,
+            &[
+                FieldValue::Number(self.kind),
+                FieldValue::Ref(self.parent),
+                FieldValue::Bytes(self.value),
+            ],
+        )
     }
 }
 
@@ -93,12 +95,14 @@ impl<'m> Record<'m> for CustomAttribute<'m> {
     }
 
     fn cells(&self, alloc: Global) -> Result<Vec<Cell>, AllocError> {
-        let cells = vec![in alloc;
-            Cell::Ref(self.parent),
-            Cell::Ref(self.kind),
-            Cell::Bytes(Bytes::from(Vec::from_slice(alloc, self.value)?)),
-        ]?;
-        Ok(cells)
+        owned_cells(
+            alloc,
+            &[
+                FieldValue::Ref(self.parent),
+                FieldValue::Ref(self.kind),
+                FieldValue::Bytes(self.value),
+            ],
+        )
     }
 }
 
@@ -141,11 +145,13 @@ impl<'m> Record<'m> for DeclSecurity<'m> {
     }
 
     fn cells(&self, alloc: Global) -> Result<Vec<Cell>, AllocError> {
-        let cells = vec![in alloc;
-            Cell::Number(self.action),
-            Cell::Ref(self.parent),
-            Cell::Bytes(Bytes::from(Vec::from_slice(alloc, self.permission_set)?)),
-        ]?;
-        Ok(cells)
+        owned_cells(
+            alloc,
+            &[
+                FieldValue::Number(self.action),
+                FieldValue::Ref(self.parent),
+                FieldValue::Bytes(self.permission_set),
+            ],
+        )
     }
 }

@@ -3,7 +3,7 @@ ghost use Rattle.schema.specs.declared.table.TableId.TheVariants as table;
 ghost use Rattle.metadata.specs.Cell.{Number, Text, Bytes, Ref};
 ghost use Rattle.records.specs.Names.{full_name};
 
-use records::{Bytes, Cell, FromRow, Record, Row, TableId, Text, Token, record_of};
+use records::{Cell, FieldValue, FromRow, Record, Row, TableId, Token, owned_cells, record_of};
 use std::alloc::{AllocError, Global};
 use std::fmt;
 
@@ -46,12 +46,14 @@ impl<'m> Record<'m> for File<'m> {
     }
 
     fn cells(&self, alloc: Global) -> Result<Vec<Cell>, AllocError> {
-        let cells = vec![in alloc;
-            Cell::Number(self.flags),
-            Cell::Text(Text::from(String::from_str(alloc, self.name)?)),
-            Cell::Bytes(Bytes::from(Vec::from_slice(alloc, self.hash_value)?)),
-        ]?;
-        Ok(cells)
+        owned_cells(
+            alloc,
+            &[
+                FieldValue::Number(self.flags),
+                FieldValue::Text(self.name),
+                FieldValue::Bytes(self.hash_value),
+            ],
+        )
     }
 }
 
@@ -102,14 +104,16 @@ impl<'m> Record<'m> for ExportedType<'m> {
     }
 
     fn cells(&self, alloc: Global) -> Result<Vec<Cell>, AllocError> {
-        let cells = vec![in alloc;
-            Cell::Number(self.flags),
-            Cell::Number(self.type_def_id),
-            Cell::Text(Text::from(String::from_str(alloc, self.type_name)?)),
-            Cell::Text(Text::from(String::from_str(alloc, self.type_namespace)?)),
-            Cell::Ref(self.implementation),
-        ]?;
-        Ok(cells)
+        owned_cells(
+            alloc,
+            &[
+                FieldValue::Number(self.flags),
+                FieldValue::Number(self.type_def_id),
+                FieldValue::Text(self.type_name),
+                FieldValue::Text(self.type_namespace),
+                FieldValue::Ref(self.implementation),
+            ],
+        )
     }
 }
 
@@ -168,12 +172,14 @@ impl<'m> Record<'m> for ManifestResource<'m> {
     }
 
     fn cells(&self, alloc: Global) -> Result<Vec<Cell>, AllocError> {
-        let cells = vec![in alloc;
-            Cell::Number(self.offset),
-            Cell::Number(self.flags),
-            Cell::Text(Text::from(String::from_str(alloc, self.name)?)),
-            Cell::Ref(self.implementation),
-        ]?;
-        Ok(cells)
+        owned_cells(
+            alloc,
+            &[
+                FieldValue::Number(self.offset),
+                FieldValue::Number(self.flags),
+                FieldValue::Text(self.name),
+                FieldValue::Ref(self.implementation),
+            ],
+        )
     }
 }

@@ -3,7 +3,7 @@ ghost use Rattle.schema.specs.declared.table.TableId.TheVariants as table;
 ghost use Rattle.metadata.specs.Cell.{Number, Text, Bytes, Ref};
 ghost use Rattle.cells.specs.Said.{all_said};
 
-use records::{Bytes, Cell, FromRow, Record, Row, TableId, Text, Token, record_of};
+use records::{Cell, FieldValue, FromRow, Record, Row, TableId, Token, owned_cells, record_of};
 use std::alloc::{AllocError, Global};
 
 /// Another assembly (II.22.5).
@@ -65,18 +65,20 @@ impl<'m> Record<'m> for AssemblyRef<'m> {
     }
 
     fn cells(&self, alloc: Global) -> Result<Vec<Cell>, AllocError> {
-        let cells = vec![in alloc;
-            Cell::Number(self.major_version),
-            Cell::Number(self.minor_version),
-            Cell::Number(self.build_number),
-            Cell::Number(self.revision_number),
-            Cell::Number(self.flags),
-            Cell::Bytes(Bytes::from(Vec::from_slice(alloc, self.public_key_or_token)?)),
-            Cell::Text(Text::from(String::from_str(alloc, self.name)?)),
-            Cell::Text(Text::from(String::from_str(alloc, self.culture)?)),
-            Cell::Bytes(Bytes::from(Vec::from_slice(alloc, self.hash_value)?)),
-        ]?;
-        Ok(cells)
+        owned_cells(
+            alloc,
+            &[
+                FieldValue::Number(self.major_version),
+                FieldValue::Number(self.minor_version),
+                FieldValue::Number(self.build_number),
+                FieldValue::Number(self.revision_number),
+                FieldValue::Number(self.flags),
+                FieldValue::Bytes(self.public_key_or_token),
+                FieldValue::Text(self.name),
+                FieldValue::Text(self.culture),
+                FieldValue::Bytes(self.hash_value),
+            ],
+        )
     }
 }
 
@@ -118,8 +120,13 @@ impl<'m> Record<'m> for AssemblyRefProcessor {
     fn cells(&self, alloc: Global) -> Result<Vec<Cell>, AllocError>
         ensures { IfOk result (λ cells. all_said cells.items ≡ Number self.now.processor ∷ Ref self.now.assembly_ref ∷ []) }
     {
-        let cells = vec![in alloc; Cell::Number(self.processor), Cell::Ref(self.assembly_ref)]?;
-        Ok(cells)
+        owned_cells(
+            alloc,
+            &[
+                FieldValue::Number(self.processor),
+                FieldValue::Ref(self.assembly_ref),
+            ],
+        )
     }
 }
 
@@ -168,13 +175,15 @@ impl<'m> Record<'m> for AssemblyRefOS {
     fn cells(&self, alloc: Global) -> Result<Vec<Cell>, AllocError>
         ensures { IfOk result (λ cells. all_said cells.items ≡ Number self.now.os_platform_id ∷ Number self.now.os_major_version ∷ Number self.now.os_minor_version ∷ Ref self.now.assembly_ref ∷ []) }
     {
-        let cells = vec![in alloc;
-            Cell::Number(self.os_platform_id),
-            Cell::Number(self.os_major_version),
-            Cell::Number(self.os_minor_version),
-            Cell::Ref(self.assembly_ref),
-        ]?;
-        Ok(cells)
+        owned_cells(
+            alloc,
+            &[
+                FieldValue::Number(self.os_platform_id),
+                FieldValue::Number(self.os_major_version),
+                FieldValue::Number(self.os_minor_version),
+                FieldValue::Ref(self.assembly_ref),
+            ],
+        )
     }
 }
 
@@ -209,8 +218,7 @@ impl<'m> Record<'m> for ModuleRef<'m> {
     }
 
     fn cells(&self, alloc: Global) -> Result<Vec<Cell>, AllocError> {
-        let cells = vec![in alloc; Cell::Text(Text::from(String::from_str(alloc, self.name)?))]?;
-        Ok(cells)
+        owned_cells(alloc, &[FieldValue::Text(self.name)])
     }
 }
 
@@ -257,12 +265,14 @@ impl<'m> Record<'m> for ImplMap<'m> {
     }
 
     fn cells(&self, alloc: Global) -> Result<Vec<Cell>, AllocError> {
-        let cells = vec![in alloc;
-            Cell::Number(self.mapping_flags),
-            Cell::Ref(self.member_forwarded),
-            Cell::Text(Text::from(String::from_str(alloc, self.import_name)?)),
-            Cell::Ref(self.import_scope),
-        ]?;
-        Ok(cells)
+        owned_cells(
+            alloc,
+            &[
+                FieldValue::Number(self.mapping_flags),
+                FieldValue::Ref(self.member_forwarded),
+                FieldValue::Text(self.import_name),
+                FieldValue::Ref(self.import_scope),
+            ],
+        )
     }
 }

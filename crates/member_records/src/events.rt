@@ -3,7 +3,7 @@ ghost use Rattle.schema.specs.declared.table.TableId.TheVariants as table;
 ghost use Rattle.metadata.specs.Cell.{Number, Text, Ref, Start};
 ghost use Rattle.cells.specs.Said.{all_said};
 
-use records::{Cell, FromRow, Record, Row, TableId, Text, Token, record_of};
+use records::{Cell, FieldValue, FromRow, Record, Row, TableId, Token, owned_cells, record_of};
 use std::alloc::{AllocError, Global};
 
 /// A type that has events (II.22.12).
@@ -44,8 +44,13 @@ impl<'m> Record<'m> for EventMap {
     fn cells(&self, alloc: Global) -> Result<Vec<Cell>, AllocError>
         ensures { IfOk result (λ cells. all_said cells.items ≡ Ref self.now.parent ∷ Start self.now.event_list ∷ []) }
     {
-        let cells = vec![in alloc; Cell::Ref(self.parent), Cell::Start(self.event_list)]?;
-        Ok(cells)
+        owned_cells(
+            alloc,
+            &[
+                FieldValue::Ref(self.parent),
+                FieldValue::Start(self.event_list),
+            ],
+        )
     }
 }
 
@@ -88,11 +93,13 @@ impl<'m> Record<'m> for Event<'m> {
     }
 
     fn cells(&self, alloc: Global) -> Result<Vec<Cell>, AllocError> {
-        let cells = vec![in alloc;
-            Cell::Number(self.event_flags),
-            Cell::Text(Text::from(String::from_str(alloc, self.name)?)),
-            Cell::Ref(self.event_type),
-        ]?;
-        Ok(cells)
+        owned_cells(
+            alloc,
+            &[
+                FieldValue::Number(self.event_flags),
+                FieldValue::Text(self.name),
+                FieldValue::Ref(self.event_type),
+            ],
+        )
     }
 }

@@ -5,8 +5,8 @@ ghost use Rattle.metadata.specs.Cell.{Number, Text, Bytes, Ref, Sig};
 ghost use Rattle.cells.specs.Said.{all_said};
 
 use records::{
-    Bytes, Cell, FromRow, IsSignature, Record, Row, SigKind, Signature, TableId, Text, Token,
-    record_of,
+    Cell, FieldValue, FromRow, IsSignature, Record, Row, SigKind, Signature, TableId, Token,
+    owned_cells, record_of,
 };
 use std::alloc::{AllocError, Global};
 
@@ -49,12 +49,14 @@ impl<'m> Record<'m> for Field<'m> {
     }
 
     fn cells(&self, alloc: Global) -> Result<Vec<Cell>, AllocError> {
-        let cells = vec![in alloc;
-            Cell::Number(self.flags),
-            Cell::Text(Text::from(String::from_str(alloc, self.name)?)),
-            Cell::Sig(self.signature.copy(alloc)?),
-        ]?;
-        Ok(cells)
+        owned_cells(
+            alloc,
+            &[
+                FieldValue::Number(self.flags),
+                FieldValue::Text(self.name),
+                FieldValue::Sig(self.signature),
+            ],
+        )
     }
 }
 
@@ -96,8 +98,10 @@ impl<'m> Record<'m> for FieldLayout {
     fn cells(&self, alloc: Global) -> Result<Vec<Cell>, AllocError>
         ensures { IfOk result (λ cells. all_said cells.items ≡ Number self.now.offset ∷ Ref self.now.field ∷ []) }
     {
-        let cells = vec![in alloc; Cell::Number(self.offset), Cell::Ref(self.field)]?;
-        Ok(cells)
+        owned_cells(
+            alloc,
+            &[FieldValue::Number(self.offset), FieldValue::Ref(self.field)],
+        )
     }
 }
 
@@ -137,11 +141,13 @@ impl<'m> Record<'m> for FieldMarshal<'m> {
     }
 
     fn cells(&self, alloc: Global) -> Result<Vec<Cell>, AllocError> {
-        let cells = vec![in alloc;
-            Cell::Ref(self.parent),
-            Cell::Bytes(Bytes::from(Vec::from_slice(alloc, self.native_type)?)),
-        ]?;
-        Ok(cells)
+        owned_cells(
+            alloc,
+            &[
+                FieldValue::Ref(self.parent),
+                FieldValue::Bytes(self.native_type),
+            ],
+        )
     }
 }
 
@@ -183,8 +189,10 @@ impl<'m> Record<'m> for FieldRVA {
     fn cells(&self, alloc: Global) -> Result<Vec<Cell>, AllocError>
         ensures { IfOk result (λ cells. all_said cells.items ≡ Number self.now.rva ∷ Ref self.now.field ∷ []) }
     {
-        let cells = vec![in alloc; Cell::Number(self.rva), Cell::Ref(self.field)]?;
-        Ok(cells)
+        owned_cells(
+            alloc,
+            &[FieldValue::Number(self.rva), FieldValue::Ref(self.field)],
+        )
     }
 }
 
@@ -227,11 +235,13 @@ impl<'m> Record<'m> for MemberRef<'m> {
     }
 
     fn cells(&self, alloc: Global) -> Result<Vec<Cell>, AllocError> {
-        let cells = vec![in alloc;
-            Cell::Ref(self.class),
-            Cell::Text(Text::from(String::from_str(alloc, self.name)?)),
-            Cell::Sig(self.signature.copy(alloc)?),
-        ]?;
-        Ok(cells)
+        owned_cells(
+            alloc,
+            &[
+                FieldValue::Ref(self.class),
+                FieldValue::Text(self.name),
+                FieldValue::Sig(self.signature),
+            ],
+        )
     }
 }

@@ -5,7 +5,8 @@ ghost use Rattle.metadata.specs.Cell.{Number, Text, Ref, Start, Sig};
 ghost use Rattle.cells.specs.Said.{all_said};
 
 use records::{
-    Cell, FromRow, IsSignature, Record, Row, SigKind, Signature, TableId, Text, Token, record_of,
+    Cell, FieldValue, FromRow, IsSignature, Record, Row, SigKind, Signature, TableId, Token,
+    owned_cells, record_of,
 };
 use std::alloc::{AllocError, Global};
 
@@ -58,15 +59,17 @@ impl<'m> Record<'m> for MethodDef<'m> {
     }
 
     fn cells(&self, alloc: Global) -> Result<Vec<Cell>, AllocError> {
-        let cells = vec![in alloc;
-            Cell::Number(self.rva),
-            Cell::Number(self.impl_flags),
-            Cell::Number(self.flags),
-            Cell::Text(Text::from(String::from_str(alloc, self.name)?)),
-            Cell::Sig(self.signature.copy(alloc)?),
-            Cell::Start(self.param_list),
-        ]?;
-        Ok(cells)
+        owned_cells(
+            alloc,
+            &[
+                FieldValue::Number(self.rva),
+                FieldValue::Number(self.impl_flags),
+                FieldValue::Number(self.flags),
+                FieldValue::Text(self.name),
+                FieldValue::Sig(self.signature),
+                FieldValue::Start(self.param_list),
+            ],
+        )
     }
 }
 
@@ -109,12 +112,14 @@ impl<'m> Record<'m> for Param<'m> {
     }
 
     fn cells(&self, alloc: Global) -> Result<Vec<Cell>, AllocError> {
-        let cells = vec![in alloc;
-            Cell::Number(self.flags),
-            Cell::Number(self.sequence),
-            Cell::Text(Text::from(String::from_str(alloc, self.name)?)),
-        ]?;
-        Ok(cells)
+        owned_cells(
+            alloc,
+            &[
+                FieldValue::Number(self.flags),
+                FieldValue::Number(self.sequence),
+                FieldValue::Text(self.name),
+            ],
+        )
     }
 }
 
@@ -159,12 +164,14 @@ impl<'m> Record<'m> for MethodImpl {
     fn cells(&self, alloc: Global) -> Result<Vec<Cell>, AllocError>
         ensures { IfOk result (λ cells. all_said cells.items ≡ Ref self.now.class ∷ Ref self.now.method_body ∷ Ref self.now.method_declaration ∷ []) }
     {
-        let cells = vec![in alloc;
-            Cell::Ref(self.class),
-            Cell::Ref(self.method_body),
-            Cell::Ref(self.method_declaration),
-        ]?;
-        Ok(cells)
+        owned_cells(
+            alloc,
+            &[
+                FieldValue::Ref(self.class),
+                FieldValue::Ref(self.method_body),
+                FieldValue::Ref(self.method_declaration),
+            ],
+        )
     }
 }
 
@@ -209,12 +216,14 @@ impl<'m> Record<'m> for MethodSemantics {
     fn cells(&self, alloc: Global) -> Result<Vec<Cell>, AllocError>
         ensures { IfOk result (λ cells. all_said cells.items ≡ Number self.now.semantics ∷ Ref self.now.method ∷ Ref self.now.association ∷ []) }
     {
-        let cells = vec![in alloc;
-            Cell::Number(self.semantics),
-            Cell::Ref(self.method),
-            Cell::Ref(self.association),
-        ]?;
-        Ok(cells)
+        owned_cells(
+            alloc,
+            &[
+                FieldValue::Number(self.semantics),
+                FieldValue::Ref(self.method),
+                FieldValue::Ref(self.association),
+            ],
+        )
     }
 }
 
@@ -252,7 +261,6 @@ impl<'m> Record<'m> for StandAloneSig<&'m Signature> {
     }
 
     fn cells(&self, alloc: Global) -> Result<Vec<Cell>, AllocError> {
-        let cells = vec![in alloc; Cell::Sig(self.signature.copy(alloc)?)]?;
-        Ok(cells)
+        owned_cells(alloc, &[FieldValue::Sig(self.signature)])
     }
 }

@@ -5,7 +5,8 @@ ghost use Rattle.metadata.specs.Cell.{Number, Text, Ref, Start, Sig};
 ghost use Rattle.cells.specs.Said.{all_said};
 
 use records::{
-    Cell, FromRow, IsSignature, Record, Row, SigKind, Signature, TableId, Text, Token, record_of,
+    Cell, FieldValue, FromRow, IsSignature, Record, Row, SigKind, Signature, TableId, Token,
+    owned_cells, record_of,
 };
 use std::alloc::{AllocError, Global};
 
@@ -47,8 +48,13 @@ impl<'m> Record<'m> for PropertyMap {
     fn cells(&self, alloc: Global) -> Result<Vec<Cell>, AllocError>
         ensures { IfOk result (λ cells. all_said cells.items ≡ Ref self.now.parent ∷ Start self.now.property_list ∷ []) }
     {
-        let cells = vec![in alloc; Cell::Ref(self.parent), Cell::Start(self.property_list)]?;
-        Ok(cells)
+        owned_cells(
+            alloc,
+            &[
+                FieldValue::Ref(self.parent),
+                FieldValue::Start(self.property_list),
+            ],
+        )
     }
 }
 
@@ -91,11 +97,13 @@ impl<'m> Record<'m> for Property<'m> {
     }
 
     fn cells(&self, alloc: Global) -> Result<Vec<Cell>, AllocError> {
-        let cells = vec![in alloc;
-            Cell::Number(self.flags),
-            Cell::Text(Text::from(String::from_str(alloc, self.name)?)),
-            Cell::Sig(self.kind.copy(alloc)?),
-        ]?;
-        Ok(cells)
+        owned_cells(
+            alloc,
+            &[
+                FieldValue::Number(self.flags),
+                FieldValue::Text(self.name),
+                FieldValue::Sig(self.kind),
+            ],
+        )
     }
 }

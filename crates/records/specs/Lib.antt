@@ -3,3 +3,4 @@ pub mod Listed
 pub mod Names
 pub mod Shapes
 pub mod Signatures
+pub mod Values

@@ -4,10 +4,11 @@ ghost use Rattle.schema.specs.declared.column.SigKind.TheVariants as column;
 ghost use Rattle.metadata.specs.Cell.{Number, Text, Ref, Sig};
 ghost use Rattle.cells.specs.Said.{all_said};
 
+use crate::field_value::{FieldValue, owned_cells};
 use crate::record::{FromRow, Record, record_of};
 use crate::row::Row;
 use crate::signature::IsSignature;
-use cells::{Cell, Signature, Text, Token};
+use cells::{Cell, Signature, Token};
 use schema::{SigKind, TableId};
 use std::alloc::{AllocError, Global};
 
@@ -53,13 +54,15 @@ impl<'m> Record<'m> for GenericParam<'m> {
     }
 
     fn cells(&self, alloc: Global) -> Result<Vec<Cell>, AllocError> {
-        let cells = vec![in alloc;
-            Cell::Number(self.number),
-            Cell::Number(self.flags),
-            Cell::Ref(self.owner),
-            Cell::Text(Text::from(String::from_str(alloc, self.name)?)),
-        ]?;
-        Ok(cells)
+        owned_cells(
+            alloc,
+            &[
+                FieldValue::Number(self.number),
+                FieldValue::Number(self.flags),
+                FieldValue::Ref(self.owner),
+                FieldValue::Text(self.name),
+            ],
+        )
     }
 }
 
@@ -101,8 +104,13 @@ impl<'m> Record<'m> for GenericParamConstraint {
     fn cells(&self, alloc: Global) -> Result<Vec<Cell>, AllocError>
         ensures { IfOk result (λ cells. all_said cells.items ≡ Ref self.now.owner ∷ Ref self.now.constraint ∷ []) }
     {
-        let cells = vec![in alloc; Cell::Ref(self.owner), Cell::Ref(self.constraint)]?;
-        Ok(cells)
+        owned_cells(
+            alloc,
+            &[
+                FieldValue::Ref(self.owner),
+                FieldValue::Ref(self.constraint),
+            ],
+        )
     }
 }
 
@@ -142,10 +150,12 @@ impl<'m> Record<'m> for MethodSpec<&'m Signature> {
     }
 
     fn cells(&self, alloc: Global) -> Result<Vec<Cell>, AllocError> {
-        let cells = vec![in alloc;
-            Cell::Ref(self.method),
-            Cell::Sig(self.instantiation.copy(alloc)?),
-        ]?;
-        Ok(cells)
+        owned_cells(
+            alloc,
+            &[
+                FieldValue::Ref(self.method),
+                FieldValue::Sig(self.instantiation),
+            ],
+        )
     }
 }

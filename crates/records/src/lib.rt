@@ -14,6 +14,7 @@
 
 mod cell_row;
 mod coded_row;
+mod field_value;
 mod generics;
 mod kinds;
 mod laws;
@@ -25,6 +26,7 @@ mod types;
 pub use cell_row::CellRow;
 pub use cells::{Bytes, Cell, Signature, Text, Token};
 pub use coded_row::{CodedRow, coded_row_of, lists};
+pub use field_value::{FieldValue, owned_cells};
 pub use generics::{GenericParam, GenericParamConstraint, MethodSpec};
 pub use kinds::is_row_of;
 pub use laws::{blobs_say_signatures, cells_have_kinds, valid_rows_are_of_kinds};

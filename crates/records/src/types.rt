@@ -5,10 +5,11 @@ ghost use Rattle.metadata.specs.Cell.{Number, Text, Guid, Ref, Start, Sig};
 ghost use Rattle.cells.specs.Said.{all_said};
 ghost use Rattle.records.specs.Names.{full_name};
 
+use crate::field_value::{FieldValue, owned_cells};
 use crate::record::{FromRow, Record, record_of};
 use crate::row::Row;
 use crate::signature::IsSignature;
-use cells::{Cell, Signature, Text, Token};
+use cells::{Cell, Signature, Token};
 use schema::{SigKind, TableId};
 use std::alloc::{AllocError, Global};
 use std::fmt;
@@ -59,14 +60,16 @@ impl<'m> Record<'m> for Module<'m> {
     }
 
     fn cells(&self, alloc: Global) -> Result<Vec<Cell>, AllocError> {
-        let cells = vec![in alloc;
-            Cell::Number(self.generation),
-            Cell::Text(Text::from(String::from_str(alloc, self.name)?)),
-            Cell::Guid(self.mvid),
-            Cell::Guid(self.enc_id),
-            Cell::Guid(self.enc_base_id),
-        ]?;
-        Ok(cells)
+        owned_cells(
+            alloc,
+            &[
+                FieldValue::Number(self.generation),
+                FieldValue::Text(self.name),
+                FieldValue::Guid(self.mvid),
+                FieldValue::Guid(self.enc_id),
+                FieldValue::Guid(self.enc_base_id),
+            ],
+        )
     }
 }
 
@@ -110,12 +113,14 @@ impl<'m> Record<'m> for TypeRef<'m> {
     }
 
     fn cells(&self, alloc: Global) -> Result<Vec<Cell>, AllocError> {
-        let cells = vec![in alloc;
-            Cell::Ref(self.resolution_scope),
-            Cell::Text(Text::from(String::from_str(alloc, self.type_name)?)),
-            Cell::Text(Text::from(String::from_str(alloc, self.type_namespace)?)),
-        ]?;
-        Ok(cells)
+        owned_cells(
+            alloc,
+            &[
+                FieldValue::Ref(self.resolution_scope),
+                FieldValue::Text(self.type_name),
+                FieldValue::Text(self.type_namespace),
+            ],
+        )
     }
 }
 
@@ -181,15 +186,17 @@ impl<'m> Record<'m> for TypeDef<'m> {
     }
 
     fn cells(&self, alloc: Global) -> Result<Vec<Cell>, AllocError> {
-        let cells = vec![in alloc;
-            Cell::Number(self.flags),
-            Cell::Text(Text::from(String::from_str(alloc, self.type_name)?)),
-            Cell::Text(Text::from(String::from_str(alloc, self.type_namespace)?)),
-            Cell::Ref(self.extends),
-            Cell::Start(self.field_list),
-            Cell::Start(self.method_list),
-        ]?;
-        Ok(cells)
+        owned_cells(
+            alloc,
+            &[
+                FieldValue::Number(self.flags),
+                FieldValue::Text(self.type_name),
+                FieldValue::Text(self.type_namespace),
+                FieldValue::Ref(self.extends),
+                FieldValue::Start(self.field_list),
+                FieldValue::Start(self.method_list),
+            ],
+        )
     }
 }
 
@@ -244,8 +251,10 @@ impl<'m> Record<'m> for InterfaceImpl {
     fn cells(&self, alloc: Global) -> Result<Vec<Cell>, AllocError>
         ensures { IfOk result (λ cells. all_said cells.items ≡ Ref self.now.class ∷ Ref self.now.interface ∷ []) }
     {
-        let cells = vec![in alloc; Cell::Ref(self.class), Cell::Ref(self.interface)]?;
-        Ok(cells)
+        owned_cells(
+            alloc,
+            &[FieldValue::Ref(self.class), FieldValue::Ref(self.interface)],
+        )
     }
 }
 
@@ -287,11 +296,13 @@ impl<'m> Record<'m> for NestedClass {
     fn cells(&self, alloc: Global) -> Result<Vec<Cell>, AllocError>
         ensures { IfOk result (λ cells. all_said cells.items ≡ Ref self.now.nested_class ∷ Ref self.now.enclosing_class ∷ []) }
     {
-        let cells = vec![in alloc;
-            Cell::Ref(self.nested_class),
-            Cell::Ref(self.enclosing_class),
-        ]?;
-        Ok(cells)
+        owned_cells(
+            alloc,
+            &[
+                FieldValue::Ref(self.nested_class),
+                FieldValue::Ref(self.enclosing_class),
+            ],
+        )
     }
 }
 
@@ -336,12 +347,14 @@ impl<'m> Record<'m> for ClassLayout {
     fn cells(&self, alloc: Global) -> Result<Vec<Cell>, AllocError>
         ensures { IfOk result (λ cells. all_said cells.items ≡ Number self.now.packing_size ∷ Number self.now.class_size ∷ Ref self.now.parent ∷ []) }
     {
-        let cells = vec![in alloc;
-            Cell::Number(self.packing_size),
-            Cell::Number(self.class_size),
-            Cell::Ref(self.parent),
-        ]?;
-        Ok(cells)
+        owned_cells(
+            alloc,
+            &[
+                FieldValue::Number(self.packing_size),
+                FieldValue::Number(self.class_size),
+                FieldValue::Ref(self.parent),
+            ],
+        )
     }
 }
 
@@ -378,7 +391,6 @@ impl<'m> Record<'m> for TypeSpec<&'m Signature> {
     }
 
     fn cells(&self, alloc: Global) -> Result<Vec<Cell>, AllocError> {
-        let cells = vec![in alloc; Cell::Sig(self.signature.copy(alloc)?)]?;
-        Ok(cells)
+        owned_cells(alloc, &[FieldValue::Sig(self.signature)])
     }
 }
