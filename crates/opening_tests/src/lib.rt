@@ -30,3 +30,5 @@ mod samples;
 mod shown;
 #[cfg(test)]
 mod spellings;
+#[cfg(test)]
+mod within;
