@@ -5,7 +5,7 @@ use std::alloc::Global;
 use std::test::Fail;
 
 /// A root of two fields, of which the second has a byte behind its signature: their blobs have two and
-/// three bytes. The rows stand at 98 and 104.
+/// three bytes. The rows of Field stand at 106 and 112.
 fn misspelled(alloc: Global) -> Result<Vec<u8>, Fail> {
     let mut root = RootBuilder::new(alloc);
     root.row(0x02, b"\0\0\0\0\0\0\0\0\0\0\x01\0\x01\0")?;
@@ -44,7 +44,7 @@ fn a_root_without_signatures_needs_no_budget(rt: HostRuntime) -> Result<(), Fail
 #[test]
 fn a_fault_is_told_where_the_budget_reaches_it(rt: HostRuntime) -> Result<(), Fail> {
     let root = misspelled(rt.alloc())?;
-    let fault = Fault::new(FaultCode::BadSignature, 124);
+    let fault = Fault::new(FaultCode::BadSignature, 116);
     for (budget, error) in [
         (0, BoundedError::BudgetSpent),
         (4, BoundedError::BudgetSpent),
