@@ -4,5 +4,8 @@ pub mod OrderLemmas
 pub mod Orders
 pub mod PassedLemmas
 pub mod Spellings
+pub mod Spending
 pub mod Starts
+pub mod Sums
 pub mod Verdicts
+pub mod Within

@@ -26,6 +26,11 @@ unfolding demands_of_signature
 spelling_answers here table row column number held r is_held is_number answers =
     rw (is_held, is_number) at (answers (cell_place here table row column))
 
+-- a blob that spells no signature, or no blob
+pub no_signature : (source : Source) (column : SigKind) (number place : ℕ) → ((blob : List ℕ) → IsBlob source.blobs number blob → (signature : Body) → ¬ Spells column signature blob)
+    → FirstToFail (demands_of_spelling source (kind.Signature column) number place) (fault BadSignature place)
+no_signature source column number place none = inl (λ has. none has.0 has.2 has.1 has.3, refl)
+
 module _ (source : Source) (counts : List ℕ) (counted : (table : TableId) → slice_index counts (table_number table) ≡ rows_in source table) where
   cases : (b : Bool) → (b ≡ true) ⊎ (b ≡ false)
   cases true = inl refl
@@ -53,10 +58,6 @@ module _ (source : Source) (counts : List ℕ) (counted : (table : TableId) → 
     -- a blob that spells a signature whose tokens have rows
     pub is_met : (blob : List ℕ) → IsBlob source.blobs number blob → (signature : Body) × Spells column signature blob × (None ≡ first_bad counts (tokens signature)) → AllHold (demands_of_spelling source (kind.Signature column) number place)
     is_met blob is some = ((blob, some.0, is, some.1, tt), ((blob, some.0, is, some.1, all_there (tokens some.0) (sym some.2)), tt))
-
-    -- a blob that spells no signature, or no blob
-    pub no_signature : ((blob : List ℕ) → IsBlob source.blobs number blob → (signature : Body) → ¬ Spells column signature blob) → FirstToFail (demands_of_spelling source (kind.Signature column) number place) (fault BadSignature place)
-    no_signature none = inl (λ has. none has.0 has.2 has.1 has.3, refl)
 
     -- a blob that spells a signature one of whose tokens has no row
     pub no_row : (blob : List ℕ) (bad : Token) → IsBlob source.blobs number blob → ((other : List ℕ) → IsBlob source.blobs number other → blob ≡ other) → (signature : Body) × Spells column signature blob × (Some bad ≡ first_bad counts (tokens signature)) → ((signature : Body) → Spells column signature blob → Some bad ≡ first_bad counts (tokens signature)) → FirstToFail (demands_of_spelling source (kind.Signature column) number place) (fault SignatureIndex place)

@@ -1,4 +1,6 @@
+pub mod Budgets
 pub mod Columns
 pub mod Orders
 pub mod Runs
 pub mod Passed
+pub mod Signatures

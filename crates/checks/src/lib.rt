@@ -3,7 +3,8 @@
 //! [`check_tables`] poses the demands of `metadata` on what a `Source` of `reading` reads, in their order: on
 //! the cells, the order of rows, the runs of members, the order of nested types, and signatures. It answers
 //! the fault of the first that fails. A pass first looks column by column for the first row where all is not
-//! well, and walks that row for its fault. Nothing here takes memory.
+//! well, and walks that row for its fault. Nothing here takes memory. [`check_tables_within`] does the same
+//! within a [`Budget`] of bytes of signature blobs that are walked.
 //!
 //! ```text
 //! let source = Source::new(rows, Strings::new(texts), blobs, guids, place);
@@ -11,6 +12,7 @@
 //! ```
 #![tactic(auto)]
 
+mod budget;
 mod cell_checks;
 mod column;
 mod key_order;
@@ -21,4 +23,5 @@ mod runs;
 mod signature_checks;
 mod tables;
 
-pub use tables::{Checked, check_tables};
+pub use budget::{BoundedError, Budget};
+pub use tables::{Checked, check_tables, check_tables_within};

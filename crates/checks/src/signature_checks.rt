@@ -1,27 +1,31 @@
-ghost use Rattle.std.specs.Prelude.{◌≡◌, ◌≤◌, ◌<◌, ◌+◌, ℕ, Ok, length};
+ghost use Rattle.std.specs.Prelude.{◌≡◌, ◌≤◌, ◌<◌, ◌+◌, ℕ, Ok, length, IfOk, IfSome, OnSome, IfNone};
 ghost use Rattle.packed.specs.Demand.{Answers, HoldBefore};
-ghost use Rattle.schema.specs.Columns.{columns_of};
+ghost use Rattle.heaps.specs.Entries.{IsBlob};
+ghost use Rattle.schema.specs.Columns.{columns_of, column_at};
 ghost use Rattle.schema.specs.declared.column.ColumnKind.TheVariants as kind;
 ghost use Rattle.metadata.specs.Source.{rows_in};
 ghost use Rattle.metadata.specs.Demands.{demands_of_spelling, demands_of_signature, demands_of_signatures_in, demands_of_signatures_of, demands_of_signatures};
 ghost use Rattle.reading.specs.Codes.{code_at};
+ghost use Rattle.checks.specs.Budgets.{Spends, IsBelow, AnswersWithin};
 ghost use Rattle.checks.specs.Columns.{AllPass, IsSpelled, ColumnSpells};
+ghost use Rattle.checks.specs.Signatures.{column_bytes, table_bytes, signature_bytes};
 
+use crate::budget::{BoundedError, Budget};
 use crate::passed::Passed;
-use heaps::blob;
-use packed::{Fault, FaultCode};
+use heaps::{blob, entries_are_one};
+use packed::{Fault, FaultCode, numbers_are_read};
 use reading::{Source, column_at};
 use recogniser::recognise_first_bad;
 use schema::{ColumnKind, SigKind, TableId, columns};
 
 /// Each blob of a signature spells one, whose type indexes name rows that exist (II.23.2).
-#[tactic(auto, using(packed::proofs::DemandLemmas::before_none, packed::proofs::DemandLemmas::before_more, packed::proofs::DemandLemmas::before_all, packed::proofs::DemandLemmas::before_fails), unfolding(metadata::specs::Demands::demands_of_signatures, metadata::specs::Demands::demands_of_signatures_at))]
-pub fn check_signatures(source: &Source) -> Result<(), Fault>
-    ensures { Answers (demands_of_signatures source.now) result }
+pub fn check_signatures(source: &Source, budget: Budget) -> Result<(), BoundedError>
+    ensures { AnswersWithin budget (signature_bytes source.now.source) (demands_of_signatures source.now) result }
 {
     let tables = TableId::all();
+    let mut left = budget;
     for position in 0..tables.len() {
-        check_signatures_of(source, tables[position])?;
+        check_signatures_of(source, tables[position], &mut left)?;
     }
     Ok(())
 }
@@ -30,10 +34,19 @@ pub fn check_signatures(source: &Source) -> Result<(), Fault>
 ///
 /// A look down the columns finds the first row with a blob that spells none; only from that row on are the
 /// rows walked, for the first in it.
-fn check_signatures_of(source: &Source, table: TableId) -> Result<(), Fault>
-    ensures { Answers (demands_of_signatures_of source.now table) result }
+fn check_signatures_of(
+    source: &Source,
+    table: TableId,
+    budget: &mut Budget,
+) -> Result<(), BoundedError>
+    ensures answers { AnswersWithin budget.old (table_bytes source.now.source table) (demands_of_signatures_of source.now table) result }
+    ensures spends { IfOk result (λ _. Spends budget.old budget.new (table_bytes source.now.source table)) }
 {
-    check_signature_rows(source, table, first_row(source, table))
+    let Some(first) = first_row(source, table, budget) else {
+        return Err(BoundedError::BudgetSpent);
+    };
+    check_signature_rows(source, table, first)?;
+    Ok(())
 }
 
 /// The signatures of a table, row by row from a first on.
@@ -52,37 +65,47 @@ fn check_signature_rows(source: &Source, table: TableId, first: u32) -> Result<(
 }
 
 /// The first row of a table with a blob that does not spell the signature that is asked of it, by its
-/// columns; behind the last row where there is none.
-fn first_row(source: &Source, table: TableId) -> u32
-    ensures first { 1 ≤ result }
-    ensures last { result ≤ rows_in source.now.source table + 1 }
-    ensures before { HoldBefore (demands_of_signatures_in source.now table) 1 result }
+/// columns; behind the last row where there is none. `None` where the budget is spent.
+fn first_row(source: &Source, table: TableId, budget: &mut Budget) -> Option<u32>
+    ensures found { IfSome result (λ row. (1 ≤ row) × (row ≤ rows_in source.now.source table + 1)) }
+    ensures before { IfSome result (HoldBefore (demands_of_signatures_in source.now table) 1) }
+    ensures spends { OnSome result (Spends budget.old budget.new (table_bytes source.now.source table)) }
+    ensures spent { IfNone result (IsBelow budget.old (table_bytes source.now.source table)) }
 {
     let mut limit = source.count(table) + 1;
     for column in 0..columns(table).len() {
-        limit = first_in_column(source, table, column, limit);
+        limit = first_in_column(source, table, column, limit, budget)?;
     }
-    limit
+    Some(limit)
 }
 
 /// The first row before a limit whose blob in a column does not spell the signature that is asked of it,
-/// if the column is of signatures; the limit where there is none.
-fn first_in_column(source: &Source, table: TableId, column: usize, limit: u32) -> u32
+/// if the column is of signatures; the limit where there is none. `None` where the budget is spent.
+fn first_in_column(
+    source: &Source,
+    table: TableId,
+    column: usize,
+    limit: u32,
+    budget: &mut Budget,
+) -> Option<u32>
     requires column { column < length (columns_of table) }
     requires first { 1 ≤ limit }
     requires last { limit ≤ rows_in source.now.source table + 1 }
-    ensures first { 1 ≤ result }
-    ensures last { result ≤ limit }
-    ensures spells { ColumnSpells source.now table result column }
+    ensures found { IfSome result (λ row. (1 ≤ row) × (row ≤ limit)) }
+    ensures spells { IfSome result (λ row. ColumnSpells source.now table row column) }
+    ensures spends { OnSome result (Spends budget.old budget.new (column_bytes source.now.source table column)) }
+    ensures spent { IfNone result (IsBelow budget.old (column_bytes source.now.source table column)) }
 {
     match column_at(table, column).kind {
-        ColumnKind::Signature(spelled) => first_misspelled(source, table, column, spelled, limit),
-        _ => limit,
+        ColumnKind::Signature(spelled) => {
+            first_misspelled(source, table, column, spelled, limit, budget)
+        }
+        _ => Some(limit),
     }
 }
 
 /// The first row before a limit whose blob does not spell a signature of a kind, the limit where there is
-/// none.
+/// none. `None` where the budget is spent.
 ///
 /// A number that was accepted of late is not walked again.
 fn first_misspelled(
@@ -91,26 +114,34 @@ fn first_misspelled(
     column: usize,
     spelled: SigKind,
     limit: u32,
-) -> u32
+    budget: &mut Budget,
+) -> Option<u32>
     requires column { column < length (columns_of table) }
+    requires kind { (column_at table column).kind ≡ kind.Signature spelled }
     requires first { 1 ≤ limit }
     requires last { limit ≤ rows_in source.now.source table + 1 }
-    ensures first { 1 ≤ result }
-    ensures last { result ≤ limit }
-    ensures spelled { AllPass (λ number. IsSpelled source.now.source (kind.Signature spelled) number (Ok tt)) source.now.source table column result }
+    ensures found { IfSome result (λ row. (1 ≤ row) × (row ≤ limit)) }
+    ensures spelled { IfSome result (AllPass (λ number. IsSpelled source.now.source (kind.Signature spelled) number (Ok tt)) source.now.source table column) }
+    ensures spends { OnSome result (Spends budget.old budget.new (column_bytes source.now.source table column)) }
+    ensures spent { IfNone result (IsBelow budget.old (column_bytes source.now.source table column)) }
 {
+    numbers_are_read();
     let mut accepted = Passed::none();
     for row in 1..limit {
         let number = source.number(table, row, column);
         if accepted.has(number) {
             continue;
         }
-        match check_signature_at(source, spelled, number) {
+        let Ok(blob) = blob(source.blobs(), number) else {
+            return Some(row);
+        };
+        budget.spend(blob.len())?;
+        match check_blob(source, spelled, blob) {
             Ok(()) => accepted.keep(number),
-            Err(_) => return row,
+            Err(_) => return Some(row),
         }
     }
-    limit
+    Some(limit)
 }
 
 /// The signatures of a row.
@@ -156,12 +187,18 @@ fn check_spelling(source: &Source, kind: ColumnKind, number: u32) -> Result<(), 
 fn check_signature_at(source: &Source, column: SigKind, number: u32) -> Result<(), FaultCode>
     ensures { (place : ℕ) → Answers (demands_of_spelling source.now.source (kind.Signature column) number place) (code_at place result) }
 {
-    let blobs = source.blobs();
-    let counts = source.counts();
-    let Ok(blob) = blob(blobs, number) else {
-        return Err(FaultCode::BadSignature);
-    };
-    match recognise_first_bad(blob, column, counts) {
+    match blob(source.blobs(), number) {
+        Ok(blob) => check_blob(source, column, blob),
+        Err(_) => Err(FaultCode::BadSignature),
+    }
+}
+
+/// A blob spells a signature, whose type indexes name rows that exist.
+fn check_blob(source: &Source, column: SigKind, blob: &[u8]) -> Result<(), FaultCode>
+    ensures { (number : ℕ) → IsBlob source.now.source.blobs number blob.now → IsSpelled source.now.source (kind.Signature column) number result }
+{
+    entries_are_one();
+    match recognise_first_bad(blob, column, source.counts()) {
         Some(None) => Ok(()),
         Some(Some(_)) => Err(FaultCode::SignatureIndex),
         None => Err(FaultCode::BadSignature),

@@ -1,15 +1,15 @@
 -- What the getters of `clap`'s matches read, where the matches are those of the words.
-use Rattle.std.proofs.Common.{◌≡◌, ◌↔◌, ◌∙◌, Bool, true, false, IsTrue, List, ap, ap₂, sym, Option, Some, None, refl, codes, is_some, subst}
+use Rattle.std.proofs.Common.{◌≡◌, ◌↔◌, ◌∙◌, ℕ, Result, Ok, Err, Bool, true, false, IsTrue, List, ap, ap₂, sym, Option, Some, None, refl, codes, is_some, subst}
 use Rattle.std.specs.Prelude.{if◌then◌else◌, option_map, unwrap_or, IsSome}
 use Rattle.std.specs.Option.{option_eq}
 use mathlib.Core.Bool.{beq}
 use Rattle.std.specs.Str.{bytes_eq}
-use Rattle.std.specs.Str.Parse.{ParsesBool}
+use Rattle.std.specs.Str.Parse.{ParsesBool, ParsesUnsigned}
 use Rattle.std.proofs.lemmas.Slice.Eq.{bytes_eq-Decides}
 use Rattle.clap.specs.Words.{Row, Text, ReadsOne, subcommand_name_of, subcommand_rows_of}
 use Rattle.clap.specs.declared.ArgMatches.{ArgMatches}
 use Rattle.clap.specs.declared.ArgMatches.TheViews.{out-ArgMatches}
-use Rattle.cli.specs.Asked.{name_of, subcommand_named}
+use Rattle.cli.specs.Asked.{IsCountOf, name_of, subcommand_named}
 use Rattle.cli.specs.declared.asked.Subcommand.{Subcommand}
 use Rattle.cli.specs.declared.asked.Subcommand.TheVariants.{Root, Check, Show, Types, Token, Rewrite, Explain}
 
@@ -55,6 +55,13 @@ flag_reads E (Some t) None none value =
 flag_reads E (Some t) (Some true) none value = ((λ _. ap Some (value t refl)), (λ _. refl))
 flag_reads E (Some t) (Some false) none value =
     ((λ is. cc), (λ is. let word = value t refl in let other = ap (λ o. unwrap_or o t) is in cc))
+
+-- the number of bytes that a getter reads
+pub count_is : (E : Type 0) (gives : List ℕ → Result ℕ E → Type 0) → ((t : Text) (r : Result ℕ E) → gives t r → ParsesUnsigned 64 10 t r) → (o : Option Text) (r : Option ℕ)
+    → (o ≡ None → r ≡ None) → ((t : Text) → o ≡ Some t → ReadsOne gives t r) → IsCountOf o r
+count_is E gives parses None r none value = none refl
+count_is E gives parses (Some t) (Some number) none value = parses t (Ok number) (value t refl)
+count_is E gives parses (Some t) None none value = let e = value t refl in parses t (Err e.0) e.1
 
 equals_true : (r : Option Bool) → IsTrue (option_eq beq r (Some true)) ↔ (r ≡ Some true)
 equals_true None = ((λ h. cc), (λ e. cc))

@@ -34,5 +34,8 @@ file_there ask made other has is = has (λ same. other (explained ask made (subs
 pub report_is : (made : Task) (report : Report) → made ≡ task.Print report → ¬ IsExplanation made
 report_is made report is = λ explains. subst IsExplanation is explains
 
+pub check_is : (made : Task) (budget : ℕ) → made ≡ task.CheckWithin budget → ¬ IsExplanation made
+check_is made budget is = λ explains. subst IsExplanation is explains
+
 pub rewriting_is : (made : Task) (path : Bor (List ℕ)) → made ≡ task.Rewrite path → ¬ IsExplanation made
 rewriting_is made path is = λ explains. subst IsExplanation is explains

@@ -16,7 +16,7 @@ use Rattle.std.proofs.lemmas.Slice.Eq.{bytes_eq-Decides}
 use Rattle.cli.specs.Asked.{name_of, subcommand_named}
 use Rattle.cli.specs.declared.asked.Subcommand.TheVariants.{Root, Check, Show, Types, Token, Rewrite, Explain}
 use Rattle.cli.specs.declared.asked.Subcommand.{Subcommand}
-use Rattle.cli.specs.CommandLine.{bare, clim, code, explain, file, reader, second}
+use Rattle.cli.specs.CommandLine.{bare, budget, check, clim, code, explain, file, reader, second}
 use Rattle.cli.proofs.NoHelp.{StopsElsewhere, is_help, stops_elsewhere}
 use Rattle.cli.proofs.Filled.{AllFill, Fills, IsFilled, below_none, check_none, filled_with, filled_without, first_none, given_has_value, level_filled}
 
@@ -91,6 +91,10 @@ code_value : (again : Bool) (values : List Text) (rows : List Row) → use_fault
 code_value again [] rows none = cc
 code_value again (v ∷ vs) rows none = omega arith
 
+budget_value : (again : Bool) (values : List Text) (rows : List Row) → use_fault again (built_value 2 budget) values rows ≡ [] → 0 < length (values_or_missing (built_value 2 budget) values)
+budget_value again [] rows none = cc
+budget_value again (v ∷ vs) rows none = omega arith
+
 bare_value : (values : List Text) → 0 < length (values_or_missing built_bare values)
 bare_value [] = omega arith
 bare_value (v ∷ vs) = omega arith
@@ -100,6 +104,9 @@ file_fills = set_fills (built_value 1 file) (λ values rows. refl) file_value
 
 second_fills : Fills (built_value 2 second)
 second_fills = set_fills (built_value 2 second) (λ values rows. refl) second_value
+
+budget_fills : Fills (built_value 2 budget)
+budget_fills = set_fills (built_value 2 budget) (λ values rows. refl) budget_value
 
 code_fills : Fills (built_value 1 code)
 code_fills = set_fills (built_value 1 code) (λ values rows. refl) code_value
@@ -185,6 +192,15 @@ reader_ready name takes known = record {
   needs = λ rows all. (needed (is_given (codes "FILE") rows) _ all, tt);
 }
 
+check_ready : IsReady (built_leaf (inherited (built clim).top check.top))
+check_ready = record {
+  fills = (file_fills, (bare_fills, (budget_fills, ((λ again values rows none f. f), tt))));
+  values = codes "FILE" ∷ [];
+  takes = check_takes;
+  known = check_known;
+  needs = λ rows all. (needed (is_given (codes "FILE") rows) _ all, tt);
+}
+
 -- one that has a second value beside the file
 abbrev built_second : Text → Shape
 built_second name = built_leaf (inherited (built clim).top (with_rule (reader name) second).top)
@@ -223,7 +239,7 @@ clim_ready : (word : Text) → is_help word ≡ false → AllReady (λ s. answer
 clim_ready word other = (
   (λ is. reader_ready (codes "root") root_takes root_known),
   (
-    (λ is. reader_ready (codes "check") check_takes check_known),
+    (λ is. check_ready),
     (
       (λ is. reader_ready (codes "show") show_takes show_known),
       (

@@ -1,8 +1,11 @@
 -- What the words of a command line ask for, by what `clap` gives for them.
-use Rattle.std.specs.Prelude.{◌≡◌, ◌≢◌, ◌↔◌, IsTrue, IsSome, Bool, List, Option, Some, None, codes, if◌then◌else◌, option_map}
+use Rattle.std.specs.Prelude.{◌≡◌, ◌≢◌, ◌↔◌, ℕ, IsTrue, IsSome, MatchOption, List, Option, Some, None, codes, if◌then◌else◌, option_map}
 use Rattle.std.specs.Str.{bytes_eq}
+use Rattle.std.specs.Option.{SomeIff}
+use Rattle.std.specs.Str.Parse.{digits_value, without_leading_plus}
 use Rattle.clap.specs.Words.{Row, Text, first_of, one_of, subcommand_of}
 use Rattle.cli.specs.CommandLine.{clim}
+use Rattle.cli.specs.Numbers.{IsByteCount}
 use Rattle.cli.specs.declared.asked.Ask.{Ask}
 use Rattle.cli.specs.declared.asked.Subcommand.{Subcommand}
 use Rattle.cli.specs.declared.asked.Subcommand.TheVariants.{Root, Check, Show, Types, Token, Rewrite, Explain}
@@ -29,6 +32,10 @@ subcommand_named word =
     else if bytes_eq word (name_of Explain) then Some Explain
     else None
 
+-- the number of bytes that a word writes, where there is a word, and it writes one
+abbrev pub IsCountOf : Option Text → Option ℕ → Type 0
+IsCountOf given number = MatchOption given (number ≡ None) (λ word. SomeIff number (IsByteCount word) (digits_value 10 (without_leading_plus word)))
+
 -- the words name the subcommand, and give it the flag and the values
 pub record Gives (words : List Text) (ask : Ask) : Type 0 where
   -- what `clap` gives for each argument of the subcommand
@@ -37,6 +44,7 @@ pub record Gives (words : List Text) (ask : Ask) : Type 0 where
   pub bare : IsTrue ask.bare ↔ (one_of (codes "bare") rows ≡ Some (codes "true"))
   pub file : option_map (λ word. word.now) ask.file ≡ first_of (codes "FILE") rows
   pub second : option_map (λ word. word.now) ask.second ≡ first_of (codes "second") rows
+  pub budget : IsCountOf (one_of (codes "budget") rows) ask.budget
   pub code : option_map (λ word. word.now) ask.code ≡ first_of (codes "CODE") rows
 
 -- the file is there where the subcommand reads one

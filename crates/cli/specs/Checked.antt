@@ -6,6 +6,7 @@ use Rattle.packed.specs.Demand.{Demand}
 use Rattle.metadata.specs.Demands.{demands_of_file, demands_of_metadata}
 use Rattle.metadata.specs.Streams.{root_in}
 use Rattle.opening.specs.Views.{HasImage, HasModel}
+use Rattle.opening.specs.Within.{signature_bytes_in, signature_bytes_in_file}
 
 -- the bytes are a metadata root that has a model, where they are bare, and else a file that has one
 abbrev pub IsWhole : Bool → List ℕ → Type 0
@@ -16,6 +17,11 @@ IsWhole false bytes = ∥ ((header : CliHeader) × HasImage bytes header) ∥₁
 abbrev pub IsOpened : Bool → List ℕ → List ℕ → Type 0
 IsOpened true bytes root = HasModel bytes × (root ≡ bytes)
 IsOpened false bytes root = (header : CliHeader) × HasImage bytes header × (root ≡ root_in bytes header)
+
+-- how many bytes the signature blobs of all rows in them have
+abbrev pub signature_bytes_of : Bool → List ℕ → ℕ
+signature_bytes_of true bytes = signature_bytes_in bytes
+signature_bytes_of false bytes = signature_bytes_in_file bytes
 
 -- what is demanded of them, in order
 abbrev pub demands_of : Bool → List ℕ → List (Demand Fault)

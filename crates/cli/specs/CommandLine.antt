@@ -4,6 +4,7 @@ use Rattle.std.specs.Prelude.{Some, true, codes}
 use Rattle.clap.specs.Words.{App, Rule, Text, new_app, new_rule, with_rule, with_subcommand}
 use Rattle.clap.specs.Simple.{on_top}
 use Rattle.clap.specs.declared.builder.action.ArgAction.TheVariants.{Set, SetTrue}
+use Rattle.clap.specs.declared.builder.value_parser.ValueParser.TheVariants.{Unsigned}
 
 -- `FILE`, one word, which must be there
 abbrev pub file : Rule
@@ -17,6 +18,10 @@ second = record (new_rule (codes "second")) { action = Some Set; value_names = 1
 abbrev pub bare : Rule
 bare = record (new_rule (codes "bare")) { long = Some (codes "bare"); action = Some SetTrue }
 
+-- `--budget N`, a number of 64 bits
+abbrev pub budget : Rule
+budget = record (new_rule (codes "budget")) { long = Some (codes "budget"); action = Some Set; value_names = 1; parser = Some (Unsigned 0 0xFFFF_FFFF_FFFF_FFFF) }
+
 -- `CODE`, one word, which may be there
 abbrev pub code : Rule
 code = record (new_rule (codes "CODE")) { action = Some Set }
@@ -29,9 +34,9 @@ reader name = with_rule (with_rule (new_app name) file) bare
 abbrev pub root : App
 root = reader (codes "root")
 
--- `check [--bare] FILE`
+-- `check [--bare] [--budget N] FILE`
 abbrev pub check : App
-check = reader (codes "check")
+check = with_rule (reader (codes "check")) budget
 
 -- `show [--bare] FILE`
 abbrev pub show : App

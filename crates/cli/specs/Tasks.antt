@@ -40,7 +40,7 @@ IsExplainTask code result = MatchOption code (result ≡ Ok (task.Explain None))
 -- what a subcommand asks for
 abbrev pub IsTask : Subcommand → Ask → Result Task Failure → Type 0
 IsTask word.Root ask result = result ≡ Ok (task.Print report.Root)
-IsTask word.Check ask result = result ≡ Ok (task.Print report.Check)
+IsTask word.Check ask result = MatchOption ask.budget (result ≡ Ok (task.Print report.Check)) (λ budget. result ≡ Ok (task.CheckWithin budget))
 IsTask word.Show ask result = result ≡ Ok (task.Print report.Show)
 IsTask word.Types ask result = result ≡ Ok (task.Print report.Types)
 IsTask word.Token ask result = IfSome ask.second (λ hex. IsTokenTask hex.now result)

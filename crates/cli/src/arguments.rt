@@ -31,6 +31,7 @@ pub fn ask<'a>(alloc: Global, words: &'a [&'a str]) -> Result<Ask<'a>, Error>
         bare: given.get_one::<bool>("bare") == Some(true),
         file: given.get_str("FILE"),
         second: given.get_str("second"),
+        budget: given.get_one::<u64>("budget"),
         code: given.get_str("CODE"),
     })
 }
@@ -62,4 +63,4 @@ Exit status:
   0  done
   1  FILE breaks a rule of the standard, told as 'fault LAYER CODE at OFFSET: NAME', or lacks the row
   2  the words ask for nothing that clim does; FILE was not read
-  3  a file or the output could not be read or written, or memory ran out";
+  3  a file or the output could not be read or written, memory ran out, or the budget was spent";

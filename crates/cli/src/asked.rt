@@ -12,6 +12,8 @@ pub struct Ask<'a> {
     pub file: Option<&'a str>,
     /// The value behind the file, as its word has it: the token of `token`, the output of `rewrite`.
     pub second: Option<&'a str>,
+    /// How many bytes of signature blobs `check` may walk at most, where that is asked.
+    pub budget: Option<u64>,
     /// The number of the fault that `explain` is asked about, as its word has it.
     pub code: Option<&'a str>,
 }

@@ -18,6 +18,7 @@ mod numbers;
 mod opened;
 mod program;
 mod reports;
+mod stop;
 mod subcommands;
 mod task;
 

@@ -1,10 +1,11 @@
 //! Opening what was read.
-ghost use Rattle.std.specs.Prelude.{IfOk, IfErr, IsOk};
-ghost use Rattle.cli.specs.Checked.{IsWhole, IsOpened, demands_of};
+ghost use Rattle.std.specs.Prelude.{◌<◌, ◌≤◌, IfOk, IfErr, IsErrOf, IsOk};
+ghost use Rattle.cli.specs.Checked.{IsWhole, IsOpened, demands_of, signature_bytes_of};
 ghost use Rattle.opening.specs.Views.{HasModel};
+ghost use Rattle.opening.specs.Within.{TellsFirst};
 ghost use Rattle.packed.specs.Demand.{FirstToFail};
 
-use opening::{View, open_image, open_root};
+use opening::{BoundedError, View, open_image, open_image_within, open_root, open_root_within};
 use packed::Fault;
 
 /// The metadata of a file, or of a metadata root where the bytes are `bare`.
@@ -19,5 +20,19 @@ pub(crate) fn open(bytes: &[u8], bare: bool) -> Result<View<'_>, Fault>
         return open_root(bytes);
     }
     let (_, view) = open_image(bytes)?;
+    Ok(view)
+}
+
+/// The same, where so many bytes of signature blobs may be walked at most.
+pub(crate) fn open_within(bytes: &[u8], bare: bool, budget: u64) -> Result<View<'_>, BoundedError>
+    ensures found { IfOk result (λ _. IsWhole bare bytes.now) }
+    ensures only { IsWhole bare bytes.now → signature_bytes_of bare bytes.now ≤ budget → IsOk result }
+    ensures first { IfErr result (TellsFirst (demands_of bare bytes.now)) }
+    ensures spent { IsErrOf result BoundedError.BudgetSpent → budget < signature_bytes_of bare bytes.now }
+{
+    if bare {
+        return open_root_within(bytes, budget);
+    }
+    let (_, view) = open_image_within(bytes, budget)?;
     Ok(view)
 }

@@ -1,12 +1,13 @@
 ghost use Rattle.std.specs.Prelude.{◌≡◌, IfErr, IfOk};
 ghost use Rattle.cli.specs.Asked.{HasFile, HasSecond};
-ghost use Rattle.printed_faults.specs.Status.{status_of};
+ghost use Rattle.cli.specs.Stops.{status_of_stop};
 
 use crate::arguments::ask;
 use crate::asked::Ask;
 use crate::input::read_file;
 use crate::reports;
-use crate::subcommands::{explain_fault, rewrite_file};
+use crate::stop::Stop;
+use crate::subcommands::{check_file, explain_fault, rewrite_file};
 use crate::task::{Task, task_of};
 use clap::error::ErrorKind;
 use printed_faults::{Failure, printed};
@@ -21,7 +22,8 @@ use std::rt::Files;
 /// - 1: the file breaks a rule of the standard, told as `fault LAYER CODE at OFFSET: NAME`, or lacks the
 ///   row that was asked for, or its canonical root is too long;
 /// - 2: the words ask for nothing that the program does; no file was read;
-/// - 3: the file could not be read, `out` or the file to write could not be written, or memory was refused.
+/// - 3: the file could not be read, `out` or the file to write could not be written, memory was refused, or
+///   the budget was spent.
 ///
 /// Results go to `out`, and only once all of the file was read; what went wrong goes to `err`. An
 /// `err` that can't be written changes nothing.
@@ -41,22 +43,22 @@ pub fn go<R: Files + AllocGlobal, W: Write, E: Write>(
 /// with: 2 where a word is not UTF-8, so that it names nothing, and 3 where memory was refused.
 pub fn refuse_words<E: Write>(error: &io::Error, err: &mut E) -> u8 {
     if error.kind() == io::ErrorKind::OutOfMemory {
-        return status(Err(Failure::OutOfMemory), err);
+        return status(Err(Stop::Failed(Failure::OutOfMemory)), err);
     }
     let _ = writeln!(err, "error: an argument is not UTF-8");
     2
 }
 
-/// The status of an outcome, told first where it is a failure.
-fn status<E: Write>(outcome: Result<(), Failure<'_>>, err: &mut E) -> u8
+/// The status of an outcome, told first where the program stopped.
+fn status<E: Write>(outcome: Result<(), Stop<'_>>, err: &mut E) -> u8
     ensures done { IfOk outcome.entry (λ _. result ≡ 0) }
-    ensures failed { IfErr outcome.entry (λ failure. result ≡ status_of failure) }
+    ensures stopped { IfErr outcome.entry (λ stop. result ≡ status_of_stop stop) }
 {
     match outcome {
         Ok(()) => 0,
-        Err(failure) => {
-            let _ = writeln!(err, "{failure}");
-            failure.status()
+        Err(stop) => {
+            let _ = writeln!(err, "{stop}");
+            stop.status()
         }
     }
 }
@@ -64,7 +66,7 @@ fn status<E: Write>(outcome: Result<(), Failure<'_>>, err: &mut E) -> u8
 /// Tells what `clap` answered in place of matches: a usage fault, or help or the version.
 fn tell<W: Write, E: Write>(alloc: Global, told: &clap::Error, out: &mut W, err: &mut E) -> u8 {
     if told.kind() == ErrorKind::OutOfMemory {
-        return status(Err(Failure::OutOfMemory), err);
+        return status(Err(Stop::Failed(Failure::OutOfMemory)), err);
     }
     if told.use_stderr() {
         let _ = write!(err, "{told}");
@@ -78,7 +80,7 @@ fn run<'a, R: Files + AllocGlobal, W: Write>(
     rt: &R,
     ask: Ask<'a>,
     out: &mut W,
-) -> Result<(), Failure<'a>>
+) -> Result<(), Stop<'a>>
     requires file { HasFile ask }
     requires second { HasSecond ask }
 {
@@ -86,14 +88,19 @@ fn run<'a, R: Files + AllocGlobal, W: Write>(
     match task {
         Task::Print(report) => {
             let bytes = read_file(rt, ask.file.unwrap())?;
-            reports::print(rt.alloc(), report, ask.bare, &bytes, out)
+            reports::print(rt.alloc(), report, ask.bare, &bytes, out)?;
+        }
+        Task::CheckWithin(budget) => {
+            let bytes = read_file(rt, ask.file.unwrap())?;
+            check_file::run_within(rt.alloc(), &bytes, ask.bare, budget, out)?;
         }
         Task::Rewrite(path) => {
             let bytes = read_file(rt, ask.file.unwrap())?;
-            rewrite_file::run(rt, &bytes, ask.bare, path, out)
+            rewrite_file::run(rt, &bytes, ask.bare, path, out)?;
         }
-        Task::Explain(code) => explain_fault::run(rt.alloc(), code, out),
+        Task::Explain(code) => explain_fault::run(rt.alloc(), code, out)?,
     }
+    Ok(())
 }
 
 /// Prints the help or the version.
@@ -101,8 +108,9 @@ fn print_told<W: Write>(
     alloc: Global,
     told: &clap::Error,
     out: &mut W,
-) -> Result<(), Failure<'static>> {
-    printed(write_told(alloc, told, out))
+) -> Result<(), Stop<'static>> {
+    printed(write_told(alloc, told, out))?;
+    Ok(())
 }
 
 fn write_told<W: Write>(alloc: Global, told: &clap::Error, out: &mut W) -> io::Result<()> {

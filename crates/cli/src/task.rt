@@ -13,6 +13,8 @@ use printed_faults::Failure;
 pub(crate) enum Task<'a> {
     /// Print something of a file.
     Print(Report),
+    /// Tell whether a file breaks a rule, where so many bytes of signature blobs may be walked at most.
+    CheckWithin(u64),
     /// Write the canonical root of a file to the path that a word names.
     Rewrite(&'a str),
     /// Explain a fault, or list all.
@@ -26,7 +28,10 @@ pub(crate) fn task_of<'a>(ask: Ask<'a>) -> Result<Task<'a>, Failure<'a>>
 {
     Ok(match ask.subcommand {
         Subcommand::Root => Task::Print(Report::Root),
-        Subcommand::Check => Task::Print(Report::Check),
+        Subcommand::Check => match ask.budget {
+            Some(budget) => Task::CheckWithin(budget),
+            None => Task::Print(Report::Check),
+        },
         Subcommand::Show => Task::Print(Report::Show),
         Subcommand::Types => Task::Print(Report::Types),
         Subcommand::Token => {

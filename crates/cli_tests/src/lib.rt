@@ -8,6 +8,8 @@ mod named;
 pub use named::file_named;
 
 #[cfg(test)]
+mod budgets;
+#[cfg(test)]
 mod examples;
 #[cfg(test)]
 mod explained;

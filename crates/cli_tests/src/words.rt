@@ -14,7 +14,7 @@ const LINES_IN_HELP: &str = "\
 ";
 
 /// Words that ask for nothing that the program does, and what is told of them.
-const REFUSED: [(&[&str], &str); 25] = [
+const REFUSED: [(&[&str], &str); 31] = [
     (&[], "Usage: clim <COMMAND>"),
     (&["clim"], "Usage: clim <COMMAND>"),
     (&["clim", "lacks"], "unrecognized subcommand 'lacks'"),
@@ -26,6 +26,30 @@ const REFUSED: [(&[&str], &str); 25] = [
     (
         &["clim", "check", "lacks", "more"],
         "unexpected argument 'more'",
+    ),
+    (
+        &["clim", "check", "--budget", "few", "lacks"],
+        "invalid value 'few' for '--budget <N>'",
+    ),
+    (
+        &["clim", "check", "--budget=", "lacks"],
+        "'--budget <N>'",
+    ),
+    (
+        &["clim", "check", "--budget", "18446744073709551616", "lacks"],
+        "invalid value '18446744073709551616' for '--budget <N>'",
+    ),
+    (
+        &["clim", "check", "--budget", "-1", "lacks"],
+        "unexpected argument '-1'",
+    ),
+    (
+        &["clim", "check", "lacks", "--budget"],
+        "a value is required for '--budget <N>'",
+    ),
+    (
+        &["clim", "show", "--budget", "1", "lacks"],
+        "unexpected argument '--budget'",
     ),
     (&["clim", "show"], "Usage: clim show <FILE>"),
     (&["clim", "types"], "Usage: clim types <FILE>"),
@@ -179,6 +203,7 @@ fn asks(rt: HostRuntime) -> Result<(), Fail> {
         bare: true,
         file: Some("a.root"),
         second: None,
+        budget: None,
         code: None,
     };
     assert_eq!(rt;
@@ -190,6 +215,7 @@ fn asks(rt: HostRuntime) -> Result<(), Fail> {
         bare: false,
         file: Some("a.dll"),
         second: None,
+        budget: None,
         code: None,
     };
     assert_eq!(rt; ask(rt.alloc(), &["clim", "check", "a.dll"])?, want);
@@ -203,6 +229,7 @@ fn asks(rt: HostRuntime) -> Result<(), Fail> {
             bare: false,
             file: None,
             second: None,
+            budget: None,
             code,
         };
         assert_eq!(rt; ask(rt.alloc(), words)?, want);
@@ -212,6 +239,7 @@ fn asks(rt: HostRuntime) -> Result<(), Fail> {
         bare: true,
         file: Some("a.root"),
         second: Some("6000001"),
+        budget: None,
         code: None,
     };
     assert_eq!(rt;
@@ -225,12 +253,30 @@ fn asks(rt: HostRuntime) -> Result<(), Fail> {
 }
 
 #[test]
+fn asks_within_a_budget(rt: HostRuntime) -> Result<(), Fail> {
+    for (word, budget) in [("0", 0), ("18446744073709551615", u64::MAX)] {
+        let words = ["clim", "check", "--budget", word, "a.dll"];
+        let want = Ask {
+            subcommand: Subcommand::Check,
+            bare: false,
+            file: Some("a.dll"),
+            second: None,
+            budget: Some(budget),
+            code: None,
+        };
+        assert_eq!(rt; ask(rt.alloc(), &words)?, want);
+    }
+    Ok(())
+}
+
+#[test]
 fn asks_for_an_output(rt: HostRuntime) -> Result<(), Fail> {
     let want = Ask {
         subcommand: Subcommand::Rewrite,
         bare: false,
         file: Some("a.dll"),
         second: Some("a.root"),
+        budget: None,
         code: None,
     };
     assert_eq!(rt;

@@ -13,7 +13,12 @@ use Rattle.metadata.specs.Streams.{root_in}
 use Rattle.metadata.specs.Placed.{source_of, tables_in, tables_place, placed_at}
 use Rattle.schema.specs.Demands.{demands_of_stream}
 use Rattle.root.specs.Demands.{demands_of_root}
+use Rattle.checks.specs.declared.budget.Budget.{Budget}
+use Rattle.checks.specs.declared.budget.BoundedError.{BoundedError}
+use Rattle.checks.specs.declared.budget.BoundedError.TheVariants as bounded
+use Rattle.checks.specs.Budgets.{FailsWithin, IsBelow}
 use Rattle.opening.specs.Heads.{demands_of_heads}
+use Rattle.opening.specs.Within.{signature_bytes_in, signature_bytes_in_file}
 use Rattle.opening.proofs.Parts.{second_fails, third_fails, all_hold}
 use Rattle.metadata.specs.Demands.{demands_of_tables, demands_of_metadata, demands_of_entry_point, demands_of_file}
 
@@ -109,6 +114,12 @@ module _ (file : List ℕ) (header : CliHeader) (is : header ≡ header_of (imag
   pub metadata_fails : (found : Fault) → FirstToFail (demands_of_metadata header.root.start (root_in file header)) found → FirstToFail (demands_of_file file) found
   metadata_fails found first =
       rest_fails found (fails_front (demands_of_metadata header.root.start (root_in file header)) (demands_of_entry_point header (source_of (root_in file header))) found first)
+
+  pub metadata_fails_within : (budget : Budget) (error : BoundedError)
+      → FailsWithin budget (signature_bytes_in (root_in file header)) (demands_of_metadata header.root.start (root_in file header)) error
+      → FailsWithin budget (signature_bytes_in_file file) (demands_of_file file) error
+  metadata_fails_within budget (bounded.Fault found) told = metadata_fails found told
+  metadata_fails_within budget bounded.BudgetSpent told = subst (λ (h : CliHeader). IsBelow budget (signature_bytes_in (root_in file h))) is told
 
   pub entry_fails : (found : Fault) → AllHold (demands_of_metadata header.root.start (root_in file header)) → FirstToFail (demands_of_entry_point header (source_of (root_in file header))) found → FirstToFail (demands_of_file file) found
   entry_fails found all first =

@@ -12,6 +12,12 @@ use Rattle.schema.specs.Cells.{numbers_at}
 use Rattle.metadata.specs.Streams.{stream_in}
 use Rattle.metadata.specs.Demands.{demands_of_tables, demands_of_metadata}
 use Rattle.packed.proofs.DemandLemmas.{fails_front}
+use Rattle.checks.specs.declared.budget.Budget.{Budget}
+use Rattle.checks.specs.declared.budget.BoundedError.{BoundedError}
+use Rattle.checks.specs.declared.budget.BoundedError.TheVariants as bounded
+use Rattle.checks.specs.Budgets.{FailsWithin, IsBelow}
+use Rattle.checks.specs.Signatures.{signature_bytes}
+use Rattle.opening.specs.Within.{signature_bytes_in}
 use Rattle.opening.proofs.Parts.{second_fails, third_fails, all_hold}
 use Rattle.metadata.specs.Placed.{Placed, tables_in, tables_place, source_of, placed_at}
 
@@ -43,6 +49,10 @@ module _ (root : List ℕ) (place : ℕ) (here : Placed) (is : here ≡ placed_a
   tables_fail found first =
       third_fails (raised place (demands_of_root root)) (raised (place + tables_place root) (demands_of_stream (tables_in root))) (demands_of_tables (placed_at place root)) found
       all more (rw is at first)
+
+  pub tables_fail_within : (budget : Budget) (error : BoundedError) → FailsWithin budget (signature_bytes here.source) (demands_of_tables here) error → FailsWithin budget (signature_bytes_in root) (demands_of_metadata place root) error
+  tables_fail_within budget (bounded.Fault found) told = tables_fail found told
+  tables_fail_within budget bounded.BudgetSpent told = subst (λ (h : Placed). IsBelow budget (signature_bytes h.source)) is told
 
   pub metadata_holds : AllHold (demands_of_tables here) → AllHold (demands_of_metadata place root)
   unfolding demands_of_metadata

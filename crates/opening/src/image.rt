@@ -1,4 +1,4 @@
-ghost use Rattle.std.specs.Prelude.{◌≡◌, ◌≤◌, ◌^◌, ◌↔◌, IsTrue, IfOk, IfErr, IsOkAnd, length};
+ghost use Rattle.std.specs.Prelude.{◌≡◌, ◌<◌, ◌≤◌, ◌^◌, ◌↔◌, IsTrue, IfOk, IfErr, IsErrOf, IsOkAnd, length};
 ghost use Rattle.packed.specs.Demand.{AllHold, Answers, FirstToFail};
 ghost use Rattle.pe.specs.Headers.{image_of};
 ghost use Rattle.pe.specs.Demands.{demands_of_image};
@@ -11,11 +11,14 @@ ghost use Rattle.metadata.specs.Model.{IsImage, IsEntryPoint};
 ghost use Rattle.metadata.specs.Placed.{source_of};
 ghost use Rattle.metadata.specs.Source.{rows_in};
 ghost use Rattle.metadata.specs.Demands.{demands_of_entry_point, demands_of_file};
+ghost use Rattle.checks.specs.Budgets.{AnswersWithin};
 ghost use Rattle.opening.specs.Views.{row_count, HasImage};
+ghost use Rattle.opening.specs.Within.{TellsFirst, signature_bytes_in_file};
 
 use crate::heads::{read_heads, root_of};
 use crate::open::open_at;
 use crate::view::View;
+use checks::{BoundedError, Budget};
 use cli_header::{CliHeader, headers_are_read};
 use metadata::files_have_models;
 use packed::{Fault, FaultCode};
@@ -57,18 +60,32 @@ fn check_entry_point(header: &CliHeader, view: &View) -> Result<(), Fault>
     }
 }
 
-/// The header and the view of a file that meets all demands; else the first that it does not meet.
-fn check_file(file: &[u8]) -> Result<(CliHeader, View<'_>), Fault>
-    ensures answers { Answers (demands_of_file file.now) result }
+/// The header and the view of a file that meets all demands; else the first that it does not meet, or that
+/// the budget was spent.
+fn check_file_within(file: &[u8], budget: Budget) -> Result<(CliHeader, View<'_>), BoundedError>
+    ensures answers { AnswersWithin budget (signature_bytes_in_file file.now) (demands_of_file file.now) result }
     ensures header { IfOk result (λ opened. opened.0 ≡ header_of (image_of file.now)) }
     ensures view { IfOk result (λ opened. opened.1 ≡ root_in file.now opened.0) }
 {
     let heads = read_heads(file)?;
     let header = heads.header;
     let root = root_of(file, &header);
-    let view = open_at(root, &heads.root, header.root.start)?;
+    let view = open_at(root, &heads.root, header.root.start, budget)?;
     check_entry_point(&header, &view)?;
     Ok((header, view))
+}
+
+/// The header and the view of a file that meets all demands; else the first that it does not meet.
+fn check_file(file: &[u8]) -> Result<(CliHeader, View<'_>), Fault>
+    ensures answers { Answers (demands_of_file file.now) result }
+    ensures header { IfOk result (λ opened. opened.0 ≡ header_of (image_of file.now)) }
+    ensures view { IfOk result (λ opened. opened.1 ≡ root_in file.now opened.0) }
+{
+    match check_file_within(file, Budget::Unbounded) {
+        Ok(opened) => Ok(opened),
+        Err(BoundedError::Fault(fault)) => Err(fault),
+        Err(BoundedError::BudgetSpent) => unreachable!(),
+    }
 }
 
 /// Opens the file that these bytes are (II.25), in place.
@@ -95,4 +112,31 @@ pub fn open_image(file: &[u8]) -> Result<(CliHeader, View<'_>), Fault>
     images_are_read();
     headers_are_read();
     check_file(file)
+}
+
+/// Opens the file that these bytes are as [`open_image`] does, within a budget: how many bytes of the blobs of
+/// signatures may be walked at most, as [`open_root_within`](crate::open_root_within) counts them.
+///
+/// # Errors
+///
+/// The fault of the first demand that fails, with its place in the file. `BudgetSpent` where more bytes were to be
+/// walked than the budget allows. It is told only where the lengths of the signature blobs of all rows, by table,
+/// column and row, add up to more than the budget: where they do not, the answer is that of [`open_image`].
+pub fn open_image_within(file: &[u8], budget: u64) -> Result<(CliHeader, View<'_>), BoundedError>
+    // What is opened is the root that the header names, and the file has this header and a model.
+    ensures found { IfOk result (λ opened. HasImage file.now opened.0) }
+    ensures view { IfOk result (λ opened. opened.1 ≡ root_in file.now opened.0) }
+    // A file that has a model is opened, with its header, where the budget allows all bytes of its signature blobs.
+    ensures only { (header : Header) (model : Metadata) → IsImage file.now header model → signature_bytes_in_file file.now ≤ budget → IsOkAnd result (λ opened. opened.0 ≡ header) }
+    // It has one model at most.
+    ensures one { (header other : Header) (model more : Metadata) → IsImage file.now header model → IsImage file.now other more → model ≡ more }
+    // A fault is that of the first demand that fails.
+    ensures first { IfErr result (TellsFirst (demands_of_file file.now)) }
+    // The budget is told spent only where it does not allow all bytes of the signature blobs.
+    ensures spent { IsErrOf result BoundedError.BudgetSpent → budget < signature_bytes_in_file file.now }
+{
+    files_have_models();
+    images_are_read();
+    headers_are_read();
+    check_file_within(file, Budget::Left(budget))
 }

@@ -2,7 +2,7 @@
 //!
 //! [`open_root`] and [`open_image`] check every demand on the bytes that they are handed, without memory,
 //! and open them exactly where they have a model; else they answer the fault of the first demand that
-//! fails. A [`View`] shows that one model: its version, its user bytes, its cells, the runs of members, and
+//! fails. [`open_root_within`] and [`open_image_within`] do so within a budget of bytes to walk. A [`View`] shows that one model: its version, its user bytes, its cells, the runs of members, and
 //! rows by name and by key. What it answers are values and parts of the caller's bytes. [`read_heads`] reads
 //! only what stands before the streams of a file.
 //!
@@ -19,11 +19,12 @@ mod image;
 mod open;
 mod view;
 
+pub use checks::BoundedError;
 pub use cli_header::CliHeader;
 pub use found::Found;
 pub use heads::{Heads, read_heads};
-pub use image::open_image;
-pub use open::{open_root, view_again};
+pub use image::{open_image, open_image_within};
+pub use open::{open_root, open_root_within, view_again};
 pub use packed::{Fault, FaultCode};
 pub use pe::Pe;
 pub use reading::{CellRef, KeyNumbers, KeyRows, SourceKeys, Starts};

@@ -1,4 +1,4 @@
-ghost use Rattle.std.specs.Prelude.{◌≡◌, ◌≤◌, ◌+◌, ◌^◌, [], IfSome, IfOk, IfErr, IsOk, length, unwrap_or};
+ghost use Rattle.std.specs.Prelude.{◌≡◌, ◌<◌, ◌≤◌, ◌+◌, ◌^◌, [], IfSome, IfOk, IfErr, IsErrOf, IsOk, length, unwrap_or};
 ghost use Rattle.std.specs.Str.{is_utf8};
 ghost use Rattle.packed.specs.Demand.{AllHold, Answers, FirstToFail, raised};
 ghost use Rattle.root.specs.Demands.{demands_of_root};
@@ -13,14 +13,16 @@ ghost use Rattle.schema.specs.LaidOut.{IsTableStream};
 ghost use Rattle.metadata.specs.Metadata.{Metadata};
 ghost use Rattle.metadata.specs.Model.{IsModel};
 ghost use Rattle.reading.specs.KnownStarts.{AreKnown};
+ghost use Rattle.checks.specs.Budgets.{AnswersWithin};
 ghost use Rattle.checks.specs.Orders.{TellsOrder};
+ghost use Rattle.opening.specs.Within.{TellsFirst, signature_bytes_in};
 ghost use Rattle.opening.specs.Views.{HasModel, AreFound};
 ghost use Rattle.metadata.specs.Placed.{tables_in, tables_place, placed_at, source_of};
 ghost use Rattle.metadata.specs.Demands.{demands_of_tables, demands_of_metadata};
 
 use crate::found::Found;
 use crate::view::View;
-use checks::{Checked, check_tables};
+use checks::{BoundedError, Budget, Checked, check_tables_within};
 use heaps::Strings;
 use metadata::roots_have_models;
 use packed::Fault;
@@ -133,17 +135,18 @@ fn read_parts<'a>(
 }
 
 /// The parts of a root that begins at a place and meets all demands, and what was found of its tables, by
-/// its directory; else the first demand that it does not meet.
+/// its directory; else the first demand that it does not meet, or that the budget was spent.
 fn check_root<'a>(
     root: &[u8],
     directory: &Root<'a>,
     place: usize,
-) -> Result<(Parts<'a>, Checked), Fault>
+    budget: Budget,
+) -> Result<(Parts<'a>, Checked), BoundedError>
     requires place { place ≤ 2 ^ 30 }
     requires directory { directory.now ≡ directory_of root.now }
     requires small { length root.now ≤ 2 ^ 30 }
     requires held { AllHold (raised place (demands_of_root root.now)) }
-    ensures answers { Answers (demands_of_metadata place root.now) result }
+    ensures answers { AnswersWithin budget (signature_bytes_in root.now) (demands_of_metadata place root.now) result }
     ensures source { IfOk result (λ checked. checked.0.source ≡ placed_at place root.now) }
     ensures version { IfOk result (λ checked. checked.0.version.now ≡ (directory_of root.now).version) }
     ensures user { IfOk result (λ checked. checked.0.user.now ≡ stream_in root.now (directory_of root.now).headers UserStrings) }
@@ -151,23 +154,38 @@ fn check_root<'a>(
     ensures known { IfOk result (λ checked. AreKnown checked.0.source.source checked.1.known) }
 {
     let parts = read_parts(root, directory, place, None)?;
-    let found = check_tables(&parts.source)?;
+    let found = check_tables_within(&parts.source, budget)?;
     Ok((parts, found))
 }
 
-/// The view of a root that begins at a place, by its directory; else the first demand that it does not meet.
+/// The view of a root that begins at a place, by its directory; else the first demand that it does not meet,
+/// or that the budget was spent.
 #[tactic(auto, unfolding(crate::specs::Views::user_of))]
-pub fn open_at<'a>(root: &'a [u8], directory: &Root<'a>, place: usize) -> Result<View<'a>, Fault>
+pub fn open_at<'a>(
+    root: &'a [u8],
+    directory: &Root<'a>,
+    place: usize,
+    budget: Budget,
+) -> Result<View<'a>, BoundedError>
     requires place { place ≤ 2 ^ 30 }
     requires directory { directory.now ≡ directory_of root.now }
     requires small { length root.now ≤ 2 ^ 30 }
     requires held { AllHold (raised place (demands_of_root root.now)) }
-    ensures answers { Answers (demands_of_metadata place root.now) result }
+    ensures answers { AnswersWithin budget (signature_bytes_in root.now) (demands_of_metadata place root.now) result }
     ensures view { IfOk result (λ view. view ≡ root.now) }
 {
     roots_have_models();
-    let (parts, found) = check_root(root, directory, place)?;
+    let (parts, found) = check_root(root, directory, place, budget)?;
     Ok(View::new(root, parts.source, parts.version, parts.user, found))
+}
+
+/// The view of a root on its own; else the first demand that it does not meet, or that the budget was spent.
+fn check_whole_within(root: &[u8], budget: Budget) -> Result<View<'_>, BoundedError>
+    ensures answers { AnswersWithin budget (signature_bytes_in root.now) (demands_of_metadata 0 root.now) result }
+    ensures view { IfOk result (λ view. view ≡ root.now) }
+{
+    let directory = read_directory(root, 0)?;
+    open_at(root, &directory, 0, budget)
 }
 
 /// The view of a root on its own; else the first demand that it does not meet.
@@ -175,8 +193,11 @@ fn check_whole(root: &[u8]) -> Result<View<'_>, Fault>
     ensures answers { Answers (demands_of_metadata 0 root.now) result }
     ensures view { IfOk result (λ view. view ≡ root.now) }
 {
-    let directory = read_directory(root, 0)?;
-    open_at(root, &directory, 0)
+    match check_whole_within(root, Budget::Unbounded) {
+        Ok(view) => Ok(view),
+        Err(BoundedError::Fault(fault)) => Err(fault),
+        Err(BoundedError::BudgetSpent) => unreachable!(),
+    }
 }
 
 /// Opens the metadata root that these bytes are (II.24.2), in place.
@@ -184,7 +205,7 @@ fn check_whole(root: &[u8]) -> Result<View<'_>, Fault>
 /// Every demand on its directory, its tables, its heaps and its signatures is checked, and it is opened
 /// exactly where it meets them all: then it has one model, and the view shows it. It takes no memory. The
 /// cost is that of the bytes where texts and blobs stand apart; where they overlap, it can grow with the
-/// square of the bytes.
+/// square of the bytes, which [`open_root_within`] bounds for blobs.
 ///
 /// # Errors
 ///
@@ -201,6 +222,33 @@ pub fn open_root(root: &[u8]) -> Result<View<'_>, Fault>
 {
     roots_have_models();
     check_whole(root)
+}
+
+/// Opens the metadata root that these bytes are as [`open_root`] does, within a budget: how many bytes of the
+/// blobs of signatures may be walked at most.
+///
+/// A blob counts its length each time that it is walked; a blob that was accepted of late is not walked again.
+/// The walk of one row that follows where a signature is at fault, by which the fault is found, is not counted.
+///
+/// # Errors
+///
+/// The fault of the first demand that fails, with its place in the root. `BudgetSpent` where more bytes were to be
+/// walked than the budget allows. It is told only where the lengths of the signature blobs of all rows, by table,
+/// column and row, add up to more than the budget: where they do not, the answer is that of [`open_root`].
+pub fn open_root_within(root: &[u8], budget: u64) -> Result<View<'_>, BoundedError>
+    // What is opened is the root, and it has a model.
+    ensures found { IfOk result (λ view. (view ≡ root.now) × HasModel root.now) }
+    // A root that has a model is opened, where the budget allows all bytes of its signature blobs.
+    ensures only { (model : Metadata) → IsModel root.now model → signature_bytes_in root.now ≤ budget → IsOk result }
+    // It has one model at most.
+    ensures one { (model other : Metadata) → IsModel root.now model → IsModel root.now other → model ≡ other }
+    // A fault is that of the first demand that fails.
+    ensures first { IfErr result (TellsFirst (demands_of_metadata 0 root.now)) }
+    // The budget is told spent only where it does not allow all bytes of the signature blobs.
+    ensures spent { IsErrOf result BoundedError.BudgetSpent → budget < signature_bytes_in root.now }
+{
+    roots_have_models();
+    check_whole_within(root, Budget::Left(budget))
 }
 
 /// The parts of a root on its own, by what was found of it before; else the first demand on its directory and

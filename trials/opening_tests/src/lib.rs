@@ -29,3 +29,5 @@ mod samples;
 mod shown;
 #[cfg(test)]
 mod spellings;
+#[cfg(test)]
+mod within;

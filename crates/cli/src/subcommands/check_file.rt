@@ -2,13 +2,16 @@
 ghost use Rattle.std.specs.Prelude.{◌≡◌, IfOk, IfErr, OnOk, false};
 ghost use Rattle.clap.specs.Words.{app_of};
 ghost use Rattle.clap.specs.declared.Command.TheViews.{out-Command as fields_of};
-ghost use Rattle.cli.specs.Checked.{IsWhole, demands_of};
+ghost use Rattle.cli.specs.Checked.{IsWhole, demands_of, signature_bytes_of};
 ghost use Rattle.cli.specs.CommandLine as line;
+ghost use Rattle.cli.specs.Stops.{StopsWithin};
 ghost use Rattle.cli.specs.Tasks.{TellsFault};
 
-use crate::opened::open;
+use crate::opened::{open, open_within};
+use crate::stop::Stop;
 use crate::subcommands::reader;
-use clap::Command;
+use clap::{Arg, ArgAction, Command, value_parser};
+use opening::BoundedError;
 use printed_faults::{Failure, printed};
 use std::alloc::{AllocError, Global};
 use std::io;
@@ -19,12 +22,19 @@ pub(crate) fn command<'a>(alloc: Global) -> Result<Command<'a>, AllocError>
     ensures app { IfOk result (λ command. app_of command ≡ line.check) }
     ensures local { IfOk result (λ command. (fields_of command).has_globals ≡ false) }
 {
+    let budget = Arg::new(alloc, "budget")
+        .long("budget")
+        .value_name("N")
+        .value_parser(value_parser!(u64))
+        .action(ArgAction::Set)
+        .help("Walk at most N bytes of signatures, or stop with status 3");
     reader(
         alloc,
         "check",
         "Tells whether a file keeps the rules of ECMA-335, II.22 to II.25, that docs/FAULTS.md lists",
         OUTPUT,
-    )
+    )?
+    .arg(budget)
 }
 
 const OUTPUT: &str = "\
@@ -39,6 +49,9 @@ standard error. OFFSET counts in FILE. LAYER is, with the sections whose rules a
   7  a signature (II.23.2)
   8  the entry point (II.25.3.3)
 'clim explain CODE' tells what a fault means, and docs/FAULTS.md has all of them.
+
+Blobs of signatures may overlap, so that a FILE of some kilobytes can take long. With '--budget N' the line
+'error: budget spent' ends the check, with status 3, before it has walked more than N of their bytes.
 
 Examples:
   $ clim check one_module.dll
@@ -58,6 +71,24 @@ pub(crate) fn run<W: Write>(
 {
     open(bytes, bare)?;
     printed(print(alloc, out))
+}
+
+/// Prints `ok` where bytes break no rule, and so many bytes of signature blobs may be walked at most.
+pub(crate) fn run_within<W: Write>(
+    alloc: Global,
+    bytes: &[u8],
+    bare: bool,
+    budget: u64,
+    out: &mut W,
+) -> Result<(), Stop<'static>>
+    ensures found { OnOk result (IsWhole bare bytes.now) }
+    ensures first { IfErr result (StopsWithin budget (signature_bytes_of bare bytes.now) (demands_of bare bytes.now)) }
+{
+    match open_within(bytes, bare, budget) {
+        Ok(_) => Ok(printed(print(alloc, out))?),
+        Err(BoundedError::Fault(fault)) => Err(Stop::Failed(Failure::Fault(fault))),
+        Err(BoundedError::BudgetSpent) => Err(Stop::BudgetSpent),
+    }
 }
 
 fn print<W: Write>(alloc: Global, out: &mut W) -> io::Result<()> {

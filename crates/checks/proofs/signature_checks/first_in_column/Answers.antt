@@ -1,14 +1,30 @@
-use Rattle.std.proofs.Common.{rules, refl}
+use Rattle.std.proofs.Common.{rules, ℕ, Option, Some, None, IfSome, ◌∙◌, ap, sym, refl}
+use Rattle.schema.specs.declared.column.Column.{Column}
 use Rattle.schema.specs.declared.column.ColumnKind.TheVariants as kind
+use Rattle.checks.specs.Signatures.{column_bytes}
 use Rattle.checks.proofs.Columns.{passed_spells, none_asked}
+use Rattle.checks.proofs.Spending.{spends_any}
 use Rattle.checks.proofs.signature_checks.first_in_column.Goals as goal
+
+some_weaker : (P Q : ℕ → Type 0) (o : Option ℕ) → ((x : ℕ) → P x → Q x) → IfSome o P → IfSome o Q
+some_weaker P Q None weaker is = tt
+some_weaker P Q (Some x) weaker is = weaker x is
+
+pub first_misspelled-requires-clause-kind : goal.first_misspelled-requires-clause-kind
+first_misspelled-requires-clause-kind c = sym (ap (λ (held : Column). held.kind) c.column_at.ensures) ∙ c.in-Signature.is
 
 pub returns-in-Signature-clause-spells : goal.returns-in-Signature-clause-spells
 returns-in-Signature-clause-spells c =
-    passed_spells c.args.source.now c.args.table c.args.column _ c.column_at.result c.column_at.ensures _
-    (kind.Signature c.in-Signature.spelled) c.in-Signature.is c.first_misspelled.ensures.spelled (λ number passed. passed)
+    some_weaker _ _ c.first_misspelled.result
+    (λ row spelled. passed_spells c.args.source.now c.args.table c.args.column row c.column_at.result c.column_at.ensures _
+    (kind.Signature c.in-Signature.spelled) c.in-Signature.is spelled (λ number passed. passed))
+    c.first_misspelled.ensures.spelled
 
 pub returns-in_default-clause-spells : goal.returns-in_default-clause-spells
 returns-in_default-clause-spells c =
     passed_spells c.args.source.now c.args.table c.args.column _ c.column_at.result c.column_at.ensures _
     c.column_at.result.kind refl (none_asked c.args.source.now c.args.table c.args.column c.args.limit) (λ number passed place. search rules)
+
+pub returns-in_default-clause-spends : goal.returns-in_default-clause-spends
+returns-in_default-clause-spends c =
+    spends_any c.args.budget.now (column_bytes c.args.source.now.source c.args.table c.args.column)

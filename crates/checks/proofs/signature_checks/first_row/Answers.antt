@@ -1,18 +1,45 @@
 use Rattle.std.proofs.Common.{List, length, ap, arith}
 use Rattle.schema.specs.declared.column.Column.{Column}
+use Rattle.schema.specs.Columns.{columns_of}
 use Rattle.metadata.specs.Demands.{demands_of_signature}
+use Rattle.checks.specs.Signatures.{column_bytes, table_bytes}
 use Rattle.checks.proofs.Columns.{meets_more, rows_spell}
+use Rattle.checks.proofs.Spending.{part_spent, part_below, parts_spent, parts_none}
 use Rattle.checks.proofs.signature_checks.first_row.Goals as goal
+
+pub loop-column-init : goal.loop-column-init
+loop-column-init c = record {
+  first = omega arith;
+  last = omega (arith, c.count-limit.ensures.value);
+  spell = λ column low. absurd (omega arith);
+  spends = parts_none (column_bytes c.args.source.now.source c.args.table) c.args.budget.now;
+}
 
 pub loop-column-preserved : goal.loop-column-preserved
 loop-column-preserved c = record {
-  first = c.first_in_column-limit.ensures.first;
-  last = omega (arith, c.first_in_column-limit.ensures.last, c.loop-column.invariant.last);
-  spell = meets_more (demands_of_signature c.args.source.now c.args.table) c.loop-column.limit c.first_in_column-limit.result c.loop-column.column
-      c.first_in_column-limit.ensures.last c.loop-column.invariant.spell c.first_in_column-limit.ensures.spells;
+  first = c.in_ok-limit.ensures.found.0;
+  last = omega (arith, c.in_ok-limit.ensures.found.1, c.loop-column.invariant.last);
+  spell = meets_more (demands_of_signature c.args.source.now c.args.table) c.loop-column.limit c.in_ok-limit.limit c.loop-column.column
+      c.in_ok-limit.ensures.found.1 c.loop-column.invariant.spell c.in_ok-limit.ensures.spells;
+  spends = part_spent (column_bytes c.args.source.now.source c.args.table) c.loop-column.column c.args.budget.now c.loop-column.budget c.first_in_column.new.budget
+      c.loop-column.invariant.spends c.in_ok-limit.ensures.spends;
 }
+
+pub returns-in_err-limit-clause-spent : goal.returns-in_err-limit-clause-spent
+unfolding table_bytes
+returns-in_err-limit-clause-spent c =
+    let long = ap (λ (l : List Column). length l) c.columns-column-end.ensures in
+    rw c.from_residual.ensures (part_below (column_bytes c.args.source.now.source c.args.table) c.loop-column.column (length (columns_of c.args.table))
+    c.args.budget.now c.loop-column.budget (omega arith) c.loop-column.invariant.spends c.in_err-limit.ensures.spent)
 
 pub returns-clause-before : goal.returns-clause-before
 returns-clause-before c =
     let long = ap (λ (l : List Column). length l) c.columns-column-end.ensures in
     rows_spell c.args.source.now c.args.table c.loop-column.limit c.loop-column.column (omega arith) c.loop-column.invariant.spell
+
+pub returns-clause-spends : goal.returns-clause-spends
+unfolding table_bytes
+returns-clause-spends c =
+    let long = ap (λ (l : List Column). length l) c.columns-column-end.ensures in
+    parts_spent (column_bytes c.args.source.now.source c.args.table) c.loop-column.column (length (columns_of c.args.table))
+    c.args.budget.now c.loop-column.budget (omega arith) c.loop-column.invariant.spends

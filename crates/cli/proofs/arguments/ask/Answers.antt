@@ -3,13 +3,15 @@ use Rattle.std.specs.Prelude.{IsSome}
 use Rattle.clap.proofs.OnLiterals.{clap_on_literals}
 use Rattle.clap.proofs.WalkLemmas.{first_value-rows, one_text-rows}
 use Rattle.std.proofs.lemmas.Result.{err_from_is_err_and}
+use Rattle.std.specs.declared.num.ParseIntError.{ParseIntError}
+use Rattle.std.specs.Str.Parse.{ExplainsUnsignedError, HasUnsignedDigitsIfOk, ParsesUnsigned}
 use Rattle.clap.specs.declared.error.Error.{Error}
 use Rattle.clap.specs.Words.{App, HasKind, HasMatchesOf, Row, Text, fault_of, first_of, found_of, is_simple, is_simple_and_free, one_of, rows_of, subcommand_name_of, subcommand_of, subcommand_rows_of}
 use Rattle.clap.specs.declared.ArgMatches.{ArgMatches}
 use Rattle.cli.specs.CommandLine.{clim}
 use Rattle.cli.specs.Asked.{name_of}
 use Rattle.cli.proofs.ValuesGiven.{AllThere, file_first, has_values, is_known, rewrite_takes, token_takes, values_in}
-use Rattle.cli.proofs.Readings.{named_back, rows_met, flag_is, some_mapped}
+use Rattle.cli.proofs.Readings.{count_is, named_back, rows_met, flag_is, some_mapped}
 use Rattle.cli.proofs.arguments.ask.Goals as goal
 
 clim_is_simple : is_simple clim ≡ true
@@ -70,6 +72,10 @@ returns-clause-given c =
           (λ t is. c.get_one.ensures.value t (one_text-rows found (codes "bare") ∙ is));
       file = c.get_str.ensures ∙ first_value-rows found (codes "FILE");
       second = c.get_str-2.ensures ∙ first_value-rows found (codes "second");
+      budget = count_is ParseIntError
+          (λ t r. ParsesUnsigned 64 10 t r × ExplainsUnsignedError 10 t r × HasUnsignedDigitsIfOk t r) (λ t r gives. gives.0) (one_of (codes "budget") rows) c.get_one-2.result
+          (λ none. c.get_one-2.ensures.none (one_text-rows found (codes "budget") ∙ none))
+          (λ t is. c.get_one-2.ensures.value t (one_text-rows found (codes "budget") ∙ is));
       code = c.get_str-3.ensures ∙ first_value-rows found (codes "CODE");
     }
 

@@ -1,8 +1,11 @@
-use Rattle.cli.proofs.TaskFiles.{file_there, report_is, rewriting_is}
+use Rattle.cli.proofs.TaskFiles.{check_is, file_there, report_is, rewriting_is}
 use Rattle.cli.proofs.program.run.Goals as goal
 
 pub unwrap-requires : goal.unwrap-requires
 unwrap-requires g c = file_there c.args.ask c.in_ok-task.task (report_is c.in_ok-task.task c.in-Print.report c.in-Print.is) c.requires.file c.in_ok-task.ensures
+
+pub unwrap-requires-in-CheckWithin : goal.unwrap-requires-in-CheckWithin
+unwrap-requires-in-CheckWithin g c = file_there c.args.ask c.in_ok-task.task (check_is c.in_ok-task.task c.in-CheckWithin.budget c.in-CheckWithin.is) c.requires.file c.in_ok-task.ensures
 
 pub unwrap-requires-in-Rewrite : goal.unwrap-requires-in-Rewrite
 unwrap-requires-in-Rewrite g c = file_there c.args.ask c.in_ok-task.task (rewriting_is c.in_ok-task.task c.in-Rewrite.path c.in-Rewrite.is) c.requires.file c.in_ok-task.ensures

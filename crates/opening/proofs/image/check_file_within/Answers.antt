@@ -4,15 +4,17 @@ use Rattle.packed.specs.Demand.{AllHold, FirstToFail}
 use Rattle.root.specs.Directory.{directory_of}
 use Rattle.metadata.specs.Placed.{source_of}
 use Rattle.metadata.specs.Demands.{demands_of_metadata, demands_of_entry_point}
-use Rattle.opening.proofs.Files.{heads_fail, heads_image, heads_fields, heads_root, metadata_fails, entry_fails, file_holds}
-use Rattle.opening.proofs.image.check_file.Goals as goal
+use Rattle.checks.specs.Budgets.{FailsWithin}
+use Rattle.opening.specs.Within.{signature_bytes_in}
+use Rattle.opening.proofs.Files.{heads_fail, heads_image, heads_fields, heads_root, metadata_fails_within, entry_fails, file_holds}
+use Rattle.opening.proofs.image.check_file_within.Goals as goal
 
 pub returns-in_err-view-clause-answers : goal.returns-in_err-view-clause-answers
 returns-in_err-view-clause-answers c =
     let p = err_from_is_err_and c.from_residual-in_err-view.result c.from_residual-in_err-view.ensures.1 in
     let header = c.in_ok-heads.heads.header in
-    let first = subst (λ (root : List ℕ). FirstToFail (demands_of_metadata header.root.start root) c.in_err-view.field-0.0) c.root_of-root.ensures c.in_err-view.ensures.answers in
-    rw (p.1, p.2) (metadata_fails c.args.file.now header c.in_ok-heads.ensures.header (heads_image c.args.file.now c.in_ok-heads.ensures.answers) (heads_fields c.args.file.now c.in_ok-heads.ensures.answers) c.in_err-view.field-0.0 first)
+    let told = subst (λ (root : List ℕ). FailsWithin c.args.budget (signature_bytes_in root) (demands_of_metadata header.root.start root) c.in_err-view.field-0.0) c.root_of-root.ensures c.in_err-view.ensures.answers in
+    rw (p.1, p.2) (metadata_fails_within c.args.file.now header c.in_ok-heads.ensures.header (heads_image c.args.file.now c.in_ok-heads.ensures.answers) (heads_fields c.args.file.now c.in_ok-heads.ensures.answers) c.args.budget c.in_err-view.field-0.0 told)
 
 pub returns-in_err-check_entry_point-clause-answers : goal.returns-in_err-check_entry_point-clause-answers
 returns-in_err-check_entry_point-clause-answers c =

@@ -1,0 +1,73 @@
+-- What is spent of a budget, bit by bit.
+use Rattle.std.proofs.Common.{◌≡◌, ℕ, ◌+◌, ◌-◌, ◌<◌, ◌≤◌, refl, subst, arith}
+use Rattle.checks.specs.declared.budget.Budget.{Budget}
+use Rattle.checks.specs.declared.budget.Budget.TheVariants.{Unbounded, Left}
+use Rattle.checks.specs.Budgets.{IsBelow, Spends}
+use Rattle.checks.specs.Signatures.{sum_below}
+use Rattle.checks.proofs.Sums.{sum_none, sum_more, sum_fewer, sum_step}
+
+spends_none : (budget : Budget) → Spends budget budget 0
+spends_none Unbounded = refl
+spends_none (Left left) = omega arith
+
+spends_more : (a b c : Budget) (m n : ℕ) → Spends a b m → Spends b c n → Spends a c (m + n)
+spends_more Unbounded Unbounded c m n before here = here
+spends_more Unbounded (Left l) c m n before here = cc
+spends_more (Left k) Unbounded c m n before here = absurd before
+spends_more (Left k) (Left l) Unbounded m n before here = here
+spends_more (Left k) (Left l) (Left j) m n before here = omega arith
+
+spends_within : (a b : Budget) (m n : ℕ) → m ≤ n → Spends a b m → Spends a b n
+spends_within Unbounded b m n more spent = spent
+spends_within (Left k) Unbounded m n more spent = spent
+spends_within (Left k) (Left l) m n more spent = omega arith
+
+below_more : (a b : Budget) (m n : ℕ) → Spends a b m → IsBelow b n → IsBelow a (m + n)
+below_more Unbounded Unbounded m n before below = below
+below_more Unbounded (Left l) m n before below = cc
+below_more (Left k) Unbounded m n before below = absurd before
+below_more (Left k) (Left l) m n before below = omega arith
+
+below_within : (a : Budget) (m n : ℕ) → m ≤ n → IsBelow a m → IsBelow a n
+below_within Unbounded m n more below = below
+below_within (Left k) m n more below = omega arith
+
+-- what is spent over rows, of which each has so many bytes
+module _ (f : ℕ → ℕ) (row count : ℕ) (first : 1 ≤ row) (last : row ≤ count) (a b : Budget) (spent : Spends a b (sum_below f (row - 1))) where
+  step : sum_below f (row - 1) + f (row - 1) ≤ sum_below f count
+  step = sum_step f (row - 1) count (omega arith)
+
+  -- the row is walked, or not, or its bytes are not left
+  pub row_walked : (c : Budget) (bytes : ℕ) → f (row - 1) ≡ bytes → Spends b c bytes → Spends a c (sum_below f (row + 1 - 1))
+  row_walked c bytes is here =
+      let next : row - 1 + 1 ≡ row + 1 - 1 = omega arith in
+      let P : ℕ → Type 0 = λ n. Spends a c (sum_below f n) in
+      subst P next (rw sum_more (spends_more a b c (sum_below f (row - 1)) (f (row - 1)) spent (rw is here)))
+
+  pub row_spared : Spends a b (sum_below f (row + 1 - 1))
+  row_spared = spends_within a b (sum_below f (row - 1)) (sum_below f (row + 1 - 1)) (sum_fewer f (row - 1) (row + 1 - 1) (omega arith)) spent
+
+  pub row_refused : IsBelow b (f (row - 1)) → IsBelow a (sum_below f count)
+  row_refused below = below_within a (sum_below f (row - 1) + f (row - 1)) (sum_below f count) step (below_more a b (sum_below f (row - 1)) (f (row - 1)) spent below)
+
+-- nothing is spent over no parts
+pub parts_none : (f : ℕ → ℕ) (budget : Budget) → Spends budget budget (sum_below f 0)
+parts_none f budget = rw sum_none (spends_none budget)
+
+-- what is spent over some parts is spent over all
+pub parts_spent : (f : ℕ → ℕ) (few count : ℕ) (a b : Budget) → few ≤ count → Spends a b (sum_below f few) → Spends a b (sum_below f count)
+parts_spent f few count a b fewer spent = spends_within a b (sum_below f few) (sum_below f count) (sum_fewer f few count fewer) spent
+
+-- one part more is spent
+pub part_spent : (f : ℕ → ℕ) (k : ℕ) (a b c : Budget) → Spends a b (sum_below f k) → Spends b c (f k) → Spends a c (sum_below f (k + 1))
+part_spent f k a b c before here = rw sum_more (spends_more a b c (sum_below f k) (f k) before here)
+
+-- the budget is below all parts where what is left is below the next
+pub part_below : (f : ℕ → ℕ) (k count : ℕ) (a b : Budget) → k < count → Spends a b (sum_below f k) → IsBelow b (f k) → IsBelow a (sum_below f count)
+part_below f k count a b below spent here =
+    below_within a (sum_below f k + f k) (sum_below f count) (sum_step f k count below) (below_more a b (sum_below f k) (f k) spent here)
+
+-- where nothing is spent, any bytes are enough
+pub spends_any : (budget : Budget) (bytes : ℕ) → Spends budget budget bytes
+spends_any Unbounded bytes = refl
+spends_any (Left left) bytes = omega arith

@@ -1,0 +1,67 @@
+-- Sums of the numbers below one, and how long blobs are.
+use Rattle.std.proofs.Common.{◌≡◌, ℕ, zero, suc, ◌+◌, ◌-◌, ◌<◌, ◌≤◌, List, ◌++◌, length, drop, Some, inl, inr, refl, subst, sym, ap, ◌∙◌, true, add-one, arith}
+use Rattle.std.specs.Prelude.{nat_le}
+use Rattle.std.proofs.lemmas.Bool.{cases_eq}
+use Rattle.std.proofs.lemmas.Bool.Decides.{nat_tests}
+use Rattle.std.proofs.lemmas.List.{length-append}
+use Rattle.std.proofs.Math.Seq.{drop-append_seam}
+use Rattle.packed.specs.Front.{unsigned_at}
+use Rattle.packed.specs.Packed.{IsPacked}
+use Rattle.heaps.specs.Entries.{IsBlob, IsCounted}
+use Rattle.schema.specs.declared.table.TableId.{TableId}
+use Rattle.schema.specs.declared.column.SigKind.{SigKind}
+use Rattle.schema.specs.declared.column.ColumnKind.TheVariants as kind
+use Rattle.schema.specs.Columns.{column_at}
+use Rattle.metadata.specs.Source.{Source, number_of}
+use Rattle.checks.specs.Signatures.{sum_below, counted_length, blob_length, cell_bytes}
+
+pub sum_none : (f : ℕ → ℕ) → sum_below f 0 ≡ 0
+unfolding sum_below
+sum_none f = refl
+
+pub sum_more : (f : ℕ → ℕ) (n : ℕ) → sum_below f (n + 1) ≡ sum_below f n + f n
+unfolding sum_below
+sum_more f n = rw add-one refl
+
+-- the sum of fewer numbers is no greater
+pub sum_fewer : (f : ℕ → ℕ) (m n : ℕ) → m ≤ n → sum_below f m ≤ sum_below f n
+unfolding sum_below
+sum_fewer f zero zero few = omega arith
+sum_fewer f (suc m) zero few = absurd (omega arith)
+sum_fewer f m (suc n) few = elim (cases_eq m (suc n)) [
+  | inl same ↦ (let P : ℕ → Type 0 = λ k. sum_below f k ≤ sum_below f (suc n) in subst P (sym same) (omega arith))
+  | inr other ↦ (let fewer : sum_below f m ≤ sum_below f n = sum_fewer f m n (omega arith) in omega arith)
+]
+
+-- a number that is one of those that are added
+pub sum_step : (f : ℕ → ℕ) (k n : ℕ) → k < n → sum_below f k + f k ≤ sum_below f n
+sum_step f k n below = omega (arith, sum_fewer f (k + 1) n (omega arith), sum_more f k)
+
+module _ (read : (n : ℕ) (front rest : List ℕ) → IsPacked n front → unsigned_at (front ++ rest) ≡ Some (n, length front)) where
+  -- bytes behind their number are as many as it says
+  counted_is : (count bytes after : List ℕ) → IsPacked (length bytes) count → counted_length (count ++ (bytes ++ after)) ≡ length bytes
+  unfolding counted_length
+  counted_is count bytes after packed =
+      let all : length (count ++ (bytes ++ after)) ≡ length count + (length bytes + length after) = simp length-append in
+      let fits : nat_le (length count + length bytes) (length (count ++ (bytes ++ after))) ≡ true = grind (arith, nat_tests, all) in
+      rw (read (length bytes) count (bytes ++ after) packed, fits) refl
+
+  -- the blob of an index has as many bytes as are counted of it
+  pub blob_is : (heap : List ℕ) (index : ℕ) (blob : List ℕ) → IsBlob heap index blob → blob_length heap index ≡ length blob
+  blob_is heap index blob (inl none) = rw (none.0, none.1) refl
+  blob_is heap zero blob (inr some) = absurd (omega (arith, some.0))
+  blob_is heap (suc k) blob (inr some) =
+      let at : IsCounted heap (suc k) blob = some.1 in
+      let behind : drop (suc k) heap ≡ at.count ++ (blob ++ at.after) =
+      ap (λ n. drop n heap) (sym at.at) ∙ ap (λ (h : List ℕ). drop (length at.before) h) at.whole
+      ∙ drop-append_seam at.before (at.count ++ (blob ++ at.after)) in
+      ap counted_length behind ∙ counted_is at.count blob at.after at.counts
+
+-- a cell of signatures has as many bytes as the blob of its number
+pub cell_is : ((n : ℕ) (front rest : List ℕ) → IsPacked n front → unsigned_at (front ++ rest) ≡ Some (n, length front))
+    → (source : Source) (table : TableId) (column row number : ℕ) (spelled : SigKind) (blob : List ℕ) → 1 ≤ row → (column_at table column).kind ≡ kind.Signature spelled
+    → number ≡ number_of source table row column → IsBlob source.blobs number blob → cell_bytes source table column (row - 1) ≡ length blob
+unfolding cell_bytes
+cell_is read source table column row number spelled blob first of_kind is_number at =
+    let again : row - 1 + 1 ≡ row = omega arith in
+    rw (of_kind, again, ← is_number) (blob_is read source.blobs number blob at)

@@ -1,0 +1,23 @@
+-- What is answered within a budget, part by part.
+use Rattle.std.proofs.Common.{ℕ, ◌<◌, List, ◌++◌, arith}
+use Rattle.packed.specs.declared.fault.Fault.{Fault as First}
+use Rattle.packed.specs.Demand.{Demand, AllHold, HoldBefore, demands_from}
+use Rattle.packed.proofs.DemandLemmas.{before_fails, fails_back}
+use Rattle.checks.specs.declared.budget.Budget.{Budget}
+use Rattle.checks.specs.declared.budget.BoundedError.{BoundedError}
+use Rattle.checks.specs.declared.budget.BoundedError.TheVariants.{Fault, BudgetSpent}
+use Rattle.checks.specs.Budgets.{FailsWithin, Spends}
+use Rattle.checks.specs.Signatures.{sum_below}
+use Rattle.checks.proofs.Spending.{part_below}
+
+-- parts before which all holds fail as the next of them does
+pub parts_fail : (demands : ℕ → List (Demand First)) (bytes : ℕ → ℕ) (k n : ℕ) (a b : Budget) (error : BoundedError) → HoldBefore demands 0 k → k < n
+    → Spends a b (sum_below bytes k) → FailsWithin b (bytes k) (demands k) error → FailsWithin a (sum_below bytes n) (demands_from demands 0 n) error
+parts_fail demands bytes k n a b (Fault found) hold below spent fails = before_fails demands 0 k n found hold (omega arith) (omega arith) fails
+parts_fail demands bytes k n a b BudgetSpent hold below spent fails = part_below bytes k n a b below spent fails
+
+-- behind demands that hold, the answer is that of the rest
+pub rest_fails : (a : Budget) (n : ℕ) (ds es : List (Demand First)) (error : BoundedError) → AllHold ds → FailsWithin a n es error
+    → FailsWithin a n (ds ++ es) error
+rest_fails a n ds es (Fault found) all fails = fails_back ds es found all fails
+rest_fails a n ds es BudgetSpent all below = below

@@ -1,0 +1,46 @@
+-- How many bytes the blobs of all signatures of a root have (ECMA-335 II.22 and II.24.2.4), each cell counted for itself.
+use Rattle.std.specs.Prelude.{ℕ, zero, suc, ◌+◌, List, length, drop, nat_le, if◌then◌else◌}
+use Rattle.std.specs.Option.{option_map_or}
+use Rattle.packed.specs.Front.{unsigned_at}
+use Rattle.schema.specs.declared.table.TableId.{TableId}
+use Rattle.schema.specs.declared.column.ColumnKind.{ColumnKind}
+use Rattle.schema.specs.declared.column.ColumnKind.TheVariants as kind
+use Rattle.schema.specs.Columns.{columns_of, column_at}
+use Rattle.metadata.specs.Source.{Source, rows_in, number_of}
+use Rattle.metadata.specs.Rows.{table_at}
+
+-- the number at the front of bytes, where as many bytes stand behind it, and else 0
+unfoldable pub counted_length : List ℕ → ℕ
+counted_length bytes = option_map_or (λ read. if nat_le (read.1 + read.0) (length bytes) then read.0 else 0) (unsigned_at bytes) 0
+
+-- how many bytes the blob of an index into `#Blob` has, and 0 where no blob stands there
+abbrev pub blob_length : List ℕ → ℕ → ℕ
+blob_length heap zero = 0
+blob_length heap (suc before) = counted_length (drop (suc before) heap)
+
+-- how many the blob of a number in a column of a kind has, if the column is of signatures
+abbrev pub spelling_length : Source → ColumnKind → ℕ → ℕ
+spelling_length source (kind.Signature column) number = blob_length source.blobs number
+spelling_length source _ number = 0
+
+-- the sum of f at the numbers below n
+unfoldable pub sum_below : (ℕ → ℕ) → ℕ → ℕ
+sum_below f zero = 0
+sum_below f (suc n) = sum_below f n + f n
+
+-- of a cell, by how many rows stand before it; of a column, over its rows; and of a table, over its columns
+unfoldable pub cell_bytes : Source → TableId → ℕ → ℕ → ℕ
+cell_bytes source table column before = spelling_length source (column_at table column).kind (number_of source table (before + 1) column)
+
+unfoldable pub column_bytes : Source → TableId → ℕ → ℕ
+column_bytes source table column = sum_below (cell_bytes source table column) (rows_in source table)
+
+unfoldable pub table_bytes : Source → TableId → ℕ
+table_bytes source table = sum_below (column_bytes source table) (length (columns_of table))
+
+unfoldable pub table_bytes_at : Source → ℕ → ℕ
+table_bytes_at source position = table_bytes source (table_at position)
+
+-- of all tables
+unfoldable pub signature_bytes : Source → ℕ
+signature_bytes source = sum_below (table_bytes_at source) 38

@@ -1,0 +1,40 @@
+use crate::runs::answer;
+use crate::samples::{TWO_TYPES, image, put};
+use std::fs;
+use std::test::Fail;
+
+/// Two fields share a blob of two bytes, which is walked once; that of the method has three.
+#[test]
+fn checks_within_a_budget(rt: HostRuntime) -> Result<(), Fail> {
+    fs::write(&rt, "budget.root", TWO_TYPES.as_slice())?;
+    for (budget, want) in [
+        ("0", (3, "", "error: budget spent\n")),
+        ("4", (3, "", "error: budget spent\n")),
+        ("5", (0, "ok\n", "")),
+        ("18446744073709551615", (0, "ok\n", "")),
+    ] {
+        let words = ["clim", "check", "--bare", "--budget", budget, "budget.root"];
+        let (status, out, err) = answer(&rt, &words)?;
+        assert_eq!(rt; (status, out.as_str(), err.as_str()), want, "within {budget}");
+    }
+    fs::remove_file(&rt, "budget.root")?;
+    Ok(())
+}
+
+/// A file without signatures needs no budget, and its first fault is told whatever that is.
+#[test]
+fn checks_a_file_within_no_budget(rt: HostRuntime) -> Result<(), Fail> {
+    let mut file = image(rt.alloc())?;
+    for (place, byte, want) in [
+        (0, b'M', (0, "ok\n", "")),
+        (0, b'N', (1, "", "fault 1 102 at 0: DosHeader\n")),
+    ] {
+        put(&mut file, place, &[byte]);
+        fs::write(&rt, "budget.dll", file.as_slice())?;
+        let words = ["clim", "check", "--budget=0", "budget.dll"];
+        let (status, out, err) = answer(&rt, &words)?;
+        assert_eq!(rt; (status, out.as_str(), err.as_str()), want);
+    }
+    fs::remove_file(&rt, "budget.dll")?;
+    Ok(())
+}
