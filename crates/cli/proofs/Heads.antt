@@ -12,9 +12,9 @@ use Rattle.cli_header.specs.Header.{IsCliHeader}
 use Rattle.cli_header.specs.Demands.{demands_of_cli_header}
 use Rattle.cli_header.specs.Said.{header_of}
 use Rattle.root.specs.Demands.{demands_of_root}
-use Rattle.root.specs.Directory.{directory_of}
+use Rattle.root.specs.Fields.{root_read}
 use Rattle.root.specs.Root.{IsRoot}
-use Rattle.root.specs.Streams.{Directory}
+use Rattle.root.specs.Streams.{RootRead}
 use Rattle.metadata.specs.Streams.{root_in}
 use Rattle.opening.specs.Heads.{demands_of_heads as demands_of_file_heads}
 use Rattle.cli.specs.Heads.{AreHeads, demands_of_heads}
@@ -59,15 +59,15 @@ module _ (file : List ℕ) (all : AllHold (demands_of_file_heads file)) where
       (all_back (demands_of_cli_header (image_of file)) (behind_header file) rest_holds)
 
 -- where all demands on the head of a file hold, its header and its root are those that are read
-pub heads_stand : (bare : Bool) (file : List ℕ) (header : CliHeader) (root : Directory) → bare ≡ false → AllHold (demands_of_file_heads file)
-    → header ≡ header_of (image_of file) → root ≡ directory_of (root_in file header)
+pub heads_stand : (bare : Bool) (file : List ℕ) (header : CliHeader) (root : RootRead) → bare ≡ false → AllHold (demands_of_file_heads file)
+    → header ≡ header_of (image_of file) → root ≡ root_read (root_in file header)
     → (AllHold (demands_of_image file) → IsImage file (image_of file))
     → (AllHold (demands_of_cli_header (image_of file)) → IsCliHeader (image_of file) (header_of (image_of file)))
-    → (AllHold (demands_of_root (root_in file header)) → (length (root_in file header) ≤ byte_limit) × IsRoot (root_in file header) (directory_of (root_in file header)).version (directory_of (root_in file header)).headers)
+    → (AllHold (demands_of_root (root_in file header)) → (length (root_in file header) ≤ byte_limit) × IsRoot (root_in file header) (root_read (root_in file header)).version (root_read (root_in file header)).headers)
     → AreHeads bare file (Some header) root
 heads_stand true file header root is all header_is root_is images headers roots = cc
 heads_stand false file header root is all header_is root_is images headers roots =
     let stands = (roots (subst (AllRootDemands file) (sym header_is) (root_holds file all))).1 in
-    let P : Directory → Type 0 = λ r. IsRoot (root_in file header) r.version r.headers in
+    let P : RootRead → Type 0 = λ r. IsRoot (root_in file header) r.version r.headers in
     let Q : CliHeader → Type 0 = λ h. IsCliHeader (image_of file) h in
     (image_of file, header, images (image_holds file all), subst Q (sym header_is) (headers (header_holds file all)), refl, subst P (sym root_is) stands)

@@ -7,21 +7,21 @@ use Rattle.pe.specs.Image.{Image, IsImage}
 use Rattle.cli_header.specs.declared.header.CliHeader.{CliHeader}
 use Rattle.cli_header.specs.Header.{IsCliHeader}
 use Rattle.root.specs.Root.{IsRoot}
-use Rattle.root.specs.Streams.{Directory}
+use Rattle.root.specs.Streams.{RootRead}
 use Rattle.root.specs.Demands.{demands_of_root}
 use Rattle.metadata.specs.Streams.{root_in}
 use Rattle.opening.specs.Heads.{demands_of_heads as demands_of_file_heads}
 
 -- the bytes are a metadata root with this directory, where they are bare, and else an image with this CLI header, whose
 -- root has this directory
-abbrev pub AreHeads : Bool → List ℕ → Option CliHeader → Directory → Type 0
+abbrev pub AreHeads : Bool → List ℕ → Option CliHeader → RootRead → Type 0
 AreHeads true bytes header root = (header ≡ None) × IsRoot bytes root.version root.headers
 AreHeads false bytes header root =
     (image : Image) × (found : CliHeader) × IsImage bytes image × IsCliHeader image found × (header ≡ Some found)
     × IsRoot (root_in bytes found) root.version root.headers
 
 abbrev pub HasHeads : Bool → List ℕ → Type 0
-HasHeads bare bytes = (header : Option CliHeader) × (root : Directory) × AreHeads bare bytes header root
+HasHeads bare bytes = (header : Option CliHeader) × (root : RootRead) × AreHeads bare bytes header root
 
 -- what is demanded of them, in order: of a file its image, its CLI header and its root
 unfoldable pub demands_of_heads : Bool → List ℕ → List (Demand Fault)

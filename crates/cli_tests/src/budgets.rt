@@ -15,7 +15,11 @@ fn checks_within_a_budget(rt: HostRuntime) -> Result<(), Fail> {
     ] {
         let words = ["clim", "check", "--bare", "--budget", budget, "budget.root"];
         let (status, out, err) = answer(&rt, &words)?;
-        assert_eq!(rt; (status, out.as_str(), err.as_str()), want, "within {budget}");
+        assert_eq!(rt;
+            (status, out.as_str(), err.as_str()),
+            want,
+            "within {budget}"
+        );
     }
     fs::remove_file(&rt, "budget.root")?;
     Ok(())

@@ -31,10 +31,7 @@ const REFUSED: [(&[&str], &str); 31] = [
         &["clim", "check", "--budget", "few", "lacks"],
         "invalid value 'few' for '--budget <N>'",
     ),
-    (
-        &["clim", "check", "--budget=", "lacks"],
-        "'--budget <N>'",
-    ),
+    (&["clim", "check", "--budget=", "lacks"], "'--budget <N>'"),
     (
         &["clim", "check", "--budget", "18446744073709551616", "lacks"],
         "invalid value '18446744073709551616' for '--budget <N>'",

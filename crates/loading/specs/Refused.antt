@@ -4,7 +4,7 @@ use Rattle.packed.specs.declared.fault.Fault.{Fault}
 use Rattle.packed.specs.Demand.{Demand, FirstToFail}
 use Rattle.cli_header.specs.declared.header.CliHeader.{CliHeader}
 use Rattle.metadata.specs.Metadata.{Metadata}
-use Rattle.metadata.specs.Model.{IsImage}
+use Rattle.metadata.specs.Model.{IsModelOfFile}
 use Rattle.loading.specs.declared.error.LoadError.{LoadError}
 use Rattle.loading.specs.declared.error.LoadError.TheVariants as load
 
@@ -15,4 +15,4 @@ IsRefused demands fits load.Memory = fits
 
 -- some CLI header and some model fit a file
 abbrev pub HasHeaderAndModel : List ℕ → Type 0
-HasHeaderAndModel file = ∥ ((header : CliHeader) × (model : Metadata) × IsImage file header model) ∥₁
+HasHeaderAndModel file = ∥ ((header : CliHeader) × (model : Metadata) × IsModelOfFile file header model) ∥₁

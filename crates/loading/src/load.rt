@@ -1,7 +1,7 @@
 ghost use Rattle.std.specs.Prelude.{◌≡◌, IfOk, IfErr};
 ghost use Rattle.cli_header.specs.declared.header.CliHeader.{CliHeader as Header};
 ghost use Rattle.metadata.specs.Metadata.{Metadata};
-ghost use Rattle.metadata.specs.Model.{IsModel, IsImage};
+ghost use Rattle.metadata.specs.Model.{IsModel, IsModelOfFile};
 ghost use Rattle.metadata.specs.Demands.{demands_of_metadata, demands_of_file};
 ghost use Rattle.opening.specs.Views.{HasModel};
 ghost use Rattle.loading.specs.Refused.{IsRefused, HasHeaderAndModel};
@@ -40,9 +40,9 @@ pub fn load_root(alloc: Global, root: &[u8]) -> Result<Model, LoadError>
 /// is told only of bytes that have a model.
 pub fn load_image(alloc: Global, file: &[u8]) -> Result<(CliHeader, Model), LoadError>
     // What is loaded are a header and a model of the file.
-    ensures found { IfOk result (λ loaded. ∥ IsImage file.now loaded.0 loaded.1 ∥₁) }
+    ensures found { IfOk result (λ loaded. ∥ IsModelOfFile file.now loaded.0 loaded.1 ∥₁) }
     // Every header and model that fit are those that are loaded.
-    ensures only { (header : Header) (model : Metadata) → IsImage file.now header model
+    ensures only { (header : Header) (model : Metadata) → IsModelOfFile file.now header model
         → IfOk result (λ loaded. (loaded.0 ≡ header) × (loaded.1 ≡ model)) }
     // A fault is that of the first demand that fails, where no model fits; want of memory comes only where one fits.
     ensures refused { IfErr result (IsRefused (demands_of_file file.now) (HasHeaderAndModel file.now)) }

@@ -14,7 +14,7 @@ use Rattle.schema.specs.declared.table.TableId.{TableId}
 use Rattle.metadata.specs.Metadata.{Metadata, count_in}
 use Rattle.metadata.specs.Source.{rows_in}
 use Rattle.metadata.specs.Streams.{root_in}
-use Rattle.metadata.specs.Model.{IsModel, IsEntryPoint, has_native_entry_point, IsImage}
+use Rattle.metadata.specs.Model.{IsModel, IsEntryPoint, has_native_entry_point, IsModelOfFile}
 use Rattle.metadata.specs.Placed.{source_of}
 use Rattle.metadata.specs.Demands.{demands_of_metadata, demands_of_entry_point, demands_of_file}
 use Rattle.metadata.proofs.ModelLemmas.{part_bytes}
@@ -38,7 +38,7 @@ entry_same : (entry : ℕ) (count other : TableId → ℕ) → ((table : TableId
 entry_same entry count other same (inl none) = inl none
 entry_same entry count other same (inr there) = let e = same there.0.table in inr (there.0, there.1, there.2, there.3, omega (arith, there.4, e))
 
-module _ (read : AreRead) (file : List ℕ) (header : CliHeader) (model : Metadata) (is : IsImage file header model) where
+module _ (read : AreRead) (file : List ℕ) (header : CliHeader) (model : Metadata) (is : IsModelOfFile file header model) where
   image_read : is.image ≡ image_of file
   image_read = read.image_said file is.image is.is_image
 
@@ -68,7 +68,7 @@ module _ (read : AreRead) (file : List ℕ) (header : CliHeader) (model : Metada
       (λ managed. entry_same said.entry_point_token (count_in model) (rows_in source) (read.count root model root_read) (entry_read managed), tt)))
 
 pub file_found : AreRead → (file : List ℕ) → ((k : ℕ) → slice_index file k < 2 ^ 8) → AllHold (demands_of_file file)
-    → (header : CliHeader) × (model : Metadata) × IsImage file header model
+    → (header : CliHeader) × (model : Metadata) × IsModelOfFile file header model
 unfolding demands_of_file demands_of_entry_point
 file_found read file each holds =
     let said = header_of (image_of file) in
@@ -92,7 +92,7 @@ file_found read file each holds =
       },
     )
 
-pub file_one : AreRead → (file : List ℕ) (header other : CliHeader) (model more : Metadata) → IsImage file header model → IsImage file other more
+pub file_one : AreRead → (file : List ℕ) (header other : CliHeader) (model more : Metadata) → IsModelOfFile file header model → IsModelOfFile file other more
     → (header ≡ other) × (model ≡ more)
 file_one read file header other model more is also = (
   header_read read file header model is ∙ sym (header_read read file other more also),

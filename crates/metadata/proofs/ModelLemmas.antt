@@ -8,8 +8,8 @@ use Rattle.packed.specs.Places.{part}
 use Rattle.packed.proofs.DemandLemmas.{all_append, all_front, all_back, all_raised, all_lowered}
 use Rattle.root.specs.declared.kind.Kind.{Kind}
 use Rattle.root.specs.declared.kind.Kind.TheVariants.{Tables, UserStrings}
-use Rattle.root.specs.Streams.{Header, Directory, named, stream_name}
-use Rattle.root.specs.Directory.{directory_of}
+use Rattle.root.specs.Streams.{Header, RootRead, named, stream_name}
+use Rattle.root.specs.Fields.{root_read}
 use Rattle.root.specs.Root.{IsRoot}
 use Rattle.root.specs.Demands.{demands_of_root}
 use Rattle.heaps.specs.Fill.{filled}
@@ -41,9 +41,9 @@ use Rattle.metadata.proofs.RuleLemmas.{order_found, order_met, runs_found, runs_
 pub record AreRead : Type 0 where
   pub root_demanded : (root version : List ℕ) (headers : List Header) → length root ≤ 2 ^ 30 → IsRoot root version headers → AllHold (demands_of_root root)
   pub root_said : (root version : List ℕ) (headers : List Header) → length root ≤ 2 ^ 30 → IsRoot root version headers
-      → directory_of root ≡ record { bytes = root; version = version; headers = headers }
+      → root_read root ≡ record { bytes = root; version = version; headers = headers }
   pub root_found : (root : List ℕ) → AllHold (demands_of_root root)
-      → (length root ≤ 2 ^ 30) × IsRoot root (directory_of root).version (directory_of root).headers
+      → (length root ≤ 2 ^ 30) × IsRoot root (root_read root).version (root_read root).headers
   pub stream_demanded : (stream : List ℕ) (sizes : Sizes) (numbers : List (List (List ℕ))) → IsLaidOut stream sizes numbers → AllHold (demands_of_stream stream)
   pub stream_said : (stream : List ℕ) (sizes : Sizes) (numbers : List (List (List ℕ))) → IsLaidOut stream sizes numbers → sizes ≡ sizes_of stream
   pub stream_found : (stream : List ℕ) → ((k : ℕ) → slice_index stream k < 2 ^ 8) → AllHold (demands_of_stream stream) → IsTableStream stream (sizes_of stream)
@@ -96,13 +96,13 @@ demands_found have here holds =
 -- ---- what a model is read from
 
 module _ (read : AreRead) (root : List ℕ) (model : Metadata) (is : IsModel root model) where
-  headers_same : is.headers ≡ (directory_of root).headers
-  headers_same = ap (λ (d : Directory). d.headers) (sym (read.root_said root model.version is.headers is.small is.is_root))
+  headers_same : is.headers ≡ (root_read root).headers
+  headers_same = ap (λ (d : RootRead). d.headers) (sym (read.root_said root model.version is.headers is.small is.is_root))
 
-  pub version_read : model.version ≡ (directory_of root).version
-  version_read = ap (λ (d : Directory). d.version) (sym (read.root_said root model.version is.headers is.small is.is_root))
+  pub version_read : model.version ≡ (root_read root).version
+  version_read = ap (λ (d : RootRead). d.version) (sym (read.root_said root model.version is.headers is.small is.is_root))
 
-  pub user_read : model.user ≡ filled (stream_in root (directory_of root).headers UserStrings)
+  pub user_read : model.user ≡ filled (stream_in root (root_read root).headers UserStrings)
   user_read = is.user ∙ ap (λ (h : List Header). filled (stream_in root h UserStrings)) headers_same
 
   source_read : source_in root is.headers is.sizes is.numbers ≡ source_of root
@@ -209,14 +209,14 @@ model_found read place root each holds =
     let header = raised place (demands_of_root root) in
     let stream = raised (place + tables_place root) (demands_of_stream (tables_in root)) in
     let inside = demands_of_tables (placed_at place root) in
-    let headers = (directory_of root).headers in
+    let headers = (root_read root).headers in
     let is = read.root_found root (all_lowered place (demands_of_root root) (all_front header (stream ++ inside) holds)) in
     let rest = all_back header (stream ++ inside) holds in
     let stream_holds = all_lowered (place + tables_place root) (demands_of_stream (tables_in root)) (all_front stream inside rest) in
     let laid = read.stream_found (tables_in root) (stream_bytes root headers Tables each) stream_holds in
     let sizes = sizes_of (tables_in root) in
     let fits = demands_found read.columns (placed_at place root) (all_back stream inside rest) in (
-      record { version = (directory_of root).version; user = filled (stream_in root headers UserStrings); tables = fits.all },
+      record { version = (root_read root).version; user = filled (stream_in root headers UserStrings); tables = fits.all },
       record {
         small = is.0;
         headers = headers;

@@ -47,7 +47,7 @@ has_native_entry_point header = header.flags / 0x10 % 2 == 1
 
 -- The file has this CLI header and this model: it is an image with that header, whose root has the model; and its entry
 -- point is one, unless it is native.
-pub record IsImage (file : List ℕ) (header : CliHeader) (model : Metadata) : Type 0 where
+pub record IsModelOfFile (file : List ℕ) (header : CliHeader) (model : Metadata) : Type 0 where
   pub image : Image
   pub is_image : pe.IsImage file image
   pub is_header : IsCliHeader image header

@@ -2,7 +2,7 @@
 use Rattle.std.specs.Prelude.{ℕ, ◌+◌, List, unwrap_or}
 use Rattle.std.specs.Option.{option_map}
 use Rattle.root.specs.declared.kind.Kind.TheVariants.{Tables}
-use Rattle.root.specs.Directory.{directory_of}
+use Rattle.root.specs.Fields.{root_read}
 use Rattle.root.specs.Streams.{place_of}
 use Rattle.schema.specs.declared.table.TableId.{TableId}
 use Rattle.schema.specs.Header.{sizes_of}
@@ -22,16 +22,16 @@ cell_place here table row column = here.place + cell_start here.source.sizes tab
 
 -- the table stream of a root
 abbrev pub tables_in : List ℕ → List ℕ
-tables_in root = stream_in root (directory_of root).headers Tables
+tables_in root = stream_in root (root_read root).headers Tables
 
 -- where it begins in the root
 abbrev pub tables_place : List ℕ → ℕ
-tables_place root = unwrap_or (option_map (λ place. place.0) (place_of (directory_of root) Tables)) 0
+tables_place root = unwrap_or (option_map (λ place. place.0) (place_of (root_read root) Tables)) 0
 
 -- what the cells of a root are read from
 abbrev pub source_of : List ℕ → Source
 source_of root =
-    source_in root (directory_of root).headers (sizes_of (tables_in root)) (numbers_at (tables_in root) (sizes_of (tables_in root)))
+    source_in root (root_read root).headers (sizes_of (tables_in root)) (numbers_at (tables_in root) (sizes_of (tables_in root)))
 
 -- the same, if the root begins at a place
 abbrev pub placed_at : ℕ → List ℕ → Placed

@@ -1,6 +1,6 @@
 ghost use Rattle.std.specs.Prelude.{◌≡◌, ◌↔◌, ℕ, ◌^◌, ◌<◌, ◌≤◌, List, Some, length, slice_index};
 ghost use Rattle.packed.specs.Demand.{AllHold};
-ghost use Rattle.root.specs.Directory.{directory_of};
+ghost use Rattle.root.specs.Fields.{root_read};
 ghost use Rattle.root.specs.declared.kind.Kind.TheVariants.{UserStrings};
 ghost use Rattle.cli_header.specs.declared.header.CliHeader.{CliHeader};
 ghost use Rattle.heaps.specs.Fill.{filled};
@@ -14,7 +14,7 @@ ghost use Rattle.metadata.specs.Streams.{stream_in};
 ghost use Rattle.schema.specs.CellColumns.{cell_count};
 ghost use Rattle.metadata.specs.Rows.{IsCell};
 ghost use Rattle.metadata.specs.Rules.{IsInOrder, AreByKey, AreOwned, AreNested};
-ghost use Rattle.metadata.specs.Model.{IsModel, IsImage};
+ghost use Rattle.metadata.specs.Model.{IsModel, IsModelOfFile};
 ghost use Rattle.metadata.specs.Placed.{tables_in, source_of};
 ghost use Rattle.metadata.specs.Valid.{IsValid};
 ghost use Rattle.metadata.specs.KeyOrder.{IsKeyOrdered};
@@ -51,10 +51,10 @@ pub fn roots_have_models()
 /// All demands of a file, which is bytes, hold exactly where it has a model, and it has one CLI header
 /// and one model at most.
 pub fn files_have_models()
-    ensures met { (file : List ℕ) (header : CliHeader) (model : Metadata) → IsImage file header model → AllHold (demands_of_file file) }
+    ensures met { (file : List ℕ) (header : CliHeader) (model : Metadata) → IsModelOfFile file header model → AllHold (demands_of_file file) }
     ensures found { (file : List ℕ) → ((k : ℕ) → slice_index file k < 2 ^ 8) → AllHold (demands_of_file file)
-        → (header : CliHeader) × (model : Metadata) × IsImage file header model }
-    ensures one { (file : List ℕ) (header other : CliHeader) (model more : Metadata) → IsImage file header model → IsImage file other more
+        → (header : CliHeader) × (model : Metadata) × IsModelOfFile file header model }
+    ensures one { (file : List ℕ) (header other : CliHeader) (model more : Metadata) → IsModelOfFile file header model → IsModelOfFile file other more
         → (header ≡ other) × (model ≡ more) }
 {
     images_are_read();
@@ -65,8 +65,8 @@ pub fn files_have_models()
 
 /// The parts of a root's model are those that are read from the root.
 pub fn models_are_read()
-    ensures version { (root : List ℕ) (model : Metadata) → IsModel root model → model.version ≡ (directory_of root).version }
-    ensures user { (root : List ℕ) (model : Metadata) → IsModel root model → model.user ≡ filled (stream_in root (directory_of root).headers UserStrings) }
+    ensures version { (root : List ℕ) (model : Metadata) → IsModel root model → model.version ≡ (root_read root).version }
+    ensures user { (root : List ℕ) (model : Metadata) → IsModel root model → model.user ≡ filled (stream_in root (root_read root).headers UserStrings) }
     ensures stream { (root : List ℕ) (model : Metadata) → IsModel root model → IsTableStream (tables_in root) (source_of root).sizes }
     ensures count { (root : List ℕ) (model : Metadata) → IsModel root model → (table : Table) → count_in model table ≡ rows_in (source_of root) table }
     ensures cells { (root : List ℕ) (model : Metadata) → IsModel root model → (table : Table) (row place : ℕ)

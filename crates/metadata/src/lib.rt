@@ -8,7 +8,7 @@
 //!
 //! ```text
 //! IsModel root model    -- the bytes of a root have this model
-//! IsImage file header model    -- the bytes of a file have this CLI header and this model
+//! IsModelOfFile file header model    -- the bytes of a file have this CLI header and this model
 //! ```
 #![tactic(auto)]
 

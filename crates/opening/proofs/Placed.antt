@@ -4,7 +4,7 @@ use Rattle.packed.specs.declared.fault.Fault.{Fault}
 use Rattle.packed.specs.Demand.{AllHold, FirstToFail, raised}
 use Rattle.root.specs.Demands.{demands_of_root}
 use Rattle.root.specs.declared.kind.Kind.TheVariants.{Strings, Guids, Blobs}
-use Rattle.root.specs.Directory.{directory_of}
+use Rattle.root.specs.Fields.{root_read}
 use Rattle.schema.specs.Sizes.{Sizes}
 use Rattle.schema.specs.Demands.{demands_of_stream}
 use Rattle.schema.specs.Header.{sizes_of}
@@ -21,7 +21,7 @@ use Rattle.opening.specs.Within.{signature_bytes_in}
 use Rattle.opening.proofs.Parts.{second_fails, third_fails, all_hold}
 use Rattle.metadata.specs.Placed.{Placed, tables_in, tables_place, source_of, placed_at}
 
-pub placed_is : (root : List ℕ) (place at : ℕ) (here : Placed) (tables texts blobs guids : List ℕ) (sizes : Sizes) → here.source ≡ record { sizes = sizes; numbers = numbers_at tables sizes; texts = texts; blobs = blobs; guids = guids } → here.place ≡ place + at → at ≡ tables_place root → tables ≡ tables_in root → sizes ≡ sizes_of tables → texts ≡ stream_in root (directory_of root).headers Strings → blobs ≡ stream_in root (directory_of root).headers Blobs → guids ≡ stream_in root (directory_of root).headers Guids → here ≡ placed_at place root
+pub placed_is : (root : List ℕ) (place at : ℕ) (here : Placed) (tables texts blobs guids : List ℕ) (sizes : Sizes) → here.source ≡ record { sizes = sizes; numbers = numbers_at tables sizes; texts = texts; blobs = blobs; guids = guids } → here.place ≡ place + at → at ≡ tables_place root → tables ≡ tables_in root → sizes ≡ sizes_of tables → texts ≡ stream_in root (root_read root).headers Strings → blobs ≡ stream_in root (root_read root).headers Blobs → guids ≡ stream_in root (root_read root).headers Guids → here ≡ placed_at place root
 placed_is root place at here tables texts blobs guids sizes source is_place is_at is_tables is_sizes is_texts is_blobs is_guids =
     let sizes_are : sizes ≡ sizes_of (tables_in root) = is_sizes ∙ ap sizes_of is_tables in
     let same : here.source ≡ source_of root = source ∙ (λ i. record { sizes = sizes_are i; numbers = numbers_at (is_tables i) (sizes_are i); texts = is_texts i; blobs = is_blobs i; guids = is_guids i }) in

@@ -7,7 +7,7 @@ ghost use Rattle.cli_header.specs.Demands.{demands_of_cli_header};
 ghost use Rattle.cli_header.specs.Said.{header_of};
 ghost use Rattle.metadata.specs.Metadata.{Metadata};
 ghost use Rattle.metadata.specs.Streams.{root_in};
-ghost use Rattle.metadata.specs.Model.{IsImage, IsEntryPoint};
+ghost use Rattle.metadata.specs.Model.{IsModelOfFile, IsEntryPoint};
 ghost use Rattle.metadata.specs.Placed.{source_of};
 ghost use Rattle.metadata.specs.Source.{rows_in};
 ghost use Rattle.metadata.specs.Demands.{demands_of_entry_point, demands_of_file};
@@ -102,9 +102,9 @@ pub fn open_image(file: &[u8]) -> Result<(CliHeader, View<'_>), Fault>
     ensures found { IfOk result (λ opened. HasImage file.now opened.0) }
     ensures view { IfOk result (λ opened. opened.1 ≡ root_in file.now opened.0) }
     // A file that has a model is opened, with its header.
-    ensures only { (header : Header) (model : Metadata) → IsImage file.now header model → IsOkAnd result (λ opened. opened.0 ≡ header) }
+    ensures only { (header : Header) (model : Metadata) → IsModelOfFile file.now header model → IsOkAnd result (λ opened. opened.0 ≡ header) }
     // It has one model at most.
-    ensures one { (header other : Header) (model more : Metadata) → IsImage file.now header model → IsImage file.now other more → model ≡ more }
+    ensures one { (header other : Header) (model more : Metadata) → IsModelOfFile file.now header model → IsModelOfFile file.now other more → model ≡ more }
     // A fault is that of the first demand that fails.
     ensures first { IfErr result (FirstToFail (demands_of_file file.now)) }
 {
@@ -127,9 +127,9 @@ pub fn open_image_within(file: &[u8], budget: u64) -> Result<(CliHeader, View<'_
     ensures found { IfOk result (λ opened. HasImage file.now opened.0) }
     ensures view { IfOk result (λ opened. opened.1 ≡ root_in file.now opened.0) }
     // A file that has a model is opened, with its header, where the budget allows all bytes of its signature blobs.
-    ensures only { (header : Header) (model : Metadata) → IsImage file.now header model → signature_bytes_in_file file.now ≤ budget → IsOkAnd result (λ opened. opened.0 ≡ header) }
+    ensures only { (header : Header) (model : Metadata) → IsModelOfFile file.now header model → signature_bytes_in_file file.now ≤ budget → IsOkAnd result (λ opened. opened.0 ≡ header) }
     // It has one model at most.
-    ensures one { (header other : Header) (model more : Metadata) → IsImage file.now header model → IsImage file.now other more → model ≡ more }
+    ensures one { (header other : Header) (model more : Metadata) → IsModelOfFile file.now header model → IsModelOfFile file.now other more → model ≡ more }
     // A fault is that of the first demand that fails.
     ensures first { IfErr result (TellsFirst (demands_of_file file.now)) }
     // The budget is told spent only where it does not allow all bytes of the signature blobs.

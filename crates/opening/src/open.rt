@@ -2,7 +2,7 @@ ghost use Rattle.std.specs.Prelude.{◌≡◌, ◌<◌, ◌≤◌, ◌+◌, ◌^
 ghost use Rattle.std.specs.Str.{is_utf8};
 ghost use Rattle.packed.specs.Demand.{AllHold, Answers, FirstToFail, raised};
 ghost use Rattle.root.specs.Demands.{demands_of_root};
-ghost use Rattle.root.specs.Directory.{directory_of};
+ghost use Rattle.root.specs.Fields.{root_read};
 ghost use Rattle.root.specs.Streams.{stream_of, place_of};
 ghost use Rattle.root.specs.declared.kind.Kind.TheVariants.{Tables, UserStrings};
 ghost use Rattle.metadata.specs.Streams.{stream_in};
@@ -35,7 +35,7 @@ use schema::{Layout, streams_are_read};
 pub fn read_directory(root: &[u8], place: usize) -> Result<Root<'_>, Fault>
     requires { place ≤ 2 ^ 30 }
     ensures answers { Answers (raised place (demands_of_root root.now)) result }
-    ensures directory { IfOk result (λ directory. directory ≡ directory_of root.now) }
+    ensures directory { IfOk result (λ directory. directory ≡ root_read root.now) }
     ensures small { IfOk result (λ directory. length root.now ≤ 2 ^ 30) }
 {
     match read_root(root) {
@@ -108,14 +108,14 @@ fn read_parts<'a>(
     found: Option<&Found>,
 ) -> Result<Parts<'a>, Fault>
     requires place { place ≤ 2 ^ 30 }
-    requires directory { directory.now ≡ directory_of root.now }
+    requires directory { directory.now ≡ root_read root.now }
     requires small { length root.now ≤ 2 ^ 30 }
     requires held { AllHold (raised place (demands_of_root root.now)) }
     requires found { IfSome found (λ found. AreFound root.now found.now) }
     ensures first { IfErr result (FirstToFail (demands_of_metadata place root.now)) }
     ensures source { IfOk result (λ parts. parts.source ≡ placed_at place root.now) }
-    ensures version { IfOk result (λ parts. parts.version.now ≡ (directory_of root.now).version) }
-    ensures user { IfOk result (λ parts. parts.user.now ≡ stream_in root.now (directory_of root.now).headers UserStrings) }
+    ensures version { IfOk result (λ parts. parts.version.now ≡ (root_read root.now).version) }
+    ensures user { IfOk result (λ parts. parts.user.now ≡ stream_in root.now (root_read root.now).headers UserStrings) }
     ensures stream { IfOk result (λ parts. AllHold (raised (place + tables_place root.now) (demands_of_stream (tables_in root.now)))) }
 {
     let tables = stream_in(directory, Kind::Tables);
@@ -143,13 +143,13 @@ fn check_root<'a>(
     budget: Budget,
 ) -> Result<(Parts<'a>, Checked), BoundedError>
     requires place { place ≤ 2 ^ 30 }
-    requires directory { directory.now ≡ directory_of root.now }
+    requires directory { directory.now ≡ root_read root.now }
     requires small { length root.now ≤ 2 ^ 30 }
     requires held { AllHold (raised place (demands_of_root root.now)) }
     ensures answers { AnswersWithin budget (signature_bytes_in root.now) (demands_of_metadata place root.now) result }
     ensures source { IfOk result (λ checked. checked.0.source ≡ placed_at place root.now) }
-    ensures version { IfOk result (λ checked. checked.0.version.now ≡ (directory_of root.now).version) }
-    ensures user { IfOk result (λ checked. checked.0.user.now ≡ stream_in root.now (directory_of root.now).headers UserStrings) }
+    ensures version { IfOk result (λ checked. checked.0.version.now ≡ (root_read root.now).version) }
+    ensures user { IfOk result (λ checked. checked.0.user.now ≡ stream_in root.now (root_read root.now).headers UserStrings) }
     ensures order { IfOk result (λ checked. TellsOrder checked.0.source.source checked.1.in_order) }
     ensures known { IfOk result (λ checked. AreKnown checked.0.source.source checked.1.known) }
 {
@@ -168,7 +168,7 @@ pub fn open_at<'a>(
     budget: Budget,
 ) -> Result<View<'a>, BoundedError>
     requires place { place ≤ 2 ^ 30 }
-    requires directory { directory.now ≡ directory_of root.now }
+    requires directory { directory.now ≡ root_read root.now }
     requires small { length root.now ≤ 2 ^ 30 }
     requires held { AllHold (raised place (demands_of_root root.now)) }
     ensures answers { AnswersWithin budget (signature_bytes_in root.now) (demands_of_metadata place root.now) result }
@@ -257,8 +257,8 @@ fn read_whole<'a>(root: &'a [u8], found: &Found) -> Result<Parts<'a>, Fault>
     requires { AreFound root.now found.now }
     ensures first { IfErr result (FirstToFail (demands_of_metadata 0 root.now)) }
     ensures source { IfOk result (λ parts. parts.source ≡ placed_at 0 root.now) }
-    ensures version { IfOk result (λ parts. parts.version.now ≡ (directory_of root.now).version) }
-    ensures user { IfOk result (λ parts. parts.user.now ≡ stream_in root.now (directory_of root.now).headers UserStrings) }
+    ensures version { IfOk result (λ parts. parts.version.now ≡ (root_read root.now).version) }
+    ensures user { IfOk result (λ parts. parts.user.now ≡ stream_in root.now (root_read root.now).headers UserStrings) }
 {
     let directory = read_directory(root, 0)?;
     read_parts(root, &directory, 0, Some(found))

@@ -3,7 +3,7 @@ ghost use Rattle.std.specs.List.{Contains};
 ghost use Rattle.std.specs.List.Sorted.{IsStrictlyIncreasing};
 ghost use Rattle.heaps.specs.Fill.{filled};
 ghost use Rattle.rows.specs.Keys.{binary_digits};
-ghost use Rattle.root.specs.Directory.{directory_of};
+ghost use Rattle.root.specs.Fields.{root_read};
 ghost use Rattle.schema.specs.declared.table.TableId.{TableId as Table};
 ghost use Rattle.schema.specs.declared.table.TableId.TheVariants.{TypeDef, MethodDef, Field, Param, EventMap, Event, PropertyMap, Property};
 ghost use Rattle.schema.specs.declared.column.ColumnKind.TheVariants.{List};
@@ -69,7 +69,7 @@ impl<'a> View<'a> {
     ) -> View<'a>
         requires model { HasModel root.now }
         requires source { source.source ≡ source_of root.now }
-        requires version { version.now ≡ (directory_of root.now).version }
+        requires version { version.now ≡ (root_read root.now).version }
         requires user { user.now ≡ user_of root.now }
         requires order { TellsOrder source.source found.in_order }
         requires known { AreKnown source.source found.known }

@@ -7,7 +7,7 @@ use Rattle.std.proofs.lemmas.List.{append_assoc, take_at, drop_at, drop-drop, ta
 use Rattle.packed.specs.Places.{part}
 use Rattle.root.specs.Streams.{Header}
 use Rattle.root.specs.Root.{IsHeader, IsFilled}
-use Rattle.root.specs.Directory.{before_nul, header_at, header_length}
+use Rattle.root.specs.Fields.{before_nul, header_at, header_length}
 use Rattle.root.specs.Shown.{ShowsHeader}
 use Rattle.root.specs.Demands.{HasHeader}
 use Rattle.root.proofs.NulLemmas.{nul_place, nul_split, before_nul-text, before_nul-no_nul, length-before_nul}

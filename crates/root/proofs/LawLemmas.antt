@@ -4,22 +4,22 @@ use Rattle.std.specs.Option.{IfSome, option_map}
 use Rattle.packed.specs.Demand.{AllHold, demands_from}
 use Rattle.packed.proofs.DemandLemmas.{all_front, all_back}
 use Rattle.root.specs.declared.kind.Kind.{Kind}
-use Rattle.root.specs.Streams.{Header, Directory, named, place_of, stream_name}
+use Rattle.root.specs.Streams.{Header, RootRead, named, place_of, stream_name}
 use Rattle.root.specs.Root.{IsRoot}
-use Rattle.root.specs.Directory.{directory_of, header_count, headers_before}
+use Rattle.root.specs.Fields.{root_read, header_count, headers_before}
 use Rattle.root.specs.Demands.{demands_of_front, demands_of_header, demands_of_tables, demands_of_root}
 use Rattle.root.proofs.RootLemmas.{root_from_demands, root_meets, within_from_all, found_within}
 
 pub demands_met : (root version : List ℕ) (headers : List Header) → length root ≤ 2 ^ 30 → IsRoot root version headers → AllHold (demands_of_root root)
 demands_met root version headers small is = (root_meets root version headers small is).all
 
-pub directory_said : (root version : List ℕ) (headers : List Header) → length root ≤ 2 ^ 30 → IsRoot root version headers → directory_of root ≡ record { bytes = root; version = version; headers = headers }
+pub directory_said : (root version : List ℕ) (headers : List Header) → length root ≤ 2 ^ 30 → IsRoot root version headers → root_read root ≡ record { bytes = root; version = version; headers = headers }
 directory_said root version headers small is =
     let meets = root_meets root version headers small is in
-    let make : List ℕ → List Header → Directory = λ v hs. record { bytes = root; version = v; headers = hs } in
+    let make : List ℕ → List Header → RootRead = λ v hs. record { bytes = root; version = v; headers = hs } in
     ap (λ (v : List ℕ). make v (headers_before root (header_count root))) meets.version_is ∙ ap (make version) meets.headers_are
 
-pub root_found : (root : List ℕ) → AllHold (demands_of_root root) → (length root ≤ 2 ^ 30) × IsRoot root (directory_of root).version (directory_of root).headers
+pub root_found : (root : List ℕ) → AllHold (demands_of_root root) → (length root ≤ 2 ^ 30) × IsRoot root (root_read root).version (root_read root).headers
 root_found root all = (all.0, root_from_demands root all)
 
 -- the place of a header that ends within so many bytes
@@ -28,7 +28,7 @@ place_ends : (limit : ℕ) (found : Option Header) → ((header : Header) → fo
 place_ends limit None ends = tt
 place_ends limit (Some header) ends = (omega arith, ends header refl)
 
-pub place_within : (root : List ℕ) (kind : Kind) → AllHold (demands_of_root root) → IfSome (place_of (directory_of root) kind) (λ place. (place.0 ≤ place.1) × (place.1 ≤ length root))
+pub place_within : (root : List ℕ) (kind : Kind) → AllHold (demands_of_root root) → IfSome (place_of (root_read root) kind) (λ place. (place.0 ≤ place.1) × (place.1 ≤ length root))
 place_within root kind all =
     let count = header_count root in
     let behind = all_back (demands_of_front root) _ all in

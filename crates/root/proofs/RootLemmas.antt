@@ -18,9 +18,9 @@ use Rattle.packed.proofs.DemandLemmas.{all_front, all_back, all_append, before_n
 use Rattle.root.specs.declared.kind.Kind.{Kind}
 use Rattle.std.specs.Prelude.{IsSome}
 use Rattle.root.specs.declared.kind.Kind.TheVariants.{Tables}
-use Rattle.root.specs.Streams.{Header, Directory, named, stream_name}
+use Rattle.root.specs.Streams.{Header, RootRead, named, stream_name}
 use Rattle.root.specs.Root.{signature, IsHeader, AreHeaders, EndsWithin, IsNew, IsCompressed, AllMeet, IsRoot}
-use Rattle.root.specs.Directory.{before_nul, directory_of, version_length, version_of, header_count, header_at, header_length, header_place, headers_before}
+use Rattle.root.specs.Fields.{before_nul, root_read, version_length, version_of, header_count, header_at, header_length, header_place, headers_before}
 use Rattle.root.specs.Shown.{AllShow}
 use Rattle.root.specs.Demands.{HasSignature, HasVersion, HasHeader, demands_of_front, demands_of_header, demands_of_tables, demands_of_root}
 use Rattle.root.proofs.NulLemmas.{before_nul-text}
@@ -288,19 +288,19 @@ found_within root count kind header within e =
     found.0 kind ((bytes_eq-Decides header.name (stream_name kind)).0 found.1)
 
 -- what a result that answers the demands says of the relation
-pub answers_found : (root : List ℕ) (r : Result Directory Fault) → Answers (demands_of_root root) r → IfOk r (λ d. d ≡ directory_of root)
+pub answers_found : (root : List ℕ) (r : Result RootRead Fault) → Answers (demands_of_root root) r → IfOk r (λ d. d ≡ root_read root)
     → IfOk r (λ d. (length root ≤ 2 ^ 30) × (d.bytes ≡ root) × IsRoot root d.version d.headers)
 answers_found root (Ok d) all is =
-    let P : Directory → Type 0 = λ e. (length root ≤ 2 ^ 30) × (e.bytes ≡ root) × IsRoot root e.version e.headers in
+    let P : RootRead → Type 0 = λ e. (length root ≤ 2 ^ 30) × (e.bytes ≡ root) × IsRoot root e.version e.headers in
     subst P (sym is) (all.0, refl, root_from_demands root all)
 answers_found root (Err found) fails is = tt
 
-pub answers_all : (root : List ℕ) (r : Result Directory Fault) → Answers (demands_of_root root) r → IfOk r (λ d. d ≡ directory_of root)
-    → IfOk r (λ d. AllHold (demands_of_root root) × (d ≡ directory_of root))
+pub answers_all : (root : List ℕ) (r : Result RootRead Fault) → Answers (demands_of_root root) r → IfOk r (λ d. d ≡ root_read root)
+    → IfOk r (λ d. AllHold (demands_of_root root) × (d ≡ root_read root))
 answers_all root (Ok d) all is = (all, is)
 answers_all root (Err found) fails is = tt
 
-pub answers_only : (root version : List ℕ) (headers : List Header) (r : Result Directory Fault) → Answers (demands_of_root root) r → IfOk r (λ d. d ≡ directory_of root)
+pub answers_only : (root version : List ℕ) (headers : List Header) (r : Result RootRead Fault) → Answers (demands_of_root root) r → IfOk r (λ d. d ≡ root_read root)
     → Meets root version headers → IsOkAnd r (λ d. (d.version ≡ version) × (d.headers ≡ headers))
-answers_only root version headers (Ok d) all is meets = (ap (λ (e : Directory). e.version) is ∙ meets.version_is, ap (λ (e : Directory). e.headers) is ∙ meets.headers_are)
+answers_only root version headers (Ok d) all is meets = (ap (λ (e : RootRead). e.version) is ∙ meets.version_is, ap (λ (e : RootRead). e.headers) is ∙ meets.headers_are)
 answers_only root version headers (Err found) fails is meets = absurd (none_fails (demands_of_root root) found meets.all fails)

@@ -6,7 +6,7 @@ use Rattle.std.specs.List.{find}
 use Rattle.std.specs.Str.{bytes_eq}
 use Rattle.packed.specs.Demand.{AllHold, demands_from, HoldBefore}
 use Rattle.packed.proofs.DemandLemmas.{before_of_all}
-use Rattle.root.specs.Directory.{header_at, header_length, header_place, headers_before}
+use Rattle.root.specs.Fields.{header_at, header_length, header_place, headers_before}
 use Rattle.root.specs.Demands.{demands_of_header}
 use Rattle.root.specs.Shown.{AllShow}
 use Rattle.root.specs.Streams.{Header, named}

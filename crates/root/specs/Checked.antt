@@ -2,12 +2,12 @@
 use Rattle.std.specs.Prelude.{◌≡◌, ℕ, ◌≤◌, ◌<◌, length}
 use Rattle.packed.specs.Limit.{byte_limit}
 use Rattle.root.specs.declared.root.Root.TheInside.{Inside}
-use Rattle.root.specs.Directory.{header_place, header_number, headers_before}
+use Rattle.root.specs.Fields.{header_place, header_number, headers_before}
 use Rattle.root.specs.Root.{EndsWithin}
 use Rattle.root.specs.Shown.{AllShow}
-use Rattle.root.specs.Streams.{Directory}
+use Rattle.root.specs.Streams.{RootRead}
 
-abbrev pub root_of : Inside → Directory
+abbrev pub root_of : Inside → RootRead
 root_of root = record { bytes = root.bytes.now; version = root.version.now; headers = headers_before root.bytes.now root.count }
 
 -- its headers stand, and each stream of the standard ends within it

@@ -7,7 +7,7 @@ use Rattle.packed.specs.Limit.{byte_limit}
 use Rattle.packed.specs.Demand.{Demand, demand, demands_from}
 use Rattle.packed.specs.Places.{part}
 use Rattle.root.specs.declared.kind.Kind.TheVariants.{Tables}
-use Rattle.root.specs.Directory.{version_length, header_count, header_place, header_number, headers_before}
+use Rattle.root.specs.Fields.{version_length, header_count, header_place, header_number, headers_before}
 use Rattle.root.specs.Root.{signature, IsVersion, IsHeader, EndsWithin, IsNew, IsCompressed}
 use Rattle.root.specs.Streams.{Header, named, stream_name}
 

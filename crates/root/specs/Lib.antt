@@ -1,6 +1,6 @@
 pub mod Checked
 pub mod Demands
-pub mod Directory
+pub mod Fields
 pub mod Rest
 pub mod Root
 pub mod Shown

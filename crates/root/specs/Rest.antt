@@ -2,7 +2,7 @@
 use Rattle.std.specs.Prelude.{◌≡◌, ◌≤◌, List, length, drop}
 use Rattle.packed.specs.Limit.{byte_limit}
 use Rattle.root.specs.declared.headers.Headers.TheInside.{Inside}
-use Rattle.root.specs.Directory.{header_place, headers_before}
+use Rattle.root.specs.Fields.{header_place, headers_before}
 use Rattle.root.specs.Shown.{AllShow}
 use Rattle.root.specs.Streams.{Header}
 

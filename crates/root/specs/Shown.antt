@@ -1,7 +1,7 @@
 -- That stream headers stand in a root, as plain tests of its bytes.
 use Rattle.std.specs.Prelude.{ℕ, ◌+◌, ◌<◌, ◌≤◌, List, length, drop}
 use Rattle.std.specs.Str.{IsAscii}
-use Rattle.root.specs.Directory.{header_at, header_length, header_place}
+use Rattle.root.specs.Fields.{header_at, header_length, header_place}
 
 -- a header stands at a place: it ends within the root, and its name is ended, short and ASCII
 pub record ShowsHeader (root : List ℕ) (place : ℕ) : Type 0 where

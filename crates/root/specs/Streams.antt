@@ -27,15 +27,15 @@ abbrev pub named : List ℕ → List Header → Option Header
 named name headers = find (λ header. bytes_eq header.name name) headers
 
 -- a root that was read: its bytes, its version and its stream headers
-pub record Directory : Type 0 where
+pub record RootRead : Type 0 where
   pub bytes : List ℕ
   pub version : List ℕ
   pub headers : List Header
 
 -- where the stream of a kind begins and ends
-abbrev pub place_of : Directory → Kind → Option (ℕ × ℕ)
+abbrev pub place_of : RootRead → Kind → Option (ℕ × ℕ)
 place_of root kind = option_map (λ header. (header.offset, header.offset + header.size)) (named (stream_name kind) root.headers)
 
 -- the stream of a kind
-abbrev pub stream_of : Directory → Kind → Option (List ℕ)
+abbrev pub stream_of : RootRead → Kind → Option (List ℕ)
 stream_of root kind = option_map (λ header. part root.bytes header.offset header.size) (named (stream_name kind) root.headers)

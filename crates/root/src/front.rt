@@ -2,7 +2,7 @@ ghost use Rattle.std.specs.Prelude.{◌≡◌, ◌+◌, ◌≤◌, length, IfSom
 ghost use Rattle.packed.specs.Limit.{byte_limit};
 ghost use Rattle.packed.specs.Demand.{Answers};
 ghost use Rattle.root.specs.Demands.{HasVersion, demands_of_front};
-ghost use Rattle.root.specs.Directory.{version_length, version_of, header_count, header_place};
+ghost use Rattle.root.specs.Fields.{version_length, version_of, header_count, header_place};
 
 use crate::header::nul_in;
 use packed::{BYTE_LIMIT, Fault, FaultCode, u16_at, u32_at};

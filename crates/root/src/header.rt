@@ -1,7 +1,7 @@
 ghost use Rattle.std.specs.Prelude.{position, ◌==◌, ◌≡◌, ◌+◌, ◌*◌, ◌<◌, ◌≤◌, length, IfSome, IfNone};
 ghost use Rattle.packed.specs.Limit.{byte_limit};
 ghost use Rattle.root.specs.Demands.{HasHeader};
-ghost use Rattle.root.specs.Directory.{before_nul, header_at, header_length};
+ghost use Rattle.root.specs.Fields.{before_nul, header_at, header_length};
 ghost use Rattle.root.specs.Views.{view};
 
 use packed::u32_at;

@@ -1,7 +1,7 @@
 ghost use Rattle.std.specs.Prelude.{◌≡◌, ◌≤◌, length, List};
 ghost use Rattle.std.specs.Iterator.{YieldsFirstBy, item_count};
 ghost use Rattle.packed.specs.Limit.{byte_limit};
-ghost use Rattle.root.specs.Directory.{header_place, headers_before};
+ghost use Rattle.root.specs.Fields.{header_place, headers_before};
 ghost use Rattle.root.specs.Shown.{AllShow};
 ghost use Rattle.root.specs.Streams.{Header};
 ghost use Rattle.root.specs.Views.{view};

@@ -3,7 +3,7 @@ ghost use Rattle.packed.specs.Limit.{byte_limit};
 ghost use Rattle.packed.specs.Demand.{AllHold};
 ghost use Rattle.root.specs.declared.kind.Kind.{Kind};
 ghost use Rattle.root.specs.Demands.{demands_of_root};
-ghost use Rattle.root.specs.Directory.{directory_of};
+ghost use Rattle.root.specs.Fields.{root_read};
 ghost use Rattle.root.specs.Root.{IsRoot};
 ghost use Rattle.root.specs.Streams.{Header, place_of};
 
@@ -13,9 +13,9 @@ pub fn roots_are_read()
     ensures demanded { (root version : List ℕ) (headers : List Header) → length root ≤ byte_limit → IsRoot root version headers
         → AllHold (demands_of_root root) }
     ensures said { (root version : List ℕ) (headers : List Header) → length root ≤ byte_limit → IsRoot root version headers
-        → directory_of root ≡ record { bytes = root; version = version; headers = headers } }
+        → root_read root ≡ record { bytes = root; version = version; headers = headers } }
     ensures found { (root : List ℕ) → AllHold (demands_of_root root)
-        → (length root ≤ byte_limit) × IsRoot root (directory_of root).version (directory_of root).headers }
+        → (length root ≤ byte_limit) × IsRoot root (root_read root).version (root_read root).headers }
     ensures within { (root : List ℕ) (kind : Kind) → AllHold (demands_of_root root)
-        → IfSome (place_of (directory_of root) kind) (λ place. (place.0 ≤ place.1) × (place.1 ≤ length root)) }
+        → IfSome (place_of (root_read root) kind) (λ place. (place.0 ≤ place.1) × (place.1 ≤ length root)) }
 {}

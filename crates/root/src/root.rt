@@ -3,9 +3,9 @@ ghost use Rattle.std.specs.Option.{option_map};
 ghost use Rattle.packed.specs.Limit.{byte_limit};
 ghost use Rattle.packed.specs.Demand.{AllHold, Answers, FirstToFail};
 ghost use Rattle.root.specs.Demands.{demands_of_root};
-ghost use Rattle.root.specs.Directory.{directory_of};
+ghost use Rattle.root.specs.Fields.{root_read};
 ghost use Rattle.root.specs.Root.{IsRoot};
-ghost use Rattle.root.specs.Streams.{Header, Directory, place_of, stream_of};
+ghost use Rattle.root.specs.Streams.{Header, RootRead, place_of, stream_of};
 
 use crate::front::read_front;
 use crate::headers::Headers;
@@ -25,9 +25,9 @@ pub struct Root<'a> {
 }
 
 impl<'a> Model for Root<'a> {
-    ghost use Rattle.root.specs.Streams.{Directory};
+    ghost use Rattle.root.specs.Streams.{RootRead};
 
-    ghost Value = { Directory };
+    ghost Value = { RootRead };
 
     ghost use Rattle.root.specs.Checked.{root_of, IsChecked};
 
@@ -75,7 +75,7 @@ impl<'a> Root<'a> {
 /// The root that meets all demands, or the fault of the first that is not met.
 fn check_root(bytes: &[u8]) -> Result<Root<'_>, Fault>
     ensures answers { Answers (demands_of_root bytes.now) result }
-    ensures root { IfOk result (λ root. root ≡ directory_of bytes.now) }
+    ensures root { IfOk result (λ root. root ≡ root_read bytes.now) }
     ensures within { IfErr result (λ fault. fault.offset ≤ length bytes.now) }
 {
     let front = read_front(bytes)?;
@@ -105,7 +105,7 @@ pub fn read_root(bytes: &[u8]) -> Result<Root<'_>, Fault>
     ensures only { (version : List ℕ) (headers : List Header) → length bytes.now ≤ byte_limit → IsRoot bytes.now version headers
         → IsOkAnd result (λ root. (root.version ≡ version) × (root.headers ≡ headers)) }
     // What is read meets all demands, and says what stands in the fields.
-    ensures all { IfOk result (λ root. AllHold (demands_of_root bytes.now) × (root ≡ directory_of bytes.now)) }
+    ensures all { IfOk result (λ root. AllHold (demands_of_root bytes.now) × (root ≡ root_read bytes.now)) }
     // A fault is that of the first demand that fails.
     ensures first { IfErr result (FirstToFail (demands_of_root bytes.now)) }
     // Its place is one of these bytes, or their end.

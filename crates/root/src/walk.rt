@@ -3,7 +3,7 @@ ghost use Rattle.std.specs.Option.{option_map};
 ghost use Rattle.packed.specs.Limit.{byte_limit};
 ghost use Rattle.packed.specs.Demand.{Answers, demands_from};
 ghost use Rattle.root.specs.Demands.{demands_of_header, demands_of_tables};
-ghost use Rattle.root.specs.Directory.{header_count, header_length, header_number, header_place, headers_before};
+ghost use Rattle.root.specs.Fields.{header_count, header_length, header_number, header_place, headers_before};
 ghost use Rattle.root.specs.Shown.{AllShow};
 ghost use Rattle.root.specs.Streams.{named, stream_name};
 ghost use Rattle.root.specs.Views.{view};

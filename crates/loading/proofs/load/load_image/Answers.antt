@@ -4,7 +4,7 @@ use Rattle.std.proofs.Math.Logic.{∥∥₁_map}
 use Rattle.cli_header.specs.declared.header.CliHeader.{CliHeader}
 use Rattle.metadata.specs.Metadata.{Metadata}
 use Rattle.metadata.specs.Streams.{root_in}
-use Rattle.metadata.specs.Model.{IsModel, IsImage}
+use Rattle.metadata.specs.Model.{IsModel, IsModelOfFile}
 use Rattle.metadata.specs.Demands.{demands_of_file}
 use Rattle.loading.specs.Refused.{HasHeaderAndModel}
 use Rattle.loading.proofs.Refusing.{fault_refused, memory_refused}
@@ -26,7 +26,7 @@ pub returns-clause-found : goal.returns-clause-found
 returns-clause-found c =
     ∥∥₁_map c.in_ok-header.ensures.found (λ some.
     let P : List ℕ → Type 0 = λ root. IsModel root some.0 in
-    let Q : Metadata → Type 0 = λ model. IsImage c.args.file.now c.in_ok-header.header model in
+    let Q : Metadata → Type 0 = λ model. IsModelOfFile c.args.file.now c.in_ok-header.header model in
     subst Q (sym (c.in_ok-model.ensures.model some.0 (subst P (sym c.in_ok-header.ensures.view) some.1.root))) some.1)
 
 pub returns-clause-only : goal.returns-clause-only

@@ -4,7 +4,7 @@ use Rattle.pe.specs.Headers.{image_of}
 use Rattle.cli_header.specs.declared.header.CliHeader.{CliHeader}
 use Rattle.cli_header.specs.Said.{header_of}
 use Rattle.metadata.specs.Metadata.{Metadata}
-use Rattle.metadata.specs.Model.{IsImage}
+use Rattle.metadata.specs.Model.{IsModelOfFile}
 use Rattle.metadata.specs.Demands.{demands_of_file}
 use Rattle.checks.specs.declared.budget.Budget.TheVariants.{Left}
 use Rattle.opening.specs.Views.{HasImage}
@@ -13,7 +13,7 @@ use Rattle.opening.proofs.Parts.{within_gives, within_ok_and, within_first, with
 use Rattle.opening.proofs.image.open_image_within.Goals as goal
 
 -- the header of a file that has a model is the one that its bytes say
-header_is : (c : goal.After-check_file_within) (header : CliHeader) (model : Metadata) → IsImage c.args.file.now header model → header ≡ header_of (image_of c.args.file.now)
+header_is : (c : goal.After-check_file_within) (header : CliHeader) (model : Metadata) → IsModelOfFile c.args.file.now header model → header ≡ header_of (image_of c.args.file.now)
 header_is c header model is =
     c.headers_are_read.ensures.said is.image header is.is_header ∙ ap header_of (c.images_are_read.ensures.said c.args.file.now is.image is.is_image)
 

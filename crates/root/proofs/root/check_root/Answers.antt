@@ -3,7 +3,7 @@ use Rattle.std.proofs.lemmas.Result.{err_from_is_err_and}
 use Rattle.packed.specs.Demand.{demands_from}
 use Rattle.packed.proofs.DemandLemmas.{all_append, fails_front, fails_back}
 use Rattle.root.specs.Demands.{demands_of_front, demands_of_header, demands_of_tables}
-use Rattle.root.specs.Directory.{header_count}
+use Rattle.root.specs.Fields.{header_count}
 use Rattle.root.specs.Shown.{AllShow}
 use Rattle.root.proofs.WalkLemmas.{shows_from_all}
 use Rattle.root.proofs.RootLemmas.{within_from_all}

@@ -2,7 +2,7 @@ use Rattle.std.proofs.Common.{◌≡◌, ◌∙◌, ap, arith, sym}
 use Rattle.std.proofs.lemmas.Result.{err_from_is_err_and}
 use Rattle.packed.proofs.DemandLemmas.{before_more, before_fails}
 use Rattle.root.specs.Demands.{demands_of_header}
-use Rattle.root.specs.Directory.{header_at, header_count}
+use Rattle.root.specs.Fields.{header_at, header_count}
 use Rattle.root.specs.Streams.{Header}
 use Rattle.root.specs.Views.{view}
 use Rattle.root.proofs.WalkLemmas.{place_more, shows_from_before}

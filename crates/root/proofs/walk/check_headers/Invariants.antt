@@ -1,6 +1,6 @@
 use Rattle.std.proofs.Common.{◌≡◌, ◌≤◌, length}
 use Rattle.packed.specs.Demand.{HoldBefore}
-use Rattle.root.specs.Directory.{header_place}
+use Rattle.root.specs.Fields.{header_place}
 use Rattle.root.specs.Demands.{demands_of_header}
 use Rattle.root.proofs.walk.check_headers.Given as goal
 

@@ -1,5 +1,5 @@
 use Rattle.std.proofs.Common.{◌≡◌, None}
-use Rattle.root.specs.Directory.{header_place, headers_before}
+use Rattle.root.specs.Fields.{header_place, headers_before}
 use Rattle.root.specs.Streams.{named, stream_name}
 use Rattle.root.proofs.walk.find_header.Given as goal
 

@@ -3,7 +3,7 @@ use Rattle.std.specs.Prelude.{ℕ, zero, suc, ◌+◌, ◌*◌, ◌/◌, List, [
 use Rattle.std.specs.List.{before_first}
 use Rattle.packed.specs.Number.{little_endian}
 use Rattle.packed.specs.Places.{part}
-use Rattle.root.specs.Streams.{Header, Directory}
+use Rattle.root.specs.Streams.{Header, RootRead}
 
 -- what stands before the first NUL
 abbrev pub before_nul : List ℕ → List ℕ
@@ -49,5 +49,5 @@ headers_before root zero = []
 headers_before root (suc i) = headers_before root i ++ header_number root i ∷ []
 
 -- the whole: the bytes, Version, and as many headers as Streams says
-abbrev pub directory_of : List ℕ → Directory
-directory_of root = record { bytes = root; version = version_of root; headers = headers_before root (header_count root) }
+abbrev pub root_read : List ℕ → RootRead
+root_read root = record { bytes = root; version = version_of root; headers = headers_before root (header_count root) }
