@@ -18,8 +18,10 @@ _clim() {
             while read -r line; do COMPREPLY+=("$line"); done < <(compgen -W "$(clim explain 2>/dev/null | cut -c 1-3)" -- "$word")
             ;;
         *)
+            local flags='--bare --help'
+            if [ "${COMP_WORDS[1]}" = check ]; then flags="$flags --budget"; fi
             if [[ $word == -* ]]; then
-                while read -r line; do COMPREPLY+=("$line"); done < <(compgen -W '--bare --help' -- "$word")
+                while read -r line; do COMPREPLY+=("$line"); done < <(compgen -W "$flags" -- "$word")
             else
                 while read -r line; do COMPREPLY+=("$line"); done < <(compgen -f -- "$word")
             fi

@@ -16,5 +16,6 @@ complete -c clim -n "not __fish_seen_subcommand_from $subcommands" -a explain -d
 complete -c clim -n "not __fish_seen_subcommand_from $subcommands" -a help -d 'Print help of a command'
 complete -c clim -n "__fish_seen_subcommand_from $readers" -F
 complete -c clim -n "__fish_seen_subcommand_from $readers" -l bare -d 'FILE is a metadata root and no PE file'
+complete -c clim -n "__fish_seen_subcommand_from check" -l budget -x -d 'Walk at most N bytes of signatures, or stop with status 3'
 complete -c clim -n "__fish_seen_subcommand_from explain" -a "(clim explain | string replace -r '^(\d+)[ :]+' '\$1\t')"
 complete -c clim -n "__fish_seen_subcommand_from help" -a "$readers explain"

@@ -45,8 +45,9 @@
 
 // Bytes and files in place.
 pub use opening::{
-    CellRef, CliHeader, Fault, FaultCode, Heads, KeyNumbers, KeyRows, Pe, Root, SourceKeys, Starts,
-    TableId, Token, View, open_image, open_root, read_heads,
+    BoundedError, CellRef, CliHeader, Fault, FaultCode, Heads, KeyNumbers, KeyRows, Pe, Root,
+    SourceKeys, Starts, TableId, Token, View, open_image, open_image_within, open_root,
+    open_root_within, read_heads,
 };
 
 // The heaps, for user strings and for what is shown of a GUID.
@@ -58,6 +59,9 @@ pub use schema::{Coded, Column, ColumnKind, cell_count, columns, key};
 // Models that own what they hold.
 pub use loading::{LoadError, ToModel, load_image, load_root};
 pub use owned_model::{Bytes, Cell, Model, ModelKeys, Refusal, Row, Tables, Text};
+
+// Signatures in place, an item at a time.
+pub use signature_items::{Item, Items, MethodHead};
 
 // Signatures, and what they say.
 pub use signatures::{
