@@ -1,8 +1,8 @@
 //! The text of signatures in the notation of ILAsm (ECMA-335 II.7.1, II.15.3), without memory.
 //!
-//! [`write_signature`] goes once over the bytes of a blob and hands the text to a [`TextSink`], word by word;
-//! the sink writes the names of tokens, since only its owner knows them. The descent is as deep as types nest,
-//! at most 128, and nothing is allocated.
+//! [`write_signature`] goes over the bytes of a blob and hands the text to a [`TextSink`], word by word; the
+//! sink writes the names of tokens, since only its owner knows them. [`NamedText`] is one that writes to any
+//! `fmt::Write`. The descent is as deep as types nest, at most 128, and nothing is allocated.
 //!
 //! ```text
 //! // 20 02 01 08 1D 0E: an instance method without result, of an integer and a vector of texts
@@ -14,11 +14,13 @@
 
 mod front;
 mod marks;
+mod named;
 mod shape;
 mod sink;
 mod types;
 mod whole;
 
+pub use named::{NamedText, TokenNames};
 pub use schema::{SigKind, Token};
 pub use sink::TextSink;
 pub use whole::write_signature;
