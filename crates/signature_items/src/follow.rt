@@ -21,12 +21,7 @@ fn push(frames: &mut Frames, frame: Option<Frame>)
 }
 
 /// The first of so many parameters, with SENTINEL before one of them where it may stand, and what follows it.
-fn first_param(
-    bytes: &[u8],
-    further: u32,
-    allowed: bool,
-    depth: u8,
-) -> (Option<Frame>, Place)
+fn first_param(bytes: &[u8], further: u32, allowed: bool, depth: u8) -> (Option<Frame>, Place)
     ensures told { next_at result.0 (Some result.1) bytes.now ≡ frame_at (frame.Params further allowed depth) bytes.now }
     ensures frame { IfSome result.0 (λ f. frame_depth f ≡ depth) }
     ensures place { place_depth result.1 ≡ depth }

@@ -11,13 +11,13 @@
 //! ```
 #![tactic(auto)]
 
+mod bodies;
+mod follow;
 mod frames;
 mod item;
 mod items;
-mod place;
-mod bodies;
-mod follow;
 mod methods;
+mod place;
 mod shape;
 mod step;
 mod types;

@@ -6,48 +6,27 @@ pub enum Place {
     /// The signature of a column of this kind.
     Body(SigKind),
     /// A method, behind FNPTR.
-    Method {
-        depth: u8,
-    },
+    Method { depth: u8 },
     /// A type, or what is left of one behind some of its modifiers. The same holds of the four below.
-    Typed {
-        depth: u8,
-    },
+    Typed { depth: u8 },
     /// What a pointer points to.
-    Target {
-        depth: u8,
-    },
+    Target { depth: u8 },
     /// A parameter or a field.
-    Slot {
-        depth: u8,
-    },
+    Slot { depth: u8 },
     /// A result.
-    Ret {
-        depth: u8,
-    },
+    Ret { depth: u8 },
     /// A local variable.
-    Local {
-        depth: u8,
-    },
+    Local { depth: u8 },
     /// SENTINEL, and a parameter behind it.
-    Marked {
-        depth: u8,
-    },
+    Marked { depth: u8 },
     /// The shape of an array.
     Shape,
     /// A size of an array of this rank and so many further, and its lowest indexes.
-    Sizes {
-        further: u32,
-        rank: u32,
-    },
+    Sizes { further: u32, rank: u32 },
     /// The lowest indexes of an array of this rank.
-    LowCount {
-        rank: u32,
-    },
+    LowCount { rank: u32 },
     /// A lowest index and so many further.
-    LowBounds {
-        further: u32,
-    },
+    LowBounds { further: u32 },
 }
 
 /// What follows, once something is read to its end.
