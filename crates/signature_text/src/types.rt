@@ -9,9 +9,7 @@ use signature_values::Element;
 use signature_values::element_type::{
     ARRAY, BYREF, CLASS, FNPTR, GENERICINST, MVAR, PTR, SZARRAY, TYPEDBYREF, VALUETYPE, VAR, VOID,
 };
-use signature_values::method_byte::{
-    calling_convention, has_explicit_this, has_this, is_generic,
-};
+use signature_values::method_byte::{calling_convention, has_explicit_this, has_this, is_generic};
 
 /// The name of a type that one byte spells (II.7.1).
 fn element_name(element: Element) -> &'static str {
