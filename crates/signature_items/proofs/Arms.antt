@@ -8,7 +8,6 @@ use Rattle.signature_values.specs.declared.types.Modifier.{Modifier}
 use Rattle.signature_values.specs.declared.body.Prefix.{Prefix}
 use Rattle.signature_values.specs.Syntax as sig
 use Rattle.signature_values.specs.Views.{types_from}
-use Rattle.signature_values.specs.Grammar.{count_types}
 use Rattle.signature_values.specs.Reading.{Reader, change, both, many_at, counted_at, number_at, index_at, modifier_at, modifiers_at, prefix_at, prefixes_at, starts_modifier, starts_prefix, void_or, named_at, typed_at, target_at, pointer_to, content_at, slot_at, ret_from, ret_at, array_at, array_from, shape_at, instance_at, instance_from, method_at, core_at, core_by, element_of}
 use Rattle.signature_values.specs.Columns.{local_at, local_from}
 use Rattle.signature_items.specs.declared.item.Item.{Item}
@@ -16,8 +15,8 @@ use Rattle.signature_items.specs.declared.item.Item.TheVariants as item
 use Rattle.signature_items.specs.declared.place.Place.{Place}
 use Rattle.signature_items.specs.declared.place.Place.TheVariants as place
 use Rattle.signature_items.specs.declared.place.Frame.TheVariants as frame
-use Rattle.signature_items.specs.ItemsOf.{modifiers_items, prefix_item, core_items, typed_items, types_items, content_items, slot_items, ret_items, local_items, shape_items, method_items}
-use Rattle.signature_items.specs.Places.{Told, Teller, joined, item_then, place_at, frame_at, core_told, code_told, instance_told, content_told, method_told, types_told, void_items, target_items, IsLed}
+use Rattle.signature_items.specs.ItemsOf.{prefix_item, core_items, typed_items, content_items, slot_items, ret_items, local_items, shape_items, method_items}
+use Rattle.signature_items.specs.Places.{joined, item_then, place_at, frame_at, core_told, code_told, instance_told, content_told, method_told, types_told, void_items, target_items, IsLed}
 use Rattle.signature_items.proofs.Joins.{changed, paired, both_items, fused, item_fused, item_told, joined_both}
 use Rattle.signature_items.proofs.Leading.{led_at, led_next, led_none, led_end, modifier_steps, prefix_steps}
 use Rattle.signature_items.proofs.Counts.{counted_item, count_types_from, types_from_items}

@@ -1,10 +1,10 @@
 -- Values that are counted: how many are read, and the first of them with those behind it.
-use Rattle.std.proofs.Common.{◌≡◌, ◌∙◌, ℕ, zero, suc, ◌-◌, ◌<◌, ◌≤◌, ◌&&◌, Bool, true, false, cond, Option, Some, None, IfSome, List, [], ◌∷◌, ◌++◌, length, drop, map, append-nil, refl, sym, ap, arith}
+use Rattle.std.proofs.Common.{◌≡◌, ◌∙◌, ℕ, zero, suc, ◌-◌, ◌<◌, ◌&&◌, Bool, true, false, cond, Option, Some, None, IfSome, List, [], ◌∷◌, ◌++◌, length, drop, append-nil, refl, sym, ap, arith}
 use Rattle.std.specs.Prelude.{option_map, option_and_then, flat_map}
 use Rattle.signature_values.specs.Grammar.{count_types, count_slots}
 use Rattle.signature_values.specs.Views.{types_from, slots_from}
 use Rattle.signature_values.specs.Syntax.{Core, Typed, Slot}
-use Rattle.signature_values.specs.Reading.{Reader, change, both, many_at, number_at, signed_at, counted_within, typed_at, slot_at, params_at, core_at, head_is}
+use Rattle.signature_values.specs.Reading.{Reader, change, many_at, typed_at, slot_at, params_at, core_at, head_is}
 use Rattle.signature_values.specs.Columns.{local_at}
 use Rattle.signature_items.specs.declared.item.Item.{Item}
 use Rattle.signature_items.specs.declared.item.Item.TheVariants as item
@@ -13,7 +13,7 @@ use Rattle.signature_items.specs.declared.place.Place.TheVariants as place
 use Rattle.signature_items.specs.declared.place.Frame.{Frame}
 use Rattle.signature_items.specs.declared.place.Frame.TheVariants as frame
 use Rattle.signature_items.specs.ItemsOf.{typed_items, types_items, slot_items, slots_items, local_items}
-use Rattle.signature_items.specs.Places.{Told, Teller, before_told, and_tell, joined, item_then, next_at, place_at, frame_at, types_told, params_items, params_told, locals_told, bounds_items, low_items, sizes_at, bounds_at}
+use Rattle.signature_items.specs.Places.{Told, Teller, before_told, and_tell, joined, item_then, next_at, place_at, frame_at, types_told, params_items, params_told, locals_told}
 use Rattle.signature_items.proofs.Joins.{changed}
 
 -- ---- how many are read

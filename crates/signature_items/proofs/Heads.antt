@@ -1,21 +1,19 @@
 -- What is told behind the head of a method, a property, local variables and type arguments, and of an array's shape.
-use Rattle.std.proofs.Common.{◌≡◌, ◌≢◌, ◌∙◌, ℕ, ℤ, zero, suc, ◌-◌, ◌<◌, ◌≤◌, ◌/◌, ◌%◌, ◌&&◌, Bool, true, false, cond, eqb, ltb, Option, Some, None, IfSome, List, [], ◌∷◌, ◌++◌, length, map, refl, sym, ap, arith}
+use Rattle.std.proofs.Common.{◌≡◌, ◌≢◌, ◌∙◌, ℕ, ℤ, suc, ◌-◌, ◌<◌, ◌≤◌, ◌/◌, ◌%◌, ◌&&◌, Bool, true, false, eqb, ltb, Option, Some, None, IfSome, List, [], ◌∷◌, ◌++◌, length, map, refl, sym, ap, arith}
 use Rattle.std.specs.Prelude.{flat_map, option_map, option_and_then}
 use Rattle.std.proofs.lemmas.Bool.{ne_eqb}
 use Rattle.std.proofs.lemmas.Bool.Decides.{nat_tests}
 use Rattle.schema.specs.declared.column.SigKind.TheVariants as column
 use Rattle.signature_values.specs.Syntax as sig
 use Rattle.signature_values.specs.Views.{slots_from}
-use Rattle.signature_values.specs.Grammar.{count_slots}
-use Rattle.signature_values.specs.Reading.{Reader, change, both, many_at, counted_at, counted_within, number_at, signed_at, typed_at, slot_at, ret_at, params_at, generic_at, takes_sentinel, is_method_code, method_from, method_at, core_at, shape_at, shape_from, shape_with}
+use Rattle.signature_values.specs.Reading.{Reader, change, both, many_at, counted_at, counted_within, number_at, signed_at, typed_at, slot_at, ret_at, params_at, generic_at, takes_sentinel, is_method_code, method_from, method_at, core_at, shape_at, shape_with}
 use Rattle.signature_values.specs.Columns.{local_at, headed_at, property_from, body_at}
 use Rattle.signature_items.specs.declared.item.Item.{Item}
 use Rattle.signature_items.specs.declared.item.Item.TheVariants as item
-use Rattle.signature_items.specs.declared.place.Place.{Place}
 use Rattle.signature_items.specs.declared.place.Place.TheVariants as place
 use Rattle.signature_items.specs.ItemsOf.{method_head, typed_items, slot_items, ret_items, local_items, method_items, shape_items, items_of}
-use Rattle.signature_items.specs.Places.{Told, Teller, before_told, and_tell, joined, item_then, place_at, method_told, field_told, property_told, variables_told, arguments_told, types_told, params_items, params_told, locals_told, bounds_items, low_items, sizes_at, bounds_at}
-use Rattle.signature_items.proofs.Joins.{changed, paired, both_items, fused, item_fused, joined_both}
+use Rattle.signature_items.specs.Places.{before_told, and_tell, joined, item_then, place_at, method_told, field_told, property_told, variables_told, arguments_told, types_told, params_items, params_told, locals_told, bounds_items, low_items, sizes_at, bounds_at}
+use Rattle.signature_items.proofs.Joins.{changed, paired, fused, item_fused}
 use Rattle.signature_items.proofs.Counts.{HasCount, HasParams, many_count, counted_item, params_count, params_plain, joined_same}
 
 -- ---- a method

@@ -1,5 +1,5 @@
 -- Readers that tell items, one after another.
-use Rattle.std.proofs.Common.{◌≡◌, ℕ, Option, Some, None, List, [], ◌∷◌, ◌++◌, refl, ap, append_assoc}
+use Rattle.std.proofs.Common.{◌≡◌, ℕ, Option, Some, None, List, ◌∷◌, ◌++◌, refl, ap, append_assoc}
 use Rattle.std.specs.Prelude.{option_map, option_and_then}
 use Rattle.signature_values.specs.Reading.{Reader, change, both}
 use Rattle.signature_items.specs.declared.item.Item.{Item}

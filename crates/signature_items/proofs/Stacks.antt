@@ -1,5 +1,5 @@
 -- The frames of an iterator: what they tell with a place before them, and the room for them.
-use Rattle.std.proofs.Common.{◌≡◌, ◌∙◌, ℕ, zero, suc, ◌+◌, ◌<◌, ◌≤◌, true, Option, Some, None, is_some, IfSome, List, [], ◌∷◌, ◌++◌, length, append-nil, length-append, refl, sym, ap, subst, arith}
+use Rattle.std.proofs.Common.{◌≡◌, ◌∙◌, ℕ, suc, ◌+◌, ◌<◌, ◌≤◌, true, Option, Some, None, is_some, IfSome, List, [], ◌∷◌, ◌++◌, length, append-nil, length-append, refl, sym, ap, subst, arith}
 use Rattle.schema.specs.declared.column.SigKind.{SigKind}
 use Rattle.signature_values.specs.Syntax.{Body}
 use Rattle.signature_values.specs.Reading.{core_at}
@@ -10,8 +10,8 @@ use Rattle.signature_items.specs.declared.place.Place.TheVariants as place
 use Rattle.signature_items.specs.declared.place.Frame.{Frame}
 use Rattle.signature_items.specs.declared.step.Step.{Step}
 use Rattle.signature_items.specs.ItemsOf.{items_of}
-use Rattle.signature_items.specs.Places.{Told, Teller, before_told, and_tell, joined, item_then, place_at, frame_at, next_at, stack_at, place_depth, frame_depth}
-use Rattle.signature_items.specs.Steps.{told_by, IsWithin, framed, pushed, place_or, all_at, items_in, items_left, HasRoom, IsStacked, IsRoomy, IsReady}
+use Rattle.signature_items.specs.Places.{Told, before_told, and_tell, joined, item_then, place_at, frame_at, next_at, stack_at, place_depth, frame_depth}
+use Rattle.signature_items.specs.Steps.{told_by, IsWithin, framed, pushed, all_at, items_in, items_left, HasRoom, IsStacked, IsRoomy, IsReady}
 use Rattle.signature_items.proofs.Joins.{joined_assoc, item_and}
 use Rattle.signature_items.proofs.Counts.{joined_same}
 

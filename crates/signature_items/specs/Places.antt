@@ -1,6 +1,5 @@
 -- What is left of a signature behind some of its items, and the items that it gives: what private functions compute.
 use Rattle.std.specs.Prelude.{ℕ, ℤ, suc, Bool, Option, Some, None, option_map, option_and_then, List, [], ◌∷◌, ◌++◌, map, flat_map, length, ⊤, true}
-use Rattle.schema.specs.declared.column.SigKind.{SigKind}
 use Rattle.signature_values.specs.declared.types.Modifier.{Modifier}
 use Rattle.signature_values.specs.Syntax.{Core, Slot, field, locals, instance_body}
 use Rattle.signature_values.specs.ElementTypes.{SENTINEL}

@@ -1,8 +1,8 @@
-ghost use Rattle.std.specs.Prelude.{◌≡◌, ℕ, suc, true, List, None, IfSome};
+ghost use Rattle.std.specs.Prelude.{◌≡◌, ◌<◌, ◌≤◌, ℕ, suc, true, List, None, IfSome};
 ghost use Rattle.signature_values.specs.Reading.{starts_modifier};
 ghost use Rattle.signature_items.specs.declared.place.Place.TheVariants as place;
 ghost use Rattle.signature_items.specs.ItemsOf.{prefix_item as item_of_prefix};
-ghost use Rattle.signature_items.specs.Places.{place_at, next_at, core_told, code_told, instance_told, content_told, types_told, locals_told, place_depth, frame_depth, IsLed};
+ghost use Rattle.signature_items.specs.Places.{item_then, place_at, next_at, core_told, code_told, instance_told, content_told, types_told, locals_told, place_depth, frame_depth, IsLed};
 ghost use Rattle.signature_items.specs.Steps.{told, IsWithin};
 
 use crate::item::Item;
@@ -66,6 +66,18 @@ fn instance(bytes: &[u8], depth: u8) -> Option<Step<'_>>
     })
 }
 
+/// An item before a place that holds a type, where types may be at most so deep.
+fn deeper(item: Item, place: Place, rest: &[u8], depth: u8) -> Option<Step<'_>>
+    ensures none { depth ≡ 0 → told result ≡ None }
+    ensures told { 0 < depth → told result ≡ item_then item (place_at place rest.now) }
+    ensures within { place_depth place ≤ suc depth → IfSome result (IsWithin (suc depth)) }
+{
+    if depth == 0 {
+        return None;
+    }
+    Some(Step::before(item, place, rest))
+}
+
 /// A core behind its first byte, where the types inside it are at most so deep.
 #[tactic(auto, using(crate::proofs::Arms::code_arms))]
 fn core_behind(code: u8, rest: &[u8], depth: u8) -> Option<Step<'_>>
@@ -73,12 +85,7 @@ fn core_behind(code: u8, rest: &[u8], depth: u8) -> Option<Step<'_>>
     ensures within { IfSome result (IsWithin (suc depth)) }
 {
     match code {
-        PTR => {
-            if depth == 0 {
-                return None;
-            }
-            Some(Step::before(Item::Pointer, Place::Target { depth }, rest))
-        }
+        PTR => deeper(Item::Pointer, Place::Target { depth }, rest, depth),
         VALUETYPE => {
             let (of, rest) = index(rest)?;
             Some(Step::leaf(Item::Value(of), rest))
@@ -98,12 +105,7 @@ fn core_behind(code: u8, rest: &[u8], depth: u8) -> Option<Step<'_>>
             rest,
         }),
         GENERICINST => instance(rest, depth),
-        FNPTR => {
-            if depth == 0 {
-                return None;
-            }
-            Some(Step::before(Item::Function, Place::Method { depth }, rest))
-        }
+        FNPTR => deeper(Item::Function, Place::Method { depth }, rest, depth),
         SZARRAY => Some(Step::before(Item::Vector, Place::Typed { depth }, rest)),
         MVAR => {
             let (number, rest) = number(rest)?;

@@ -1,4 +1,4 @@
-use Rattle.std.proofs.Common.{◌∙◌, Option, List, ℕ, false, sym, ap}
+use Rattle.std.proofs.Common.{◌∙◌, false, sym, ap}
 use Rattle.signature_items.specs.declared.item.Item.TheVariants as item
 use Rattle.signature_items.specs.declared.place.Place.TheVariants as place
 use Rattle.signature_items.specs.Places.{item_then, params_told}

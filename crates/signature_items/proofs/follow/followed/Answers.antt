@@ -1,4 +1,4 @@
-use Rattle.std.proofs.Common.{◌≡◌, ◌∙◌, Some, None, Option, List, ap, sym, subst}
+use Rattle.std.proofs.Common.{◌∙◌, Some, None, Option, List, ap, sym, subst}
 use Rattle.signature_items.specs.declared.place.Place.{Place}
 use Rattle.signature_items.specs.declared.place.Frame.{Frame}
 use Rattle.signature_items.specs.Steps.{pushed, all_at, IsStacked}

@@ -1,6 +1,3 @@
-use Rattle.std.proofs.Common.{◌∙◌, sym, ap}
-use Rattle.signature_items.specs.declared.place.Frame.{Frame}
-use Rattle.signature_items.specs.Places.{frame_at}
 use Rattle.signature_items.proofs.Counts.{types_opened, locals_opened, shape_opened}
 use Rattle.signature_items.proofs.follow.opened.Goals as goal
 

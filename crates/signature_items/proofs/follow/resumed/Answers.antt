@@ -1,4 +1,4 @@
-use Rattle.std.proofs.Common.{◌≡◌, ◌∙◌, List, ap}
+use Rattle.std.proofs.Common.{◌∙◌, List, ap}
 use Rattle.signature_items.specs.declared.place.Frame.{Frame}
 use Rattle.signature_items.specs.Steps.{all_at}
 use Rattle.std.proofs.Common.{Some}

@@ -1,5 +1,4 @@
 use Rattle.std.proofs.Common.{◌≡◌, ◌∙◌, ◌/◌, ◌%◌, eqb, true, false, sym, ap, rules}
-use Rattle.signature_values.specs.Reading.{is_method_code}
 use Rattle.signature_items.specs.declared.place.Place.TheVariants as place
 use Rattle.signature_items.specs.ItemsOf.{method_head}
 use Rattle.signature_items.specs.Places.{item_then, params_told}

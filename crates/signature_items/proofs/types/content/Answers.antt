@@ -1,4 +1,4 @@
-use Rattle.std.proofs.Common.{◌≡◌, ◌∙◌, sym, rules}
+use Rattle.std.proofs.Common.{◌∙◌, sym}
 use Rattle.signature_items.proofs.Arms.{content_typed_ref}
 use Rattle.signature_items.proofs.types.content.Goals as goal
 

@@ -1,7 +1,4 @@
-use Rattle.std.proofs.Common.{◌≡◌, ◌∙◌, ℕ, Bool, true, List, [], sym, ap, rules, subst}
-use Rattle.schema.specs.declared.column.SigKind.{SigKind}
-use Rattle.signature_values.specs.Syntax.{Body}
-use Rattle.signature_values.specs.Spells.{Spells}
+use Rattle.std.proofs.Common.{◌≡◌, true, rules}
 use Rattle.signature_items.proofs.Stacks.{first_ready, first_items}
 use Rattle.signature_items.proofs.items.Items.of.Goals as goal
 

@@ -1,5 +1,4 @@
-use Rattle.std.proofs.Common.{◌≡◌, ◌∙◌, Bool, true, Option, Some, None, is_some, List, [], ◌∷◌, sym, ap, subst, arith}
-use Rattle.signature_items.specs.declared.item.Item.{Item}
+use Rattle.std.proofs.Common.{◌≡◌, ◌∙◌, true, Option, Some, is_some, [], ◌∷◌, sym, ap, subst, arith}
 use Rattle.signature_items.specs.declared.place.Place.{Place}
 use Rattle.signature_items.specs.Steps.{all_at, items_left}
 use Rattle.signature_items.proofs.Stacks.{next_items, told_somewhere, ended_items}

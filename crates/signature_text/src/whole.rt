@@ -1,0 +1,88 @@
+ghost use Rattle.std.specs.Prelude.{◌≡◌};
+ghost use Rattle.signature_values.specs.Syntax.{Body};
+ghost use Rattle.signature_values.specs.Spells.{Spells};
+ghost use Rattle.signature_text.specs.Refused.{refused_after};
+
+use crate::front::{byte, number};
+use crate::sink::TextSink;
+use crate::types::{listed, method, slot};
+use recogniser::recognise;
+use schema::SigKind;
+
+/// How deep types may nest.
+const DEPTH: u8 = 128;
+
+/// A property (II.17): `instance`, where it belongs to one, its type, and its parameters.
+fn property<'a, S: TextSink>(sink: &mut S, code: u8, bytes: &'a [u8]) -> Option<&'a [u8]>
+    ensures { S.refused sink.new ≡ refused_after result (S.refused sink.old) }
+{
+    if code == 0x28 {
+        sink.text("instance ")?;
+    }
+    let (count, rest) = number(bytes);
+    let rest = slot(sink, rest, DEPTH)?;
+    sink.text(" ")?;
+    enclosed(sink, rest, count, "(", ")")
+}
+
+/// So many types between two marks, and the bytes behind them.
+fn enclosed<'a, S: TextSink>(
+    sink: &mut S,
+    bytes: &'a [u8],
+    count: u32,
+    first: &str,
+    last: &str,
+) -> Option<&'a [u8]>
+    ensures { S.refused sink.new ≡ refused_after result (S.refused sink.old) }
+{
+    sink.text(first)?;
+    let rest = listed(sink, bytes, count, DEPTH)?;
+    sink.text(last)?;
+    Some(rest)
+}
+
+/// A signature that its first byte tells, in a column of another kind than TypeSpec.
+fn headed<'a, S: TextSink>(sink: &mut S, bytes: &'a [u8]) -> Option<&'a [u8]>
+    ensures { S.refused sink.new ≡ refused_after result (S.refused sink.old) }
+{
+    let (code, rest) = byte(bytes);
+    match code {
+        0x06 => slot(sink, rest, DEPTH),
+        0x07 => {
+            let (count, rest) = number(rest);
+            enclosed(sink, rest, count, "(", ")")
+        }
+        0x0A => {
+            let (count, rest) = number(rest);
+            enclosed(sink, rest, count, "<", ">")
+        }
+        0x08 | 0x28 => property(sink, code, rest),
+        _ => method(sink, bytes, DEPTH),
+    }
+}
+
+/// Writes the signature that bytes, all of them, spell in a column of this kind, in the notation of ILAsm
+/// (II.7.1, II.15.3).
+///
+/// A field is its type; a method is written as a pointer to one, `method instance void *(int32, string)`; a
+/// property as `instance int32 (string)`; local variables as `(int32, string pinned)`, and type arguments as
+/// `<int32, string>`. Modifiers follow the type that they stand before, the innermost first. Where the bytes
+/// spell nothing, nothing is written.
+///
+/// # Errors
+///
+/// `None` exactly where the sink refused a word, which is then the last that it was handed.
+pub fn write_signature<S: TextSink>(sink: &mut S, bytes: &[u8], kind: SigKind) -> Option<()>
+    ensures words { S.refused sink.new ≡ refused_after result (S.refused sink.old) }
+    ensures nothing { ¬ ((signature : Body) × Spells kind signature bytes.now) → sink.new ≡ sink.old }
+{
+    if !recognise(bytes, kind) {
+        return Some(());
+    }
+    if let SigKind::TypeSpec = kind {
+        slot(sink, bytes, DEPTH)?;
+        return Some(());
+    }
+    headed(sink, bytes)?;
+    Some(())
+}
