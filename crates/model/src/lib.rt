@@ -60,8 +60,9 @@ pub use schema::{Coded, Column, ColumnKind, cell_count, columns, key};
 pub use loading::{LoadError, ToModel, load_image, load_root};
 pub use owned_model::{Bytes, Cell, Model, ModelKeys, Refusal, Row, Tables, Text};
 
-// Signatures in place, an item at a time.
+// Signatures in place: an item at a time, and in the notation of ILAsm.
 pub use signature_items::{Item, Items, MethodHead};
+pub use signature_text::{NamedText, TextSink, TokenNames, write_signature};
 
 // Signatures, and what they say.
 pub use signatures::{
