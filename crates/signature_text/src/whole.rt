@@ -71,7 +71,7 @@ fn headed<'a, S: TextSink>(sink: &mut S, bytes: &'a [u8]) -> Option<&'a [u8]>
 ///
 /// # Errors
 ///
-/// `None` exactly where the sink refused a word, which is then the last that it was handed.
+/// `None` exactly where the sink refused a word.
 pub fn write_signature<S: TextSink>(sink: &mut S, bytes: &[u8], kind: SigKind) -> Option<()>
     ensures words { S.refused sink.new ≡ refused_after result (S.refused sink.old) }
     ensures nothing { ¬ ((signature : Body) × Spells kind signature bytes.now) → sink.new ≡ sink.old }

@@ -1,5 +1,5 @@
-use signature_text::{NamedText, SigKind, Token, TokenNames, write_signature};
 use schema::TableId;
+use signature_text::{NamedText, SigKind, Token, TokenNames, write_signature};
 use std::alloc::Global;
 use std::fmt;
 use std::test::Fail;
