@@ -1,7 +1,6 @@
 //! Tests of `cli`, over its public calls alone: the lines that the program prints, its statuses, its help
 //! and its usage texts, on files that the tests write; and what words ask for, of which [`file_named`]
 //! tells the file.
-#![tactic(auto)]
 
 mod named;
 

@@ -2,7 +2,6 @@
 //! metadata root, a PE file and a CLI header, each of their demands, and what stands on both sides of
 //! a limit. [`refusal_of_image`], [`refusal_of_cli_header`] and [`refusal_of_root`] tell the first demand
 //! that is not met.
-#![tactic(auto)]
 
 mod refusals;
 

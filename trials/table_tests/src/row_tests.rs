@@ -1,6 +1,4 @@
-ghost use Rattle.std.specs.Prelude.{◌≡◌, ◌≤◌, length, nat_lt, IsTrue};
-ghost use Rattle.std.specs.List.{list_all};
-ghost use Rattle.schema.specs.Columns.{columns_of};
+ghost use Rattle.std.specs.Prelude.{◌≤◌, length};
 
 use rows::{Keys, Rows, find_key, put_row};
 use schema::{Layout, TableId, columns, widths_are_known};
@@ -73,10 +71,7 @@ fn row_behind_a_byte(
     stream: &[u8],
     table: TableId,
     numbers: &[u32],
-) -> Result<Vec<u8>, Fail>
-    requires one { length numbers.now ≡ length (columns_of table) }
-    requires small { IsTrue (list_all (λ n. nat_lt n 256) numbers.now) }
-{
+) -> Result<Vec<u8>, Fail> {
     widths_are_known();
     let mut bytes = vec![in alloc; 0xFF]?;
     put_row(&mut bytes, &Layout::read(stream)?, table, numbers)?;
