@@ -1,5 +1,4 @@
-ghost use Rattle.std.specs.Prelude.{OnSome, IfNone, ◌≡◌};
-ghost use Rattle.checks.specs.declared.budget.Budget.{Budget as Bytes};
+ghost use Rattle.std.specs.Prelude.{◌≡◌};
 ghost use Rattle.checks.specs.declared.budget.BoundedError.TheVariants.{Fault};
 
 use packed::Fault;
