@@ -20,6 +20,8 @@ _clim() {
         *)
             local flags='--bare --help'
             if [ "${COMP_WORDS[1]}" = check ]; then flags="$flags --budget"; fi
+            # The budget is a number.
+            if [ "${COMP_WORDS[COMP_CWORD-1]}" = --budget ]; then return; fi
             if [[ $word == -* ]]; then
                 while read -r line; do COMPREPLY+=("$line"); done < <(compgen -W "$flags" -- "$word")
             else
