@@ -13,7 +13,8 @@ use Rattle.heaps.specs.Entries.{HasNoNul}
 use Rattle.heaps.specs.TextPlan.{TextPlan}
 use Rattle.signature_values.specs.Syntax.{Body}
 use Rattle.metadata.specs.Cell.{Cell, Number, Text, Bytes, Guid, Ref, Start, Sig}
-use Rattle.metadata.specs.Metadata.{Metadata, rows_of, count_in}
+use Rattle.metadata.specs.Lookups.{HasRow}
+use Rattle.metadata.specs.Metadata.{Metadata, rows_of, count_in, cell_in}
 use Rattle.metadata.specs.Valid.{IsValid, IsValidCell, kind_at, nullable_at}
 use Rattle.canonical.specs.Pools.{used, texts_of}
 use Rattle.plan.proofs.TextLemmas.{position_at}
@@ -101,6 +102,14 @@ rows_ready plan model position valid planned table =
     cell_ready plan model (kind_at table place) (nullable_at table place) (get_or (get_or (rows_of model table) k []) place (Number 0)) valid.few
     (λ text among. planned text (is_used texts_of model table k place text (omega (arith, position table, valid.tables)) row cell among))
     good)
+
+pub ready_at : (plan : TextPlan) (model : Metadata) → ((table : TableId) → position_of table < 38) → IsValid model → ArePlanned plan model → (table : TableId) (row place : ℕ)
+    → HasRow model table row → place < cell_count table → CanBeNumbered plan (cell_in model table row place)
+ready_at plan model position valid planned table row place there within =
+    let long = valid.long table row there in
+    cell_ready plan model (kind_at table place) (nullable_at table place) (cell_in model table row place) valid.few
+    (λ text among. planned text (is_used texts_of model table (row - 1) place text (omega (arith, position table, valid.tables)) (omega (arith, there.0, there.1)) (omega (arith, long, within)) among))
+    (valid.cells table row place there within)
 
 -- ---- what all used values are
 

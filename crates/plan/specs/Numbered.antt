@@ -1,5 +1,5 @@
 -- The numbers of cells, and the pools of the blobs and GUIDs that they use, one cell after another (ECMA-335 II.24.2.6).
-use Rattle.std.specs.Prelude.{◌≡◌, ℕ, ◌*◌, ◌^◌, ◌<◌, ◌≤◌, ◌⊎◌, ⊤, Bool, true, false, List, [], ◌∷◌, ◌++◌, length, flat_map, Contains, Some}
+use Rattle.std.specs.Prelude.{◌≡◌, ℕ, ◌*◌, ◌^◌, ◌<◌, ◌≤◌, ◌⊎◌, ⊤, Bool, true, false, List, [], ◌∷◌, ◌++◌, length, flat_map, Contains, Option, Some}
 use Rattle.schema.specs.declared.column.Column.{Column}
 use Rattle.schema.specs.declared.column.ColumnKind.{ColumnKind}
 use Rattle.schema.specs.declared.table.TableId.{TableId}
@@ -7,7 +7,7 @@ use Rattle.schema.specs.Columns.{columns_of}
 use Rattle.schema.specs.CellColumns.{is_padding}
 use Rattle.heaps.specs.Distinct.{pooled}
 use Rattle.heaps.specs.BlobHeap.{blob_heap}
-use Rattle.heaps.specs.GuidHeap.{guid_heap}
+use Rattle.heaps.specs.GuidHeap.{guid_heap, pooled_guid}
 use Rattle.heaps.specs.TextPlan.{TextPlan}
 use Rattle.signature_values.specs.Spells.{short}
 use Rattle.metadata.specs.Cell.{Cell}
@@ -30,6 +30,14 @@ none_numbered = record { blobs = []; guids = []; numbers = [] }
 abbrev pub pooled_all : List (List ℕ) → List (List ℕ) → List (List ℕ)
 pooled_all entries [] = entries
 pooled_all entries (value ∷ values) = pooled_all (pooled entries value) values
+
+-- with a blob pooled
+abbrev pub with_blob : Numbered → List ℕ → Numbered
+with_blob so_far blob = record so_far { blobs = pooled so_far.blobs blob }
+
+-- with a GUID pooled, unless it is null
+abbrev pub with_guid : Numbered → Option (List ℕ) → Numbered
+with_guid so_far guid = record so_far { guids = pooled_guid so_far.guids guid }
 
 -- with the values of a cell pooled
 abbrev pub with_values : Numbered → Cell → Numbered

@@ -1,11 +1,22 @@
-ghost use Rattle.std.specs.Prelude.{◌≡◌, length, sum_by};
+ghost use Rattle.std.specs.Prelude.{◌≡◌, ◌<◌, ℕ, List, All, length, sum_by};
 ghost use Rattle.schema.specs.declared.table.TableId.{TableId as Table};
 ghost use Rattle.schema.specs.Sizes.{Sizes, count_of};
 ghost use Rattle.schema.specs.Tables.{tables};
-ghost use Rattle.metadata.specs.Metadata.{Metadata, count_in};
+ghost use Rattle.schema.specs.declared.column.Column.{Column};
+ghost use Rattle.schema.specs.CellColumns.{cell_count};
+ghost use Rattle.heaps.specs.Entries.{HasNoNul};
+ghost use Rattle.heaps.specs.TextPlan.{TextPlan};
+ghost use Rattle.metadata.specs.Cell.{Cell};
+ghost use Rattle.metadata.specs.Lookups.{HasRow};
+ghost use Rattle.metadata.specs.Metadata.{Metadata, count_in, cell_in};
+ghost use Rattle.metadata.specs.Valid.{IsValid};
 ghost use Rattle.canonical.specs.Numbers.{numbers};
+ghost use Rattle.canonical.specs.Pools.{texts_of, used, pools_of};
 ghost use Rattle.put.specs.Flat.{cells_of, tables_in};
-ghost use Rattle.plan.specs.Numbered.{flat};
+ghost use Rattle.plan.specs.Numbered.{flat, Numbered, ArePlanned, CanBeNumbered, IsNumbering, IsOver, IsTooLong, with_row, with_rows, with_tables, none_numbered};
+
+use heaps::{indexes_stay, pooled_are_distinct};
+use schema::tables_stand;
 
 /// The numbers of a model as one list are those that `put` takes for tables of as many rows, and are
 /// found again there by table, row and column.
@@ -14,4 +25,35 @@ pub fn numbers_are_put()
         → tables_in sizes tables (flat (numbers model)) ≡ numbers model }
     ensures many { (model : Metadata) (sizes : Sizes) → ((table : Table) → count_of sizes table ≡ count_in model table)
         → length (flat (numbers model)) ≡ sum_by (cells_of sizes) tables }
+{}
+
+/// The texts of a valid model have no NUL, and each of its cells can be numbered once they are planned.
+pub fn cells_can_be_numbered()
+    ensures texts { (model : Metadata) → IsValid model → All HasNoNul (used texts_of model) }
+    ensures cell { (plan : TextPlan) (model : Metadata) → IsValid model → ArePlanned plan model → (table : Table) (row place : ℕ)
+        → HasRow model table row → place < cell_count table → CanBeNumbered plan (cell_in model table row place) }
+{
+    tables_stand();
+}
+
+/// With all its tables a valid model is numbered.
+pub fn numberings_are_of_models()
+    ensures whole { (model : Metadata) (texts : List (List ℕ)) → IsValid model → texts ≡ (pools_of model).texts
+        → IsNumbering model (with_tables texts model tables none_numbered) }
+    ensures over { (model : Metadata) (texts : List (List ℕ)) → IsValid model → texts ≡ (pools_of model).texts
+        → IsOver (with_tables texts model tables none_numbered) → IsTooLong model }
+{
+    tables_stand();
+    pooled_are_distinct();
+    indexes_stay();
+}
+
+/// A heap that is longer than 2^30 bytes stays so, whatever cells are numbered more.
+pub fn heaps_stay_too_long()
+    ensures row { (texts : List (List ℕ)) (columns : List Column) (cells : List Cell) (so_far : Numbered) → IsOver so_far
+        → IsOver (with_row texts columns cells so_far) }
+    ensures rows { (texts : List (List ℕ)) (columns : List Column) (rows : List (List Cell)) (so_far : Numbered) → IsOver so_far
+        → IsOver (with_rows texts columns rows so_far) }
+    ensures tables { (texts : List (List ℕ)) (model : Metadata) (listed : List Table) (so_far : Numbered) → IsOver so_far
+        → IsOver (with_tables texts model listed so_far) }
 {}

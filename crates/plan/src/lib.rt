@@ -18,6 +18,9 @@ mod numbering;
 mod references;
 mod texts;
 
-pub use laws::numbers_are_put;
+pub use laws::{
+    cells_can_be_numbered, heaps_stay_too_long, numberings_are_of_models, numbers_are_put,
+};
 pub use numbering::Numbering;
+pub use references::row_number;
 pub use texts::text_pool;

@@ -1,4 +1,4 @@
-ghost use Rattle.std.specs.Prelude.{◌≡◌, ◌^◌, ◌≤◌, Err, OnOk, IfOk, length, sum_by};
+ghost use Rattle.std.specs.Prelude.{◌≡◌, ◌^◌, ◌≤◌, ◌<◌, ◌↔◌, Err, OnOk, OnErr, IfOk, length, sum_by};
 ghost use Rattle.std.specs.List.{AllByRecursion};
 ghost use Rattle.heaps.specs.declared.pool_error.PoolError.TheVariants.{Full};
 ghost use Rattle.schema.specs.declared.table.TableId.{TableId as Table};
@@ -8,17 +8,18 @@ ghost use Rattle.cells.specs.Said.{said, all_said};
 ghost use Rattle.metadata.specs.Cell.{Cell as Says};
 ghost use Rattle.metadata.specs.Metadata.{rows_of, count_in};
 ghost use Rattle.metadata.specs.Valid.{IsValid};
-ghost use Rattle.heaps.specs.BlobHeap.{blob_heap};
-ghost use Rattle.heaps.specs.GuidHeap.{guid_heap};
+ghost use Rattle.heaps.specs.Distinct.{pooled};
+ghost use Rattle.heaps.specs.BlobHeap.{blob_heap, blob_index};
+ghost use Rattle.heaps.specs.GuidHeap.{guid_heap, guid_index, pooled_guid};
 ghost use Rattle.canonical.specs.Pools.{pools_of};
 ghost use Rattle.canonical.specs.Numbers.{cell_number};
-ghost use Rattle.plan.specs.Numbered.{Numbered, CanBeNumbered, IsOver, with_values, with_number, pools_in, with_cell, with_next_cell, with_row, with_rows, with_tables, none_numbered, numbers_in, ArePlanned, IsNumbering, IsTooLong};
+ghost use Rattle.plan.specs.Numbered.{Numbered, CanBeNumbered, IsOver, with_blob, with_guid, with_values, with_number, pools_in, with_cell, with_next_cell, with_row, with_rows, with_tables, none_numbered, numbers_in, ArePlanned, IsNumbering, IsTooLong};
 
 use crate::references::row_number;
 use heaps::{BlobPool, GuidPool, PoolError, TextPool, indexes_stay, pooled_are_distinct};
 use schema::{Column, ColumnKind, TableId, columns, columns_stand, tables_stand};
 use signatures::encode;
-use std::alloc::Global;
+use std::alloc::{AllocError, Global};
 use std::marker::Model;
 use tables::{Cell, Row, Tables};
 
@@ -54,6 +55,57 @@ impl Model for Numbering {
 
 impl Numbering {
     ghost use Rattle.std.specs.Prelude.{List};
+
+    /// A numbering of no cells, with memory for a count of numbers.
+    pub fn new(alloc: Global, count: usize) -> Result<Numbering, AllocError>
+        ensures { IfOk result (λ numbering. numbering ≡ none_numbered) }
+    {
+        Ok(Numbering {
+            alloc,
+            blobs: BlobPool::new(alloc),
+            guids: GuidPool::new(alloc),
+            numbers: Vec::with_capacity(alloc, count)?,
+        })
+    }
+
+    /// Keeps the number of the next column. Where memory is refused it stays as it was.
+    pub fn put_number(&mut self, number: u32) -> Result<(), AllocError>
+        ensures ok { OnOk result (self.new ≡ with_number self.old number) }
+        ensures err { OnErr result (self.new ≡ self.old) }
+    {
+        Ok(self.numbers.push(number)?)
+    }
+
+    /// Pools a blob of at most 2^29 - 1 bytes and answers its index (II.24.2.4).
+    ///
+    /// # Errors
+    ///
+    /// `Full` where the heap of the blobs would pass 2^30 bytes; `Memory` where memory is refused. Each leaves the
+    /// numbering as it was.
+    pub fn put_blob(&mut self, blob: &[u8]) -> Result<u32, PoolError>
+        requires { length blob.now < 2 ^ 29 }
+        ensures pools { OnOk result (self.new ≡ with_blob self.old blob.now) }
+        ensures index { IfOk result (λ index. index ≡ blob_index self.new.blobs blob.now) }
+        ensures err { OnErr result (self.new ≡ self.old) }
+        ensures full { (result ≡ Err PoolError.Full) ↔ (2 ^ 30 < length (blob_heap (pooled self.old.blobs blob.now))) }
+    {
+        self.blobs.add(blob)
+    }
+
+    /// Pools a GUID and answers its index; that of null is 0 (II.24.2.5).
+    ///
+    /// # Errors
+    ///
+    /// `Full` where the heap of the GUIDs would pass 2^30 bytes; `Memory` where memory is refused. Each leaves the
+    /// numbering as it was.
+    pub fn put_guid(&mut self, guid: Option<[u8; 16]>) -> Result<u32, PoolError>
+        ensures pools { OnOk result (self.new ≡ with_guid self.old guid) }
+        ensures index { IfOk result (λ index. index ≡ guid_index self.new.guids guid) }
+        ensures err { OnErr result (self.new ≡ self.old) }
+        ensures full { (result ≡ Err PoolError.Full) ↔ (2 ^ 30 < length (guid_heap (pooled_guid self.old.guids guid))) }
+    {
+        self.guids.add(guid)
+    }
 
     /// The number of a cell in a column of a kind, whose values are pooled.
     fn number(&mut self, texts: &TextPool, kind: ColumnKind, cell: &Cell) -> Result<u32, PoolError>
@@ -146,12 +198,7 @@ impl Numbering {
         ensures ok { IfOk result (λ numbering. numbering ≡ with_tables texts.now.entries tables.now all_tables none_numbered) }
         ensures full { result ≡ Err PoolError.Full → IsOver (with_tables texts.now.entries tables.now all_tables none_numbered) }
     {
-        let mut numbering = Numbering {
-            alloc,
-            blobs: BlobPool::new(alloc),
-            guids: GuidPool::new(alloc),
-            numbers: Vec::with_capacity(alloc, count_numbers(tables))?,
-        };
+        let mut numbering = Numbering::new(alloc, count_numbers(tables))?;
         for table in TableId::all() {
             numbering.put_rows(texts, columns(*table), tables.rows(*table))?;
         }
