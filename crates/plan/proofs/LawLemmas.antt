@@ -24,7 +24,7 @@ use Rattle.metadata.specs.Metadata.{Metadata, rows_of}
 use Rattle.metadata.specs.Valid.{IsValid, IsValidCell, kind_at, nullable_at}
 use Rattle.canonical.specs.Pools.{Pools, pools_of, used, blobs_of, guids_of}
 use Rattle.canonical.specs.Numbers.{cell_number, with_next, numbers_of, table_numbers, numbers}
-use Rattle.plan.proofs.TextLemmas.{position_at}
+use Rattle.plan.proofs.PositionLemmas.{position_at}
 use Rattle.plan.proofs.ReadyLemmas.{each_cell}
 use Rattle.plan.specs.Numbered.{Numbered, IsNumbering, IsOver, IsTooLong, flat, none_numbered, pooled_all, with_values, with_number, with_cell, with_next_cell, with_row, with_rows, with_tables, pools_in}
 

@@ -1,6 +1,5 @@
-pub mod CountLemmas
 pub mod FlatLemmas
 pub mod LawLemmas
 pub mod OverLemmas
+pub mod PositionLemmas
 pub mod ReadyLemmas
-pub mod TextLemmas

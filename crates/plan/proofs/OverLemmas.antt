@@ -1,13 +1,10 @@
 -- A heap that is longer than 2^30 bytes stays so, whatever is pooled more.
-use Rattle.std.proofs.Common.{◌≡◌, ℕ, ◌+◌, ◌<◌, ◌≤◌, inl, inr, Bool, true, false, cond, List, [], ◌∷◌, ◌++◌, length, get_or, drop, sym, ap, subst, ◌∙◌, length-append, arith}
+use Rattle.std.proofs.Common.{ℕ, ◌≤◌, inl, inr, Bool, true, false, cond, List, [], ◌∷◌, ◌++◌, length, sym, ap, subst, length-append, arith}
 use Rattle.std.specs.Prelude.{flat_map}
 use Rattle.std.proofs.lemmas.Bool.{cases_Bool}
-use Rattle.std.proofs.lemmas.List.{drop_more}
 use Rattle.std.proofs.lemmas.List.Concat.{flat_map-append}
 use Rattle.schema.specs.declared.column.Column.{Column}
 use Rattle.schema.specs.declared.table.TableId.{TableId}
-use Rattle.schema.specs.declared.table.TableId.TheVariants.{Module}
-use Rattle.schema.specs.Tables.{tables}
 use Rattle.schema.specs.Columns.{columns_of}
 use Rattle.schema.specs.CellColumns.{is_padding}
 use Rattle.heaps.specs.Distinct.{is_among, pooled}
@@ -67,28 +64,3 @@ pub over_tables : (texts : List (List ℕ)) (model : Metadata) (listed : List Ta
 over_tables texts model [] so_far over = over
 over_tables texts model (table ∷ listed) so_far over =
     over_tables texts model listed (with_rows texts (columns_of table) (rows_of model table) so_far) (over_rows texts (columns_of table) (rows_of model table) so_far over)
-
--- ---- of what is left
-
-pub row_at : (texts : List (List ℕ)) (columns : List Column) (i : ℕ) (d : Column) (cells : List Cell) (so_far whole : Numbered) → i < length columns
-    → with_row texts (drop i columns) cells so_far ≡ whole
-    → with_next_cell (is_padding (get_or columns i d).kind) (with_cell texts (get_or columns i d).kind) (with_row texts (drop (i + 1) columns)) cells so_far ≡ whole
-row_at texts columns i d cells so_far whole below e = sym (ap (λ list. with_row texts list cells so_far) (drop_more columns i d below)) ∙ e
-
-pub over_rows_at : (texts : List (List ℕ)) (columns : List Column) (rows : List (List Cell)) (i : ℕ) (d row : List Cell) (so_far whole : Numbered) → i < length rows
-    → row ≡ get_or rows i d → with_rows texts columns (drop i rows) so_far ≡ whole → IsOver (with_row texts columns row so_far) → IsOver whole
-over_rows_at texts columns rows i d row so_far whole below is e over =
-    let same = ap (λ r. with_rows texts columns (drop (i + 1) rows) (with_row texts columns r so_far)) is
-    ∙ sym (ap (λ list. with_rows texts columns list so_far) (drop_more rows i d below)) ∙ e in
-    subst IsOver same (over_rows texts columns (drop (i + 1) rows) (with_row texts columns row so_far) over)
-
-pub over_tables_at : (texts : List (List ℕ)) (model : Metadata) (i : ℕ) (table : TableId) (columns : List Column) (rows : List (List Cell)) (so_far whole : Numbered)
-    → i < length tables → table ≡ get_or tables i Module → columns ≡ columns_of table → rows ≡ rows_of model table
-    → with_tables texts model (drop i tables) so_far ≡ whole → IsOver (with_rows texts columns rows so_far) → IsOver whole
-over_tables_at texts model i table columns rows so_far whole below at have are e over =
-    let more : List TableId = drop (i + 1) tables in
-    let same = ap (λ cs. with_tables texts model more (with_rows texts cs rows so_far)) have
-    ∙ ap (λ rs. with_tables texts model more (with_rows texts (columns_of table) rs so_far)) are
-    ∙ ap (λ t. with_tables texts model more (with_rows texts (columns_of t) (rows_of model t) so_far)) at
-    ∙ sym (ap (λ list. with_tables texts model list so_far) (drop_more tables i Module below)) ∙ e in
-    subst IsOver same (over_tables texts model more (with_rows texts columns rows so_far) over)

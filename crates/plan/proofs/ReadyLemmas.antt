@@ -17,7 +17,7 @@ use Rattle.metadata.specs.Lookups.{HasRow}
 use Rattle.metadata.specs.Metadata.{Metadata, rows_of, count_in, cell_in}
 use Rattle.metadata.specs.Valid.{IsValid, IsValidCell, kind_at, nullable_at}
 use Rattle.canonical.specs.Pools.{used, texts_of}
-use Rattle.plan.proofs.TextLemmas.{position_at}
+use Rattle.plan.proofs.PositionLemmas.{position_at}
 use Rattle.plan.specs.Numbered.{CanBeNumbered, ArePlanned}
 
 -- ---- values of cells are among the used ones

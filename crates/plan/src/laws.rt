@@ -1,4 +1,5 @@
 ghost use Rattle.std.specs.Prelude.{◌≡◌, ◌<◌, ℕ, List, All, length, sum_by};
+ghost use Rattle.std.specs.List.{AllByRecursion};
 ghost use Rattle.schema.specs.declared.table.TableId.{TableId as Table};
 ghost use Rattle.schema.specs.Sizes.{Sizes, count_of};
 ghost use Rattle.schema.specs.Tables.{tables};
@@ -8,7 +9,7 @@ ghost use Rattle.heaps.specs.Entries.{HasNoNul};
 ghost use Rattle.heaps.specs.TextPlan.{TextPlan};
 ghost use Rattle.metadata.specs.Cell.{Cell};
 ghost use Rattle.metadata.specs.Lookups.{HasRow};
-ghost use Rattle.metadata.specs.Metadata.{Metadata, count_in, cell_in};
+ghost use Rattle.metadata.specs.Metadata.{Metadata, rows_of, count_in, cell_in};
 ghost use Rattle.metadata.specs.Valid.{IsValid};
 ghost use Rattle.canonical.specs.Numbers.{numbers};
 ghost use Rattle.canonical.specs.Pools.{texts_of, used, pools_of};
@@ -32,6 +33,8 @@ pub fn cells_can_be_numbered()
     ensures texts { (model : Metadata) → IsValid model → All HasNoNul (used texts_of model) }
     ensures cell { (plan : TextPlan) (model : Metadata) → IsValid model → ArePlanned plan model → (table : Table) (row place : ℕ)
         → HasRow model table row → place < cell_count table → CanBeNumbered plan (cell_in model table row place) }
+    ensures rows { (plan : TextPlan) (model : Metadata) → IsValid model → ArePlanned plan model → (table : Table)
+        → AllByRecursion (AllByRecursion (CanBeNumbered plan)) (rows_of model table) }
 {
     tables_stand();
 }

@@ -1,4 +1,4 @@
-use Rattle.plan.proofs.ReadyLemmas.{no_nul, ready_at}
+use Rattle.plan.proofs.ReadyLemmas.{no_nul, ready_at, rows_ready}
 use Rattle.plan.proofs.laws.cells_can_be_numbered.Goals as goal
 
 pub returns-clause-texts : goal.returns-clause-texts
@@ -7,3 +7,6 @@ returns-clause-texts c model valid = no_nul model c.tables_stand.ensures.count v
 pub returns-clause-cell : goal.returns-clause-cell
 returns-clause-cell c plan model valid planned table row place there within =
     ready_at plan model c.tables_stand.ensures.position valid planned table row place there within
+
+pub returns-clause-rows : goal.returns-clause-rows
+returns-clause-rows c plan model valid planned table = rows_ready plan model c.tables_stand.ensures.position valid planned table

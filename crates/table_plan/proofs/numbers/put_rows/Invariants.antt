@@ -1,0 +1,11 @@
+use Rattle.std.proofs.Common.{◌≡◌, drop}
+use Rattle.std.specs.List.{AllByRecursion}
+use Rattle.plan.specs.Numbered.{CanBeNumbered, with_rows}
+use Rattle.table_plan.proofs.numbers.put_rows.Given as goal
+
+-- with the rows that are left it is all of them
+abbrev pub invariant-loop-row : goal.invariant-loop-row
+invariant-loop-row l = record {
+  whole : with_rows l.texts.entries l.columns (drop l.row-index l.rows) l.numbering ≡ with_rows l.texts.entries l.columns l.rows l.fn.numbering;
+  ready : AllByRecursion (AllByRecursion (CanBeNumbered l.texts)) (drop l.row-index l.rows);
+}

@@ -1,0 +1,33 @@
+ghost use Rattle.std.specs.Prelude.{◌≡◌, ◌^◌, ◌<◌, ◌⊎◌, Err, IfOk, length};
+ghost use Rattle.heaps.specs.declared.pool_error.PoolError.TheVariants.{Full};
+ghost use Rattle.heaps.specs.TextHeap.{text_heap};
+ghost use Rattle.metadata.specs.Valid.{IsValid};
+ghost use Rattle.canonical.specs.Pools.{pools_of};
+ghost use Rattle.plan.specs.Numbered.{IsNumbering, IsTooLong};
+
+use crate::numbers::numbers_of;
+use crate::texts::text_pool;
+use heaps::{PoolError, TextPool};
+use plan::{Numbering, cells_can_be_numbered, numberings_are_of_models};
+use std::alloc::Global;
+use tables::Tables;
+
+/// The pools of the canonical root of valid tables, and the numbers of all their cells (II.24.2.3 to II.24.2.6).
+///
+/// The texts are pooled first; then each cell is numbered, by table, row and column, and blobs and GUIDs are pooled
+/// as they come, a signature in its shortest spelling. The memory of the numbers is taken at once.
+///
+/// # Errors
+///
+/// `Full` where one of the heaps would pass 2^30 bytes; `Memory` where memory is refused.
+pub fn pools_of_tables(alloc: Global, tables: &Tables) -> Result<(TextPool, Numbering), PoolError>
+    requires { IsValid tables.now }
+    ensures pools { IfOk result (λ pools. (pools.0.entries ≡ (pools_of tables.now).texts) × IsNumbering tables.now pools.1) }
+    ensures full { result ≡ Err PoolError.Full → (2 ^ 30 < length (text_heap (pools_of tables.now).texts)) ⊎ IsTooLong tables.now }
+{
+    cells_can_be_numbered();
+    numberings_are_of_models();
+    let texts = text_pool(alloc, tables)?;
+    let numbering = numbers_of(alloc, &texts, tables)?;
+    Ok((texts, numbering))
+}
