@@ -2,6 +2,7 @@
 use Rattle.std.proofs.Common.{◌≡◌, ℕ, zero, suc, ◌+◌, ◌-◌, ◌%◌, ◌<◌, ◌≤◌, inl, inr, cond, ltb, List, [], ◌∷◌, ◌++◌, length, filter, replicate, refl, sym, ap, subst, ◌∙◌, length-append, arith}
 use Rattle.std.specs.Prelude.{sum_by, flat_map}
 use Rattle.std.proofs.lemmas.Bool.{cases_Bool, ltb-false}
+use Rattle.std.proofs.lemmas.List.{append-nil}
 use Rattle.std.proofs.lemmas.List.Sums.{sum_by-cons}
 use Rattle.root.specs.declared.kind.Kind.{Kind}
 use Rattle.root.specs.declared.kind.Kind.TheVariants.{Tables, Strings, UserStrings, Guids, Blobs}
@@ -77,3 +78,7 @@ pub length-filled : (bytes : List ℕ) (len : ℕ) → length bytes ≡ len → 
 length-filled bytes len is =
     ap (λ n. n + (4 - n % 4) % 4) (sym is)
     ∙ omega (arith, length-append bytes (replicate ((4 - length bytes % 4) % 4) 0), length-zeros ((4 - length bytes % 4) % 4))
+
+-- bytes whose length is a multiple of four want no fill
+pub filled_is : (bytes : List ℕ) → length bytes % 4 ≡ 0 → filled bytes ≡ bytes
+filled_is bytes even = ap (λ rest. bytes ++ replicate {A = ℕ} ((4 - rest) % 4) 0) even ∙ append-nil bytes

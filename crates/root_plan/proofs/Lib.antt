@@ -1,3 +1,4 @@
+pub mod Answered
 pub mod LengthLemmas
 pub mod CountLemmas
 pub mod TableLemmas

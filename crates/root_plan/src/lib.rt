@@ -1,8 +1,9 @@
 //! What is known of a canonical root before a byte of it is written: its pools, its numbers, and how
 //! long it and each of its streams is (ECMA-335 II.24.2).
 //!
-//! [`RootPlan::of`] plans the root of a model, and tells exactly whether it is longer than a limit. A
-//! writer that takes the memory of the root at once then has nothing left that can fail.
+//! [`RootPlan::of`] plans the root of a model and [`RootPlan::of_view`] that of a view, and each tells exactly
+//! whether it is longer than a limit. A writer that takes the memory of the root at once then has nothing left
+//! that can fail.
 //!
 //! ```text
 //! let plan = RootPlan::of(alloc, &model, 1 << 30)?;
@@ -12,14 +13,19 @@
 //! ```
 #![tactic(auto)]
 
+mod bits;
 mod heap_lens;
 mod laws;
+mod model_tables;
+mod outline;
 mod plan_error;
 mod planned;
 mod stream_lens;
 mod tables_plan;
+mod view_tables;
 
 pub use laws::streams_are_within_roots;
+pub use outline::Outline;
 pub use plan_error::PlanError;
 pub use planned::RootPlan;
 pub use tables_plan::TablesPlan;

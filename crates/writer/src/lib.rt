@@ -3,8 +3,8 @@
 //! [`write_root`] and [`write_root_within`] answer its bytes, whose one model is the one that was
 //! written. [`write_root_to`] gives them out through a [`Sink`], such as [`Counted`] over any writer.
 //! [`prepare`] makes the bytes first, so that only [`Prepared::send`], which takes no memory, stands
-//! behind the opening of a file. A root that is too long and want of memory are told before the first
-//! byte goes out.
+//! behind the opening of a file. [`prepare_view`] makes them of a view that is open, whose model is not
+//! made. A root that is too long and want of memory are told before the first byte goes out.
 //!
 //! ```text
 //! let prepared = prepare(alloc, &model, 1 << 20)?;        // TooLarge: it has more than 2^20 bytes
@@ -22,6 +22,6 @@ mod prepared;
 mod roots;
 
 pub use error::WriteError;
-pub use prepared::{Prepared, prepare};
+pub use prepared::{Prepared, prepare, prepare_view};
 pub use roots::{write_root, write_root_to, write_root_within};
 pub use sinks::{Counted, Sink};

@@ -1,15 +1,19 @@
 ghost use Rattle.std.specs.Prelude.{◌≡◌, ◌^◌, ◌<◌, ◌≤◌, ⊤, IfOk, IfErr, length};
+ghost use Rattle.metadata.specs.Metadata.{Metadata};
+ghost use Rattle.metadata.specs.Model.{IsModel};
 ghost use Rattle.canonical.specs.Canonical.{canonical};
 ghost use Rattle.put.specs.Root.{CanBePut, ArePartsOf};
-ghost use Rattle.root_plan.specs.Planned.{IsRootPlan};
+ghost use Rattle.root_plan.specs.Planned.{IsRootPlan, IsPlan};
 ghost use Rattle.writer.specs.Errors.{MatchError};
 
 use crate::error::WriteError;
+use metadata::models_of_roots_are_valid;
+use opening::View;
 use owned_model::Model;
 use put::{RootParts, Writer, parts_are_canonical};
 use root_plan::RootPlan;
 use sinks::{Sink, send_all};
-use std::alloc::Global;
+use std::alloc::{AllocError, Global};
 use std::marker;
 
 /// The bytes of a model's canonical root, ready to be given out.
@@ -77,14 +81,14 @@ impl Prepared {
     }
 }
 
-/// What the canonical root of a model is written of, by its plan.
-fn parts_of<'a>(model: &'a Model, plan: &'a RootPlan) -> RootParts<'a>
-    requires { IsRootPlan model.now plan.now }
+/// What a planned root is written of.
+fn parts_of<'a>(plan: &'a RootPlan) -> RootParts<'a>
+    requires { IsPlan plan.now }
     ensures can { CanBePut result }
-    ensures parts { ArePartsOf model.now result }
+    ensures parts { (model : Metadata) → IsRootPlan model plan.now → ArePartsOf model result }
 {
     RootParts {
-        version: model.version(),
+        version: plan.version,
         sizes: plan.sizes,
         layout: &plan.tables.layout,
         heap_sizes: plan.tables.heap_sizes,
@@ -92,10 +96,23 @@ fn parts_of<'a>(model: &'a Model, plan: &'a RootPlan) -> RootParts<'a>
         tables_len: plan.tables.len,
         numbers: plan.numbering.numbers(),
         strings: plan.texts.bytes(),
-        user_strings: model.user(),
+        user_strings: plan.user_strings,
         guids: plan.numbering.guids(),
         blobs: plan.numbering.blobs(),
     }
+}
+
+/// The root that is planned, in memory that is taken once.
+fn make(alloc: Global, plan: &RootPlan) -> Result<Prepared, AllocError>
+    requires { IsPlan plan.now }
+    ensures { (model : Metadata) → IsRootPlan model plan.now → IfOk result (λ prepared. prepared ≡ canonical model) }
+{
+    parts_are_canonical();
+    let mut writer = Writer::with_room(alloc, plan.len as usize)?;
+    writer.put_root(&parts_of(plan));
+    Ok(Prepared {
+        root: writer.into_bytes(),
+    })
 }
 
 /// Makes the canonical root of a model, where it has at most so many bytes.
@@ -113,13 +130,33 @@ pub fn prepare(alloc: Global, model: &Model, limit: u32) -> Result<Prepared, Wri
     ensures within { IfOk result (λ prepared. length prepared ≤ limit) }
     ensures refused { IfErr result (MatchError (limit < length (canonical model.now)) ⊤ (λ given. ⊥)) }
 {
-    parts_are_canonical();
     let plan = RootPlan::of(alloc, model, limit)?;
-    let mut writer = Writer::with_room(alloc, plan.len as usize)?;
-    writer.put_root(&parts_of(model, &plan));
     // The model is valid.
     let _tables = model.tables();
-    Ok(Prepared {
-        root: writer.into_bytes(),
-    })
+    Ok(make(alloc, &plan)?)
+}
+
+/// Makes the canonical root of a view's one model, where it has at most so many bytes: what [`prepare`]
+/// makes of that model, which is not made here.
+///
+/// No cell is copied. The memory of the root is taken once, when its length is known, and each byte is
+/// written once. Beside it, while the call lasts, stand the heaps, where each text, blob and GUID is kept
+/// once, and a number of four bytes for each column of each row. The cost is that of reading each cell.
+///
+/// # Errors
+///
+/// `TooLarge` where the canonical root is longer than the limit, or `Memory` where memory was refused
+/// before that was known.
+pub fn prepare_view(alloc: Global, view: &View, limit: u32) -> Result<Prepared, WriteError>
+    requires { limit ≤ 2 ^ 30 }
+    ensures root { (model : Metadata) → IsModel view.now model → IfOk result (λ prepared. prepared ≡ canonical model) }
+    ensures within { IfOk result (λ prepared. length prepared ≤ limit) }
+    ensures refused { (model : Metadata) → IsModel view.now model
+        → IfErr result (MatchError (limit < length (canonical model)) ⊤ (λ given. ⊥)) }
+{
+    models_of_roots_are_valid();
+    let plan = RootPlan::of_view(alloc, view, limit)?;
+    // The root has a model.
+    let _root = view.root();
+    Ok(make(alloc, &plan)?)
 }

@@ -4,7 +4,7 @@ use Rattle.schema.specs.declared.table.TableId.TheVariants.{Module}
 use Rattle.schema.specs.Tables.{table_number}
 use Rattle.metadata.specs.Metadata.{count_in}
 use Rattle.root_plan.proofs.CountLemmas.{TheyStand, table_kept, tables_kept}
-use Rattle.root_plan.proofs.tables_plan.counts.Goals as goal
+use Rattle.root_plan.proofs.model_tables.counts.Goals as goal
 
 pub loop-table-preserved : goal.loop-table-preserved
 loop-table-preserved c =

@@ -2,7 +2,7 @@ use Rattle.std.proofs.Common.{◌≡◌, ℕ, ◌<◌, length, get_or}
 use Rattle.schema.specs.declared.table.TableId.TheVariants.{Module}
 use Rattle.schema.specs.Tables.{table_number, tables}
 use Rattle.metadata.specs.Metadata.{count_in}
-use Rattle.root_plan.proofs.tables_plan.counts.Given as goal
+use Rattle.root_plan.proofs.model_tables.counts.Given as goal
 
 abbrev pub invariant-loop-table : goal.invariant-loop-table
 invariant-loop-table l = record {

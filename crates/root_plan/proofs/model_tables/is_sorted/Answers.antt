@@ -1,7 +1,7 @@
 use Rattle.std.proofs.Common.{sym, subst, ◌∙◌}
 use Rattle.std.specs.Prelude.{IsSome}
 use Rattle.root_plan.proofs.CountLemmas.{unkeyed, keyed}
-use Rattle.root_plan.proofs.tables_plan.is_sorted.Goals as goal
+use Rattle.root_plan.proofs.model_tables.is_sorted.Goals as goal
 
 pub in_order-requires : goal.in_order-requires
 in_order-requires c = subst IsSome c.key.ensures.value (sym c.is_some.ensures ∙ c.if-is_some.true)

@@ -3,7 +3,7 @@ use Rattle.schema.specs.declared.table.TableId.TheVariants.{Module}
 use Rattle.canonical.specs.TableStream.{is_sorted}
 use Rattle.put.specs.TableHeader.{bit_if}
 use Rattle.root_plan.proofs.CountLemmas.{more_bits, all_bits}
-use Rattle.root_plan.proofs.tables_plan.sorted.Goals as goal
+use Rattle.root_plan.proofs.model_tables.sorted.Goals as goal
 
 pub overflow_add-sorted : goal.overflow_add-sorted
 overflow_add-sorted c =

@@ -2,7 +2,7 @@ use Rattle.std.proofs.Common.{◌≡◌, ◌+◌, drop}
 use Rattle.schema.specs.Tables.{tables}
 use Rattle.schema.specs.LaidOut.{bits_of}
 use Rattle.canonical.specs.TableStream.{is_sorted}
-use Rattle.root_plan.proofs.tables_plan.sorted.Given as goal
+use Rattle.root_plan.proofs.model_tables.sorted.Given as goal
 
 -- with the bits of the tables that are left it is the whole
 abbrev pub invariant-loop-table : goal.invariant-loop-table
