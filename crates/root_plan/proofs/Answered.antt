@@ -1,5 +1,5 @@
 -- What an `Option` holds, told of the `Result` that it becomes.
-use Rattle.std.proofs.Common.{◌≡◌, Option, Some, None, Result, Ok, Err, IfSome, IfNone, IfOk, OnOk}
+use Rattle.std.proofs.Common.{◌≡◌, Option, Some, None, Err, IfSome, IfNone, IfOk, OnOk}
 use Rattle.std.specs.Option.{ok_or}
 
 module _ {T E : Type 0} where

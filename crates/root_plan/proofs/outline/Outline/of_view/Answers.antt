@@ -3,7 +3,6 @@ use Rattle.std.proofs.Math.Logic.{∥∥₁_elim}
 use Rattle.std.specs.Coded.{le_prop}
 use Rattle.schema.specs.declared.table.TableId.{TableId}
 use Rattle.metadata.specs.Metadata.{Metadata, count_in}
-use Rattle.metadata.specs.Model.{IsModel}
 use Rattle.metadata.specs.Source.{rows_in}
 use Rattle.metadata.specs.Placed.{source_of}
 use Rattle.opening.specs.Views.{row_count}
