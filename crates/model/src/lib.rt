@@ -38,6 +38,7 @@
 //! ```text
 //! let root = write_root(alloc, &model)?;               // its bytes, or
 //! write_root_to(alloc, &model, &mut Counted::new(out))? // through a writer that may fail
+//! let root = prepare_view(alloc, &view, 1 << 30)?;     // of a view that is open: no model is made
 //! ```
 //!
 //! What is proved of a call stands at the call: this crate has no code.
@@ -94,5 +95,6 @@ pub use view_records::{
 
 // The canonical root of a model.
 pub use writer::{
-    Counted, Prepared, Sink, WriteError, prepare, write_root, write_root_to, write_root_within,
+    Counted, Prepared, Sink, WriteError, prepare, prepare_view, write_root, write_root_to,
+    write_root_within,
 };

@@ -29,7 +29,7 @@ table_bytes parts =
 abbrev pub content : RootParts → Kind → List ℕ
 content parts Tables = table_bytes parts
 content parts Strings = filled parts.strings.now
-content parts UserStrings = parts.user_strings.now
+content parts UserStrings = filled parts.user_strings.now
 content parts Guids = filled parts.guids.now
 content parts Blobs = filled parts.blobs.now
 
@@ -53,6 +53,6 @@ pub record ArePartsOf (model : Metadata) (parts : RootParts) : Type 0 where
   pub sizes : (kind : Kind) → size_of parts.sizes kind ≡ length (stream model kind)
   pub tables : table_bytes parts ≡ table_stream model
   pub strings : parts.strings.now ≡ text_heap (pools_of model).texts
-  pub user_strings : parts.user_strings.now ≡ model.user
+  pub user_strings : filled parts.user_strings.now ≡ model.user
   pub guids : parts.guids.now ≡ guid_heap (pools_of model).guids
   pub blobs : parts.blobs.now ≡ blob_heap (pools_of model).blobs

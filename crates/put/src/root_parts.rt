@@ -29,7 +29,7 @@ pub struct RootParts<'a> {
     pub numbers: &'a [u32],
     /// The strings heap without fill.
     pub strings: &'a [u8],
-    /// The heap of user strings, filled.
+    /// The heap of user strings without fill, or with it.
     pub user_strings: &'a [u8],
     /// The GUID heap.
     pub guids: &'a [u8],
@@ -58,7 +58,7 @@ impl Writer {
         match kind {
             Kind::Tables => self.put_table_stream(parts),
             Kind::Strings => self.put_filled(parts.strings),
-            Kind::UserStrings => self.put(parts.user_strings),
+            Kind::UserStrings => self.put_filled(parts.user_strings),
             Kind::Guids => self.put_filled(parts.guids),
             Kind::Blobs => self.put_filled(parts.blobs),
         }

@@ -1,4 +1,5 @@
+pub mod Answered
 pub mod LengthLemmas
-pub mod CountLemmas
+pub mod StandLemmas
 pub mod TableLemmas
 pub mod PlanLemmas

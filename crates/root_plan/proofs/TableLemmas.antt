@@ -17,7 +17,7 @@ use Rattle.metadata.specs.Metadata.{Metadata, count_in}
 use Rattle.canonical.specs.Numbers.{numbers}
 use Rattle.canonical.specs.TableStream.{has_rows, sizes_of, header_bytes}
 use Rattle.put.specs.Flat.{cells_of, rows_in, table_in, tables_in}
-use Rattle.root_plan.proofs.CountLemmas.{TheyStand}
+use Rattle.root_plan.proofs.StandLemmas.{TheyStand}
 
 -- ---- rows
 

@@ -1,1 +1,2 @@
+pub mod Outlined
 pub mod Planned

@@ -6,7 +6,9 @@ use Rattle.schema.specs.LaidOut.{tables_bytes}
 use Rattle.heaps.specs.declared.pool_error.PoolError.{PoolError}
 use Rattle.heaps.specs.declared.pool_error.PoolError.TheVariants as pool
 use Rattle.heaps.specs.TextPlan.{TextPlan}
+use Rattle.heaps.specs.Fill.{filled}
 use Rattle.metadata.specs.Metadata.{Metadata}
+use Rattle.metadata.specs.Valid.{IsValid}
 use Rattle.canonical.specs.Pools.{pools_of, texts_stream, blobs_stream, guids_stream}
 use Rattle.canonical.specs.Numbers.{numbers}
 use Rattle.canonical.specs.TableStream.{sizes_of, header_bytes, table_stream}
@@ -52,9 +54,12 @@ abbrev pub planned_tables : TablesPlan → List ℕ → List ℕ
 planned_tables plan numbers =
     table_header plan.heap_sizes plan.sorted plan.layout ++ tables_bytes plan.layout tables (tables_in plan.layout tables numbers) ++ fill plan.len
 
--- The plan is that of the model's canonical root: its pools and numbers; its table stream, of which the plan and the numbers
--- tell each byte; how many bytes each stream has; and how many the root has, which stand behind one another.
+-- The plan is that of the model's canonical root: its version and its user bytes, once they are filled; its pools and numbers;
+-- its table stream, of which the plan and the numbers tell each byte; how many bytes each stream has; and how many the root
+-- has, which stand behind one another.
 pub record IsRootPlan (model : Metadata) (plan : RootPlan) : Type 0 where
+  pub version : plan.version.now ≡ model.version
+  pub user : filled plan.user_strings.now ≡ model.user
   pub texts : plan.texts.entries ≡ (pools_of model).texts
   pub numbering : IsNumbering model plan.numbering
   pub many : length plan.numbering.numbers ≡ sum_by (cells_of plan.tables.layout) tables
@@ -65,3 +70,7 @@ pub record IsRootPlan (model : Metadata) (plan : RootPlan) : Type 0 where
   pub parts : plan.len ≡ heading_size model.version (size_of plan.sizes) (held (size_of plan.sizes)) + sum_by (size_of plan.sizes) (held (size_of plan.sizes))
   pub short : length model.version ≤ 254
   pub limit : plan.len ≤ 2 ^ 30
+
+-- the plan is that of some valid model's canonical root
+abbrev pub IsPlan : RootPlan → Type 0
+IsPlan plan = ∥ ((model : Metadata) × IsValid model × IsRootPlan model plan) ∥₁

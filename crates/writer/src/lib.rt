@@ -3,8 +3,7 @@
 //! [`write_root`] and [`write_root_within`] answer its bytes, whose one model is the one that was
 //! written. [`write_root_to`] gives them out through a [`Sink`], such as [`Counted`] over any writer.
 //! [`prepare`] makes the bytes first, so that only [`Prepared::send`], which takes no memory, stands
-//! behind the opening of a file. A root that is too long and want of memory are told before the first
-//! byte goes out.
+//! behind the opening of a file. A root that is too long and want of memory are told before the first byte goes out.
 //!
 //! ```text
 //! let prepared = prepare(alloc, &model, 1 << 20)?;        // TooLarge: it has more than 2^20 bytes
@@ -17,11 +16,13 @@
 //! ```
 #![tactic(auto)]
 
-mod error;
-mod prepared;
+mod canonical_root;
+mod outline;
+mod planned;
 mod roots;
+mod tables_told;
 
-pub use error::WriteError;
-pub use prepared::{Prepared, prepare};
+pub use canonical_root::prepare;
+pub use prepared::{Prepared, WriteError};
 pub use roots::{write_root, write_root_to, write_root_within};
 pub use sinks::{Counted, Sink};

@@ -3,12 +3,12 @@ ghost use Rattle.std.specs.Io.KnownBytes.{Appends};
 ghost use Rattle.metadata.specs.Metadata.{Metadata};
 ghost use Rattle.metadata.specs.Model.{IsModel};
 ghost use Rattle.canonical.specs.Canonical.{canonical};
-ghost use Rattle.writer.specs.Errors.{MatchError};
+ghost use Rattle.prepared.specs.Errors.{MatchError};
 
-use crate::error::WriteError;
-use crate::prepared::prepare;
+use crate::canonical_root::prepare;
 use canonical::{canonical_root_has_its_model, canonical_root_is_one};
 use owned_model::Model;
+use prepared::WriteError;
 use sinks::Sink;
 use std::alloc::Global;
 

@@ -9,14 +9,13 @@ ghost use Rattle.printed_faults.specs.Status.{IsUnwritten};
 use crate::opened::open;
 use crate::subcommands::reader;
 use clap::{Arg, ArgAction, Command};
-use loading::ToModel;
 use packed::{Fault, FaultCode};
 use printed_faults::{Failure, printed};
 use std::alloc::{AllocError, Global};
 use std::io::{BufWriter, Write};
 use std::rt::Files;
 use std::{fs, io};
-use writer::{Counted, Prepared, WriteError, prepare};
+use writer::{Counted, Prepared, WriteError, prepare_view};
 
 /// The most bytes of a root that is written.
 const LIMIT: u32 = 1 << 30;
@@ -72,10 +71,7 @@ fn canonical_root(alloc: Global, bytes: &[u8], bare: bool) -> Result<Prepared, F
     ensures first { IfErr result (TellsUnwritten bare bytes.now) }
 {
     let view = open(bytes, bare)?;
-    let Ok(model) = view.model(alloc) else {
-        return Err(Failure::OutOfMemory);
-    };
-    match prepare(alloc, &model, LIMIT) {
+    match prepare_view(alloc, &view, LIMIT) {
         Ok(root) => Ok(root),
         Err(WriteError::TooLarge) => Err(Failure::Fault(Fault::new(FaultCode::TooLarge, 0))),
         Err(_) => Err(Failure::OutOfMemory),

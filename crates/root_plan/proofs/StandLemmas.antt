@@ -1,0 +1,13 @@
+-- How the tables stand.
+use Rattle.std.proofs.Common.{◌≡◌, ℕ, ◌<◌, List, length, get_or}
+use Rattle.schema.specs.declared.table.TableId.{TableId}
+use Rattle.schema.specs.declared.table.TableId.TheVariants.{Module}
+use Rattle.schema.specs.Tables.{tables, table_number, position_of}
+
+-- the tables stand by their positions, and their numbers rise with these
+pub record TheyStand : Type 0 where
+  pub count : length tables ≡ 38
+  pub position : (table : TableId) → position_of table < 38
+  pub number : (table : TableId) → table_number table < 45
+  pub stand : (table : TableId) → get_or tables (position_of table) Module ≡ table
+  pub rise : (lower higher : TableId) → position_of lower < position_of higher → table_number lower < table_number higher

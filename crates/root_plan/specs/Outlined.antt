@@ -1,0 +1,17 @@
+-- What a canonical root is planned of beside its pools (ECMA-335 II.24.2.1, II.24.2.4 and II.24.2.6).
+use Rattle.std.specs.Prelude.{◌≡◌, slice_index}
+use Rattle.schema.specs.declared.table.TableId.{TableId}
+use Rattle.schema.specs.Tables.{tables, table_number}
+use Rattle.schema.specs.LaidOut.{bits_of}
+use Rattle.heaps.specs.Fill.{filled}
+use Rattle.metadata.specs.Metadata.{Metadata, count_in}
+use Rattle.canonical.specs.TableStream.{is_sorted}
+use Rattle.root_plan.specs.declared.outline.Outline.{Outline}
+
+-- the outline is that of the model: its version; its user bytes, once they are filled; how many rows each table has; and the
+-- bits of the keyed tables whose rows are in order
+pub record Describes (outline : Outline) (model : Metadata) : Type 0 where
+  pub version : outline.version.now ≡ model.version
+  pub user : filled outline.user_strings.now ≡ model.user
+  pub counts : (table : TableId) → slice_index outline.counts (table_number table) ≡ count_in model table
+  pub sorted : outline.sorted ≡ bits_of (is_sorted model) tables

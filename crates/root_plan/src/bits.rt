@@ -1,0 +1,11 @@
+ghost use Rattle.std.specs.Prelude.{◌≡◌};
+ghost use Rattle.put.specs.TableHeader.{bit_if};
+
+use schema::TableId;
+
+/// The bit of a table where it is set, else 0.
+pub fn bit(set: bool, table: TableId) -> u64
+    ensures { result ≡ bit_if set table }
+{
+    if set { 1 << table.number() } else { 0 }
+}

@@ -1,0 +1,12 @@
+use Rattle.std.proofs.Common.{◌≡◌, ◌<◌, IfErr, length, subst}
+use Rattle.canonical.specs.Canonical.{canonical}
+use Rattle.root_plan.specs.declared.plan_error.PlanError.TheVariants.{TooLarge}
+use Rattle.view_writer.proofs.planned.plan_of.Goals as goal
+
+pub returns-clause-fits : goal.returns-clause-fits
+returns-clause-fits c model is = c.of.ensures.fits model (c.outline_of.ensures model is) (c.in_ok-texts.ensures.pools model is)
+
+pub returns-clause-too_large : goal.returns-clause-too_large
+returns-clause-too_large c model is large =
+    let told = c.of.ensures.too_large model (c.outline_of.ensures model is) (c.in_ok-texts.ensures.pools model is) in
+    (subst (λ planned. IfErr planned (λ error. (error ≡ TooLarge) × (c.args.limit < length (canonical model)))) large told).1

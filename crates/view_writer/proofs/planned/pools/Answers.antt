@@ -1,0 +1,21 @@
+use Rattle.std.proofs.Common.{◌≡◌, Result, Ok, Err, refl, ap, ⊎_elim}
+use Rattle.std.specs.Prelude.{IsErrAnd}
+use Rattle.heaps.specs.declared.pool_error.PoolError.{PoolError}
+use Rattle.heaps.specs.declared.pool_error.PoolError.TheVariants.{Memory, Full}
+use Rattle.root_plan.specs.declared.plan_error.PlanError.{PlanError}
+use Rattle.root_plan.specs.declared.plan_error.PlanError.TheVariants.{TooLarge}
+use Rattle.root_plan.specs.Planned.{plan_error}
+use Rattle.view_writer.proofs.planned.pools.Goals as goal
+
+-- a root is told too large where a pool is full alone
+told : {T : Type 0} (result : Result T PlanError) (pool : PoolError) (Q : Type 0) → IsErrAnd result (λ error. error ≡ plan_error pool) → result ≡ Err TooLarge
+    → (pool ≡ Full → Q) → Q
+told (Ok value) pool Q gives large full = absurd cc
+told (Err error) Memory Q gives large full = absurd cc
+told (Err error) Full Q gives large full = full refl
+
+pub returns-in_err-pools_of_view-clause-too_large : goal.returns-in_err-pools_of_view-clause-too_large
+returns-in_err-pools_of_view-clause-too_large c model is large =
+    let streams = c.streams_are_within_roots.ensures in
+    told c.from_residual.result c.in_err-pools_of_view.field-0.0 _ c.from_residual.ensures.1 large
+    (λ full. ⊎_elim (streams.texts model) (streams.pools model) (c.in_err-pools_of_view.ensures.full model is (ap Err full)))

@@ -1,0 +1,36 @@
+ghost use Rattle.std.specs.Prelude.{◌≡◌, ◌^◌, ◌<◌, ◌≤◌, ⊤, IfOk, IfErr, length};
+ghost use Rattle.metadata.specs.Metadata.{Metadata};
+ghost use Rattle.metadata.specs.Model.{IsModel};
+ghost use Rattle.canonical.specs.Canonical.{canonical};
+ghost use Rattle.prepared.specs.Errors.{MatchError};
+
+use crate::planned::plan_of;
+use metadata::models_of_roots_are_valid;
+use opening::View;
+use prepared::{Prepared, WriteError, make};
+use std::alloc::Global;
+
+/// Makes the canonical root of a view's one model, where it has at most so many bytes: what `prepare` of `writer`
+/// makes of that model, which is not made here.
+///
+/// No cell is copied. The memory of the root is taken once, when its length is known, and each byte is
+/// written once. Beside it, while the call lasts, stand the heaps, where each text, blob and GUID is kept
+/// once, and a number of four bytes for each column of each row. The cost is that of reading each cell.
+///
+/// # Errors
+///
+/// `TooLarge` where the canonical root is longer than the limit, or `Memory` where memory was refused
+/// before that was known.
+pub fn prepare_view(alloc: Global, view: &View, limit: u32) -> Result<Prepared, WriteError>
+    requires { limit ≤ 2 ^ 30 }
+    ensures root { (model : Metadata) → IsModel view.now model → IfOk result (λ prepared. prepared ≡ canonical model) }
+    ensures within { IfOk result (λ prepared. length prepared ≤ limit) }
+    ensures refused { (model : Metadata) → IsModel view.now model
+        → IfErr result (MatchError (limit < length (canonical model)) ⊤ (λ given. ⊥)) }
+{
+    models_of_roots_are_valid();
+    let plan = plan_of(alloc, view, limit)?;
+    // The root has a model.
+    let _root = view.root();
+    Ok(make(alloc, &plan)?)
+}

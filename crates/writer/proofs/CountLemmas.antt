@@ -1,0 +1,99 @@
+-- The counts of tables by their numbers, and the bits of those that are in order, one table after another.
+use Rattle.std.proofs.Common.{◌≡◌, ℕ, ◌+◌, ◌<◌, ◌≤◌, Bool, true, false, List, length, get_or, drop, map, refl, sym, ap, ◌∙◌, arith, below_more, get_or-set_other, get_or-set_same}
+use Rattle.std.proofs.Math.ListN.{set}
+use Rattle.std.specs.Prelude.{◌↔◌, Option, Some, None}
+use Rattle.std.specs.Option.{is_some}
+use Rattle.std.specs.List.{range_with_len}
+use Rattle.std.proofs.lemmas.List.{drop_all, get_or-map}
+use Rattle.std.proofs.lemmas.List.FromFn.{get_or-range_with_len}
+use Rattle.std.proofs.lemmas.List.Sums.{sum_by-drop_more}
+use Rattle.schema.specs.declared.table.TableId.{TableId}
+use Rattle.schema.specs.declared.table.TableId.TheVariants.{Module}
+use Rattle.schema.specs.Tables.{tables, table_number, position_of}
+use Rattle.schema.specs.Columns.{key_of}
+use Rattle.schema.specs.LaidOut.{bits_of}
+use Rattle.metadata.specs.Metadata.{Metadata}
+use Rattle.metadata.specs.Valid.{IsValid}
+use Rattle.metadata.specs.KeyOrder.{IsKeyOrdered}
+use Rattle.canonical.specs.TableStream.{is_by_key, table_keys, is_sorted}
+use Rattle.put.specs.TableHeader.{bit_if}
+
+-- ---- counts
+
+-- the tables stand by their positions, and their numbers rise with these
+pub record TheyStand : Type 0 where
+  pub count : length tables ≡ 38
+  pub position : (table : TableId) → position_of table < 38
+  pub number : (table : TableId) → table_number table < 45
+  pub stand : (table : TableId) → get_or tables (position_of table) Module ≡ table
+  pub rise : (lower higher : TableId) → position_of lower < position_of higher → table_number lower < table_number higher
+
+positions : map position_of tables ≡ range_with_len 0 38
+unfolding tables
+positions = refl
+
+position_at : length tables ≡ 38 → (k : ℕ) → k < 38 → position_of (get_or tables k Module) ≡ k
+position_at count k below =
+    sym (get_or-map position_of tables k Module 0 (omega (arith, count))) ∙ ap (λ (l : List ℕ). get_or l k 0) positions ∙ get_or-range_with_len 0 38 k 0 below ∙ omega arith
+
+-- an array of what each table has, by its number, that is filled table by table
+pub table_kept : TheyStand → (f : TableId → ℕ) (kept : List ℕ) (i number value : ℕ) → i < 38 → length kept ≡ 45 → number ≡ table_number (get_or tables i Module)
+    → value ≡ f (get_or tables i Module)
+    → ((k : ℕ) → k < i → get_or kept (table_number (get_or tables k Module)) 0 ≡ f (get_or tables k Module))
+    → (k : ℕ) → k < i + 1 → get_or (set kept number value) (table_number (get_or tables k Module)) 0 ≡ f (get_or tables k Module)
+table_kept they f kept i number value below long is e before =
+    below_more _ _
+    (λ k less.
+    let rise = they.rise (get_or tables k Module) (get_or tables i Module) (omega (arith, position_at they.count k (omega arith), position_at they.count i below)) in
+    get_or-set_other kept number (table_number (get_or tables k Module)) value 0 (omega (arith, rise, is)) ∙ before k less)
+    (ap (λ (n : ℕ). get_or (set kept number value) n 0) (sym is) ∙ get_or-set_same kept number value 0 (omega (arith, long, is, they.number (get_or tables i Module))) ∙ e)
+
+pub tables_kept : TheyStand → (f : TableId → ℕ) (kept : List ℕ)
+    → ((k : ℕ) → k < 38 → get_or kept (table_number (get_or tables k Module)) 0 ≡ f (get_or tables k Module))
+    → (table : TableId) → get_or kept (table_number table) 0 ≡ f table
+tables_kept they f kept each table =
+    sym (ap (λ (t : TableId). get_or kept (table_number t) 0) (they.stand table)) ∙ each (position_of table) (they.position table) ∙ ap f (they.stand table)
+
+-- ---- bits
+
+pub more_bits : (test : TableId → Bool) (items : List TableId) (i bits next total : ℕ) → items ≡ tables → i < length items
+    → next ≡ bit_if (test (get_or items i Module)) (get_or items i Module)
+    → bits + bits_of test (drop i tables) ≡ total → (bits + next) + bits_of test (drop (i + 1) tables) ≡ total
+unfolding bits_of
+more_bits test items i bits next total same below is whole =
+    let here = is ∙ ap (λ (listed : List TableId). bit_if (test (get_or listed i Module)) (get_or listed i Module)) same in
+    let long : i < length tables = omega (arith, ap length same) in
+    let more = sum_by-drop_more (λ table. bit_if (test table) table) tables i Module long in
+    omega (arith, here, more, whole)
+
+pub all_bits : (test : TableId → Bool) (items : List TableId) (i bits total : ℕ) → items ≡ tables → length items ≤ i
+    → bits + bits_of test (drop i tables) ≡ total → bits ≡ total
+unfolding bits_of
+all_bits test items i bits total same past whole =
+    let none : bits_of test (drop i tables) ≡ 0 = ap (bits_of test) (drop_all i tables (omega (arith, ap length same))) in
+    omega (arith, none, whole)
+
+-- ---- a test
+
+-- a test that tells what another one tells is that one
+pub same_test : (P : Type 0) (one other : Bool) → (one ≡ true → P) → (P → one ≡ true) → (other ≡ true → P) → (P → other ≡ true) → one ≡ other
+same_test P true true a b c d = refl
+same_test P false false a b c d = refl
+same_test P true false a b c d = sym (d (a refl))
+same_test P false true a b c d = b (c refl)
+
+-- a table without a key is not said to be in order
+pub unkeyed : (model : Metadata) (table : TableId) (key : Option ℕ) → key ≡ key_of table → is_some key ≡ false → false ≡ is_sorted model table
+unkeyed model table None is none = ap (is_by_key (table_keys model table)) is
+unkeyed model table (Some key) is none = absurd cc
+
+-- the Sorted bits of keyed tables of valid models tell their order
+abbrev pub TellOrder : Type 0
+TellOrder = (model : Metadata) → IsValid model → (table : TableId) (key : ℕ) → key_of table ≡ Some key → (is_sorted model table ≡ true) ↔ IsKeyOrdered model table
+
+pub keyed : TellOrder → (model : Metadata) → IsValid model → (table : TableId) (key : Option ℕ) → key ≡ key_of table → is_some key ≡ true → (answer : Bool)
+    → ((answer ≡ true) ↔ IsKeyOrdered model table) → answer ≡ is_sorted model table
+keyed tell model valid table None is there answer told = absurd cc
+keyed tell model valid table (Some key) is there answer told =
+    let bits = tell model valid table key (sym is) in
+    same_test (IsKeyOrdered model table) answer (is_sorted model table) told.0 told.1 bits.0 bits.1

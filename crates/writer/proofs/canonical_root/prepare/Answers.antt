@@ -1,0 +1,5 @@
+use Rattle.std.proofs.Common.{length, ap, arith}
+use Rattle.writer.proofs.canonical_root.prepare.Goals as goal
+
+pub make-requires : goal.make-requires
+make-requires c = ∣ (c.args.model.now, c.tables-tables.ensures.valid, c.in_ok-plan.ensures.plan) ∣₁

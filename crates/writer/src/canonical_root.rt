@@ -1,0 +1,29 @@
+ghost use Rattle.std.specs.Prelude.{◌≡◌, ◌^◌, ◌<◌, ◌≤◌, ⊤, IfOk, IfErr, length};
+ghost use Rattle.canonical.specs.Canonical.{canonical};
+ghost use Rattle.prepared.specs.Errors.{MatchError};
+
+use crate::planned::plan_of;
+use owned_model::Model;
+use prepared::{Prepared, WriteError, make};
+use std::alloc::Global;
+
+/// Makes the canonical root of a model, where it has at most so many bytes.
+///
+/// Its memory is taken once, when its length is known, and each byte is written once. Beside it, while
+/// the call lasts, stand the heaps and a number of four bytes for each column of each row.
+///
+/// # Errors
+///
+/// `TooLarge` where the canonical root is longer than the limit, or `Memory` where memory was refused
+/// before that was known.
+pub fn prepare(alloc: Global, model: &Model, limit: u32) -> Result<Prepared, WriteError>
+    requires { limit ≤ 2 ^ 30 }
+    ensures root { IfOk result (λ prepared. prepared ≡ canonical model.now) }
+    ensures within { IfOk result (λ prepared. length prepared ≤ limit) }
+    ensures refused { IfErr result (MatchError (limit < length (canonical model.now)) ⊤ (λ given. ⊥)) }
+{
+    let plan = plan_of(alloc, model, limit)?;
+    // The model is valid.
+    let _tables = model.tables();
+    Ok(make(alloc, &plan)?)
+}

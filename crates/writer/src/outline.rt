@@ -1,0 +1,19 @@
+ghost use Rattle.root_plan.specs.Outlined.{Describes};
+
+use crate::tables_told;
+use owned_model::Model;
+use root_plan::Outline;
+
+/// What the canonical root of a model is planned of, beside its pools.
+pub fn outline_of(model: &Model) -> Outline<'_>
+    ensures { Describes result model.now }
+{
+    // The model is valid.
+    let _tables = model.tables();
+    Outline {
+        version: model.version(),
+        user_strings: model.user(),
+        counts: tables_told::counts(model),
+        sorted: tables_told::sorted(model),
+    }
+}

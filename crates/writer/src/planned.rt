@@ -1,0 +1,35 @@
+ghost use Rattle.std.specs.Prelude.{◌≡◌, ◌^◌, ◌<◌, ◌≤◌, Err, OnOk, IfOk, length};
+ghost use Rattle.metadata.specs.Valid.{IsValid};
+ghost use Rattle.canonical.specs.Canonical.{canonical};
+ghost use Rattle.root_plan.specs.declared.plan_error.PlanError.TheVariants.{TooLarge};
+ghost use Rattle.root_plan.specs.Planned.{ArePooled, IsRootPlan};
+
+use crate::outline::outline_of;
+use heaps::TextPool;
+use owned_model::{Model, Tables};
+use plan::Numbering;
+use root_plan::{PlanError, RootPlan, streams_are_within_roots};
+use std::alloc::Global;
+use table_plan::pools_of_tables;
+
+/// The pools and numbers of valid tables. `TooLarge` is told where a heap would pass 2^30 bytes.
+fn pools(alloc: Global, tables: &Tables) -> Result<(TextPool, Numbering), PlanError>
+    requires { IsValid tables.now }
+    ensures pools { IfOk result (λ pools. ArePooled tables.now pools.0 pools.1) }
+    ensures too_large { result ≡ Err PlanError.TooLarge → 2 ^ 30 < length (canonical tables.now) }
+{
+    streams_are_within_roots();
+    Ok(pools_of_tables(alloc, tables)?)
+}
+
+/// The plan of the canonical root of a model, where that has at most so many bytes. The memory that
+/// it takes is that of the pools and of a number a cell.
+pub fn plan_of(alloc: Global, model: &Model, limit: u32) -> Result<RootPlan<'_>, PlanError>
+    requires { limit ≤ 2 ^ 30 }
+    ensures plan { IfOk result (λ plan. IsRootPlan model.now plan) }
+    ensures fits { OnOk result (length (canonical model.now) ≤ limit) }
+    ensures too_large { result ≡ Err PlanError.TooLarge → limit < length (canonical model.now) }
+{
+    let (texts, numbering) = pools(alloc, model.tables())?;
+    RootPlan::of(&outline_of(model), texts, numbering, limit)
+}
