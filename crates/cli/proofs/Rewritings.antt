@@ -6,9 +6,9 @@ use Rattle.metadata.specs.Metadata.{Metadata}
 use Rattle.metadata.specs.Model.{IsModel}
 use Rattle.canonical.specs.Canonical.{canonical}
 use Rattle.opening.specs.Views.{HasModel}
-use Rattle.writer.specs.Errors.{MatchError}
-use Rattle.writer.specs.declared.error.WriteError.{WriteError}
-use Rattle.writer.specs.declared.error.WriteError.TheVariants.{TooLarge}
+use Rattle.prepared.specs.Errors.{MatchError}
+use Rattle.prepared.specs.declared.error.WriteError.{WriteError}
+use Rattle.prepared.specs.declared.error.WriteError.TheVariants.{TooLarge}
 use Rattle.cli.specs.Checked.{IsOpened}
 use Rattle.cli.specs.Rewritten.{IsRewritten, IsTooLong}
 

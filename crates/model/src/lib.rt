@@ -95,6 +95,9 @@ pub use view_records::{
 
 // The canonical root of a model.
 pub use writer::{
-    Counted, Prepared, Sink, WriteError, prepare, prepare_view, write_root, write_root_to,
+    Counted, Prepared, Sink, WriteError, prepare, write_root, write_root_to,
     write_root_within,
 };
+
+// The canonical root of a view, whose model is not made.
+pub use view_writer::prepare_view;

@@ -89,6 +89,9 @@ fn calls_of(run: &Run, section: u32) -> Result<(), Stop> {
         8 => written::is_written(run, &ONE_MODULE, &ONE_MODULE),
         9 => written::is_written(run, &TWO_TYPES, &TWO_TYPES),
         10 => written::is_written(run, &NAMES_APART, &NAMES_SHARED),
+        11 => written::is_prepared_in_place(run, &ONE_MODULE, &ONE_MODULE),
+        12 => written::is_prepared_in_place(run, &TWO_TYPES, &TWO_TYPES),
+        13 => written::is_prepared_in_place(run, &NAMES_APART, &NAMES_SHARED),
         _ => Err(Stop::Broken("there is such a section")),
     }
 }

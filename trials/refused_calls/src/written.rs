@@ -1,9 +1,13 @@
 use crate::stop::{Run, Stop, kept};
 use loading::{LoadError, load_root};
+use opening::open_root;
 use owned_model::Model;
 use std::io;
 use std::io::Write;
-use writer::{Counted, Prepared, Sink, WriteError, prepare, write_root, write_root_to};
+use view_writer::prepare_view;
+use writer::{
+    Counted, Prepared, Sink, WriteError, prepare, write_root, write_root_to,
+};
 
 /// Bytes in place, of which each call takes a few, so that no memory is needed.
 #[derive(Drop)]
@@ -67,6 +71,17 @@ fn prepared(run: &Run, model: &Model, twin: &Model) -> Result<Prepared, Stop> {
     }
 }
 
+/// The root of a view's model, prepared again where memory was refused.
+fn prepared_in_place(run: &Run, root: &[u8]) -> Result<Prepared, Stop> {
+    let Ok(view) = open_root(root) else {
+        return Err(Stop::Broken("a root that has a model is opened"));
+    };
+    match prepare_view(run.alloc, &view, 200) {
+        Err(WriteError::Memory) => run.again(prepare_view(run.alloc, &view, 200)),
+        answer => Ok(answer?),
+    }
+}
+
 /// The root of a model that is equal to its twin, written again where memory was refused.
 fn written(run: &Run, model: &Model, twin: &Model) -> Result<Vec<u8>, Stop> {
     match write_root(run.alloc, model) {
@@ -118,5 +133,14 @@ pub fn is_written(run: &Run, from: &[u8], root: &[u8]) -> Result<(), Stop> {
     kept(
         root_bytes.as_slice() == root,
         "the bytes of a written root are those",
+    )
+}
+
+/// That the model of a view has this canonical root, prepared without a model.
+pub fn is_prepared_in_place(run: &Run, from: &[u8], root: &[u8]) -> Result<(), Stop> {
+    let made = prepared_in_place(run, from)?;
+    kept(
+        made.bytes() == root,
+        "the bytes of a root that is prepared of a view are those",
     )
 }

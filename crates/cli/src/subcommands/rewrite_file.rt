@@ -15,7 +15,9 @@ use std::alloc::{AllocError, Global};
 use std::io::{BufWriter, Write};
 use std::rt::Files;
 use std::{fs, io};
-use writer::{Counted, Prepared, WriteError, prepare_view};
+use prepared::{Prepared, WriteError};
+use sinks::Counted;
+use view_writer::prepare_view;
 
 /// The most bytes of a root that is written.
 const LIMIT: u32 = 1 << 30;

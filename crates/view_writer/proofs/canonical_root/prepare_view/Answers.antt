@@ -1,8 +1,29 @@
-use Rattle.std.proofs.Common.{length, ap, arith}
+use Rattle.std.proofs.Common.{◌≡◌, Result, Ok, Err, IfErr, length, sym, subst, ap, arith}
+use Rattle.std.specs.Prelude.{⊤, IsErrAnd}
 use Rattle.std.proofs.Math.Logic.{∥∥₁_map, ∥∥₁_elim}
 use Rattle.std.specs.Coded.{le_prop}
+use Rattle.prepared.specs.Errors.{MatchError}
+use Rattle.prepared.specs.declared.error.WriteError.{WriteError}
+use Rattle.prepared.specs.declared.error.WriteError.TheVariants.{Memory}
 use Rattle.view_writer.proofs.canonical_root.prepare_view.Goals as goal
+
+-- want of memory tells nothing
+refused : {T : Type 0} (result : Result T WriteError) (P : Type 0) → IsErrAnd result (λ error. error ≡ Memory) → IfErr result (MatchError P ⊤ (λ given. ⊥))
+refused (Ok value) P is = tt
+refused (Err error) P is =
+    let Told : WriteError → Type 0 = λ error. MatchError P ⊤ (λ given. ⊥) error in
+    subst Told (sym is) tt
 
 pub make-requires : goal.make-requires
 make-requires c = ∥∥₁_map c.root-root.ensures.model (λ some.
     (some.0, c.models_of_roots_are_valid.ensures c.args.view.now some.0 some.1, c.in_ok-plan.ensures.plan some.0 some.1))
+
+pub returns-in_err-make-clause-refused : goal.returns-in_err-make-clause-refused
+returns-in_err-make-clause-refused c model is = refused c.from_residual-in_err-make.result _ c.from_residual-in_err-make.ensures.1
+
+pub returns-clause-root : goal.returns-clause-root
+returns-clause-root c model is = c.in_ok-make.ensures model (c.in_ok-plan.ensures.plan model is)
+
+pub returns-clause-within : goal.returns-clause-within
+returns-clause-within c = ∥∥₁_elim c.root-root.ensures.model le_prop (λ some.
+    omega (arith, ap length (c.in_ok-make.ensures some.0 (c.in_ok-plan.ensures.plan some.0 some.1)), c.in_ok-plan.ensures.fits some.0 some.1))

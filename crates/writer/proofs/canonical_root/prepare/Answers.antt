@@ -1,4 +1,3 @@
-use Rattle.std.proofs.Common.{length, ap, arith}
 use Rattle.writer.proofs.canonical_root.prepare.Goals as goal
 
 pub make-requires : goal.make-requires
