@@ -1,0 +1,13 @@
+use Rattle.std.proofs.Common.{◌≡◌, ◌++◌, take}
+use Rattle.std.specs.Prelude.{flat_map}
+use Rattle.heaps.specs.Uses.{bytes_of}
+use Rattle.metadata.specs.Metadata.{Metadata, row_of}
+use Rattle.metadata.specs.Model.{IsModel}
+use Rattle.canonical.specs.Pools.{texts_of}
+use Rattle.view_plan.proofs.texts.add_row.Given as goal
+
+-- with the texts of the first cells
+abbrev pub invariant-loop-place : goal.invariant-loop-place
+invariant-loop-place l =
+    (model : Metadata) → IsModel l.view model
+    → bytes_of l.texts.items ≡ bytes_of l.fn.texts.items ++ flat_map texts_of (take l.place (row_of model l.table l.row))

@@ -1,0 +1,128 @@
+ghost use Rattle.std.specs.Prelude.{◌≡◌, ◌^◌, ◌<◌, ◌↔◌, Err, IfOk, IfSome, OnOk, OnErr, length};
+ghost use Rattle.heaps.specs.declared.pool_error.PoolError.TheVariants.{Full};
+ghost use Rattle.heaps.specs.Distinct.{pooled};
+ghost use Rattle.heaps.specs.BlobHeap.{blob_heap, blob_index};
+ghost use Rattle.heaps.specs.GuidHeap.{guid_heap, guid_index, pooled_guid};
+ghost use Rattle.signature_values.specs.Syntax.{Body};
+ghost use Rattle.signature_values.specs.Spells.{Spells, short};
+ghost use Rattle.plan.specs.Numbered.{none_numbered, with_blob, with_guid, with_number};
+ghost use Rattle.view_plan.specs.Known.{IsKnown};
+
+use crate::shortest::shortest;
+use heaps::{PoolError, indexes_stay};
+use indexmap::IndexMap;
+use plan::Numbering;
+use schema::SigKind;
+use std::alloc::{AllocError, Global};
+use std::marker::Model;
+
+/// The numbers of cells in place, and the blobs of signatures that were met in columns of one kind, each with the
+/// index of its shortest spelling.
+#[derive(Drop)]
+pub struct Gathering<'a> {
+    alloc: Global,
+    numbering: Numbering,
+    kind: SigKind,
+    known: IndexMap<&'a [u8], u32>,
+}
+
+impl<'a> Model for Gathering<'a> {
+    ghost use Rattle.plan.specs.Numbered.{Numbered};
+    ghost use Rattle.view_plan.specs.Known.{AreKnown};
+
+    ghost Value = { Numbered };
+
+    ghost view = { λ g. g.numbering };
+
+    ghost invariant = { AreKnown };
+}
+
+impl<'a> Gathering<'a> {
+    /// No cells, with memory for a count of numbers.
+    pub fn new(alloc: Global, count: usize) -> Result<Gathering<'a>, AllocError>
+        ensures { IfOk result (λ gathering. gathering ≡ none_numbered) }
+    {
+        let numbering = Numbering::new(alloc, count)?;
+        Ok(Gathering {
+            alloc,
+            numbering,
+            kind: SigKind::Field,
+            known: IndexMap::new(alloc),
+        })
+    }
+
+    /// What was gathered.
+    pub fn into_numbering(self) -> Numbering
+        ensures { result ≡ self.entry }
+    {
+        self.numbering
+    }
+
+    /// Keeps the number of the next column.
+    pub fn put_number(&mut self, number: u32) -> Result<(), AllocError>
+        ensures { OnOk result (self.new ≡ with_number self.old number) }
+    {
+        self.numbering.put_number(number)
+    }
+
+    /// Pools a blob and answers its index.
+    pub fn put_blob(&mut self, blob: &[u8]) -> Result<u32, PoolError>
+        requires { length blob.now < 2 ^ 29 }
+        ensures pools { OnOk result (self.new ≡ with_blob self.old blob.now) }
+        ensures index { IfOk result (λ index. index ≡ blob_index self.new.blobs blob.now) }
+        ensures full { result ≡ Err PoolError.Full → 2 ^ 30 < length (blob_heap (pooled self.old.blobs blob.now)) }
+    {
+        indexes_stay();
+        self.numbering.put_blob(blob)
+    }
+
+    /// Pools a GUID and answers its index; that of null is 0.
+    pub fn put_guid(&mut self, guid: Option<[u8; 16]>) -> Result<u32, PoolError>
+        ensures pools { OnOk result (self.new ≡ with_guid self.old guid) }
+        ensures index { IfOk result (λ index. index ≡ guid_index self.new.guids guid) }
+        ensures full { result ≡ Err PoolError.Full → 2 ^ 30 < length (guid_heap (pooled_guid self.old.guids guid)) }
+    {
+        self.numbering.put_guid(guid)
+    }
+
+    /// The index of a blob that was met in a column of the kind.
+    fn find(&self, blob: &[u8], kind: SigKind) -> Option<u32>
+        ensures { IfSome result (λ index. IsKnown kind self.now.blobs blob.now index) }
+    {
+        if self.kind != kind {
+            return None;
+        }
+        self.known.get(blob).copied()
+    }
+
+    /// Keeps the index of a blob that was met in a column of the kind, and no longer those of another kind.
+    fn remember(&mut self, blob: &'a [u8], kind: SigKind, index: u32) -> Result<(), AllocError>
+        requires { IsKnown kind self.old.blobs blob.now index }
+        ensures { self.new ≡ self.old }
+    {
+        if self.kind != kind {
+            self.known.clear();
+            self.kind = kind;
+        }
+        let _ = self.known.insert(blob, index)?;
+        Ok(())
+    }
+
+    /// Pools the shortest spelling of what a blob spells in a column of a kind, and answers its index (II.23.2).
+    pub fn put_signature(&mut self, blob: &'a [u8], kind: SigKind) -> Result<u32, PoolError>
+        requires { ∥ ((signature : Body) × Spells kind signature blob.now) ∥₁ }
+        ensures pools { (signature : Body) → Spells kind signature blob.now → OnOk result (self.new ≡ with_blob self.old (short signature)) }
+        ensures index { (signature : Body) → Spells kind signature blob.now
+            → IfOk result (λ index. index ≡ blob_index self.new.blobs (short signature)) }
+        ensures full { (signature : Body) → Spells kind signature blob.now → result ≡ Err PoolError.Full
+            → 2 ^ 30 < length (blob_heap (pooled self.old.blobs (short signature))) }
+    {
+        if let Some(index) = self.find(blob, kind) {
+            return Ok(index);
+        }
+        let spelling = shortest(self.alloc, blob, kind)?;
+        let index = self.put_blob(&spelling)?;
+        self.remember(blob, kind, index)?;
+        Ok(index)
+    }
+}

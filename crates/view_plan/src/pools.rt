@@ -1,0 +1,55 @@
+ghost use Rattle.std.specs.Prelude.{◌≡◌, ◌^◌, ◌<◌, ◌⊎◌, Err, IfOk, length};
+ghost use Rattle.heaps.specs.declared.pool_error.PoolError.TheVariants.{Full};
+ghost use Rattle.heaps.specs.TextHeap.{text_heap};
+ghost use Rattle.metadata.specs.Metadata.{Metadata};
+ghost use Rattle.metadata.specs.Model.{IsModel};
+ghost use Rattle.canonical.specs.Pools.{pools_of};
+ghost use Rattle.plan.specs.Numbered.{ArePlanned, IsNumbering, IsTooLong};
+
+use crate::numbers::numbers_of;
+use crate::texts::used_texts;
+use heaps::{PoolError, TextPool};
+use metadata::models_of_roots_are_valid;
+use opening::View;
+use plan::{Numbering, cells_can_be_numbered, numberings_are_of_models};
+use std::alloc::Global;
+
+/// The strings heap of the canonical root, planned from the texts of all cells (II.24.2.3).
+fn text_pool(alloc: Global, view: &View) -> Result<TextPool, PoolError>
+    ensures entries { (model : Metadata) → IsModel view.now model → IfOk result (λ pool. pool.entries ≡ (pools_of model).texts) }
+    ensures texts { (model : Metadata) → IsModel view.now model → IfOk result (λ pool. ArePlanned pool model) }
+    ensures full { (model : Metadata) → IsModel view.now model → result ≡ Err PoolError.Full
+        → 2 ^ 30 < length (text_heap (pools_of model).texts) }
+{
+    models_of_roots_are_valid();
+    cells_can_be_numbered();
+    // The root has a model.
+    let _root = view.root();
+    let texts = used_texts(alloc, view)?;
+    TextPool::plan(alloc, &texts)
+}
+
+/// The pools of the canonical root of a view's model, and the numbers of all its cells (II.24.2.3 to II.24.2.6).
+///
+/// The texts are pooled first; then each cell is numbered, by table, row and column, and blobs and GUIDs are pooled
+/// as they come, a signature in its shortest spelling. Nothing that the view shows is copied but the blobs and GUIDs
+/// that are pooled. The memory of the numbers is taken at once.
+///
+/// # Errors
+///
+/// `Full` where one of the heaps would pass 2^30 bytes; `Memory` where memory is refused.
+pub fn pools_of_view<'a>(
+    alloc: Global,
+    view: &View<'a>,
+) -> Result<(TextPool, Numbering), PoolError>
+    ensures pools { (model : Metadata) → IsModel view.now model
+        → IfOk result (λ pools. (pools.0.entries ≡ (pools_of model).texts) × IsNumbering model pools.1) }
+    ensures full { (model : Metadata) → IsModel view.now model → result ≡ Err PoolError.Full
+        → (2 ^ 30 < length (text_heap (pools_of model).texts)) ⊎ IsTooLong model }
+{
+    models_of_roots_are_valid();
+    numberings_are_of_models();
+    let texts = text_pool(alloc, view)?;
+    let numbering = numbers_of(alloc, &texts, view)?;
+    Ok((texts, numbering))
+}
