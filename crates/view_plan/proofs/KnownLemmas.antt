@@ -96,9 +96,9 @@ pub found_known : (kind : SigKind) (blobs : List (List ℕ)) (blob : List ℕ) (
 found_known kind blobs blob test same [] known = tt
 found_known kind blobs blob test same (met ∷ entries) known =
     elim (cases_Bool (test met.0)) [
-      | inl yes ↦ subst (λ b. IfSome (cond b (Some met.1) (lookup test entries)) (λ index. IsKnown kind blobs blob index)) (sym yes)
-          (known_key kind blobs met.0.now blob met.1 (same met.0 yes) known.0)
-      | inr no ↦ subst (λ b. IfSome (cond b (Some met.1) (lookup test entries)) (λ index. IsKnown kind blobs blob index)) (sym no)
+      | inl is_it ↦ subst (λ b. IfSome (cond b (Some met.1) (lookup test entries)) (λ index. IsKnown kind blobs blob index)) (sym is_it)
+          (known_key kind blobs met.0.now blob met.1 (same met.0 is_it) known.0)
+      | inr other ↦ subst (λ b. IfSome (cond b (Some met.1) (lookup test entries)) (λ index. IsKnown kind blobs blob index)) (sym other)
           (found_known kind blobs blob test same entries known.1)
     ]
 
@@ -109,9 +109,9 @@ pub known_inserted : (kind : SigKind) (blobs : List (List ℕ)) (eq : Bor (List 
 known_inserted kind blobs eq blob index same is [] known = (is, tt)
 known_inserted kind blobs eq blob index same is (met ∷ entries) known =
     elim (cases_Bool (eq blob met.0)) [
-      | inl yes ↦ subst (λ b. AllKnown kind blobs (cond b ((met.0, index) ∷ entries) (met ∷ insert_entry eq entries blob index))) (sym yes)
-          (known_key kind blobs blob.now met.0.now index (same met.0 yes) is, known.1)
-      | inr no ↦ subst (λ b. AllKnown kind blobs (cond b ((met.0, index) ∷ entries) (met ∷ insert_entry eq entries blob index))) (sym no)
+      | inl is_it ↦ subst (λ b. AllKnown kind blobs (cond b ((met.0, index) ∷ entries) (met ∷ insert_entry eq entries blob index))) (sym is_it)
+          (known_key kind blobs blob.now met.0.now index (same met.0 is_it) is, known.1)
+      | inr other ↦ subst (λ b. AllKnown kind blobs (cond b ((met.0, index) ∷ entries) (met ∷ insert_entry eq entries blob index))) (sym other)
           (known.0, known_inserted kind blobs eq blob index same is entries known.1)
     ]
 

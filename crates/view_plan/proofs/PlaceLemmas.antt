@@ -1,13 +1,20 @@
 -- The cells of a row that are left, by the columns that are.
-use Rattle.std.proofs.Common.{◌≡◌, ℕ, suc, ◌+◌, ◌<◌, ◌≤◌, Bool, true, false, cond, List, [], ◌∷◌, length, get_or, drop, map, refl, sym, ap, ◌∙◌, length-drop, arith}
+use Rattle.std.proofs.Common.{◌≡◌, ℕ, ◌+◌, ◌<◌, ◌≤◌, inl, inr, Bool, true, false, cond, List, [], ◌∷◌, length, get_or, drop, map, refl, sym, ap, subst, ◌∙◌, length-drop, arith}
 use Rattle.std.specs.List.{range_with_len}
-use Rattle.std.proofs.lemmas.List.{drop_more, get_or-map}
+use Rattle.std.proofs.lemmas.Bool.{cases_Bool}
+use Rattle.std.proofs.lemmas.List.{drop_more, drop_all, get_or-map}
 use Rattle.std.proofs.lemmas.List.FromFn.{get_or-range_with_len}
 use Rattle.schema.specs.declared.table.TableId.{TableId}
 use Rattle.schema.specs.declared.table.TableId.TheVariants.{Module}
 use Rattle.schema.specs.Tables.{tables, position_of}
 use Rattle.schema.specs.declared.column.Column.{Column}
-use Rattle.schema.specs.Columns.{columns_of, column_at}
+use Rattle.schema.specs.declared.column.ColumnKind.{ColumnKind}
+use Rattle.schema.specs.declared.column.ColumnKind.TheVariants as kind
+use Rattle.schema.specs.Columns.{columns_of, column_at, col}
+use Rattle.metadata.specs.Cell.{Cell, Number}
+use Rattle.metadata.specs.Metadata.{Metadata, rows_of}
+use Rattle.metadata.specs.Valid.{kind_at}
+use Rattle.plan.specs.Numbered.{Numbered, with_cell, with_next_cell, with_row, with_rows, with_tables}
 use Rattle.schema.specs.CellColumns.{is_padding, indexes_from, cell_columns, cell_count, column_of}
 use Rattle.view_plan.specs.Places.{IsPlaceOf}
 
@@ -16,27 +23,90 @@ pub first_place : (table : TableId) → IsPlaceOf table 0 0
 unfolding cell_columns
 first_place table = refl
 
-module _ (table : TableId) (index place : ℕ) (d : Column) (below : index < length (columns_of table)) (at : IsPlaceOf table index place) where
-  here : Bool
-  here = is_padding (get_or (columns_of table) index d).kind
+module _ (table : TableId) (index place : ℕ) (below : index < length (columns_of table)) (at : IsPlaceOf table index place) where
+  left : drop place (cell_columns table)
+      ≡ cond (is_padding (column_at table index).kind) (indexes_from (index + 1) (drop (index + 1) (columns_of table))) (index ∷ indexes_from (index + 1) (drop (index + 1) (columns_of table)))
+  left = at ∙ ap (indexes_from index) (drop_more (columns_of table) index (col kind.U8) below)
 
-  left : drop place (cell_columns table) ≡ cond here (indexes_from (index + 1) (drop (index + 1) (columns_of table))) (index ∷ indexes_from (index + 1) (drop (index + 1) (columns_of table)))
-  unfolding here
-  left = at ∙ ap (indexes_from index) (drop_more (columns_of table) index d below)
+  pub padding_place : is_padding (column_at table index).kind ≡ true → IsPlaceOf table (index + 1) place
+  padding_place is =
+      let rest = indexes_from (index + 1) (drop (index + 1) (columns_of table)) in
+      left ∙ ap (λ b. cond b rest (index ∷ rest)) is
 
-  pub padding_place : is_padding (get_or (columns_of table) index d).kind ≡ true → IsPlaceOf table (index + 1) place
-  unfolding here
-  padding_place is = left ∙ ap (λ b. cond b (indexes_from (index + 1) (drop (index + 1) (columns_of table))) (index ∷ indexes_from (index + 1) (drop (index + 1) (columns_of table)))) is
-
-  pub cell_place : is_padding (get_or (columns_of table) index d).kind ≡ false
-      → (place < cell_count table) × (column_of table place ≡ index) × IsPlaceOf table (index + 1) (place + 1)
-  unfolding here
+  pub cell_place : is_padding (column_at table index).kind ≡ false → (place < cell_count table) × (column_of table place ≡ index) × IsPlaceOf table (index + 1) (place + 1)
   cell_place is =
       let rest = indexes_from (index + 1) (drop (index + 1) (columns_of table)) in
       let all : drop place (cell_columns table) ≡ index ∷ rest = left ∙ ap (λ b. cond b rest (index ∷ rest)) is in
       let within : place < cell_count table = omega (arith, ap length all, length-drop place (cell_columns table)) in
       let split : get_or (cell_columns table) place 0 ∷ drop (place + 1) (cell_columns table) ≡ index ∷ rest = sym (drop_more (cell_columns table) place 0 within) ∙ all in
       (within, cc split, cc split)
+
+  -- the next cell is that of the column
+  pub next_cell : is_padding (column_at table index).kind ≡ false → (texts : List (List ℕ)) (rest : List Cell → Numbered → Numbered) (row : List Cell) (so_far : Numbered)
+      → length row ≡ cell_count table
+      → with_next_cell (is_padding (column_at table index).kind) (with_cell texts (column_at table index).kind) rest (drop place row) so_far
+      ≡ rest (drop (place + 1) row) (with_cell texts (kind_at table place) (get_or row place (Number 0)) so_far)
+  next_cell is texts rest row so_far long =
+      let here = cell_place is in
+      let within : place < length row = omega (arith, here.0, long) in
+      ap (λ b. with_next_cell b (with_cell texts (column_at table index).kind) rest (drop place row) so_far) is
+      ∙ ap (λ cells. with_next_cell false (with_cell texts (column_at table index).kind) rest cells so_far) (drop_more row place (Number 0) within)
+      ∙ ap (λ i. rest (drop (place + 1) row) (with_cell texts (column_at table i).kind (get_or row place (Number 0)) so_far)) (sym here.1)
+
+-- padding is of one kind
+pub unpadded : (k : ColumnKind) → (k ≡ kind.Padding → ⊥) → is_padding k ≡ false
+unpadded kind.U8 other = refl
+unpadded kind.U16 other = refl
+unpadded kind.U32 other = refl
+unpadded kind.Padding other = absurd (other refl)
+unpadded kind.Text other = refl
+unpadded kind.Guid other = refl
+unpadded kind.Blob other = refl
+unpadded (kind.Signature column) other = refl
+unpadded (kind.Row member) other = refl
+unpadded (kind.Coded coded) other = refl
+unpadded (kind.List member) other = refl
+
+few_indexes : (index : ℕ) (columns : List Column) → length (indexes_from index columns) ≤ length columns
+few_indexes index [] = omega arith
+few_indexes index (column ∷ columns) =
+    let rest = indexes_from (index + 1) columns in
+    elim (cases_Bool (is_padding column.kind)) [
+      | inl padding ↦ subst (λ b. length (cond b rest (index ∷ rest)) ≤ length (column ∷ columns)) (sym padding) (omega (arith, few_indexes (index + 1) columns))
+      | inr other ↦ subst (λ b. length (cond b rest (index ∷ rest)) ≤ length (column ∷ columns)) (sym other) (omega (arith, few_indexes (index + 1) columns))
+    ]
+
+pub few_cells : (table : TableId) → cell_count table ≤ length (columns_of table)
+unfolding cell_columns
+few_cells table = few_indexes 0 (columns_of table)
+
+-- ---- what is left of a row, of rows and of tables
+
+pub row_left : (texts : List (List ℕ)) (columns : List Column) (i : ℕ) (cells : List Cell) (so_far whole : Numbered) → i < length columns
+    → with_row texts (drop i columns) cells so_far ≡ whole
+    → with_next_cell (is_padding (get_or columns i (col kind.U8)).kind) (with_cell texts (get_or columns i (col kind.U8)).kind) (with_row texts (drop (i + 1) columns)) cells so_far ≡ whole
+row_left texts columns i cells so_far whole below e = sym (ap (λ list. with_row texts list cells so_far) (drop_more columns i (col kind.U8) below)) ∙ e
+
+pub row_done : (texts : List (List ℕ)) (columns : List Column) (i : ℕ) (cells : List Cell) (so_far whole : Numbered) → length columns ≤ i
+    → with_row texts (drop i columns) cells so_far ≡ whole → so_far ≡ whole
+row_done texts columns i cells so_far whole past e = sym (ap (λ list. with_row texts list cells so_far) (drop_all i columns past)) ∙ e
+
+pub rows_left : (texts : List (List ℕ)) (columns : List Column) (rows : List (List Cell)) (i : ℕ) (so_far whole : Numbered) → i < length rows
+    → with_rows texts columns (drop i rows) so_far ≡ whole → with_rows texts columns (drop (i + 1) rows) (with_row texts columns (get_or rows i []) so_far) ≡ whole
+rows_left texts columns rows i so_far whole below e = sym (ap (λ list. with_rows texts columns list so_far) (drop_more rows i [] below)) ∙ e
+
+pub rows_done : (texts : List (List ℕ)) (columns : List Column) (rows : List (List Cell)) (i : ℕ) (so_far whole : Numbered) → length rows ≤ i
+    → with_rows texts columns (drop i rows) so_far ≡ whole → so_far ≡ whole
+rows_done texts columns rows i so_far whole past e = sym (ap (λ list. with_rows texts columns list so_far) (drop_all i rows past)) ∙ e
+
+pub tables_left : (texts : List (List ℕ)) (model : Metadata) (i : ℕ) (so_far whole : Numbered) → i < length tables
+    → with_tables texts model (drop i tables) so_far ≡ whole
+    → with_tables texts model (drop (i + 1) tables) (with_rows texts (columns_of (get_or tables i Module)) (rows_of model (get_or tables i Module)) so_far) ≡ whole
+tables_left texts model i so_far whole below e = sym (ap (λ list. with_tables texts model list so_far) (drop_more tables i Module below)) ∙ e
+
+pub tables_done : (texts : List (List ℕ)) (model : Metadata) (i : ℕ) (so_far whole : Numbered) → length tables ≤ i
+    → with_tables texts model (drop i tables) so_far ≡ whole → so_far ≡ whole
+tables_done texts model i so_far whole past e = sym (ap (λ list. with_tables texts model list so_far) (drop_all i tables past)) ∙ e
 
 positions : map position_of tables ≡ range_with_len 0 38
 unfolding tables

@@ -1,0 +1,24 @@
+use Rattle.std.proofs.Common.{◌≡◌, ◌⊎◌, ℕ, List, [], Contains, sym, ap, subst, ◌∙◌}
+use Rattle.heaps.specs.Distinct.{pooled}
+use Rattle.heaps.specs.BlobHeap.{blob_index}
+use Rattle.signature_values.specs.Spells.{short}
+use Rattle.plan.specs.Numbered.{Numbered, with_blob}
+use Rattle.view_plan.proofs.KnownLemmas.{pooled_there, pooled_again}
+use Rattle.view_plan.proofs.gathering.Gathering.put_signature.Goals as goal
+
+pub returns-in-Some-clause-pools : goal.returns-in-Some-clause-pools
+returns-in-Some-clause-pools c signature spells =
+    let self : Numbered = c.args.self.now in
+    let known = c.in-Some.ensures signature spells in
+    sym (ap (λ (blobs : List (List ℕ)). let n : Numbered = record self { blobs = blobs } in n) (pooled_again self.blobs (short signature) known.0))
+
+pub remember-requires : goal.remember-requires
+remember-requires c signature spells =
+    let old : Numbered = c.args.self.now in
+    let new : Numbered = c.put_blob.new.self in
+    let blob = short signature in
+    let same : c.deref.result.now ≡ blob = c.deref.ensures.value ∙ c.in_ok-spelling.ensures.bytes signature spells in
+    let blobs : pooled old.blobs blob ≡ new.blobs =
+    ap (pooled old.blobs) (sym same) ∙ sym (ap (λ (n : Numbered). n.blobs) c.in_ok-index.ensures.pools) in
+    (subst (λ (entries : List (List ℕ)). (blob ≡ []) ⊎ Contains entries blob) blobs (pooled_there old.blobs blob),
+     c.in_ok-index.ensures.index ∙ ap (blob_index new.blobs) same)

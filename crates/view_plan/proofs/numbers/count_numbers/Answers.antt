@@ -1,0 +1,23 @@
+use Rattle.std.proofs.Common.{ℕ, ◌≤◌, ◌*◌, ap, length, get_or, arith}
+use Rattle.std.proofs.Math.Nat.{mul-le-mul_left, mul-le-mul_right}
+use Rattle.schema.specs.declared.table.TableId.TheVariants.{Module}
+use Rattle.view_plan.proofs.numbers.count_numbers.Goals as goal
+
+-- few columns of few rows
+cells_low : (columns count : ℕ) → columns ≤ 9 → count ≤ 0xFFFFFF → columns * count ≤ 150994935
+cells_low columns count few rows = omega (arith, mul-le-mul_right count few, mul-le-mul_left 9 rows)
+
+few_here : (c : goal.After-count) → length c.columns.result.now * c.count.result ≤ 150994935
+few_here c =
+    let table = get_or c.all-table-items.result.now c.loop-table.table-index Module in
+    cells_low (length c.columns.result.now) c.count.result (omega (arith, ap length c.columns.ensures, c.columns_stand.ensures.few table))
+    (omega (arith, c.count.ensures.limit))
+
+pub overflow_mul-count : goal.overflow_mul-count
+overflow_mul-count c = omega (arith, few_here c)
+
+pub overflow_add-count : goal.overflow_add-count
+overflow_add-count c = omega (arith, few_here c, c.loop-table.invariant, c.loop-table.auto.table-index-end, c.all-table-items.ensures.count)
+
+pub loop-table-preserved : goal.loop-table-preserved
+loop-table-preserved c = omega (arith, few_here c, c.loop-table.invariant)

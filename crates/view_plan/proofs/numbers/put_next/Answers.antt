@@ -1,0 +1,52 @@
+use Rattle.std.proofs.Common.{◌≡◌, ℕ, ◌+◌, ◌<◌, false, List, Err, length, get_or, drop, sym, ap, subst, ◌∙◌, rules, arith}
+use Rattle.heaps.specs.declared.pool_error.PoolError.TheVariants.{Full}
+use Rattle.schema.specs.declared.column.Column.{Column}
+use Rattle.schema.specs.declared.column.ColumnKind.TheVariants as kind
+use Rattle.schema.specs.declared.table.TableId.{TableId}
+use Rattle.schema.specs.Columns.{column_at, columns_of, col}
+use Rattle.schema.specs.CellColumns.{is_padding, cell_count}
+use Rattle.metadata.specs.Metadata.{row_of}
+use Rattle.opening.specs.Views.{row_count}
+use Rattle.plan.specs.Numbered.{IsOver}
+use Rattle.view_plan.proofs.PlaceLemmas.{unpadded, cell_place, next_cell, few_cells}
+use Rattle.view_plan.proofs.numbers.put_next.Goals as goal
+
+no_padding : (table : TableId) (index : ℕ) (columns : List Column) → columns ≡ columns_of table → ((get_or columns index (col kind.U8)).kind ≡ kind.Padding → ⊥)
+    → is_padding (column_at table index).kind ≡ false
+no_padding table index columns same other = unpadded (column_at table index).kind (λ e. other (ap (λ (list : List Column). (get_or list index (col kind.U8)).kind) same ∙ e))
+
+pub put_cell-requires : goal.put_cell-requires
+put_cell-requires c = record {
+  first = c.requires.first;
+  last = c.requires.last;
+  place = (cell_place c.args.table c.args.index c.args.place c.requires.column c.requires.place (no_padding c.args.table c.args.index c.columns.result.now c.columns.ensures c.in_default.not-Padding)).0;
+  planned = c.requires.planned;
+}
+
+pub overflow_add-result : goal.overflow_add-result
+overflow_add-result c =
+    let within : c.args.place < cell_count c.args.table = (cell_place c.args.table c.args.index c.args.place c.requires.column c.requires.place (no_padding c.args.table c.args.index c.columns.result.now c.columns.ensures c.in_default.not-Padding)).0 in
+    omega (arith, within, few_cells c.args.table, c.columns_stand.ensures.few c.args.table)
+
+pub returns-in_err-put_cell-in_default-clause-full : goal.returns-in_err-put_cell-in_default-clause-full
+unfolding row_count
+returns-in_err-put_cell-in_default-clause-full c = λ model is rest over e.
+    let table = c.args.table in
+    let row = row_of model table c.args.row in
+    let long = c.models_are_read.ensures.long c.args.view.now model is table c.args.row c.requires.first c.requires.last in
+    let full : c.put_cell.result ≡ Err Full = search rules in
+    subst IsOver (sym (next_cell table c.args.index c.args.place c.requires.column c.requires.place (no_padding c.args.table c.args.index c.columns.result.now c.columns.ensures c.in_default.not-Padding) c.args.texts.now.entries rest row c.args.gathering.now long))
+    (over (drop (c.args.place + 1) row) _ (c.put_cell.ensures.full model is full))
+
+pub returns-in_ok-put_cell-in_default-clause-ok : goal.returns-in_ok-put_cell-in_default-clause-ok
+unfolding row_count
+returns-in_ok-put_cell-in_default-clause-ok c = λ model is rest.
+    let table = c.args.table in
+    let row = row_of model table c.args.row in
+    let long = c.models_are_read.ensures.long c.args.view.now model is table c.args.row c.requires.first c.requires.last in
+    next_cell table c.args.index c.args.place c.requires.column c.requires.place (no_padding c.args.table c.args.index c.columns.result.now c.columns.ensures c.in_default.not-Padding) c.args.texts.now.entries rest row c.args.gathering.now long
+    ∙ ap (rest (drop (c.args.place + 1) row)) (sym (c.in_ok-put_cell-in_default.ensures.ok model is))
+
+pub returns-in_ok-put_cell-in_default-clause-place : goal.returns-in_ok-put_cell-in_default-clause-place
+returns-in_ok-put_cell-in_default-clause-place c =
+    (cell_place c.args.table c.args.index c.args.place c.requires.column c.requires.place (no_padding c.args.table c.args.index c.columns.result.now c.columns.ensures c.in_default.not-Padding)).2

@@ -1,0 +1,16 @@
+use Rattle.std.proofs.Common.{◌≡◌, drop}
+use Rattle.schema.specs.Columns.{columns_of}
+use Rattle.metadata.specs.Metadata.{Metadata, row_of}
+use Rattle.metadata.specs.Model.{IsModel}
+use Rattle.plan.specs.Numbered.{with_row}
+use Rattle.view_plan.specs.Places.{IsPlaceOf}
+use Rattle.view_plan.proofs.numbers.put_row.Given as goal
+
+-- with the columns that are left it is the whole row
+abbrev pub invariant-loop-index : goal.invariant-loop-index
+invariant-loop-index l = record {
+  whole : (model : Metadata) → IsModel l.view model
+      → with_row l.texts.entries (drop l.index (columns_of l.table)) (drop l.place (row_of model l.table l.row)) l.gathering
+      ≡ with_row l.texts.entries (columns_of l.table) (row_of model l.table l.row) l.fn.gathering;
+  at : IsPlaceOf l.table l.index l.place;
+}

@@ -1,0 +1,13 @@
+use Rattle.std.proofs.Common.{◌≡◌, drop}
+use Rattle.schema.specs.Columns.{columns_of}
+use Rattle.metadata.specs.Metadata.{Metadata, rows_of}
+use Rattle.metadata.specs.Model.{IsModel}
+use Rattle.plan.specs.Numbered.{with_rows}
+use Rattle.view_plan.proofs.numbers.put_rows.Given as goal
+
+-- with the rows that are left it is all of them
+abbrev pub invariant-loop-row : goal.invariant-loop-row
+invariant-loop-row l =
+    (model : Metadata) → IsModel l.view model
+    → with_rows l.texts.entries (columns_of l.table) (drop l.row (rows_of model l.table)) l.gathering
+    ≡ with_rows l.texts.entries (columns_of l.table) (rows_of model l.table) l.fn.gathering

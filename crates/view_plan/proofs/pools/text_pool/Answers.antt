@@ -1,0 +1,34 @@
+use Rattle.std.proofs.Common.{◌≡◌, ◌≢◌, ℕ, List, [], All, Contains, get_or, sym, ap, subst, ◌∙◌}
+use Rattle.std.proofs.lemmas.Grind.{not_there}
+use Rattle.std.proofs.lemmas.List.Elements.{All-get_or, All-from_get_or}
+use Rattle.std.proofs.lemmas.Result.{IfOk-weaker}
+use Rattle.heaps.specs.Entries.{HasNoNul}
+use Rattle.heaps.specs.TextHeap.{holders}
+use Rattle.heaps.specs.TextPlan.{TextPlan}
+use Rattle.heaps.specs.Uses.{bytes_of}
+use Rattle.canonical.specs.Pools.{pools_of}
+use Rattle.plan.specs.Numbered.{ArePlanned}
+use Rattle.view_plan.proofs.pools.text_pool.Goals as goal
+
+pub plan-requires : goal.plan-requires
+plan-requires c =
+    let texts = bytes_of c.deref.result.now in
+    All-from_get_or HasNoNul texts [] (λ k below.
+    All-from_get_or (λ (byte : ℕ). byte ≢ 0) (get_or texts k []) 0 (λ j within zero.
+    not_there c.root-root.ensures.model (λ some.
+    let all : All HasNoNul texts =
+    subst (λ (list : List (List ℕ)). All HasNoNul list) (sym (ap bytes_of c.deref.ensures.value ∙ c.in_ok-texts.ensures some.0 some.1))
+    (c.cells_can_be_numbered.ensures.texts some.0 (c.models_of_roots_are_valid.ensures c.args.view.now some.0 some.1)) in
+    All-get_or (λ (byte : ℕ). byte ≢ 0) (get_or texts k []) j 0 within (All-get_or HasNoNul texts k [] below all) zero)))
+
+pub returns-clause-entries : goal.returns-clause-entries
+returns-clause-entries c = λ model is.
+    let same = ap bytes_of c.deref.ensures.value ∙ c.in_ok-texts.ensures model is in
+    IfOk-weaker c.plan.result (λ (pool : TextPlan). pool.entries ≡ holders (bytes_of c.deref.result.now)) (λ (pool : TextPlan). pool.entries ≡ (pools_of model).texts)
+    (λ pool e. e ∙ ap holders same) c.plan.ensures.entries
+
+pub returns-clause-texts : goal.returns-clause-texts
+returns-clause-texts c = λ model is.
+    let same = ap bytes_of c.deref.ensures.value ∙ c.in_ok-texts.ensures model is in
+    IfOk-weaker c.plan.result _ (λ (pool : TextPlan). ArePlanned pool model)
+    (λ pool planned text among some. planned text (subst (λ (list : List (List ℕ)). Contains list text) (sym same) among) some) c.plan.ensures.texts
