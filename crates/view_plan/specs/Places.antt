@@ -1,5 +1,5 @@
 -- Which cells of a row are left (ECMA-335 II.22).
-use Rattle.std.specs.Prelude.{◌≡◌, ℕ, List, drop}
+use Rattle.std.specs.Prelude.{◌≡◌, ℕ, drop}
 use Rattle.schema.specs.declared.table.TableId.{TableId}
 use Rattle.schema.specs.Columns.{columns_of}
 use Rattle.schema.specs.CellColumns.{indexes_from, cell_columns}

@@ -38,10 +38,7 @@ fn text_pool(alloc: Global, view: &View) -> Result<TextPool, PoolError>
 /// # Errors
 ///
 /// `Full` where one of the heaps would pass 2^30 bytes; `Memory` where memory is refused.
-pub fn pools_of_view<'a>(
-    alloc: Global,
-    view: &View<'a>,
-) -> Result<(TextPool, Numbering), PoolError>
+pub fn pools_of_view<'a>(alloc: Global, view: &View<'a>) -> Result<(TextPool, Numbering), PoolError>
     ensures pools { (model : Metadata) → IsModel view.now model
         → IfOk result (λ pools. (pools.0.entries ≡ (pools_of model).texts) × IsNumbering model pools.1) }
     ensures full { (model : Metadata) → IsModel view.now model → result ≡ Err PoolError.Full

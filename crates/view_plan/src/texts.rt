@@ -56,11 +56,7 @@ fn add_row<'a>(
 }
 
 /// Adds the texts of all cells of a table.
-fn add_rows<'a>(
-    texts: &mut Vec<&'a str>,
-    view: &View<'a>,
-    table: TableId,
-) -> Result<(), AllocError>
+fn add_rows<'a>(texts: &mut Vec<&'a str>, view: &View<'a>, table: TableId) -> Result<(), AllocError>
     ensures { (model : Metadata) → IsModel view.now model
         → OnOk result (bytes_of texts.new.items ≡ bytes_of texts.old.items ++ flat_map (flat_map texts_of) (rows_of model table)) }
 {

@@ -1,4 +1,4 @@
-use Rattle.std.proofs.Common.{◌≡◌, ◌<◌, ◌≤◌, ◌⊎◌, ◌^◌, ℕ, List, [], Contains, length, Option, Some, sym, ap, subst, ⊎_elim, arith}
+use Rattle.std.proofs.Common.{◌<◌, ◌≤◌, ◌^◌, length, Option, subst, ⊎_elim, arith}
 use Rattle.std.proofs.lemmas.Bool.{cases_lt}
 use Rattle.std.proofs.lemmas.Grind.{not_there}
 use Rattle.std.proofs.Math.Logic.{∥∥₁_map}
@@ -35,7 +35,8 @@ row_number-requires c =
     let P : CellRef → Type 0 = λ seen. Shows c.args.kind seen some.0 in
     let shows = subst P c.in-Ref-Some.is some.1 in
     let named = subst (λ (cell : Says). CanBeNumbered c.args.texts.now cell) shows some.2 in
-    let low : row ≤ 16777215 = subst (λ (r : Option Token). CanBeNumbered c.args.texts.now (Ref r)) c.in-Ref-Some.field-0-is named in
+    let token = rw c.in-Ref-Some.is at c.in-Ref-Some.field-0-is in
+    let low : row ≤ 16777215 = subst (λ (r : Option Token). CanBeNumbered c.args.texts.now (Ref r)) token named in
     omega (arith, low, ge)))) (cases_lt row 16777216)
 
 pub signature_number-requires : goal.signature_number-requires

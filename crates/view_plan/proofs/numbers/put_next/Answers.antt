@@ -1,4 +1,4 @@
-use Rattle.std.proofs.Common.{◌≡◌, ℕ, ◌+◌, ◌<◌, false, List, Err, length, get_or, drop, sym, ap, subst, ◌∙◌, rules, arith}
+use Rattle.std.proofs.Common.{◌≡◌, ℕ, ◌+◌, ◌<◌, false, List, Err, get_or, drop, sym, ap, subst, ◌∙◌, rules, arith}
 use Rattle.heaps.specs.declared.pool_error.PoolError.TheVariants.{Full}
 use Rattle.schema.specs.declared.column.Column.{Column}
 use Rattle.schema.specs.declared.column.ColumnKind.TheVariants as kind

@@ -1,4 +1,4 @@
-use Rattle.std.proofs.Common.{◌≡◌, ℕ, ◌+◌, ◌-◌, ◌<◌, ◌≤◌, List, [], Err, length, get_or, drop, ap, subst, ◌∙◌, rules, arith}
+use Rattle.std.proofs.Common.{◌≡◌, ℕ, ◌+◌, ◌-◌, ◌<◌, ◌≤◌, [], Err, length, get_or, drop, ap, subst, ◌∙◌, rules, arith}
 use Rattle.heaps.specs.declared.pool_error.PoolError.TheVariants.{Full}
 use Rattle.schema.specs.Columns.{columns_of}
 use Rattle.metadata.specs.Metadata.{rows_of}

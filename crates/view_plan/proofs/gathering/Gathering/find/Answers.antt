@@ -1,6 +1,5 @@
 use Rattle.std.proofs.Common.{◌≡◌, ℕ, List, Bor, Option, IfSome, nat_eq, sym, subst, ◌∙◌, rules}
 use Rattle.std.specs.Cmp.Lexicographic.{pointwise, same_text}
-use Rattle.schema.specs.declared.column.SigKind.{SigKind}
 use Rattle.view_plan.specs.Known.{IsKnown}
 use Rattle.view_plan.proofs.KnownLemmas.{found_known}
 use Rattle.view_plan.proofs.gathering.Gathering.find.Goals as goal

@@ -1,4 +1,3 @@
-use Rattle.std.proofs.Common.{ap}
 use Rattle.view_plan.proofs.KnownLemmas.{known_kept, same_blobs}
 use Rattle.plan.specs.Numbered.{with_guid}
 use Rattle.view_plan.proofs.gathering.Gathering.put_guid.Goals as goal

@@ -2,7 +2,7 @@ use Rattle.std.proofs.Common.{◌≡◌, ◌⊎◌, ℕ, List, [], Contains, sym
 use Rattle.heaps.specs.Distinct.{pooled}
 use Rattle.heaps.specs.BlobHeap.{blob_index}
 use Rattle.signature_values.specs.Spells.{short}
-use Rattle.plan.specs.Numbered.{Numbered, with_blob}
+use Rattle.plan.specs.Numbered.{Numbered}
 use Rattle.view_plan.proofs.KnownLemmas.{pooled_there, pooled_again}
 use Rattle.view_plan.proofs.gathering.Gathering.put_signature.Goals as goal
 
@@ -19,6 +19,7 @@ remember-requires c signature spells =
     let blob = short signature in
     let same : c.deref.result.now ≡ blob = c.deref.ensures.value ∙ c.in_ok-spelling.ensures.bytes signature spells in
     let blobs : pooled old.blobs blob ≡ new.blobs =
-    ap (pooled old.blobs) (sym same) ∙ sym (ap (λ (n : Numbered). n.blobs) c.in_ok-index.ensures.pools) in
-    (subst (λ (entries : List (List ℕ)). (blob ≡ []) ⊎ Contains entries blob) blobs (pooled_there old.blobs blob),
-     c.in_ok-index.ensures.index ∙ ap (blob_index new.blobs) same)
+    ap (pooled old.blobs) (sym same) ∙ sym (ap (λ (n : Numbered). n.blobs) c.in_ok-index.ensures.pools) in (
+      subst (λ (entries : List (List ℕ)). (blob ≡ []) ⊎ Contains entries blob) blobs (pooled_there old.blobs blob),
+      c.in_ok-index.ensures.index ∙ ap (blob_index new.blobs) same,
+    )

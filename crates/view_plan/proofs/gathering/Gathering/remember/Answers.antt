@@ -41,8 +41,8 @@ invariant_of-self c =
     let before = c.self.inside in
     let turned : IsTurned before c.if-ne.self-inside c.args.kind =
     elim c.if-ne.branch [
-      then-ne w ↦ cleared before c.if-ne.self-inside _ c.args.kind w.self-inside-is refl refl w.clear.ensures.empty
-    | else-ne w ↦ let same : c.self.inside.kind ≡ c.args.kind = search rules in kept before c.if-ne.self-inside c.args.kind w.self-inside-is same c.self.invariant
+      | then-ne w ↦ cleared before c.if-ne.self-inside _ c.args.kind w.self-inside-is refl refl w.clear.ensures.empty
+      | else-ne w ↦ let same : c.self.inside.kind ≡ c.args.kind = search rules in kept before c.if-ne.self-inside c.args.kind w.self-inside-is same c.self.invariant
     ] in
     holds before c.if-ne.self-inside c.args.kind c.insert.new.self.entries turned
     (subst (λ (entries : List Met). AllKnown c.args.kind before.numbering.blobs entries) (sym c.in_err-insert.ensures.err) turned.known)
@@ -52,8 +52,8 @@ invariant_of-self-2 c =
     let before = c.self.inside in
     let turned : IsTurned before c.if-ne.self-inside c.args.kind =
     elim c.if-ne.branch [
-      then-ne w ↦ cleared before c.if-ne.self-inside _ c.args.kind w.self-inside-is refl refl w.clear.ensures.empty
-    | else-ne w ↦ let same : c.self.inside.kind ≡ c.args.kind = search rules in kept before c.if-ne.self-inside c.args.kind w.self-inside-is same c.self.invariant
+      | then-ne w ↦ cleared before c.if-ne.self-inside _ c.args.kind w.self-inside-is refl refl w.clear.ensures.empty
+      | else-ne w ↦ let same : c.self.inside.kind ≡ c.args.kind = search rules in kept before c.if-ne.self-inside c.args.kind w.self-inside-is same c.self.invariant
     ] in
     let index : IsKnown c.args.kind before.numbering.blobs c.args.blob.now c.args.index =
     subst (λ (numbering : Numbered). IsKnown c.args.kind numbering.blobs c.args.blob.now c.args.index) (sym c.self.view_is) c.requires in
