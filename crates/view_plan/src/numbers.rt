@@ -34,10 +34,10 @@ fn signature_number<'a>(
     ensures full { (cell : Says) → ShowsSignature kind blob.now cell → result ≡ Err PoolError.Full
         → IsOver (with_values gathering.old cell) }
 {
-    match kind {
-        ColumnKind::Signature(column) => gathering.put_signature(blob, column),
-        _ => unreachable!(),
-    }
+    let ColumnKind::Signature(column) = kind else {
+        unreachable!();
+    };
+    gathering.put_signature(blob, column)
 }
 
 /// The number of a value in place, in a column of a kind, whose values are pooled.
