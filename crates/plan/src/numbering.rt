@@ -27,6 +27,10 @@ impl Model for Numbering {
 
 impl Numbering {
     /// A numbering of no cells, with memory for a count of numbers.
+    ///
+    /// # Errors
+    ///
+    /// Want of memory alone.
     pub fn new(alloc: Global, count: usize) -> Result<Numbering, AllocError>
         ensures { IfOk result (λ numbering. numbering ≡ none_numbered) }
     {
@@ -37,7 +41,11 @@ impl Numbering {
         })
     }
 
-    /// Keeps the number of the next column. Where memory is refused it stays as it was.
+    /// Keeps the number of the next column.
+    ///
+    /// # Errors
+    ///
+    /// Want of memory alone, which leaves the numbering as it was.
     pub fn put_number(&mut self, number: u32) -> Result<(), AllocError>
         ensures ok { OnOk result (self.new ≡ with_number self.old number) }
         ensures err { OnErr result (self.new ≡ self.old) }

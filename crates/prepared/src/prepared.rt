@@ -98,6 +98,10 @@ fn parts_of<'a>(plan: &'a RootPlan) -> RootParts<'a>
 }
 
 /// The root that is planned, in memory that is taken once; each byte is written once.
+///
+/// # Errors
+///
+/// Want of memory alone.
 pub fn make(alloc: Global, plan: &RootPlan) -> Result<Prepared, AllocError>
     requires { IsPlan plan.now }
     ensures { (model : Metadata) → IsRootPlan model plan.now → IfOk result (λ prepared. prepared ≡ canonical model) }
