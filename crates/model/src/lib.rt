@@ -95,8 +95,7 @@ pub use view_records::{
 
 // The canonical root of a model.
 pub use writer::{
-    Counted, Prepared, Sink, WriteError, prepare, write_root, write_root_to,
-    write_root_within,
+    Counted, Prepared, Sink, WriteError, prepare, write_root, write_root_to, write_root_within,
 };
 
 // The canonical root of a view, whose model is not made.

@@ -1,5 +1,5 @@
 -- How the tables stand.
-use Rattle.std.proofs.Common.{◌≡◌, ℕ, ◌<◌, List, length, get_or}
+use Rattle.std.proofs.Common.{◌≡◌, ◌<◌, length, get_or}
 use Rattle.schema.specs.declared.table.TableId.{TableId}
 use Rattle.schema.specs.declared.table.TableId.TheVariants.{Module}
 use Rattle.schema.specs.Tables.{tables, table_number, position_of}

@@ -10,13 +10,13 @@ use crate::opened::open;
 use crate::subcommands::reader;
 use clap::{Arg, ArgAction, Command};
 use packed::{Fault, FaultCode};
+use prepared::{Prepared, WriteError};
 use printed_faults::{Failure, printed};
+use sinks::Counted;
 use std::alloc::{AllocError, Global};
 use std::io::{BufWriter, Write};
 use std::rt::Files;
 use std::{fs, io};
-use prepared::{Prepared, WriteError};
-use sinks::Counted;
 use view_writer::prepare_view;
 
 /// The most bytes of a root that is written.
