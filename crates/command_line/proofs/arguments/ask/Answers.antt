@@ -8,11 +8,11 @@ use Rattle.std.specs.Str.Parse.{ExplainsUnsignedError, HasUnsignedDigitsIfOk, Pa
 use Rattle.clap.specs.declared.error.Error.{Error}
 use Rattle.clap.specs.Words.{App, HasKind, HasMatchesOf, Row, Text, fault_of, first_of, found_of, is_simple, is_simple_and_free, one_of, rows_of, subcommand_name_of, subcommand_of, subcommand_rows_of}
 use Rattle.clap.specs.declared.ArgMatches.{ArgMatches}
-use Rattle.cli.specs.CommandLine.{clim}
-use Rattle.cli.specs.Asked.{name_of}
-use Rattle.cli.proofs.ValuesGiven.{AllThere, file_first, has_values, is_known, rewrite_takes, token_takes, values_in}
-use Rattle.cli.proofs.Readings.{count_is, named_back, rows_met, flag_is, some_mapped}
-use Rattle.cli.proofs.arguments.ask.Goals as goal
+use Rattle.command_line.specs.CommandLine.{clim}
+use Rattle.command_line.specs.Asked.{name_of}
+use Rattle.command_line.proofs.ValuesGiven.{AllThere, file_first, has_values, is_known, rewrite_takes, token_takes, values_in}
+use Rattle.command_line.proofs.Readings.{count_is, named_back, rows_met, flag_is, some_mapped}
+use Rattle.command_line.proofs.arguments.ask.Goals as goal
 
 clim_is_simple : is_simple clim ≡ true
 unfolding clap_on_literals

@@ -2,8 +2,8 @@ use Rattle.std.proofs.Common.{rules, ◌≡◌, ◌∙◌, ◌||◌, Some, ap, a
 use Rattle.std.proofs.lemmas.Result.{IfOk-weaker}
 use Rattle.clap.specs.Words.{rule_of, with_rule}
 use Rattle.clap.specs.declared.builder.value_parser.ValueParser.TheVariants.{Unsigned}
-use Rattle.cli.specs.CommandLine as line
-use Rattle.cli.proofs.subcommands.check_file.command.Goals as goal
+use Rattle.command_line.specs.CommandLine as line
+use Rattle.command_line.proofs.subcommands.check_file.command.Goals as goal
 
 pub returns-clause-app : goal.returns-clause-app
 returns-clause-app c =

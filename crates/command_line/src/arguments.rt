@@ -1,8 +1,8 @@
 //! The command line, and what its words ask for.
 ghost use Rattle.std.specs.Prelude.{◌≡◌, IfOk, map};
 ghost use Rattle.clap.specs.Words.{FailsBy, app_of, fault_of};
-ghost use Rattle.cli.specs.Asked.{Gives, HasFile, HasSecond};
-ghost use Rattle.cli.specs.CommandLine.{clim};
+ghost use Rattle.command_line.specs.Asked.{Gives, HasFile, HasSecond};
+ghost use Rattle.command_line.specs.CommandLine.{clim};
 
 use crate::asked::{Ask, Subcommand};
 use crate::subcommands::{

@@ -13,12 +13,12 @@ use Rattle.clap.specs.Faults.{entered_fault, fault_of, level_fault, use_fault}
 use Rattle.clap.specs.declared.parser.matches.ValueSource.TheVariants.{CommandLine}
 use Rattle.clap.proofs.OnLiterals.{clap_on_literals}
 use Rattle.std.proofs.lemmas.Slice.Eq.{bytes_eq-Decides}
-use Rattle.cli.specs.Asked.{name_of, subcommand_named}
-use Rattle.cli.specs.declared.asked.Subcommand.TheVariants.{Root, Check, Show, Types, Token, Rewrite, Explain}
-use Rattle.cli.specs.declared.asked.Subcommand.{Subcommand}
-use Rattle.cli.specs.CommandLine.{bare, budget, check, clim, code, explain, file, reader, second}
-use Rattle.cli.proofs.NoHelp.{StopsElsewhere, is_help, stops_elsewhere}
-use Rattle.cli.proofs.Filled.{AllFill, Fills, IsFilled, below_none, check_none, filled_with, filled_without, first_none, given_has_value, level_filled}
+use Rattle.command_line.specs.Asked.{name_of, subcommand_named}
+use Rattle.command_line.specs.declared.asked.Subcommand.TheVariants.{Root, Check, Show, Types, Token, Rewrite, Explain}
+use Rattle.command_line.specs.declared.asked.Subcommand.{Subcommand}
+use Rattle.command_line.specs.CommandLine.{bare, budget, check, clim, code, explain, file, reader, second}
+use Rattle.command_line.proofs.NoHelp.{StopsElsewhere, is_help, stops_elsewhere}
+use Rattle.command_line.proofs.Filled.{AllFill, Fills, IsFilled, below_none, check_none, filled_with, filled_without, first_none, given_has_value, level_filled}
 
 -- an argument whose use takes the place of an earlier one, with a value at least
 set_fills : (a : Rule) → ((values : List Text) (rows : List Row) → used a values rows

@@ -3,8 +3,8 @@ use Rattle.std.proofs.lemmas.Result.{IfOk-weaker}
 use Rattle.clap.specs.Words.{app_of, new_app, rule_of, with_rule}
 use Rattle.clap.specs.Simple.{app_of_fields}
 use Rattle.clap.specs.declared.Command.TheViews.{out-Command}
-use Rattle.cli.specs.CommandLine as line
-use Rattle.cli.proofs.subcommands.reader.Goals as goal
+use Rattle.command_line.specs.CommandLine as line
+use Rattle.command_line.proofs.subcommands.reader.Goals as goal
 
 pub returns-clause-app : goal.returns-clause-app
 returns-clause-app c =

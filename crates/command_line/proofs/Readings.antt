@@ -9,9 +9,9 @@ use Rattle.std.proofs.lemmas.Slice.Eq.{bytes_eq-Decides}
 use Rattle.clap.specs.Words.{Row, Text, ReadsOne, subcommand_name_of, subcommand_rows_of}
 use Rattle.clap.specs.declared.ArgMatches.{ArgMatches}
 use Rattle.clap.specs.declared.ArgMatches.TheViews.{out-ArgMatches}
-use Rattle.cli.specs.Asked.{IsCountOf, name_of, subcommand_named}
-use Rattle.cli.specs.declared.asked.Subcommand.{Subcommand}
-use Rattle.cli.specs.declared.asked.Subcommand.TheVariants.{Root, Check, Show, Types, Token, Rewrite, Explain}
+use Rattle.command_line.specs.Asked.{IsCountOf, name_of, subcommand_named}
+use Rattle.command_line.specs.declared.asked.Subcommand.{Subcommand}
+use Rattle.command_line.specs.declared.asked.Subcommand.TheVariants.{Root, Check, Show, Types, Token, Rewrite, Explain}
 
 option_map_map : {A B C : Type 0} (f : B → C) (g : A → B) (o : Option A) → option_map f (option_map g o) ≡ option_map (λ x. f (g x)) o
 option_map_map f g None = refl

@@ -2,8 +2,8 @@ use Rattle.std.proofs.Common.{◌≡◌, ◌∙◌, ap, ap₂, codes, true}
 use Rattle.std.proofs.lemmas.Result.{IfOk-weaker}
 use Rattle.clap.specs.Words.{App, app_of, new_app, with_subcommand}
 use Rattle.clap.specs.Simple.{app_of_fields, on_top}
-use Rattle.cli.specs.CommandLine as line
-use Rattle.cli.proofs.arguments.command.Goals as goal
+use Rattle.command_line.specs.CommandLine as line
+use Rattle.command_line.proofs.arguments.command.Goals as goal
 
 pub returns : goal.returns
 returns c =

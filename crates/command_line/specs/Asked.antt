@@ -1,14 +1,13 @@
 -- What the words of a command line ask for, by what `clap` gives for them.
-use Rattle.std.specs.Prelude.{◌≡◌, ◌≢◌, ◌↔◌, ℕ, IsTrue, IsSome, MatchOption, List, Option, Some, None, codes, if◌then◌else◌, option_map}
+use Rattle.std.specs.Prelude.{◌≡◌, ◌≢◌, ◌↔◌, ℕ, ◌<◌, ◌^◌, IsTrue, IsSome, MatchOption, List, Option, Some, None, codes, if◌then◌else◌, option_map}
 use Rattle.std.specs.Str.{bytes_eq}
 use Rattle.std.specs.Option.{SomeIff}
-use Rattle.std.specs.Str.Parse.{digits_value, without_leading_plus}
+use Rattle.std.specs.Str.Parse.{IsNumeral, digits_value, without_leading_plus}
 use Rattle.clap.specs.Words.{Row, Text, first_of, one_of, subcommand_of}
-use Rattle.cli.specs.CommandLine.{clim}
-use Rattle.cli.specs.Numbers.{IsByteCount}
-use Rattle.cli.specs.declared.asked.Ask.{Ask}
-use Rattle.cli.specs.declared.asked.Subcommand.{Subcommand}
-use Rattle.cli.specs.declared.asked.Subcommand.TheVariants.{Root, Check, Show, Types, Token, Rewrite, Explain}
+use Rattle.command_line.specs.CommandLine.{clim}
+use Rattle.command_line.specs.declared.asked.Ask.{Ask}
+use Rattle.command_line.specs.declared.asked.Subcommand.{Subcommand}
+use Rattle.command_line.specs.declared.asked.Subcommand.TheVariants.{Root, Check, Show, Types, Token, Rewrite, Explain}
 
 -- the word of a subcommand
 abbrev pub name_of : Subcommand → Text
@@ -31,6 +30,10 @@ subcommand_named word =
     else if bytes_eq word (name_of Rewrite) then Some Rewrite
     else if bytes_eq word (name_of Explain) then Some Explain
     else None
+
+-- decimal digits of a number of 64 bits, where a plus may stand first
+abbrev pub IsByteCount : List ℕ → Type 0
+IsByteCount word = IsNumeral 10 (without_leading_plus word) × (digits_value 10 (without_leading_plus word) < 2 ^ 64)
 
 -- the number of bytes that a word writes, where there is a word, and it writes one
 abbrev pub IsCountOf : Option Text → Option ℕ → Type 0

@@ -8,7 +8,7 @@ use Rattle.clap.specs.Simple.{Shape}
 use Rattle.clap.specs.Kinds.{Kinds, or_else}
 use Rattle.clap.specs.Faults.{other_fault, step_fault, turn_fault, walk_fault, word_fault}
 use Rattle.clap.specs.declared.error.ErrorKind.TheVariants as kind
-use Rattle.cli.proofs.Filled.{first_none, second_none}
+use Rattle.command_line.proofs.Filled.{first_none, second_none}
 
 abbrev pub is_help : Text → Bool
 is_help name = bytes_eq name (codes "help")

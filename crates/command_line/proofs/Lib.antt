@@ -1,0 +1,4 @@
+pub mod Filled
+pub mod NoHelp
+pub mod ValuesGiven
+pub mod Readings
