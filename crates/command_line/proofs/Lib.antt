@@ -2,3 +2,4 @@ pub mod Filled
 pub mod NoHelp
 pub mod ValuesGiven
 pub mod Readings
+pub mod Commands

@@ -1,6 +1,6 @@
 //! The command line, and what its words ask for.
-ghost use Rattle.std.specs.Prelude.{◌≡◌, IfOk, map};
-ghost use Rattle.clap.specs.Words.{FailsBy, app_of, fault_of};
+ghost use Rattle.std.specs.Prelude.{◌≡◌, IfOk, IsOkAnd, map};
+ghost use Rattle.clap.specs.Words.{AddsSubcommand, FailsBy, app_of, fault_of};
 ghost use Rattle.command_line.specs.Asked.{Gives, HasFile, HasSecond};
 ghost use Rattle.command_line.specs.CommandLine.{clim};
 
@@ -40,20 +40,30 @@ pub fn ask<'a>(alloc: Global, words: &'a [&'a str]) -> Result<Ask<'a>, Error>
 fn command<'a>(alloc: Global) -> Result<Command<'a>, AllocError>
     ensures { IfOk result (λ command. app_of command ≡ clim) }
 {
-    Command::new(alloc, "clim")
+    let program = Command::new(alloc, "clim")
         .about(
             "Reads, checks and rewrites the metadata of .NET assemblies (ECMA-335, Partition II)",
         )
         .version("0.1.0")
         .after_help(STATUSES)
-        .subcommand_required(true)
-        .subcommand(print_root::command(alloc)?)?
-        .subcommand(check_file::command(alloc)?)?
-        .subcommand(show_tables::command(alloc)?)?
-        .subcommand(print_types::command(alloc)?)?
-        .subcommand(print_token::command(alloc)?)?
-        .subcommand(rewrite_file::command(alloc)?)?
-        .subcommand(explain_fault::command(alloc)?)
+        .subcommand_required(true);
+    let program = with(program, print_root::command(alloc))?;
+    let program = with(program, check_file::command(alloc))?;
+    let program = with(program, show_tables::command(alloc))?;
+    let program = with(program, print_types::command(alloc))?;
+    let program = with(program, print_token::command(alloc))?;
+    let program = with(program, rewrite_file::command(alloc))?;
+    with(program, explain_fault::command(alloc))
+}
+
+/// A command with one subcommand more, where there was memory for that.
+fn with<'a>(
+    command: Command<'a>,
+    subcommand: Result<Command<'a>, AllocError>,
+) -> Result<Command<'a>, AllocError>
+    ensures { IfOk result (λ made. IsOkAnd subcommand.entry (λ added. AddsSubcommand command.entry added made)) }
+{
+    command.subcommand(subcommand?)
 }
 
 const STATUSES: &str = "\

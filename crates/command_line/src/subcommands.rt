@@ -1,6 +1,6 @@
 //! The words of each subcommand and its help, a module for each.
 ghost use Rattle.std.specs.Prelude.{◌≡◌, IfOk, false};
-ghost use Rattle.clap.specs.Words.{app_of};
+ghost use Rattle.clap.specs.Words.{app_of, rule_of};
 ghost use Rattle.clap.specs.declared.Command.TheViews.{out-Command as fields_of};
 ghost use Rattle.command_line.specs.CommandLine as line;
 
@@ -25,17 +25,43 @@ fn reader<'a>(
     ensures app { IfOk result (λ command. app_of command ≡ line.reader name.now) }
     ensures local { IfOk result (λ command. (fields_of command).has_globals ≡ false) }
 {
-    let file = Arg::new(alloc, "FILE")
-        .required(true)
-        .action(ArgAction::Set)
-        .help("The file to read");
-    let bare = Arg::new(alloc, "bare")
-        .long("bare")
-        .action(ArgAction::SetTrue)
-        .help("FILE is a metadata root and no PE file");
     Command::new(alloc, name)
         .about(about)
         .after_help(output)
-        .arg(file)?
-        .arg(bare)
+        .arg(file(alloc))?
+        .arg(bare(alloc))
+}
+
+/// `FILE`, the word of the file to read.
+fn file<'a>(alloc: Global) -> Arg<'a>
+    ensures rule { rule_of result ≡ line.file }
+    ensures local { result.global ≡ false }
+{
+    Arg::new(alloc, "FILE")
+        .required(true)
+        .action(ArgAction::Set)
+        .help("The file to read")
+}
+
+/// `--bare`, the flag of a metadata root.
+fn bare<'a>(alloc: Global) -> Arg<'a>
+    ensures rule { rule_of result ≡ line.bare }
+    ensures local { result.global ≡ false }
+{
+    Arg::new(alloc, "bare")
+        .long("bare")
+        .action(ArgAction::SetTrue)
+        .help("FILE is a metadata root and no PE file")
+}
+
+/// The value behind the file, which help calls by a name.
+fn second<'a>(alloc: Global, name: &'a str, help: &'a str) -> Arg<'a>
+    ensures rule { rule_of result ≡ line.second }
+    ensures local { result.global ≡ false }
+{
+    Arg::new(alloc, "second")
+        .value_name(name)
+        .required(true)
+        .action(ArgAction::Set)
+        .help(help)
 }

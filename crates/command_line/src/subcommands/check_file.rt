@@ -1,6 +1,6 @@
 //! `clim check`: whether a file keeps the rules of the standard.
 ghost use Rattle.std.specs.Prelude.{◌≡◌, IfOk, false};
-ghost use Rattle.clap.specs.Words.{app_of};
+ghost use Rattle.clap.specs.Words.{app_of, rule_of};
 ghost use Rattle.clap.specs.declared.Command.TheViews.{out-Command as fields_of};
 ghost use Rattle.command_line.specs.CommandLine as line;
 
@@ -13,19 +13,26 @@ pub(crate) fn command<'a>(alloc: Global) -> Result<Command<'a>, AllocError>
     ensures app { IfOk result (λ command. app_of command ≡ line.check) }
     ensures local { IfOk result (λ command. (fields_of command).has_globals ≡ false) }
 {
-    let budget = Arg::new(alloc, "budget")
-        .long("budget")
-        .value_name("N")
-        .value_parser(value_parser!(u64))
-        .action(ArgAction::Set)
-        .help("Walk at most N bytes of signatures, or stop with status 3");
     reader(
         alloc,
         "check",
         "Tells whether a file keeps the rules of ECMA-335, II.22 to II.25, that docs/FAULTS.md lists",
         OUTPUT,
     )?
-    .arg(budget)
+    .arg(budget(alloc))
+}
+
+/// `--budget N`, how many bytes of signature blobs may be walked at most.
+fn budget<'a>(alloc: Global) -> Arg<'a>
+    ensures rule { rule_of result ≡ line.budget }
+    ensures local { result.global ≡ false }
+{
+    Arg::new(alloc, "budget")
+        .long("budget")
+        .value_name("N")
+        .value_parser(value_parser!(u64))
+        .action(ArgAction::Set)
+        .help("Walk at most N bytes of signatures, or stop with status 3")
 }
 
 const OUTPUT: &str = "\

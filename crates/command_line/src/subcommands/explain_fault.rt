@@ -1,6 +1,6 @@
 //! `clim explain`: what faults mean.
 ghost use Rattle.std.specs.Prelude.{◌≡◌, IfOk, false};
-ghost use Rattle.clap.specs.Words.{app_of};
+ghost use Rattle.clap.specs.Words.{app_of, rule_of};
 ghost use Rattle.clap.specs.declared.Command.TheViews.{out-Command as fields_of};
 ghost use Rattle.command_line.specs.CommandLine as line;
 
@@ -12,13 +12,20 @@ pub(crate) fn command<'a>(alloc: Global) -> Result<Command<'a>, AllocError>
     ensures app { IfOk result (λ command. app_of command ≡ line.explain) }
     ensures local { IfOk result (λ command. (fields_of command).has_globals ≡ false) }
 {
-    let code = Arg::new(alloc, "CODE").action(ArgAction::Set).help(
-        "The number of the fault; without it all faults are listed",
-    );
     Command::new(alloc, "explain")
         .about("Tells what a fault means, or lists all faults in a line each")
         .after_help(OUTPUT)
-        .arg(code)
+        .arg(code(alloc))
+}
+
+/// `CODE`, the number of the fault, which may be left out.
+fn code<'a>(alloc: Global) -> Arg<'a>
+    ensures rule { rule_of result ≡ line.code }
+    ensures local { result.global ≡ false }
+{
+    Arg::new(alloc, "CODE").action(ArgAction::Set).help(
+        "The number of the fault; without it all faults are listed",
+    )
 }
 
 const OUTPUT: &str = "\

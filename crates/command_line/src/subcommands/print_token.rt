@@ -4,8 +4,8 @@ ghost use Rattle.clap.specs.Words.{app_of};
 ghost use Rattle.clap.specs.declared.Command.TheViews.{out-Command as fields_of};
 ghost use Rattle.command_line.specs.CommandLine as line;
 
-use crate::subcommands::reader;
-use clap::{Arg, ArgAction, Command};
+use crate::subcommands::{reader, second};
+use clap::Command;
 use std::alloc::{AllocError, Global};
 
 /// The words of the subcommand and its help.
@@ -13,18 +13,13 @@ pub(crate) fn command<'a>(alloc: Global) -> Result<Command<'a>, AllocError>
     ensures app { IfOk result (λ command. app_of command ≡ line.token) }
     ensures local { IfOk result (λ command. (fields_of command).has_globals ≡ false) }
 {
-    let hex = Arg::new(alloc, "second")
-        .value_name("HEX")
-        .required(true)
-        .action(ArgAction::Set)
-        .help("The token: one to eight hexadecimal digits");
     reader(
         alloc,
         "token",
         "Prints the row or the user string that a token names",
         OUTPUT,
     )?
-    .arg(hex)
+    .arg(second(alloc, "HEX", "The token: one to eight hexadecimal digits"))
 }
 
 const OUTPUT: &str = "\

@@ -4,8 +4,8 @@ ghost use Rattle.clap.specs.Words.{app_of};
 ghost use Rattle.clap.specs.declared.Command.TheViews.{out-Command as fields_of};
 ghost use Rattle.command_line.specs.CommandLine as line;
 
-use crate::subcommands::reader;
-use clap::{Arg, ArgAction, Command};
+use crate::subcommands::{reader, second};
+use clap::Command;
 use std::alloc::{AllocError, Global};
 
 /// The words of the subcommand and its help.
@@ -13,18 +13,13 @@ pub(crate) fn command<'a>(alloc: Global) -> Result<Command<'a>, AllocError>
     ensures app { IfOk result (λ command. app_of command ≡ line.rewrite) }
     ensures local { IfOk result (λ command. (fields_of command).has_globals ≡ false) }
 {
-    let out = Arg::new(alloc, "second")
-        .value_name("OUT")
-        .required(true)
-        .action(ArgAction::Set)
-        .help("The file to write");
     reader(
         alloc,
         "rewrite",
         "Writes the canonical metadata root of a file",
         OUTPUT,
     )?
-    .arg(out)
+    .arg(second(alloc, "OUT", "The file to write"))
 }
 
 const OUTPUT: &str = "\

@@ -1,15 +1,8 @@
-use Rattle.std.proofs.Common.{rules, ◌≡◌, ◌∙◌, ◌||◌, ap₂, false}
-use Rattle.std.proofs.lemmas.Result.{IfOk-weaker}
-use Rattle.clap.specs.Words.{rule_of, with_rule}
-use Rattle.command_line.specs.CommandLine as line
+use Rattle.command_line.proofs.Commands.{adds_rule, stays_local}
 use Rattle.command_line.proofs.subcommands.print_token.command.Goals as goal
 
 pub returns-clause-app : goal.returns-clause-app
-returns-clause-app c =
-    let second_is : rule_of c.help-hex.result ≡ line.second = search rules in
-    IfOk-weaker c.arg.result _ _ (λ r adds. adds.shape (search rules) ∙ ap₂ with_rule c.in_ok-reader.ensures.app second_is) c.arg.ensures
+returns-clause-app c = adds_rule _ _ c.second.result _ c.arg.result c.in_ok-reader.ensures.app c.second.ensures.rule c.second.ensures.local c.arg.ensures
 
 pub returns-clause-local : goal.returns-clause-local
-returns-clause-local c =
-    let second_local : c.help-hex.result.global ≡ false = search rules in
-    IfOk-weaker c.arg.result _ _ (λ r adds. adds.globals ∙ ap₂ ◌||◌ c.in_ok-reader.ensures.local second_local) c.arg.ensures
+returns-clause-local c = stays_local _ c.second.result c.arg.result c.in_ok-reader.ensures.local c.second.ensures.local c.arg.ensures
