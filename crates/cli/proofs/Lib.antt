@@ -1,8 +1,4 @@
-pub mod Filled
-pub mod NoHelp
-pub mod ValuesGiven
 pub mod TaskFiles
-pub mod Readings
 pub mod Outcomes
 pub mod Heads
 pub mod NumbersRead

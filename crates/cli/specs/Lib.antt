@@ -1,5 +1,3 @@
-pub mod CommandLine
-pub mod Asked
 pub mod Checked
 pub mod Heads
 pub mod Numbers

@@ -1,6 +1,6 @@
 -- The words that stand for a token and for the number of a fault.
-use Rattle.std.specs.Prelude.{◌≡◌, ℕ, ◌<◌, ◌≤◌, ◌^◌, List, length}
-use Rattle.std.specs.Str.Parse.{IsNumeral, digits_value, without_leading_plus}
+use Rattle.std.specs.Prelude.{◌≡◌, ℕ, ◌≤◌, List, length}
+use Rattle.std.specs.Str.Parse.{IsNumeral, digits_value}
 use Rattle.packed.specs.declared.code.FaultCode.{FaultCode}
 use Rattle.packed.specs.Codes.{number_of_code}
 
@@ -11,10 +11,6 @@ IsHexNumber word = IsNumeral 16 word × (length word ≤ 8)
 -- three decimal digits
 abbrev pub IsCodeNumber : List ℕ → Type 0
 IsCodeNumber word = IsNumeral 10 word × (length word ≡ 3)
-
--- decimal digits of a number of 64 bits, where a plus may stand first
-abbrev pub IsByteCount : List ℕ → Type 0
-IsByteCount word = IsNumeral 10 (without_leading_plus word) × (digits_value 10 (without_leading_plus word) < 2 ^ 64)
 
 -- the word is the number of a demand
 abbrev pub NamesCode : List ℕ → FaultCode → Type 0

@@ -8,9 +8,9 @@ use Rattle.packed.specs.Demand.{Demand, FirstToFail}
 use Rattle.heaps.specs.Entries.{IsUserString, UserText}
 use Rattle.heaps.specs.Fill.{filled}
 use Rattle.opening.specs.Views.{user_of}
-use Rattle.cli.specs.declared.asked.Ask.{Ask}
-use Rattle.cli.specs.declared.asked.Subcommand.{Subcommand}
-use Rattle.cli.specs.declared.asked.Subcommand.TheVariants as word
+use Rattle.command_line.specs.declared.asked.Ask.{Ask}
+use Rattle.command_line.specs.declared.asked.Subcommand.{Subcommand}
+use Rattle.command_line.specs.declared.asked.Subcommand.TheVariants as word
 use Rattle.printed_faults.specs.declared.failure.Failure.{Failure}
 use Rattle.printed_faults.specs.declared.failure.Failure.TheVariants as failed
 use Rattle.cli.specs.declared.task.Task.{Task}

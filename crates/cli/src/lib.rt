@@ -11,8 +11,6 @@
 //! ```
 #![tactic(auto)]
 
-mod arguments;
-mod asked;
 mod input;
 mod numbers;
 mod opened;
@@ -22,6 +20,5 @@ mod stop;
 mod subcommands;
 mod task;
 
-pub use arguments::ask;
-pub use asked::{Ask, Subcommand};
+pub use command_line::{Ask, Subcommand, ask};
 pub use program::{go, refuse_words};

@@ -1,15 +1,14 @@
 ghost use Rattle.std.specs.Prelude.{◌≡◌, IfErr, IfOk};
-ghost use Rattle.cli.specs.Asked.{HasFile, HasSecond};
+ghost use Rattle.command_line.specs.Asked.{HasFile, HasSecond};
 ghost use Rattle.cli.specs.Stops.{status_of_stop};
 
-use crate::arguments::ask;
-use crate::asked::Ask;
 use crate::input::read_file;
 use crate::reports;
 use crate::stop::Stop;
 use crate::subcommands::{check_file, explain_fault, rewrite_file};
 use crate::task::{Task, task_of};
 use clap::error::ErrorKind;
+use command_line::{Ask, ask};
 use printed_faults::{Failure, printed};
 use std::alloc::Global;
 use std::io;

@@ -1,12 +1,4 @@
 //! What the program does, a module for each subcommand.
-ghost use Rattle.std.specs.Prelude.{◌≡◌, IfOk, false};
-ghost use Rattle.clap.specs.Words.{app_of};
-ghost use Rattle.clap.specs.declared.Command.TheViews.{out-Command as fields_of};
-ghost use Rattle.cli.specs.CommandLine as line;
-
-use clap::{Arg, ArgAction, Command};
-use std::alloc::{AllocError, Global};
-
 pub(crate) mod check_file;
 pub(crate) mod explain_fault;
 pub(crate) mod print_root;
@@ -14,28 +6,3 @@ pub(crate) mod print_token;
 pub(crate) mod print_types;
 pub(crate) mod rewrite_file;
 pub(crate) mod show_tables;
-
-/// The words of a subcommand that reads a file, and its help: what it does and what it prints.
-fn reader<'a>(
-    alloc: Global,
-    name: &'a str,
-    about: &'a str,
-    output: &'a str,
-) -> Result<Command<'a>, AllocError>
-    ensures app { IfOk result (λ command. app_of command ≡ line.reader name.now) }
-    ensures local { IfOk result (λ command. (fields_of command).has_globals ≡ false) }
-{
-    let file = Arg::new(alloc, "FILE")
-        .required(true)
-        .action(ArgAction::Set)
-        .help("The file to read");
-    let bare = Arg::new(alloc, "bare")
-        .long("bare")
-        .action(ArgAction::SetTrue)
-        .help("FILE is a metadata root and no PE file");
-    Command::new(alloc, name)
-        .about(about)
-        .after_help(output)
-        .arg(file)?
-        .arg(bare)
-}

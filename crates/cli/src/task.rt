@@ -1,10 +1,10 @@
 //! What is to be done, by the words.
-ghost use Rattle.cli.specs.Asked.{HasSecond};
+ghost use Rattle.command_line.specs.Asked.{HasSecond};
 ghost use Rattle.cli.specs.Tasks.{IsTask, IsExplainTask};
 
-use crate::asked::{Ask, Subcommand};
 use crate::numbers::{code_of, token_of};
 use crate::reports::Report;
+use command_line::{Ask, Subcommand};
 use packed::FaultCode;
 use printed_faults::Failure;
 

@@ -1,16 +1,11 @@
 //! `clim token`: the row or the user string that a token names.
-ghost use Rattle.std.specs.Prelude.{◌≡◌, ◌≤◌, IfOk, IfErr, OnOk, false};
-ghost use Rattle.clap.specs.Words.{app_of};
-ghost use Rattle.clap.specs.declared.Command.TheViews.{out-Command as fields_of};
+ghost use Rattle.std.specs.Prelude.{◌≡◌, ◌≤◌, IfOk, IfErr, OnOk};
 ghost use Rattle.heaps.specs.Fill.{filled};
 ghost use Rattle.opening.specs.Views.{HasModel, row_count};
-ghost use Rattle.cli.specs.CommandLine as line;
 ghost use Rattle.cli.specs.Tasks.{HasString, IsMet, IsNamed, TellsNoString, TellsNone, TellsUnnamed};
 ghost use Rattle.cli.specs.declared.reports.Report.TheVariants as report;
 
 use crate::opened::open;
-use crate::subcommands::reader;
-use clap::{Arg, ArgAction, Command};
 use heaps::{UserString, user_string};
 use opening::{Token, View};
 use printed_faults::{Failure, printed};
@@ -24,37 +19,6 @@ const USER_STRINGS: u32 = 0x70;
 
 /// How many rows a token can name, the null one with them: its high byte is the table.
 const ROWS: u32 = 1 << 24;
-
-/// The words of the subcommand and its help.
-pub(crate) fn command<'a>(alloc: Global) -> Result<Command<'a>, AllocError>
-    ensures app { IfOk result (λ command. app_of command ≡ line.token) }
-    ensures local { IfOk result (λ command. (fields_of command).has_globals ≡ false) }
-{
-    let hex = Arg::new(alloc, "second")
-        .value_name("HEX")
-        .required(true)
-        .action(ArgAction::Set)
-        .help("The token: one to eight hexadecimal digits");
-    reader(
-        alloc,
-        "token",
-        "Prints the row or the user string that a token names",
-        OUTPUT,
-    )?
-    .arg(hex)
-}
-
-const OUTPUT: &str = "\
-The high byte of HEX is the number of a table and the rest a row (ECMA-335, III.1.9); the line is that of
-'clim show'. The high byte 70 names an offset in the user strings (II.24.2.4); the line is then 'user TEXT
-FLAG', where a unit that is not printable ASCII or is a backslash stands as \\u and four hexadecimal digits
-and FLAG is the last byte, or 'user' of the empty string. FILE is checked first, as 'clim check' does it.
-
-Examples:
-  $ clim token --bare one_module.root 00000001
-  1: 0 \"a.dll\" {03020100-0504-0706-0809-0a0b0c0d0e0f} null null
-  $ clim token --bare one_module.root 70000000
-  user";
 
 /// Prints what a token names.
 pub(crate) fn run<W: Write>(

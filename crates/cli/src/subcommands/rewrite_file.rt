@@ -1,19 +1,14 @@
 //! `clim rewrite`: the canonical root of a file.
-ghost use Rattle.std.specs.Prelude.{◌≡◌, IfOk, IfErr, false};
-ghost use Rattle.clap.specs.Words.{app_of};
-ghost use Rattle.clap.specs.declared.Command.TheViews.{out-Command as fields_of};
-ghost use Rattle.cli.specs.CommandLine as line;
+ghost use Rattle.std.specs.Prelude.{IfOk, IfErr};
 ghost use Rattle.cli.specs.Rewritten.{IsRewritten, TellsUnwritten};
 ghost use Rattle.printed_faults.specs.Status.{IsUnwritten};
 
 use crate::opened::open;
-use crate::subcommands::reader;
-use clap::{Arg, ArgAction, Command};
 use packed::{Fault, FaultCode};
 use prepared::{Prepared, WriteError};
 use printed_faults::{Failure, printed};
 use sinks::Counted;
-use std::alloc::{AllocError, Global};
+use std::alloc::Global;
 use std::io::{BufWriter, Write};
 use std::rt::Files;
 use std::{fs, io};
@@ -21,38 +16,6 @@ use view_writer::prepare_view;
 
 /// The most bytes of a root that is written.
 const LIMIT: u32 = 1 << 30;
-
-/// The words of the subcommand and its help.
-pub(crate) fn command<'a>(alloc: Global) -> Result<Command<'a>, AllocError>
-    ensures app { IfOk result (λ command. app_of command ≡ line.rewrite) }
-    ensures local { IfOk result (λ command. (fields_of command).has_globals ≡ false) }
-{
-    let out = Arg::new(alloc, "second")
-        .value_name("OUT")
-        .required(true)
-        .action(ArgAction::Set)
-        .help("The file to write");
-    reader(
-        alloc,
-        "rewrite",
-        "Writes the canonical metadata root of a file",
-        OUTPUT,
-    )?
-    .arg(out)
-}
-
-const OUTPUT: &str = "\
-OUT is made, or emptied, once FILE was read whole and checked as 'clim check' does it, and the root is
-ready: it may be FILE, and a FILE that is refused leaves OUT as it was. The root is a metadata root
-alone, which '--bare' reads: the one spelling of what FILE's metadata says, with the heaps in order of
-first use, each text, blob and GUID once, and the narrowest indexes (ECMA-335, II.24.2). Methods'
-bodies and resources are not in it.
-
-Examples:
-  $ clim rewrite one_module.dll out.root
-  wrote 144 bytes
-  $ clim check --bare out.root
-  ok";
 
 /// Writes the canonical root to the file of a path, and prints how many bytes it has.
 pub(crate) fn run<'a, R: Files + AllocGlobal, W: Write>(

@@ -1,0 +1,5 @@
+pub mod Filled
+pub mod NoHelp
+pub mod ValuesGiven
+pub mod Readings
+pub mod Commands

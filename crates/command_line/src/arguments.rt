@@ -1,0 +1,76 @@
+//! The command line, and what its words ask for.
+ghost use Rattle.std.specs.Prelude.{◌≡◌, IfOk, IsOkAnd, map};
+ghost use Rattle.clap.specs.Words.{AddsSubcommand, FailsBy, app_of, fault_of};
+ghost use Rattle.command_line.specs.Asked.{Gives, HasFile, HasSecond};
+ghost use Rattle.command_line.specs.CommandLine.{clim};
+
+use crate::asked::{Ask, Subcommand};
+use crate::subcommands::{
+    check_file, explain_fault, print_root, print_token, print_types, rewrite_file, show_tables,
+};
+use clap::{Command, Error};
+use std::alloc::{AllocError, Global};
+
+/// Reads the words of a command line, the program's name first.
+///
+/// # Errors
+///
+/// The error that `clap` makes of words that the command line does not take, and of a request for
+/// help or the version (`use_stderr` tells them apart); want of memory is of the kind `OutOfMemory`.
+/// Its `Display` is the text for the user.
+pub fn ask<'a>(alloc: Global, words: &'a [&'a str]) -> Result<Ask<'a>, Error>
+    ensures given { IfOk result (Gives (map (λ word. word.now) words.entry.now)) }
+    ensures file { IfOk result HasFile }
+    ensures second { IfOk result HasSecond }
+    ensures refused { FailsBy (fault_of clim (map (λ word. word.now) words.entry.now)) result }
+{
+    let matches = command(alloc)?.try_get_matches_from(words)?;
+    let (name, given) = matches.subcommand().unwrap();
+    Ok(Ask {
+        subcommand: Subcommand::named(name).unwrap(),
+        bare: given.get_one::<bool>("bare") == Some(true),
+        file: given.get_str("FILE"),
+        second: given.get_str("second"),
+        budget: given.get_one::<u64>("budget"),
+        code: given.get_str("CODE"),
+    })
+}
+
+/// The command line as `clap` reads it and shows it in help.
+fn command<'a>(alloc: Global) -> Result<Command<'a>, AllocError>
+    ensures { IfOk result (λ command. app_of command ≡ clim) }
+{
+    let program = Command::new(alloc, "clim")
+        .about(
+            "Reads, checks and rewrites the metadata of .NET assemblies (ECMA-335, Partition II)",
+        )
+        .version("0.1.0")
+        .after_help(STATUSES)
+        .subcommand_required(true);
+    let program = with(program, print_root::command(alloc))?;
+    let program = with(program, check_file::command(alloc))?;
+    let program = with(program, show_tables::command(alloc))?;
+    let program = with(program, print_types::command(alloc))?;
+    let program = with(program, print_token::command(alloc))?;
+    let program = with(program, rewrite_file::command(alloc))?;
+    with(program, explain_fault::command(alloc))
+}
+
+/// A command with one subcommand more, where there was memory for that.
+fn with<'a>(
+    command: Command<'a>,
+    subcommand: Result<Command<'a>, AllocError>,
+) -> Result<Command<'a>, AllocError>
+    ensures { IfOk result (λ made. IsOkAnd subcommand.entry (λ added. AddsSubcommand command.entry added made)) }
+{
+    command.subcommand(subcommand?)
+}
+
+const STATUSES: &str = "\
+'clim <COMMAND> --help' has an example of each command, and 'clim explain CODE' tells what a fault means.
+
+Exit status:
+  0  done
+  1  FILE breaks a rule of the standard, told as 'fault LAYER CODE at OFFSET: NAME', or lacks the row
+  2  the words ask for nothing that clim does; FILE was not read
+  3  a file or the output could not be read or written, memory ran out, or the budget was spent";

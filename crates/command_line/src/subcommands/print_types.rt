@@ -1,0 +1,31 @@
+//! `clim types`: the types of a file.
+ghost use Rattle.std.specs.Prelude.{◌≡◌, IfOk, false};
+ghost use Rattle.clap.specs.Words.{app_of};
+ghost use Rattle.clap.specs.declared.Command.TheViews.{out-Command as fields_of};
+ghost use Rattle.command_line.specs.CommandLine as line;
+
+use crate::subcommands::reader;
+use clap::Command;
+use std::alloc::{AllocError, Global};
+
+/// The words of the subcommand and its help.
+pub(crate) fn command<'a>(alloc: Global) -> Result<Command<'a>, AllocError>
+    ensures app { IfOk result (λ command. app_of command ≡ line.types) }
+    ensures local { IfOk result (λ command. (fields_of command).has_globals ≡ false) }
+{
+    reader(
+        alloc,
+        "types",
+        "Prints the types, and how many fields and methods each has",
+        OUTPUT,
+    )
+}
+
+const OUTPUT: &str = "\
+Each line is 'TOKEN NAME FIELDS METHODS' of a row of TypeDef (ECMA-335, II.22.37): NAME has the namespace
+and a dot before it where there is one. FILE is checked first, as 'clim check' does it.
+
+Examples:
+  $ clim types --bare two_types.root
+  02000001 <Module> 0 0
+  02000002 N.C 2 1";
