@@ -1,4 +1,4 @@
-//! Every call of `tables`, `loading`, `writer` and the crates of records that has an answer for want of
+//! Every call of `tables`, `loading`, `writer`, `view_writer` and the crates of records that has an answer for want of
 //! memory, once and, where it gives that answer, once more.
 //!
 //! Standard input has the number of a section and that of the allocations that are made before it. So the one
