@@ -9,7 +9,7 @@ use Rattle.opening.specs.Views.{HasModel}
 use Rattle.prepared.specs.Errors.{MatchError}
 use Rattle.prepared.specs.declared.error.WriteError.{WriteError}
 use Rattle.prepared.specs.declared.error.WriteError.TheVariants.{TooLarge}
-use Rattle.cli.specs.Checked.{IsOpened}
+use Rattle.reports.specs.Checked.{IsOpened}
 use Rattle.cli.specs.Rewritten.{IsRewritten, IsTooLong}
 
 module _ (bare : Bool) (bytes root : List ℕ) (opened : IsOpened bare bytes root) (has : HasModel root) where

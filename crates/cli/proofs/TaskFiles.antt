@@ -7,7 +7,7 @@ use Rattle.command_line.specs.declared.asked.Subcommand.{Subcommand}
 use Rattle.command_line.specs.declared.asked.Subcommand.TheVariants as word
 use Rattle.cli.specs.declared.task.Task.{Task}
 use Rattle.cli.specs.declared.task.Task.TheVariants as task
-use Rattle.cli.specs.declared.reports.Report.{Report}
+use Rattle.reports.specs.declared.report.Report.{Report}
 use Rattle.command_line.specs.Asked.{HasFile}
 use Rattle.cli.specs.Tasks.{IsTask, IsExplainTask}
 

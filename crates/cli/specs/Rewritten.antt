@@ -7,7 +7,7 @@ use Rattle.metadata.specs.Model.{IsModel}
 use Rattle.canonical.specs.Canonical.{canonical}
 use Rattle.printed_faults.specs.declared.failure.Failure.{Failure}
 use Rattle.printed_faults.specs.declared.failure.Failure.TheVariants as failed
-use Rattle.cli.specs.Checked.{IsOpened, demands_of}
+use Rattle.reports.specs.Checked.{IsOpened, demands_of}
 use Rattle.printed_faults.specs.Status.{IsOutput}
 
 -- the bytes have a model of which something holds

@@ -1,27 +1,16 @@
--- What is to be done, what it means that something was printed of a file, and what is told where it was not.
-use Rattle.std.specs.Prelude.{◌≡◌, ◌≢◌, ℕ, ◌/◌, ◌%◌, ◌^◌, ◌⊎◌, Bool, List, Option, Some, None, Result, Ok, IfSome, MatchOption, MatchResult}
+-- What is to be done, by the words.
+use Rattle.std.specs.Prelude.{◌≡◌, ℕ, List, Option, Some, None, Result, Ok, IfSome, MatchOption, MatchResult}
 use Rattle.std.specs.Borrow.{Bor}
 use Rattle.std.specs.Str.Parse.{digits_value}
 use Rattle.packed.specs.declared.code.FaultCode.{FaultCode}
-use Rattle.packed.specs.declared.fault.Fault.{Fault}
-use Rattle.packed.specs.Demand.{Demand, FirstToFail}
-use Rattle.heaps.specs.Entries.{IsUserString, UserText}
-use Rattle.heaps.specs.Fill.{filled}
-use Rattle.opening.specs.Views.{user_of}
 use Rattle.command_line.specs.declared.asked.Ask.{Ask}
 use Rattle.command_line.specs.declared.asked.Subcommand.{Subcommand}
 use Rattle.command_line.specs.declared.asked.Subcommand.TheVariants as word
 use Rattle.printed_faults.specs.declared.failure.Failure.{Failure}
-use Rattle.printed_faults.specs.declared.failure.Failure.TheVariants as failed
+use Rattle.reports.specs.declared.report.Report.TheVariants as report
 use Rattle.cli.specs.declared.task.Task.{Task}
 use Rattle.cli.specs.declared.task.Task.TheVariants as task
-use Rattle.cli.specs.declared.reports.Report.{Report}
-use Rattle.cli.specs.declared.reports.Report.TheVariants as report
-use Rattle.cli.specs.Checked.{IsWhole, IsOpened, demands_of}
-use Rattle.cli.specs.Heads.{HasHeads, demands_of_heads}
 use Rattle.cli.specs.Numbers.{IsHexNumber, NamesCode}
-use Rattle.printed_faults.specs.Status.{IsOutput}
-use Rattle.printed_rows.specs.Named.{HasTokenRow}
 
 -- a word is the token, where it is a number, and else it is refused
 abbrev pub IsTokenTask : List ℕ → Result Task Failure → Type 0
@@ -46,49 +35,3 @@ IsTask word.Types ask result = result ≡ Ok (task.Print report.Types)
 IsTask word.Token ask result = IfSome ask.second (λ hex. IsTokenTask hex.now result)
 IsTask word.Rewrite ask result = IfSome ask.second (λ out. result ≡ Ok (task.Rewrite out))
 IsTask word.Explain ask result = IsExplainTask ask.code result
-
--- a user string stands at an offset of a root's user bytes
-abbrev pub HasString : List ℕ → ℕ → Type 0
-HasString root offset = (string : UserText) × IsUserString (filled (user_of root)) offset string
-
--- a number names something in a root: a user string where its high byte is 0x70, and else a row
-abbrev pub IsNamed : List ℕ → ℕ → Type 0
-IsNamed root number =
-    ((number / 2 ^ 24 ≡ 0x70) × HasString root (number % 2 ^ 24))
-    ⊎ ((number / 2 ^ 24 ≢ 0x70) × HasTokenRow root number)
-
--- what the bytes are where a report of them was printed
-abbrev pub IsMet : Report → Bool → List ℕ → Type 0
-IsMet report.Root bare bytes = HasHeads bare bytes
-IsMet (report.Token number) bare bytes = (root : List ℕ) × IsOpened bare bytes root × IsNamed root number
-IsMet _ bare bytes = IsWhole bare bytes
-
--- what a report demands of the bytes, in order
-abbrev pub demands_of_report : Report → Bool → List ℕ → List (Demand Fault)
-demands_of_report report.Root bare bytes = demands_of_heads bare bytes
-demands_of_report _ bare bytes = demands_of bare bytes
-
--- a failure is the fault of the first demand that fails, or the output or memory was refused
-abbrev pub TellsFault : List (Demand Fault) → Failure → Type 0
-TellsFault demands (failed.Fault found) = FirstToFail demands found
-TellsFault demands failure = IsOutput failure
-
--- a root has no user string at an offset, or the output or memory was refused
-abbrev pub TellsNoString : List ℕ → ℕ → Failure → Type 0
-TellsNoString root offset failed.NoSuchRow = ¬ HasString root offset
-TellsNoString root offset failure = IsOutput failure
-
--- a number names nothing in a root, or the output or memory was refused
-abbrev pub TellsUnnamed : List ℕ → ℕ → Failure → Type 0
-TellsUnnamed root number failed.NoSuchRow = ¬ IsNamed root number
-TellsUnnamed root number failure = IsOutput failure
-
--- what is told of a token that was asked for
-abbrev pub TellsNone : Bool → List ℕ → ℕ → Failure → Type 0
-TellsNone bare bytes number failed.NoSuchRow = (root : List ℕ) × IsOpened bare bytes root × (¬ IsNamed root number)
-TellsNone bare bytes number failure = TellsFault (demands_of bare bytes) failure
-
--- what is told where a report is not printed
-abbrev pub Tells : Report → Bool → List ℕ → Failure → Type 0
-Tells (report.Token number) bare bytes failure = TellsNone bare bytes number failure
-Tells printed bare bytes failure = TellsFault (demands_of_report printed bare bytes) failure

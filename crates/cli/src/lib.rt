@@ -13,11 +13,8 @@
 
 mod input;
 mod numbers;
-mod opened;
 mod program;
-mod reports;
-mod stop;
-mod subcommands;
+mod rewrite_file;
 mod task;
 
 pub use command_line::{Ask, Subcommand, ask};

@@ -1,15 +1,14 @@
 ghost use Rattle.std.specs.Prelude.{◌≡◌, IfErr, IfOk};
 ghost use Rattle.command_line.specs.Asked.{HasFile, HasSecond};
-ghost use Rattle.cli.specs.Stops.{status_of_stop};
+ghost use Rattle.reports.specs.Stops.{status_of_stop};
 
 use crate::input::read_file;
-use crate::reports;
-use crate::stop::Stop;
-use crate::subcommands::{check_file, explain_fault, rewrite_file};
+use crate::rewrite_file::rewrite;
 use crate::task::{Task, task_of};
 use clap::error::ErrorKind;
 use command_line::{Ask, ask};
 use printed_faults::{Failure, printed};
+use reports::{Stop, check_within, explain, print_report};
 use std::alloc::Global;
 use std::io;
 use std::io::{BufWriter, Write};
@@ -87,17 +86,17 @@ fn run<'a, R: Files + AllocGlobal, W: Write>(
     match task {
         Task::Print(report) => {
             let bytes = read_file(rt, ask.file.unwrap())?;
-            reports::print(rt.alloc(), report, ask.bare, &bytes, out)?;
+            print_report(rt.alloc(), report, ask.bare, &bytes, out)?;
         }
         Task::CheckWithin(budget) => {
             let bytes = read_file(rt, ask.file.unwrap())?;
-            check_file::run_within(rt.alloc(), &bytes, ask.bare, budget, out)?;
+            check_within(rt.alloc(), &bytes, ask.bare, budget, out)?;
         }
         Task::Rewrite(path) => {
             let bytes = read_file(rt, ask.file.unwrap())?;
-            rewrite_file::run(rt, &bytes, ask.bare, path, out)?;
+            rewrite(rt, &bytes, ask.bare, path, out)?;
         }
-        Task::Explain(code) => explain_fault::run(rt.alloc(), code, out)?,
+        Task::Explain(code) => explain(rt.alloc(), code, out)?,
     }
     Ok(())
 }

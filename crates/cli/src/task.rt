@@ -3,10 +3,10 @@ ghost use Rattle.command_line.specs.Asked.{HasSecond};
 ghost use Rattle.cli.specs.Tasks.{IsTask, IsExplainTask};
 
 use crate::numbers::{code_of, token_of};
-use crate::reports::Report;
 use command_line::{Ask, Subcommand};
 use packed::FaultCode;
 use printed_faults::Failure;
+use reports::Report;
 
 /// What is to be done.
 #[derive(Clone, Copy, Debug, PartialEq, Eq)]

@@ -1,6 +1,0 @@
-use Rattle.std.proofs.lemmas.Result.{IfErr-weaker}
-use Rattle.cli.proofs.Outcomes.{tells_output}
-use Rattle.cli.proofs.subcommands.check_file.run.Goals as goal
-
-pub returns-clause-first : goal.returns-clause-first
-returns-clause-first g c = IfErr-weaker c.printed.result _ _ (λ failure is. tells_output _ failure is) c.printed.ensures

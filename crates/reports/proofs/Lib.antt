@@ -1,0 +1,3 @@
+pub mod Outcomes
+pub mod Heads
+pub mod Tokens

@@ -1,0 +1,23 @@
+-- What outcomes are, case by case.
+use Rattle.std.proofs.Common.{List, Result, Ok, Err, IsOk, refl}
+use Rattle.packed.specs.declared.fault.Fault.{Fault as First}
+use Rattle.packed.specs.Demand.{Demand}
+use Rattle.printed_faults.specs.declared.failure.Failure.{Failure}
+use Rattle.printed_faults.specs.declared.failure.Failure.TheVariants.{Fault, NoSuchRow, NoToken, NoCode, CannotRead, CannotWriteFile, CannotWriteOutput, OutOfMemory}
+use Rattle.printed_faults.specs.Status.{IsOutput}
+use Rattle.reports.specs.Reported.{TellsFault}
+
+pub ok_unless_not : {T E : Type 0} (r : Result T E) → ¬ (¬ IsOk r) → IsOk r
+ok_unless_not (Ok x) h = refl
+ok_unless_not (Err e) h = absurd (h (λ is. cc))
+
+-- a refused output is told, whatever is demanded
+pub tells_output : (demands : List (Demand First)) (failure : Failure) → IsOutput failure → TellsFault demands failure
+tells_output demands (Fault found) is = absurd is
+tells_output demands NoSuchRow is = is
+tells_output demands (NoToken word) is = is
+tells_output demands (NoCode word) is = is
+tells_output demands (CannotRead file) is = is
+tells_output demands (CannotWriteFile file) is = is
+tells_output demands CannotWriteOutput is = is
+tells_output demands OutOfMemory is = is

@@ -1,0 +1,4 @@
+pub mod Checked
+pub mod Heads
+pub mod Reported
+pub mod Stops

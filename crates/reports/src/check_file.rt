@@ -1,0 +1,58 @@
+//! `clim check`: whether a file keeps the rules of the standard.
+ghost use Rattle.std.specs.Prelude.{IfErr, OnOk};
+ghost use Rattle.reports.specs.Checked.{IsWhole, demands_of, signature_bytes_of};
+ghost use Rattle.reports.specs.Stops.{StopsWithin};
+ghost use Rattle.reports.specs.Reported.{TellsFault};
+
+use crate::opened::{open, open_within};
+use crate::stop::Stop;
+use opening::BoundedError;
+use printed_faults::{Failure, printed};
+use std::alloc::Global;
+use std::io;
+use std::io::{BufWriter, Write};
+
+/// Prints `ok` where bytes break no rule.
+pub(crate) fn run<W: Write>(
+    alloc: Global,
+    bytes: &[u8],
+    bare: bool,
+    out: &mut W,
+) -> Result<(), Failure<'static>>
+    ensures found { OnOk result (IsWhole bare bytes.now) }
+    ensures first { IfErr result (TellsFault (demands_of bare bytes.now)) }
+{
+    open(bytes, bare)?;
+    printed(print(alloc, out))
+}
+
+/// Prints `ok` where bytes break no rule, and so many bytes of signature blobs may be walked at most (II.23.2).
+///
+/// The bytes are those of a metadata root where they are `bare`, and else of a file.
+///
+/// # Errors
+///
+/// `Failed` with the fault of the first demand that fails, or where memory or the output is refused; `BudgetSpent`
+/// where more bytes of blobs were to be walked.
+pub fn check_within<W: Write>(
+    alloc: Global,
+    bytes: &[u8],
+    bare: bool,
+    budget: u64,
+    out: &mut W,
+) -> Result<(), Stop<'static>>
+    ensures found { OnOk result (IsWhole bare bytes.now) }
+    ensures first { IfErr result (StopsWithin budget (signature_bytes_of bare bytes.now) (demands_of bare bytes.now)) }
+{
+    match open_within(bytes, bare, budget) {
+        Ok(_) => Ok(printed(print(alloc, out))?),
+        Err(BoundedError::Fault(fault)) => Err(Stop::Failed(Failure::Fault(fault))),
+        Err(BoundedError::BudgetSpent) => Err(Stop::BudgetSpent),
+    }
+}
+
+fn print<W: Write>(alloc: Global, out: &mut W) -> io::Result<()> {
+    let mut out = BufWriter::new(alloc, out)?;
+    writeln!(out, "ok")?;
+    out.flush()
+}

@@ -1,0 +1,27 @@
+//! What `clim` prints of a file: the head of it, whether it keeps the rules, its rows, its types, and what a token
+//! names; and what a fault means.
+//!
+//! [`print_report`] opens the bytes in place and prints a [`Report`] of them; its contract says what the bytes are where
+//! it was printed, and else what is told. How it is printed is shown by tests.
+//!
+//! ```text
+//! print_report(rt.alloc(), Report::Types, false, &file, &mut out)?; // a line for each type of a file
+//! check_within(rt.alloc(), &root, true, 1 << 20, &mut out)?; // walks at most 2^20 bytes of signatures
+//! ```
+#![tactic(auto)]
+
+mod check_file;
+mod explain_fault;
+mod opened;
+mod print_root;
+mod print_token;
+mod print_types;
+mod report;
+mod show_tables;
+mod stop;
+
+pub use check_file::check_within;
+pub use explain_fault::explain;
+pub use opened::open;
+pub use report::{Report, print_report};
+pub use stop::Stop;

@@ -1,0 +1,42 @@
+//! Opening what was read.
+ghost use Rattle.std.specs.Prelude.{◌<◌, ◌≤◌, IfOk, IfErr, IsErrOf, IsOk};
+ghost use Rattle.reports.specs.Checked.{IsWhole, IsOpened, demands_of, signature_bytes_of};
+ghost use Rattle.opening.specs.Views.{HasModel};
+ghost use Rattle.opening.specs.Within.{TellsFirst};
+ghost use Rattle.packed.specs.Demand.{FirstToFail};
+
+use opening::{BoundedError, View, open_image, open_image_within, open_root, open_root_within};
+use packed::Fault;
+
+/// The metadata of a file, or of a metadata root where the bytes are `bare`. It takes no memory.
+///
+/// # Errors
+///
+/// The fault of the first demand that fails; its offset counts from the first of these bytes.
+pub fn open(bytes: &[u8], bare: bool) -> Result<View<'_>, Fault>
+    ensures found { IfOk result (λ _. IsWhole bare bytes.now) }
+    ensures root { IfOk result (λ view. IsOpened bare bytes.now view) }
+    ensures model { IfOk result (λ view. HasModel view) }
+    ensures only { IsWhole bare bytes.now → IsOk result }
+    ensures first { IfErr result (FirstToFail (demands_of bare bytes.now)) }
+{
+    if bare {
+        return open_root(bytes);
+    }
+    let (_, view) = open_image(bytes)?;
+    Ok(view)
+}
+
+/// The same, where so many bytes of signature blobs may be walked at most.
+pub(crate) fn open_within(bytes: &[u8], bare: bool, budget: u64) -> Result<View<'_>, BoundedError>
+    ensures found { IfOk result (λ _. IsWhole bare bytes.now) }
+    ensures only { IsWhole bare bytes.now → signature_bytes_of bare bytes.now ≤ budget → IsOk result }
+    ensures first { IfErr result (TellsFirst (demands_of bare bytes.now)) }
+    ensures spent { IsErrOf result BoundedError.BudgetSpent → budget < signature_bytes_of bare bytes.now }
+{
+    if bare {
+        return open_root_within(bytes, budget);
+    }
+    let (_, view) = open_image_within(bytes, budget)?;
+    Ok(view)
+}

@@ -1,0 +1,48 @@
+//! Why the program stopped before it did what was asked.
+ghost use Rattle.std.specs.Prelude.{◌≡◌};
+ghost use Rattle.reports.specs.declared.stop.Stop.TheVariants.{Failed};
+
+use printed_faults::Failure;
+use std::fmt;
+
+/// Why the program stopped before it did what was asked. Its `Display` is the line for standard error, without
+/// the line feed.
+#[derive(Clone, Copy, Debug, PartialEq, Eq)]
+pub enum Stop<'a> {
+    /// It could not be done.
+    Failed(Failure<'a>),
+    /// The budget was spent before all was checked.
+    BudgetSpent,
+}
+
+impl Stop<'_> {
+    ghost use Rattle.std.specs.Prelude.{◌≡◌};
+    ghost use Rattle.reports.specs.Stops.{status_of_stop};
+
+    /// The status that the process ends with: that of the failure, and 3 where the budget was spent.
+    pub fn status(&self) -> u8
+        ensures { result ≡ status_of_stop self.now }
+    {
+        match self {
+            Stop::Failed(failure) => failure.status(),
+            Stop::BudgetSpent => 3,
+        }
+    }
+}
+
+impl<'a> From<Failure<'a>> for Stop<'a> {
+    ghost from_gives = { λ failure stop. stop ≡ Failed failure };
+
+    fn from(failure: Failure<'a>) -> Self {
+        Stop::Failed(failure)
+    }
+}
+
+impl fmt::Display for Stop<'_> {
+    fn fmt<W: fmt::Write>(&self, f: &mut fmt::Formatter<W>) -> fmt::Result {
+        match self {
+            Stop::Failed(failure) => write!(f, "{failure}"),
+            Stop::BudgetSpent => f.write_str("error: budget spent"),
+        }
+    }
+}
