@@ -1,5 +1,5 @@
 -- The rows of a table are of its kinds where each of them is.
-use Rattle.std.proofs.Common.{◌≡◌, ℕ, zero, suc, ◌+◌, ◌-◌, ◌<◌, ◌≤◌, List, [], ◌∷◌, length, get_or, subst, arith}
+use Rattle.std.proofs.Common.{◌≡◌, ℕ, suc, ◌+◌, ◌-◌, ◌<◌, List, [], ◌∷◌, length, get_or, subst, arith}
 use Rattle.std.specs.List.{AllByRecursion}
 use Rattle.schema.specs.declared.table.TableId.{TableId}
 use Rattle.metadata.specs.Cell.{Cell}

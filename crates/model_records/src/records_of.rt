@@ -5,7 +5,7 @@ ghost use Rattle.metadata.specs.Lookups.{HasRow};
 ghost use Rattle.model_records.specs.Rows.{AreRowsOf};
 
 use owned_model::Model;
-use records::{Record, valid_rows_are_of_kinds};
+use records::{Record, known_record_of, valid_rows_are_of_kinds};
 use std::marker::{self, PhantomData};
 use tables::Row;
 
@@ -40,7 +40,7 @@ impl<'m, R: Record<'m>> Iterator for RecordsOf<'m, R> {
     fn next(&mut self) -> Option<R> {
         let (row, rows) = self.rows.split_first()?;
         self.rows = rows;
-        R::from_cells(row.as_slice())
+        Some(known_record_of(row.as_slice()))
     }
 
     fn size_hint(&self) -> (usize, Option<usize>) {
@@ -78,5 +78,5 @@ pub fn row<'m, R: Record<'m>>(model: &'m Model, row: u32) -> Option<R>
     if row == 0 || row > model.count(table) {
         return None;
     }
-    R::from_cells(model.cells(table, row))
+    Some(known_record_of(model.cells(table, row)))
 }
