@@ -11,6 +11,7 @@ pub mod GuidLemmas
 pub mod GuidTextLemmas
 pub mod HeapLemmas
 pub mod HolderLemmas
+pub mod IndexLemmas
 pub mod MemberLemmas
 pub mod PlanLemmas
 pub mod PoolLemmas

@@ -34,14 +34,14 @@ pub not_true : (b : Bool) → not b ≡ true → b ≡ false
 not_true true h = absurd (true≢false (sym h))
 not_true false h = refl
 
-not_false : (b : Bool) → not b ≡ false → b ≡ true
+pub not_false : (b : Bool) → not b ≡ false → b ≡ true
 not_false true h = refl
 not_false false h = absurd (true≢false h)
 
-differ_from_false : (x y : List ℕ) → bytes_eq x y ≡ false → x ≡ y → ⊥
+pub differ_from_false : (x y : List ℕ) → bytes_eq x y ≡ false → x ≡ y → ⊥
 differ_from_false x y h e = true≢false (sym (nat_list_eq_equiv.refl x) ∙ ap (bytes_eq x) e ∙ h)
 
-false_from_differ : (x y : List ℕ) → (x ≡ y → ⊥) → bytes_eq x y ≡ false
+pub false_from_differ : (x y : List ℕ) → (x ≡ y → ⊥) → bytes_eq x y ≡ false
 false_from_differ x y apart = ⊎_elim (λ e. absurd (apart (same_text x y (sym e)))) (λ e. e) (bool_cases (bytes_eq x y))
 
 -- the texts of uses in order

@@ -6,10 +6,11 @@ use Rattle.heaps.specs.EndingOrder.{ending_cmp}
 use Rattle.heaps.specs.TextHeap.{text_heap, text_index, holders, ended}
 use Rattle.heaps.specs.Uses.{span_at}
 
--- the entries of the heap, and the texts that were planned
+-- the entries of the heap, the texts that were planned, and the index of each text in the order in which they were given
 pub record TextPlan : Type 0 where
   pub entries : List (List ℕ)
   pub texts : List (List ℕ)
+  pub indexes : List ℕ
 
 abbrev pub with_front : ℕ → List (List ℕ) → List (List ℕ)
 with_front byte [] = []

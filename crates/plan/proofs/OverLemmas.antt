@@ -4,13 +4,14 @@ use Rattle.std.specs.Prelude.{flat_map}
 use Rattle.std.proofs.lemmas.Bool.{cases_Bool}
 use Rattle.std.proofs.lemmas.List.Concat.{flat_map-append}
 use Rattle.schema.specs.declared.column.Column.{Column}
+use Rattle.schema.specs.declared.column.ColumnKind.{ColumnKind}
 use Rattle.schema.specs.declared.table.TableId.{TableId}
 use Rattle.schema.specs.Columns.{columns_of}
 use Rattle.schema.specs.CellColumns.{is_padding}
 use Rattle.heaps.specs.Distinct.{is_among, pooled}
 use Rattle.heaps.specs.BlobHeap.{blob_heap, counted}
 use Rattle.heaps.specs.GuidHeap.{guid_heap}
-use Rattle.metadata.specs.Cell.{Cell}
+use Rattle.metadata.specs.Cell.{Cell, Text}
 use Rattle.metadata.specs.Metadata.{Metadata, rows_of}
 use Rattle.canonical.specs.Pools.{blobs_of, guids_of}
 use Rattle.plan.specs.Numbered.{Numbered, IsOver, pooled_all, with_values, with_number, with_cell, with_next_cell, with_row, with_rows, with_tables}
@@ -43,6 +44,10 @@ over_values : (so_far : Numbered) (cell : Cell) → IsOver so_far → IsOver (wi
 over_values so_far cell (inl blobs) = inl (omega (arith, blobs, all_grow (λ entries. length (blob_heap entries)) longer_blobs so_far.blobs (blobs_of cell)))
 over_values so_far cell (inr guids) = inr (omega (arith, guids, all_grow (λ entries. length (guid_heap entries)) longer_guids so_far.guids (guids_of cell)))
 
+over_cell : (indexes : List ℕ) (k : ColumnKind) (cell : Cell) (so_far : Numbered) → IsOver so_far → IsOver (with_cell indexes k cell so_far)
+over_cell indexes k (Text text) so_far over = over
+over_cell indexes k cell so_far over = over_values so_far cell over
+
 over_next : (padding : Bool) (put : Cell → Numbered → Numbered) (rest : List Cell → Numbered → Numbered)
     → ((cell : Cell) (so_far : Numbered) → IsOver so_far → IsOver (put cell so_far))
     → ((cells : List Cell) (so_far : Numbered) → IsOver so_far → IsOver (rest cells so_far))
@@ -51,16 +56,16 @@ over_next true put rest here behind cells so_far over = behind cells (with_numbe
 over_next false put rest here behind [] so_far over = behind [] (with_number so_far 0) over
 over_next false put rest here behind (cell ∷ cells) so_far over = behind cells (put cell so_far) (here cell so_far over)
 
-pub over_row : (texts : List (List ℕ)) (columns : List Column) (cells : List Cell) (so_far : Numbered) → IsOver so_far → IsOver (with_row texts columns cells so_far)
-over_row texts [] cells so_far over = over
-over_row texts (column ∷ columns) cells so_far over =
-    over_next (is_padding column.kind) (with_cell texts column.kind) (with_row texts columns) (λ cell here o. over_values here cell o) (over_row texts columns) cells so_far over
+pub over_row : (indexes : List ℕ) (columns : List Column) (cells : List Cell) (so_far : Numbered) → IsOver so_far → IsOver (with_row indexes columns cells so_far)
+over_row indexes [] cells so_far over = over
+over_row indexes (column ∷ columns) cells so_far over =
+    over_next (is_padding column.kind) (with_cell indexes column.kind) (with_row indexes columns) (over_cell indexes column.kind) (over_row indexes columns) cells so_far over
 
-pub over_rows : (texts : List (List ℕ)) (columns : List Column) (rows : List (List Cell)) (so_far : Numbered) → IsOver so_far → IsOver (with_rows texts columns rows so_far)
-over_rows texts columns [] so_far over = over
-over_rows texts columns (row ∷ rows) so_far over = over_rows texts columns rows (with_row texts columns row so_far) (over_row texts columns row so_far over)
+pub over_rows : (indexes : List ℕ) (columns : List Column) (rows : List (List Cell)) (so_far : Numbered) → IsOver so_far → IsOver (with_rows indexes columns rows so_far)
+over_rows indexes columns [] so_far over = over
+over_rows indexes columns (row ∷ rows) so_far over = over_rows indexes columns rows (with_row indexes columns row so_far) (over_row indexes columns row so_far over)
 
-pub over_tables : (texts : List (List ℕ)) (model : Metadata) (listed : List TableId) (so_far : Numbered) → IsOver so_far → IsOver (with_tables texts model listed so_far)
-over_tables texts model [] so_far over = over
-over_tables texts model (table ∷ listed) so_far over =
-    over_tables texts model listed (with_rows texts (columns_of table) (rows_of model table) so_far) (over_rows texts (columns_of table) (rows_of model table) so_far over)
+pub over_tables : (indexes : List ℕ) (model : Metadata) (listed : List TableId) (so_far : Numbered) → IsOver so_far → IsOver (with_tables indexes model listed so_far)
+over_tables indexes model [] so_far over = over
+over_tables indexes model (table ∷ listed) so_far over =
+    over_tables indexes model listed (with_rows indexes (columns_of table) (rows_of model table) so_far) (over_rows indexes (columns_of table) (rows_of model table) so_far over)

@@ -1,16 +1,15 @@
--- The cells of a valid model can be numbered, once its texts are planned.
-use Rattle.std.proofs.Common.{◌≡◌, ℕ, zero, suc, ◌+◌, ◌-◌, ◌<◌, ◌≤◌, inl, inr, Bool, List, [], ◌∷◌, ◌++◌, length, get_or, Contains, Some, None, refl, sym, ap, subst, ◌∙◌, arith}
+-- The cells of a valid model can be numbered.
+use Rattle.std.proofs.Common.{◌≡◌, ℕ, ◌+◌, ◌-◌, ◌<◌, ◌≤◌, Bool, List, [], ◌∷◌, ◌++◌, length, get_or, Some, None, sym, ap, subst, ◌∙◌, arith}
 use Rattle.std.specs.Prelude.{flat_map}
 use Rattle.std.specs.List.{All, AllByRecursion}
-use Rattle.std.proofs.lemmas.List.Elements.{All-from_get_or, All-from_recursion, recursion_from_All, Contains-append_left, Contains-append_right}
+use Rattle.std.proofs.lemmas.List.Elements.{All-from_get_or, All-from_recursion, recursion_from_All}
 use Rattle.schema.specs.declared.table.TableId.{TableId}
 use Rattle.schema.specs.declared.column.ColumnKind.{ColumnKind}
 use Rattle.schema.specs.declared.column.ColumnKind.TheVariants as kind
 use Rattle.schema.specs.declared.table.TableId.TheVariants.{Module}
-use Rattle.schema.specs.Tables.{tables, position_of}
+use Rattle.schema.specs.Tables.{tables}
 use Rattle.schema.specs.CellColumns.{cell_count}
 use Rattle.heaps.specs.Entries.{HasNoNul}
-use Rattle.heaps.specs.TextPlan.{TextPlan}
 use Rattle.signature_values.specs.Syntax.{Body}
 use Rattle.metadata.specs.Cell.{Cell, Number, Text, Bytes, Guid, Ref, Start, Sig}
 use Rattle.metadata.specs.Lookups.{HasRow}
@@ -18,53 +17,33 @@ use Rattle.metadata.specs.Metadata.{Metadata, rows_of, count_in, cell_in}
 use Rattle.metadata.specs.Valid.{IsValid, IsValidCell, kind_at, nullable_at}
 use Rattle.canonical.specs.Pools.{used, texts_of}
 use Rattle.plan.proofs.PositionLemmas.{position_at}
-use Rattle.plan.specs.Numbered.{CanBeNumbered, ArePlanned}
-
--- ---- values of cells are among the used ones
-
-pub contains_flat : {X Y : Type 0} (f : X → List Y) (xs : List X) (k : ℕ) (d : X) (y : Y) → k < length xs → Contains (f (get_or xs k d)) y → Contains (flat_map f xs) y
-contains_flat f [] k d y below h = absurd (omega arith)
-contains_flat f (x ∷ xs) zero d y below h = Contains-append_left (f x) (flat_map f xs) y h
-contains_flat f (x ∷ xs) (suc k) d y below h = Contains-append_right (f x) (flat_map f xs) y (contains_flat f xs k d y (omega arith) h)
-
-pub is_used : (values : Cell → List (List ℕ)) (model : Metadata) (table : TableId) (k place : ℕ) (value : List ℕ) → position_of table < length model.tables
-    → k < length (rows_of model table) → place < length (get_or (rows_of model table) k [])
-    → Contains (values (get_or (get_or (rows_of model table) k []) place (Number 0))) value → Contains (used values model) value
-unfolding used
-is_used values model table k place value position row cell h =
-    contains_flat (flat_map (flat_map values)) model.tables (position_of table) [] value position
-    (contains_flat (flat_map values) (rows_of model table) k [] value row (contains_flat values (get_or (rows_of model table) k []) place (Number 0) value cell h))
+use Rattle.plan.specs.Numbered.{CanBeNumbered}
 
 -- ---- cells
 
-sig_ready : (plan : TextPlan) (model : Metadata) (k : ColumnKind) (nullable : Bool) (signature : Body) → IsValidCell model k nullable (Sig signature) → CanBeNumbered plan (Sig signature)
-sig_ready plan model (kind.Signature column) nullable signature valid = valid.held.1.limit
-sig_ready plan model kind.U8 nullable signature valid = absurd valid.of_kind
-sig_ready plan model kind.U16 nullable signature valid = absurd valid.of_kind
-sig_ready plan model kind.U32 nullable signature valid = absurd valid.of_kind
-sig_ready plan model kind.Padding nullable signature valid = absurd valid.of_kind
-sig_ready plan model kind.Text nullable signature valid = absurd valid.of_kind
-sig_ready plan model kind.Guid nullable signature valid = absurd valid.of_kind
-sig_ready plan model kind.Blob nullable signature valid = absurd valid.of_kind
-sig_ready plan model (kind.Row table) nullable signature valid = absurd valid.of_kind
-sig_ready plan model (kind.Coded coded) nullable signature valid = absurd valid.of_kind
-sig_ready plan model (kind.List member) nullable signature valid = absurd valid.of_kind
+sig_ready : (model : Metadata) (k : ColumnKind) (nullable : Bool) (signature : Body) → IsValidCell model k nullable (Sig signature) → CanBeNumbered (Sig signature)
+sig_ready model (kind.Signature column) nullable signature valid = valid.held.1.limit
+sig_ready model kind.U8 nullable signature valid = absurd valid.of_kind
+sig_ready model kind.U16 nullable signature valid = absurd valid.of_kind
+sig_ready model kind.U32 nullable signature valid = absurd valid.of_kind
+sig_ready model kind.Padding nullable signature valid = absurd valid.of_kind
+sig_ready model kind.Text nullable signature valid = absurd valid.of_kind
+sig_ready model kind.Guid nullable signature valid = absurd valid.of_kind
+sig_ready model kind.Blob nullable signature valid = absurd valid.of_kind
+sig_ready model (kind.Row table) nullable signature valid = absurd valid.of_kind
+sig_ready model (kind.Coded coded) nullable signature valid = absurd valid.of_kind
+sig_ready model (kind.List member) nullable signature valid = absurd valid.of_kind
 
-text_ready : (plan : TextPlan) (text : List ℕ) → (0 < length text → Contains plan.texts text) → CanBeNumbered plan (Text text)
-text_ready plan [] planned = inl refl
-text_ready plan (byte ∷ bytes) planned = inr (planned (omega arith))
-
-cell_ready : (plan : TextPlan) (model : Metadata) (k : ColumnKind) (nullable : Bool) (cell : Cell) → ((table : TableId) → count_in model table ≤ 0xFFFFFF)
-    → ((text : List ℕ) → Contains (texts_of cell) text → 0 < length text → Contains plan.texts text)
-    → IsValidCell model k nullable cell → CanBeNumbered plan cell
-cell_ready plan model k nullable (Number number) few planned valid = tt
-cell_ready plan model k nullable (Text text) few planned valid = text_ready plan text (planned text (0, omega arith, refl))
-cell_ready plan model k nullable (Bytes blob) few planned valid = valid.storable
-cell_ready plan model k nullable (Guid guid) few planned valid = tt
-cell_ready plan model k nullable (Ref None) few planned valid = tt
-cell_ready plan model k nullable (Ref (Some token)) few planned valid = omega (arith, valid.refers.1, few token.table)
-cell_ready plan model k nullable (Start start) few planned valid = tt
-cell_ready plan model k nullable (Sig signature) few planned valid = sig_ready plan model k nullable signature valid
+cell_ready : (model : Metadata) (k : ColumnKind) (nullable : Bool) (cell : Cell) → ((table : TableId) → count_in model table ≤ 0xFFFFFF)
+    → IsValidCell model k nullable cell → CanBeNumbered cell
+cell_ready model k nullable (Number number) few valid = tt
+cell_ready model k nullable (Text text) few valid = tt
+cell_ready model k nullable (Bytes blob) few valid = valid.storable
+cell_ready model k nullable (Guid guid) few valid = tt
+cell_ready model k nullable (Ref None) few valid = tt
+cell_ready model k nullable (Ref (Some token)) few valid = omega (arith, valid.refers.1, few token.table)
+cell_ready model k nullable (Start start) few valid = tt
+cell_ready model k nullable (Sig signature) few valid = sig_ready model k nullable signature valid
 
 cell_text : (model : Metadata) (k : ColumnKind) (nullable : Bool) (cell : Cell) → IsValidCell model k nullable cell → AllByRecursion HasNoNul (texts_of cell)
 cell_text model k nullable (Number number) valid = tt
@@ -95,21 +74,15 @@ each_cell model valid P table each =
     subst (λ (i : ℕ). IsValidCell model (kind_at table place) (nullable_at table place) (get_or (get_or rows i []) place (Number 0))) back
     (valid.cells table (k + 1) place there (omega (arith, long, within))))))))
 
-pub rows_ready : (plan : TextPlan) (model : Metadata) → ((table : TableId) → position_of table < 38) → IsValid model → ArePlanned plan model → (table : TableId)
-    → AllByRecursion (AllByRecursion (CanBeNumbered plan)) (rows_of model table)
-rows_ready plan model position valid planned table =
-    each_cell model valid (CanBeNumbered plan) table (λ k place row cell good.
-    cell_ready plan model (kind_at table place) (nullable_at table place) (get_or (get_or (rows_of model table) k []) place (Number 0)) valid.few
-    (λ text among. planned text (is_used texts_of model table k place text (omega (arith, position table, valid.tables)) row cell among))
-    good)
+pub rows_ready : (model : Metadata) → IsValid model → (table : TableId) → AllByRecursion (AllByRecursion CanBeNumbered) (rows_of model table)
+rows_ready model valid table =
+    each_cell model valid CanBeNumbered table (λ k place row cell good.
+    cell_ready model (kind_at table place) (nullable_at table place) (get_or (get_or (rows_of model table) k []) place (Number 0)) valid.few good)
 
-pub ready_at : (plan : TextPlan) (model : Metadata) → ((table : TableId) → position_of table < 38) → IsValid model → ArePlanned plan model → (table : TableId) (row place : ℕ)
-    → HasRow model table row → place < cell_count table → CanBeNumbered plan (cell_in model table row place)
-ready_at plan model position valid planned table row place there within =
-    let long = valid.long table row there in
-    cell_ready plan model (kind_at table place) (nullable_at table place) (cell_in model table row place) valid.few
-    (λ text among. planned text (is_used texts_of model table (row - 1) place text (omega (arith, position table, valid.tables)) (omega (arith, there.0, there.1)) (omega (arith, long, within)) among))
-    (valid.cells table row place there within)
+pub ready_at : (model : Metadata) → IsValid model → (table : TableId) (row place : ℕ) → HasRow model table row → place < cell_count table
+    → CanBeNumbered (cell_in model table row place)
+ready_at model valid table row place there within =
+    cell_ready model (kind_at table place) (nullable_at table place) (cell_in model table row place) valid.few (valid.cells table row place there within)
 
 -- ---- what all used values are
 

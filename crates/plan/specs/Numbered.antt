@@ -1,5 +1,5 @@
 -- The numbers of cells, and the pools of the blobs and GUIDs that they use, one cell after another (ECMA-335 II.24.2.6).
-use Rattle.std.specs.Prelude.{◌≡◌, ℕ, ◌*◌, ◌^◌, ◌<◌, ◌≤◌, ◌⊎◌, ⊤, Bool, true, false, List, [], ◌∷◌, ◌++◌, length, flat_map, Contains, Option, Some}
+use Rattle.std.specs.Prelude.{◌≡◌, ℕ, ◌+◌, ◌*◌, ◌^◌, ◌<◌, ◌≤◌, ◌⊎◌, ⊤, Bool, true, false, List, [], ◌∷◌, ◌++◌, length, slice_index, flat_map, Option, Some}
 use Rattle.schema.specs.declared.column.Column.{Column}
 use Rattle.schema.specs.declared.column.ColumnKind.{ColumnKind}
 use Rattle.schema.specs.declared.table.TableId.{TableId}
@@ -8,23 +8,23 @@ use Rattle.schema.specs.CellColumns.{is_padding}
 use Rattle.heaps.specs.Distinct.{pooled}
 use Rattle.heaps.specs.BlobHeap.{blob_heap}
 use Rattle.heaps.specs.GuidHeap.{guid_heap, pooled_guid}
-use Rattle.heaps.specs.TextPlan.{TextPlan}
 use Rattle.signature_values.specs.Spells.{short}
 use Rattle.metadata.specs.Cell.{Cell}
 use Rattle.metadata.specs.Cell.{Text, Bytes, Ref, Sig}
 use Rattle.metadata.specs.Metadata.{Metadata, rows_of, count_in}
-use Rattle.canonical.specs.Pools.{Pools, pools_of, used, texts_of, blobs_of, guids_of}
+use Rattle.canonical.specs.Pools.{Pools, pools_of, blobs_of, guids_of}
 use Rattle.canonical.specs.Numbers.{cell_number, numbers}
 
--- the entries of two heaps, and the numbers so far
+-- the entries of two heaps, how many texts were numbered, and the numbers so far
 pub record Numbered : Type 0 where
   pub blobs : List (List ℕ)
   pub guids : List (List ℕ)
+  pub texts : ℕ
   pub numbers : List ℕ
 
 -- before the first cell
 abbrev pub none_numbered : Numbered
-none_numbered = record { blobs = []; guids = []; numbers = [] }
+none_numbered = record { blobs = []; guids = []; texts = 0; numbers = [] }
 
 -- a pool's entries with values, one after another
 abbrev pub pooled_all : List (List ℕ) → List (List ℕ) → List (List ℕ)
@@ -47,13 +47,18 @@ with_values so_far cell = record so_far { blobs = pooled_all so_far.blobs (blobs
 abbrev pub with_number : Numbered → ℕ → Numbered
 with_number so_far number = record so_far { numbers = so_far.numbers ++ number ∷ [] }
 
--- the pools, with these entries of the strings heap
-abbrev pub pools_in : List (List ℕ) → Numbered → Pools
-pools_in texts so_far = record { texts = texts; blobs = so_far.blobs; guids = so_far.guids }
+-- with the number of the next text: its index, of those of all texts in the order of their use, and 0 where there are fewer
+abbrev pub with_text : List ℕ → Numbered → Numbered
+with_text indexes so_far = record so_far { texts = so_far.texts + 1; numbers = so_far.numbers ++ slice_index indexes so_far.texts ∷ [] }
 
--- with the number of a cell, whose values are pooled first
-abbrev pub with_cell : List (List ℕ) → ColumnKind → Cell → Numbered → Numbered
-with_cell texts kind cell so_far = with_number (with_values so_far cell) (cell_number (pools_in texts (with_values so_far cell)) kind cell)
+-- the pools so far; the strings heap is planned apart
+abbrev pub pools_in : Numbered → Pools
+pools_in so_far = record { texts = []; blobs = so_far.blobs; guids = so_far.guids }
+
+-- with the number of a cell: of a text the next index, and of another cell its number once its values are pooled
+abbrev pub with_cell : List ℕ → ColumnKind → Cell → Numbered → Numbered
+with_cell indexes kind (Text text) so_far = with_text indexes so_far
+with_cell indexes kind cell so_far = with_number (with_values so_far cell) (cell_number (pools_in (with_values so_far cell)) kind cell)
 
 -- with the number of the next cell, and then with those of the rest; padding has no cell, and is 0
 abbrev pub with_next_cell : Bool → (Cell → Numbered → Numbered) → (List Cell → Numbered → Numbered) → List Cell → Numbered → Numbered
@@ -62,23 +67,23 @@ with_next_cell false put rest [] so_far = rest [] (with_number so_far 0)
 with_next_cell false put rest (cell ∷ cells) so_far = rest cells (put cell so_far)
 
 -- with the cells of a row
-abbrev pub with_row : List (List ℕ) → List Column → List Cell → Numbered → Numbered
-with_row texts [] cells so_far = so_far
-with_row texts (column ∷ columns) cells so_far = with_next_cell (is_padding column.kind) (with_cell texts column.kind) (with_row texts columns) cells so_far
+abbrev pub with_row : List ℕ → List Column → List Cell → Numbered → Numbered
+with_row indexes [] cells so_far = so_far
+with_row indexes (column ∷ columns) cells so_far = with_next_cell (is_padding column.kind) (with_cell indexes column.kind) (with_row indexes columns) cells so_far
 
 -- with those of rows
-abbrev pub with_rows : List (List ℕ) → List Column → List (List Cell) → Numbered → Numbered
-with_rows texts columns [] so_far = so_far
-with_rows texts columns (row ∷ rows) so_far = with_rows texts columns rows (with_row texts columns row so_far)
+abbrev pub with_rows : List ℕ → List Column → List (List Cell) → Numbered → Numbered
+with_rows indexes columns [] so_far = so_far
+with_rows indexes columns (row ∷ rows) so_far = with_rows indexes columns rows (with_row indexes columns row so_far)
 
 -- how many numbers the rows of a table have, one a column
 abbrev pub numbers_in : Metadata → TableId → ℕ
 numbers_in model table = length (columns_of table) * count_in model table
 
 -- with those of tables
-abbrev pub with_tables : List (List ℕ) → Metadata → List TableId → Numbered → Numbered
-with_tables texts model [] so_far = so_far
-with_tables texts model (table ∷ listed) so_far = with_tables texts model listed (with_rows texts (columns_of table) (rows_of model table) so_far)
+abbrev pub with_tables : List ℕ → Metadata → List TableId → Numbered → Numbered
+with_tables indexes model [] so_far = so_far
+with_tables indexes model (table ∷ listed) so_far = with_tables indexes model listed (with_rows indexes (columns_of table) (rows_of model table) so_far)
 
 -- a heap is longer than 2^30 bytes
 abbrev pub IsOver : Numbered → Type 0
@@ -98,14 +103,9 @@ pub record IsNumbering (model : Metadata) (numbered : Numbered) : Type 0 where
 abbrev pub IsTooLong : Metadata → Type 0
 IsTooLong model = (2 ^ 30 < length (blob_heap (pools_of model).blobs)) ⊎ (2 ^ 30 < length (guid_heap (pools_of model).guids))
 
--- the cell's text is empty or was planned, its blob is short enough, and its row is one that a table can have
-abbrev pub CanBeNumbered : TextPlan → Cell → Type 0
-CanBeNumbered plan (Text text) = (text ≡ []) ⊎ Contains plan.texts text
-CanBeNumbered plan (Bytes blob) = length blob < 2 ^ 29
-CanBeNumbered plan (Sig signature) = length (short signature) < 2 ^ 29
-CanBeNumbered plan (Ref (Some token)) = token.row ≤ 0xFFFFFF
-CanBeNumbered plan _ = ⊤
-
--- each used text that is not empty was planned
-abbrev pub ArePlanned : TextPlan → Metadata → Type 0
-ArePlanned plan model = (text : List ℕ) → Contains (used texts_of model) text → 0 < length text → Contains plan.texts text
+-- the cell's blob is short enough, and its row is one that a table can have
+abbrev pub CanBeNumbered : Cell → Type 0
+CanBeNumbered (Bytes blob) = length blob < 2 ^ 29
+CanBeNumbered (Sig signature) = length (short signature) < 2 ^ 29
+CanBeNumbered (Ref (Some token)) = token.row ≤ 0xFFFFFF
+CanBeNumbered _ = ⊤

@@ -1,4 +1,4 @@
-ghost use Rattle.std.specs.Prelude.{◌≡◌, ◌<◌, ℕ, List, All, length, sum_by};
+ghost use Rattle.std.specs.Prelude.{◌≡◌, ◌<◌, ℕ, List, All, length, map, sum_by};
 ghost use Rattle.std.specs.List.{AllByRecursion};
 ghost use Rattle.schema.specs.declared.table.TableId.{TableId as Table};
 ghost use Rattle.schema.specs.Sizes.{Sizes, count_of};
@@ -6,7 +6,7 @@ ghost use Rattle.schema.specs.Tables.{tables};
 ghost use Rattle.schema.specs.declared.column.Column.{Column};
 ghost use Rattle.schema.specs.CellColumns.{cell_count};
 ghost use Rattle.heaps.specs.Entries.{HasNoNul};
-ghost use Rattle.heaps.specs.TextPlan.{TextPlan};
+ghost use Rattle.heaps.specs.TextHeap.{text_index};
 ghost use Rattle.metadata.specs.Cell.{Cell};
 ghost use Rattle.metadata.specs.Lookups.{HasRow};
 ghost use Rattle.metadata.specs.Metadata.{Metadata, rows_of, count_in, cell_in};
@@ -14,7 +14,7 @@ ghost use Rattle.metadata.specs.Valid.{IsValid};
 ghost use Rattle.canonical.specs.Numbers.{numbers};
 ghost use Rattle.canonical.specs.Pools.{texts_of, used, pools_of};
 ghost use Rattle.put.specs.Flat.{cells_of, tables_in};
-ghost use Rattle.plan.specs.Numbered.{flat, Numbered, ArePlanned, CanBeNumbered, IsNumbering, IsOver, IsTooLong, with_row, with_rows, with_tables, none_numbered};
+ghost use Rattle.plan.specs.Numbered.{flat, Numbered, CanBeNumbered, IsNumbering, IsOver, IsTooLong, with_row, with_rows, with_tables, none_numbered};
 
 use heaps::{indexes_stay, pooled_are_distinct};
 use schema::tables_stand;
@@ -28,23 +28,24 @@ pub fn numbers_are_put()
         → length (flat (numbers model)) ≡ sum_by (cells_of sizes) tables }
 {}
 
-/// The texts of a valid model have no NUL, and each of its cells can be numbered once they are planned.
+/// The texts of a valid model have no NUL, and each of its cells can be numbered.
 pub fn cells_can_be_numbered()
     ensures texts { (model : Metadata) → IsValid model → All HasNoNul (used texts_of model) }
-    ensures cell { (plan : TextPlan) (model : Metadata) → IsValid model → ArePlanned plan model → (table : Table) (row place : ℕ)
-        → HasRow model table row → place < cell_count table → CanBeNumbered plan (cell_in model table row place) }
-    ensures rows { (plan : TextPlan) (model : Metadata) → IsValid model → ArePlanned plan model → (table : Table)
-        → AllByRecursion (AllByRecursion (CanBeNumbered plan)) (rows_of model table) }
+    ensures cell { (model : Metadata) → IsValid model → (table : Table) (row place : ℕ) → HasRow model table row → place < cell_count table
+        → CanBeNumbered (cell_in model table row place) }
+    ensures rows { (model : Metadata) → IsValid model → (table : Table) → AllByRecursion (AllByRecursion CanBeNumbered) (rows_of model table) }
 {
     tables_stand();
 }
 
-/// With all its tables a valid model is numbered.
+/// With all its tables a valid model is numbered, by the indexes of its texts in the order of their use.
 pub fn numberings_are_of_models()
-    ensures whole { (model : Metadata) (texts : List (List ℕ)) → IsValid model → texts ≡ (pools_of model).texts
-        → IsNumbering model (with_tables texts model tables none_numbered) }
-    ensures over { (model : Metadata) (texts : List (List ℕ)) → IsValid model → texts ≡ (pools_of model).texts
-        → IsOver (with_tables texts model tables none_numbered) → IsTooLong model }
+    ensures whole { (model : Metadata) (indexes : List ℕ) → IsValid model
+        → indexes ≡ map (text_index (pools_of model).texts) (used texts_of model)
+        → IsNumbering model (with_tables indexes model tables none_numbered) }
+    ensures over { (model : Metadata) (indexes : List ℕ) → IsValid model
+        → indexes ≡ map (text_index (pools_of model).texts) (used texts_of model)
+        → IsOver (with_tables indexes model tables none_numbered) → IsTooLong model }
 {
     tables_stand();
     pooled_are_distinct();
@@ -53,10 +54,10 @@ pub fn numberings_are_of_models()
 
 /// A heap that is longer than 2^30 bytes stays so, whatever cells are numbered more.
 pub fn heaps_stay_too_long()
-    ensures row { (texts : List (List ℕ)) (columns : List Column) (cells : List Cell) (so_far : Numbered) → IsOver so_far
-        → IsOver (with_row texts columns cells so_far) }
-    ensures rows { (texts : List (List ℕ)) (columns : List Column) (rows : List (List Cell)) (so_far : Numbered) → IsOver so_far
-        → IsOver (with_rows texts columns rows so_far) }
-    ensures tables { (texts : List (List ℕ)) (model : Metadata) (listed : List Table) (so_far : Numbered) → IsOver so_far
-        → IsOver (with_tables texts model listed so_far) }
+    ensures row { (indexes : List ℕ) (columns : List Column) (cells : List Cell) (so_far : Numbered) → IsOver so_far
+        → IsOver (with_row indexes columns cells so_far) }
+    ensures rows { (indexes : List ℕ) (columns : List Column) (rows : List (List Cell)) (so_far : Numbered) → IsOver so_far
+        → IsOver (with_rows indexes columns rows so_far) }
+    ensures tables { (indexes : List ℕ) (model : Metadata) (listed : List Table) (so_far : Numbered) → IsOver so_far
+        → IsOver (with_tables indexes model listed so_far) }
 {}

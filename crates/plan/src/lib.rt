@@ -2,7 +2,8 @@
 //! byte is written (ECMA-335 II.24.2.3 to II.24.2.6).
 //!
 //! A [`Numbering`] is given the cells one after another, by table, row and column: it pools blobs, signatures in
-//! their shortest spelling, and GUIDs, and keeps one number a column. What comes of the cells of a valid model are
+//! their shortest spelling, and GUIDs, and keeps one number a column. The strings heap is planned before that, and a
+//! text takes the next of its indexes, so that none is looked up. What comes of the cells of a valid model are
 //! the pools and numbers of its canonical root ([`numberings_are_of_models`]), and these numbers, as one list, are
 //! what `put` writes ([`numbers_are_put`]). `table_plan` numbers the cells of tables that are owned, and `view_plan`
 //! those of a root in place.

@@ -3,7 +3,7 @@ ghost use Rattle.heaps.specs.declared.pool_error.PoolError.TheVariants.{Full};
 ghost use Rattle.heaps.specs.Distinct.{pooled};
 ghost use Rattle.heaps.specs.BlobHeap.{blob_heap, blob_index};
 ghost use Rattle.heaps.specs.GuidHeap.{guid_heap, guid_index, pooled_guid};
-ghost use Rattle.plan.specs.Numbered.{with_blob, with_guid, with_number, none_numbered};
+ghost use Rattle.plan.specs.Numbered.{with_blob, with_guid, with_number, with_text, none_numbered};
 
 use heaps::{BlobPool, GuidPool, PoolError};
 use std::alloc::{AllocError, Global};
@@ -14,15 +14,19 @@ use std::marker::Model;
 pub struct Numbering {
     blobs: BlobPool,
     guids: GuidPool,
+    texts: usize,
     numbers: Vec<u32>,
 }
 
 impl Model for Numbering {
+    ghost use Rattle.std.specs.Prelude.{◌≤◌, length};
     ghost use Rattle.plan.specs.Numbered.{Numbered};
 
     ghost Value = { Numbered };
 
-    ghost view = { λ n. record { blobs = n.blobs; guids = n.guids; numbers = n.numbers.items } };
+    ghost view = { λ n. record { blobs = n.blobs; guids = n.guids; texts = n.texts; numbers = n.numbers.items } };
+
+    ghost invariant = { λ n. n.texts ≤ length n.numbers.items };
 }
 
 impl Numbering {
@@ -37,6 +41,7 @@ impl Numbering {
         Ok(Numbering {
             blobs: BlobPool::new(alloc),
             guids: GuidPool::new(alloc),
+            texts: 0,
             numbers: Vec::with_capacity(alloc, count)?,
         })
     }
@@ -51,6 +56,22 @@ impl Numbering {
         ensures err { OnErr result (self.new ≡ self.old) }
     {
         Ok(self.numbers.push(number)?)
+    }
+
+    /// Keeps the number of the next text: its index in the strings heap (II.24.2.3), or 0 where there are too few. The
+    /// indexes are those of all texts, in the order of their use.
+    ///
+    /// # Errors
+    ///
+    /// Want of memory alone, which leaves the numbering as it was.
+    pub fn put_text(&mut self, indexes: &[u32]) -> Result<(), AllocError>
+        ensures ok { OnOk result (self.new ≡ with_text indexes.now self.old) }
+        ensures err { OnErr result (self.new ≡ self.old) }
+    {
+        let index = indexes.get(self.texts).copied().unwrap_or(0);
+        self.numbers.push(index)?;
+        self.texts += 1;
+        Ok(())
     }
 
     /// Pools a blob of at most 2^29 - 1 bytes and answers its index (II.24.2.4).

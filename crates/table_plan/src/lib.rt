@@ -2,7 +2,8 @@
 //! of each cell (ECMA-335 II.24.2.3 to II.24.2.6).
 //!
 //! [`pools_of_tables`] plans the strings heap of all texts. Then it goes over the cells once, by table, row and
-//! column: it pools blobs, signatures in their shortest spelling, and GUIDs, and keeps one number a column.
+//! column: it pools blobs, signatures in their shortest spelling, and GUIDs, and keeps one number a column. That of a
+//! text is the next of the indexes that the plan gives, in the order of use: no text is looked up.
 //!
 //! ```text
 //! let (texts, numbering) = pools_of_tables(alloc, &tables)?;

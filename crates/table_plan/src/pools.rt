@@ -28,6 +28,6 @@ pub fn pools_of_tables(alloc: Global, tables: &Tables) -> Result<(TextPool, Numb
     cells_can_be_numbered();
     numberings_are_of_models();
     let texts = text_pool(alloc, tables)?;
-    let numbering = numbers_of(alloc, &texts, tables)?;
+    let numbering = numbers_of(alloc, texts.indexes(), tables)?;
     Ok((texts, numbering))
 }

@@ -1,11 +1,10 @@
-ghost use Rattle.std.specs.Prelude.{◌≡◌, ◌<◌, ◌^◌, ◌++◌, Err, OnOk, IfOk, length, flat_map};
+ghost use Rattle.std.specs.Prelude.{◌≡◌, ◌<◌, ◌^◌, ◌++◌, Err, OnOk, IfOk, length, map, flat_map};
 ghost use Rattle.heaps.specs.declared.pool_error.PoolError.TheVariants.{Full};
-ghost use Rattle.heaps.specs.TextHeap.{text_heap};
+ghost use Rattle.heaps.specs.TextHeap.{text_heap, text_index};
 ghost use Rattle.heaps.specs.Uses.{bytes_of};
 ghost use Rattle.cells.specs.Said.{said, all_said};
 ghost use Rattle.metadata.specs.Valid.{IsValid};
 ghost use Rattle.canonical.specs.Pools.{texts_of, used, pools_of};
-ghost use Rattle.plan.specs.Numbered.{ArePlanned};
 
 use heaps::{PoolError, TextPool};
 use plan::cells_can_be_numbered;
@@ -57,11 +56,11 @@ fn used_texts<'a>(alloc: Global, tables: &'a Tables) -> Result<Vec<&'a str>, All
     Ok(texts)
 }
 
-/// The strings heap of tables, planned from the texts of all cells (II.24.2.3).
+/// The strings heap of tables, planned from the texts of all cells, and their indexes in the order of their use (II.24.2.3).
 pub fn text_pool(alloc: Global, tables: &Tables) -> Result<TextPool, PoolError>
     requires valid { IsValid tables.now }
     ensures entries { IfOk result (λ pool. pool.entries ≡ (pools_of tables.now).texts) }
-    ensures texts { IfOk result (λ pool. ArePlanned pool tables.now) }
+    ensures indexes { IfOk result (λ pool. pool.indexes ≡ map (text_index (pools_of tables.now).texts) (used texts_of tables.now)) }
     ensures full { result ≡ Err PoolError.Full → 2 ^ 30 < length (text_heap (pools_of tables.now).texts) }
 {
     cells_can_be_numbered();

@@ -1,5 +1,5 @@
 -- Indexes that are known stay so as the pool grows.
-use Rattle.std.proofs.Common.{◌≡◌, ℕ, zero, suc, ◌⊎◌, inl, inr, Bool, true, false, cond, List, [], ◌∷◌, ◌++◌, Contains, Some, IfSome, Result, Ok, Err, OnOk, OnErr, Bor, refl, sym, ap, subst, ◌∙◌, append-nil, true≢false, arith}
+use Rattle.std.proofs.Common.{◌≡◌, ℕ, zero, suc, ◌⊎◌, inl, inr, Bool, true, cond, List, [], ◌∷◌, ◌++◌, Contains, Some, IfSome, Result, Ok, Err, OnOk, OnErr, Bor, refl, sym, ap, subst, ◌∙◌, append-nil, arith}
 use Rattle.std.specs.List.{AllByRecursion}
 use Rattle.std.specs.Map.{lookup}
 use Rattle.std.proofs.lemmas.Bool.{cases_Bool}
@@ -38,17 +38,6 @@ among entries value (inr found) =
 -- a value that is there adds nothing
 pub pooled_again : (entries : List (List ℕ)) (value : List ℕ) → (value ≡ []) ⊎ Contains entries value → pooled entries value ≡ entries
 pooled_again entries value there = ap (λ b. cond b entries (entries ++ value ∷ [])) (among entries value there)
-
--- what is there or empty, by a test
-pub tested : (entries : List (List ℕ)) (value : List ℕ) → (is_among ([] ∷ entries) value ≡ false → ⊥) → (value ≡ []) ⊎ Contains entries value
-tested entries value not_false =
-    elim (cases_Bool (is_among ([] ∷ entries) value)) [
-      | inl there ↦ behind entries value (Contains-from_any (λ x y e. (bytes_eq-Decides x y).0 e) value ([] ∷ entries) there)
-      | inr new ↦ absurd (not_false new)
-    ]
-
-pub not_false : (entries : List (List ℕ)) (value : List ℕ) → (value ≡ []) ⊎ Contains entries value → is_among ([] ∷ entries) value ≡ false → ⊥
-not_false entries value there none = true≢false (sym (among entries value there) ∙ none)
 
 -- a pool with a value begins as it was
 front : (entries : List (List ℕ)) (value : List ℕ) → (more : List (List ℕ)) × (pooled entries value ≡ entries ++ more)

@@ -1,3 +1,4 @@
 pub mod FlatLemmas
+pub mod KindLemmas
 pub mod KnownLemmas
 pub mod PlaceLemmas

@@ -42,16 +42,16 @@ module _ (table : TableId) (index place : ℕ) (below : index < length (columns_
       (within, cc split, cc split)
 
   -- the next cell is that of the column
-  pub next_cell : is_padding (column_at table index).kind ≡ false → (texts : List (List ℕ)) (rest : List Cell → Numbered → Numbered) (row : List Cell) (so_far : Numbered)
+  pub next_cell : is_padding (column_at table index).kind ≡ false → (indexes : List ℕ) (rest : List Cell → Numbered → Numbered) (row : List Cell) (so_far : Numbered)
       → length row ≡ cell_count table
-      → with_next_cell (is_padding (column_at table index).kind) (with_cell texts (column_at table index).kind) rest (drop place row) so_far
-      ≡ rest (drop (place + 1) row) (with_cell texts (kind_at table place) (get_or row place (Number 0)) so_far)
-  next_cell is texts rest row so_far long =
+      → with_next_cell (is_padding (column_at table index).kind) (with_cell indexes (column_at table index).kind) rest (drop place row) so_far
+      ≡ rest (drop (place + 1) row) (with_cell indexes (kind_at table place) (get_or row place (Number 0)) so_far)
+  next_cell is indexes rest row so_far long =
       let here = cell_place is in
       let within : place < length row = omega (arith, here.0, long) in
-      ap (λ b. with_next_cell b (with_cell texts (column_at table index).kind) rest (drop place row) so_far) is
-      ∙ ap (λ cells. with_next_cell false (with_cell texts (column_at table index).kind) rest cells so_far) (drop_more row place (Number 0) within)
-      ∙ ap (λ i. rest (drop (place + 1) row) (with_cell texts (column_at table i).kind (get_or row place (Number 0)) so_far)) (sym here.1)
+      ap (λ b. with_next_cell b (with_cell indexes (column_at table index).kind) rest (drop place row) so_far) is
+      ∙ ap (λ cells. with_next_cell false (with_cell indexes (column_at table index).kind) rest cells so_far) (drop_more row place (Number 0) within)
+      ∙ ap (λ i. rest (drop (place + 1) row) (with_cell indexes (column_at table i).kind (get_or row place (Number 0)) so_far)) (sym here.1)
 
 -- padding is of one kind
 pub unpadded : (k : ColumnKind) → (k ≡ kind.Padding → ⊥) → is_padding k ≡ false
@@ -82,31 +82,31 @@ few_cells table = few_indexes 0 (columns_of table)
 
 -- ---- what is left of a row, of rows and of tables
 
-pub row_left : (texts : List (List ℕ)) (columns : List Column) (i : ℕ) (cells : List Cell) (so_far whole : Numbered) → i < length columns
-    → with_row texts (drop i columns) cells so_far ≡ whole
-    → with_next_cell (is_padding (get_or columns i (col kind.U8)).kind) (with_cell texts (get_or columns i (col kind.U8)).kind) (with_row texts (drop (i + 1) columns)) cells so_far ≡ whole
-row_left texts columns i cells so_far whole below e = sym (ap (λ list. with_row texts list cells so_far) (drop_more columns i (col kind.U8) below)) ∙ e
+pub row_left : (indexes : List ℕ) (columns : List Column) (i : ℕ) (cells : List Cell) (so_far whole : Numbered) → i < length columns
+    → with_row indexes (drop i columns) cells so_far ≡ whole
+    → with_next_cell (is_padding (get_or columns i (col kind.U8)).kind) (with_cell indexes (get_or columns i (col kind.U8)).kind) (with_row indexes (drop (i + 1) columns)) cells so_far ≡ whole
+row_left indexes columns i cells so_far whole below e = sym (ap (λ list. with_row indexes list cells so_far) (drop_more columns i (col kind.U8) below)) ∙ e
 
-pub row_done : (texts : List (List ℕ)) (columns : List Column) (i : ℕ) (cells : List Cell) (so_far whole : Numbered) → length columns ≤ i
-    → with_row texts (drop i columns) cells so_far ≡ whole → so_far ≡ whole
-row_done texts columns i cells so_far whole past e = sym (ap (λ list. with_row texts list cells so_far) (drop_all i columns past)) ∙ e
+pub row_done : (indexes : List ℕ) (columns : List Column) (i : ℕ) (cells : List Cell) (so_far whole : Numbered) → length columns ≤ i
+    → with_row indexes (drop i columns) cells so_far ≡ whole → so_far ≡ whole
+row_done indexes columns i cells so_far whole past e = sym (ap (λ list. with_row indexes list cells so_far) (drop_all i columns past)) ∙ e
 
-pub rows_left : (texts : List (List ℕ)) (columns : List Column) (rows : List (List Cell)) (i : ℕ) (so_far whole : Numbered) → i < length rows
-    → with_rows texts columns (drop i rows) so_far ≡ whole → with_rows texts columns (drop (i + 1) rows) (with_row texts columns (get_or rows i []) so_far) ≡ whole
-rows_left texts columns rows i so_far whole below e = sym (ap (λ list. with_rows texts columns list so_far) (drop_more rows i [] below)) ∙ e
+pub rows_left : (indexes : List ℕ) (columns : List Column) (rows : List (List Cell)) (i : ℕ) (so_far whole : Numbered) → i < length rows
+    → with_rows indexes columns (drop i rows) so_far ≡ whole → with_rows indexes columns (drop (i + 1) rows) (with_row indexes columns (get_or rows i []) so_far) ≡ whole
+rows_left indexes columns rows i so_far whole below e = sym (ap (λ list. with_rows indexes columns list so_far) (drop_more rows i [] below)) ∙ e
 
-pub rows_done : (texts : List (List ℕ)) (columns : List Column) (rows : List (List Cell)) (i : ℕ) (so_far whole : Numbered) → length rows ≤ i
-    → with_rows texts columns (drop i rows) so_far ≡ whole → so_far ≡ whole
-rows_done texts columns rows i so_far whole past e = sym (ap (λ list. with_rows texts columns list so_far) (drop_all i rows past)) ∙ e
+pub rows_done : (indexes : List ℕ) (columns : List Column) (rows : List (List Cell)) (i : ℕ) (so_far whole : Numbered) → length rows ≤ i
+    → with_rows indexes columns (drop i rows) so_far ≡ whole → so_far ≡ whole
+rows_done indexes columns rows i so_far whole past e = sym (ap (λ list. with_rows indexes columns list so_far) (drop_all i rows past)) ∙ e
 
-pub tables_left : (texts : List (List ℕ)) (model : Metadata) (i : ℕ) (so_far whole : Numbered) → i < length tables
-    → with_tables texts model (drop i tables) so_far ≡ whole
-    → with_tables texts model (drop (i + 1) tables) (with_rows texts (columns_of (get_or tables i Module)) (rows_of model (get_or tables i Module)) so_far) ≡ whole
-tables_left texts model i so_far whole below e = sym (ap (λ list. with_tables texts model list so_far) (drop_more tables i Module below)) ∙ e
+pub tables_left : (indexes : List ℕ) (model : Metadata) (i : ℕ) (so_far whole : Numbered) → i < length tables
+    → with_tables indexes model (drop i tables) so_far ≡ whole
+    → with_tables indexes model (drop (i + 1) tables) (with_rows indexes (columns_of (get_or tables i Module)) (rows_of model (get_or tables i Module)) so_far) ≡ whole
+tables_left indexes model i so_far whole below e = sym (ap (λ list. with_tables indexes model list so_far) (drop_more tables i Module below)) ∙ e
 
-pub tables_done : (texts : List (List ℕ)) (model : Metadata) (i : ℕ) (so_far whole : Numbered) → length tables ≤ i
-    → with_tables texts model (drop i tables) so_far ≡ whole → so_far ≡ whole
-tables_done texts model i so_far whole past e = sym (ap (λ list. with_tables texts model list so_far) (drop_all i tables past)) ∙ e
+pub tables_done : (indexes : List ℕ) (model : Metadata) (i : ℕ) (so_far whole : Numbered) → length tables ≤ i
+    → with_tables indexes model (drop i tables) so_far ≡ whole → so_far ≡ whole
+tables_done indexes model i so_far whole past e = sym (ap (λ list. with_tables indexes model list so_far) (drop_all i tables past)) ∙ e
 
 positions : map position_of tables ≡ range_with_len 0 38
 unfolding tables

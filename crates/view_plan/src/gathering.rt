@@ -5,7 +5,7 @@ ghost use Rattle.heaps.specs.BlobHeap.{blob_heap, blob_index};
 ghost use Rattle.heaps.specs.GuidHeap.{guid_heap, guid_index, pooled_guid};
 ghost use Rattle.signature_values.specs.Syntax.{Body};
 ghost use Rattle.signature_values.specs.Spells.{Spells, short};
-ghost use Rattle.plan.specs.Numbered.{none_numbered, with_blob, with_guid, with_number};
+ghost use Rattle.plan.specs.Numbered.{none_numbered, with_blob, with_guid, with_number, with_text};
 ghost use Rattle.view_plan.specs.Known.{IsKnown};
 
 use crate::shortest::shortest;
@@ -63,6 +63,13 @@ impl<'a> Gathering<'a> {
         ensures { OnOk result (self.new ≡ with_number self.old number) }
     {
         self.numbering.put_number(number)
+    }
+
+    /// Keeps the number of the next text, of the indexes of all texts in the order of their use.
+    pub fn put_text(&mut self, indexes: &[u32]) -> Result<(), AllocError>
+        ensures { OnOk result (self.new ≡ with_text indexes.now self.old) }
+    {
+        self.numbering.put_text(indexes)
     }
 
     /// Pools a blob and answers its index.

@@ -3,8 +3,9 @@
 //!
 //! [`pools_of_view`] goes over the rows of a view twice. First it reads the texts alone and plans the strings heap.
 //! Then it numbers each cell, by table, row and column, and pools blobs, signatures in their shortest spelling, and
-//! GUIDs. No cell is copied: texts and blobs are read where they lie. A signature is decoded and spelled anew only
-//! where its blob was not met before in a column of its kind.
+//! GUIDs. No cell is copied: texts and blobs are read where they lie. A text is read once, when it is planned: its
+//! number is the next of the indexes of the plan. A signature is decoded and spelled anew only where its blob was not
+//! met before in a column of its kind.
 //!
 //! ```text
 //! let (texts, numbering) = pools_of_view(alloc, &view)?;

@@ -1,4 +1,4 @@
-ghost use Rattle.std.specs.Prelude.{◌≡◌, ◌≤◌, ◌<◌, ◌+◌, ℕ, Err, OnOk, IfOk, List, drop, length};
+ghost use Rattle.std.specs.Prelude.{◌≡◌, ◌≤◌, ◌<◌, ◌+◌, Err, OnOk, IfOk, List, [], drop, length};
 ghost use Rattle.heaps.specs.declared.pool_error.PoolError.TheVariants.{Full};
 ghost use Rattle.schema.specs.Tables.{tables as all_tables};
 ghost use Rattle.schema.specs.Columns.{columns_of, column_at};
@@ -8,13 +8,14 @@ ghost use Rattle.metadata.specs.Metadata.{Metadata, rows_of, row_of, cell_in};
 ghost use Rattle.metadata.specs.Valid.{kind_at};
 ghost use Rattle.metadata.specs.Model.{IsModel};
 ghost use Rattle.canonical.specs.Numbers.{cell_number};
+ghost use Rattle.canonical.specs.Pools.{texts_of};
 ghost use Rattle.reading.specs.Shown.{Shows, ShowsSignature};
 ghost use Rattle.opening.specs.Views.{row_count};
-ghost use Rattle.plan.specs.Numbered.{Numbered, ArePlanned, CanBeNumbered, IsOver, none_numbered, with_values, with_cell, with_next_cell, with_row, with_rows, with_tables, pools_in};
+ghost use Rattle.plan.specs.Numbered.{Numbered, CanBeNumbered, IsOver, none_numbered, with_values, with_cell, with_next_cell, with_row, with_rows, with_tables, pools_in};
 ghost use Rattle.view_plan.specs.Places.{IsPlaceOf};
 
 use crate::gathering::Gathering;
-use heaps::{PoolError, TextPool};
+use heaps::PoolError;
 use metadata::{models_are_read, models_of_roots_are_valid};
 use opening::{CellRef, View};
 use plan::{Numbering, cells_can_be_numbered, heaps_stay_too_long, row_number};
@@ -29,8 +30,8 @@ fn signature_number<'a>(
 ) -> Result<u32, PoolError>
     requires { ∥ ((cell : Says) × ShowsSignature kind blob.now cell) ∥₁ }
     ensures pools { (cell : Says) → ShowsSignature kind blob.now cell → OnOk result (gathering.new ≡ with_values gathering.old cell) }
-    ensures number { (texts : List (List ℕ)) (cell : Says) → ShowsSignature kind blob.now cell
-        → IfOk result (λ number. number ≡ cell_number (pools_in texts (with_values gathering.old cell)) kind cell) }
+    ensures number { (cell : Says) → ShowsSignature kind blob.now cell
+        → IfOk result (λ number. number ≡ cell_number (pools_in (with_values gathering.old cell)) kind cell) }
     ensures full { (cell : Says) → ShowsSignature kind blob.now cell → result ≡ Err PoolError.Full
         → IsOver (with_values gathering.old cell) }
 {
@@ -40,23 +41,22 @@ fn signature_number<'a>(
     gathering.put_signature(blob, column)
 }
 
-/// The number of a value in place, in a column of a kind, whose values are pooled.
+/// The number of a value in place that is no text, in a column of a kind, whose values are pooled.
 fn number_of<'a>(
     gathering: &mut Gathering<'a>,
-    texts: &TextPool,
     kind: ColumnKind,
     seen: CellRef<'a>,
 ) -> Result<u32, PoolError>
-    requires { ∥ ((cell : Says) × Shows kind seen cell × CanBeNumbered texts.now cell) ∥₁ }
+    requires { ∥ ((cell : Says) × Shows kind seen cell × CanBeNumbered cell × (texts_of cell ≡ [])) ∥₁ }
     ensures pools { (cell : Says) → Shows kind seen.entry cell → OnOk result (gathering.new ≡ with_values gathering.old cell) }
     ensures number { (cell : Says) → Shows kind seen.entry cell
-        → IfOk result (λ number. number ≡ cell_number (pools_in texts.now.entries (with_values gathering.old cell)) kind cell) }
+        → IfOk result (λ number. number ≡ cell_number (pools_in (with_values gathering.old cell)) kind cell) }
     ensures full { (cell : Says) → Shows kind seen.entry cell → result ≡ Err PoolError.Full
         → IsOver (with_values gathering.old cell) }
 {
     match seen {
         CellRef::Number(number) => Ok(number),
-        CellRef::Text(text) => Ok(texts.add(text)),
+        CellRef::Text(_) => unreachable!(),
         CellRef::Bytes(blob) => gathering.put_blob(blob),
         CellRef::Guid(guid) => gathering.put_guid(guid),
         CellRef::Ref(None) => Ok(0),
@@ -66,10 +66,10 @@ fn number_of<'a>(
     }
 }
 
-/// Keeps the number of a cell, once its values are pooled.
+/// Keeps the number of a cell, once its values are pooled: that of a text is the next index, and no heap is read for it.
 fn put_cell<'a>(
     gathering: &mut Gathering<'a>,
-    texts: &TextPool,
+    indexes: &[u32],
     view: &View<'a>,
     table: TableId,
     row: u32,
@@ -78,11 +78,10 @@ fn put_cell<'a>(
     requires first { 1 ≤ row }
     requires last { row ≤ row_count view.now table }
     requires place { place < cell_count table }
-    requires planned { (model : Metadata) → IsModel view.now model → ArePlanned texts.now model }
     ensures ok { (model : Metadata) → IsModel view.now model
-        → OnOk result (gathering.new ≡ with_cell texts.now.entries (kind_at table place) (cell_in model table row place) gathering.old) }
+        → OnOk result (gathering.new ≡ with_cell indexes.now (kind_at table place) (cell_in model table row place) gathering.old) }
     ensures full { (model : Metadata) → IsModel view.now model → result ≡ Err PoolError.Full
-        → IsOver (with_cell texts.now.entries (kind_at table place) (cell_in model table row place) gathering.old) }
+        → IsOver (with_cell indexes.now (kind_at table place) (cell_in model table row place) gathering.old) }
 {
     models_are_read();
     models_of_roots_are_valid();
@@ -90,15 +89,19 @@ fn put_cell<'a>(
     // The root has a model.
     let _root = view.root();
     let kind = columns(table)[column_of_cell(table, place)].kind;
-    let number = number_of(gathering, texts, kind, view.cell(table, row, place))?;
-    gathering.put_number(number)?;
-    Ok(())
+    match kind {
+        ColumnKind::Text => Ok(gathering.put_text(indexes)?),
+        _ => {
+            let number = number_of(gathering, kind, view.cell(table, row, place))?;
+            Ok(gathering.put_number(number)?)
+        }
+    }
 }
 
 /// Keeps the number of the column of an index, or 0 where it has no cell, and answers the place of the cells behind it.
 fn put_next<'a>(
     gathering: &mut Gathering<'a>,
-    texts: &TextPool,
+    indexes: &[u32],
     view: &View<'a>,
     table: TableId,
     row: u32,
@@ -109,14 +112,13 @@ fn put_next<'a>(
     requires last { row ≤ row_count view.now table }
     requires column { index < length (columns_of table) }
     requires place { IsPlaceOf table index place }
-    requires planned { (model : Metadata) → IsModel view.now model → ArePlanned texts.now model }
     ensures ok { (model : Metadata) → IsModel view.now model → (rest : List Says → Numbered → Numbered)
-        → IfOk result (λ behind. with_next_cell (is_padding (column_at table index).kind) (with_cell texts.now.entries (column_at table index).kind)
+        → IfOk result (λ behind. with_next_cell (is_padding (column_at table index).kind) (with_cell indexes.now (column_at table index).kind)
         rest (drop place (row_of model table row)) gathering.old ≡ rest (drop behind (row_of model table row)) gathering.new) }
     ensures place { IfOk result (IsPlaceOf table (index + 1)) }
     ensures full { (model : Metadata) → IsModel view.now model → (rest : List Says → Numbered → Numbered)
         → ((cells : List Says) (so_far : Numbered) → IsOver so_far → IsOver (rest cells so_far)) → result ≡ Err PoolError.Full
-        → IsOver (with_next_cell (is_padding (column_at table index).kind) (with_cell texts.now.entries (column_at table index).kind)
+        → IsOver (with_next_cell (is_padding (column_at table index).kind) (with_cell indexes.now (column_at table index).kind)
         rest (drop place (row_of model table row)) gathering.old) }
 {
     models_are_read();
@@ -127,7 +129,7 @@ fn put_next<'a>(
             Ok(place)
         }
         _ => {
-            put_cell(gathering, texts, view, table, row, place)?;
+            put_cell(gathering, indexes, view, table, row, place)?;
             Ok(place + 1)
         }
     }
@@ -136,23 +138,22 @@ fn put_next<'a>(
 /// Keeps the numbers of a row, one a column.
 fn put_row<'a>(
     gathering: &mut Gathering<'a>,
-    texts: &TextPool,
+    indexes: &[u32],
     view: &View<'a>,
     table: TableId,
     row: u32,
 ) -> Result<(), PoolError>
     requires first { 1 ≤ row }
     requires last { row ≤ row_count view.now table }
-    requires planned { (model : Metadata) → IsModel view.now model → ArePlanned texts.now model }
     ensures ok { (model : Metadata) → IsModel view.now model
-        → OnOk result (gathering.new ≡ with_row texts.now.entries (columns_of table) (row_of model table row) gathering.old) }
+        → OnOk result (gathering.new ≡ with_row indexes.now (columns_of table) (row_of model table row) gathering.old) }
     ensures full { (model : Metadata) → IsModel view.now model → result ≡ Err PoolError.Full
-        → IsOver (with_row texts.now.entries (columns_of table) (row_of model table row) gathering.old) }
+        → IsOver (with_row indexes.now (columns_of table) (row_of model table row) gathering.old) }
 {
     heaps_stay_too_long();
     let mut place = 0;
     for index in 0..columns(table).len() {
-        place = put_next(gathering, texts, view, table, row, index, place)?;
+        place = put_next(gathering, indexes, view, table, row, index, place)?;
     }
     Ok(())
 }
@@ -160,20 +161,19 @@ fn put_row<'a>(
 /// Keeps the numbers of the rows of a table.
 fn put_rows<'a>(
     gathering: &mut Gathering<'a>,
-    texts: &TextPool,
+    indexes: &[u32],
     view: &View<'a>,
     table: TableId,
 ) -> Result<(), PoolError>
-    requires planned { (model : Metadata) → IsModel view.now model → ArePlanned texts.now model }
     ensures ok { (model : Metadata) → IsModel view.now model
-        → OnOk result (gathering.new ≡ with_rows texts.now.entries (columns_of table) (rows_of model table) gathering.old) }
+        → OnOk result (gathering.new ≡ with_rows indexes.now (columns_of table) (rows_of model table) gathering.old) }
     ensures full { (model : Metadata) → IsModel view.now model → result ≡ Err PoolError.Full
-        → IsOver (with_rows texts.now.entries (columns_of table) (rows_of model table) gathering.old) }
+        → IsOver (with_rows indexes.now (columns_of table) (rows_of model table) gathering.old) }
 {
     heaps_stay_too_long();
     let count = view.count(table);
     for row in 0..count {
-        put_row(gathering, texts, view, table, row + 1)?;
+        put_row(gathering, indexes, view, table, row + 1)?;
     }
     Ok(())
 }
@@ -189,18 +189,17 @@ fn count_numbers(view: &View) -> usize {
 }
 
 /// The numbers of all cells, by table, row and column, each once its values are pooled.
-pub fn numbers_of(alloc: Global, texts: &TextPool, view: &View) -> Result<Numbering, PoolError>
-    requires planned { (model : Metadata) → IsModel view.now model → ArePlanned texts.now model }
+pub fn numbers_of(alloc: Global, indexes: &[u32], view: &View) -> Result<Numbering, PoolError>
     ensures ok { (model : Metadata) → IsModel view.now model
-        → IfOk result (λ numbering. numbering ≡ with_tables texts.now.entries model all_tables none_numbered) }
+        → IfOk result (λ numbering. numbering ≡ with_tables indexes.now model all_tables none_numbered) }
     ensures full { (model : Metadata) → IsModel view.now model → result ≡ Err PoolError.Full
-        → IsOver (with_tables texts.now.entries model all_tables none_numbered) }
+        → IsOver (with_tables indexes.now model all_tables none_numbered) }
 {
     heaps_stay_too_long();
     tables_stand();
     let mut gathering = Gathering::new(alloc, count_numbers(view))?;
     for table in TableId::all() {
-        put_rows(&mut gathering, texts, view, *table)?;
+        put_rows(&mut gathering, indexes, view, *table)?;
     }
     Ok(gathering.into_numbering())
 }

@@ -1,10 +1,10 @@
-ghost use Rattle.std.specs.Prelude.{◌≡◌, ◌^◌, ◌<◌, ◌⊎◌, Err, IfOk, length};
+ghost use Rattle.std.specs.Prelude.{◌≡◌, ◌^◌, ◌<◌, ◌⊎◌, Err, IfOk, length, map};
 ghost use Rattle.heaps.specs.declared.pool_error.PoolError.TheVariants.{Full};
-ghost use Rattle.heaps.specs.TextHeap.{text_heap};
+ghost use Rattle.heaps.specs.TextHeap.{text_heap, text_index};
 ghost use Rattle.metadata.specs.Metadata.{Metadata};
 ghost use Rattle.metadata.specs.Model.{IsModel};
-ghost use Rattle.canonical.specs.Pools.{pools_of};
-ghost use Rattle.plan.specs.Numbered.{ArePlanned, IsNumbering, IsTooLong};
+ghost use Rattle.canonical.specs.Pools.{texts_of, used, pools_of};
+ghost use Rattle.plan.specs.Numbered.{IsNumbering, IsTooLong};
 
 use crate::numbers::numbers_of;
 use crate::texts::used_texts;
@@ -14,10 +14,12 @@ use opening::View;
 use plan::{Numbering, cells_can_be_numbered, numberings_are_of_models};
 use std::alloc::Global;
 
-/// The strings heap of the canonical root, planned from the texts of all cells (II.24.2.3).
+/// The strings heap of the canonical root, planned from the texts of all cells, and their indexes in the order of their
+/// use (II.24.2.3).
 fn text_pool(alloc: Global, view: &View) -> Result<TextPool, PoolError>
     ensures entries { (model : Metadata) → IsModel view.now model → IfOk result (λ pool. pool.entries ≡ (pools_of model).texts) }
-    ensures texts { (model : Metadata) → IsModel view.now model → IfOk result (λ pool. ArePlanned pool model) }
+    ensures indexes { (model : Metadata) → IsModel view.now model
+        → IfOk result (λ pool. pool.indexes ≡ map (text_index (pools_of model).texts) (used texts_of model)) }
     ensures full { (model : Metadata) → IsModel view.now model → result ≡ Err PoolError.Full
         → 2 ^ 30 < length (text_heap (pools_of model).texts) }
 {
@@ -47,6 +49,6 @@ pub fn pools_of_view<'a>(alloc: Global, view: &View<'a>) -> Result<(TextPool, Nu
     models_of_roots_are_valid();
     numberings_are_of_models();
     let texts = text_pool(alloc, view)?;
-    let numbering = numbers_of(alloc, &texts, view)?;
+    let numbering = numbers_of(alloc, texts.indexes(), view)?;
     Ok((texts, numbering))
 }

@@ -7,7 +7,7 @@ use Rattle.table_plan.proofs.numbers.put_rows.Goals as goal
 
 pub returns-in_err-put_row-clause-full : goal.returns-in_err-put_row-clause-full
 returns-in_err-put_row-clause-full c =
-    let texts = c.args.texts.now.entries in
+    let indexes = c.args.indexes.now in
     let columns = c.args.columns.now in
-    let full : c.from_residual.result ≡ Err Full → IsOver (with_row texts columns (all_said c.as_slice.result.now) c.loop-row.numbering) = search rules in
-    λ is. over_rows_at texts columns c.args.rows.now c.loop-row.row-index _ _ c.loop-row.numbering _ (c.heaps_stay_too_long.ensures.rows texts columns) c.loop-row-test.true (c.as_slice.ensures ∙ c.row-item.is) c.loop-row.invariant.whole (full is)
+    let full : c.from_residual.result ≡ Err Full → IsOver (with_row indexes columns (all_said c.as_slice.result.now) c.loop-row.numbering) = search rules in
+    λ is. over_rows_at indexes columns c.args.rows.now c.loop-row.row-index _ _ c.loop-row.numbering _ (c.heaps_stay_too_long.ensures.rows indexes columns) c.loop-row-test.true (c.as_slice.ensures ∙ c.row-item.is) c.loop-row.invariant.whole (full is)

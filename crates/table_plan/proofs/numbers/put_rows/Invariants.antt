@@ -6,6 +6,6 @@ use Rattle.table_plan.proofs.numbers.put_rows.Given as goal
 -- with the rows that are left it is all of them
 abbrev pub invariant-loop-row : goal.invariant-loop-row
 invariant-loop-row l = record {
-  whole : with_rows l.texts.entries l.columns (drop l.row-index l.rows) l.numbering ≡ with_rows l.texts.entries l.columns l.rows l.fn.numbering;
-  ready : AllByRecursion (AllByRecursion (CanBeNumbered l.texts)) (drop l.row-index l.rows);
+  whole : with_rows l.indexes l.columns (drop l.row-index l.rows) l.numbering ≡ with_rows l.indexes l.columns l.rows l.fn.numbering;
+  ready : AllByRecursion (AllByRecursion CanBeNumbered) (drop l.row-index l.rows);
 }

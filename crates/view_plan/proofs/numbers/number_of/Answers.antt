@@ -1,23 +1,21 @@
-use Rattle.std.proofs.Common.{◌<◌, ◌≤◌, ◌^◌, length, Option, subst, ⊎_elim, arith}
+use Rattle.std.proofs.Common.{◌≡◌, ◌<◌, ◌≤◌, ◌^◌, length, Option, sym, ap, subst, ◌∙◌, ⊎_elim, arith}
 use Rattle.std.proofs.lemmas.Bool.{cases_lt}
 use Rattle.std.proofs.lemmas.Grind.{not_there}
 use Rattle.std.proofs.Math.Logic.{∥∥₁_map}
 use Rattle.schema.specs.declared.token.Token.{Token}
-use Rattle.metadata.specs.Cell.{Cell as Says, Ref}
+use Rattle.metadata.specs.Cell.{Cell as Says, Ref, Text}
 use Rattle.reading.specs.Shown.{Shows}
 use Rattle.reading.specs.declared.cell_ref.CellRef.{CellRef}
+use Rattle.canonical.specs.Pools.{texts_of}
 use Rattle.plan.specs.Numbered.{CanBeNumbered}
-use Rattle.view_plan.proofs.KnownLemmas.{tested, not_false}
 use Rattle.view_plan.proofs.numbers.number_of.Goals as goal
 
-pub add-requires : goal.add-requires
-add-requires c =
-    let plan = c.args.texts.now in
-    let text = c.in-Text.text.now in
-    tested plan.texts text (λ none. not_there c.requires (λ some.
+pub unreachable-requires : goal.unreachable-requires
+unreachable-requires c =
+    not_there c.requires (λ some.
     let P : CellRef → Type 0 = λ seen. Shows c.args.kind seen some.0 in
-    let shows = subst P c.in-Text.is some.1 in
-    not_false plan.texts text (subst (λ (cell : Says). CanBeNumbered plan cell) shows some.2) none))
+    let shows : some.0 ≡ Text c.in-Text.field-0.now = subst P c.in-Text.is some.1 in
+    omega (arith, ap length (sym (ap texts_of shows) ∙ some.3)))
 
 pub put_blob-requires : goal.put_blob-requires
 put_blob-requires c =
@@ -25,7 +23,7 @@ put_blob-requires c =
     ⊎_elim (λ (lt : length blob < 2 ^ 29). lt) (λ (ge : 2 ^ 29 ≤ length blob). absurd (not_there c.requires (λ some.
     let P : CellRef → Type 0 = λ seen. Shows c.args.kind seen some.0 in
     let shows = subst P c.in-Bytes.is some.1 in
-    let short = subst (λ (cell : Says). CanBeNumbered c.args.texts.now cell) shows some.2 in
+    let short = subst (λ (cell : Says). CanBeNumbered cell) shows some.2 in
     omega (arith, short, ge)))) (cases_lt (length blob) (2 ^ 29))
 
 pub row_number-requires : goal.row_number-requires
@@ -34,9 +32,9 @@ row_number-requires c =
     ⊎_elim (λ (le : row < 16777216). let low : row ≤ 16777215 = omega arith in low) (λ (ge : 16777216 ≤ row). absurd (not_there c.requires (λ some.
     let P : CellRef → Type 0 = λ seen. Shows c.args.kind seen some.0 in
     let shows = subst P c.in-Ref-Some.is some.1 in
-    let named = subst (λ (cell : Says). CanBeNumbered c.args.texts.now cell) shows some.2 in
+    let named = subst (λ (cell : Says). CanBeNumbered cell) shows some.2 in
     let token = rw c.in-Ref-Some.is at c.in-Ref-Some.field-0-is in
-    let low : row ≤ 16777215 = subst (λ (r : Option Token). CanBeNumbered c.args.texts.now (Ref r)) token named in
+    let low : row ≤ 16777215 = subst (λ (r : Option Token). CanBeNumbered (Ref r)) token named in
     omega (arith, low, ge)))) (cases_lt row 16777216)
 
 pub signature_number-requires : goal.signature_number-requires

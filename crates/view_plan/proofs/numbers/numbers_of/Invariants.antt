@@ -9,4 +9,4 @@ use Rattle.view_plan.proofs.numbers.numbers_of.Given as goal
 abbrev pub invariant-loop-table : goal.invariant-loop-table
 invariant-loop-table l =
     (model : Metadata) → IsModel l.view model
-    → with_tables l.texts.entries model (drop l.table-index tables) l.gathering ≡ with_tables l.texts.entries model tables none_numbered
+    → with_tables l.indexes model (drop l.table-index tables) l.gathering ≡ with_tables l.indexes model tables none_numbered

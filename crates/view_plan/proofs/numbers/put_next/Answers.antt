@@ -20,7 +20,6 @@ put_cell-requires c = record {
   first = c.requires.first;
   last = c.requires.last;
   place = (cell_place c.args.table c.args.index c.args.place c.requires.column c.requires.place (no_padding c.args.table c.args.index c.columns.result.now c.columns.ensures c.in_default.not-Padding)).0;
-  planned = c.requires.planned;
 }
 
 pub overflow_add-result : goal.overflow_add-result
@@ -35,7 +34,7 @@ returns-in_err-put_cell-in_default-clause-full c = λ model is rest over e.
     let row = row_of model table c.args.row in
     let long = c.models_are_read.ensures.long c.args.view.now model is table c.args.row c.requires.first c.requires.last in
     let full : c.put_cell.result ≡ Err Full = search rules in
-    subst IsOver (sym (next_cell table c.args.index c.args.place c.requires.column c.requires.place (no_padding c.args.table c.args.index c.columns.result.now c.columns.ensures c.in_default.not-Padding) c.args.texts.now.entries rest row c.args.gathering.now long))
+    subst IsOver (sym (next_cell table c.args.index c.args.place c.requires.column c.requires.place (no_padding c.args.table c.args.index c.columns.result.now c.columns.ensures c.in_default.not-Padding) c.args.indexes.now rest row c.args.gathering.now long))
     (over (drop (c.args.place + 1) row) _ (c.put_cell.ensures.full model is full))
 
 pub returns-in_ok-put_cell-in_default-clause-ok : goal.returns-in_ok-put_cell-in_default-clause-ok
@@ -44,7 +43,7 @@ returns-in_ok-put_cell-in_default-clause-ok c = λ model is rest.
     let table = c.args.table in
     let row = row_of model table c.args.row in
     let long = c.models_are_read.ensures.long c.args.view.now model is table c.args.row c.requires.first c.requires.last in
-    next_cell table c.args.index c.args.place c.requires.column c.requires.place (no_padding c.args.table c.args.index c.columns.result.now c.columns.ensures c.in_default.not-Padding) c.args.texts.now.entries rest row c.args.gathering.now long
+    next_cell table c.args.index c.args.place c.requires.column c.requires.place (no_padding c.args.table c.args.index c.columns.result.now c.columns.ensures c.in_default.not-Padding) c.args.indexes.now rest row c.args.gathering.now long
     ∙ ap (rest (drop (c.args.place + 1) row)) (sym (c.in_ok-put_cell-in_default.ensures.ok model is))
 
 pub returns-in_ok-put_cell-in_default-clause-place : goal.returns-in_ok-put_cell-in_default-clause-place

@@ -10,30 +10,30 @@ loop-index-init c = record { whole = λ model is. refl; at = first_place c.args.
 
 pub loop-index-preserved : goal.loop-index-preserved
 loop-index-preserved c =
-    let texts = c.args.texts.now.entries in
+    let indexes = c.args.indexes.now in
     let columns = columns_of c.args.table in
     let i = c.loop-index.index in
     let below : i < length columns = omega (arith, ap length c.columns-index-end.ensures) in
     record {
       whole = λ model is.
-          sym (c.in_ok-place.ensures.ok model is (with_row texts (drop (i + 1) columns)))
-          ∙ row_left texts columns i _ c.loop-index.gathering _ below (c.loop-index.invariant.whole model is);
+          sym (c.in_ok-place.ensures.ok model is (with_row indexes (drop (i + 1) columns)))
+          ∙ row_left indexes columns i _ c.loop-index.gathering _ below (c.loop-index.invariant.whole model is);
       at = c.in_ok-place.ensures.place;
     }
 
 pub returns-in_err-place-clause-full : goal.returns-in_err-place-clause-full
 returns-in_err-place-clause-full c = λ model is e.
-    let texts = c.args.texts.now.entries in
+    let indexes = c.args.indexes.now in
     let columns = columns_of c.args.table in
     let i = c.loop-index.index in
     let below : i < length columns = omega (arith, ap length c.columns-index-end.ensures) in
     let full : c.put_next.result ≡ Err Full = search rules in
-    subst IsOver (row_left texts columns i _ c.loop-index.gathering _ below (c.loop-index.invariant.whole model is))
-    (c.put_next.ensures.full model is (with_row texts (drop (i + 1) columns)) (c.heaps_stay_too_long.ensures.row texts (drop (i + 1) columns)) full)
+    subst IsOver (row_left indexes columns i _ c.loop-index.gathering _ below (c.loop-index.invariant.whole model is))
+    (c.put_next.ensures.full model is (with_row indexes (drop (i + 1) columns)) (c.heaps_stay_too_long.ensures.row indexes (drop (i + 1) columns)) full)
 
 pub returns-clause-ok : goal.returns-clause-ok
 returns-clause-ok c = λ model is.
-    let texts = c.args.texts.now.entries in
+    let indexes = c.args.indexes.now in
     let columns = columns_of c.args.table in
     let past : length columns ≤ c.loop-index.index = omega (arith, ap length c.columns-index-end.ensures) in
-    row_done texts columns c.loop-index.index _ c.loop-index.gathering _ past (c.loop-index.invariant.whole model is)
+    row_done indexes columns c.loop-index.index _ c.loop-index.gathering _ past (c.loop-index.invariant.whole model is)

@@ -10,7 +10,7 @@ use Rattle.view_plan.proofs.numbers.put_row.Given as goal
 abbrev pub invariant-loop-index : goal.invariant-loop-index
 invariant-loop-index l = record {
   whole : (model : Metadata) → IsModel l.view model
-      → with_row l.texts.entries (drop l.index (columns_of l.table)) (drop l.place (row_of model l.table l.row)) l.gathering
-      ≡ with_row l.texts.entries (columns_of l.table) (row_of model l.table l.row) l.fn.gathering;
+      → with_row l.indexes (drop l.index (columns_of l.table)) (drop l.place (row_of model l.table l.row)) l.gathering
+      ≡ with_row l.indexes (columns_of l.table) (row_of model l.table l.row) l.fn.gathering;
   at : IsPlaceOf l.table l.index l.place;
 }

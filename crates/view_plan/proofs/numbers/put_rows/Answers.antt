@@ -8,20 +8,20 @@ use Rattle.view_plan.proofs.numbers.put_rows.Goals as goal
 
 pub loop-row-preserved : goal.loop-row-preserved
 loop-row-preserved c = λ model is.
-    let texts = c.args.texts.now.entries in
+    let indexes = c.args.indexes.now in
     let columns = columns_of c.args.table in
     let rows = rows_of model c.args.table in
     let i = c.loop-row.row in
     let count = c.count-count.ensures.model model is in
     let below : i < length rows = omega (arith, count) in
     let back : i + 1 - 1 ≡ i = omega arith in
-    ap (λ (n : Numbered). with_rows texts columns (drop (i + 1) rows) n)
-    (c.in_ok-put_row.ensures.ok model is ∙ ap (λ (k : ℕ). with_row texts columns (get_or rows k []) c.loop-row.gathering) back)
-    ∙ rows_left texts columns rows i c.loop-row.gathering _ below (c.loop-row.invariant model is)
+    ap (λ (n : Numbered). with_rows indexes columns (drop (i + 1) rows) n)
+    (c.in_ok-put_row.ensures.ok model is ∙ ap (λ (k : ℕ). with_row indexes columns (get_or rows k []) c.loop-row.gathering) back)
+    ∙ rows_left indexes columns rows i c.loop-row.gathering _ below (c.loop-row.invariant model is)
 
 pub returns-in_err-put_row-clause-full : goal.returns-in_err-put_row-clause-full
 returns-in_err-put_row-clause-full c = λ model is e.
-    let texts = c.args.texts.now.entries in
+    let indexes = c.args.indexes.now in
     let columns = columns_of c.args.table in
     let rows = rows_of model c.args.table in
     let i = c.loop-row.row in
@@ -29,14 +29,14 @@ returns-in_err-put_row-clause-full c = λ model is e.
     let below : i < length rows = omega (arith, count) in
     let back : i + 1 - 1 ≡ i = omega arith in
     let full : c.put_row.result ≡ Err Full = search rules in
-    let here = subst (λ (k : ℕ). IsOver (with_row texts columns (get_or rows k []) c.loop-row.gathering)) back (c.put_row.ensures.full model is full) in
-    subst IsOver (rows_left texts columns rows i c.loop-row.gathering _ below (c.loop-row.invariant model is))
-    (c.heaps_stay_too_long.ensures.rows texts columns (drop (i + 1) rows) _ here)
+    let here = subst (λ (k : ℕ). IsOver (with_row indexes columns (get_or rows k []) c.loop-row.gathering)) back (c.put_row.ensures.full model is full) in
+    subst IsOver (rows_left indexes columns rows i c.loop-row.gathering _ below (c.loop-row.invariant model is))
+    (c.heaps_stay_too_long.ensures.rows indexes columns (drop (i + 1) rows) _ here)
 
 pub returns-clause-ok : goal.returns-clause-ok
 returns-clause-ok c = λ model is.
-    let texts = c.args.texts.now.entries in
+    let indexes = c.args.indexes.now in
     let rows = rows_of model c.args.table in
     let count = c.count-count.ensures.model model is in
     let past : length rows ≤ c.loop-row.row = omega (arith, count) in
-    rows_done texts (columns_of c.args.table) rows c.loop-row.row c.loop-row.gathering _ past (c.loop-row.invariant model is)
+    rows_done indexes (columns_of c.args.table) rows c.loop-row.row c.loop-row.gathering _ past (c.loop-row.invariant model is)

@@ -9,5 +9,5 @@ use Rattle.view_plan.proofs.numbers.put_rows.Given as goal
 abbrev pub invariant-loop-row : goal.invariant-loop-row
 invariant-loop-row l =
     (model : Metadata) → IsModel l.view model
-    → with_rows l.texts.entries (columns_of l.table) (drop l.row (rows_of model l.table)) l.gathering
-    ≡ with_rows l.texts.entries (columns_of l.table) (rows_of model l.table) l.fn.gathering
+    → with_rows l.indexes (columns_of l.table) (drop l.row (rows_of model l.table)) l.gathering
+    ≡ with_rows l.indexes (columns_of l.table) (rows_of model l.table) l.fn.gathering

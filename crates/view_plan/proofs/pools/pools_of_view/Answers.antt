@@ -1,4 +1,4 @@
-use Rattle.std.proofs.Common.{sym, subst}
+use Rattle.std.proofs.Common.{sym, subst, ◌∙◌}
 use Rattle.plan.specs.Numbered.{Numbered, IsNumbering}
 use Rattle.view_plan.proofs.pools.pools_of_view.Goals as goal
 
@@ -8,5 +8,5 @@ returns-clause-pools c = λ model is.
     let entries = c.in_ok-texts.ensures.entries model is in (
       entries,
       subst (λ (numbered : Numbered). IsNumbering model numbered) (sym (c.in_ok-numbering.ensures.ok model is))
-          (c.numberings_are_of_models.ensures.whole model c.in_ok-texts.texts.entries valid entries),
+          (c.numberings_are_of_models.ensures.whole model c.indexes.result.now valid (c.indexes.ensures ∙ c.in_ok-texts.ensures.indexes model is)),
     )

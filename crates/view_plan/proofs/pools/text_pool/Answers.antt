@@ -1,13 +1,12 @@
-use Rattle.std.proofs.Common.{◌≡◌, ◌≢◌, ℕ, List, [], All, Contains, get_or, sym, ap, subst, ◌∙◌}
+use Rattle.std.proofs.Common.{◌≡◌, ◌≢◌, ℕ, List, [], All, get_or, map, sym, ap, subst, ◌∙◌}
 use Rattle.std.proofs.lemmas.Grind.{not_there}
 use Rattle.std.proofs.lemmas.List.Elements.{All-get_or, All-from_get_or}
 use Rattle.std.proofs.lemmas.Result.{IfOk-weaker}
 use Rattle.heaps.specs.Entries.{HasNoNul}
-use Rattle.heaps.specs.TextHeap.{holders}
+use Rattle.heaps.specs.TextHeap.{holders, text_index}
 use Rattle.heaps.specs.TextPlan.{TextPlan}
 use Rattle.heaps.specs.Uses.{bytes_of}
-use Rattle.canonical.specs.Pools.{pools_of}
-use Rattle.plan.specs.Numbered.{ArePlanned}
+use Rattle.canonical.specs.Pools.{texts_of, used, pools_of}
 use Rattle.view_plan.proofs.pools.text_pool.Goals as goal
 
 pub plan-requires : goal.plan-requires
@@ -27,8 +26,9 @@ returns-clause-entries c = λ model is.
     IfOk-weaker c.plan.result (λ (pool : TextPlan). pool.entries ≡ holders (bytes_of c.deref.result.now)) (λ (pool : TextPlan). pool.entries ≡ (pools_of model).texts)
     (λ pool e. e ∙ ap holders same) c.plan.ensures.entries
 
-pub returns-clause-texts : goal.returns-clause-texts
-returns-clause-texts c = λ model is.
+pub returns-clause-indexes : goal.returns-clause-indexes
+returns-clause-indexes c = λ model is.
     let same = ap bytes_of c.deref.ensures.value ∙ c.in_ok-texts.ensures model is in
-    IfOk-weaker c.plan.result _ (λ (pool : TextPlan). ArePlanned pool model)
-    (λ pool planned text among some. planned text (subst (λ (list : List (List ℕ)). Contains list text) (sym same) among) some) c.plan.ensures.texts
+    IfOk-weaker c.plan.result (λ (pool : TextPlan). pool.indexes ≡ map (text_index (holders (bytes_of c.deref.result.now))) (bytes_of c.deref.result.now))
+    (λ (pool : TextPlan). pool.indexes ≡ map (text_index (pools_of model).texts) (used texts_of model))
+    (λ pool e. e ∙ ap (λ (texts : List (List ℕ)). map (text_index (holders texts)) texts) same) c.plan.ensures.indexes
