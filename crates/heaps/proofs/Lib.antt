@@ -13,6 +13,7 @@ pub mod HeapLemmas
 pub mod HolderLemmas
 pub mod IndexLemmas
 pub mod MemberLemmas
+pub mod NumberLemmas
 pub mod PlanLemmas
 pub mod PoolLemmas
 pub mod RunLemmas
