@@ -8,7 +8,6 @@ pub mod FirstLemmas
 pub mod FoundLemmas
 pub mod GrowLemmas
 pub mod GuidLemmas
-pub mod GuidTextLemmas
 pub mod HeapLemmas
 pub mod HolderLemmas
 pub mod IndexLemmas
