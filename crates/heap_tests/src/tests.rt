@@ -136,6 +136,17 @@ fn plans_texts(rt: HostRuntime) -> Result<(), Fail> {
 }
 
 #[test]
+fn tells_indexes_by_place(rt: HostRuntime) -> Result<(), Fail> {
+    let pool = TextPool::plan(rt.alloc(), &["dll", "", "a.dll", "dll", "b", "a.dll"])?;
+    assert!(rt; pool.indexes() == [3, 0, 1, 3, 7, 1].as_slice());
+    let pool = TextPool::plan(rt.alloc(), &["me", "Name", "Game", "ame"])?;
+    assert!(rt; pool.indexes() == [3, 1, 6, 2].as_slice());
+    let pool = TextPool::plan(rt.alloc(), &["", ""])?;
+    assert!(rt; pool.indexes() == [0, 0].as_slice());
+    Ok(())
+}
+
+#[test]
 fn pools_blobs(rt: HostRuntime) -> Result<(), Fail> {
     let mut pool = BlobPool::new(rt.alloc());
     assert!(rt; pool.bytes().is_empty());

@@ -8,11 +8,11 @@ pub mod FirstLemmas
 pub mod FoundLemmas
 pub mod GrowLemmas
 pub mod GuidLemmas
-pub mod GuidTextLemmas
 pub mod HeapLemmas
 pub mod HolderLemmas
 pub mod IndexLemmas
 pub mod MemberLemmas
+pub mod NumberLemmas
 pub mod PlanLemmas
 pub mod PoolLemmas
 pub mod RunLemmas

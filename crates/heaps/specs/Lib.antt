@@ -9,7 +9,6 @@ pub mod Fill
 pub mod FirstByte
 pub mod GuidHeap
 pub mod GuidPoolView
-pub mod GuidText
 pub mod Ranking
 pub mod StringsView
 pub mod TextHeap

@@ -21,7 +21,6 @@ mod blobs;
 mod ending;
 mod fault;
 mod first_byte;
-mod guid_format;
 mod guid_pool;
 mod guids;
 mod laws;

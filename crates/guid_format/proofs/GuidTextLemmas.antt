@@ -2,7 +2,7 @@
 use Rattle.std.proofs.Common.{◌≡◌, ℕ, List, [], ◌∷◌, length, Result, Ok, Err, IfOk, Some, refl, ◌∙◌, ap, arith}
 use Rattle.uuid.specs.Parts.{swap_fields}
 use Rattle.uuid.specs.Text.{parsed}
-use Rattle.heaps.specs.GuidText.{as_read}
+use Rattle.guid_format.specs.GuidText.{as_read}
 
 -- `uuid` swaps the same bytes
 pub swapped_is : (guid : List ℕ) → length guid ≡ 16 → swap_fields guid ≡ as_read guid

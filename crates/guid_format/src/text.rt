@@ -1,7 +1,7 @@
 ghost use Rattle.std.specs.Prelude.{◌≡◌, Some, IfOk};
 ghost use Rattle.std.specs.String.{string_bytes};
 ghost use Rattle.uuid.specs.Text.{hyphenated_text, lower, parsed};
-ghost use Rattle.heaps.specs.GuidText.{as_read};
+ghost use Rattle.guid_format.specs.GuidText.{as_read};
 
 use std::alloc::{AllocError, Global};
 use uuid::Uuid;

@@ -1,8 +1,8 @@
 use Rattle.std.proofs.Common.{sym, ap, ◌∙◌, Some}
 use Rattle.std.specs.String.{string_bytes}
 use Rattle.uuid.specs.Text.{hyphenated_text, lower}
-use Rattle.heaps.proofs.GuidTextLemmas.{swapped_is, copy_is, copy_parses}
-use Rattle.heaps.proofs.guid_format.guid_text.Goals as goal
+use Rattle.guid_format.proofs.GuidTextLemmas.{swapped_is, copy_is, copy_parses}
+use Rattle.guid_format.proofs.text.guid_text.Goals as goal
 
 pub returns-clause-text : goal.returns-clause-text
 returns-clause-text c =
