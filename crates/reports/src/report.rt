@@ -23,7 +23,7 @@ pub enum Report {
 }
 
 /// Prints it, of the bytes of a metadata root where they are `bare`, and else of a file. Nothing is printed before
-/// all of the bytes are checked.
+/// all that the report demands of them is checked.
 ///
 /// # Errors
 ///
