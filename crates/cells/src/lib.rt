@@ -24,6 +24,3 @@ pub use laws::equality_is_tested;
 pub use schema::{ColumnKind, Token};
 pub use signatures::Signature;
 pub use text::Text;
-
-#[cfg(test)]
-mod tests;

@@ -1,6 +1,5 @@
-//! Tests of `heaps`, over its public calls alone: what is read from heaps that were written by hand, and
-//! the bytes of the heaps that pools make, up to their limit of 2^30 bytes. [`pool_of_blobs`] and
-//! [`pool_of_guids`] pool what is used, one value after another.
+//! What `heaps` pools: [`pool_of_blobs`] and [`pool_of_guids`] pool what is used, one value after another, and a test
+//! plans a strings heap up to its limit of 2^30 bytes.
 #![tactic(auto)]
 
 mod pools;

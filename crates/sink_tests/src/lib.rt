@@ -1,8 +1,7 @@
-//! Tests of `sinks`, over its public calls alone, and [`Scripted`], a writer into memory that fails
-//! where its steps say so.
+//! [`Scripted`], a writer into memory that fails where its steps say so.
 //!
-//! Bytes are given out through it, and what went out, the count of failures and the answer are
-//! compared with what the steps ask for.
+//! Tests give bytes out through it, and compare what went out, the count of failures and the answer with what the
+//! steps ask for.
 //!
 //! ```text
 //! let steps = [Step::Take(16), Step::Interrupt];
@@ -15,6 +14,3 @@
 mod scripted;
 
 pub use scripted::{Scripted, Step};
-
-#[cfg(test)]
-mod tests;

@@ -1,4 +1,4 @@
-use crate::{Bytes, Cell, ColumnKind, Signature, Text, Token};
+use cells::{Bytes, Cell, ColumnKind, Signature, Text, Token};
 use schema::{Coded, SigKind, TableId};
 use signatures::decode;
 use std::alloc::Global;

@@ -1,4 +1,4 @@
-use crate::scripted::{Scripted, Step};
+use sink_tests::{Scripted, Step};
 use sinks::{Counted, Sink, Stopped, send_all};
 use std::alloc::Global;
 use std::process::Abort;
