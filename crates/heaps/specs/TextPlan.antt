@@ -1,9 +1,10 @@
 -- What a strings heap that is planned stands for, and how its bytes and spans hold it.
-use Rattle.std.specs.Prelude.{◌≡◌, ◌==◌, ℕ, ◌+◌, ◌<◌, ◌≤◌, ◌^◌, List, [], ◌∷◌, length, take, drop, if◌then◌else◌}
+use Rattle.std.specs.Prelude.{◌≡◌, ◌==◌, ℕ, ◌+◌, ◌<◌, ◌≤◌, ◌^◌, List, [], ◌∷◌, length, take, drop, slice_index, if◌then◌else◌}
 use Rattle.std.specs.declared.cmp.Ordering.TheVariants.{Less}
 use Rattle.heaps.specs.declared.text_plan.Span.{Span}
 use Rattle.heaps.specs.EndingOrder.{ending_cmp}
 use Rattle.heaps.specs.TextHeap.{text_heap, text_index, holders, ended}
+use Rattle.heaps.specs.Ranking.{used_at, IsFirstPlace}
 use Rattle.heaps.specs.Uses.{span_at}
 
 -- the entries of the heap, the texts that were planned, and the index of each text in the order in which they were given
@@ -43,3 +44,8 @@ pub record IsSpanOf (used : List (List ℕ)) (text : List ℕ) (span : Span) : T
   pub len : span.len ≡ length text
   pub within : span.start + span.len ≤ length (ended (holders used))
   pub reads : text_in (0 ∷ ended (holders used)) span ≡ text
+
+-- at the first place of each text that is not empty stands its index
+abbrev pub HasFirstIndexes : List (List ℕ) → List ℕ → Type 0
+HasFirstIndexes used indexes = (place : ℕ) → place < length used → 0 < length (used_at used place) → IsFirstPlace used place place
+    → slice_index indexes place ≡ text_index (holders used) (used_at used place)

@@ -1,13 +1,11 @@
-//! The heaps of the metadata root (ECMA-335 II.24.2.3 to II.24.2.5): `#Strings`, `#Blob`, `#US` and
-//! `#GUID`.
+//! The heaps of the metadata root (ECMA-335 II.24.2.3 to II.24.2.5): `#Strings`, `#Blob`, `#US` and `#GUID`.
 //!
-//! [`text`], [`blob`], [`user_string`] and [`guid`] read what stands at an index, in the bytes of the
-//! heap and without memory. They answer it exactly where something stands there, else the
-//! [`HeapFault`] that says what is missing; a heap that is absent is no bytes. [`Strings`] checks an
-//! index in constant time, after one look at a heap that is UTF-8. [`TextPool`], [`BlobPool`] and
-//! [`GuidPool`] make the heaps that are written: each value once, in order of first use, and texts
-//! that others end with inside these. [`UserHeap`] has each string that is pushed. `laws.rt` says that
-//! what is pooled is read back, and stays where it is as its pool grows.
+//! [`text`], [`blob`], [`user_string`] and [`guid`] read what stands at an index, in the bytes of the heap and without
+//! memory. They answer it exactly where something stands there, else the [`HeapFault`] that says what is missing; a
+//! heap that is absent is no bytes. [`Strings`] checks an index in constant time, after one look at a heap that is
+//! UTF-8. [`TextPool`], [`BlobPool`] and [`GuidPool`] make the heaps that are written: each value once, in order of
+//! first use, and texts that others end with inside these. [`UserHeap`] has each string that is pushed. `laws.rt` says
+//! that what is pooled is read back, and stays where it is as its pool grows.
 //!
 //! ```text
 //! text(b"\0a.dll\0", 1) == Ok("a.dll")

@@ -75,9 +75,8 @@ fn known_text(heap: &[u8], utf8: bool) -> Option<&str>
 
 /// The bytes of a `#Strings` heap (II.24.2.3), looked at once as a whole.
 ///
-/// It answers what the function `text` answers of these bytes. Where all of them are UTF-8, no text
-/// is looked at for that again, and `check` takes constant time where one stands; else both read as
-/// it does.
+/// It answers what the function `text` answers of these bytes. Where all of them are UTF-8, no text is looked at for
+/// that again, and `check` takes constant time where one stands; else both read as it does.
 #[derive(Clone, Drop)]
 pub struct Strings<'a> {
     heap: &'a [u8],

@@ -91,8 +91,7 @@ fn is_spelled(blob: &[u8]) -> bool
 ///
 /// # Errors
 ///
-/// `BadBlob` where no blob stands at the index, and `BadUserString` where its number of bytes is even and
-/// not 0.
+/// `BadBlob` where no blob stands at the index, and `BadUserString` where its number of bytes is even and not 0.
 pub fn user_string(heap: &[u8], index: u32) -> Result<UserString<'_>, HeapFault>
     // What is answered is the user string of the index.
     ensures found { IfOk result (λ string. IsUserString heap.now index string) }
