@@ -1,7 +1,7 @@
-//! Tests of `packed`, `root`, `pe` and `cli_header`, over their public calls alone: numbers and faults, a
-//! metadata root, a PE file and a CLI header, each of their demands, and what stands on both sides of
-//! a limit. [`refusal_of_image`], [`refusal_of_cli_header`] and [`refusal_of_root`] tell the first demand
-//! that is not met.
+//! Tests of `packed`, `root`, `pe`, `cli_header` and `heaps`, over their public calls alone: numbers and faults, a
+//! metadata root, a PE file and a CLI header, each of their demands, what stands on both sides of a limit, and what
+//! is read from heaps and pooled in them. [`refusal_of_image`], [`refusal_of_cli_header`] and [`refusal_of_root`]
+//! tell the first demand that is not met.
 
 mod refusals;
 
@@ -12,6 +12,10 @@ mod cli_headers;
 #[cfg(test)]
 mod faults;
 #[cfg(test)]
+mod heap_pools;
+#[cfg(test)]
+mod heap_reads;
+#[cfg(test)]
 mod images;
 #[cfg(test)]
 mod numbers;
@@ -19,3 +23,9 @@ mod numbers;
 mod roots;
 #[cfg(test)]
 mod samples;
+
+/// `#GUID` of a root with one module.
+#[cfg(test)]
+const GUIDS: [u8; 16] = [
+    0x00, 0x01, 0x02, 0x03, 0x04, 0x05, 0x06, 0x07, 0x08, 0x09, 0x0A, 0x0B, 0x0C, 0x0D, 0x0E, 0x0F,
+];

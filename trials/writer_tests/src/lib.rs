@@ -1,4 +1,4 @@
-//! Tests of `writer`, over its public calls alone.
+//! Tests of `sinks` and `writer`, over their public calls alone.
 //!
 //! Models that are made cell by cell, and models of roots that are laid out by hand, are written, and the
 //! bytes compared with what ECMA-335 Partition II (22 to 24) asks of the one canonical root; views of such
@@ -15,3 +15,5 @@ mod loaded;
 mod made;
 #[cfg(test)]
 mod orders;
+#[cfg(test)]
+mod steps;
