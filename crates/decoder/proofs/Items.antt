@@ -1,13 +1,19 @@
 -- Values that are built one after another, with those before them.
-use Rattle.std.proofs.Common.{◌≡◌, ℕ, suc, ◌+◌, ◌-◌, ◌<◌, ◌≤◌, Bool, false, Option, Some, None, List, [], ◌∷◌, ◌++◌, length, append_assoc, append-nil, refl, sym, ap, subst, arith, IfSome}
+use Rattle.std.proofs.Common.{◌≡◌, ℕ, suc, ◌+◌, ◌-◌, ◌<◌, ◌≤◌, Bool, false, Option, Some, None, Result, Ok, Err, List, [], ◌∷◌, ◌++◌, length, append_assoc, append-nil, refl, sym, ap, subst, arith, IfSome}
 use Rattle.std.specs.Prelude.{option_map}
+use Rattle.std.specs.Result.{IsErr, IsErrAnd}
 use Rattle.signature_values.specs.declared.types.Modifier.{Modifier}
 use Rattle.signature_values.specs.declared.body.Prefix.{Prefix}
 use Rattle.signature_values.specs.Reading.{Reader, Optional, many_at, leading_at, modifier_at, modifiers_at, starts_modifier, prefix_at, prefixes_at, starts_prefix}
 use Rattle.signature_values.proofs.Items.{Stepping, ShorterItem, leading_is, modifier_steps, prefix_steps}
 use Rattle.decoder.specs.declared.error.SigError.{SigError}
 use Rattle.decoder.specs.declared.error.SigError.TheVariants.{Bad, Memory}
-use Rattle.decoder.specs.Gives.{Fails}
+use Rattle.decoder.specs.Gives.{Fails, Gives}
+
+-- a value is not built where a value in it is not, for the same reason
+pub failed : {A B : Type 0} (view : A → B) (e : SigError) (read : Option B) (result : Result A SigError) → IsErr result × IsErrAnd result (λ reason. reason ≡ e) → Fails e read → Gives view result read
+failed view e read (Ok x) k h = absurd k.1
+failed view e read (Err reason) k h = subst (λ (it : SigError). Fails it read) (sym k.1) h
 
 -- what is read, with values before it
 abbrev pub with_front : {A : Type 0} → List A → Option (List A × List ℕ) → Option (List A × List ℕ)

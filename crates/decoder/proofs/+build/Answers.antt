@@ -6,7 +6,7 @@ use Rattle.signature_values.specs.Views.{type_of, slot_of, ret_of}
 use Rattle.decoder.specs.Gives.{Fails}
 use Rattle.decoder.proofs.Cores.{core_simple, view_method, method_found}
 use Rattle.signature_values.proofs.ViewLemmas.{view_simple}
-use Rattle.decoder.proofs.Items.{many_next, many_bad, many_end}
+use Rattle.decoder.proofs.Items.{failed, many_next, many_bad, many_end}
 use Rattle.decoder.proofs.Parameters.{still, after_mark, params_next, params_bad, params_end}
 use Rattle.decoder.proofs.+build.Goals as goal
 use Rattle.decoder.proofs.+build.Goals.{methods::params-then-allowed, methods::params-else-allowed}
@@ -19,7 +19,7 @@ types::core-returns-in-Some t c =
 pub types::types-returns-in_err-one : goal.types::types-returns-in_err-one
 types::types-returns-in_err-one t c =
     let h = subst (λ (o : Option (List Typed × List ℕ)). Fails c.in_err-one.field-0.0 o) c.loop-done.invariant (many_bad c.in_err-one.field-0.0 (typed_at (core_at c.args.depth)) c.args.count c.loop-done.done c.loop-done.rest.now (map type_of c.loop-done.all.items) c.loop-done-test.true c.in_err-one.ensures) in
-    search rules
+    failed _ _ _ _ c.from_residual-in_err-one.ensures h
 
 pub types::types-loop-done-preserved : goal.types::types-loop-done-preserved
 types::types-loop-done-preserved t c =
@@ -36,7 +36,7 @@ methods::params-returns-in_err-one t c =
     let is : c.sentinel-marked.result.0 ≡ (still c.args.allowed c.loop-done.before && head_is 0x41 c.loop-done.rest.now) = c.sentinel-marked.ensures.marked ∙ ap (λ (p : Bool). p && head_is 0x41 c.loop-done.rest.now) may in
     let bad = params_bad (core_at c.args.depth) c.in_err-one.field-0.0 c.args.count c.loop-done.done (still c.args.allowed c.loop-done.before) c.loop-done.before c.sentinel-marked.result.0 c.loop-done.rest.now c.sentinel-marked.result.1.now (map slot_of c.loop-done.all.items) c.loop-done-test.true is c.sentinel-marked.ensures.behind c.in_err-one.ensures in
     let h = subst (λ (o : Option ((List Slot × Option ℕ) × List ℕ)). Fails c.in_err-one.field-0.0 o) c.loop-done.invariant.so_far bad in
-    search rules
+    failed _ _ _ _ c.from_residual-in_err-one.ensures h
 
 pub methods::params-loop-done-preserved : goal.methods::params-loop-done-preserved
 methods::params-loop-done-preserved t c =

@@ -1,16 +1,16 @@
-use Rattle.std.proofs.Common.{◌∙◌, map, Option, List, ℕ, sym, rules, subst}
+use Rattle.std.proofs.Common.{◌∙◌, map, Option, List, ℕ, sym, subst}
 use Rattle.std.proofs.lemmas.List.{map-append}
 use Rattle.signature_values.specs.Syntax.{Slot}
 use Rattle.signature_values.specs.Reading.{core_at, slot_at}
 use Rattle.signature_values.specs.Views.{slot_of}
 use Rattle.decoder.specs.Gives.{Fails}
-use Rattle.decoder.proofs.Items.{many_next, many_bad, many_end}
+use Rattle.decoder.proofs.Items.{failed, many_next, many_bad, many_end}
 use Rattle.decoder.proofs.columns.slots.Goals as goal
 
 pub returns-in_err-one : goal.returns-in_err-one
 returns-in_err-one c =
     let h = subst (λ (o : Option (List Slot × List ℕ)). Fails c.in_err-one.field-0.0 o) c.loop-done.invariant (many_bad c.in_err-one.field-0.0 (slot_at (core_at c.args.depth)) c.args.count c.loop-done.done c.loop-done.rest.now (map slot_of c.loop-done.all.items) c.loop-done-test.true c.in_err-one.ensures) in
-    search rules
+    failed _ _ _ _ c.from_residual-in_err-one.ensures h
 
 pub loop-done-preserved : goal.loop-done-preserved
 loop-done-preserved c =

@@ -1,8 +1,8 @@
-use Rattle.std.proofs.Common.{◌≡◌, ◌∙◌, sym, Option, List, ℕ, rules, subst, false}
+use Rattle.std.proofs.Common.{◌≡◌, ◌∙◌, sym, Option, List, ℕ, subst, false}
 use Rattle.signature_values.specs.declared.body.Prefix.{Prefix}
 use Rattle.signature_values.specs.Reading.{starts_prefix}
 use Rattle.decoder.specs.Gives.{Fails}
-use Rattle.decoder.proofs.Items.{prefixes_next, prefixes_end, prefixes_bad, prefix_shorter}
+use Rattle.decoder.proofs.Items.{failed, prefixes_next, prefixes_end, prefixes_bad, prefix_shorter}
 use Rattle.decoder.proofs.Leaves.{given}
 use Rattle.decoder.proofs.modifiers.prefixes.Goals as goal
 
@@ -10,7 +10,7 @@ pub returns-in_err-one : goal.returns-in_err-one
 returns-in_err-one c =
     let bad = given _ _ _ _ c.prefix.ensures c.in_err-one.ensures.value in
     let h = subst (λ (o : Option (List Prefix × List ℕ)). Fails c.in_err-one.field-0.0 o) c.loop-rest.invariant (prefixes_bad c.in_err-one.field-0.0 c.loop-rest.rest.now c.loop-rest.all.items bad) in
-    search rules
+    failed _ _ _ _ c.from_residual.ensures h
 
 pub loop-rest-smaller : goal.loop-rest-smaller
 loop-rest-smaller c =

@@ -1,13 +1,13 @@
-use Rattle.std.proofs.Common.{◌∙◌, sym, ℕ, Option, List, subst, rules}
+use Rattle.std.proofs.Common.{◌∙◌, sym, ℕ, Option, List, subst}
 use Rattle.signature_values.specs.Reading.{number_at}
 use Rattle.decoder.specs.Gives.{Fails}
-use Rattle.decoder.proofs.Items.{many_next, many_bad, many_end}
+use Rattle.decoder.proofs.Items.{failed, many_next, many_bad, many_end}
 use Rattle.decoder.proofs.shape.numbers.Goals as goal
 
 pub returns-in_err-one : goal.returns-in_err-one
 returns-in_err-one c =
     let h = subst (λ (o : Option (List ℕ × List ℕ)). Fails c.in_err-one.field-0.0 o) c.loop-done.invariant (many_bad c.in_err-one.field-0.0 number_at c.args.count c.loop-done.done c.loop-done.rest.now c.loop-done.all.items c.loop-done-test.true c.in_err-one.ensures) in
-    search rules
+    failed _ _ _ _ c.from_residual-in_err-one.ensures h
 
 pub loop-done-preserved : goal.loop-done-preserved
 loop-done-preserved c =

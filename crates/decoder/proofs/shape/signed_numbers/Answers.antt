@@ -2,13 +2,13 @@ use Rattle.std.proofs.Common.{◌∙◌, sym, ℕ, ℤ, SFits, w32, Option, List
 use Rattle.std.proofs.lemmas.Int.{to_z-of_z}
 use Rattle.signature_values.specs.Reading.{signed_at}
 use Rattle.decoder.specs.Gives.{Fails}
-use Rattle.decoder.proofs.Items.{many_next, many_bad, many_end}
+use Rattle.decoder.proofs.Items.{failed, many_next, many_bad, many_end}
 use Rattle.decoder.proofs.shape.signed_numbers.Goals as goal
 
 pub returns-in_err-one : goal.returns-in_err-one
 returns-in_err-one c =
     let h = subst (λ (o : Option (List ℤ × List ℕ)). Fails c.in_err-one.field-0.0 o) c.loop-done.invariant (many_bad c.in_err-one.field-0.0 signed_at c.args.count c.loop-done.done c.loop-done.rest.now c.loop-done.all.items c.loop-done-test.true c.in_err-one.ensures) in
-    search rules
+    failed _ _ _ _ c.from_residual-in_err-one.ensures h
 
 pub loop-done-preserved : goal.loop-done-preserved
 loop-done-preserved c =
