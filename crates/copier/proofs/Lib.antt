@@ -1,3 +1,4 @@
 pub mod Found
 pub mod SameLemmas
 pub mod TestLaws
+pub mod Made

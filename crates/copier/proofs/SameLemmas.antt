@@ -49,7 +49,7 @@ bool_decides false true = denied (λ e. absurd cc)
 table_decides : (a b : TableId) → Decides (tables.eq-value.it a b) (a ≡ b)
 table_decides a b = (λ h. same_true table.the_type tt a b h, λ e. true_same table.the_type a b e)
 
-token_decides : (a b : Token) → Decides (tokens.eq-value.it a b) (a ≡ b)
+pub token_decides : (a b : Token) → Decides (tokens.eq-value.it a b) (a ≡ b)
 token_decides a b =
     Decides-like _ (λ p i. record { table = p.0 i; row = p.1 i })
     (λ e. (ap (λ (t : Token). t.table) e, ap (λ (t : Token). t.row) e))

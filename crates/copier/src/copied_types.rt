@@ -63,7 +63,6 @@ fn copy_core(alloc: Global, core: &Core) -> Result<Core, AllocError>
 
 /// A copy of a type.
 #[cycle(copies)]
-#[tactic(auto, unfolding(signature_values::specs::Views::type_of, signature_values::specs::Views::core_of))]
 fn copy_type(alloc: Global, of: &TypeSig) -> Result<TypeSig, AllocError>
     ensures { IfOk result (λ copy. type_of copy ≡ type_of of.now) }
 {
@@ -102,7 +101,6 @@ pub fn copy_content(alloc: Global, kind: &SlotKind) -> Result<SlotKind, AllocErr
 
 /// A copy of a parameter, a field or a result.
 #[cycle(copies)]
-#[tactic(auto, unfolding(signature_values::specs::Views::slot_of, signature_values::specs::Views::content_of))]
 pub fn copy_slot(alloc: Global, slot: &Slot) -> Result<Slot, AllocError>
     ensures { IfOk result (λ copy. slot_of copy ≡ slot_of slot.now) }
 {
@@ -137,7 +135,6 @@ pub fn copy_ret(alloc: Global, ret: &Ret) -> Result<Ret, AllocError>
 
 /// A copy of a method (II.23.2.1 to II.23.2.3).
 #[cycle(copies)]
-#[tactic(auto, unfolding(signature_values::specs::Views::method_of, signature_values::specs::Views::ret_of, signature_values::specs::Views::slot_of))]
 pub fn copy_method(alloc: Global, method: &MethodSig) -> Result<MethodSig, AllocError>
     ensures { IfOk result (λ copy. method_of copy ≡ method_of method.now) }
 {

@@ -1,5 +1,5 @@
 -- What a sink makes of each form of a value, by what it makes of its parts.
-use Rattle.std.proofs.Common.{◌≡◌, ◌∙◌, ℕ, Bool, Some, None, Result, Ok, Err, Vec, Global, List, [], ◌∷◌, ◌++◌, map, ap, refl}
+use Rattle.std.proofs.Common.{◌≡◌, ◌∙◌, ℕ, Bool, Some, None, Result, Ok, Err, Vec, Global, List, [], ◌∷◌, ◌++◌, length, map, ap, sym, refl}
 use Rattle.std.specs.declared.boxed.Box.{Box}
 use Rattle.schema.specs.declared.token.Token.{Token}
 use Rattle.signature_values.specs.declared.element.Element.{Element}
@@ -19,6 +19,7 @@ use Rattle.signature_values.specs.Views.{core_of, type_of, types_from, content_o
 use Rattle.walk.specs.Run.{then, run}
 use Rattle.walk.specs.Items.{Item, part, parts_items, demand, is_call, core_items, first_items, typed_items, types_items, content_items, slot_items, slots_items, ret_items, method_items, leaf_items, shape_items}
 use Rattle.walk.proofs.Steps.{run_last, run_both}
+use Rattle.walk.proofs.Loops.{slots_count}
 use Rattle.signature_values.proofs.ViewLemmas.{view_simple, view_void_pointer, view_pointer, view_vector, view_array, view_class, view_value, view_var, view_mvar, view_instance, view_function, view_type, view_typed_ref, view_plain, view_by_ref, view_slot, view_some_ret, view_void_ret, view_method}
 
 module _ {S : Type 0} (step : Item → S → Result S S) where
@@ -108,12 +109,24 @@ module _ {S : Type 0} (step : Item → S → Result S S) where
         → run step (ret_items (ret_of (rets.Void mods)) d) s ≡ then (run step (leaf_items VOID d)) (run step (parts_items (modifiers_parts mods.items)) s)
     run_void_ret mods = ap (λ (r : sig.Ret). run step (ret_items r d) s) (view_void_ret mods) ∙ run_both step (parts_items (modifiers_parts mods.items)) (leaf_items VOID d) s
 
-    pub run_method : (m : MethodSig)
-        → run step (method_items (method_of m) d) s
-        ≡ then (run step (part (byte (method_code (out-MethodSig m).kind (out-MethodSig m).this (out-MethodSig m).explicit (out-MethodSig m).generic)) ∷ (parts_items (generic_parts (out-MethodSig m).generic)
-        ++ part (number (count_slots (slots_from (map slot_of (out-MethodSig m).params.items)))) ∷ (ret_items (ret_of (out-MethodSig m).ret) d ++ slots_items (slots_from (map slot_of (out-MethodSig m).params.items)) (out-MethodSig m).sentinel d))))
-        (run step (demand (is_call (out-MethodSig m).kind (count_slots (slots_from (map slot_of (out-MethodSig m).params.items))) (out-MethodSig m).sentinel)) s)
-    run_method m = ap (λ (v : sig.Method). run step (method_items v d) s) (view_method m) ∙ run_both step _ _ s
+module _ {S : Type 0} (step : Item → S → Result S S) (d : ℕ) (s : S) (m : MethodSig) where
+  -- what is told of a method, of the first byte and the number of parameters that are told
+  pub method_told : (first last : List Slot) (holds : Bool) (code count : ℕ)
+      → first ≡ (out-MethodSig m).params.items
+      → holds ≡ is_call (out-MethodSig m).kind (count_slots (slots_from (map slot_of first))) (out-MethodSig m).sentinel
+      → code ≡ method_code (out-MethodSig m).kind (out-MethodSig m).this (out-MethodSig m).explicit (out-MethodSig m).generic
+      → count ≡ length first
+      → last ≡ (out-MethodSig m).params.items
+      → run step (demand holds ++ part (byte code) ∷ (parts_items (generic_parts (out-MethodSig m).generic)
+      ++ part (number count) ∷ (ret_items (ret_of (out-MethodSig m).ret) d ++ slots_items (slots_from (map slot_of last)) (out-MethodSig m).sentinel d))) s
+      ≡ run step (method_items (method_of m) d) s
+  method_told first last holds code count f h k n l =
+      let is : holds ≡ is_call (out-MethodSig m).kind (count_slots (slots_from (map slot_of (out-MethodSig m).params.items))) (out-MethodSig m).sentinel =
+      h ∙ ap (λ (ps : List Slot). is_call (out-MethodSig m).kind (count_slots (slots_from (map slot_of ps))) (out-MethodSig m).sentinel) f in
+      let number_is : count ≡ count_slots (slots_from (map slot_of (out-MethodSig m).params.items)) = n ∙ ap length f ∙ sym (slots_count (out-MethodSig m).params.items) in
+      (λ i. run step (demand (is i) ++ part (byte (k i)) ∷ (parts_items (generic_parts (out-MethodSig m).generic)
+      ++ part (number (number_is i)) ∷ (ret_items (ret_of (out-MethodSig m).ret) d ++ slots_items (slots_from (map slot_of (l i))) (out-MethodSig m).sentinel d))) s)
+      ∙ sym (ap (λ (v : sig.Method). run step (method_items v d) s) (view_method m))
 
 pub ruleset cores_run = (
   run_simple,
@@ -129,4 +142,4 @@ pub ruleset cores_run = (
   run_function,
 )
 
-pub ruleset others_run = (run_type, run_typed_ref, run_plain, run_by_ref, run_slot, run_some_ret, run_void_ret, run_method)
+pub ruleset others_run = (run_type, run_typed_ref, run_plain, run_by_ref, run_slot, run_some_ret, run_void_ret)

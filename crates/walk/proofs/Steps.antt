@@ -1,8 +1,8 @@
 -- One thing after another.
-use Rattle.std.proofs.Common.{◌≡◌, refl, ap, Result, Ok, Err, List, [], ◌∷◌, ◌++◌}
+use Rattle.std.proofs.Common.{◌≡◌, ◌∙◌, Bool, true, false, Option, None, refl, ap, sym, Result, Ok, Err, List, [], ◌∷◌, ◌++◌}
 use Rattle.signature_values.specs.Parts.{Part}
-use Rattle.walk.specs.Run.{then, run}
-use Rattle.walk.specs.Items.{part, parts_items}
+use Rattle.walk.specs.Run.{after, then, run}
+use Rattle.walk.specs.Items.{Item, part, broken, parts_items, demand}
 
 module _ {A P : Type 0} (step : P → A → Result A A) where
   pub run_none : (s : A) → run step [] s ≡ Ok s
@@ -30,6 +30,33 @@ module _ {A P : Type 0} (step : P → A → Result A A) where
   unfolding run
   run_both [] qs s = refl
   run_both (p ∷ ps) qs s = behind ps qs (λ x. run_both ps qs x) (step p s)
+
+  -- ---- behind the first of what follows: it goes on, or it stops
+
+  pub on_both : (ps qs : List P) (s new : A) (all : Result A A) → Ok new ≡ run step ps s → run step (ps ++ qs) s ≡ all → run step qs new ≡ all
+  on_both ps qs s new all e so = ap (then (run step qs)) e ∙ sym (run_both ps qs s) ∙ so
+
+  pub on_one : (p : P) (qs : List P) (s new : A) (all : Result A A) → Ok new ≡ step p s → run step (p ∷ qs) s ≡ all → run step qs new ≡ all
+  on_one p qs s new all e so = ap (then (run step qs)) e ∙ sym (run_one p qs s) ∙ so
+
+  module _ {U : Type 0} (r : Option U) where
+    pub off_both : (ps qs : List P) (s new : A) (all : Result A A) → r ≡ None → Err new ≡ run step ps s → run step (ps ++ qs) s ≡ all → after r new ≡ all
+    off_both ps qs s new all none e so = rw none (ap (then (run step qs)) e ∙ sym (run_both ps qs s) ∙ so)
+
+    pub off_one : (p : P) (qs : List P) (s new : A) (all : Result A A) → r ≡ None → Err new ≡ step p s → run step (p ∷ qs) s ≡ all → after r new ≡ all
+    off_one p qs s new all none e so = rw none (ap (then (run step qs)) e ∙ sym (run_one p qs s) ∙ so)
+
+module _ {A : Type 0} (step : Item → A → Result A A) where
+  -- nothing is told where it is as it must be
+  pub as_it_must : (holds : Bool) (s : A) → holds ≡ true → Ok s ≡ run step (demand holds) s
+  unfolding run demand
+  as_it_must true s e = refl
+  as_it_must false s e = absurd cc
+
+  pub not_as_it_must : (holds : Bool) (s : A) → holds ≡ false → step broken s ≡ run step (demand holds) s
+  unfolding demand
+  not_as_it_must true s e = absurd cc
+  not_as_it_must false s e = sym (run_last step broken s)
 
 pub items_both : (ps qs : List Part) → parts_items (ps ++ qs) ≡ parts_items ps ++ parts_items qs
 items_both [] qs = refl

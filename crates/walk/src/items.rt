@@ -9,7 +9,6 @@ use signature_values::element_type::{CMOD_OPT, CMOD_REQD, PINNED};
 use signature_values::{Modifier, Prefix, Shape};
 
 /// Tells where something is not as it must be.
-#[tactic(auto, using(crate::proofs::Steps::steps), unfolding(crate::specs::Items::demand))]
 pub fn visit_demand<S: PartSink>(sink: &mut S, holds: bool) -> Option<()>
     ensures { after result sink.new ≡ run S.step (demand holds) sink.old }
 {

@@ -246,7 +246,6 @@ fn visit_generic<S: PartSink>(sink: &mut S, generic: Option<u32>) -> Option<()>
 
 /// A method (II.23.2.1 to II.23.2.3).
 #[cycle(walk)]
-#[tactic(auto, using(crate::proofs::Steps::steps, crate::proofs::Forms::others_run, crate::proofs::Loops::slots_count))]
 pub fn visit_method<S: PartSink>(sink: &mut S, method: &MethodSig, depth: u8) -> Option<()>
     ensures { after result sink.new ≡ run S.step (method_items (method_of method.now) depth) sink.old }
 {

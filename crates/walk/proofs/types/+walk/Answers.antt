@@ -1,3 +1,6 @@
+use Rattle.std.proofs.Common.{refl, sym, ◌∙◌}
+use Rattle.walk.proofs.Steps.{on_both, on_one, off_both, off_one}
+use Rattle.walk.proofs.Forms.{method_told}
 use Rattle.walk.proofs.Loops.{goes_by, stops_by, types_next, params_next}
 use Rattle.walk.proofs.types.+walk.Goals as goal
 
@@ -20,3 +23,48 @@ pub visit_params-loop-place-preserved : goal.visit_params-loop-place-preserved
 visit_params-loop-place-preserved g t c =
     goes_by _ _ _ _ _ c.in_ok-visit_param.ensures
     (params_next g.S.PartSink.step c.args.params.now c.loop-place.place c.index-params-place.result c.args.sentinel c.args.depth c.loop-place.sink _ c.loop-place-test.true c.index-params-place.is c.stands_before.ensures) c.loop-place.invariant
+
+pub visit_method-returns-in_err-visit_demand : goal.visit_method-returns-in_err-visit_demand
+visit_method-returns-in_err-visit_demand g t c =
+    off_both g.S.PartSink.step _ _ _ _ _ _ c.from_residual.ensures c.in_err-visit_demand.ensures
+    (method_told g.S.PartSink.step c.args.depth c.args.sink.now c.args.method.now _ _ _ _ _ c.deref.ensures.value c.can_be.ensures refl refl refl)
+
+pub visit_method-returns-in_err-byte : goal.visit_method-returns-in_err-byte
+visit_method-returns-in_err-byte g t c =
+    off_one g.S.PartSink.step _ _ _ _ _ _ c.from_residual-in_err-byte.ensures c.in_err-byte.ensures
+    (on_both g.S.PartSink.step _ _ _ _ _ c.in_ok-visit_demand.ensures
+    (method_told g.S.PartSink.step c.args.depth c.args.sink.now c.args.method.now _ _ _ _ _ c.deref.ensures.value c.can_be.ensures c.first_byte.ensures refl refl))
+
+pub visit_method-returns-in_err-visit_generic : goal.visit_method-returns-in_err-visit_generic
+visit_method-returns-in_err-visit_generic g t c =
+    off_both g.S.PartSink.step _ _ _ _ _ _ c.from_residual-in_err-visit_generic.ensures c.in_err-visit_generic.ensures
+    (on_one g.S.PartSink.step _ _ _ _ _ c.in_ok-byte.ensures
+    (on_both g.S.PartSink.step _ _ _ _ _ c.in_ok-visit_demand.ensures
+    (method_told g.S.PartSink.step c.args.depth c.args.sink.now c.args.method.now _ _ _ _ _ c.deref.ensures.value c.can_be.ensures c.first_byte.ensures refl refl)))
+
+pub visit_method-returns-in_err-number : goal.visit_method-returns-in_err-number
+visit_method-returns-in_err-number g t c =
+    off_one g.S.PartSink.step _ _ _ _ _ _ c.from_residual-in_err-number.ensures c.in_err-number.ensures
+    (on_both g.S.PartSink.step _ _ _ _ _ c.in_ok-visit_generic.ensures
+    (on_one g.S.PartSink.step _ _ _ _ _ c.in_ok-byte.ensures
+    (on_both g.S.PartSink.step _ _ _ _ _ c.in_ok-visit_demand.ensures
+    (method_told g.S.PartSink.step c.args.depth c.args.sink.now c.args.method.now _ _ _ _ _ c.deref.ensures.value c.can_be.ensures c.first_byte.ensures (c.len.ensures ∙ sym c.deref.ensures.len) refl))))
+
+pub visit_method-returns-in_err-visit_ret : goal.visit_method-returns-in_err-visit_ret
+visit_method-returns-in_err-visit_ret g t c =
+    off_both g.S.PartSink.step _ _ _ _ _ _ c.from_residual-in_err-visit_ret.ensures c.in_err-visit_ret.ensures
+    (on_one g.S.PartSink.step _ _ _ _ _ c.in_ok-number.ensures
+    (on_both g.S.PartSink.step _ _ _ _ _ c.in_ok-visit_generic.ensures
+    (on_one g.S.PartSink.step _ _ _ _ _ c.in_ok-byte.ensures
+    (on_both g.S.PartSink.step _ _ _ _ _ c.in_ok-visit_demand.ensures
+    (method_told g.S.PartSink.step c.args.depth c.args.sink.now c.args.method.now _ _ _ _ _ c.deref.ensures.value c.can_be.ensures c.first_byte.ensures (c.len.ensures ∙ sym c.deref.ensures.len) refl)))))
+
+pub visit_method-returns : goal.visit_method-returns
+visit_method-returns g t c =
+    c.visit_params.ensures ∙
+    (on_both g.S.PartSink.step _ _ _ _ _ c.in_ok-visit_ret.ensures
+    (on_one g.S.PartSink.step _ _ _ _ _ c.in_ok-number.ensures
+    (on_both g.S.PartSink.step _ _ _ _ _ c.in_ok-visit_generic.ensures
+    (on_one g.S.PartSink.step _ _ _ _ _ c.in_ok-byte.ensures
+    (on_both g.S.PartSink.step _ _ _ _ _ c.in_ok-visit_demand.ensures
+    (method_told g.S.PartSink.step c.args.depth c.args.sink.now c.args.method.now _ _ _ _ _ c.deref.ensures.value c.can_be.ensures c.first_byte.ensures (c.len.ensures ∙ sym c.deref.ensures.len) c.deref-2.ensures.value))))))
