@@ -1,7 +1,7 @@
 //! Demands on cells, and on what the heaps hold.
 use crate::explained::Explanation;
 
-pub(crate) const BAD_STRING: Explanation = Explanation {
+pub(crate) static BAD_STRING: Explanation = Explanation {
     summary: "no NUL ends the text of an index into '#Strings'",
     section: Some("II.24.2.3"),
     demand: "An index into '#Strings' is 0, the empty text, or at it or behind it stands a NUL within \
@@ -13,7 +13,7 @@ pub(crate) const BAD_STRING: Explanation = Explanation {
     ),
 };
 
-pub(crate) const BAD_UTF8: Explanation = Explanation {
+pub(crate) static BAD_UTF8: Explanation = Explanation {
     summary: "a text that is not UTF-8",
     section: Some("II.24.2.3"),
     demand: "The bytes from an index into '#Strings' to the next NUL are UTF-8.",
@@ -21,7 +21,7 @@ pub(crate) const BAD_UTF8: Explanation = Explanation {
     cause: Some("An obfuscator that gives names of bytes which are no text."),
 };
 
-pub(crate) const BAD_BLOB: Explanation = Explanation {
+pub(crate) static BAD_BLOB: Explanation = Explanation {
     summary: "no blob at an index into '#Blob'",
     section: Some("II.24.2.4"),
     demand: "At an index into '#Blob' stand the length of a blob, as a packed number, and that many \
@@ -33,7 +33,7 @@ pub(crate) const BAD_BLOB: Explanation = Explanation {
     ),
 };
 
-pub(crate) const BAD_GUID: Explanation = Explanation {
+pub(crate) static BAD_GUID: Explanation = Explanation {
     summary: "no GUID at an index into '#GUID'",
     section: Some("II.24.2.5"),
     demand: "An index into '#GUID' is 0, null, or the number of an entry of 16 bytes within the heap, \
@@ -42,7 +42,7 @@ pub(crate) const BAD_GUID: Explanation = Explanation {
     cause: Some("An index that counts bytes in place of entries."),
 };
 
-pub(crate) const BAD_TAG: Explanation = Explanation {
+pub(crate) static BAD_TAG: Explanation = Explanation {
     summary: "a coded index with an unused tag",
     section: Some("II.24.2.6"),
     demand: "The tag of a coded index, its low bits, is one to which the standard gives a table.",
@@ -50,7 +50,7 @@ pub(crate) const BAD_TAG: Explanation = Explanation {
     cause: None,
 };
 
-pub(crate) const BAD_INDEX: Explanation = Explanation {
+pub(crate) static BAD_INDEX: Explanation = Explanation {
     summary: "no row of the index, or null where it may not be",
     section: Some("II.22"),
     demand: "An index into a table names a row that exists, or is null in a column that may be null.",
@@ -58,7 +58,7 @@ pub(crate) const BAD_INDEX: Explanation = Explanation {
     cause: Some("A tool that removed rows and left what names them."),
 };
 
-pub(crate) const BAD_LIST: Explanation = Explanation {
+pub(crate) static BAD_LIST: Explanation = Explanation {
     summary: "a list that begins past the end of its table",
     section: Some("II.22"),
     demand: "FieldList, MethodList, ParamList, EventList and PropertyList are at most one more than the \
@@ -67,7 +67,7 @@ pub(crate) const BAD_LIST: Explanation = Explanation {
     cause: Some("A tool that removed members and left the lists of their owners."),
 };
 
-pub(crate) const BAD_USER_STRING: Explanation = Explanation {
+pub(crate) static BAD_USER_STRING: Explanation = Explanation {
     summary: "a user string of an even number of bytes above 0",
     section: Some("II.24.2.4"),
     demand: "A user string has two bytes for each UTF-16 unit and one more, or it has no bytes. No file \
@@ -77,7 +77,7 @@ pub(crate) const BAD_USER_STRING: Explanation = Explanation {
     cause: None,
 };
 
-pub(crate) const BAD_CELL: Explanation = Explanation {
+pub(crate) static BAD_CELL: Explanation = Explanation {
     summary: "a cell that its column can't hold",
     section: Some("II.22"),
     demand: "Each row has as many cells as its table has columns for, each of its column's kind; a text \
@@ -88,7 +88,7 @@ pub(crate) const BAD_CELL: Explanation = Explanation {
     cause: None,
 };
 
-pub(crate) const USER_BYTES: Explanation = Explanation {
+pub(crate) static USER_BYTES: Explanation = Explanation {
     summary: "user bytes that are not filled, or too many",
     section: Some("II.24.2.4"),
     demand: "The bytes of '#US' in a model are a multiple of four, and at most 2^30. No file breaks it, \

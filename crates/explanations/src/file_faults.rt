@@ -1,7 +1,7 @@
 //! Demands on the headers of a PE file and on its CLI header.
 use crate::explained::Explanation;
 
-pub(crate) const TOO_LONG: Explanation = Explanation {
+pub(crate) static TOO_LONG: Explanation = Explanation {
     summary: "the input has more than 2^30 bytes",
     section: None,
     demand: "A file, or with '--bare' a root, has at most 2^30 bytes. The limit is clim's own.",
@@ -9,7 +9,7 @@ pub(crate) const TOO_LONG: Explanation = Explanation {
     cause: None,
 };
 
-pub(crate) const DOS_HEADER: Explanation = Explanation {
+pub(crate) static DOS_HEADER: Explanation = Explanation {
     summary: "no MS-DOS header of 64 bytes that begins with 'MZ'",
     section: Some("II.25.2.1"),
     demand: "The file begins with an MS-DOS header: 64 bytes, of which the first two are 'MZ'.",
@@ -20,7 +20,7 @@ pub(crate) const DOS_HEADER: Explanation = Explanation {
     ),
 };
 
-pub(crate) const PE_SIGNATURE: Explanation = Explanation {
+pub(crate) static PE_SIGNATURE: Explanation = Explanation {
     summary: "no PE signature where the MS-DOS header says that it stands",
     section: Some("II.25.2.1"),
     demand: "The four bytes at 0x3C are an offset in the file. There stand the letters 'PE', two zeros \
@@ -29,7 +29,7 @@ pub(crate) const PE_SIGNATURE: Explanation = Explanation {
     cause: Some("A program of MS-DOS or 16-bit Windows, or a file that was cut short."),
 };
 
-pub(crate) const OPTIONAL_HEADER: Explanation = Explanation {
+pub(crate) static OPTIONAL_HEADER: Explanation = Explanation {
     summary: "an optional header of under 216 bytes, or one that ends past the file",
     section: Some("II.25.2.2"),
     demand: "By the PE file header the optional header has at least 216 bytes, enough for fifteen data \
@@ -38,7 +38,7 @@ pub(crate) const OPTIONAL_HEADER: Explanation = Explanation {
     cause: Some("A file that was cut short."),
 };
 
-pub(crate) const PE32_PLUS_SIZE: Explanation = Explanation {
+pub(crate) static PE32_PLUS_SIZE: Explanation = Explanation {
     summary: "an optional header of PE32+ of under 232 bytes",
     section: Some("II.25.2.3.1"),
     demand: "The optional header of a PE32+ file, whose magic number is 0x20B, has at least 232 bytes. \
@@ -47,7 +47,7 @@ pub(crate) const PE32_PLUS_SIZE: Explanation = Explanation {
     cause: Some("A magic number that was changed while the header stayed that of PE32."),
 };
 
-pub(crate) const MAGIC: Explanation = Explanation {
+pub(crate) static MAGIC: Explanation = Explanation {
     summary: "an optional header of neither PE32 nor PE32+",
     section: Some("II.25.2.3.1"),
     demand: "The optional header begins with the number 0x10B (PE32) or 0x20B (PE32+).",
@@ -55,7 +55,7 @@ pub(crate) const MAGIC: Explanation = Explanation {
     cause: None,
 };
 
-pub(crate) const DIRECTORIES: Explanation = Explanation {
+pub(crate) static DIRECTORIES: Explanation = Explanation {
     summary: "fewer than fifteen data directories",
     section: Some("II.25.2.3.2"),
     demand: "The optional header says that it has at least fifteen data directories, of which the \
@@ -64,7 +64,7 @@ pub(crate) const DIRECTORIES: Explanation = Explanation {
     cause: Some("A native program that was made small by hand or by a packer."),
 };
 
-pub(crate) const SECTIONS: Explanation = Explanation {
+pub(crate) static SECTIONS: Explanation = Explanation {
     summary: "section headers that end past the file",
     section: Some("II.25.3"),
     demand: "Behind the optional header stand as many section headers, of 40 bytes each, as the PE file \
@@ -73,7 +73,7 @@ pub(crate) const SECTIONS: Explanation = Explanation {
     cause: Some("A file that was cut short."),
 };
 
-pub(crate) const NO_CLI_HEADER: Explanation = Explanation {
+pub(crate) static NO_CLI_HEADER: Explanation = Explanation {
     summary: "no data directory for the CLI header",
     section: Some("II.25.2.3.3"),
     demand: "The fifteenth data directory, CLI Header, has an address and a size above 0.",
@@ -81,7 +81,7 @@ pub(crate) const NO_CLI_HEADER: Explanation = Explanation {
     cause: Some("A native program or library: it has no metadata."),
 };
 
-pub(crate) const CLI_ADDRESS: Explanation = Explanation {
+pub(crate) static CLI_ADDRESS: Explanation = Explanation {
     summary: "the CLI header has under 72 bytes, or no place in the file",
     section: Some("II.25.3.3"),
     demand: "The CLI header's directory says at least 72 bytes. The first section that has all 72 bytes \
@@ -92,7 +92,7 @@ pub(crate) const CLI_ADDRESS: Explanation = Explanation {
     ),
 };
 
-pub(crate) const CLI_SIZE: Explanation = Explanation {
+pub(crate) static CLI_SIZE: Explanation = Explanation {
     summary: "the CLI header says that it has under 72 bytes",
     section: Some("II.25.3.3"),
     demand: "Cb, the first field of the CLI header, is at least 72.",
@@ -100,7 +100,7 @@ pub(crate) const CLI_SIZE: Explanation = Explanation {
     cause: Some("A directory that names other bytes than a CLI header."),
 };
 
-pub(crate) const METADATA_ADDRESS: Explanation = Explanation {
+pub(crate) static METADATA_ADDRESS: Explanation = Explanation {
     summary: "the metadata has no place in the file",
     section: Some("II.25.3.3"),
     demand: "The first section that has all bytes which the field MetaData of the CLI header names has \

@@ -1,7 +1,7 @@
 //! Demands on signatures and the entry point, and on what is written.
 use crate::explained::Explanation;
 
-pub(crate) const BAD_SIGNATURE: Explanation = Explanation {
+pub(crate) static BAD_SIGNATURE: Explanation = Explanation {
     summary: "a blob that no signature of its column spells",
     section: Some("II.23.2"),
     demand: "Each signature blob is spelled, from its first byte to its last, by the grammar of its \
@@ -14,7 +14,7 @@ pub(crate) const BAD_SIGNATURE: Explanation = Explanation {
     ),
 };
 
-pub(crate) const SIGNATURE_INDEX: Explanation = Explanation {
+pub(crate) static SIGNATURE_INDEX: Explanation = Explanation {
     summary: "a signature that names no row",
     section: Some("II.23.2.8"),
     demand: "Each type that a signature names is a row of TypeDef, TypeRef or TypeSpec that exists.",
@@ -22,7 +22,7 @@ pub(crate) const SIGNATURE_INDEX: Explanation = Explanation {
     cause: Some("A tool that removed or merged rows of types and left the signatures."),
 };
 
-pub(crate) const ENTRY_POINT: Explanation = Explanation {
+pub(crate) static ENTRY_POINT: Explanation = Explanation {
     summary: "an entry point that is no row of MethodDef or File",
     section: Some("II.25.3.3"),
     demand: "EntryPointToken of the CLI header is 0, or the token of a row of MethodDef or File that \
@@ -31,7 +31,7 @@ pub(crate) const ENTRY_POINT: Explanation = Explanation {
     cause: Some("A tool that put methods into another order and left the token."),
 };
 
-pub(crate) const TOO_LARGE: Explanation = Explanation {
+pub(crate) static TOO_LARGE: Explanation = Explanation {
     summary: "the canonical root is too long",
     section: None,
     demand: "The root that 'clim rewrite' writes has at most 2^30 bytes. The limit is clim's own; OUT \

@@ -1,7 +1,7 @@
 //! Demands on the front of a metadata root and on its stream headers.
 use crate::explained::Explanation;
 
-pub(crate) const ROOT_SIGNATURE: Explanation = Explanation {
+pub(crate) static ROOT_SIGNATURE: Explanation = Explanation {
     summary: "no signature of a metadata root",
     section: Some("II.24.2.1"),
     demand: "The root has at least 16 bytes and begins with 42 53 4A 42, the letters 'BSJB'.",
@@ -12,7 +12,7 @@ pub(crate) const ROOT_SIGNATURE: Explanation = Explanation {
     ),
 };
 
-pub(crate) const VERSION: Explanation = Explanation {
+pub(crate) static VERSION: Explanation = Explanation {
     summary: "no version in its field",
     section: Some("II.24.2.1"),
     demand: "Length is a multiple of four, and the field of that many bytes behind it ends within the \
@@ -21,7 +21,7 @@ pub(crate) const VERSION: Explanation = Explanation {
     cause: None,
 };
 
-pub(crate) const STREAM_COUNT: Explanation = Explanation {
+pub(crate) static STREAM_COUNT: Explanation = Explanation {
     summary: "the root ends before the number of its streams",
     section: Some("II.24.2.1"),
     demand: "Behind the version's field stand two bytes of flags and the number of stream headers in \
@@ -30,7 +30,7 @@ pub(crate) const STREAM_COUNT: Explanation = Explanation {
     cause: Some("A root that was cut short."),
 };
 
-pub(crate) const STREAM_HEADER: Explanation = Explanation {
+pub(crate) static STREAM_HEADER: Explanation = Explanation {
     summary: "no stream header",
     section: Some("II.24.2.2"),
     demand: "Here stand within the root the offset and the size of a stream, of four bytes each, and \
@@ -40,7 +40,7 @@ pub(crate) const STREAM_HEADER: Explanation = Explanation {
     cause: Some("A number of streams that is too great, or a root that was cut short."),
 };
 
-pub(crate) const STREAM_RANGE: Explanation = Explanation {
+pub(crate) static STREAM_RANGE: Explanation = Explanation {
     summary: "a stream that ends past the root",
     section: Some("II.24.2.2"),
     demand: "Each of the streams '#~', '#Strings', '#Blob', '#GUID' and '#US' ends within the root. A \
@@ -49,7 +49,7 @@ pub(crate) const STREAM_RANGE: Explanation = Explanation {
     cause: Some("A root that was cut short, or a size that is wrong."),
 };
 
-pub(crate) const DUPLICATE_STREAM: Explanation = Explanation {
+pub(crate) static DUPLICATE_STREAM: Explanation = Explanation {
     summary: "a stream that was named before",
     section: Some("II.24.2.2"),
     demand: "Each of the streams '#~', '#Strings', '#Blob', '#GUID' and '#US' has one header at most.",
@@ -57,7 +57,7 @@ pub(crate) const DUPLICATE_STREAM: Explanation = Explanation {
     cause: Some("An obfuscator that adds false streams so that tools read the wrong one."),
 };
 
-pub(crate) const UNCOMPRESSED: Explanation = Explanation {
+pub(crate) static UNCOMPRESSED: Explanation = Explanation {
     summary: "tables of the uncompressed form, '#-'",
     section: Some("II.24.2.2"),
     demand: "No stream is named '#-'. The standard has the tables in '#~' alone.",
@@ -65,7 +65,7 @@ pub(crate) const UNCOMPRESSED: Explanation = Explanation {
     cause: Some("A compiler's output for edit-and-continue, or an obfuscator that renames '#~'."),
 };
 
-pub(crate) const NO_TABLES: Explanation = Explanation {
+pub(crate) static NO_TABLES: Explanation = Explanation {
     summary: "no stream '#~'",
     section: Some("II.24.2.2"),
     demand: "One stream header has the name '#~', that of the tables.",

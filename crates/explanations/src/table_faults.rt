@@ -1,7 +1,7 @@
 //! Demands on the table stream.
 use crate::explained::Explanation;
 
-pub(crate) const TABLES_HEADER: Explanation = Explanation {
+pub(crate) static TABLES_HEADER: Explanation = Explanation {
     summary: "a table stream of fewer than 24 bytes",
     section: Some("II.24.2.6"),
     demand: "The table stream has at least the 24 bytes of its header.",
@@ -9,7 +9,7 @@ pub(crate) const TABLES_HEADER: Explanation = Explanation {
     cause: Some("A size in the stream's header that is wrong."),
 };
 
-pub(crate) const TABLES_VERSION: Explanation = Explanation {
+pub(crate) static TABLES_VERSION: Explanation = Explanation {
     summary: "a table stream of another version than 2.0",
     section: Some("II.24.2.6"),
     demand: "MajorVersion is 2 and MinorVersion 0.",
@@ -17,7 +17,7 @@ pub(crate) const TABLES_VERSION: Explanation = Explanation {
     cause: Some("A compiler of .NET Framework 1.0 or 1.1, which writes version 1.0 or 1.1."),
 };
 
-pub(crate) const HEAP_SIZES: Explanation = Explanation {
+pub(crate) static HEAP_SIZES: Explanation = Explanation {
     summary: "HeapSizes has bits that the standard does not know",
     section: Some("II.24.2.6"),
     demand: "HeapSizes has no bits but 1, 2 and 4, for wide indexes into '#Strings', '#GUID' and \
@@ -29,7 +29,7 @@ pub(crate) const HEAP_SIZES: Explanation = Explanation {
     ),
 };
 
-pub(crate) const UNKNOWN_TABLE: Explanation = Explanation {
+pub(crate) static UNKNOWN_TABLE: Explanation = Explanation {
     summary: "Valid names a table that the standard does not have",
     section: Some("II.24.2.6"),
     demand: "Valid has the bits of the standard's 38 tables and no other.",
@@ -40,7 +40,7 @@ pub(crate) const UNKNOWN_TABLE: Explanation = Explanation {
     ),
 };
 
-pub(crate) const ROW_COUNTS: Explanation = Explanation {
+pub(crate) static ROW_COUNTS: Explanation = Explanation {
     summary: "row counts that end past the table stream",
     section: Some("II.24.2.6"),
     demand: "Behind the header stand four bytes of row count for each bit of Valid, within the stream.",
@@ -48,7 +48,7 @@ pub(crate) const ROW_COUNTS: Explanation = Explanation {
     cause: Some("A stream that was cut short."),
 };
 
-pub(crate) const ROW_COUNT: Explanation = Explanation {
+pub(crate) static ROW_COUNT: Explanation = Explanation {
     summary: "a table of more than 0xFFFFFF rows",
     section: Some("II.22"),
     demand: "No table has more rows than the 24 bits of a token can name.",
@@ -56,7 +56,7 @@ pub(crate) const ROW_COUNT: Explanation = Explanation {
     cause: Some("Counts that are read at a wrong place or were overwritten."),
 };
 
-pub(crate) const TABLES_SHORT: Explanation = Explanation {
+pub(crate) static TABLES_SHORT: Explanation = Explanation {
     summary: "tables that end past their stream",
     section: Some("II.24.2.6"),
     demand: "The rows of all tables, at the widths that HeapSizes and the row counts give, end within \
