@@ -1,5 +1,6 @@
-use crate::stop::{Run, Stop, kept};
+use crate::errors::not_loaded;
 use loading::{LoadError, ToModel, load_image, load_root};
+use one_refusal::{Run, Stop, kept};
 use opening::open_root;
 use owned_model::{Cell, Model, TableId, Tables};
 use sample_roots::{ONE_MODULE, image};
@@ -9,7 +10,7 @@ use sample_tables::copy_cell;
 fn of_root(run: &Run, root: &[u8]) -> Result<Model, Stop> {
     match load_root(run.alloc, root) {
         Err(LoadError::Memory) => run.again(load_root(run.alloc, root)),
-        answer => Ok(answer?),
+        answer => answer.map_err(not_loaded),
     }
 }
 
@@ -17,7 +18,7 @@ fn of_root(run: &Run, root: &[u8]) -> Result<Model, Stop> {
 fn of_file(run: &Run, file: &[u8]) -> Result<Model, Stop> {
     let (_, model) = match load_image(run.alloc, file) {
         Err(LoadError::Memory) => run.again(load_image(run.alloc, file))?,
-        answer => answer?,
+        answer => answer.map_err(not_loaded)?,
     };
     Ok(model)
 }

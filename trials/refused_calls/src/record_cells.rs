@@ -1,4 +1,3 @@
-use crate::stop::{Run, Stop, kept};
 use assembly_records::{
     Assembly, AssemblyOS, AssemblyProcessor, AssemblyRef, AssemblyRefOS, AssemblyRefProcessor,
     ClassLayout, Constant, CustomAttribute, DeclSecurity, Event, EventMap, ExportedType, Field,
@@ -7,6 +6,7 @@ use assembly_records::{
     Module, ModuleRef, NestedClass, Param, Property, PropertyMap, Record, StandAloneSig, TypeDef,
     TypeRef, TypeSpec,
 };
+use one_refusal::{Run, Stop, kept};
 use owned_model::{Bytes, Cell, TableId, Text, Token};
 use schema::{ColumnKind, SigKind, columns};
 use signatures::decode;

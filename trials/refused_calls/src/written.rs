@@ -1,13 +1,12 @@
-use crate::stop::{Run, Stop, kept};
+use crate::errors::{not_loaded, not_written};
 use loading::{LoadError, load_root};
+use one_refusal::{Run, Stop, kept};
 use opening::open_root;
 use owned_model::Model;
 use std::io;
 use std::io::Write;
 use view_writer::prepare_view;
-use writer::{
-    Counted, Prepared, Sink, WriteError, prepare, write_root, write_root_to,
-};
+use writer::{Counted, Prepared, Sink, WriteError, prepare, write_root, write_root_to};
 
 /// Bytes in place, of which each call takes a few, so that no memory is needed.
 #[derive(Drop)]
@@ -53,7 +52,7 @@ impl Write for Buffer {
 fn loaded(run: &Run, root: &[u8]) -> Result<Model, Stop> {
     match load_root(run.alloc, root) {
         Err(LoadError::Memory) => run.again(load_root(run.alloc, root)),
-        answer => Ok(answer?),
+        answer => answer.map_err(not_loaded),
     }
 }
 
@@ -67,7 +66,7 @@ fn prepared(run: &Run, model: &Model, twin: &Model) -> Result<Prepared, Stop> {
             )?;
             run.again(prepare(run.alloc, model, 200))
         }
-        answer => Ok(answer?),
+        answer => answer.map_err(not_written),
     }
 }
 
@@ -78,7 +77,7 @@ fn prepared_in_place(run: &Run, root: &[u8]) -> Result<Prepared, Stop> {
     };
     match prepare_view(run.alloc, &view, 200) {
         Err(WriteError::Memory) => run.again(prepare_view(run.alloc, &view, 200)),
-        answer => Ok(answer?),
+        answer => answer.map_err(not_written),
     }
 }
 
@@ -89,7 +88,7 @@ fn written(run: &Run, model: &Model, twin: &Model) -> Result<Vec<u8>, Stop> {
             kept(model == twin, "a root that is not written leaves the model")?;
             run.again(write_root(run.alloc, model))
         }
-        answer => Ok(answer?),
+        answer => answer.map_err(not_written),
     }
 }
 
@@ -111,7 +110,7 @@ fn given_out(run: &Run, model: &Model) -> Result<Buffer, Stop> {
             sink = Counted::new(buffer);
             run.again(write_root_to(run.alloc, model, &mut sink))?;
         }
-        answer => answer?,
+        answer => answer.map_err(not_written)?,
     }
     Ok(sink.into_inner())
 }

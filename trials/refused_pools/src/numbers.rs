@@ -1,6 +1,4 @@
-ghost use Rattle.std.specs.Prelude.{◌<◌, ◌^◌, pos, neg_ℤ, ◌≤ℤ◌, ◌<ℤ◌};
-
-use crate::stop::{Run, Stop, kept};
+use one_refusal::{Run, Stop, kept};
 use packed::{put_signed, put_unsigned};
 
 /// What the spellings of the numbers below are, one after another.
@@ -10,9 +8,7 @@ const SPELLED: [u8; 18] = [
 ];
 
 /// Puts a number, again where memory was refused.
-fn unsigned(run: &Run, bytes: &mut Vec<u8>, number: u32) -> Result<(), Stop>
-    requires { number < 2 ^ 29 }
-{
+fn unsigned(run: &Run, bytes: &mut Vec<u8>, number: u32) -> Result<(), Stop> {
     let len = bytes.len();
     if put_unsigned(bytes, number).is_ok() {
         return Ok(());
@@ -22,10 +18,7 @@ fn unsigned(run: &Run, bytes: &mut Vec<u8>, number: u32) -> Result<(), Stop>
 }
 
 /// Puts a signed number, again where memory was refused.
-fn signed(run: &Run, bytes: &mut Vec<u8>, number: i32) -> Result<(), Stop>
-    requires low { neg_ℤ (pos (2 ^ 28)) ≤ℤ number }
-    requires high { number <ℤ pos (2 ^ 28) }
-{
+fn signed(run: &Run, bytes: &mut Vec<u8>, number: i32) -> Result<(), Stop> {
     let len = bytes.len();
     if put_signed(bytes, number).is_ok() {
         return Ok(());
@@ -34,8 +27,8 @@ fn signed(run: &Run, bytes: &mut Vec<u8>, number: i32) -> Result<(), Stop>
     run.again(put_signed(bytes, number))
 }
 
-/// The spellings of some numbers, each put again where memory was refused.
-pub fn spelled(run: &Run) -> Result<Vec<u8>, Stop> {
+/// That the spellings of some numbers are those, each put again where memory was refused.
+pub fn spelled(run: &Run) -> Result<(), Stop> {
     let mut bytes = Vec::new(run.alloc);
     unsigned(run, &mut bytes, 5)?;
     unsigned(run, &mut bytes, 0x80)?;
@@ -49,6 +42,5 @@ pub fn spelled(run: &Run) -> Result<Vec<u8>, Stop> {
     kept(
         bytes.as_slice() == SPELLED.as_slice(),
         "the spellings are those",
-    )?;
-    Ok(bytes)
+    )
 }

@@ -1,5 +1,5 @@
 use crate::signature_blobs::{BAD, LONGER, SHORTENED, SPELLED, SignatureBlob};
-use crate::stop::{Run, Stop, kept};
+use one_refusal::{Run, Stop, kept};
 use signatures::{SigError, Signature, decode, encode, recognise, recognise_first_bad};
 
 /// The signature of a blob, decoded again where memory was refused.
@@ -49,13 +49,8 @@ fn recognised(blob: SignatureBlob, bytes: &[u8]) -> Result<(), Stop> {
     )
 }
 
-/// Appends the spelling of a copy of the signature of a blob, which has to be the shortest one.
-fn spelled(
-    spellings: &mut Vec<u8>,
-    run: &Run,
-    blob: SignatureBlob,
-    short: &[u8],
-) -> Result<(), Stop> {
+/// That the spelling of a copy of the signature of a blob is the shortest one.
+fn spelled(run: &Run, blob: SignatureBlob, short: &[u8]) -> Result<(), Stop> {
     let bytes = Vec::from_slice(run.alloc, blob.bytes)?;
     let signature = decoded(run, blob, &bytes)?;
     recognised(blob, &bytes)?;
@@ -63,19 +58,15 @@ fn spelled(
     kept(signature == twin, "what is decoded twice is equal")?;
     let copy = copied(run, &signature, &twin)?;
     let spelling = encoded(run, &copy, &twin)?;
-    kept(spelling.as_slice() == short, "the spelling is the shortest")?;
-    spellings.extend_from_slice(&spelling)?;
-    Ok(())
+    kept(spelling.as_slice() == short, "the spelling is the shortest")
 }
 
-/// The spellings of signatures, each decoded, copied and encoded again where memory was refused.
-pub fn spellings(run: &Run) -> Result<Vec<u8>, Stop> {
-    let mut spellings = Vec::new(run.alloc);
+/// That signatures are spelled as they were, each decoded, copied and encoded again where memory was refused.
+pub fn all_spelled(run: &Run) -> Result<(), Stop> {
     for blob in SPELLED {
-        spelled(&mut spellings, run, blob, blob.bytes)?;
+        spelled(run, blob, blob.bytes)?;
     }
-    spelled(&mut spellings, run, LONGER, &SHORTENED)?;
-    Ok(spellings)
+    spelled(run, LONGER, &SHORTENED)
 }
 
 /// That a blob which spells nothing is bad, whatever memory is refused.
@@ -103,10 +94,12 @@ fn deep_are_bad(run: &Run) -> Result<(), Stop> {
     bad(run, SignatureBlob::of_type(&pointers))
 }
 
-/// That each blob which spells nothing is bad.
+/// That each blob which spells nothing is bad, and makes no allocation: one behind is the first of the section.
 pub fn all_bad(run: &Run) -> Result<(), Stop> {
     for blob in BAD {
         bad(run, blob)?;
     }
-    deep_are_bad(run)
+    deep_are_bad(run)?;
+    let _ = Vec::<u8>::with_capacity(run.alloc, 1)?;
+    Ok(())
 }

@@ -1,8 +1,6 @@
-use heaps::PoolError;
 use signatures::SigError;
 use std::alloc::{AllocError, AllocFailed, Global};
 use std::cell::Cell;
-use std::fmt;
 
 /// Why the program ends early.
 #[derive(Clone, Copy, Debug, PartialEq, Eq)]
@@ -22,35 +20,35 @@ pub fn kept(holds: bool, promise: &'static str) -> Result<(), Stop> {
     }
 }
 
-/// The memory of a run, and how many calls it made again.
+/// The memory of a run, and whether some was refused.
 #[derive(Drop)]
 pub struct Run {
     /// What allocates.
     pub alloc: Global,
-    retries: Cell<u32>,
+    refused: Cell<bool>,
 }
 
 impl Run {
-    /// A run that has made no call.
+    /// A run of which no memory was refused.
     pub fn new(alloc: Global) -> Run {
         Run {
             alloc,
-            retries: Cell::new(0),
+            refused: Cell::new(false),
         }
     }
 
     /// What a call answers that is made again. A run has one refusal, so this call has its memory.
     pub fn again<T: Drop, E: Drop>(&self, answer: Result<T, E>) -> Result<T, Stop> {
-        self.retries.set(self.retries.get().saturating_add(1));
+        self.refused.set(true);
         match answer {
             Ok(value) => Ok(value),
             Err(_) => Err(Stop::Broken("a refused call answers where it is made again")),
         }
     }
 
-    /// How many calls were made again.
-    pub fn retries(&self) -> u32 {
-        self.retries.get()
+    /// Whether memory was refused.
+    pub fn was_refused(&self) -> bool {
+        self.refused.get()
     }
 }
 
@@ -63,21 +61,6 @@ impl From<AllocError> for Stop {
 impl<T: Drop> From<AllocFailed<T>> for Stop {
     fn from(_: AllocFailed<T>) -> Stop {
         Stop::Memory
-    }
-}
-
-impl From<fmt::Error> for Stop {
-    fn from(_: fmt::Error) -> Stop {
-        Stop::Memory
-    }
-}
-
-impl From<PoolError> for Stop {
-    fn from(error: PoolError) -> Stop {
-        match error {
-            PoolError::Memory => Stop::Memory,
-            PoolError::Full => Stop::Broken("a small heap is not full"),
-        }
     }
 }
 

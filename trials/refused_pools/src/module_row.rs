@@ -1,6 +1,6 @@
-use crate::stop::{Run, Stop, kept};
+use one_refusal::{Run, Stop, kept};
 use rows::put_row;
-use schema::{Layout, TableId, widths_are_known};
+use schema::{Layout, TableId};
 
 /// The numbers of a row of Module (II.22.30): its name and its GUID are the first of their heaps.
 const MODULE: [u32; 5] = [0, 1, 1, 0, 0];
@@ -11,8 +11,7 @@ const BEHIND_A_BYTE: [u8; 11] = [
 ];
 
 /// A row of Module behind a byte, put again where memory was refused.
-pub fn module_behind_a_byte(run: &Run) -> Result<Vec<u8>, Stop> {
-    widths_are_known();
+pub fn module_behind_a_byte(run: &Run) -> Result<(), Stop> {
     let layout = Layout::of(&[1; 45], 0);
     let mut bytes = Vec::from_slice(run.alloc, &[0xFF])?;
     if put_row(&mut bytes, &layout, TableId::Module, &MODULE).is_err() {
@@ -25,6 +24,5 @@ pub fn module_behind_a_byte(run: &Run) -> Result<Vec<u8>, Stop> {
     kept(
         bytes.as_slice() == BEHIND_A_BYTE.as_slice(),
         "the bytes of the row are those",
-    )?;
-    Ok(bytes)
+    )
 }

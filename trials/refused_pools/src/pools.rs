@@ -1,0 +1,150 @@
+use heaps::{BlobPool, GuidPool, PoolError, TextPool, UserHeap, guid_text};
+use one_refusal::{Run, Stop, kept};
+
+/// The planned heap of the texts below: one that another ends with stands in it.
+const TEXTS: [u8; 11] = *b"\0Name\0Game\0";
+
+/// What stands before the 128 zeros of the long blob below.
+const BLOBS_BEFORE: [u8; 6] = [0x00, 0x02, 0xAA, 0xBB, 0x80, 0x80];
+
+/// What stands behind them.
+const BLOBS_BEHIND: [u8; 2] = [0x01, 0x01];
+
+/// The heap of the GUIDs below.
+const GUIDS: [u8; 32] = [
+    0, 0, 0, 0, 0, 0, 0, 0, 0, 0, 0, 0, 0, 0, 0, 0, 7, 7, 7, 7, 7, 7, 7, 7, 7, 7, 7, 7, 7, 7, 7, 7,
+];
+
+/// The filled heap of the user strings below.
+const USER_STRINGS: [u8; 16] = [
+    0x00, 0x05, 0x41, 0x00, 0x42, 0x00, 0x00, 0x03, 0x27, 0x00, 0x01, 0x01, 0x00, 0x00, 0x00, 0x00,
+];
+
+/// That the heap of planned texts is that, planned again where memory was refused.
+pub fn texts(run: &Run) -> Result<(), Stop> {
+    let texts = ["me", "Name", "Game", "ame"];
+    let pool = match TextPool::plan(run.alloc, &texts) {
+        Ok(pool) => pool,
+        Err(PoolError::Memory) => run.again(TextPool::plan(run.alloc, &texts))?,
+        Err(PoolError::Full) => return Err(Stop::Broken("a small heap is not full")),
+    };
+    let indexes = [
+        pool.add("me"),
+        pool.add("Name"),
+        pool.add("Game"),
+        pool.add("ame"),
+        pool.add(""),
+    ];
+    kept(indexes == [3, 1, 6, 2, 0], "the indexes of texts are those")?;
+    kept(
+        pool.bytes() == TEXTS.as_slice(),
+        "the heap of texts is that",
+    )
+}
+
+/// Adds a blob, again where memory was refused.
+fn add_blob(run: &Run, pool: &mut BlobPool, blob: &[u8]) -> Result<u32, Stop> {
+    let len = pool.bytes().len();
+    match pool.add(blob) {
+        Ok(index) => Ok(index),
+        Err(PoolError::Memory) => {
+            kept(pool.bytes().len() == len, "a refused blob is not pooled")?;
+            run.again(pool.add(blob))
+        }
+        Err(PoolError::Full) => Err(Stop::Broken("a small heap is not full")),
+    }
+}
+
+/// That the heap of pooled blobs is that, each added again where memory was refused.
+pub fn blobs(run: &Run) -> Result<(), Stop> {
+    let mut pool = BlobPool::new(run.alloc);
+    let long = [0u8; 128];
+    for (blob, index) in [
+        ([0xAA, 0xBB].as_slice(), 1),
+        ([].as_slice(), 0),
+        (long.as_slice(), 4),
+        ([0x01].as_slice(), 134),
+        ([0xAA, 0xBB].as_slice(), 1),
+    ] {
+        let first = add_blob(run, &mut pool, blob)?;
+        kept(first == index, "the index of a blob is that")?;
+        kept(pool.add(blob).is_ok(), "a pooled blob wants no memory")?;
+    }
+    let bytes = pool.bytes();
+    kept(
+        bytes.get(..6) == Some(BLOBS_BEFORE.as_slice())
+            && bytes.get(6..134) == Some(long.as_slice())
+            && bytes.get(134..) == Some(BLOBS_BEHIND.as_slice()),
+        "the heap of blobs is that",
+    )
+}
+
+/// Adds a GUID, again where memory was refused.
+fn add_guid(run: &Run, pool: &mut GuidPool, guid: Option<[u8; 16]>) -> Result<u32, Stop> {
+    let len = pool.bytes().len();
+    match pool.add(guid) {
+        Ok(index) => Ok(index),
+        Err(PoolError::Memory) => {
+            kept(pool.bytes().len() == len, "a refused GUID is not pooled")?;
+            run.again(pool.add(guid))
+        }
+        Err(PoolError::Full) => Err(Stop::Broken("a small heap is not full")),
+    }
+}
+
+/// That the heap of pooled GUIDs is that, each added again where memory was refused.
+pub fn guids(run: &Run) -> Result<(), Stop> {
+    let mut pool = GuidPool::new(run.alloc);
+    for (guid, index) in [
+        (None, 0),
+        (Some([0; 16]), 1),
+        (Some([7; 16]), 2),
+        (Some([0; 16]), 1),
+        (None, 0),
+    ] {
+        let first = add_guid(run, &mut pool, guid)?;
+        kept(first == index, "the index of a GUID is that")?;
+        kept(pool.add(guid).is_ok(), "a pooled GUID wants no memory")?;
+    }
+    kept(
+        pool.bytes() == GUIDS.as_slice(),
+        "the heap of GUIDs is that",
+    )
+}
+
+/// That the filled heap of pushed user strings is that, each pushed again where memory was refused.
+pub fn user_strings(run: &Run) -> Result<(), Stop> {
+    let mut heap = UserHeap::new(run.alloc);
+    for (units, offset) in [
+        ([0x41, 0x42].as_slice(), 1),
+        ([0x27].as_slice(), 7),
+        ([].as_slice(), 11),
+    ] {
+        let first = match heap.push(units) {
+            Ok(first) => first,
+            Err(_) => run.again(heap.push(units))?,
+        };
+        kept(first == offset, "the offset of a user string is that")?;
+    }
+    let bytes = match heap.padded() {
+        Ok(bytes) => bytes,
+        Err(heap) => run.again(heap.padded())?,
+    };
+    kept(
+        bytes.as_slice() == USER_STRINGS.as_slice(),
+        "the heap of user strings is that",
+    )
+}
+
+/// That the text of a GUID is that, made again where memory was refused.
+pub fn guid(run: &Run) -> Result<(), Stop> {
+    let guid = [0, 1, 2, 3, 4, 5, 6, 7, 8, 9, 10, 11, 12, 13, 14, 15];
+    let text = match guid_text(run.alloc, &guid) {
+        Ok(text) => text,
+        Err(_) => run.again(guid_text(run.alloc, &guid))?,
+    };
+    kept(
+        text.as_str() == "03020100-0504-0706-0809-0a0b0c0d0e0f",
+        "the text of a GUID is that",
+    )
+}
