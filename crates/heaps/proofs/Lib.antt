@@ -12,6 +12,7 @@ pub mod HeapLemmas
 pub mod HolderLemmas
 pub mod IndexLemmas
 pub mod MemberLemmas
+pub mod MergeLemmas
 pub mod NumberLemmas
 pub mod PlanLemmas
 pub mod PoolLemmas
