@@ -3,7 +3,6 @@ pub mod BlockLemmas
 pub mod DistinctLemmas
 pub mod EndingLemmas
 pub mod EntryLemmas
-pub mod FirstByteLemmas
 pub mod FirstLemmas
 pub mod FoundLemmas
 pub mod GrowLemmas
@@ -19,6 +18,5 @@ pub mod PoolLemmas
 pub mod RunLemmas
 pub mod TextLemmas
 pub mod UseLemmas
-pub mod UserHeapLemmas
 pub mod UserLemmas
 pub mod WholeLemmas

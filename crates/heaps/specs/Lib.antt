@@ -15,6 +15,5 @@ pub mod TextHeap
 pub mod TextPlan
 pub mod TextPoolView
 pub mod Units
-pub mod UserHeap
 pub mod UserView
 pub mod Uses

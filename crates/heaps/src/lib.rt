@@ -4,8 +4,8 @@
 //! memory. They answer it exactly where something stands there, else the [`HeapFault`] that says what is missing; a
 //! heap that is absent is no bytes. [`Strings`] checks an index in constant time, after one look at a heap that is
 //! UTF-8. [`TextPool`], [`BlobPool`] and [`GuidPool`] make the heaps that are written: each value once, in order of
-//! first use, and texts that others end with inside these. [`UserHeap`] has each string that is pushed. `laws.rt` says
-//! that what is pooled is read back, and stays where it is as its pool grows.
+//! first use, and texts that others end with inside these. `laws.rt` says that what is pooled is read back, and stays
+//! where it is as its pool grows.
 //!
 //! ```text
 //! text(b"\0a.dll\0", 1) == Ok("a.dll")
@@ -26,12 +26,12 @@ mod pool_error;
 mod strings;
 mod text_plan;
 mod text_pool;
-mod user_heap;
 mod user_strings;
 
 pub use blob_pool::BlobPool;
 pub use blobs::blob;
 pub use fault::HeapFault;
+pub use first_byte::begin;
 pub use guid_format::guid_text;
 pub use guid_pool::GuidPool;
 pub use guids::guid;
@@ -40,8 +40,7 @@ pub use laws::{
     pooled_guid_is_found, pushed_string_is_found, used_text_is_found,
 };
 pub use packed::{Fault, FaultCode};
-pub use pool_error::PoolError;
+pub use pool_error::{HEAP_LIMIT, PoolError};
 pub use strings::{Strings, text};
 pub use text_pool::TextPool;
-pub use user_heap::UserHeap;
 pub use user_strings::{Units, UserString, user_string};

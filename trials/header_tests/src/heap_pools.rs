@@ -1,7 +1,8 @@
 use crate::GUIDS;
 use heap_tests::{pool_of_blobs, pool_of_guids};
-use heaps::{BlobPool, GuidPool, TextPool, UserHeap, user_string};
+use heaps::{BlobPool, GuidPool, TextPool, user_string};
 use std::test::Fail;
+use user_heap::UserHeap;
 
 #[test]
 fn plans_texts(rt: HostRuntime) -> Result<(), Fail> {

@@ -2,8 +2,8 @@ use Rattle.std.proofs.Common.{◌≡◌, ◌++◌, ◌∷◌, [], List, ℕ, len
 use Rattle.packed.specs.Packed.{short_unsigned}
 use Rattle.heaps.specs.FirstByte.{begun}
 use Rattle.heaps.specs.Units.{unit_bytes, last_byte, user_length, user_entry}
-use Rattle.heaps.proofs.FirstByteLemmas.{take_shorter, on_err}
-use Rattle.heaps.proofs.user_heap.write_user_string.Goals as goal
+use Rattle.user_heap.proofs.FirstByteLemmas.{take_shorter, on_err}
+use Rattle.user_heap.proofs.user_heap.write_user_string.Goals as goal
 
 pub returns-in_err-put_units-clause-err : goal.returns-in_err-put_units-clause-err
 returns-in_err-put_units-clause-err c =

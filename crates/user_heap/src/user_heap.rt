@@ -1,11 +1,11 @@
 ghost use Rattle.std.specs.Prelude.{◌≡◌, ◌≤◌, ◌<◌, ◌+◌, ◌^◌, ◌++◌, ◌∷◌, ◌↔◌, [], Err, length, vec_len, take, flat_map, IfOk, IfErr, OnOk, OnErr, IsTrue, if◌then◌else◌};
 ghost use Rattle.std.specs.List.{list_any};
+ghost use Rattle.heaps.specs.declared.pool_error.PoolError.TheVariants.{Full};
 ghost use Rattle.heaps.specs.Fill.{filled};
 ghost use Rattle.heaps.specs.FirstByte.{begun};
 ghost use Rattle.heaps.specs.Units.{is_special, last_byte, unit_bytes, user_entry, user_length};
 
-use crate::first_byte::begin;
-use crate::pool_error::{HEAP_LIMIT, PoolError};
+use heaps::{HEAP_LIMIT, PoolError, begin};
 use packed::{put_unsigned, unsigned_len};
 use std::alloc::{AllocError, Global};
 use std::marker::Model;
@@ -26,7 +26,7 @@ impl Model for UserHeap {
 
     ghost Value = { List ℕ };
 
-    ghost use Rattle.heaps.specs.UserHeap.{user_heap_of, IsUserHeap};
+    ghost use Rattle.user_heap.specs.UserHeap.{user_heap_of, IsUserHeap};
 
     ghost view = { user_heap_of };
 
@@ -94,7 +94,7 @@ fn append_user_string(bytes: &mut Vec<u8>, units: &[u16]) -> Result<(), AllocErr
 }
 
 impl UserHeap {
-    ghost use Rattle.heaps.specs.UserHeap.{IsPastLimit};
+    ghost use Rattle.user_heap.specs.UserHeap.{IsPastLimit};
 
     /// A heap without user strings, which takes no memory.
     pub fn new(alloc: Global) -> UserHeap

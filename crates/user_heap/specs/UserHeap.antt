@@ -1,6 +1,6 @@
 -- The heap of user strings that is written (ECMA-335 II.24.2.4).
 use Rattle.std.specs.Prelude.{◌<◌, ◌≤◌, ◌^◌, ◌⊎◌, ℕ, List, ◌++◌, length}
-use Rattle.heaps.specs.declared.user_heap.UserHeap.TheInside.{Inside}
+use Rattle.user_heap.specs.declared.user_heap.UserHeap.TheInside.{Inside}
 use Rattle.heaps.specs.FirstByte.{begun}
 use Rattle.heaps.specs.Units.{user_length, user_entry}
 

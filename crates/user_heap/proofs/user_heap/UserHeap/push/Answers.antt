@@ -1,9 +1,9 @@
 use Rattle.std.proofs.Common.{◌++◌, List, ℕ, length, inl, inr, refl, ap, ◌∙◌, arith}
 use Rattle.std.proofs.lemmas.Result.{err_from_is_err_and}
 use Rattle.heaps.specs.Units.{user_entry}
-use Rattle.heaps.proofs.BlobLemmas.{length-begun}
-use Rattle.heaps.proofs.UserHeapLemmas.{pushed_lengths}
-use Rattle.heaps.proofs.user_heap.UserHeap.push.Goals as goal
+use Rattle.user_heap.proofs.FirstByteLemmas.{length-begun}
+use Rattle.user_heap.proofs.HeapLemmas.{pushed_lengths}
+use Rattle.user_heap.proofs.user_heap.UserHeap.push.Goals as goal
 
 pub returns-then-start-unsigned_len-clause-full : goal.returns-then-start-unsigned_len-clause-full
 returns-then-start-unsigned_len-clause-full c =

@@ -1,7 +1,7 @@
 use Rattle.std.proofs.Common.{◌≡◌, ◌-◌, ◌++◌, List, ℕ, length, replicate, ap, ◌∙◌, arith}
 use Rattle.heaps.specs.Fill.{filled}
-use Rattle.heaps.proofs.UserHeapLemmas.{take_zeros, filled_is}
-use Rattle.heaps.proofs.user_heap.UserHeap.padded.Goals as goal
+use Rattle.user_heap.proofs.HeapLemmas.{take_zeros, filled_is}
+use Rattle.user_heap.proofs.user_heap.UserHeap.padded.Goals as goal
 
 pub returns-in-Ok-clause-ok : goal.returns-in-Ok-clause-ok
 returns-in-Ok-clause-ok c =

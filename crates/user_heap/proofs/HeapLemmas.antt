@@ -1,16 +1,19 @@
 -- The heap of user strings, its lengths and its fill.
-use Rattle.std.proofs.Common.{◌≡◌, ℕ, zero, suc, ◌+◌, ◌-◌, ◌%◌, ◌<◌, ◌≤◌, max, List, [], ◌∷◌, ◌++◌, length, take, flat_map, replicate, refl, ap, arith, length-append}
+use Rattle.std.proofs.Common.{◌≡◌, ℕ, zero, suc, ◌+◌, ◌-◌, ◌%◌, ◌*◌, ◌<◌, ◌≤◌, max, List, [], ◌∷◌, ◌++◌, length, take, flat_map, replicate, refl, ap, arith, length-append}
 use Rattle.packed.specs.Packed.{short_unsigned}
 use Rattle.heaps.specs.Fill.{filled}
 use Rattle.heaps.specs.FirstByte.{begun}
 use Rattle.heaps.specs.Units.{unit_bytes, last_byte, user_length, user_entry}
-use Rattle.heaps.proofs.BlobLemmas.{length-begun}
-use Rattle.heaps.proofs.UserLemmas.{length-user}
+use Rattle.user_heap.proofs.FirstByteLemmas.{length-begun}
+
+length-units : (units : List ℕ) (last : ℕ) → length (flat_map unit_bytes units ++ last ∷ []) ≡ 2 * length units + 1
+length-units [] last = refl
+length-units (unit ∷ units) last = omega (arith, length-units units last)
 
 pub length-user_entry : (units : List ℕ) → length (user_entry units) ≡ length (short_unsigned (user_length units)) + user_length units
 unfolding user_entry
 length-user_entry units =
-    omega (arith, length-append (short_unsigned (user_length units)) (flat_map unit_bytes units ++ last_byte units ∷ []), length-user units (last_byte units))
+    omega (arith, length-append (short_unsigned (user_length units)) (flat_map unit_bytes units ++ last_byte units ∷ []), length-units units (last_byte units))
 
 -- where a user string begins, and how long the heap is with it
 pub pushed_lengths : (bytes heap units : List ℕ) (len start used : ℕ) → len ≡ length bytes → start ≡ max len 1 → begun bytes ≡ heap → used ≡ length (short_unsigned (user_length units))

@@ -1,7 +1,11 @@
 -- The first byte of a heap, and what is appended behind it.
-use Rattle.std.proofs.Common.{◌≡◌, ◌≤◌, ℕ, List, [], ◌∷◌, ◌++◌, length, take, Result, Ok, Err, OnErr, refl, sym, ap, ◌∙◌, arith, length-append}
+use Rattle.std.proofs.Common.{◌≡◌, ◌≤◌, ℕ, max, List, [], ◌∷◌, ◌++◌, length, take, Result, Ok, Err, OnErr, refl, sym, ap, ◌∙◌, arith, length-append}
 use Rattle.std.proofs.lemmas.List.{take_at, take_all, take-take}
 use Rattle.heaps.specs.FirstByte.{begun}
+
+pub length-begun : (heap : List ℕ) → length (begun heap) ≡ max (length heap) 1
+length-begun [] = refl
+length-begun (byte ∷ bytes) = omega arith
 
 begun-longer : (heap : List ℕ) → length heap ≤ length (begun heap)
 begun-longer [] = omega arith

@@ -1,0 +1,2 @@
+pub mod FirstByteLemmas
+pub mod HeapLemmas
