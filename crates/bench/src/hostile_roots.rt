@@ -1,7 +1,7 @@
 //! Roots that strangers could make to keep a reader busy, and how long they take to open for each byte.
 use anyhow::Result;
 use opening::{TableId, open_root};
-use std::alloc::Global;
+use std::alloc::{AllocError, Global};
 use std::time::Instant;
 
 /// The root up to the headers of its streams, of which there are three.
@@ -19,7 +19,7 @@ fn length_of(bytes: &[u8]) -> u32 {
 }
 
 /// Puts the header of a stream, whose name is filled, and answers where the next one stands.
-fn put_header(root: &mut Vec<u8>, at: u32, stream: &[u8], name: &[u8]) -> Result<u32> {
+fn put_header(root: &mut Vec<u8>, at: u32, stream: &[u8], name: &[u8]) -> Result<u32, AllocError> {
     root.extend_from_slice(&at.to_le_bytes())?;
     root.extend_from_slice(&length_of(stream).to_le_bytes())?;
     root.extend_from_slice(name)?;
@@ -27,7 +27,12 @@ fn put_header(root: &mut Vec<u8>, at: u32, stream: &[u8], name: &[u8]) -> Result
 }
 
 /// The root of a table stream, texts and blobs.
-fn root_of(alloc: Global, tables: &[u8], texts: &[u8], blobs: &[u8]) -> Result<Vec<u8>> {
+fn root_of(
+    alloc: Global,
+    tables: &[u8],
+    texts: &[u8],
+    blobs: &[u8],
+) -> Result<Vec<u8>, AllocError> {
     let mut root = Vec::new(alloc);
     root.extend_from_slice(ROOT)?;
     let at = put_header(&mut root, FIRST, tables, b"#~\0\0")?;
@@ -40,7 +45,7 @@ fn root_of(alloc: Global, tables: &[u8], texts: &[u8], blobs: &[u8]) -> Result<V
 }
 
 /// A table stream of one table with so many rows, up to them.
-fn table_of(alloc: Global, table: TableId, count: u32) -> Result<Vec<u8>> {
+fn table_of(alloc: Global, table: TableId, count: u32) -> Result<Vec<u8>, AllocError> {
     let mut tables = Vec::new(alloc);
     tables.extend_from_slice(TABLES)?;
     tables.extend_from_slice(&(1u64 << (table.number() % 64)).to_le_bytes())?;
@@ -50,13 +55,13 @@ fn table_of(alloc: Global, table: TableId, count: u32) -> Result<Vec<u8>> {
 }
 
 /// A packed number of four bytes (II.23.2).
-fn put_packed(bytes: &mut Vec<u8>, number: u32) -> Result<()> {
+fn put_packed(bytes: &mut Vec<u8>, number: u32) -> Result<(), AllocError> {
     bytes.extend_from_slice(&(0xC000_0000 | number & 0x1FFF_FFFF).to_be_bytes())?;
     Ok(())
 }
 
 /// A blob that spells so many local variables.
-fn put_locals(blobs: &mut Vec<u8>, count: u32) -> Result<()> {
+fn put_locals(blobs: &mut Vec<u8>, count: u32) -> Result<(), AllocError> {
     put_packed(blobs, count.wrapping_add(5))?;
     blobs.push(0x07)?;
     put_packed(blobs, count)?;
@@ -67,7 +72,7 @@ fn put_locals(blobs: &mut Vec<u8>, count: u32) -> Result<()> {
 }
 
 /// Rows that name two long signatures in turn.
-fn two_signatures(alloc: Global, size: u32) -> Result<Vec<u8>> {
+fn two_signatures(alloc: Global, size: u32) -> Result<Vec<u8>, AllocError> {
     let mut tables = table_of(alloc, TableId::StandAloneSig, size)?;
     let mut blobs = vec![in alloc; 0u8; 1]?;
     put_locals(&mut blobs, size)?;
@@ -82,7 +87,7 @@ fn two_signatures(alloc: Global, size: u32) -> Result<Vec<u8>> {
 
 /// Blobs that begin at the indexes of modifiers inside one another: each index is a blob's length too, and
 /// names a row.
-fn overlapping_blobs(alloc: Global, size: u32) -> Result<Vec<u8>> {
+fn overlapping_blobs(alloc: Global, size: u32) -> Result<Vec<u8>, AllocError> {
     let mut tables = table_of(alloc, TableId::TypeSpec, size.wrapping_mul(2))?;
     let mut blobs = vec![in alloc; 0u8; 1]?;
     for behind in (0..size).rev() {
@@ -100,7 +105,7 @@ fn overlapping_blobs(alloc: Global, size: u32) -> Result<Vec<u8>> {
 }
 
 /// Type references without a scope, whose names are the endings of one text.
-fn endings(alloc: Global, size: u32, behind: &[u8]) -> Result<Vec<u8>> {
+fn endings(alloc: Global, size: u32, behind: &[u8]) -> Result<Vec<u8>, AllocError> {
     let mut tables = table_of(alloc, TableId::TypeRef, size)?;
     let mut texts = vec![in alloc; 0u8; 1]?;
     for row in 0..size {
@@ -114,7 +119,7 @@ fn endings(alloc: Global, size: u32, behind: &[u8]) -> Result<Vec<u8>> {
 }
 
 /// Types none of which tells where its members begin.
-fn null_starts(alloc: Global, size: u32) -> Result<Vec<u8>> {
+fn null_starts(alloc: Global, size: u32) -> Result<Vec<u8>, AllocError> {
     let mut tables = table_of(alloc, TableId::TypeDef, size)?;
     for _ in 0..size {
         tables.extend_from_slice(&[0; 18])?;

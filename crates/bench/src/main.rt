@@ -15,7 +15,7 @@ use crate::rows_opened::report_rows;
 use crate::signatures_read::report_signatures;
 use anyhow::Result;
 use heaps::TextPool;
-use std::alloc::Global;
+use std::alloc::{AllocError, Global};
 use std::env;
 use std::time::Instant;
 
@@ -101,7 +101,7 @@ pub(crate) fn next(seed: &mut u64) -> u64 {
 const LETTERS: &[u8; 32] = b"abcdefghijklmnopqrstuvwxyzABCDEF";
 
 /// A text of letters, of which the mask leaves the first few.
-fn random_text(alloc: Global, seed: &mut u64, len: usize, mask: u64) -> Result<String> {
+fn random_text(alloc: Global, seed: &mut u64, len: usize, mask: u64) -> Result<String, AllocError> {
     let mut text = String::new(alloc);
     for _ in 0..len {
         let letter = (next(seed) & mask & 31) as usize;
@@ -110,7 +110,12 @@ fn random_text(alloc: Global, seed: &mut u64, len: usize, mask: u64) -> Result<S
     Ok(text)
 }
 
-fn random_texts(alloc: Global, count: usize, len: usize, mask: u64) -> Result<Vec<String>> {
+fn random_texts(
+    alloc: Global,
+    count: usize,
+    len: usize,
+    mask: u64,
+) -> Result<Vec<String>, AllocError> {
     let mut seed = 1u64;
     let mut texts = Vec::new(alloc);
     for _ in 0..count {

@@ -1,7 +1,7 @@
 //! Roots of many rows, and how long they take to open.
 use anyhow::Result;
 use opening::open_root;
-use std::alloc::Global;
+use std::alloc::{AllocError, Global};
 use std::time::Instant;
 
 /// The root up to the size of its table stream, which stands at 64.
@@ -14,7 +14,7 @@ const TEXTS: &[u8] = b"#~\0\0\x38\0\0\0\x08\0\0\0#Strings\0\0\0\0\0abcdef\0";
 const TABLES: &[u8] = b"\0\0\0\0\x02\0\0\x01\x02\0\0\0\0\0\0\0\0\xFA\x01\x33\0\x16\0\0";
 
 /// A root of so many rows of TypeRef, each without a scope and with a name (II.22.38).
-fn root_of(alloc: Global, count: u32) -> Result<Vec<u8>> {
+fn root_of(alloc: Global, count: u32) -> Result<Vec<u8>, AllocError> {
     let scope: &[u8] = if count < 0x4000 { b"\0\0" } else { b"\0\0\0\0" };
     let width = if count < 0x4000 { 6 } else { 8 };
     let size = count.wrapping_mul(width).wrapping_add(28);

@@ -2,7 +2,7 @@
 use crate::next;
 use anyhow::Result;
 use recogniser::{SigKind, recognise};
-use std::alloc::Global;
+use std::alloc::{AllocError, Global};
 use std::time::Instant;
 
 /// A signature, and what it is of.
@@ -13,7 +13,7 @@ struct Spelled {
 }
 
 /// A type: simple, a class or a value type, a vector or a generic instance.
-fn put_type(bytes: &mut Vec<u8>, seed: &mut u64) -> Result<()> {
+fn put_type(bytes: &mut Vec<u8>, seed: &mut u64) -> Result<(), AllocError> {
     let index = (next(seed) % 16) as u8 * 4;
     match next(seed) % 8 {
         0 | 1 => bytes.push(0x0E)?,
@@ -27,7 +27,7 @@ fn put_type(bytes: &mut Vec<u8>, seed: &mut u64) -> Result<()> {
 }
 
 /// Types, one after the other.
-fn put_types(bytes: &mut Vec<u8>, seed: &mut u64, count: u8) -> Result<()> {
+fn put_types(bytes: &mut Vec<u8>, seed: &mut u64, count: u8) -> Result<(), AllocError> {
     for _ in 0..count {
         put_type(bytes, seed)?;
     }
@@ -35,7 +35,7 @@ fn put_types(bytes: &mut Vec<u8>, seed: &mut u64, count: u8) -> Result<()> {
 }
 
 /// A field, a method of this or another module, a property or some locals.
-fn random_signature(alloc: Global, seed: &mut u64) -> Result<Spelled> {
+fn random_signature(alloc: Global, seed: &mut u64) -> Result<Spelled, AllocError> {
     let mut bytes = Vec::new(alloc);
     let count = (next(seed) % 6) as u8;
     let (kind, first, counted, types) = match next(seed) % 8 {
@@ -53,7 +53,7 @@ fn random_signature(alloc: Global, seed: &mut u64) -> Result<Spelled> {
     Ok(Spelled { bytes, kind })
 }
 
-fn random_signatures(alloc: Global, count: usize) -> Result<Vec<Spelled>> {
+fn random_signatures(alloc: Global, count: usize) -> Result<Vec<Spelled>, AllocError> {
     let mut seed = 3u64;
     let mut signatures = Vec::new(alloc);
     for _ in 0..count {

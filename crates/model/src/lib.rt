@@ -69,7 +69,7 @@ pub use signature_text::{NamedText, TextSink, TokenNames, write_signature};
 pub use signatures::{
     Core, Element, FieldSig, InstanceSig, Local, LocalsSig, MethodSig, Modifier, Prefix,
     PropertySig, Ret, Shape, SigBody, SigError, SigKind, Signature, Slot, SlotKind, TypeSig,
-    decode, encode, recognise,
+    decode, encode, recognise, shortest_spelling,
 };
 
 // Rows as records.

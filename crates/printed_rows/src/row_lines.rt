@@ -10,7 +10,7 @@ use crate::shown::{Hex, Shown};
 use heaps::guid_text;
 use opening::{CellRef, TableId, View};
 use schema::{ColumnKind, SigKind, cell_count, column_of_cell, columns};
-use signatures::{SigError, decode, encode};
+use signatures::{SigError, shortest_spelling};
 use std::alloc::{AllocError, Global};
 use std::io;
 use std::io::Write;
@@ -28,8 +28,8 @@ fn shortest(alloc: Global, kind: SigKind, blob: &[u8]) -> Result<Vec<u8>, AllocE
     requires { ¬ (¬ ((signature : Body) × Spells kind signature blob.now)) }
     ensures { IfOk result (λ bytes. (signature : Body) → Spells kind signature blob.now → bytes.items ≡ short signature) }
 {
-    match decode(alloc, blob, kind) {
-        Ok(signature) => encode(alloc, &signature),
+    match shortest_spelling(alloc, blob, kind) {
+        Ok(spelling) => Ok(spelling),
         Err(SigError::Memory) => Err(AllocError),
         Err(SigError::Bad) => unreachable!(),
     }

@@ -1,4 +1,4 @@
-ghost use Rattle.std.specs.Prelude.{◌≡◌, ◌↔◌, IsTrue, IfOk, IsOk, IsErrOf, MatchResult};
+ghost use Rattle.std.specs.Prelude.{◌≡◌, ◌↔◌, ◌<◌, ◌^◌, IsTrue, IfOk, IsOk, IsErrOf, MatchResult, length};
 ghost use Rattle.std.specs.Cmp.{partial_equiv_from_equiv};
 ghost use Rattle.signature_values.specs.Syntax.{Body};
 ghost use Rattle.signature_values.specs.Views.{body_of};
@@ -141,4 +141,21 @@ pub fn decode(alloc: Global, bytes: &[u8], kind: SigKind) -> Result<Signature, S
     spelled_is_spellable();
     let body = decode_body(alloc, bytes, kind)?;
     Ok(Signature { body })
+}
+
+/// The shortest spelling of the signature that bytes, all of them, spell in a column of a kind (II.23.2).
+///
+/// # Errors
+///
+/// `Bad` as [`decode`] has it; `Memory` only where the bytes spell a signature and memory for its value or for the
+/// spelling was refused.
+pub fn shortest_spelling(alloc: Global, bytes: &[u8], kind: SigKind) -> Result<Vec<u8>, SigError>
+    ensures shortest { (signature : Body) → Spells kind signature bytes.now → IfOk result (λ spelling. spelling.items ≡ short signature) }
+    ensures limit { IfOk result (λ spelling. length spelling.items < 2 ^ 29) }
+    // Exactly where they spell nothing they are bad.
+    ensures bad { IsErrOf result Bad ↔ ¬ ((signature : Body) × Spells kind signature bytes.now) }
+{
+    spelled_is_spellable();
+    let signature = decode(alloc, bytes, kind)?;
+    Ok(encode(alloc, &signature)?)
 }

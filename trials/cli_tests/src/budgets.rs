@@ -1,5 +1,5 @@
 use crate::runs::answer;
-use crate::samples::{TWO_TYPES, image, put};
+use sample_roots::{TWO_TYPES, image, write_at};
 use std::fs;
 use std::test::Fail;
 
@@ -28,12 +28,12 @@ fn checks_within_a_budget(rt: HostRuntime) -> Result<(), Fail> {
 /// A file without signatures needs no budget, and its first fault is told whatever that is.
 #[test]
 fn checks_a_file_within_no_budget(rt: HostRuntime) -> Result<(), Fail> {
-    let mut file = image(rt.alloc())?;
+    let mut file = image();
     for (place, byte, want) in [
         (0, b'M', (0, "ok\n", "")),
         (0, b'N', (1, "", "fault 1 102 at 0: DosHeader\n")),
     ] {
-        put(&mut file, place, &[byte]);
+        write_at(&mut file, place, &[byte]);
         fs::write(&rt, "budget.dll", file.as_slice())?;
         let words = ["clim", "check", "--budget=0", "budget.dll"];
         let (status, out, err) = answer(&rt, &words)?;

@@ -1,5 +1,5 @@
 use crate::runs::answer;
-use crate::samples::{SAMPLE, TWO_TYPES, image};
+use sample_roots::{ONE_MODULE, TWO_TYPES, image};
 use std::fs;
 use std::test::Fail;
 
@@ -36,8 +36,8 @@ fn run_examples(rt: &HostRuntime, name: &str) -> Result<usize, Fail> {
 
 #[test]
 fn print_what_help_tells(rt: HostRuntime) -> Result<(), Fail> {
-    fs::write(&rt, "one_module.dll", image(rt.alloc())?.as_slice())?;
-    fs::write(&rt, "one_module.root", SAMPLE.as_slice())?;
+    fs::write(&rt, "one_module.dll", image().as_slice())?;
+    fs::write(&rt, "one_module.root", ONE_MODULE.as_slice())?;
     fs::write(&rt, "two_types.root", TWO_TYPES.as_slice())?;
     for (name, count) in [
         ("root", 2),

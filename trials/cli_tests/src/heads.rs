@@ -1,5 +1,5 @@
 use crate::runs::{Case, answer, other_answer};
-use crate::samples::{SAMPLE, image};
+use sample_roots::{ONE_MODULE, image};
 use std::test::Fail;
 
 const LINES: &str = "\
@@ -38,7 +38,7 @@ stream 128 16 #GUID
     ];
     for case in &cases {
         let words = ["clim", "root", "--bare"];
-        assert_eq!(rt; other_answer(&rt, &words, &SAMPLE, case)?, None);
+        assert_eq!(rt; other_answer(&rt, &words, &ONE_MODULE, case)?, None);
     }
     let (status, out, err) = answer(&rt, &["clim", "root", "--bare", "a.root"])?;
     assert_eq!(rt; status, 3);
@@ -85,7 +85,7 @@ stream 128 16 #GUID
         Case::new(1024, 592, b"X", 1, "fault 3 301 at 592: RootSignature\n"),
         Case::new(1024, 633, b"-", 1, "fault 3 307 at 624: Uncompressed\n"),
     ];
-    let sample = image(rt.alloc())?;
+    let sample = image();
     for case in &cases {
         assert_eq!(rt; other_answer(&rt, &["clim", "root"], &sample, case)?, None);
     }
@@ -119,7 +119,7 @@ fn checks_a_file(rt: HostRuntime) -> Result<(), Fail> {
         ),
         Case::new(1024, 536, &[0x10, 0, 0, 0, 1, 0, 0, 0x06], 0, "ok\n"),
     ];
-    let sample = image(rt.alloc())?;
+    let sample = image();
     for case in &cases {
         assert_eq!(rt; other_answer(&rt, &["clim", "check"], &sample, case)?, None);
     }
@@ -141,7 +141,7 @@ fn checks_a_root(rt: HostRuntime) -> Result<(), Fail> {
     ];
     for case in &cases {
         let words = ["clim", "check", "--bare"];
-        assert_eq!(rt; other_answer(&rt, &words, &SAMPLE, case)?, None);
+        assert_eq!(rt; other_answer(&rt, &words, &ONE_MODULE, case)?, None);
     }
     let (status, out, err) = answer(&rt, &["clim", "check", "d.root"])?;
     assert_eq!(rt; status, 3);

@@ -1,5 +1,6 @@
 use crate::runs::{Case, answer, other_answer};
-use crate::samples::{SAMPLE, TWO_TYPES, USER_STRINGS, image};
+use crate::samples::USER_STRINGS;
+use sample_roots::{ONE_MODULE, TWO_TYPES, image};
 use std::fs;
 use std::test::Fail;
 
@@ -30,11 +31,11 @@ table 06 MethodDef 1
         Case::new(144, 110, &[8], 1, "fault 5 501 at 110: BadString\n"),
         Case::new(143, 0, b"", 1, "fault 3 305 at 64: StreamRange\n"),
     ] {
-        assert_eq!(rt; other_answer(&rt, &words, &SAMPLE, &case)?, None);
+        assert_eq!(rt; other_answer(&rt, &words, &ONE_MODULE, &case)?, None);
     }
     let case = Case::new(200, 0, b"", 0, types);
     assert_eq!(rt; other_answer(&rt, &words, &TWO_TYPES, &case)?, None);
-    let (case, file) = (Case::new(1024, 0, b"", 0, module), image(rt.alloc())?);
+    let (case, file) = (Case::new(1024, 0, b"", 0, module), image());
     assert_eq!(rt; other_answer(&rt, &["clim", "show"], &file, &case)?, None);
     Ok(())
 }
@@ -93,7 +94,7 @@ fn lists_types(rt: HostRuntime) -> Result<(), Fail> {
         assert_eq!(rt; other_answer(&rt, &words, &TWO_TYPES, &case)?, None);
     }
     let case = Case::new(144, 0, b"", 0, "");
-    assert_eq!(rt; other_answer(&rt, &words, &SAMPLE, &case)?, None);
+    assert_eq!(rt; other_answer(&rt, &words, &ONE_MODULE, &case)?, None);
     Ok(())
 }
 
@@ -141,7 +142,7 @@ fn prints_what_a_token_names(rt: HostRuntime) -> Result<(), Fail> {
         Named::new("70000000", 0, "user\n"),
         Named::new("70000001", 1, "no such row\n"),
     ] {
-        assert_eq!(rt; other_name(&rt, &SAMPLE, &named)?, None, "{}", named.hex);
+        assert_eq!(rt; other_name(&rt, &ONE_MODULE, &named)?, None, "{}", named.hex);
     }
     for named in [
         Named::new("2000001", 0, "1: 0 \"<Module>\" \"\" null +1 +1\n"),

@@ -1,7 +1,7 @@
 use crate::runs::answer;
-use crate::samples::{SAMPLE, TWO_TYPES, image};
 use crate::writers::Full;
 use cli::go;
+use sample_roots::{ONE_MODULE, TWO_TYPES, image};
 use std::fs;
 use std::test::Fail;
 
@@ -20,11 +20,11 @@ fn ends(rt: &HostRuntime, words: &[&str], status: u8, line: &str) -> Result<bool
 /// What the file held before is emptied first.
 #[test]
 fn writes_the_canonical_root(rt: HostRuntime) -> Result<(), Fail> {
-    fs::write(&rt, "from.dll", image(rt.alloc())?.as_slice())?;
-    fs::write(&rt, "to.root", image(rt.alloc())?.as_slice())?;
+    fs::write(&rt, "from.dll", image().as_slice())?;
+    fs::write(&rt, "to.root", image().as_slice())?;
     let words = ["clim", "rewrite", "from.dll", "to.root"];
     assert!(rt; ends(&rt, &words, 0, "wrote 144 bytes\n")?);
-    assert_eq!(rt; fs::read(&rt, "to.root")?.as_slice(), SAMPLE.as_slice());
+    assert_eq!(rt; fs::read(&rt, "to.root")?.as_slice(), ONE_MODULE.as_slice());
     fs::remove_file(&rt, "from.dll")?;
     fs::remove_file(&rt, "to.root")?;
     Ok(())
@@ -49,7 +49,7 @@ fn writes_over_its_file(rt: HostRuntime) -> Result<(), Fail> {
 
 #[test]
 fn leaves_what_it_does_not_write(rt: HostRuntime) -> Result<(), Fail> {
-    fs::write(&rt, "cut.root", &SAMPLE[..143])?;
+    fs::write(&rt, "cut.root", &ONE_MODULE[..143])?;
     fs::write(&rt, "kept.root", b"kept".as_slice())?;
     let fault = "fault 3 305 at 64: StreamRange\n";
     assert!(rt; ends(&rt, &bare("cut.root", "kept.root"), 1, fault)?);
@@ -63,7 +63,7 @@ fn leaves_what_it_does_not_write(rt: HostRuntime) -> Result<(), Fail> {
     );
     assert_eq!(rt; fs::read(&rt, "kept.root")?.as_slice(), b"kept".as_slice());
     assert!(rt; ends(&rt, &bare("cut.root", "cut.root"), 1, fault)?);
-    assert_eq!(rt; fs::read(&rt, "cut.root")?.as_slice(), &SAMPLE[..143]);
+    assert_eq!(rt; fs::read(&rt, "cut.root")?.as_slice(), &ONE_MODULE[..143]);
     assert!(rt; ends(&rt, &bare("cut.root", "made.root"), 1, fault)?);
     assert!(rt; fs::read(&rt, "made.root").is_err());
     fs::remove_file(&rt, "cut.root")?;
@@ -73,7 +73,7 @@ fn leaves_what_it_does_not_write(rt: HostRuntime) -> Result<(), Fail> {
 
 #[test]
 fn tells_what_it_cannot_write(rt: HostRuntime) -> Result<(), Fail> {
-    fs::write(&rt, "whole.root", SAMPLE.as_slice())?;
+    fs::write(&rt, "whole.root", ONE_MODULE.as_slice())?;
     for (out, told) in [
         ("nowhere/out.root", "error: cannot write nowhere/out.root\n"),
         ("/dev/full", "error: cannot write /dev/full\n"),
@@ -91,7 +91,7 @@ fn tells_what_it_cannot_write(rt: HostRuntime) -> Result<(), Fail> {
     );
     assert_eq!(rt; status, 3);
     assert_eq!(rt; err.as_slice(), b"error: cannot write output\n".as_slice());
-    assert_eq!(rt; fs::read(&rt, "sent.root")?.as_slice(), SAMPLE.as_slice());
+    assert_eq!(rt; fs::read(&rt, "sent.root")?.as_slice(), ONE_MODULE.as_slice());
     fs::remove_file(&rt, "whole.root")?;
     fs::remove_file(&rt, "sent.root")?;
     Ok(())

@@ -1,5 +1,5 @@
-use crate::samples::put;
 use cli::go;
+use sample_roots::write_at;
 use std::fs;
 use std::test::Fail;
 
@@ -46,7 +46,7 @@ pub fn other_answer(
     case: &Case,
 ) -> Result<Option<String>, Fail> {
     let mut file: Vec<u8> = sample.iter().copied().take(case.len).collect(rt.alloc())?;
-    put(&mut file, case.place, case.bytes);
+    write_at(&mut file, case.place, case.bytes);
     fs::write(rt, "a.file", file.as_slice())?;
     let mut words: Vec<&str> = words.to_vec(rt.alloc())?;
     words.push("a.file")?;

@@ -1,5 +1,6 @@
-use crate::samples::{SAMPLE, TWO_TYPES, many_rows};
+use crate::samples::many_rows;
 use cli::{go, refuse_words};
+use sample_roots::{ONE_MODULE, TWO_TYPES};
 use std::io::{ErrorKind, Write};
 use std::test::Fail;
 use std::{fs, io};
@@ -26,7 +27,7 @@ impl Write for Full {
 
 #[test]
 fn stands_full_devices(rt: HostRuntime) -> Result<(), Fail> {
-    fs::write(&rt, "b.root", SAMPLE.as_slice())?;
+    fs::write(&rt, "b.root", ONE_MODULE.as_slice())?;
     fs::write(&rt, "c.root", b"".as_slice())?;
     for late in [false, true] {
         for words in [

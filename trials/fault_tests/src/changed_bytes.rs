@@ -1,5 +1,5 @@
 use crate::answers::{Form, fault_of};
-use crate::samples::{ONE_MODULE, TWO_TYPES, changed, image};
+use sample_roots::{ONE_MODULE, TWO_TYPES, changed, image};
 use std::alloc::Global;
 use std::test::Fail;
 
@@ -255,7 +255,7 @@ fn each_byte_of_a_root_of_two_types(rt: HostRuntime) -> Result<(), Fail> {
 
 #[test]
 fn each_byte_of_a_file(rt: HostRuntime) -> Result<(), Fail> {
-    let file = image(rt.alloc())?;
+    let file = image();
     for (byte, faults) in [
         (0, IMAGE_WITH_00.as_slice()),
         (0xFF, IMAGE_WITH_FF.as_slice()),

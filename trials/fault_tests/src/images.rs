@@ -1,20 +1,20 @@
 use crate::answers::{Form, fault_of};
 use crate::roots::is_same_module;
-use crate::samples::{ONE_MODULE, TWO_TYPES, changed, image, write_at};
 use opening::{open_image, open_root, read_heads};
+use sample_roots::{ONE_MODULE, TWO_TYPES, changed, image, write_at};
 use std::alloc::Global;
 use std::test::Fail;
 
 /// The fault of the file with some bytes changed.
 fn fault_with(alloc: Global, changes: &[(usize, u8)]) -> Result<Option<(u16, u64)>, Fail> {
-    let file = image(alloc)?;
+    let file = image();
     let file = changed(alloc, file.as_slice(), changes)?;
     Ok(fault_of(Form::Image, file.as_slice()))
 }
 
 #[test]
 fn shows_the_root_of_a_file_and_its_header(rt: HostRuntime) -> Result<(), Fail> {
-    let file = image(rt.alloc())?;
+    let file = image();
     let (header, view) = open_image(file.as_slice())?;
     assert_eq!(rt;
         (header.major_runtime_version, header.minor_runtime_version),
@@ -29,7 +29,7 @@ fn shows_the_root_of_a_file_and_its_header(rt: HostRuntime) -> Result<(), Fail> 
 #[test]
 fn the_heads_of_a_file_are_read_without_its_tables(rt: HostRuntime) -> Result<(), Fail> {
     let alloc = rt.alloc();
-    let file = image(alloc)?;
+    let file = image();
     let heads = read_heads(file.as_slice())?;
     assert_eq!(rt; heads.header, open_image(file.as_slice())?.0);
     assert_eq!(rt; heads.root.version(), "v4.0.30319");
@@ -60,7 +60,7 @@ fn places_of_faults_count_in_the_file(rt: HostRuntime) -> Result<(), Fail> {
 
 #[test]
 fn shows_the_same_of_a_wider_image(rt: HostRuntime) -> Result<(), Fail> {
-    let mut wider = image(rt.alloc())?;
+    let mut wider = image();
     for (place, part) in [
         (0x094, b"\xF0\0".as_slice()),
         (0x098, b"\x0B\x02"),
@@ -83,7 +83,7 @@ fn shows_the_same_of_a_wider_image(rt: HostRuntime) -> Result<(), Fail> {
 fn the_entry_point_is_a_method_or_a_file_that_exists(rt: HostRuntime) -> Result<(), Fail> {
     let alloc = rt.alloc();
     // One method stands in the root, and two types; the flag of a native entry point is 0x10.
-    let mut file = image(alloc)?;
+    let mut file = image();
     write_at(&mut file, 0x214, &[200]);
     write_at(&mut file, 592, &TWO_TYPES);
     for (flags, token, fault) in [

@@ -1,7 +1,7 @@
 use crate::answers::{Form, fault_of};
-use crate::samples::{NO_ROWS, ONE_MODULE, TWO_TYPES, changed};
 use opening::{CellRef, View, open_root};
 use opening_tests::cell;
+use sample_roots::{NO_ROWS, ONE_MODULE, TWO_TYPES, changed};
 use schema::TableId;
 use std::test::Fail;
 

@@ -1,8 +1,26 @@
 use crate::GUIDS;
-use heap_tests::{pool_of_blobs, pool_of_guids};
-use heaps::{BlobPool, GuidPool, TextPool, user_string};
+use heaps::{BlobPool, GuidPool, PoolError, TextPool, user_string};
+use std::alloc::Global;
 use std::test::Fail;
 use user_heap::UserHeap;
+
+/// The pool of these blobs, in their order of use.
+fn pool_of_blobs(alloc: Global, blobs: &[&[u8]]) -> Result<BlobPool, PoolError> {
+    let mut pool = BlobPool::new(alloc);
+    for blob in blobs {
+        let _index = pool.add(blob)?;
+    }
+    Ok(pool)
+}
+
+/// The pool of these GUIDs, in their order of use, without null.
+fn pool_of_guids(alloc: Global, guids: &[Option<[u8; 16]>]) -> Result<GuidPool, PoolError> {
+    let mut pool = GuidPool::new(alloc);
+    for guid in guids {
+        let _index = pool.add(*guid)?;
+    }
+    Ok(pool)
+}
 
 #[test]
 fn plans_texts(rt: HostRuntime) -> Result<(), Fail> {

@@ -1,6 +1,7 @@
-use crate::builder::{ALL_SORTED, RootBuilder};
-use crate::key_order::{OF_ASSEMBLY, OF_MODULE, OTHERS_SORTED, root_of_attributes};
 use opening::{View, open_root};
+use sample_roots::{
+    ALL_SORTED, OF_ASSEMBLY, OF_MODULE, OTHERS_SORTED, RootBuilder, root_of_attributes,
+};
 use schema::{TableId, Token, key};
 use std::alloc::Global;
 use std::test::Fail;

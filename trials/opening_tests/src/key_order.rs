@@ -1,38 +1,11 @@
-use crate::builder::{ALL_SORTED, RootBuilder};
 use crate::cells_there::cell;
 use crate::shown::fault_of;
 use opening::{CellRef, View, open_root};
+use sample_roots::{
+    ALL_SORTED, OF_ASSEMBLY, OF_MODULE, OTHERS_SORTED, RootBuilder, root_of_attributes,
+};
 use schema::{TableId, Token};
-use std::alloc::Global;
 use std::test::Fail;
-
-/// A custom attribute of Assembly 1, whose constructor is MemberRef 1.
-pub const OF_ASSEMBLY: &[u8] = b"\x2E\0\x0B\0\0\0";
-/// A custom attribute of Module 1.
-pub const OF_MODULE: &[u8] = b"\x27\0\x0B\0\0\0";
-
-/// The Sorted bits without that of CustomAttribute.
-pub const OTHERS_SORTED: u64 = ALL_SORTED - (1 << 0x0C);
-
-/// A root of a module, an assembly and custom attributes, with these Sorted bits: the rows of
-/// CustomAttribute stand at 126.
-pub fn root_of_attributes(
-    alloc: Global,
-    sorted: u64,
-    attributes: &[&[u8]],
-) -> Result<Vec<u8>, Fail> {
-    let mut root = RootBuilder::new(alloc);
-    root.sorted = sorted;
-    root.row(0x00, b"\0\0\0\0\0\0\0\0\0\0")?;
-    root.row(0x01, b"\0\0\0\0\0\0")?;
-    root.row(0x0A, b"\x09\0\0\0\x01\0")?;
-    for attribute in attributes {
-        root.row(0x0C, attribute)?;
-    }
-    root.row(0x20, b"\0\0\0\0\0\0\0\0\0\0\0\0\0\0\0\0\0\0\0\0\0\0")?;
-    root.heap("#Blob", b"\0\x02\x06\x08")?;
-    root.finish()
-}
 
 /// The parent of a custom attribute.
 fn parent_of(view: &View, row: u32) -> Option<Token> {

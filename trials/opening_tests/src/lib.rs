@@ -1,7 +1,7 @@
 //! Tests of what `opening` shows, over its public calls alone, and [`cell`], which they ask for a cell that
 //! may not be there.
 //!
-//! A plain builder lays out roots from rows and heaps. They are opened, and the cells, the runs, the texts
+//! Roots are laid out from rows and heaps by the builder of `sample_roots`. They are opened, and the cells, the runs, the texts
 //! and the order of keys that a view shows, or the first fault, are compared with what ECMA-335 Partition II
 //! (22 to 24) says of them.
 
@@ -9,8 +9,6 @@ mod cells_there;
 
 pub use cells_there::cell;
 
-#[cfg(test)]
-mod builder;
 #[cfg(test)]
 mod by_key;
 #[cfg(test)]

@@ -1,7 +1,7 @@
-use crate::builder::RootBuilder;
 use crate::samples::two_types;
 use crate::shown::{Members, run_of};
 use opening::open_root;
+use sample_roots::RootBuilder;
 use std::test::Fail;
 
 #[test]

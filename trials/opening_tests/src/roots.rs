@@ -1,8 +1,8 @@
-use crate::builder::RootBuilder;
 use crate::cells_there::cell;
 use crate::samples::{GUID, changed, one_module, two_types};
 use crate::shown::{are_same, fault_of};
 use opening::{CellRef, open_root};
+use sample_roots::{RootBuilder, root_of_implementation};
 use schema::{TableId, Token};
 use std::alloc::Global;
 use std::test::Fail;
@@ -101,7 +101,7 @@ fn root_of_names(alloc: Global, heap: &[u8], name: u8, namespace: u8) -> Result<
     let mut root = RootBuilder::new(alloc);
     root.row(0x01, &[0, 0, name, 0, namespace, 0])?;
     root.heap("#Strings", heap)?;
-    root.finish()
+    Ok(root.finish()?)
 }
 
 #[test]
@@ -145,21 +145,11 @@ fn many_rows_share_one_long_text(rt: HostRuntime) -> Result<(), Fail> {
     Ok(())
 }
 
-/// A root of one exported type with this Implementation, which stands at 84.
-fn root_of_exported_type(alloc: Global, implementation: u8) -> Result<Vec<u8>, Fail> {
-    let mut root = RootBuilder::new(alloc);
-    root.row(
-        0x27,
-        &[0, 0, 0, 0, 0, 0, 0, 0, 0, 0, 0, 0, implementation, 0],
-    )?;
-    root.finish()
-}
-
 #[test]
 fn a_null_has_any_used_tag(rt: HostRuntime) -> Result<(), Fail> {
     let alloc = rt.alloc();
-    let first = root_of_exported_type(alloc, 0)?;
-    let second = root_of_exported_type(alloc, 1)?;
+    let first = root_of_implementation(alloc, 0)?;
+    let second = root_of_implementation(alloc, 1)?;
     let view = open_root(first.as_slice())?;
     assert!(rt; are_same(&view, &open_root(second.as_slice())?));
     assert_eq!(rt;
@@ -167,14 +157,14 @@ fn a_null_has_any_used_tag(rt: HostRuntime) -> Result<(), Fail> {
         Some(CellRef::Ref(None))
     );
     assert_eq!(rt;
-        fault_of(root_of_exported_type(alloc, 3)?.as_slice()),
+        fault_of(root_of_implementation(alloc, 3)?.as_slice()),
         Some((505, 84))
     );
     assert_eq!(rt;
-        fault_of(root_of_exported_type(alloc, 4)?.as_slice()),
+        fault_of(root_of_implementation(alloc, 4)?.as_slice()),
         Some((506, 84))
     );
-    let itself = root_of_exported_type(alloc, 6)?;
+    let itself = root_of_implementation(alloc, 6)?;
     let view = open_root(itself.as_slice())?;
     assert_eq!(rt;
         cell(&view, TableId::ExportedType, 1, 4),

@@ -1,31 +1,11 @@
-use crate::builder::RootBuilder;
 use crate::cells_there::cell;
 use crate::samples::{changed, two_types};
 use crate::shown::{Members, are_same, fault_of, run_of};
 use opening::{CellRef, open_root};
+use sample_roots::{FIELD, RootBuilder, root_of_starts, type_row};
 use schema::TableId;
 use std::alloc::Global;
 use std::test::Fail;
-
-/// A row of TypeDef by where its runs of fields and methods start.
-fn type_row(fields: u8, methods: u8) -> [u8; 14] {
-    [0, 0, 0, 0, 0, 0, 0, 0, 0, 0, fields, 0, methods, 0]
-}
-
-/// A field of a four byte number, whose blob stands at 1.
-const FIELD: &[u8] = b"\0\0\0\0\x01\0";
-
-/// A root of three types, whose runs of fields start at these rows of two.
-fn root_of_starts(alloc: Global, starts: [u8; 3]) -> Result<Vec<u8>, Fail> {
-    let mut root = RootBuilder::new(alloc);
-    for start in starts {
-        root.row(0x02, &type_row(start, 1))?;
-    }
-    root.row(0x04, FIELD)?;
-    root.row(0x04, FIELD)?;
-    root.heap("#Blob", b"\0\x02\x06\x08")?;
-    root.finish()
-}
 
 #[test]
 fn a_null_start_is_that_of_the_next_owner(rt: HostRuntime) -> Result<(), Fail> {

@@ -1,4 +1,4 @@
-use crate::builder::RootBuilder;
+use sample_roots::RootBuilder;
 use std::alloc::Global;
 use std::test::Fail;
 
@@ -11,7 +11,7 @@ pub fn one_module(alloc: Global) -> Result<Vec<u8>, Fail> {
     root.row(0x00, b"\0\0\x01\0\x01\0\0\0\0\0")?;
     root.heap("#Strings", b"\0a.dll\0")?;
     root.heap("#GUID", &GUID)?;
-    root.finish()
+    Ok(root.finish()?)
 }
 
 /// A root of two types, of which the second has two fields and a method: the rows of TypeDef stand at 116
@@ -25,7 +25,7 @@ pub fn two_types(alloc: Global) -> Result<Vec<u8>, Fail> {
     root.row(0x06, b"\0\0\0\0\0\0\x06\0\x12\0\x04\0\x01\0")?;
     root.heap("#Strings", b"\0<Module>\0C\0N\0a\0b\0M\0")?;
     root.heap("#Blob", b"\0\x02\x06\x08\x03\0\0\x01")?;
-    root.finish()
+    Ok(root.finish()?)
 }
 
 /// Bytes of which one is changed.

@@ -1,44 +1,10 @@
-use crate::builder::RootBuilder;
 use crate::cells_there::cell;
 use crate::shown::fault_of;
 use opening::{CellRef, open_root};
-use packed::put_unsigned;
+use sample_roots::{RootBuilder, root_of_signature};
 use schema::TableId;
 use std::alloc::Global;
 use std::test::Fail;
-
-/// A heap with a signature of each kind: of a field at 1, a method at 4, a property at 8, a type at 12 and
-/// of type arguments at 14.
-const HEAP: &[u8] = b"\0\x02\x06\x08\x03\0\0\x01\x03\x08\0\x08\x01\x08\x02\x0A\0";
-
-/// That heap with one blob more, at 17.
-fn heap_with(alloc: Global, blob: &[u8]) -> Result<Vec<u8>, Fail> {
-    let mut heap = Vec::from_slice(alloc, HEAP)?;
-    let len = u32::try_from(blob.len())?.min(0xFFFF);
-    put_unsigned(&mut heap, len)?;
-    heap.extend_from_slice(blob)?;
-    Ok(heap)
-}
-
-/// The root of one row in each table with a signature column, of which one names the blob.
-fn root_with(alloc: Global, table: TableId, blob: &[u8]) -> Result<Vec<u8>, Fail> {
-    let index = |of: TableId, valid: u8| if of == table { 17 } else { valid };
-    let heap = heap_with(alloc, blob)?;
-    let mut root = RootBuilder::new(alloc);
-    root.row(0x01, b"\0\0\0\0\0\0")?;
-    root.row(0x02, b"\0\0\0\0\0\0\0\0\0\0\x01\0\x01\0")?;
-    root.row(0x04, &[0, 0, 0, 0, index(TableId::Field, 1), 0])?;
-    let method = index(TableId::MethodDef, 4);
-    root.row(0x06, &[0, 0, 0, 0, 0, 0, 0, 0, 0, 0, method, 0, 1, 0])?;
-    root.row(0x0A, &[9, 0, 0, 0, index(TableId::MemberRef, 1), 0])?;
-    root.row(0x11, &[index(TableId::StandAloneSig, 1), 0])?;
-    root.row(0x15, b"\x01\0\x01\0")?;
-    root.row(0x17, &[0, 0, 0, 0, index(TableId::Property, 8), 0])?;
-    root.row(0x1B, &[index(TableId::TypeSpec, 12), 0])?;
-    root.row(0x2B, &[3, 0, index(TableId::MethodSpec, 14), 0])?;
-    root.heap("#Blob", heap.as_slice())?;
-    root.finish()
-}
 
 /// Which cell of the one row of a table is its signature, and where that stands.
 fn signature_cell(table: TableId) -> (usize, u64) {
@@ -90,7 +56,7 @@ const SPELLINGS: [(TableId, &[u8], Option<u16>); 26] = [
 #[test]
 fn blobs_are_spelled_by_the_grammar_of_their_column(rt: HostRuntime) -> Result<(), Fail> {
     for (table, blob, code) in SPELLINGS {
-        let root = root_with(rt.alloc(), table, blob)?;
+        let root = root_of_signature(rt.alloc(), table, blob)?;
         let (column, place) = signature_cell(table);
         let fault = code.map(|code| (code, place));
         let name = table.name();
@@ -116,7 +82,7 @@ fn types_nest_128_deep(rt: HostRuntime) -> Result<(), Fail> {
             blob.extend_from_slice(before)?;
         }
         blob.push(0x08)?;
-        let root = root_with(alloc, TableId::TypeSpec, blob.as_slice())?;
+        let root = root_of_signature(alloc, TableId::TypeSpec, blob.as_slice())?;
         let fault = code.map(|code| (code, 182));
         assert_eq!(rt;
             fault_of(root.as_slice()),

@@ -1,6 +1,6 @@
-use crate::builder::RootBuilder;
 use crate::samples::{one_module, two_types};
 use opening::{BoundedError, Fault, FaultCode, open_root_within};
+use sample_roots::RootBuilder;
 use std::alloc::Global;
 use std::test::Fail;
 
@@ -12,7 +12,7 @@ fn misspelled(alloc: Global) -> Result<Vec<u8>, Fail> {
     root.row(0x04, b"\0\0\0\0\x01\0")?;
     root.row(0x04, b"\0\0\0\0\x04\0")?;
     root.heap("#Blob", b"\0\x02\x06\x08\x03\x06\x08\0")?;
-    root.finish()
+    Ok(root.finish()?)
 }
 
 /// Its two fields share a blob of two bytes, which is walked once; that of the method has three.

@@ -1,6 +1,8 @@
 use crate::signature_blobs::{BAD, LONGER, SHORTENED, SPELLED, SignatureBlob};
 use one_refusal::{Run, Stop, kept};
-use signatures::{SigError, Signature, decode, encode, recognise, recognise_first_bad};
+use signatures::{
+    SigError, Signature, decode, encode, recognise, recognise_first_bad, shortest_spelling,
+};
 
 /// The signature of a blob, decoded again where memory was refused.
 fn decoded(run: &Run, blob: SignatureBlob, bytes: &[u8]) -> Result<Signature, Stop> {
@@ -37,6 +39,17 @@ fn encoded(run: &Run, signature: &Signature, twin: &Signature) -> Result<Vec<u8>
     }
 }
 
+/// The shortest spelling of the signature of a blob, asked for again where memory was refused.
+fn shortened(run: &Run, blob: SignatureBlob, bytes: &[u8]) -> Result<Vec<u8>, Stop> {
+    match shortest_spelling(run.alloc, bytes, blob.kind) {
+        Err(SigError::Memory) => {
+            kept(bytes == blob.bytes, "a refused spelling leaves its bytes")?;
+            run.again(shortest_spelling(run.alloc, bytes, blob.kind))
+        }
+        answer => Ok(answer?),
+    }
+}
+
 /// That the calls which take no memory answer of a blob what is known.
 fn recognised(blob: SignatureBlob, bytes: &[u8]) -> Result<(), Stop> {
     kept(
@@ -58,7 +71,9 @@ fn spelled(run: &Run, blob: SignatureBlob, short: &[u8]) -> Result<(), Stop> {
     kept(signature == twin, "what is decoded twice is equal")?;
     let copy = copied(run, &signature, &twin)?;
     let spelling = encoded(run, &copy, &twin)?;
-    kept(spelling.as_slice() == short, "the spelling is the shortest")
+    kept(spelling.as_slice() == short, "the spelling is the shortest")?;
+    let spelling = shortened(run, blob, &bytes)?;
+    kept(spelling.as_slice() == short, "bytes are spelled the shortest way")
 }
 
 /// That signatures are spelled as they were, each decoded, copied and encoded again where memory was refused.
@@ -76,6 +91,10 @@ fn bad(run: &Run, blob: SignatureBlob) -> Result<(), Stop> {
         Err(SigError::Memory) => return Err(Stop::Broken("what spells nothing wants no memory")),
         Err(SigError::Bad) => {}
     }
+    kept(
+        shortest_spelling(run.alloc, blob.bytes, blob.kind) == Err(SigError::Bad),
+        "what spells nothing has no shortest spelling",
+    )?;
     recognised(blob, blob.bytes)
 }
 

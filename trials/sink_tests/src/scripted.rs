@@ -21,13 +21,8 @@ pub struct Scripted<'a> {
 }
 
 impl<'a> Scripted<'a> {
-    ghost use Rattle.std.specs.Prelude.{◌≡◌, []};
-    ghost use Rattle.sink_tests.specs.Scripted.{bytes_of};
-
     /// A writer that holds no bytes.
-    pub fn new(alloc: Global, steps: &'a [Step]) -> Scripted<'a>
-        ensures { bytes_of result ≡ [] }
-    {
+    pub fn new(alloc: Global, steps: &'a [Step]) -> Scripted<'a> {
         Scripted {
             bytes: Vec::new(alloc),
             steps,
@@ -35,16 +30,12 @@ impl<'a> Scripted<'a> {
     }
 
     /// The bytes that were taken.
-    pub fn bytes(&self) -> &[u8]
-        ensures { result.now ≡ bytes_of self.now }
-    {
+    pub fn bytes(&self) -> &[u8] {
         &self.bytes
     }
 
     /// The step of the next call.
-    fn next(&mut self) -> Step
-        ensures { bytes_of self.new ≡ bytes_of self.old }
-    {
+    fn next(&mut self) -> Step {
         match self.steps {
             [step, rest @ ..] => {
                 self.steps = rest;
@@ -56,10 +47,9 @@ impl<'a> Scripted<'a> {
 }
 
 impl Write for Scripted<'_> {
-    ghost use Rattle.std.specs.Prelude.{Some};
-    ghost use Rattle.sink_tests.specs.Scripted.{bytes_of};
+    ghost use Rattle.std.specs.Prelude.{◌≡◌, Some};
 
-    ghost contents = { λ writer. Some (bytes_of writer) };
+    ghost contents = { λ writer. Some writer.bytes.items };
 
     fn write(&mut self, bytes: &[u8]) -> io::Result<usize> {
         match self.next() {

@@ -9,7 +9,6 @@
 //! send_all(&bytes, &mut sink) == Err(Stopped { given: 16 })
 //! sink.into_inner().bytes() == &bytes[..16]
 //! ```
-#![tactic(auto)]
 
 mod scripted;
 
