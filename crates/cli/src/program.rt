@@ -8,7 +8,7 @@ use crate::task::{Task, task_of};
 use clap::error::ErrorKind;
 use command_line::{Ask, ask};
 use printed_faults::{Failure, printed};
-use reports::{Stop, check_within, explain, print_report};
+use reports::{Report, Stop, check_within, explain, print_report};
 use std::alloc::Global;
 use std::io;
 use std::io::{BufWriter, Write};
@@ -84,21 +84,47 @@ fn run<'a, R: Files + AllocGlobal, W: Write>(
 {
     let task = task_of(ask)?;
     match task {
-        Task::Print(report) => {
-            let bytes = read_file(rt, ask.file.unwrap())?;
-            print_report(rt.alloc(), report, ask.bare, &bytes, out)?;
-        }
-        Task::CheckWithin(budget) => {
-            let bytes = read_file(rt, ask.file.unwrap())?;
-            check_within(rt.alloc(), &bytes, ask.bare, budget, out)?;
-        }
-        Task::Rewrite(path) => {
-            let bytes = read_file(rt, ask.file.unwrap())?;
-            rewrite(rt, &bytes, ask.bare, path, out)?;
-        }
-        Task::Explain(code) => explain(rt.alloc(), code, out)?,
+        Task::Print(report) => print_file(rt, report, ask.file.unwrap(), ask.bare, out),
+        Task::CheckWithin(budget) => check_file(rt, budget, ask.file.unwrap(), ask.bare, out),
+        Task::Rewrite(path) => rewrite_file(rt, path, ask.file.unwrap(), ask.bare, out),
+        Task::Explain(code) => Ok(explain(rt.alloc(), code, out)?),
     }
-    Ok(())
+}
+
+/// Prints something of a file.
+fn print_file<'a, R: Files + AllocGlobal, W: Write>(
+    rt: &R,
+    report: Report,
+    file: &'a str,
+    bare: bool,
+    out: &mut W,
+) -> Result<(), Stop<'a>> {
+    let bytes = read_file(rt, file)?;
+    Ok(print_report(rt.alloc(), report, bare, &bytes, out)?)
+}
+
+/// Tells whether a file breaks a rule, within a budget.
+fn check_file<'a, R: Files + AllocGlobal, W: Write>(
+    rt: &R,
+    budget: u64,
+    file: &'a str,
+    bare: bool,
+    out: &mut W,
+) -> Result<(), Stop<'a>> {
+    let bytes = read_file(rt, file)?;
+    check_within(rt.alloc(), &bytes, bare, budget, out)
+}
+
+/// Writes the canonical root of a file to a path.
+fn rewrite_file<'a, R: Files + AllocGlobal, W: Write>(
+    rt: &R,
+    path: &'a str,
+    file: &'a str,
+    bare: bool,
+    out: &mut W,
+) -> Result<(), Stop<'a>> {
+    let bytes = read_file(rt, file)?;
+    Ok(rewrite(rt, &bytes, bare, path, out)?)
 }
 
 /// Prints the help or the version.

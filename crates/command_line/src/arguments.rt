@@ -47,23 +47,26 @@ fn command<'a>(alloc: Global) -> Result<Command<'a>, AllocError>
         .version("0.1.0")
         .after_help(STATUSES)
         .subcommand_required(true);
-    let program = with(program, print_root::command(alloc))?;
-    let program = with(program, check_file::command(alloc))?;
-    let program = with(program, show_tables::command(alloc))?;
-    let program = with(program, print_types::command(alloc))?;
-    let program = with(program, print_token::command(alloc))?;
-    let program = with(program, rewrite_file::command(alloc))?;
+    let program = with(Ok(program), print_root::command(alloc));
+    let program = with(program, check_file::command(alloc));
+    let program = with(program, show_tables::command(alloc));
+    let program = with(program, print_types::command(alloc));
+    let program = with(program, print_token::command(alloc));
+    let program = with(program, rewrite_file::command(alloc));
     with(program, explain_fault::command(alloc))
 }
 
 /// A command with one subcommand more, where there was memory for that.
 fn with<'a>(
-    command: Command<'a>,
+    command: Result<Command<'a>, AllocError>,
     subcommand: Result<Command<'a>, AllocError>,
 ) -> Result<Command<'a>, AllocError>
-    ensures { IfOk result (λ made. IsOkAnd subcommand.entry (λ added. AddsSubcommand command.entry added made)) }
+    ensures { IfOk result (λ made. IsOkAnd command.entry (λ base. IsOkAnd subcommand.entry (λ added. AddsSubcommand base added made))) }
 {
-    command.subcommand(subcommand?)
+    match (command, subcommand) {
+        (Ok(command), Ok(subcommand)) => command.subcommand(subcommand),
+        _ => Err(AllocError),
+    }
 }
 
 const STATUSES: &str = "\

@@ -41,8 +41,8 @@ pub fn copy_body(alloc: Global, body: &SigBody) -> Result<SigBody, AllocError>
         SigBody::Method(method) => Ok(SigBody::Method(copy_method(alloc, method)?)),
         SigBody::Property(property) => Ok(SigBody::Property(PropertySig {
             this: property.this,
-            of: copy_slot(alloc, &property.of)?,
             params: copy_slots(alloc, &property.params)?,
+            of: copy_slot(alloc, &property.of)?,
         })),
         SigBody::Locals(locals) => Ok(SigBody::Locals(LocalsSig(copy_locals(alloc, &locals.0)?))),
         SigBody::Instance(args) => Ok(SigBody::Instance(InstanceSig(copy_types(alloc, &args.0)?))),

@@ -38,8 +38,8 @@ fn copy_core(alloc: Global, core: &Core) -> Result<Core, AllocError>
             Ok(Core::Vector(Box::new(alloc, of)?))
         }
         Core::Array(of, shape) => {
-            let of = copy_type(alloc, of)?;
             let shape = copy_shape(alloc, shape)?;
+            let of = copy_type(alloc, of)?;
             Ok(Core::Array(Box::new(alloc, of)?, shape))
         }
         Core::Class(of) => Ok(Core::Class(*of)),
@@ -85,7 +85,7 @@ pub fn copy_types(alloc: Global, types: &[TypeSig]) -> Result<Vec<TypeSig>, Allo
 
 /// A copy of what a parameter, a field, a local variable or a result holds (II.23.2.10).
 #[cycle(copies)]
-#[tactic(auto, using(signature_values::proofs::ViewLemmas::views))]
+#[tactic(auto, using(signature_values::proofs::ViewLemmas::view_typed_ref, signature_values::proofs::ViewLemmas::view_plain, signature_values::proofs::ViewLemmas::view_by_ref))]
 pub fn copy_content(alloc: Global, kind: &SlotKind) -> Result<SlotKind, AllocError>
     ensures { IfOk result (λ copy. content_of copy ≡ content_of kind.now) }
 {
@@ -123,7 +123,7 @@ pub fn copy_slots(alloc: Global, slots: &[Slot]) -> Result<Vec<Slot>, AllocError
 
 /// A copy of the result of a method (II.23.2.11).
 #[cycle(copies)]
-#[tactic(auto, using(signature_values::proofs::ViewLemmas::views))]
+#[tactic(auto, using(signature_values::proofs::ViewLemmas::view_some_ret, signature_values::proofs::ViewLemmas::view_void_ret))]
 pub fn copy_ret(alloc: Global, ret: &Ret) -> Result<Ret, AllocError>
     ensures { IfOk result (λ copy. ret_of copy ≡ ret_of ret.now) }
 {
@@ -138,8 +138,8 @@ pub fn copy_ret(alloc: Global, ret: &Ret) -> Result<Ret, AllocError>
 pub fn copy_method(alloc: Global, method: &MethodSig) -> Result<MethodSig, AllocError>
     ensures { IfOk result (λ copy. method_of copy ≡ method_of method.now) }
 {
-    let ret = copy_ret(alloc, &method.ret)?;
     let params = copy_slots(alloc, &method.params)?;
+    let ret = copy_ret(alloc, &method.ret)?;
     Ok(MethodSig {
         kind: method.kind,
         this: method.this,

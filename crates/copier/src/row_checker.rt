@@ -7,7 +7,7 @@ use signature_values::{SigBody, names_row};
 use walk::{PartSink, items_are_parts, visit_body};
 
 /// Looks for a type index that names no row, and stops at the first.
-#[derive(Clone, Copy, Debug)]
+#[derive(Drop)]
 struct RowChecker<'a> {
     /// The number of rows of each table, under the table's number.
     counts: &'a [u32; 45],

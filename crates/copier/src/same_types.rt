@@ -41,7 +41,7 @@ fn same_core(core: &Core, other: &Core) -> bool
 
 /// Whether a type is the pointer to a type behind modifiers.
 #[cycle(same)]
-#[tactic(auto, using(signature_values::proofs::ViewLemmas::views))]
+#[tactic(auto, using(signature_values::proofs::ViewLemmas::view_pointer, signature_values::proofs::ViewLemmas::view_void_pointer))]
 fn is_pointer(mods: &[Modifier], to: &Core, core: &Core) -> bool
     ensures { IsTrue result ↔ (sig.pointer mods.now (core_of to.now) ≡ core_of core.now) }
 {
@@ -56,7 +56,7 @@ fn is_pointer(mods: &[Modifier], to: &Core, core: &Core) -> bool
 
 /// Whether a type is the array of a type and a shape.
 #[cycle(same)]
-#[tactic(auto, using(signature_values::proofs::ViewLemmas::views))]
+#[tactic(auto, using(signature_values::proofs::ViewLemmas::view_array))]
 fn is_array(of: &TypeSig, shape: &Shape, core: &Core) -> bool
     ensures { IsTrue result ↔ (sig.array (type_of of.now) (shape_of shape.now) ≡ core_of core.now) }
 {
@@ -70,7 +70,7 @@ fn is_array(of: &TypeSig, shape: &Shape, core: &Core) -> bool
 
 /// Whether a type is the instance of a generic type with type arguments.
 #[cycle(same)]
-#[tactic(auto, using(signature_values::proofs::ViewLemmas::views, crate::proofs::SameLemmas::types_one))]
+#[tactic(auto, using(signature_values::proofs::ViewLemmas::view_instance, crate::proofs::SameLemmas::types_one))]
 fn is_instance(is_value: bool, of: Token, args: &[TypeSig], core: &Core) -> bool
     ensures { IsTrue result ↔ (sig.instance is_value of (types_from (map type_of args.now)) ≡ core_of core.now) }
 {
@@ -111,7 +111,7 @@ pub fn same_types(types: &[TypeSig], others: &[TypeSig]) -> bool
 
 /// Whether two parameters, fields, local variables or results hold the same (II.23.2.10).
 #[cycle(same)]
-#[tactic(auto, using(signature_values::proofs::ViewLemmas::views))]
+#[tactic(auto, using(signature_values::proofs::ViewLemmas::view_typed_ref, signature_values::proofs::ViewLemmas::view_plain, signature_values::proofs::ViewLemmas::view_by_ref))]
 pub fn same_content(kind: &SlotKind, other: &SlotKind) -> bool
     ensures { IsTrue result ↔ (content_of kind.now ≡ content_of other.now) }
 {
@@ -160,7 +160,7 @@ pub fn same_slots(slots: &[Slot], others: &[Slot]) -> bool
 
 /// Whether the results of two methods are the same (II.23.2.11).
 #[cycle(same)]
-#[tactic(auto, using(signature_values::proofs::ViewLemmas::views))]
+#[tactic(auto, using(signature_values::proofs::ViewLemmas::view_some_ret, signature_values::proofs::ViewLemmas::view_void_ret))]
 pub fn same_ret(ret: &Ret, other: &Ret) -> bool
     ensures { IsTrue result ↔ (ret_of ret.now ≡ ret_of other.now) }
 {

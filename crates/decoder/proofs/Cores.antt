@@ -1,5 +1,5 @@
 -- Cores and what is made of them: reading by the first byte, and the views of values in a `Box` and in a `Vec`.
-use Rattle.std.proofs.Common.{◌≡◌, ◌∙◌, ℕ, zero, suc, ◌-◌, ◌<◌, ◌/◌, ◌%◌, ◌&&◌, eqb, true, Bool, Option, Some, None, List, [], ◌∷◌, Vec, Global, map, refl, sym, ap, arith}
+use Rattle.std.proofs.Common.{◌≡◌, ◌∙◌, ℕ, zero, suc, ◌-◌, ◌<◌, Bool, Option, Some, None, List, [], ◌∷◌, Vec, Global, map, refl, ap, arith}
 use Rattle.signature_values.specs.declared.element.Element.{Element}
 use Rattle.signature_values.specs.declared.types.Modifier.{Modifier}
 use Rattle.signature_values.specs.declared.types.TypeSig.{TypeSig}
@@ -13,7 +13,7 @@ use Rattle.signature_values.specs.declared.types.SlotKind as kinds
 use Rattle.signature_values.specs.declared.types.Ret as rets
 use Rattle.signature_values.specs.Syntax as sig
 use Rattle.signature_values.specs.Views.{core_of, type_of, content_of, slot_of, ret_of, method_of, slots_from}
-use Rattle.signature_values.specs.Reading.{Reader, change, deep, core_at, core_by, element_of, is_method_code, takes_sentinel, generic_at, number_at, ret_at, params_at, method_at, method_from}
+use Rattle.signature_values.specs.Reading.{Reader, change, deep, core_at, core_by, element_of}
 use Rattle.signature_values.proofs.ViewLemmas.{view_simple, view_void_pointer, view_pointer, view_typed_ref, view_plain, view_by_ref, view_void_ret, view_some_ret}
 use Rattle.decoder.specs.declared.error.SigError.{SigError}
 use Rattle.decoder.specs.declared.error.SigError.TheVariants.{Bad, Memory}
@@ -79,12 +79,3 @@ pub ruleset ret_views = (view_void_ret, view_slot_ret)
 pub view_method : (kind : ℕ) (this explicit : Bool) (generic : Option ℕ) (ret : rets.Ret) (params : Vec Slot Global) (sentinel : Option ℕ) → method_of (methods.roll-MethodSig (record { kind = kind; this = this; explicit = explicit; generic = generic; ret = ret; params = params; sentinel = sentinel })) ≡ sig.method kind this explicit generic (ret_of ret) (slots_from (map slot_of params.items)) sentinel
 unfolding method_of ret_of slot_of
 view_method kind this explicit generic ret params sentinel = rw methods.fold-roll-MethodSig refl
-
--- ---- a method, from its parts
-
-pub method_found : (own : Bool) (nested : Reader sig.Core) (c n : ℕ) (b rest b1 b2 b3 b4 : List ℕ) (generic sentinel : Option ℕ) (ret : sig.Ret) (params : List sig.Slot) (begins allowed : Bool) → b ≡ c ∷ rest → begins ≡ is_method_code c → begins ≡ true → generic_at (eqb (c / 16 % 2) 1) rest ≡ Some (generic, b1) → number_at b1 ≡ Some (n, b2) → ret_at nested b2 ≡ Some (ret, b3) → allowed ≡ (own && takes_sentinel (c % 16)) → params_at nested allowed n b3 ≡ Some ((params, sentinel), b4) → method_at own nested b ≡ Some (sig.method (c % 16) (eqb (c / 32 % 2) 1) (eqb (c / 64 % 2) 1) generic ret (slots_from params) sentinel, b4)
-unfolding method_at method_from
-method_found own nested c n b rest b1 b2 b3 b4 generic sentinel ret params begins allowed front is code of_generic of_number of_ret may of_params =
-    let head : is_method_code c ≡ true = sym is ∙ code in
-    let read : params_at nested (own && takes_sentinel (c % 16)) n b3 ≡ Some ((params, sentinel), b4) = ap (λ (p : Bool). params_at nested p n b3) (sym may) ∙ of_params in
-    rw (front, head, of_generic, of_number, of_ret, read) refl

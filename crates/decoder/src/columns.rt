@@ -93,8 +93,13 @@ fn property(
 {
     let (count, rest) = number(bytes)?;
     let (of, rest) = slot(alloc, rest, depth)?;
-    let (params, rest) = slots(alloc, rest, count, depth)?;
-    Ok((SigBody::Property(PropertySig { this, of, params }), rest))
+    match slots(alloc, rest, count, depth) {
+        Ok((params, rest)) => Ok((SigBody::Property(PropertySig { this, of, params }), rest)),
+        Err(error) => {
+            drop(of);
+            Err(error)
+        }
+    }
 }
 
 /// The local variables of a method, behind their first byte (II.23.2.6).

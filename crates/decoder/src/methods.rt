@@ -79,17 +79,24 @@ pub fn method(
     let (count, rest) = number(rest)?;
     let (ret, rest) = ret(alloc, rest, depth)?;
     let allowed = takes_sentinel(code, own);
-    let (params, sentinel, rest) = params(alloc, rest, count, allowed, depth)?;
-    let method = MethodSig {
-        kind: calling_convention(code),
-        this: has_this(code),
-        explicit: has_explicit_this(code),
-        generic,
-        ret,
-        params,
-        sentinel,
-    };
-    Ok((method, rest))
+    match params(alloc, rest, count, allowed, depth) {
+        Ok((params, sentinel, rest)) => {
+            let method = MethodSig {
+                kind: calling_convention(code),
+                this: has_this(code),
+                explicit: has_explicit_this(code),
+                generic,
+                ret,
+                params,
+                sentinel,
+            };
+            Ok((method, rest))
+        }
+        Err(error) => {
+            drop(ret);
+            Err(error)
+        }
+    }
 }
 
 /// A pointer to a method, behind FNPTR.

@@ -126,8 +126,9 @@ fn array(alloc: Global, bytes: &[u8], depth: u8) -> Result<(Core, &[u8]), SigErr
     ensures { Gives (λ x. (core_of x.0, x.1.now)) result (change array_from (array_at (core_at depth)) bytes.now) }
 {
     let (of, rest) = typed(alloc, bytes, depth)?;
+    let of = Box::new(alloc, of)?;
     let (shape, rest) = shape(alloc, rest)?;
-    Ok((Core::Array(Box::new(alloc, of)?, shape), rest))
+    Ok((Core::Array(of, shape), rest))
 }
 
 /// An instance of a generic type, behind GENERICINST.

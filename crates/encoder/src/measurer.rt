@@ -43,7 +43,7 @@ pub fn signed_len(number: i32) -> usize
 }
 
 /// Measures a spelling: the room, in bytes, that is left behind it.
-#[derive(Clone, Copy, Debug)]
+#[derive(Drop)]
 pub struct Measurer {
     /// The room that is left.
     pub left: usize,

@@ -38,11 +38,12 @@ impl Numbering {
     pub fn new(alloc: Global, count: usize) -> Result<Numbering, AllocError>
         ensures { IfOk result (λ numbering. numbering ≡ none_numbered) }
     {
+        let numbers = Vec::with_capacity(alloc, count)?;
         Ok(Numbering {
             blobs: BlobPool::new(alloc),
             guids: GuidPool::new(alloc),
             texts: 0,
-            numbers: Vec::with_capacity(alloc, count)?,
+            numbers,
         })
     }
 

@@ -10,7 +10,7 @@ use packed::Fault;
 use pe::images_are_read;
 use printed_faults::{Failure, printed};
 use printed_rows::Shown;
-use root::{Root, read_root, roots_are_read};
+use root::{Root, StreamHeader, read_root, roots_are_read};
 use std::alloc::Global;
 use std::io;
 use std::io::{BufWriter, Write};
@@ -55,13 +55,22 @@ fn print<W: Write>(
     if let Some(header) = header {
         print_header(header, &mut out)?;
     }
+    print_streams(root, &mut out)?;
+    out.flush()
+}
+
+fn print_streams<W: Write>(root: &Root<'_>, out: &mut W) -> io::Result<()> {
     let version = Shown(root.version());
     writeln!(out, "version {version}")?;
     for header in root.headers() {
-        let (offset, size, name) = (header.offset, header.size, Shown(header.name));
-        writeln!(out, "stream {offset} {size} {name}")?;
+        print_stream(&header, out)?;
     }
-    out.flush()
+    Ok(())
+}
+
+fn print_stream<W: Write>(header: &StreamHeader<'_>, out: &mut W) -> io::Result<()> {
+    let (offset, size, name) = (header.offset, header.size, Shown(header.name));
+    writeln!(out, "stream {offset} {size} {name}")
 }
 
 fn print_header<W: Write>(header: &CliHeader, out: &mut W) -> io::Result<()> {

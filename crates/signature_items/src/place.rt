@@ -1,7 +1,7 @@
 use schema::SigKind;
 
 /// What stands at the front of what is left of a signature. Types in it nest at most `depth` deep.
-#[derive(Clone, Copy, Debug)]
+#[derive(Clone, Copy)]
 pub enum Place {
     /// The signature of a column of this kind.
     Body(SigKind),
@@ -30,7 +30,7 @@ pub enum Place {
 }
 
 /// What follows, once something is read to its end.
-#[derive(Clone, Copy, Debug)]
+#[derive(Clone, Copy)]
 pub enum Frame {
     /// A type and so many further.
     Types {

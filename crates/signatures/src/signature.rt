@@ -157,5 +157,7 @@ pub fn shortest_spelling(alloc: Global, bytes: &[u8], kind: SigKind) -> Result<V
 {
     spelled_is_spellable();
     let signature = decode(alloc, bytes, kind)?;
-    Ok(encode(alloc, &signature)?)
+    let spelling = encode(alloc, &signature);
+    drop(signature);
+    Ok(spelling?)
 }

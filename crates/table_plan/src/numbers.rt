@@ -129,6 +129,30 @@ fn put_rows(
     Ok(())
 }
 
+/// Keeps the numbers of the rows of all tables.
+fn put_tables(
+    alloc: Global,
+    numbering: &mut Numbering,
+    indexes: &[u32],
+    tables: &Tables,
+) -> Result<(), PoolError>
+    requires { (table : Table) → AllByRecursion (AllByRecursion CanBeNumbered) (rows_of tables.now table) }
+    ensures ok { OnOk result (numbering.new ≡ with_tables indexes.now tables.now all_tables numbering.old) }
+    ensures full { result ≡ Err PoolError.Full → IsOver (with_tables indexes.now tables.now all_tables numbering.old) }
+{
+    heaps_stay_too_long();
+    for table in TableId::all() {
+        put_rows(
+            alloc,
+            numbering,
+            indexes,
+            columns(*table),
+            tables.rows(*table),
+        )?;
+    }
+    Ok(())
+}
+
 /// The numbers of all cells, by table, row and column, each once its values are pooled.
 pub fn numbers_of(alloc: Global, indexes: &[u32], tables: &Tables) -> Result<Numbering, PoolError>
     requires few { (table : Table) → count_in tables.now table ≤ 0xFFFFFF }
@@ -136,16 +160,12 @@ pub fn numbers_of(alloc: Global, indexes: &[u32], tables: &Tables) -> Result<Num
     ensures ok { IfOk result (λ numbering. numbering ≡ with_tables indexes.now tables.now all_tables none_numbered) }
     ensures full { result ≡ Err PoolError.Full → IsOver (with_tables indexes.now tables.now all_tables none_numbered) }
 {
-    heaps_stay_too_long();
     let mut numbering = Numbering::new(alloc, count_numbers(tables))?;
-    for table in TableId::all() {
-        put_rows(
-            alloc,
-            &mut numbering,
-            indexes,
-            columns(*table),
-            tables.rows(*table),
-        )?;
+    match put_tables(alloc, &mut numbering, indexes, tables) {
+        Ok(()) => Ok(numbering),
+        Err(error) => {
+            drop(numbering);
+            Err(error)
+        }
     }
-    Ok(numbering)
 }

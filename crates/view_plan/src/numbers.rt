@@ -188,6 +188,25 @@ fn count_numbers(view: &View) -> usize {
     count
 }
 
+/// Keeps the numbers of the rows of all tables.
+fn put_tables<'a>(
+    gathering: &mut Gathering<'a>,
+    indexes: &[u32],
+    view: &View<'a>,
+) -> Result<(), PoolError>
+    ensures ok { (model : Metadata) → IsModel view.now model
+        → OnOk result (gathering.new ≡ with_tables indexes.now model all_tables gathering.old) }
+    ensures full { (model : Metadata) → IsModel view.now model → result ≡ Err PoolError.Full
+        → IsOver (with_tables indexes.now model all_tables gathering.old) }
+{
+    heaps_stay_too_long();
+    tables_stand();
+    for table in TableId::all() {
+        put_rows(gathering, indexes, view, *table)?;
+    }
+    Ok(())
+}
+
 /// The numbers of all cells, by table, row and column, each once its values are pooled.
 pub fn numbers_of(alloc: Global, indexes: &[u32], view: &View) -> Result<Numbering, PoolError>
     ensures ok { (model : Metadata) → IsModel view.now model
@@ -195,11 +214,12 @@ pub fn numbers_of(alloc: Global, indexes: &[u32], view: &View) -> Result<Numberi
     ensures full { (model : Metadata) → IsModel view.now model → result ≡ Err PoolError.Full
         → IsOver (with_tables indexes.now model all_tables none_numbered) }
 {
-    heaps_stay_too_long();
-    tables_stand();
     let mut gathering = Gathering::new(alloc, count_numbers(view))?;
-    for table in TableId::all() {
-        put_rows(&mut gathering, indexes, view, *table)?;
+    match put_tables(&mut gathering, indexes, view) {
+        Ok(()) => Ok(gathering.into_numbering()),
+        Err(error) => {
+            drop(gathering);
+            Err(error)
+        }
     }
-    Ok(gathering.into_numbering())
 }

@@ -32,5 +32,7 @@ pub fn prepare_view(alloc: Global, view: &View, limit: u32) -> Result<Prepared, 
     let plan = plan_of(alloc, view, limit)?;
     // The root has a model.
     let _root = view.root();
-    Ok(make(alloc, &plan)?)
+    let prepared = make(alloc, &plan);
+    drop(plan);
+    Ok(prepared?)
 }

@@ -141,5 +141,3 @@ pub ruleset cores_run = (
   run_instance,
   run_function,
 )
-
-pub ruleset others_run = (run_type, run_typed_ref, run_plain, run_by_ref, run_slot, run_some_ret, run_void_ret)

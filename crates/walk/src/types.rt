@@ -96,7 +96,7 @@ fn visit_first<S: PartSink>(sink: &mut S, core: &Core, depth: u8) -> Option<()>
 
 /// A type.
 #[cycle(walk)]
-#[tactic(auto, using(crate::proofs::Steps::steps, crate::proofs::Forms::others_run))]
+#[tactic(auto, using(crate::proofs::Steps::steps, crate::proofs::Forms::run_type))]
 pub fn visit_typed<S: PartSink>(sink: &mut S, of: &TypeSig, depth: u8) -> Option<()>
     ensures { after result sink.new ≡ run S.step (typed_items (type_of of.now) depth) sink.old }
 {
@@ -118,7 +118,7 @@ pub fn visit_types<S: PartSink>(sink: &mut S, types: &[TypeSig], depth: u8) -> O
 
 /// What a parameter, a field or a local variable holds (II.23.2.10).
 #[cycle(walk)]
-#[tactic(auto, using(crate::proofs::Steps::steps, crate::proofs::Forms::others_run))]
+#[tactic(auto, using(crate::proofs::Steps::steps, crate::proofs::Forms::run_typed_ref, crate::proofs::Forms::run_plain, crate::proofs::Forms::run_by_ref))]
 pub fn visit_content<S: PartSink>(sink: &mut S, content: &SlotKind, depth: u8) -> Option<()>
     ensures { after result sink.new ≡ run S.step (content_items (content_of content.now) depth) sink.old }
 {
@@ -135,7 +135,7 @@ pub fn visit_content<S: PartSink>(sink: &mut S, content: &SlotKind, depth: u8) -
 
 /// A parameter or a field.
 #[cycle(walk)]
-#[tactic(auto, using(crate::proofs::Steps::steps, crate::proofs::Forms::others_run))]
+#[tactic(auto, using(crate::proofs::Steps::steps, crate::proofs::Forms::run_slot))]
 pub fn visit_slot<S: PartSink>(sink: &mut S, slot: &Slot, depth: u8) -> Option<()>
     ensures { after result sink.new ≡ run S.step (slot_items (slot_of slot.now) depth) sink.old }
 {
@@ -185,7 +185,7 @@ pub fn visit_params<S: PartSink>(
 
 /// A result (II.23.2.11).
 #[cycle(walk)]
-#[tactic(auto, using(crate::proofs::Steps::steps, crate::proofs::Forms::others_run))]
+#[tactic(auto, using(crate::proofs::Steps::steps, crate::proofs::Forms::run_some_ret, crate::proofs::Forms::run_void_ret))]
 pub fn visit_ret<S: PartSink>(sink: &mut S, ret: &Ret, depth: u8) -> Option<()>
     ensures { after result sink.new ≡ run S.step (ret_items (ret_of ret.now) depth) sink.old }
 {

@@ -25,5 +25,7 @@ pub fn prepare(alloc: Global, model: &Model, limit: u32) -> Result<Prepared, Wri
     let plan = plan_of(alloc, model, limit)?;
     // The model is valid.
     let _tables = model.tables();
-    Ok(make(alloc, &plan)?)
+    let prepared = make(alloc, &plan);
+    drop(plan);
+    Ok(prepared?)
 }

@@ -1,10 +1,10 @@
-use Rattle.std.proofs.Common.{◌≡◌, ◌∙◌, ◌&&◌, true, Bool, map, length-append, Option, List, ℕ, refl, sym, ap, rules, subst, arith}
+use Rattle.std.proofs.Common.{◌≡◌, ◌∙◌, ◌&&◌, Bool, map, length-append, Option, List, ℕ, refl, sym, ap, rules, subst, arith}
 use Rattle.std.proofs.lemmas.List.{map-append}
 use Rattle.signature_values.specs.Syntax.{Typed, Slot}
 use Rattle.signature_values.specs.Reading.{typed_at, core_at, head_is}
-use Rattle.signature_values.specs.Views.{type_of, slot_of, ret_of}
+use Rattle.signature_values.specs.Views.{type_of, slot_of}
 use Rattle.decoder.specs.Gives.{Fails}
-use Rattle.decoder.proofs.Cores.{core_simple, view_method, method_found}
+use Rattle.decoder.proofs.Cores.{core_simple}
 use Rattle.signature_values.proofs.ViewLemmas.{view_simple}
 use Rattle.decoder.proofs.Items.{failed, many_next, many_bad, many_end}
 use Rattle.decoder.proofs.Parameters.{still, after_mark, params_next, params_bad, params_end}
@@ -52,9 +52,3 @@ methods::params-loop-done-preserved t c =
 pub methods::params-returns : goal.methods::params-returns
 methods::params-returns t c =
     sym c.loop-done.invariant.so_far ∙ params_end (core_at c.args.depth) c.args.count c.loop-done.done (still c.args.allowed c.loop-done.before) c.loop-done.before c.loop-done.rest.now (map slot_of c.loop-done.all.items) c.loop-done-test.false
-
-pub methods::method-returns : goal.methods::method-returns
-methods::method-returns t c =
-    let begins : c.begins_method.result ≡ true = search rules in
-    let e = method_found c.args.own (core_at c.args.depth) c.in_ok-code.code c.in_ok-count.count c.args.bytes.now c.in_ok-code.rest.now c.in_ok-generic.rest.now c.in_ok-count.rest.now c.in_ok-ret.rest.now c.in_ok-params.rest.now c.in_ok-generic.generic c.in_ok-params.sentinel (ret_of c.in_ok-ret.ret) (map slot_of c.in_ok-params.params.items) c.begins_method.result c.takes_sentinel-allowed.result c.in_ok-code.ensures c.begins_method.ensures begins c.in_ok-generic.ensures c.in_ok-count.ensures c.in_ok-ret.ensures c.takes_sentinel-allowed.ensures c.in_ok-params.ensures in
-    rw (e, view_method c.calling_convention.result c.has_this.result c.has_explicit_this.result c.in_ok-generic.generic c.in_ok-ret.ret c.in_ok-params.params c.in_ok-params.sentinel, c.calling_convention.ensures, c.has_this.ensures, c.has_explicit_this.ensures) refl

@@ -14,16 +14,16 @@ refused (Err error) P is =
     let Told : WriteError → Type 0 = λ error. MatchError P ⊤ (λ given. ⊥) error in
     subst Told (sym is) tt
 
-pub make-requires : goal.make-requires
-make-requires c = ∥∥₁_map c.root-root.ensures.model (λ some.
+pub make-prepared-requires : goal.make-prepared-requires
+make-prepared-requires c = ∥∥₁_map c.root-root.ensures.model (λ some.
     (some.0, c.models_of_roots_are_valid.ensures c.args.view.now some.0 some.1, c.in_ok-plan.ensures.plan some.0 some.1))
 
-pub returns-in_err-make-clause-refused : goal.returns-in_err-make-clause-refused
-returns-in_err-make-clause-refused c model is = refused c.from_residual-in_err-make.result _ c.from_residual-in_err-make.ensures.1
+pub returns-in_err-prepared-clause-refused : goal.returns-in_err-prepared-clause-refused
+returns-in_err-prepared-clause-refused c model is = refused c.from_residual-in_err-prepared.result _ c.from_residual-in_err-prepared.ensures.1
 
 pub returns-clause-root : goal.returns-clause-root
-returns-clause-root c model is = c.in_ok-make.ensures model (c.in_ok-plan.ensures.plan model is)
+returns-clause-root c model is = c.in_ok-prepared.ensures model (c.in_ok-plan.ensures.plan model is)
 
 pub returns-clause-within : goal.returns-clause-within
 returns-clause-within c = ∥∥₁_elim c.root-root.ensures.model le_prop (λ some.
-    omega (arith, ap length (c.in_ok-make.ensures some.0 (c.in_ok-plan.ensures.plan some.0 some.1)), c.in_ok-plan.ensures.fits some.0 some.1))
+    omega (arith, ap length (c.in_ok-prepared.ensures some.0 (c.in_ok-plan.ensures.plan some.0 some.1)), c.in_ok-plan.ensures.fits some.0 some.1))

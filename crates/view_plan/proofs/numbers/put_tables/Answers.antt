@@ -7,7 +7,7 @@ use Rattle.schema.specs.Columns.{columns_of}
 use Rattle.metadata.specs.Metadata.{rows_of}
 use Rattle.plan.specs.Numbered.{Numbered, IsOver, with_rows, with_tables}
 use Rattle.view_plan.proofs.PlaceLemmas.{tables_left, tables_done}
-use Rattle.view_plan.proofs.numbers.numbers_of.Goals as goal
+use Rattle.view_plan.proofs.numbers.put_tables.Goals as goal
 
 pub loop-table-preserved : goal.loop-table-preserved
 loop-table-preserved c = λ model is.
@@ -37,4 +37,4 @@ returns-clause-ok c = λ model is.
     let indexes = c.args.indexes.now in
     let i = c.loop-table.table-index in
     let past : length tables ≤ i = omega (arith, ap length c.all-table-items.ensures.value, c.loop-table-test.false) in
-    c.into_numbering.ensures ∙ tables_done indexes model i c.loop-table.gathering _ past (c.loop-table.invariant model is)
+    tables_done indexes model i c.loop-table.gathering _ past (c.loop-table.invariant model is)

@@ -2,11 +2,11 @@ use Rattle.std.proofs.Common.{◌≡◌, drop}
 use Rattle.schema.specs.Tables.{tables}
 use Rattle.metadata.specs.Metadata.{Metadata}
 use Rattle.metadata.specs.Model.{IsModel}
-use Rattle.plan.specs.Numbered.{with_tables, none_numbered}
-use Rattle.view_plan.proofs.numbers.numbers_of.Given as goal
+use Rattle.plan.specs.Numbered.{with_tables}
+use Rattle.view_plan.proofs.numbers.put_tables.Given as goal
 
 -- with the tables that are left it is all of them
 abbrev pub invariant-loop-table : goal.invariant-loop-table
 invariant-loop-table l =
     (model : Metadata) → IsModel l.view model
-    → with_tables l.indexes model (drop l.table-index tables) l.gathering ≡ with_tables l.indexes model tables none_numbered
+    → with_tables l.indexes model (drop l.table-index tables) l.gathering ≡ with_tables l.indexes model tables l.fn.gathering
