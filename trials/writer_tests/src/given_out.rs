@@ -1,7 +1,7 @@
+use crate::scripted::{Scripted, Step};
 use owned_model::Model;
 use sample_roots::{ONE_MODULE, TWO_TYPES};
 use sample_tables::{GUID, model_of_module, model_of_two_types};
-use sink_tests::{Scripted, Step};
 use std::alloc::Global;
 use std::process::Abort;
 use std::test::Fail;

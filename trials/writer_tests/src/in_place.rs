@@ -31,7 +31,10 @@ fn check(rt: &impl Abort, alloc: Global, root: &[u8]) -> Result<(), Fail> {
     let len = of_model.len();
     assert_eq!(rt; prepare_view(alloc, &view, len)?.bytes(), of_model.bytes());
     let too_large = Some(WriteError::TooLarge);
-    assert_eq!(rt; prepare_view(alloc, &view, len.saturating_sub(1)).err(), too_large);
+    assert_eq!(rt;
+        prepare_view(alloc, &view, len.saturating_sub(1)).err(),
+        too_large
+    );
     assert_eq!(rt; prepare_view(alloc, &view, 0).err(), too_large);
     Ok(())
 }
@@ -70,7 +73,11 @@ fn nulls_and_signatures_are_written_as_those_of_the_model(rt: HostRuntime) -> Re
         check(&rt, alloc, &root_of_implementation(alloc, tag)?)?;
     }
     let spelled = b"\x15\x12\x80\x05\x01\x08";
-    check(&rt, alloc, &root_of_signature(alloc, TableId::TypeSpec, spelled)?)
+    check(
+        &rt,
+        alloc,
+        &root_of_signature(alloc, TableId::TypeSpec, spelled)?,
+    )
 }
 
 #[test]

@@ -1,4 +1,4 @@
-use sink_tests::{Scripted, Step};
+use crate::scripted::{Scripted, Step};
 use sinks::{Counted, Sink, Stopped, send_all};
 use std::alloc::Global;
 use std::process::Abort;

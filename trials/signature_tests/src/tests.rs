@@ -1,5 +1,0 @@
-mod bodies;
-mod bytes;
-mod indexes;
-mod spelled;
-mod values;
