@@ -14,7 +14,6 @@ use reading::{Source, column_at, named_by};
 use schema::{Coded, Column, ColumnKind, TableId, columns};
 
 /// Each number stands for a cell (II.22).
-#[tactic(auto, using(packed::proofs::DemandLemmas::before_none, packed::proofs::DemandLemmas::before_more, packed::proofs::DemandLemmas::before_all, packed::proofs::DemandLemmas::before_fails), unfolding(metadata::specs::Demands::demands_of_cells, metadata::specs::Demands::demands_of_table_at))]
 pub fn check_cells(source: &Source) -> Result<(), Fault>
     ensures { Answers (demands_of_cells source.now) result }
 {
@@ -36,7 +35,6 @@ fn check_table(source: &Source, table: TableId) -> Result<(), Fault>
 }
 
 /// Each number of a table stands for a cell, row by row from a first on.
-#[tactic(auto, using(packed::proofs::DemandLemmas::before_none, packed::proofs::DemandLemmas::before_more, packed::proofs::DemandLemmas::before_all, packed::proofs::DemandLemmas::before_fails), unfolding(metadata::specs::Demands::demands_of_table))]
 fn check_rows(source: &Source, table: TableId, first: u32) -> Result<(), Fault>
     requires first { 1 ≤ first }
     requires last { first ≤ rows_in source.now.source table + 1 }
@@ -136,7 +134,6 @@ fn first_index(source: &Source, table: TableId, column: usize, limit: u32) -> u3
 }
 
 /// Each number of a row stands for a cell.
-#[tactic(auto, using(packed::proofs::DemandLemmas::before_none, packed::proofs::DemandLemmas::before_more, packed::proofs::DemandLemmas::before_all, packed::proofs::DemandLemmas::before_fails), unfolding(metadata::specs::Demands::demands_of_row))]
 fn check_row(source: &Source, table: TableId, row: u32) -> Result<(), Fault>
     requires first { 1 ≤ row }
     requires last { row ≤ rows_in source.now.source table }

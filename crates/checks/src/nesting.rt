@@ -14,7 +14,6 @@ const NESTED: usize = 0;
 const ENCLOSING: usize = 1;
 
 /// Each type stands behind the one that it is nested in (II.22.32).
-#[tactic(auto, using(packed::proofs::DemandLemmas::before_none, packed::proofs::DemandLemmas::before_more, packed::proofs::DemandLemmas::before_all, packed::proofs::DemandLemmas::before_fails), unfolding(metadata::specs::Demands::demands_of_nesting))]
 pub fn check_nesting(source: &Source) -> Result<(), Fault>
     ensures { Answers (demands_of_nesting source.now) result }
 {

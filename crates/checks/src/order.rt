@@ -10,7 +10,6 @@ use reading::Source;
 use schema::{TableId, columns_stand, key, tables_stand};
 
 /// Each table is in order of its key, where it is said to be (II.22), by the tables whose keys never fall.
-#[tactic(auto, using(packed::proofs::DemandLemmas::before_none, packed::proofs::DemandLemmas::before_more, packed::proofs::DemandLemmas::before_all, packed::proofs::DemandLemmas::before_fails), unfolding(metadata::specs::Demands::demands_of_order, metadata::specs::Demands::demands_of_order_at))]
 pub fn check_order(source: &Source, in_order: &[bool; 45]) -> Result<(), Fault>
     requires { TellsOrder source.now.source in_order.now }
     ensures { Answers (demands_of_order source.now) result }
@@ -44,7 +43,6 @@ fn check_order_of(source: &Source, table: TableId, in_order: &[bool; 45]) -> Res
 }
 
 /// The keys of a table never fall.
-#[tactic(auto, using(packed::proofs::DemandLemmas::before_none, packed::proofs::DemandLemmas::before_more, packed::proofs::DemandLemmas::before_all, packed::proofs::DemandLemmas::before_fails), unfolding(metadata::specs::Demands::demands_of_keys))]
 fn check_keys(source: &Source, table: TableId, key: usize) -> Result<(), Fault>
     requires { key < length (columns_of table) }
     ensures { Answers (demands_of_keys source.now table key) result }

@@ -23,7 +23,6 @@ struct Walk {
 /// Each member of the five runs has one owner (II.22.37, II.22.26, II.22.12 and II.22.35).
 ///
 /// Where all have, it answers the starts that were kept on the way.
-#[tactic(auto, using(packed::proofs::DemandLemmas::fails_front, packed::proofs::DemandLemmas::fails_back, packed::proofs::DemandLemmas::all_append), unfolding(metadata::specs::Demands::demands_of_runs))]
 pub fn check_runs(source: &Source) -> Result<KnownRuns, Fault>
     ensures answers { Answers (demands_of_runs source.now) result }
     ensures known { IfOk result (AreKnown source.now.source) }

@@ -50,7 +50,6 @@ fn check_signatures_of(
 }
 
 /// The signatures of a table, row by row from a first on.
-#[tactic(auto, using(packed::proofs::DemandLemmas::before_none, packed::proofs::DemandLemmas::before_more, packed::proofs::DemandLemmas::before_all, packed::proofs::DemandLemmas::before_fails), unfolding(metadata::specs::Demands::demands_of_signatures_of))]
 fn check_signature_rows(source: &Source, table: TableId, first: u32) -> Result<(), Fault>
     requires first { 1 ≤ first }
     requires last { first ≤ rows_in source.now.source table + 1 }
@@ -145,7 +144,6 @@ fn first_misspelled(
 }
 
 /// The signatures of a row.
-#[tactic(auto, using(packed::proofs::DemandLemmas::before_none, packed::proofs::DemandLemmas::before_more, packed::proofs::DemandLemmas::before_all, packed::proofs::DemandLemmas::before_fails), unfolding(metadata::specs::Demands::demands_of_signatures_in))]
 fn check_signatures_in(source: &Source, table: TableId, row: u32) -> Result<(), Fault>
     requires first { 1 ≤ row }
     requires last { row ≤ rows_in source.now.source table }
