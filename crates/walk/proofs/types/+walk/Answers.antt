@@ -1,7 +1,7 @@
-use Rattle.std.proofs.Common.{refl, sym, ◌∙◌}
-use Rattle.walk.proofs.Steps.{on_both, on_one, off_both, off_one}
-use Rattle.walk.proofs.Forms.{method_told}
-use Rattle.walk.proofs.Loops.{goes_by, stops_by, types_next, params_next}
+use Rattle.std.proofs.Common.{refl, sym, ◌∙◌, arith}
+use Rattle.walk.proofs.Steps.{steps, on_both, on_one, off_both, off_one}
+use Rattle.walk.proofs.Forms.{method_told, run_simple, run_void_pointer, run_pointer, run_vector, run_array, run_class, run_value, run_var, run_mvar, run_function, run_instance, run_type, run_typed_ref, run_plain, run_by_ref, run_slot, run_some_ret, run_void_ret}
+use Rattle.walk.proofs.Loops.{types_count, goes_by, stops_by, types_next, params_next}
 use Rattle.walk.proofs.types.+walk.Goals as goal
 
 pub visit_types-returns-in_err-visit_typed : goal.visit_types-returns-in_err-visit_typed
@@ -68,3 +68,126 @@ visit_method-returns g t c =
     (on_one g.S.PartSink.step _ _ _ _ _ c.in_ok-byte.ensures
     (on_both g.S.PartSink.step _ _ _ _ _ c.in_ok-visit_demand.ensures
     (method_told g.S.PartSink.step c.args.depth c.args.sink.now c.args.method.now _ _ _ _ _ c.deref.ensures.value c.can_be.ensures c.first_byte.ensures (c.len.ensures ∙ sym c.deref.ensures.len) c.deref-2.ensures.value))))))
+
+pub visit_first-returns-in-Simple : goal.visit_first-returns-in-Simple
+visit_first-returns-in-Simple g t c = grind (arith, steps, run_simple)
+
+pub visit_first-returns-in_err-byte-in-Pointer : goal.visit_first-returns-in_err-byte-in-Pointer
+visit_first-returns-in_err-byte-in-Pointer g t c = grind (arith, steps, run_void_pointer, run_pointer)
+
+pub visit_first-returns-in_err-visit_modifiers-in-Pointer : goal.visit_first-returns-in_err-visit_modifiers-in-Pointer
+visit_first-returns-in_err-visit_modifiers-in-Pointer g t c = grind (arith, steps, run_void_pointer, run_pointer)
+
+pub visit_first-returns-in-Some : goal.visit_first-returns-in-Some
+visit_first-returns-in-Some g t c = grind (arith, steps, run_pointer)
+
+pub visit_first-returns-in-None : goal.visit_first-returns-in-None
+visit_first-returns-in-None g t c = grind (arith, steps, run_void_pointer)
+
+pub visit_first-returns-in_err-byte-in-Vector : goal.visit_first-returns-in_err-byte-in-Vector
+visit_first-returns-in_err-byte-in-Vector g t c = grind (arith, steps, run_vector)
+
+pub visit_first-returns-in_ok-byte-in-Vector : goal.visit_first-returns-in_ok-byte-in-Vector
+visit_first-returns-in_ok-byte-in-Vector g t c = grind (arith, steps, run_vector)
+
+pub visit_first-returns-in_err-byte-in-Array : goal.visit_first-returns-in_err-byte-in-Array
+visit_first-returns-in_err-byte-in-Array g t c = grind (arith, steps, run_array)
+
+pub visit_first-returns-in_err-visit_typed-in-Array : goal.visit_first-returns-in_err-visit_typed-in-Array
+visit_first-returns-in_err-visit_typed-in-Array g t c = grind (arith, steps, run_array)
+
+pub visit_first-returns-in_ok-visit_typed-in-Array : goal.visit_first-returns-in_ok-visit_typed-in-Array
+visit_first-returns-in_ok-visit_typed-in-Array g t c = grind (arith, steps, run_array)
+
+pub visit_first-returns-in_err-byte-in-Class : goal.visit_first-returns-in_err-byte-in-Class
+visit_first-returns-in_err-byte-in-Class g t c = grind (arith, steps, run_class)
+
+pub visit_first-returns-in_ok-byte-in-Class : goal.visit_first-returns-in_ok-byte-in-Class
+visit_first-returns-in_ok-byte-in-Class g t c = grind (arith, steps, run_class)
+
+pub visit_first-returns-in_err-byte-in-Value : goal.visit_first-returns-in_err-byte-in-Value
+visit_first-returns-in_err-byte-in-Value g t c = grind (arith, steps, run_value)
+
+pub visit_first-returns-in_ok-byte-in-Value : goal.visit_first-returns-in_ok-byte-in-Value
+visit_first-returns-in_ok-byte-in-Value g t c = grind (arith, steps, run_value)
+
+pub visit_first-returns-in_err-byte-in-Var : goal.visit_first-returns-in_err-byte-in-Var
+visit_first-returns-in_err-byte-in-Var g t c = grind (arith, steps, run_var)
+
+pub visit_first-returns-in_ok-byte-in-Var : goal.visit_first-returns-in_ok-byte-in-Var
+visit_first-returns-in_ok-byte-in-Var g t c = grind (arith, steps, run_var)
+
+pub visit_first-returns-in_err-byte-in-MVar : goal.visit_first-returns-in_err-byte-in-MVar
+visit_first-returns-in_err-byte-in-MVar g t c = grind (arith, steps, run_mvar)
+
+pub visit_first-returns-in_ok-byte-in-MVar : goal.visit_first-returns-in_ok-byte-in-MVar
+visit_first-returns-in_ok-byte-in-MVar g t c = grind (arith, steps, run_mvar)
+
+pub visit_first-returns-in_err-byte-in-Function : goal.visit_first-returns-in_err-byte-in-Function
+visit_first-returns-in_err-byte-in-Function g t c = grind (arith, steps, run_function)
+
+pub visit_first-returns-in_ok-byte-in-Function : goal.visit_first-returns-in_ok-byte-in-Function
+visit_first-returns-in_ok-byte-in-Function g t c = grind (arith, steps, run_function)
+
+pub visit_first-returns-in_err-byte-in-Instance : goal.visit_first-returns-in_err-byte-in-Instance
+visit_first-returns-in_err-byte-in-Instance g t c = grind (arith, steps, run_instance, types_count)
+
+pub visit_first-returns-in_err-byte-in-Instance-2 : goal.visit_first-returns-in_err-byte-in-Instance-2
+visit_first-returns-in_err-byte-in-Instance-2 g t c = grind (arith, steps, run_instance, types_count)
+
+pub visit_first-returns-in_err-index-in-Instance : goal.visit_first-returns-in_err-index-in-Instance
+visit_first-returns-in_err-index-in-Instance g t c = grind (arith, steps, run_instance, types_count)
+
+pub visit_first-returns-in_err-number-in-Instance : goal.visit_first-returns-in_err-number-in-Instance
+visit_first-returns-in_err-number-in-Instance g t c = grind (arith, steps, run_instance, types_count)
+
+pub visit_first-returns-in_ok-number-in-Instance : goal.visit_first-returns-in_ok-number-in-Instance
+visit_first-returns-in_ok-number-in-Instance g t c = grind (arith, steps, run_instance, types_count)
+
+pub visit_core-returns-in_err-visit_demand : goal.visit_core-returns-in_err-visit_demand
+visit_core-returns-in_err-visit_demand g t c = grind (arith, steps)
+
+pub visit_core-returns : goal.visit_core-returns
+visit_core-returns g t c = grind (arith, steps)
+
+pub visit_typed-returns-in_err-visit_modifiers : goal.visit_typed-returns-in_err-visit_modifiers
+visit_typed-returns-in_err-visit_modifiers g t c = grind (arith, steps, run_type)
+
+pub visit_typed-returns : goal.visit_typed-returns
+visit_typed-returns g t c = grind (arith, steps, run_type)
+
+pub visit_content-returns-in-TypedRef : goal.visit_content-returns-in-TypedRef
+visit_content-returns-in-TypedRef g t c = grind (arith, steps, run_typed_ref)
+
+pub visit_content-returns-in-Plain : goal.visit_content-returns-in-Plain
+visit_content-returns-in-Plain g t c = grind (arith, steps, run_plain)
+
+pub visit_content-returns-in_err-byte-in-ByRef : goal.visit_content-returns-in_err-byte-in-ByRef
+visit_content-returns-in_err-byte-in-ByRef g t c = grind (arith, steps, run_by_ref)
+
+pub visit_content-returns-in_err-visit_modifiers-in-ByRef : goal.visit_content-returns-in_err-visit_modifiers-in-ByRef
+visit_content-returns-in_err-visit_modifiers-in-ByRef g t c = grind (arith, steps, run_by_ref)
+
+pub visit_content-returns-in_ok-visit_modifiers-in-ByRef : goal.visit_content-returns-in_ok-visit_modifiers-in-ByRef
+visit_content-returns-in_ok-visit_modifiers-in-ByRef g t c = grind (arith, steps, run_by_ref)
+
+pub visit_slot-returns : goal.visit_slot-returns
+visit_slot-returns g t c = grind (arith, steps, run_slot)
+
+pub visit_slot-returns-in_err-visit_modifiers : goal.visit_slot-returns-in_err-visit_modifiers
+visit_slot-returns-in_err-visit_modifiers g t c = grind (arith, steps, run_slot)
+
+pub visit_param-returns-in_err-byte : goal.visit_param-returns-in_err-byte
+visit_param-returns-in_err-byte g t c = grind (arith, steps)
+
+pub visit_param-returns-then-marked : goal.visit_param-returns-then-marked
+visit_param-returns-then-marked g t c = grind (arith, steps)
+
+pub visit_ret-returns-in-Slot : goal.visit_ret-returns-in-Slot
+visit_ret-returns-in-Slot g t c = grind (arith, steps, run_some_ret)
+
+pub visit_ret-returns-in_err-visit_modifiers-in-Void : goal.visit_ret-returns-in_err-visit_modifiers-in-Void
+visit_ret-returns-in_err-visit_modifiers-in-Void g t c = grind (arith, steps, run_void_ret)
+
+pub visit_ret-returns-in_ok-visit_modifiers-in-Void : goal.visit_ret-returns-in_ok-visit_modifiers-in-Void
+visit_ret-returns-in_ok-visit_modifiers-in-Void g t c = grind (arith, steps, run_void_ret)
