@@ -1,9 +1,14 @@
 -- The tables of coded indexes by their tags.
-use Rattle.std.proofs.Common.{◌≡◌, ◌≢◌, ℕ, zero, suc, ◌-◌, ◌*◌, ◌/◌, ◌%◌, ◌^◌, ◌<◌, ◌≤◌, Bool, true, false, cond, List, [], ◌∷◌, length, Option, Some, None, refl, sym, ap, ◌∙◌, lit≤, arith, eqb, eq-eqb}
+use Rattle.std.proofs.Common.{◌≡◌, ◌≢◌, ℕ, zero, suc, ◌+◌, ◌-◌, ◌*◌, ◌/◌, ◌%◌, ◌^◌, ◌<◌, ◌≤◌, Bool, true, false, cond, List, [], ◌∷◌, length, Option, Some, None, refl, sym, subst, ap, ◌∙◌, lit≤, arith, eqb, eq-eqb}
 use Rattle.std.specs.List.{slice_get}
-use Rattle.std.proofs.lemmas.Option.{slice_get_within}
+use Rattle.std.specs.Prelude.{IfSome, IfNone, get_or}
+use Rattle.std.specs.Option.{option_eq}
+use Rattle.std.proofs.lemmas.Option.{slice_get_within, slice_get_read, slice_get-get_or, get_or_from_slice_get}
 use Rattle.std.proofs.Math.Nat.{mod-eq_of_lt}
 use Rattle.std.proofs.lemmas.Nat.{same_from_place, shr_split, one_shl}
+use denote.Enum.Bare.{same_true, true_same}
+use Rattle.schema.specs.contracts.table.TableId as kind
+use Rattle.schema.specs.contracts.table.TableIdPartialEq.TheImpl as equality
 use Rattle.schema.specs.declared.table.TableId.{TableId}
 use Rattle.schema.specs.declared.coded.Coded.{Coded}
 use Rattle.schema.specs.declared.coded.Coded.TheVariants as coded
@@ -110,6 +115,61 @@ is_named c number bits table e small listed =
     let below : number / 2 ^ bits * 2 ^ bits < 2 ^ 32 = omega arith in
     let whole = mod-eq_of_lt below in
     record { tag = number - number / 2 ^ bits * 2 ^ bits % 2 ^ 32; listed = listed; equal = omega (arith, ap (λ k. number / 2 ^ bits * 2 ^ k) e) }
+
+-- the tag that is left of a number without the row
+pub tag_is : (c : Coded) (number bits : ℕ) (table : TableId) (row : ℕ) → bits ≡ tag_bits c → number < 2 ^ 32 → IsCoded c number table row
+    → slice_get (tables_of c) (number - number / 2 ^ bits * 2 ^ bits % 2 ^ 32) ≡ Some (Some table)
+tag_is c number bits table row e small named =
+    let below : named.tag < 2 ^ bits = rw e (tag_below c named.tag table named.listed) in
+    let whole : number / 2 ^ bits * 2 ^ bits + number % 2 ^ bits ≡ row * 2 ^ bits + named.tag = rw e (shr_split number (tag_bits c) ∙ named.equal) in
+    let few : number % 2 ^ bits < 2 ^ bits = omega arith in
+    let same = same_from_place (number / 2 ^ bits) (number % 2 ^ bits) row named.tag (2 ^ bits) few below whole in
+    let split = shr_split number bits in
+    let within : number / 2 ^ bits * 2 ^ bits < 2 ^ 32 = omega arith in
+    let kept = mod-eq_of_lt within in
+    let left : number - number / 2 ^ bits * 2 ^ bits % 2 ^ 32 ≡ named.tag = omega arith in
+    rw left named.listed
+
+-- a table that is at no tag below the length is at none
+pub lists_no_more : (listed same : List (Option TableId)) (n : ℕ) (table : TableId) → same ≡ listed → length same ≤ n
+    → ((k : ℕ) → k < n → slice_get listed k ≢ Some (Some table)) → (tag : ℕ) → slice_get listed tag ≢ Some (Some table)
+lists_no_more listed same n table e le none tag found =
+    let within = slice_get_within listed tag (Some table) found in
+    let equal : length same ≡ length listed = ap length e in
+    none tag (omega arith) found
+
+-- what stands at a tag, and what then does not
+stands_at : (listed same : List (Option TableId)) (tag : ℕ) (o : Option TableId) → same ≡ listed → tag < length same → o ≡ get_or same tag o → slice_get listed tag ≡ Some o
+stands_at listed same tag o e within is = subst (λ (l : List (Option TableId)). slice_get l tag ≡ Some o) e (slice_get_read same (length same) tag o refl within is)
+
+pub named_at : (listed same : List (Option TableId)) (tag : ℕ) (o : Option TableId) → same ≡ listed → tag < length same → o ≡ get_or same tag o
+    → IfSome o (λ table. slice_get listed tag ≡ Some (Some table))
+named_at listed same tag None e within is = tt
+named_at listed same tag (Some table) e within is = stands_at listed same tag (Some table) e within is
+
+pub unnamed_at : (listed same : List (Option TableId)) (tag : ℕ) (o : Option TableId) → same ≡ listed → tag < length same → o ≡ get_or same tag o
+    → IfNone o ((table : TableId) → slice_get listed tag ≢ Some (Some table))
+unnamed_at listed same tag None e within is = λ table other. let here = stands_at listed same tag None e within is in cc
+unnamed_at listed same tag (Some table) e within is = tt
+
+-- the table is the one at a tag, or is not
+equal_some : (o : Option TableId) (table : TableId) → option_eq equality.eq-value.it o (Some table) ≡ true → o ≡ Some table
+equal_some None table h = absurd cc
+equal_some (Some other) table h = ap Some (same_true kind.the_type tt other table h)
+
+pub meets : (listed same : List (Option TableId)) (tag : ℕ) (d : Option TableId) (table : TableId) → same ≡ listed → tag < length same
+    → option_eq equality.eq-value.it (get_or same tag d) (Some table) ≡ true → slice_get listed tag ≡ Some (Some table)
+meets listed same tag d table e within h =
+    subst (λ (l : List (Option TableId)). slice_get l tag ≡ Some (Some table)) e (slice_get-get_or same tag d within ∙ ap Some (equal_some (get_or same tag d) table h))
+
+pub misses : (listed same : List (Option TableId)) (tag : ℕ) (d : Option TableId) (table : TableId) → same ≡ listed
+    → option_eq equality.eq-value.it (get_or same tag d) (Some table) ≡ false → slice_get listed tag ≢ Some (Some table)
+misses listed same tag d table e h found =
+    let here : slice_get same tag ≡ Some (Some table) = subst (λ (l : List (Option TableId)). slice_get l tag ≡ Some (Some table)) (sym e) found in
+    let read = get_or_from_slice_get same tag (Some table) d here in
+    let equal : equality.eq-value.it table table ≡ true = true_same kind.the_type table table refl in
+    let unequal : equality.eq-value.it table table ≡ false = sym (ap (λ o. option_eq equality.eq-value.it o (Some table)) read) ∙ h in
+    cc
 
 -- one shifted by the bits of the tag
 pub shifted : (c : Coded) (bits row : ℕ) → bits ≡ tag_bits c → bits ≤ 5 → row * (1 * 2 ^ bits % 2 ^ 32) ≡ row * 2 ^ tag_bits c
