@@ -86,18 +86,18 @@ fn core_behind(code: u8, rest: &[u8], depth: u8) -> Option<Step<'_>>
 {
     match code {
         PTR => deeper(Item::Pointer, Place::Target { depth }, rest, depth),
-        VALUETYPE => match index(rest) {
-            Some((of, rest)) => Some(Step::leaf(Item::Value(of), rest)),
-            None => None,
-        },
-        CLASS => match index(rest) {
-            Some((of, rest)) => Some(Step::leaf(Item::Class(of), rest)),
-            None => None,
-        },
-        VAR => match number(rest) {
-            Some((number, rest)) => Some(Step::leaf(Item::Var(number), rest)),
-            None => None,
-        },
+        VALUETYPE => {
+            let (of, rest) = index(rest)?;
+            Some(Step::leaf(Item::Value(of), rest))
+        }
+        CLASS => {
+            let (of, rest) = index(rest)?;
+            Some(Step::leaf(Item::Class(of), rest))
+        }
+        VAR => {
+            let (number, rest) = number(rest)?;
+            Some(Step::leaf(Item::Var(number), rest))
+        }
         ARRAY => Some(Step {
             item: Item::Array,
             frame: Some(Frame::Shape),
@@ -107,10 +107,10 @@ fn core_behind(code: u8, rest: &[u8], depth: u8) -> Option<Step<'_>>
         GENERICINST => instance(rest, depth),
         FNPTR => deeper(Item::Function, Place::Method { depth }, rest, depth),
         SZARRAY => Some(Step::before(Item::Vector, Place::Typed { depth }, rest)),
-        MVAR => match number(rest) {
-            Some((number, rest)) => Some(Step::leaf(Item::MVar(number), rest)),
-            None => None,
-        },
+        MVAR => {
+            let (number, rest) = number(rest)?;
+            Some(Step::leaf(Item::MVar(number), rest))
+        }
         _ => None,
     }
 }
