@@ -1,7 +1,7 @@
 use Rattle.std.proofs.Common.{refl, sym, ◌∙◌, arith}
 use Rattle.walk.proofs.Steps.{steps, on_both, on_one, off_both, off_one}
 use Rattle.walk.proofs.Forms.{method_told, run_simple, run_void_pointer, run_pointer, run_vector, run_array, run_class, run_value, run_var, run_mvar, run_function, run_instance, run_type, run_typed_ref, run_plain, run_by_ref, run_slot, run_some_ret, run_void_ret}
-use Rattle.walk.proofs.Loops.{types_count, goes_by, stops_by, types_next, params_next}
+use Rattle.walk.proofs.Loops.{types_count, goes_by, stops_by, types_next, types_end, params_next, params_end, params_start}
 use Rattle.walk.proofs.types.+walk.Goals as goal
 
 pub visit_types-returns-in_err-visit_typed : goal.visit_types-returns-in_err-visit_typed
@@ -191,3 +191,15 @@ visit_ret-returns-in_err-visit_modifiers-in-Void g t c = grind (arith, steps, ru
 
 pub visit_ret-returns-in_ok-visit_modifiers-in-Void : goal.visit_ret-returns-in_ok-visit_modifiers-in-Void
 visit_ret-returns-in_ok-visit_modifiers-in-Void g t c = grind (arith, steps, run_void_ret)
+
+pub visit_types-returns : goal.visit_types-returns
+visit_types-returns g t c = grind (arith, types_end)
+
+pub visit_params-returns : goal.visit_params-returns
+visit_params-returns g t c = grind (arith, params_end)
+
+pub visit_params-loop-place-init : goal.visit_params-loop-place-init
+visit_params-loop-place-init g t c = grind (arith, params_start)
+
+pub visit_param-returns : goal.visit_param-returns
+visit_param-returns g t c = grind (arith, steps)
