@@ -68,6 +68,7 @@ pub fn check_tables_within(source: &Source, budget: Budget) -> Result<Checked, B
 }
 
 /// Checks what is demanded of the rows before their signatures.
+#[tactic(auto, using(packed::proofs::DemandLemmas::fails_front, packed::proofs::DemandLemmas::fails_back, packed::proofs::DemandLemmas::all_append), unfolding(metadata::specs::Demands::demands_of_tables))]
 fn check_rows(source: &Source) -> Result<Checked, Fault>
     ensures first { IfErr result (FirstToFail (demands_of_tables source.now)) }
     ensures cells { OnOk result (AllHold (demands_of_cells source.now)) }

@@ -135,9 +135,6 @@ visit_first-returns-in_err-byte-in-Instance g t c = grind (arith, steps, run_ins
 pub visit_first-returns-in_err-byte-in-Instance-2 : goal.visit_first-returns-in_err-byte-in-Instance-2
 visit_first-returns-in_err-byte-in-Instance-2 g t c = grind (arith, steps, run_instance, types_count)
 
-pub visit_first-returns-in_err-index-in-Instance : goal.visit_first-returns-in_err-index-in-Instance
-visit_first-returns-in_err-index-in-Instance g t c = grind (arith, steps, run_instance, types_count)
-
 pub visit_first-returns-in_err-number-in-Instance : goal.visit_first-returns-in_err-number-in-Instance
 visit_first-returns-in_err-number-in-Instance g t c = grind (arith, steps, run_instance, types_count)
 
