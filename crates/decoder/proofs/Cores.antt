@@ -1,5 +1,6 @@
 -- Cores and what is made of them: reading by the first byte, and the views of values in a `Box` and in a `Vec`.
 use Rattle.std.proofs.Common.{◌≡◌, ◌∙◌, ℕ, zero, suc, ◌-◌, ◌<◌, Bool, Option, Some, None, List, [], ◌∷◌, Vec, Global, map, refl, ap, arith}
+use Rattle.std.specs.Prelude.{option_map, option_and_then}
 use Rattle.signature_values.specs.declared.element.Element.{Element}
 use Rattle.signature_values.specs.declared.types.Modifier.{Modifier}
 use Rattle.signature_values.specs.declared.types.TypeSig.{TypeSig}
@@ -48,6 +49,14 @@ deep_some (suc d) r b lt = refl
 pub fails_change : {A B : Type 0} (e : SigError) (f : A → B) (r : Reader A) (b : List ℕ) → Fails e (r b) → Fails e (change f r b)
 fails_change Bad f r b h = rw h refl
 fails_change Memory f r b h = tt
+
+pub fails_map : {A B : Type 0} (e : SigError) (f : A → B) (o : Option A) → Fails e o → Fails e (option_map f o)
+fails_map Bad f o h = rw h refl
+fails_map Memory f o h = tt
+
+pub fails_then : {A B : Type 0} (e : SigError) (f : A → Option B) (o : Option A) → Fails e o → Fails e (option_and_then f o)
+fails_then Bad f o h = rw h refl
+fails_then Memory f o h = tt
 
 -- ---- cores
 

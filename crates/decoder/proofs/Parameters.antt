@@ -1,9 +1,9 @@
 -- Parameters that are built one after another, with those before them, and where SENTINEL stood.
-use Rattle.std.proofs.Common.{◌≡◌, ℕ, suc, ◌+◌, ◌-◌, ◌<◌, ◌≤◌, ◌&&◌, Bool, true, false, cond, Option, Some, None, List, [], ◌∷◌, ◌++◌, length, drop, refl, sym, ap, ap₂, append_assoc, append-nil, length-append, arith}
+use Rattle.std.proofs.Common.{◌≡◌, ◌∙◌, ℕ, zero, suc, ◌+◌, ◌-◌, ◌<◌, ◌≤◌, ◌&&◌, Bool, true, false, cond, Option, Some, None, List, [], ◌∷◌, ◌++◌, length, drop, refl, sym, ap, ap₂, append_assoc, append-nil, length-append, arith}
 use Rattle.std.specs.Prelude.{option_map, option_and_then, is_none}
 use Rattle.std.specs.Option.{option_or}
 use Rattle.signature_values.specs.Syntax.{Core, Slot}
-use Rattle.signature_values.specs.Reading.{Reader, params_at, slot_at, head_is}
+use Rattle.signature_values.specs.Reading.{Reader, many_at, params_at, slot_at, head_is}
 use Rattle.decoder.specs.declared.error.SigError.{SigError}
 use Rattle.decoder.specs.declared.error.SigError.TheVariants.{Bad, Memory}
 use Rattle.decoder.specs.Gives.{Fails}
@@ -89,3 +89,26 @@ module _ (nested : Reader Core) where
       keeps : (before : Option ℕ) (j : ℕ) → before_with before j None ≡ before
       keeps None j = refl
       keeps (Some i) j = refl
+
+  -- ---- where no SENTINEL may stand
+
+  abbrev unmarked : Read → Option (List Slot × List ℕ)
+  unmarked read = option_map (λ x. (x.0.0, x.1)) read
+
+  unmarked_then : (x : Slot) (o : Read) → option_map (λ y. (x ∷ y.0, y.1)) (unmarked o) ≡ unmarked (option_map (λ y. ((x ∷ y.0.0, option_map suc y.0.1), y.1)) o)
+  unmarked_then x None = refl
+  unmarked_then x (Some y) = refl
+
+  unmarked_first : (n : ℕ) (o : Option (Slot × List ℕ)) → ((c : List ℕ) → many_at (slot_at nested) n c ≡ unmarked (params_at nested false n c)) → option_and_then (λ x. option_map (λ y. (x.0 ∷ y.0, y.1)) (many_at (slot_at nested) n x.1)) o ≡ unmarked (plain_then false n o)
+  unmarked_first n None below = refl
+  unmarked_first n (Some x) below = rw (below x.1) (unmarked_then x.0 (params_at nested false n x.1))
+
+  -- parameters without it are values one after another
+  pub many_is : (n : ℕ) (b : List ℕ) → many_at (slot_at nested) n b ≡ unmarked (params_at nested false n b)
+  unfolding params_at many_at
+  many_is zero b = refl
+  many_is (suc n) b = unmarked_first n (slot_at nested b) (λ c. many_is n c)
+
+  pub many_fails : (e : SigError) (n : ℕ) (b : List ℕ) → Fails e (params_at nested false n b) → Fails e (many_at (slot_at nested) n b)
+  many_fails Bad n b h = many_is n b ∙ ap unmarked h
+  many_fails Memory n b h = tt

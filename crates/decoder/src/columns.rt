@@ -1,18 +1,18 @@
 ghost use Rattle.std.specs.Prelude.{◌≡◌, map};
 ghost use Rattle.signature_values.specs.Syntax as sig;
-ghost use Rattle.signature_values.specs.Views.{type_of, slot_of, local_of, body_of};
+ghost use Rattle.signature_values.specs.Views.{local_of, body_of};
 ghost use Rattle.signature_values.specs.Reading.{change, many_at, counted_at, core_at, typed_at, slot_at, ret_at};
 ghost use Rattle.signature_values.specs.Columns.{local_at, headed_at, property_from, method_or, body_at};
 ghost use Rattle.decoder.specs.Gives.{Gives};
 
 use crate::error::SigError;
 use crate::front::{byte, number, with_room};
-use crate::methods::method;
+use crate::methods::{method, params};
 use crate::modifiers::prefixes;
 use crate::slots::{content, ret, slot};
 use crate::types::types;
 use schema::SigKind;
-use signature_values::{FieldSig, InstanceSig, Local, LocalsSig, PropertySig, SigBody, Slot};
+use signature_values::{FieldSig, InstanceSig, Local, LocalsSig, PropertySig, SigBody};
 use std::alloc::Global;
 
 /// A local variable (II.23.2.6).
@@ -38,20 +38,6 @@ fn variables(
     let mut rest = bytes;
     for done in 0..count {
         let (one, next) = local(alloc, rest, depth)?;
-        all.push(one)?;
-        rest = next;
-    }
-    Ok((all, rest))
-}
-
-/// So many parameters of a property.
-fn slots(alloc: Global, bytes: &[u8], count: u32, depth: u8) -> Result<(Vec<Slot>, &[u8]), SigError>
-    ensures { Gives (λ x. (map slot_of x.0.items, x.1.now)) result (many_at (slot_at (core_at depth)) count bytes.now) }
-{
-    let mut all = with_room(alloc, bytes, count)?;
-    let mut rest = bytes;
-    for done in 0..count {
-        let (one, next) = slot(alloc, rest, depth)?;
         all.push(one)?;
         rest = next;
     }
@@ -93,8 +79,8 @@ fn property(
 {
     let (count, rest) = number(bytes)?;
     let (of, rest) = slot(alloc, rest, depth)?;
-    match slots(alloc, rest, count, depth) {
-        Ok((params, rest)) => Ok((SigBody::Property(PropertySig { this, of, params }), rest)),
+    match params(alloc, rest, count, false, depth) {
+        Ok((params, _, rest)) => Ok((SigBody::Property(PropertySig { this, of, params }), rest)),
         Err(error) => {
             drop(of);
             Err(error)

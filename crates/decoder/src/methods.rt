@@ -38,7 +38,7 @@ fn generic(bytes: &[u8], code: u8) -> Result<(Option<u32>, &[u8]), SigError>
 
 /// So many parameters, and how many of them stand before SENTINEL, where one may and does stand.
 #[cycle(build)]
-fn params(
+pub fn params(
     alloc: Global,
     bytes: &[u8],
     count: u32,

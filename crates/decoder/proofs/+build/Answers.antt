@@ -1,10 +1,11 @@
-use Rattle.std.proofs.Common.{◌≡◌, ◌∙◌, ◌&&◌, Bool, map, length-append, Option, List, ℕ, refl, sym, ap, rules, subst, arith}
+use Rattle.std.proofs.Common.{◌≡◌, ◌∙◌, ◌<◌, ◌&&◌, Bool, true, map, length-append, Option, List, ℕ, refl, sym, ap, rules, subst, arith}
 use Rattle.std.proofs.lemmas.List.{map-append}
+use Rattle.signature_values.specs.Syntax as sig
 use Rattle.signature_values.specs.Syntax.{Typed, Slot}
-use Rattle.signature_values.specs.Reading.{typed_at, core_at, head_is}
+use Rattle.signature_values.specs.Reading.{change, both, pointer_to, core_at, core_by, typed_at, target_at, array_at, slot_at, ret_at, method_at, head_is}
 use Rattle.signature_values.specs.Views.{type_of, slot_of}
 use Rattle.decoder.specs.Gives.{Fails}
-use Rattle.decoder.proofs.Cores.{core_simple}
+use Rattle.decoder.proofs.Cores.{core_simple, deep_some, fails_map, fails_then}
 use Rattle.signature_values.proofs.ViewLemmas.{view_simple}
 use Rattle.decoder.proofs.Items.{failed, many_next, many_bad, many_end}
 use Rattle.decoder.proofs.Parameters.{still, after_mark, params_next, params_bad, params_end}
@@ -52,3 +53,81 @@ methods::params-loop-done-preserved t c =
 pub methods::params-returns : goal.methods::params-returns
 methods::params-returns t c =
     sym c.loop-done.invariant.so_far ∙ params_end (core_at c.args.depth) c.args.count c.loop-done.done (still c.args.allowed c.loop-done.before) c.loop-done.before c.loop-done.rest.now (map slot_of c.loop-done.all.items) c.loop-done-test.false
+
+pub types::core_behind-returns-in-17 : goal.types::core_behind-returns-in-17
+unfolding core_by
+types::core_behind-returns-in-17 t c = rw c.in-17.is c.value_type.ensures
+
+pub types::core_behind-returns-in-18 : goal.types::core_behind-returns-in-18
+unfolding core_by
+types::core_behind-returns-in-18 t c = rw c.in-18.is c.class.ensures
+
+pub types::core_behind-returns-in-19 : goal.types::core_behind-returns-in-19
+unfolding core_by
+types::core_behind-returns-in-19 t c = rw c.in-19.is c.type_parameter.ensures
+
+pub types::core_behind-returns-in-20 : goal.types::core_behind-returns-in-20
+unfolding core_by
+types::core_behind-returns-in-20 t c = rw c.in-20.is c.array.ensures
+
+pub types::core_behind-returns-in-21 : goal.types::core_behind-returns-in-21
+unfolding core_by
+types::core_behind-returns-in-21 t c = rw c.in-21.is c.instance.ensures
+
+pub types::core_behind-returns-in-29 : goal.types::core_behind-returns-in-29
+unfolding core_by
+types::core_behind-returns-in-29 t c = rw c.in-29.is c.vector.ensures
+
+pub types::core_behind-returns-in-30 : goal.types::core_behind-returns-in-30
+unfolding core_by
+types::core_behind-returns-in-30 t c = rw c.in-30.is c.method_parameter.ensures
+
+pub types::core_behind-returns-else-depth-eq0 : goal.types::core_behind-returns-else-depth-eq0
+unfolding core_by
+types::core_behind-returns-else-depth-eq0 t c =
+    let deep : 0 < c.args.depth = omega arith in
+    rw (c.in-15.is, deep_some c.args.depth (change pointer_to (target_at (core_at c.args.depth))) c.args.bytes.now deep) c.pointer.ensures
+
+pub types::core_behind-returns-else-depth-eq0-2 : goal.types::core_behind-returns-else-depth-eq0-2
+unfolding core_by
+types::core_behind-returns-else-depth-eq0-2 t c =
+    let deep : 0 < c.args.depth = omega arith in
+    rw (c.in-27.is, deep_some c.args.depth (change sig.function (method_at true (core_at c.args.depth))) c.args.bytes.now deep) c.function.ensures
+
+pub slots::slot-returns-in_err-mods : goal.slots::slot-returns-in_err-mods
+unfolding slot_at both
+slots::slot-returns-in_err-mods t c = failed _ _ _ _ c.from_residual.ensures (fails_map _ _ _ (fails_then _ _ _ c.in_err-mods.ensures))
+
+pub slots::slot-returns-in_err-kind : goal.slots::slot-returns-in_err-kind
+unfolding slot_at both
+slots::slot-returns-in_err-kind t c = failed _ _ _ _ c.from_residual-in_err-kind.ensures (rw c.in_ok-mods.ensures (fails_map _ _ _ (fails_map _ _ _ c.in_err-kind.ensures)))
+
+pub types::typed-returns-in_err-mods : goal.types::typed-returns-in_err-mods
+unfolding typed_at both
+types::typed-returns-in_err-mods t c = failed _ _ _ _ c.from_residual.ensures (fails_map _ _ _ (fails_then _ _ _ c.in_err-mods.ensures))
+
+pub types::typed-returns-in_err-core : goal.types::typed-returns-in_err-core
+unfolding typed_at both
+types::typed-returns-in_err-core t c = failed _ _ _ _ c.from_residual-in_err-core.ensures (rw c.in_ok-mods.ensures (fails_map _ _ _ (fails_map _ _ _ c.in_err-core.ensures)))
+
+pub types::array-returns-in_err-of : goal.types::array-returns-in_err-of
+unfolding array_at both
+types::array-returns-in_err-of t c = failed _ _ _ _ c.from_residual.ensures (fails_map _ _ _ (fails_then _ _ _ c.in_err-of.ensures))
+
+pub types::array-returns-in_err-shape : goal.types::array-returns-in_err-shape
+unfolding array_at both
+types::array-returns-in_err-shape t c = failed _ _ _ _ c.from_residual-in_err-shape.ensures (rw c.in_ok-of.ensures (fails_map _ _ _ (fails_map _ _ _ c.in_err-shape.ensures)))
+
+pub slots::ret-returns-in_err-mods : goal.slots::ret-returns-in_err-mods
+unfolding ret_at both
+slots::ret-returns-in_err-mods t c = failed _ _ _ _ c.from_residual.ensures (fails_map _ _ _ (fails_then _ _ _ c.in_err-mods.ensures))
+
+pub types::pointer-returns-in_err-mods : goal.types::pointer-returns-in_err-mods
+unfolding target_at both
+types::pointer-returns-in_err-mods t c = failed _ _ _ _ c.from_residual.ensures (fails_map _ _ _ (fails_then _ _ _ c.in_err-mods.ensures))
+
+pub types::vector-returns-in_err-of : goal.types::vector-returns-in_err-of
+types::vector-returns-in_err-of t c = failed _ _ _ _ c.from_residual.ensures (fails_map _ _ _ c.in_err-of.ensures)
+
+pub methods::function-returns-in_err-method : goal.methods::function-returns-in_err-method
+methods::function-returns-in_err-method t c = failed _ _ _ _ c.from_residual.ensures (fails_map _ _ _ c.in_err-method.ensures)

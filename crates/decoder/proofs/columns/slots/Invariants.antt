@@ -1,9 +1,0 @@
-use Rattle.std.proofs.Common.{◌≡◌, ◌-◌, map}
-use Rattle.signature_values.specs.Reading.{many_at, core_at, slot_at}
-use Rattle.signature_values.specs.Views.{slot_of}
-use Rattle.decoder.proofs.Items.{with_front}
-use Rattle.decoder.proofs.columns.slots.Given as goal
-
-abbrev pub invariant-loop-done : goal.invariant-loop-done
-invariant-loop-done l =
-    with_front (map slot_of l.all.items) (many_at (slot_at (core_at l.depth)) (l.count - l.done) l.rest) ≡ many_at (slot_at (core_at l.depth)) l.count l.bytes
