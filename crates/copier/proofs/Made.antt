@@ -1,5 +1,6 @@
 -- What clauses see of a type, a parameter and a method that are made of their parts.
-use Rattle.std.proofs.Common.{◌≡◌, ℕ, Bool, Option, Vec, Global, map, refl}
+use Rattle.std.proofs.Common.{◌≡◌, ◌∙◌, ℕ, ◌+◌, ◌<◌, ◌≤◌, Bool, Option, List, [], ◌∷◌, ◌++◌, length, take, get_or, Vec, Global, map, refl, sym}
+use Rattle.std.proofs.lemmas.List.{take_more, take_all, map-append}
 use Rattle.signature_values.specs.declared.types.Modifier.{Modifier}
 use Rattle.signature_values.specs.declared.types.Core.{Core}
 use Rattle.signature_values.specs.declared.types.SlotKind.{SlotKind}
@@ -23,3 +24,15 @@ pub made_method : (kind : ℕ) (this explicit : Bool) (generic : Option ℕ) (re
     ≡ sig.method kind this explicit generic (ret_of ret) (slots_from (map slot_of params.items)) sentinel
 unfolding method_of ret_of slot_of
 made_method kind this explicit generic ret params sentinel = rw methods.fold-roll-MethodSig refl
+
+-- ---- copies
+
+module _ {A B : Type 0} (view : A → B) (xs : List A) (k : ℕ) (copies : List A) where
+  -- one copy more
+  pub copied_next : (after : List A) (copy item : A) → after ≡ copies ++ copy ∷ [] → k < length xs → item ≡ get_or xs k item → view copy ≡ view item → map view copies ≡ map view (take k xs) → map view after ≡ map view (take (k + 1) xs)
+  copied_next after copy item e lt is same so_far =
+      let more : take (k + 1) xs ≡ take k xs ++ item ∷ [] = take_more xs k item lt ∙ (λ i. take k xs ++ sym is i ∷ []) in
+      rw (e, more) (simp map-append (λ i. so_far i ++ same i ∷ []))
+
+  pub copied_all : length xs ≤ k → map view copies ≡ map view (take k xs) → map view copies ≡ map view xs
+  copied_all le so_far = so_far ∙ (λ i. map view (take_all k xs le i))

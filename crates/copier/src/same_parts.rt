@@ -37,7 +37,7 @@ fn same_token(of: Token, other: Token) -> bool
 pub fn same_generic(is_value: bool, of: Token, other_is_value: bool, other: Token) -> bool
     ensures { IsTrue result ↔ ((is_value ≡ other_is_value) × (of ≡ other)) }
 {
-    is_value == other_is_value && of == other
+    is_value == other_is_value && same_token(of, other)
 }
 
 /// Whether a type is one that one byte spells.

@@ -1,12 +1,35 @@
-use Rattle.std.proofs.Common.{◌≡◌, ◌∙◌, map, sym}
+use Rattle.std.proofs.Common.{◌≡◌, ◌∙◌, map, sym, ap}
 use Rattle.signature_values.specs.declared.types.TypeSig.{out-TypeSig}
 use Rattle.signature_values.specs.declared.types.Slot.{out-Slot}
 use Rattle.signature_values.specs.declared.types.MethodSig.{out-MethodSig}
-use Rattle.signature_values.specs.Views.{slot_of, slots_from}
+use Rattle.signature_values.specs.Views.{core_of, type_of, slot_of, slots_from}
 use Rattle.signature_values.specs.Syntax as sig
 use Rattle.signature_values.proofs.ViewLemmas.{view_type, view_slot, view_method}
-use Rattle.copier.proofs.Made.{made_type, made_slot, made_method}
+use Rattle.copier.proofs.Made.{copied_next, copied_all, made_type, made_slot, made_method}
 use Rattle.copier.proofs.copied_types.+copies.Goals as goal
+
+pub copy_core-returns-in-Simple : goal.copy_core-returns-in-Simple
+copy_core-returns-in-Simple t c = ap core_of (sym c.in-Simple.is)
+
+pub copy_core-returns-in-Class : goal.copy_core-returns-in-Class
+copy_core-returns-in-Class t c = ap core_of (sym c.in-Class.is)
+
+pub copy_core-returns-in-Value : goal.copy_core-returns-in-Value
+copy_core-returns-in-Value t c = ap core_of (sym c.in-Value.is)
+
+pub copy_core-returns-in-Var : goal.copy_core-returns-in-Var
+copy_core-returns-in-Var t c = ap core_of (sym c.in-Var.is)
+
+pub copy_core-returns-in-MVar : goal.copy_core-returns-in-MVar
+copy_core-returns-in-MVar t c = ap core_of (sym c.in-MVar.is)
+
+pub copy_slots-loop-slot-preserved : goal.copy_slots-loop-slot-preserved
+copy_slots-loop-slot-preserved t c =
+    copied_next slot_of c.args.slots.now c.loop-slot.slot-index c.loop-slot.copies.items _ _ _ c.in_ok-push.ensures.items c.loop-slot-test.true c.slot-item.is c.in_ok-copy_slot.ensures c.loop-slot.invariant
+
+pub copy_slots-returns : goal.copy_slots-returns
+copy_slots-returns t c =
+    copied_all slot_of c.args.slots.now c.loop-slot.slot-index c.loop-slot.copies.items c.loop-slot-test.false c.loop-slot.invariant
 
 pub copy_type-returns : goal.copy_type-returns
 copy_type-returns t c =
@@ -25,3 +48,11 @@ copy_method-returns t c =
     c.in_ok-params.ensures ∙ (λ i. map slot_of (c.deref.ensures.value i)) in
     made_method _ _ _ _ _ _ _ ∙ (λ i. sig.method m.kind m.this m.explicit m.generic (c.in_ok-ret.ensures i) (slots_from (params i)) m.sentinel)
     ∙ sym (view_method c.args.method.now)
+
+pub copy_types-loop-of-preserved : goal.copy_types-loop-of-preserved
+copy_types-loop-of-preserved t c =
+    copied_next type_of c.args.types.now c.loop-of.of-index c.loop-of.copies.items _ _ _ c.in_ok-push.ensures.items c.loop-of-test.true c.of-item.is c.in_ok-copy_type.ensures c.loop-of.invariant
+
+pub copy_types-returns : goal.copy_types-returns
+copy_types-returns t c =
+    copied_all type_of c.args.types.now c.loop-of.of-index c.loop-of.copies.items c.loop-of-test.false c.loop-of.invariant
