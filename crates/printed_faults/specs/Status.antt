@@ -1,5 +1,7 @@
 -- The status that the process is to end with, and which failures a step may end with.
-use Rattle.std.specs.Prelude.{◌≡◌, ℕ, List}
+use Rattle.std.specs.Prelude.{◌≡◌, ◌↔◌, ℕ, List}
+use Rattle.std.specs.declared.io.ErrorKind.{ErrorKind}
+use Rattle.std.specs.declared.io.ErrorKind.TheVariants as cause
 use Rattle.printed_faults.specs.declared.failure.Failure.{Failure}
 use Rattle.printed_faults.specs.declared.failure.Failure.TheVariants.{Fault, NoSuchRow, NoToken, NoCode, CannotRead, CannotWriteOutput, CannotWriteFile, OutOfMemory}
 
@@ -31,3 +33,7 @@ abbrev pub IsUnwritten : List ℕ → Failure → Type 0
 IsUnwritten file (CannotWriteFile word) = word.now ≡ file
 IsUnwritten file OutOfMemory = Unit {0}
 IsUnwritten file _ = ⊥
+
+-- want of memory is told exactly of an error of that kind
+abbrev pub TellsKind : ErrorKind → Failure → Type 0
+TellsKind kind failure = (kind ≡ cause.OutOfMemory) ↔ (failure ≡ OutOfMemory)

@@ -1,5 +1,5 @@
 //! Why the program could not do what was asked, and what it tells of it.
-ghost use Rattle.std.specs.Prelude.{◌≡◌, IfErr};
+ghost use Rattle.std.specs.Prelude.{◌≡◌, ◌↔◌, IfErr, IsOk};
 ghost use Rattle.printed_faults.specs.Status.{IsOutput};
 ghost use Rattle.printed_faults.specs.declared.failure.Failure.TheVariants.{Fault};
 
@@ -31,12 +31,14 @@ pub enum Failure<'a> {
 
 impl<'a> Failure<'a> {
     ghost use Rattle.std.specs.Prelude.{◌≡◌};
-    ghost use Rattle.printed_faults.specs.Status.{status_of, IsOutput, IsUnread, IsUnwritten};
+    ghost use Rattle.std.specs.IoError.{error_kind};
+    ghost use Rattle.printed_faults.specs.Status.{status_of, IsOutput, IsUnread, IsUnwritten, TellsKind};
 
     /// What a refused read of the file is: want of memory where the error's kind is that, and else that
     /// the file can't be read.
     pub fn of_reading(error: &io::Error, file: &'a str) -> Failure<'a>
-        ensures { IsUnread file.now result }
+        ensures told { IsUnread file.now result }
+        ensures kind { TellsKind (error_kind error.now) result }
     {
         match error.kind() {
             ErrorKind::OutOfMemory => Failure::OutOfMemory,
@@ -47,7 +49,8 @@ impl<'a> Failure<'a> {
     /// What a refused opening of the file to write is: want of memory where the error's kind is that, and
     /// else that the file can't be written.
     pub fn of_opening(error: &io::Error, file: &'a str) -> Failure<'a>
-        ensures { IsUnwritten file.now result }
+        ensures told { IsUnwritten file.now result }
+        ensures kind { TellsKind (error_kind error.now) result }
     {
         match error.kind() {
             ErrorKind::OutOfMemory => Failure::OutOfMemory,
@@ -58,7 +61,8 @@ impl<'a> Failure<'a> {
     /// What a refused write to the output is: want of memory where the error's kind is that, as where a
     /// buffer can't be had, and else that the output can't be written.
     pub fn of_printing(error: &io::Error) -> Failure<'a>
-        ensures { IsOutput result }
+        ensures told { IsOutput result }
+        ensures kind { TellsKind (error_kind error.now) result }
     {
         match error.kind() {
             ErrorKind::OutOfMemory => Failure::OutOfMemory,
@@ -88,7 +92,8 @@ impl<'a> Failure<'a> {
 ///
 /// An error of the writer as a failure: of the output, or of memory where its kind is that.
 pub fn printed(outcome: io::Result<()>) -> Result<(), Failure<'static>>
-    ensures { IfErr result IsOutput }
+    ensures ok { IsOk result ↔ IsOk outcome }
+    ensures told { IfErr result IsOutput }
 {
     match outcome {
         Ok(()) => Ok(()),

@@ -64,12 +64,14 @@ pub fn write_root_to<W: Sink>(alloc: Global, model: &Model, sink: &mut W) -> Res
     // All of the root went out, and nothing else; and no call failed.
     ensures all { OnOk result (Appends (W.given sink.old) (W.given sink.new) (canonical model.now)) }
     ensures unfailed { OnOk result (W.failed sink.new ≡ W.failed sink.old) }
+    ensures within { OnOk result (length (canonical model.now) ≤ 2 ^ 30) }
     // The sink is as it was; or exactly so many of the first bytes went out, and not all, and one call failed.
     ensures refused { IfErr result (MatchError
         ((2 ^ 30 < length (canonical model.now)) × (sink.new ≡ sink.old))
         (sink.new ≡ sink.old)
         (λ given. Appends (W.given sink.old) (W.given sink.new) (take given (canonical model.now))
-        × (given < length (canonical model.now)) × (W.failed sink.new ≡ W.failed sink.old + 1))) }
+        × (given < length (canonical model.now)) × (W.failed sink.new ≡ W.failed sink.old + 1)
+        × (length (canonical model.now) ≤ 2 ^ 30))) }
 {
     let prepared = prepare(alloc, model, ROOT_LIMIT)?;
     prepared.send(sink)
