@@ -7,8 +7,7 @@ use Rattle.metadata.specs.Model.{IsModel}
 use Rattle.canonical.specs.Canonical.{canonical}
 use Rattle.printed_faults.specs.declared.failure.Failure.{Failure}
 use Rattle.printed_faults.specs.declared.failure.Failure.TheVariants as failed
-use Rattle.reports.specs.Checked.{IsOpened, demands_of}
-use Rattle.printed_faults.specs.Status.{IsOutput}
+use Rattle.reports.specs.Checked.{IsOpened, IsWhole, demands_of}
 
 -- the bytes have a model of which something holds
 abbrev HasModelWith : Bool → List ℕ → (Metadata → Type 0) → Type 0
@@ -22,7 +21,9 @@ IsRewritten bare bytes written = HasModelWith bare bytes (λ model. written ≡ 
 abbrev pub IsTooLong : Bool → List ℕ → Type 0
 IsTooLong bare bytes = HasModelWith bare bytes (λ model. 2 ^ 30 < length (canonical model))
 
--- a failure is the fault of the first demand that fails, or that the root is too long, or memory was refused
+-- a failure is the fault of the first demand that fails, or that the root is too long; or memory was refused, of whole
+-- bytes
 abbrev pub TellsUnwritten : Bool → List ℕ → Failure → Type 0
 TellsUnwritten bare bytes (failed.Fault found) = FirstToFail (demands_of bare bytes) found ⊎ ((found ≡ fault TooLarge 0) × IsTooLong bare bytes)
-TellsUnwritten bare bytes failure = IsOutput failure
+TellsUnwritten bare bytes failed.OutOfMemory = IsWhole bare bytes
+TellsUnwritten bare bytes _ = ⊥

@@ -7,20 +7,33 @@ use Rattle.command_line.specs.declared.asked.Ask.{Ask}
 use Rattle.command_line.specs.declared.asked.Subcommand.{Subcommand}
 use Rattle.command_line.specs.declared.asked.Subcommand.TheVariants as word
 use Rattle.printed_faults.specs.declared.failure.Failure.{Failure}
+use Rattle.printed_faults.specs.declared.failure.Failure.TheVariants as failed
 use Rattle.reports.specs.declared.report.Report.TheVariants as report
 use Rattle.cli.specs.declared.task.Task.{Task}
 use Rattle.cli.specs.declared.task.Task.TheVariants as task
 use Rattle.cli.specs.Numbers.{IsHexNumber, NamesCode}
 
--- a word is the token, where it is a number, and else it is refused
-abbrev pub IsTokenTask : List ℕ → Result Task Failure → Type 0
-IsTokenTask hex result = MatchResult result (λ made. IsHexNumber hex × (made ≡ task.Print (report.Token (digits_value 16 hex)))) (λ _. ¬ IsHexNumber hex)
+-- a failure is that this word is no token
+abbrev pub IsNoToken : List ℕ → Failure → Type 0
+IsNoToken hex (failed.NoToken word) = word.now ≡ hex
+IsNoToken hex _ = ⊥
 
--- a word is the number of a fault to explain, where it is one, and else it is refused
+-- a failure is that this word is the number of no fault
+abbrev pub IsNoCode : List ℕ → Failure → Type 0
+IsNoCode given (failed.NoCode word) = word.now ≡ given
+IsNoCode given _ = ⊥
+
+-- a word is the token, where it is a number, and else that is told of it
+abbrev pub IsTokenTask : List ℕ → Result Task Failure → Type 0
+IsTokenTask hex result =
+    MatchResult result (λ made. IsHexNumber hex × (made ≡ task.Print (report.Token (digits_value 16 hex))))
+    (λ failure. IsNoToken hex failure × (¬ IsHexNumber hex))
+
+-- a word is the number of a fault to explain, where it is one, and else that is told of it
 abbrev pub IsCodeTask : List ℕ → Result Task Failure → Type 0
 IsCodeTask given result =
     MatchResult result (λ made. (code : FaultCode) × NamesCode given code × (made ≡ task.Explain (Some code)))
-    (λ _. (code : FaultCode) → ¬ NamesCode given code)
+    (λ failure. IsNoCode given failure × ((code : FaultCode) → ¬ NamesCode given code))
 
 -- a fault is explained, or all are listed where there is no word
 abbrev pub IsExplainTask : Option (Bor (List ℕ)) → Result Task Failure → Type 0

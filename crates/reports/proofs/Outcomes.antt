@@ -11,13 +11,13 @@ pub ok_unless_not : {T E : Type 0} (r : Result T E) → ¬ (¬ IsOk r) → IsOk 
 ok_unless_not (Ok x) h = refl
 ok_unless_not (Err e) h = absurd (h (λ is. cc))
 
--- a refused output is told, whatever is demanded
-pub tells_output : (demands : List (Demand First)) (failure : Failure) → IsOutput failure → TellsFault demands failure
-tells_output demands (Fault found) is = absurd is
-tells_output demands NoSuchRow is = is
-tells_output demands (NoToken word) is = is
-tells_output demands (NoCode word) is = is
-tells_output demands (CannotRead file) is = is
-tells_output demands (CannotWriteFile file) is = is
-tells_output demands CannotWriteOutput is = is
-tells_output demands OutOfMemory is = is
+-- a refused output is told of bytes that were met, whatever is demanded
+pub tells_output : {met : Type 0} (demands : List (Demand First)) (failure : Failure) → IsOutput failure → met → TellsFault met demands failure
+tells_output demands (Fault found) is met = absurd is
+tells_output demands NoSuchRow is met = (is, met)
+tells_output demands (NoToken word) is met = (is, met)
+tells_output demands (NoCode word) is met = (is, met)
+tells_output demands (CannotRead file) is met = (is, met)
+tells_output demands (CannotWriteFile file) is met = (is, met)
+tells_output demands CannotWriteOutput is met = (is, met)
+tells_output demands OutOfMemory is met = (is, met)

@@ -9,7 +9,7 @@ use Rattle.opening.specs.Views.{row_count, user_of}
 use Rattle.printed_faults.specs.declared.failure.Failure.{Failure}
 use Rattle.printed_faults.specs.declared.failure.Failure.TheVariants.{Fault, NoSuchRow, NoToken, NoCode, CannotRead, CannotWriteFile, CannotWriteOutput, OutOfMemory}
 use Rattle.reports.specs.declared.report.Report.TheVariants as report
-use Rattle.reports.specs.Checked.{IsOpened}
+use Rattle.reports.specs.Checked.{IsOpened, IsWhole}
 use Rattle.printed_faults.specs.Status.{IsOutput}
 use Rattle.reports.specs.Reported.{HasString, IsMet, IsNamed, TellsNone, TellsNoString, TellsUnnamed}
 use Rattle.printed_rows.specs.Named.{HasTokenRow}
@@ -55,25 +55,26 @@ module _ (root : List ℕ) (number : ℕ) where
   pub none_named : number / 16777216 ≢ 112 → ¬ HasTokenRow root number → ¬ IsNamed root number
   none_named other none = λ named. elim named [ inl at ↦ other at.0 | inr at ↦ none at.1 ]
 
-  unnamed_in : (bare : Bool) (bytes : List ℕ) → IsOpened bare bytes root → (failure : Failure) → TellsUnnamed root number failure → TellsNone bare bytes number failure
-  unnamed_in bare bytes opened (Fault found) told = absurd told
-  unnamed_in bare bytes opened NoSuchRow told = (root, opened, told)
-  unnamed_in bare bytes opened (NoToken word) told = told
-  unnamed_in bare bytes opened (NoCode word) told = told
-  unnamed_in bare bytes opened (CannotRead file) told = told
-  unnamed_in bare bytes opened (CannotWriteFile file) told = told
-  unnamed_in bare bytes opened CannotWriteOutput told = told
-  unnamed_in bare bytes opened OutOfMemory told = told
+  unnamed_in : (bare : Bool) (bytes : List ℕ) → IsOpened bare bytes root → IsWhole bare bytes → (failure : Failure) → TellsUnnamed root number failure
+      → TellsNone bare bytes number failure
+  unnamed_in bare bytes opened whole (Fault found) told = absurd told
+  unnamed_in bare bytes opened whole NoSuchRow told = (root, opened, told)
+  unnamed_in bare bytes opened whole (NoToken word) told = (told, whole)
+  unnamed_in bare bytes opened whole (NoCode word) told = (told, whole)
+  unnamed_in bare bytes opened whole (CannotRead file) told = (told, whole)
+  unnamed_in bare bytes opened whole (CannotWriteFile file) told = (told, whole)
+  unnamed_in bare bytes opened whole CannotWriteOutput told = (told, whole)
+  unnamed_in bare bytes opened whole OutOfMemory told = (told, whole)
 
   pub named_met : (bare : Bool) (bytes : List ℕ) (result : Result (Unit {0}) Failure) → IsOpened bare bytes root → OnOk result (IsNamed root number)
       → OnOk result (IsMet (report.Token number) bare bytes)
   named_met bare bytes (Ok done) opened named = (root, opened, named)
   named_met bare bytes (Err failure) opened named = tt
 
-  pub unnamed_told : (bare : Bool) (bytes : List ℕ) (result : Result (Unit {0}) Failure) → IsOpened bare bytes root → IfErr result (TellsUnnamed root number)
-      → IfErr result (TellsNone bare bytes number)
-  unnamed_told bare bytes (Ok done) opened told = tt
-  unnamed_told bare bytes (Err failure) opened told = unnamed_in bare bytes opened failure told
+  pub unnamed_told : (bare : Bool) (bytes : List ℕ) (result : Result (Unit {0}) Failure) → IsOpened bare bytes root → IsWhole bare bytes
+      → IfErr result (TellsUnnamed root number) → IfErr result (TellsNone bare bytes number)
+  unnamed_told bare bytes (Ok done) opened whole told = tt
+  unnamed_told bare bytes (Err failure) opened whole told = unnamed_in bare bytes opened whole failure told
 
   ok_and_not : {E : Type 0} (offset : ℕ) (string : UserText) (result : Result UserText E) → ((found : UserText) → result ≡ Ok found → ⊥) → IsOkAnd result (λ found. found ≡ string) → ⊥
   ok_and_not offset string (Ok found) none is = none found refl

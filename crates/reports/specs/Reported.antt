@@ -35,10 +35,14 @@ abbrev pub demands_of_report : Report → Bool → List ℕ → List (Demand Fau
 demands_of_report report.Root bare bytes = demands_of_heads bare bytes
 demands_of_report _ bare bytes = demands_of bare bytes
 
--- a failure is the fault of the first demand that fails, or the output or memory was refused
-abbrev pub TellsFault : List (Demand Fault) → Failure → Type 0
-TellsFault demands (failed.Fault found) = FirstToFail demands found
-TellsFault demands failure = IsOutput failure
+-- a failure is the fault of the first demand that fails; or the output or memory was refused, once the bytes were met
+abbrev pub TellsFault : Type 0 → List (Demand Fault) → Failure → Type 0
+TellsFault met demands (failed.Fault found) = FirstToFail demands found
+TellsFault met demands failure = IsOutput failure × met
+
+-- nothing was printed, unless the output or memory was refused
+abbrev pub LeavesOutput : {W : Type 0} → W → W → Failure → Type 0
+LeavesOutput before behind failure = ¬ IsOutput failure → behind ≡ before
 
 -- a root has no user string at an offset, or the output or memory was refused
 abbrev pub TellsNoString : List ℕ → ℕ → Failure → Type 0
@@ -53,9 +57,9 @@ TellsUnnamed root number failure = IsOutput failure
 -- what is told of a token that was asked for
 abbrev pub TellsNone : Bool → List ℕ → ℕ → Failure → Type 0
 TellsNone bare bytes number failed.NoSuchRow = (root : List ℕ) × IsOpened bare bytes root × (¬ IsNamed root number)
-TellsNone bare bytes number failure = TellsFault (demands_of bare bytes) failure
+TellsNone bare bytes number failure = TellsFault (IsWhole bare bytes) (demands_of bare bytes) failure
 
 -- what is told where a report is not printed
 abbrev pub Tells : Report → Bool → List ℕ → Failure → Type 0
 Tells (report.Token number) bare bytes failure = TellsNone bare bytes number failure
-Tells printed bare bytes failure = TellsFault (demands_of_report printed bare bytes) failure
+Tells printed bare bytes failure = TellsFault (IsMet printed bare bytes) (demands_of_report printed bare bytes) failure

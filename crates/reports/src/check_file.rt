@@ -1,8 +1,8 @@
 //! `clim check`: whether a file keeps the rules of the standard.
 ghost use Rattle.std.specs.Prelude.{IfErr, OnOk};
 ghost use Rattle.reports.specs.Checked.{IsWhole, demands_of, signature_bytes_of};
-ghost use Rattle.reports.specs.Stops.{StopsWithin};
-ghost use Rattle.reports.specs.Reported.{TellsFault};
+ghost use Rattle.reports.specs.Stops.{StopLeavesOutput, StopsWithin};
+ghost use Rattle.reports.specs.Reported.{LeavesOutput, TellsFault};
 
 use crate::opened::{open, open_within};
 use crate::stop::Stop;
@@ -20,7 +20,8 @@ pub(crate) fn run<W: Write>(
     out: &mut W,
 ) -> Result<(), Failure<'static>>
     ensures found { OnOk result (IsWhole bare bytes.now) }
-    ensures first { IfErr result (TellsFault (demands_of bare bytes.now)) }
+    ensures first { IfErr result (TellsFault (IsWhole bare bytes.now) (demands_of bare bytes.now)) }
+    ensures untouched { IfErr result (LeavesOutput out.old out.new) }
 {
     open(bytes, bare)?;
     printed(print(alloc, out))
@@ -42,7 +43,8 @@ pub fn check_within<W: Write>(
     out: &mut W,
 ) -> Result<(), Stop<'static>>
     ensures found { OnOk result (IsWhole bare bytes.now) }
-    ensures first { IfErr result (StopsWithin budget (signature_bytes_of bare bytes.now) (demands_of bare bytes.now)) }
+    ensures first { IfErr result (StopsWithin budget (signature_bytes_of bare bytes.now) (IsWhole bare bytes.now) (demands_of bare bytes.now)) }
+    ensures untouched { IfErr result (StopLeavesOutput out.old out.new) }
 {
     match open_within(bytes, bare, budget) {
         Ok(_) => Ok(printed(print(alloc, out))?),

@@ -1,7 +1,7 @@
 //! `clim root`: the CLI header of a PE file, and the version and the directory of streams of its metadata root.
 ghost use Rattle.std.specs.Prelude.{IfOk, IfErr, OnOk};
 ghost use Rattle.reports.specs.Heads.{AreHeads, HasHeads, demands_of_heads};
-ghost use Rattle.reports.specs.Reported.{TellsFault};
+ghost use Rattle.reports.specs.Reported.{LeavesOutput, TellsFault};
 ghost use Rattle.packed.specs.Demand.{FirstToFail};
 
 use cli_header::{CliHeader, headers_are_read};
@@ -24,7 +24,8 @@ pub(crate) fn run<W: Write>(
     out: &mut W,
 ) -> Result<(), Failure<'static>>
     ensures found { OnOk result (HasHeads bare bytes.now) }
-    ensures first { IfErr result (TellsFault (demands_of_heads bare bytes.now)) }
+    ensures first { IfErr result (TellsFault (HasHeads bare bytes.now) (demands_of_heads bare bytes.now)) }
+    ensures untouched { IfErr result (LeavesOutput out.old out.new) }
 {
     let (header, root) = heads_of(bytes, bare)?;
     printed(print(alloc, header.as_ref(), &root, out))

@@ -2,7 +2,7 @@
 ghost use Rattle.std.specs.Prelude.{◌≡◌, ◌≤◌, IfOk, IfErr, OnOk};
 ghost use Rattle.heaps.specs.Fill.{filled};
 ghost use Rattle.opening.specs.Views.{HasModel, row_count};
-ghost use Rattle.reports.specs.Reported.{HasString, IsMet, IsNamed, TellsNoString, TellsNone, TellsUnnamed};
+ghost use Rattle.reports.specs.Reported.{HasString, IsMet, IsNamed, LeavesOutput, TellsNoString, TellsNone, TellsUnnamed};
 ghost use Rattle.reports.specs.declared.report.Report.TheVariants as report;
 
 use crate::opened::open;
@@ -30,6 +30,7 @@ pub(crate) fn run<W: Write>(
 ) -> Result<(), Failure<'static>>
     ensures found { OnOk result (IsMet (report.Token number) bare bytes.now) }
     ensures first { IfErr result (TellsNone bare bytes.now number) }
+    ensures untouched { IfErr result (LeavesOutput out.old out.new) }
 {
     let view = open(bytes, bare)?;
     print_named(alloc, &view, number, out)
@@ -46,6 +47,7 @@ fn print_named<W: Write>(
     requires { HasModel view.now }
     ensures found { OnOk result (IsNamed view.now number) }
     ensures none { IfErr result (TellsUnnamed view.now number) }
+    ensures untouched { IfErr result (LeavesOutput out.old out.new) }
 {
     if number / ROWS == USER_STRINGS {
         return print_string_at(alloc, view, number % ROWS, out);
@@ -75,6 +77,7 @@ fn print_string_at<W: Write>(
 ) -> Result<(), Failure<'static>>
     ensures found { OnOk result (HasString view.now offset) }
     ensures none { IfErr result (TellsNoString view.now offset) }
+    ensures untouched { IfErr result (LeavesOutput out.old out.new) }
 {
     let user = filled_copy(alloc, view.user()).map_err(|_| Failure::OutOfMemory)?;
     let Ok(string) = user_string(&user, offset) else {

@@ -1,6 +1,6 @@
 //! What is printed of a file.
 ghost use Rattle.std.specs.Prelude.{IfErr, OnOk};
-ghost use Rattle.reports.specs.Reported.{IsMet, Tells};
+ghost use Rattle.reports.specs.Reported.{IsMet, LeavesOutput, Tells};
 
 use crate::{check_file, print_root, print_token, print_types, show_tables};
 use printed_faults::Failure;
@@ -40,6 +40,8 @@ pub fn print_report<W: Write>(
     ensures met { OnOk result (IsMet report bare bytes.now) }
     // Else what is told is the first demand that fails, or that a token names nothing.
     ensures first { IfErr result (Tells report bare bytes.now) }
+    // Nothing is printed where it is one of these.
+    ensures untouched { IfErr result (LeavesOutput out.old out.new) }
 {
     match report {
         Report::Root => print_root::run(alloc, bytes, bare, out),

@@ -2,7 +2,7 @@
 ghost use Rattle.std.specs.Prelude.{IfErr, OnOk};
 ghost use Rattle.opening.specs.Views.{HasModel};
 ghost use Rattle.reports.specs.Checked.{IsWhole, demands_of};
-ghost use Rattle.reports.specs.Reported.{TellsFault};
+ghost use Rattle.reports.specs.Reported.{LeavesOutput, TellsFault};
 
 use crate::opened::open;
 use opening::View;
@@ -20,7 +20,8 @@ pub(crate) fn run<W: Write>(
     out: &mut W,
 ) -> Result<(), Failure<'static>>
     ensures found { OnOk result (IsWhole bare bytes.now) }
-    ensures first { IfErr result (TellsFault (demands_of bare bytes.now)) }
+    ensures first { IfErr result (TellsFault (IsWhole bare bytes.now) (demands_of bare bytes.now)) }
+    ensures untouched { IfErr result (LeavesOutput out.old out.new) }
 {
     let view = open(bytes, bare)?;
     printed(print(alloc, &view, out))

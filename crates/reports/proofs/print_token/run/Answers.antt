@@ -7,4 +7,5 @@ returns-clause-found g c =
 
 pub returns-clause-first : goal.returns-clause-first
 returns-clause-first g c =
-    unnamed_told c.in_ok-view.view c.args.number c.args.bare c.args.bytes.now c.print_named.result c.in_ok-view.ensures.root c.print_named.ensures.none
+    unnamed_told c.in_ok-view.view c.args.number c.args.bare c.args.bytes.now c.print_named.result c.in_ok-view.ensures.root
+    c.in_ok-view.ensures.found c.print_named.ensures.none
