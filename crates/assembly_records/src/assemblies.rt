@@ -58,8 +58,6 @@ impl<'m, W: Row<'m>> FromRow<'m, W> for Assembly<'m> {
 }
 
 impl<'m> Record<'m> for Assembly<'m> {
-    const TABLE: TableId = TableId::Assembly;
-
     fn from_cells(cells: &'m [Cell]) -> Option<Assembly<'m>> {
         record_of(cells)
     }
@@ -108,8 +106,6 @@ impl<'m, W: Row<'m>> FromRow<'m, W> for AssemblyProcessor {
 }
 
 impl<'m> Record<'m> for AssemblyProcessor {
-    const TABLE: TableId = TableId::AssemblyProcessor;
-
     fn from_cells(cells: &'m [Cell]) -> Option<AssemblyProcessor> {
         record_of(cells)
     }
@@ -153,8 +149,6 @@ impl<'m, W: Row<'m>> FromRow<'m, W> for AssemblyOS {
 }
 
 impl<'m> Record<'m> for AssemblyOS {
-    const TABLE: TableId = TableId::AssemblyOS;
-
     fn from_cells(cells: &'m [Cell]) -> Option<AssemblyOS> {
         record_of(cells)
     }

@@ -37,8 +37,6 @@ impl<'m, W: Row<'m>> FromRow<'m, W> for Constant<'m> {
 }
 
 impl<'m> Record<'m> for Constant<'m> {
-    const TABLE: TableId = TableId::Constant;
-
     fn from_cells(cells: &'m [Cell]) -> Option<Constant<'m>> {
         record_of(cells)
     }
@@ -88,8 +86,6 @@ impl<'m, W: Row<'m>> FromRow<'m, W> for CustomAttribute<'m> {
 }
 
 impl<'m> Record<'m> for CustomAttribute<'m> {
-    const TABLE: TableId = TableId::CustomAttribute;
-
     fn from_cells(cells: &'m [Cell]) -> Option<CustomAttribute<'m>> {
         record_of(cells)
     }
@@ -138,8 +134,6 @@ impl<'m, W: Row<'m>> FromRow<'m, W> for DeclSecurity<'m> {
 }
 
 impl<'m> Record<'m> for DeclSecurity<'m> {
-    const TABLE: TableId = TableId::DeclSecurity;
-
     fn from_cells(cells: &'m [Cell]) -> Option<DeclSecurity<'m>> {
         record_of(cells)
     }

@@ -39,8 +39,6 @@ impl<'m, W: Row<'m>> FromRow<'m, W> for File<'m> {
 }
 
 impl<'m> Record<'m> for File<'m> {
-    const TABLE: TableId = TableId::File;
-
     fn from_cells(cells: &'m [Cell]) -> Option<File<'m>> {
         record_of(cells)
     }
@@ -97,8 +95,6 @@ impl<'m, W: Row<'m>> FromRow<'m, W> for ExportedType<'m> {
 }
 
 impl<'m> Record<'m> for ExportedType<'m> {
-    const TABLE: TableId = TableId::ExportedType;
-
     fn from_cells(cells: &'m [Cell]) -> Option<ExportedType<'m>> {
         record_of(cells)
     }
@@ -165,8 +161,6 @@ impl<'m, W: Row<'m>> FromRow<'m, W> for ManifestResource<'m> {
 }
 
 impl<'m> Record<'m> for ManifestResource<'m> {
-    const TABLE: TableId = TableId::ManifestResource;
-
     fn from_cells(cells: &'m [Cell]) -> Option<ManifestResource<'m>> {
         record_of(cells)
     }

@@ -58,8 +58,6 @@ impl<'m, W: Row<'m>> FromRow<'m, W> for AssemblyRef<'m> {
 }
 
 impl<'m> Record<'m> for AssemblyRef<'m> {
-    const TABLE: TableId = TableId::AssemblyRef;
-
     fn from_cells(cells: &'m [Cell]) -> Option<AssemblyRef<'m>> {
         record_of(cells)
     }
@@ -111,8 +109,6 @@ impl<'m, W: Row<'m>> FromRow<'m, W> for AssemblyRefProcessor {
 }
 
 impl<'m> Record<'m> for AssemblyRefProcessor {
-    const TABLE: TableId = TableId::AssemblyRefProcessor;
-
     fn from_cells(cells: &'m [Cell]) -> Option<AssemblyRefProcessor> {
         record_of(cells)
     }
@@ -166,8 +162,6 @@ impl<'m, W: Row<'m>> FromRow<'m, W> for AssemblyRefOS {
 }
 
 impl<'m> Record<'m> for AssemblyRefOS {
-    const TABLE: TableId = TableId::AssemblyRefOS;
-
     fn from_cells(cells: &'m [Cell]) -> Option<AssemblyRefOS> {
         record_of(cells)
     }
@@ -211,8 +205,6 @@ impl<'m, W: Row<'m>> FromRow<'m, W> for ModuleRef<'m> {
 }
 
 impl<'m> Record<'m> for ModuleRef<'m> {
-    const TABLE: TableId = TableId::ModuleRef;
-
     fn from_cells(cells: &'m [Cell]) -> Option<ModuleRef<'m>> {
         record_of(cells)
     }
@@ -258,8 +250,6 @@ impl<'m, W: Row<'m>> FromRow<'m, W> for ImplMap<'m> {
 }
 
 impl<'m> Record<'m> for ImplMap<'m> {
-    const TABLE: TableId = TableId::ImplMap;
-
     fn from_cells(cells: &'m [Cell]) -> Option<ImplMap<'m>> {
         record_of(cells)
     }

@@ -35,8 +35,6 @@ impl<'m, W: Row<'m>> FromRow<'m, W> for EventMap {
 }
 
 impl<'m> Record<'m> for EventMap {
-    const TABLE: TableId = TableId::EventMap;
-
     fn from_cells(cells: &'m [Cell]) -> Option<EventMap> {
         record_of(cells)
     }
@@ -86,8 +84,6 @@ impl<'m, W: Row<'m>> FromRow<'m, W> for Event<'m> {
 }
 
 impl<'m> Record<'m> for Event<'m> {
-    const TABLE: TableId = TableId::Event;
-
     fn from_cells(cells: &'m [Cell]) -> Option<Event<'m>> {
         record_of(cells)
     }

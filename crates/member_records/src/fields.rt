@@ -42,8 +42,6 @@ impl<'m, S: IsSignature, W: Row<'m, Signature = S>> FromRow<'m, W> for Field<'m,
 }
 
 impl<'m> Record<'m> for Field<'m> {
-    const TABLE: TableId = TableId::Field;
-
     fn from_cells(cells: &'m [Cell]) -> Option<Field<'m>> {
         record_of(cells)
     }
@@ -89,8 +87,6 @@ impl<'m, W: Row<'m>> FromRow<'m, W> for FieldLayout {
 }
 
 impl<'m> Record<'m> for FieldLayout {
-    const TABLE: TableId = TableId::FieldLayout;
-
     fn from_cells(cells: &'m [Cell]) -> Option<FieldLayout> {
         record_of(cells)
     }
@@ -134,8 +130,6 @@ impl<'m, W: Row<'m>> FromRow<'m, W> for FieldMarshal<'m> {
 }
 
 impl<'m> Record<'m> for FieldMarshal<'m> {
-    const TABLE: TableId = TableId::FieldMarshal;
-
     fn from_cells(cells: &'m [Cell]) -> Option<FieldMarshal<'m>> {
         record_of(cells)
     }
@@ -180,8 +174,6 @@ impl<'m, W: Row<'m>> FromRow<'m, W> for FieldRVA {
 }
 
 impl<'m> Record<'m> for FieldRVA {
-    const TABLE: TableId = TableId::FieldRVA;
-
     fn from_cells(cells: &'m [Cell]) -> Option<FieldRVA> {
         record_of(cells)
     }
@@ -228,8 +220,6 @@ impl<'m, S: IsSignature, W: Row<'m, Signature = S>> FromRow<'m, W> for MemberRef
 }
 
 impl<'m> Record<'m> for MemberRef<'m> {
-    const TABLE: TableId = TableId::MemberRef;
-
     fn from_cells(cells: &'m [Cell]) -> Option<MemberRef<'m>> {
         record_of(cells)
     }

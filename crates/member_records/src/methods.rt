@@ -52,8 +52,6 @@ impl<'m, S: IsSignature, W: Row<'m, Signature = S>> FromRow<'m, W> for MethodDef
 }
 
 impl<'m> Record<'m> for MethodDef<'m> {
-    const TABLE: TableId = TableId::MethodDef;
-
     fn from_cells(cells: &'m [Cell]) -> Option<MethodDef<'m>> {
         record_of(cells)
     }
@@ -105,8 +103,6 @@ impl<'m, W: Row<'m>> FromRow<'m, W> for Param<'m> {
 }
 
 impl<'m> Record<'m> for Param<'m> {
-    const TABLE: TableId = TableId::Param;
-
     fn from_cells(cells: &'m [Cell]) -> Option<Param<'m>> {
         record_of(cells)
     }
@@ -155,8 +151,6 @@ impl<'m, W: Row<'m>> FromRow<'m, W> for MethodImpl {
 }
 
 impl<'m> Record<'m> for MethodImpl {
-    const TABLE: TableId = TableId::MethodImpl;
-
     fn from_cells(cells: &'m [Cell]) -> Option<MethodImpl> {
         record_of(cells)
     }
@@ -207,8 +201,6 @@ impl<'m, W: Row<'m>> FromRow<'m, W> for MethodSemantics {
 }
 
 impl<'m> Record<'m> for MethodSemantics {
-    const TABLE: TableId = TableId::MethodSemantics;
-
     fn from_cells(cells: &'m [Cell]) -> Option<MethodSemantics> {
         record_of(cells)
     }
@@ -254,8 +246,6 @@ impl<'m, S: IsSignature, W: Row<'m, Signature = S>> FromRow<'m, W> for StandAlon
 }
 
 impl<'m> Record<'m> for StandAloneSig<&'m Signature> {
-    const TABLE: TableId = TableId::StandAloneSig;
-
     fn from_cells(cells: &'m [Cell]) -> Option<StandAloneSig<&'m Signature>> {
         record_of(cells)
     }

@@ -39,8 +39,6 @@ impl<'m, W: Row<'m>> FromRow<'m, W> for PropertyMap {
 }
 
 impl<'m> Record<'m> for PropertyMap {
-    const TABLE: TableId = TableId::PropertyMap;
-
     fn from_cells(cells: &'m [Cell]) -> Option<PropertyMap> {
         record_of(cells)
     }
@@ -90,8 +88,6 @@ impl<'m, S: IsSignature, W: Row<'m, Signature = S>> FromRow<'m, W> for Property<
 }
 
 impl<'m> Record<'m> for Property<'m> {
-    const TABLE: TableId = TableId::Property;
-
     fn from_cells(cells: &'m [Cell]) -> Option<Property<'m>> {
         record_of(cells)
     }

@@ -47,8 +47,6 @@ impl<'m, W: Row<'m>> FromRow<'m, W> for GenericParam<'m> {
 }
 
 impl<'m> Record<'m> for GenericParam<'m> {
-    const TABLE: TableId = TableId::GenericParam;
-
     fn from_cells(cells: &'m [Cell]) -> Option<GenericParam<'m>> {
         record_of(cells)
     }
@@ -95,8 +93,6 @@ impl<'m, W: Row<'m>> FromRow<'m, W> for GenericParamConstraint {
 }
 
 impl<'m> Record<'m> for GenericParamConstraint {
-    const TABLE: TableId = TableId::GenericParamConstraint;
-
     fn from_cells(cells: &'m [Cell]) -> Option<GenericParamConstraint> {
         record_of(cells)
     }
@@ -143,8 +139,6 @@ impl<'m, S: IsSignature, W: Row<'m, Signature = S>> FromRow<'m, W> for MethodSpe
 }
 
 impl<'m> Record<'m> for MethodSpec<&'m Signature> {
-    const TABLE: TableId = TableId::MethodSpec;
-
     fn from_cells(cells: &'m [Cell]) -> Option<MethodSpec<&'m Signature>> {
         record_of(cells)
     }

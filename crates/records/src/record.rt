@@ -32,9 +32,6 @@ pub trait FromRow<'m, W: Row<'m>>: Sized {
 
 /// A row of a table as a record, whose fields have the names of the columns (II.22).
 pub trait Record<'m>: FromRow<'m, CellRow<'m>> {
-    /// The table whose row the record is.
-    const TABLE: TableId;
-
     /// The record that stands for cells, `None` where they are not of its table's number and kinds.
     ///
     /// It borrows from the cells, and takes no memory.

@@ -53,8 +53,6 @@ impl<'m, W: Row<'m>> FromRow<'m, W> for Module<'m> {
 }
 
 impl<'m> Record<'m> for Module<'m> {
-    const TABLE: TableId = TableId::Module;
-
     fn from_cells(cells: &'m [Cell]) -> Option<Module<'m>> {
         record_of(cells)
     }
@@ -106,8 +104,6 @@ impl<'m, W: Row<'m>> FromRow<'m, W> for TypeRef<'m> {
 }
 
 impl<'m> Record<'m> for TypeRef<'m> {
-    const TABLE: TableId = TableId::TypeRef;
-
     fn from_cells(cells: &'m [Cell]) -> Option<TypeRef<'m>> {
         record_of(cells)
     }
@@ -179,8 +175,6 @@ impl<'m, W: Row<'m>> FromRow<'m, W> for TypeDef<'m> {
 }
 
 impl<'m> Record<'m> for TypeDef<'m> {
-    const TABLE: TableId = TableId::TypeDef;
-
     fn from_cells(cells: &'m [Cell]) -> Option<TypeDef<'m>> {
         record_of(cells)
     }
@@ -242,8 +236,6 @@ impl<'m, W: Row<'m>> FromRow<'m, W> for InterfaceImpl {
 }
 
 impl<'m> Record<'m> for InterfaceImpl {
-    const TABLE: TableId = TableId::InterfaceImpl;
-
     fn from_cells(cells: &'m [Cell]) -> Option<InterfaceImpl> {
         record_of(cells)
     }
@@ -287,8 +279,6 @@ impl<'m, W: Row<'m>> FromRow<'m, W> for NestedClass {
 }
 
 impl<'m> Record<'m> for NestedClass {
-    const TABLE: TableId = TableId::NestedClass;
-
     fn from_cells(cells: &'m [Cell]) -> Option<NestedClass> {
         record_of(cells)
     }
@@ -338,8 +328,6 @@ impl<'m, W: Row<'m>> FromRow<'m, W> for ClassLayout {
 }
 
 impl<'m> Record<'m> for ClassLayout {
-    const TABLE: TableId = TableId::ClassLayout;
-
     fn from_cells(cells: &'m [Cell]) -> Option<ClassLayout> {
         record_of(cells)
     }
@@ -384,8 +372,6 @@ impl<'m, S: IsSignature, W: Row<'m, Signature = S>> FromRow<'m, W> for TypeSpec<
 }
 
 impl<'m> Record<'m> for TypeSpec<&'m Signature> {
-    const TABLE: TableId = TableId::TypeSpec;
-
     fn from_cells(cells: &'m [Cell]) -> Option<TypeSpec<&'m Signature>> {
         record_of(cells)
     }

@@ -22,8 +22,7 @@ fn check<'m, R: Record<'m> + Debug + Drop>(
     alloc: Global,
     model: &'m Model,
 ) -> Result<(), Fail> {
-    let table = R::TABLE;
-    assert_eq!(rt; R::table_id(), table);
+    let table = R::table_id();
     let rows = model.tables().rows(table);
     let cells = rows.first().ok_or("no row")?.as_slice();
     let Some(record) = R::from_cells(cells) else {

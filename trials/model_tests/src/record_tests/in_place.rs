@@ -38,7 +38,8 @@ fn is_same<'a, R: Record<'a> + FromRow<'a, RefRow<'a>> + PartialEq + Debug + Cop
     let owned: R = owned(model)?;
     let seen: R = seen(view)?;
     assert_eq!(rt; owned, seen);
-    let row = model.cells(R::TABLE, 1);
+    let table = <R as FromRow<'a, RefRow<'a>>>::table_id();
+    let row = model.cells(table, 1);
     assert_eq!(rt; R::from_cells(row), Some(seen));
     let cells = seen.cells(alloc)?;
     assert!(rt; cells.as_slice() == row);
