@@ -21,50 +21,50 @@ impl<'m> Row<'m> for CellRow<'m> {
     ghost says = { λ row place cell. option_map said (slice_get row.cells.now place) ≡ Some cell };
 
     fn number(&self, place: usize) -> u32 {
-        match self.cells.get(place) {
-            Some(Cell::Number(number)) => *number,
+        match &self.cells[place] {
+            Cell::Number(number) => *number,
             _ => unreachable!(),
         }
     }
 
     fn text(&self, place: usize) -> &'m str {
-        match self.cells.get(place) {
-            Some(Cell::Text(text)) => text.as_str(),
+        match &self.cells[place] {
+            Cell::Text(text) => text.as_str(),
             _ => unreachable!(),
         }
     }
 
     fn bytes(&self, place: usize) -> &'m [u8] {
-        match self.cells.get(place) {
-            Some(Cell::Bytes(bytes)) => bytes.as_slice(),
+        match &self.cells[place] {
+            Cell::Bytes(bytes) => bytes.as_slice(),
             _ => unreachable!(),
         }
     }
 
     fn guid(&self, place: usize) -> Option<[u8; 16]> {
-        match self.cells.get(place) {
-            Some(Cell::Guid(guid)) => *guid,
+        match &self.cells[place] {
+            Cell::Guid(guid) => *guid,
             _ => unreachable!(),
         }
     }
 
     fn reference(&self, place: usize) -> Option<Token> {
-        match self.cells.get(place) {
-            Some(Cell::Ref(reference)) => *reference,
+        match &self.cells[place] {
+            Cell::Ref(reference) => *reference,
             _ => unreachable!(),
         }
     }
 
     fn start(&self, place: usize) -> u32 {
-        match self.cells.get(place) {
-            Some(Cell::Start(row)) => *row,
+        match &self.cells[place] {
+            Cell::Start(row) => *row,
             _ => unreachable!(),
         }
     }
 
     fn signature(&self, place: usize, _column: SigKind) -> &'m Signature {
-        match self.cells.get(place) {
-            Some(Cell::Sig(signature)) => signature,
+        match &self.cells[place] {
+            Cell::Sig(signature) => signature,
             _ => unreachable!(),
         }
     }
