@@ -3,7 +3,7 @@ ghost use Rattle.schema.specs.declared.table.TableId.TheVariants as table;
 ghost use Rattle.metadata.specs.Cell.{Number, Text, Bytes};
 ghost use Rattle.cells.specs.Said.{all_said};
 
-use records::{Cell, FieldValue, FromRow, Record, Row, TableId, owned_cells, record_of};
+use records::{Cell, FieldValue, FromRow, Record, Row, TableId, owned_cells};
 use std::alloc::{AllocError, Global};
 
 /// This assembly, in at most one row (II.22.2).
@@ -58,10 +58,6 @@ impl<'m, W: Row<'m>> FromRow<'m, W> for Assembly<'m> {
 }
 
 impl<'m> Record<'m> for Assembly<'m> {
-    fn from_cells(cells: &'m [Cell]) -> Option<Assembly<'m>> {
-        record_of(cells)
-    }
-
     fn cells(&self, alloc: Global) -> Result<Vec<Cell>, AllocError> {
         owned_cells(
             alloc,
@@ -106,10 +102,6 @@ impl<'m, W: Row<'m>> FromRow<'m, W> for AssemblyProcessor {
 }
 
 impl<'m> Record<'m> for AssemblyProcessor {
-    fn from_cells(cells: &'m [Cell]) -> Option<AssemblyProcessor> {
-        record_of(cells)
-    }
-
     fn cells(&self, alloc: Global) -> Result<Vec<Cell>, AllocError>
         ensures { IfOk result (λ cells. all_said cells.items ≡ Number self.now.processor ∷ []) }
     {
@@ -149,10 +141,6 @@ impl<'m, W: Row<'m>> FromRow<'m, W> for AssemblyOS {
 }
 
 impl<'m> Record<'m> for AssemblyOS {
-    fn from_cells(cells: &'m [Cell]) -> Option<AssemblyOS> {
-        record_of(cells)
-    }
-
     fn cells(&self, alloc: Global) -> Result<Vec<Cell>, AllocError>
         ensures { IfOk result (λ cells. all_said cells.items ≡ Number self.now.os_platform_id ∷ Number self.now.os_major_version ∷ Number self.now.os_minor_version ∷ []) }
     {

@@ -2,7 +2,7 @@ ghost use Rattle.std.specs.Prelude.{◌≡◌, [], ◌∷◌};
 ghost use Rattle.schema.specs.declared.table.TableId.TheVariants as table;
 ghost use Rattle.metadata.specs.Cell.{Number, Bytes, Ref};
 
-use records::{Cell, FieldValue, FromRow, Record, Row, TableId, Token, owned_cells, record_of};
+use records::{Cell, FieldValue, FromRow, Record, Row, TableId, Token, owned_cells};
 use std::alloc::{AllocError, Global};
 
 /// The constant value of a field, parameter or property (II.22.9).
@@ -37,10 +37,6 @@ impl<'m, W: Row<'m>> FromRow<'m, W> for Constant<'m> {
 }
 
 impl<'m> Record<'m> for Constant<'m> {
-    fn from_cells(cells: &'m [Cell]) -> Option<Constant<'m>> {
-        record_of(cells)
-    }
-
     fn cells(&self, alloc: Global) -> Result<Vec<Cell>, AllocError> {
         owned_cells(
             alloc,
@@ -86,10 +82,6 @@ impl<'m, W: Row<'m>> FromRow<'m, W> for CustomAttribute<'m> {
 }
 
 impl<'m> Record<'m> for CustomAttribute<'m> {
-    fn from_cells(cells: &'m [Cell]) -> Option<CustomAttribute<'m>> {
-        record_of(cells)
-    }
-
     fn cells(&self, alloc: Global) -> Result<Vec<Cell>, AllocError> {
         owned_cells(
             alloc,
@@ -134,10 +126,6 @@ impl<'m, W: Row<'m>> FromRow<'m, W> for DeclSecurity<'m> {
 }
 
 impl<'m> Record<'m> for DeclSecurity<'m> {
-    fn from_cells(cells: &'m [Cell]) -> Option<DeclSecurity<'m>> {
-        record_of(cells)
-    }
-
     fn cells(&self, alloc: Global) -> Result<Vec<Cell>, AllocError> {
         owned_cells(
             alloc,

@@ -3,7 +3,7 @@ ghost use Rattle.schema.specs.declared.table.TableId.TheVariants as table;
 ghost use Rattle.metadata.specs.Cell.{Number, Text, Bytes, Ref};
 ghost use Rattle.records.specs.Names.{full_name};
 
-use records::{Cell, FieldValue, FromRow, Record, Row, TableId, Token, owned_cells, record_of};
+use records::{Cell, FieldValue, FromRow, Record, Row, TableId, Token, owned_cells};
 use std::alloc::{AllocError, Global};
 use std::fmt;
 
@@ -39,10 +39,6 @@ impl<'m, W: Row<'m>> FromRow<'m, W> for File<'m> {
 }
 
 impl<'m> Record<'m> for File<'m> {
-    fn from_cells(cells: &'m [Cell]) -> Option<File<'m>> {
-        record_of(cells)
-    }
-
     fn cells(&self, alloc: Global) -> Result<Vec<Cell>, AllocError> {
         owned_cells(
             alloc,
@@ -95,10 +91,6 @@ impl<'m, W: Row<'m>> FromRow<'m, W> for ExportedType<'m> {
 }
 
 impl<'m> Record<'m> for ExportedType<'m> {
-    fn from_cells(cells: &'m [Cell]) -> Option<ExportedType<'m>> {
-        record_of(cells)
-    }
-
     fn cells(&self, alloc: Global) -> Result<Vec<Cell>, AllocError> {
         owned_cells(
             alloc,
@@ -161,10 +153,6 @@ impl<'m, W: Row<'m>> FromRow<'m, W> for ManifestResource<'m> {
 }
 
 impl<'m> Record<'m> for ManifestResource<'m> {
-    fn from_cells(cells: &'m [Cell]) -> Option<ManifestResource<'m>> {
-        record_of(cells)
-    }
-
     fn cells(&self, alloc: Global) -> Result<Vec<Cell>, AllocError> {
         owned_cells(
             alloc,

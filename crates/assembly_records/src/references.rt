@@ -3,7 +3,7 @@ ghost use Rattle.schema.specs.declared.table.TableId.TheVariants as table;
 ghost use Rattle.metadata.specs.Cell.{Number, Text, Bytes, Ref};
 ghost use Rattle.cells.specs.Said.{all_said};
 
-use records::{Cell, FieldValue, FromRow, Record, Row, TableId, Token, owned_cells, record_of};
+use records::{Cell, FieldValue, FromRow, Record, Row, TableId, Token, owned_cells};
 use std::alloc::{AllocError, Global};
 
 /// Another assembly (II.22.5).
@@ -58,10 +58,6 @@ impl<'m, W: Row<'m>> FromRow<'m, W> for AssemblyRef<'m> {
 }
 
 impl<'m> Record<'m> for AssemblyRef<'m> {
-    fn from_cells(cells: &'m [Cell]) -> Option<AssemblyRef<'m>> {
-        record_of(cells)
-    }
-
     fn cells(&self, alloc: Global) -> Result<Vec<Cell>, AllocError> {
         owned_cells(
             alloc,
@@ -109,10 +105,6 @@ impl<'m, W: Row<'m>> FromRow<'m, W> for AssemblyRefProcessor {
 }
 
 impl<'m> Record<'m> for AssemblyRefProcessor {
-    fn from_cells(cells: &'m [Cell]) -> Option<AssemblyRefProcessor> {
-        record_of(cells)
-    }
-
     fn cells(&self, alloc: Global) -> Result<Vec<Cell>, AllocError>
         ensures { IfOk result (λ cells. all_said cells.items ≡ Number self.now.processor ∷ Ref self.now.assembly_ref ∷ []) }
     {
@@ -162,10 +154,6 @@ impl<'m, W: Row<'m>> FromRow<'m, W> for AssemblyRefOS {
 }
 
 impl<'m> Record<'m> for AssemblyRefOS {
-    fn from_cells(cells: &'m [Cell]) -> Option<AssemblyRefOS> {
-        record_of(cells)
-    }
-
     fn cells(&self, alloc: Global) -> Result<Vec<Cell>, AllocError>
         ensures { IfOk result (λ cells. all_said cells.items ≡ Number self.now.os_platform_id ∷ Number self.now.os_major_version ∷ Number self.now.os_minor_version ∷ Ref self.now.assembly_ref ∷ []) }
     {
@@ -205,10 +193,6 @@ impl<'m, W: Row<'m>> FromRow<'m, W> for ModuleRef<'m> {
 }
 
 impl<'m> Record<'m> for ModuleRef<'m> {
-    fn from_cells(cells: &'m [Cell]) -> Option<ModuleRef<'m>> {
-        record_of(cells)
-    }
-
     fn cells(&self, alloc: Global) -> Result<Vec<Cell>, AllocError> {
         owned_cells(alloc, &[FieldValue::Text(self.name)])
     }
@@ -250,10 +234,6 @@ impl<'m, W: Row<'m>> FromRow<'m, W> for ImplMap<'m> {
 }
 
 impl<'m> Record<'m> for ImplMap<'m> {
-    fn from_cells(cells: &'m [Cell]) -> Option<ImplMap<'m>> {
-        record_of(cells)
-    }
-
     fn cells(&self, alloc: Global) -> Result<Vec<Cell>, AllocError> {
         owned_cells(
             alloc,

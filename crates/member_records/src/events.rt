@@ -3,7 +3,7 @@ ghost use Rattle.schema.specs.declared.table.TableId.TheVariants as table;
 ghost use Rattle.metadata.specs.Cell.{Number, Text, Ref, Start};
 ghost use Rattle.cells.specs.Said.{all_said};
 
-use records::{Cell, FieldValue, FromRow, Record, Row, TableId, Token, owned_cells, record_of};
+use records::{Cell, FieldValue, FromRow, Record, Row, TableId, Token, owned_cells};
 use std::alloc::{AllocError, Global};
 
 /// A type that has events (II.22.12).
@@ -35,10 +35,6 @@ impl<'m, W: Row<'m>> FromRow<'m, W> for EventMap {
 }
 
 impl<'m> Record<'m> for EventMap {
-    fn from_cells(cells: &'m [Cell]) -> Option<EventMap> {
-        record_of(cells)
-    }
-
     fn cells(&self, alloc: Global) -> Result<Vec<Cell>, AllocError>
         ensures { IfOk result (λ cells. all_said cells.items ≡ Ref self.now.parent ∷ Start self.now.event_list ∷ []) }
     {
@@ -84,10 +80,6 @@ impl<'m, W: Row<'m>> FromRow<'m, W> for Event<'m> {
 }
 
 impl<'m> Record<'m> for Event<'m> {
-    fn from_cells(cells: &'m [Cell]) -> Option<Event<'m>> {
-        record_of(cells)
-    }
-
     fn cells(&self, alloc: Global) -> Result<Vec<Cell>, AllocError> {
         owned_cells(
             alloc,

@@ -6,7 +6,7 @@ ghost use Rattle.cells.specs.Said.{all_said};
 
 use records::{
     Cell, FieldValue, FromRow, IsSignature, Record, Row, SigKind, Signature, TableId, Token,
-    owned_cells, record_of,
+    owned_cells,
 };
 use std::alloc::{AllocError, Global};
 
@@ -42,10 +42,6 @@ impl<'m, S: IsSignature, W: Row<'m, Signature = S>> FromRow<'m, W> for Field<'m,
 }
 
 impl<'m> Record<'m> for Field<'m> {
-    fn from_cells(cells: &'m [Cell]) -> Option<Field<'m>> {
-        record_of(cells)
-    }
-
     fn cells(&self, alloc: Global) -> Result<Vec<Cell>, AllocError> {
         owned_cells(
             alloc,
@@ -87,10 +83,6 @@ impl<'m, W: Row<'m>> FromRow<'m, W> for FieldLayout {
 }
 
 impl<'m> Record<'m> for FieldLayout {
-    fn from_cells(cells: &'m [Cell]) -> Option<FieldLayout> {
-        record_of(cells)
-    }
-
     fn cells(&self, alloc: Global) -> Result<Vec<Cell>, AllocError>
         ensures { IfOk result (λ cells. all_said cells.items ≡ Number self.now.offset ∷ Ref self.now.field ∷ []) }
     {
@@ -130,10 +122,6 @@ impl<'m, W: Row<'m>> FromRow<'m, W> for FieldMarshal<'m> {
 }
 
 impl<'m> Record<'m> for FieldMarshal<'m> {
-    fn from_cells(cells: &'m [Cell]) -> Option<FieldMarshal<'m>> {
-        record_of(cells)
-    }
-
     fn cells(&self, alloc: Global) -> Result<Vec<Cell>, AllocError> {
         owned_cells(
             alloc,
@@ -174,10 +162,6 @@ impl<'m, W: Row<'m>> FromRow<'m, W> for FieldRVA {
 }
 
 impl<'m> Record<'m> for FieldRVA {
-    fn from_cells(cells: &'m [Cell]) -> Option<FieldRVA> {
-        record_of(cells)
-    }
-
     fn cells(&self, alloc: Global) -> Result<Vec<Cell>, AllocError>
         ensures { IfOk result (λ cells. all_said cells.items ≡ Number self.now.rva ∷ Ref self.now.field ∷ []) }
     {
@@ -220,10 +204,6 @@ impl<'m, S: IsSignature, W: Row<'m, Signature = S>> FromRow<'m, W> for MemberRef
 }
 
 impl<'m> Record<'m> for MemberRef<'m> {
-    fn from_cells(cells: &'m [Cell]) -> Option<MemberRef<'m>> {
-        record_of(cells)
-    }
-
     fn cells(&self, alloc: Global) -> Result<Vec<Cell>, AllocError> {
         owned_cells(
             alloc,

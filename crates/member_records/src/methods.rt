@@ -6,7 +6,7 @@ ghost use Rattle.cells.specs.Said.{all_said};
 
 use records::{
     Cell, FieldValue, FromRow, IsSignature, Record, Row, SigKind, Signature, TableId, Token,
-    owned_cells, record_of,
+    owned_cells,
 };
 use std::alloc::{AllocError, Global};
 
@@ -52,10 +52,6 @@ impl<'m, S: IsSignature, W: Row<'m, Signature = S>> FromRow<'m, W> for MethodDef
 }
 
 impl<'m> Record<'m> for MethodDef<'m> {
-    fn from_cells(cells: &'m [Cell]) -> Option<MethodDef<'m>> {
-        record_of(cells)
-    }
-
     fn cells(&self, alloc: Global) -> Result<Vec<Cell>, AllocError> {
         owned_cells(
             alloc,
@@ -103,10 +99,6 @@ impl<'m, W: Row<'m>> FromRow<'m, W> for Param<'m> {
 }
 
 impl<'m> Record<'m> for Param<'m> {
-    fn from_cells(cells: &'m [Cell]) -> Option<Param<'m>> {
-        record_of(cells)
-    }
-
     fn cells(&self, alloc: Global) -> Result<Vec<Cell>, AllocError> {
         owned_cells(
             alloc,
@@ -151,10 +143,6 @@ impl<'m, W: Row<'m>> FromRow<'m, W> for MethodImpl {
 }
 
 impl<'m> Record<'m> for MethodImpl {
-    fn from_cells(cells: &'m [Cell]) -> Option<MethodImpl> {
-        record_of(cells)
-    }
-
     fn cells(&self, alloc: Global) -> Result<Vec<Cell>, AllocError>
         ensures { IfOk result (λ cells. all_said cells.items ≡ Ref self.now.class ∷ Ref self.now.method_body ∷ Ref self.now.method_declaration ∷ []) }
     {
@@ -201,10 +189,6 @@ impl<'m, W: Row<'m>> FromRow<'m, W> for MethodSemantics {
 }
 
 impl<'m> Record<'m> for MethodSemantics {
-    fn from_cells(cells: &'m [Cell]) -> Option<MethodSemantics> {
-        record_of(cells)
-    }
-
     fn cells(&self, alloc: Global) -> Result<Vec<Cell>, AllocError>
         ensures { IfOk result (λ cells. all_said cells.items ≡ Number self.now.semantics ∷ Ref self.now.method ∷ Ref self.now.association ∷ []) }
     {
@@ -246,10 +230,6 @@ impl<'m, S: IsSignature, W: Row<'m, Signature = S>> FromRow<'m, W> for StandAlon
 }
 
 impl<'m> Record<'m> for StandAloneSig<&'m Signature> {
-    fn from_cells(cells: &'m [Cell]) -> Option<StandAloneSig<&'m Signature>> {
-        record_of(cells)
-    }
-
     fn cells(&self, alloc: Global) -> Result<Vec<Cell>, AllocError> {
         owned_cells(alloc, &[FieldValue::Sig(self.signature)])
     }

@@ -6,7 +6,7 @@ ghost use Rattle.cells.specs.Said.{all_said};
 
 use records::{
     Cell, FieldValue, FromRow, IsSignature, Record, Row, SigKind, Signature, TableId, Token,
-    owned_cells, record_of,
+    owned_cells,
 };
 use std::alloc::{AllocError, Global};
 
@@ -39,10 +39,6 @@ impl<'m, W: Row<'m>> FromRow<'m, W> for PropertyMap {
 }
 
 impl<'m> Record<'m> for PropertyMap {
-    fn from_cells(cells: &'m [Cell]) -> Option<PropertyMap> {
-        record_of(cells)
-    }
-
     fn cells(&self, alloc: Global) -> Result<Vec<Cell>, AllocError>
         ensures { IfOk result (λ cells. all_said cells.items ≡ Ref self.now.parent ∷ Start self.now.property_list ∷ []) }
     {
@@ -88,10 +84,6 @@ impl<'m, S: IsSignature, W: Row<'m, Signature = S>> FromRow<'m, W> for Property<
 }
 
 impl<'m> Record<'m> for Property<'m> {
-    fn from_cells(cells: &'m [Cell]) -> Option<Property<'m>> {
-        record_of(cells)
-    }
-
     fn cells(&self, alloc: Global) -> Result<Vec<Cell>, AllocError> {
         owned_cells(
             alloc,

@@ -5,7 +5,7 @@ ghost use Rattle.metadata.specs.Cell.{Number, Text, Ref, Sig};
 ghost use Rattle.cells.specs.Said.{all_said};
 
 use crate::field_value::{FieldValue, owned_cells};
-use crate::record::{FromRow, Record, record_of};
+use crate::record::{FromRow, Record};
 use crate::row::Row;
 use crate::signature::IsSignature;
 use cells::{Cell, Signature, Token};
@@ -47,10 +47,6 @@ impl<'m, W: Row<'m>> FromRow<'m, W> for GenericParam<'m> {
 }
 
 impl<'m> Record<'m> for GenericParam<'m> {
-    fn from_cells(cells: &'m [Cell]) -> Option<GenericParam<'m>> {
-        record_of(cells)
-    }
-
     fn cells(&self, alloc: Global) -> Result<Vec<Cell>, AllocError> {
         owned_cells(
             alloc,
@@ -93,10 +89,6 @@ impl<'m, W: Row<'m>> FromRow<'m, W> for GenericParamConstraint {
 }
 
 impl<'m> Record<'m> for GenericParamConstraint {
-    fn from_cells(cells: &'m [Cell]) -> Option<GenericParamConstraint> {
-        record_of(cells)
-    }
-
     fn cells(&self, alloc: Global) -> Result<Vec<Cell>, AllocError>
         ensures { IfOk result (λ cells. all_said cells.items ≡ Ref self.now.owner ∷ Ref self.now.constraint ∷ []) }
     {
@@ -139,10 +131,6 @@ impl<'m, S: IsSignature, W: Row<'m, Signature = S>> FromRow<'m, W> for MethodSpe
 }
 
 impl<'m> Record<'m> for MethodSpec<&'m Signature> {
-    fn from_cells(cells: &'m [Cell]) -> Option<MethodSpec<&'m Signature>> {
-        record_of(cells)
-    }
-
     fn cells(&self, alloc: Global) -> Result<Vec<Cell>, AllocError> {
         owned_cells(
             alloc,

@@ -35,9 +35,12 @@ pub trait Record<'m>: FromRow<'m, CellRow<'m>> {
     /// The record that stands for cells, `None` where they are not of its table's number and kinds.
     ///
     /// It borrows from the cells, and takes no memory.
-    fn from_cells(cells: &'m [Cell]) -> Option<Self>
+    final fn from_cells(cells: &'m [Cell]) -> Option<Self>
         ensures kinds { IsSome result ↔ AreOfKinds (kinds_of Self.table) (all_said cells.now) }
-        ensures fields { IfSome result (λ it. Self.fields it ≡ all_said cells.now) };
+        ensures fields { IfSome result (λ it. Self.fields it ≡ all_said cells.now) }
+    {
+        record_of(cells)
+    }
 
     /// The cells that the record stands for. An error is want of memory alone.
     fn cells(&self, alloc: Global) -> Result<Vec<Cell>, AllocError>

@@ -6,7 +6,7 @@ ghost use Rattle.cells.specs.Said.{all_said};
 ghost use Rattle.records.specs.Names.{full_name};
 
 use crate::field_value::{FieldValue, owned_cells};
-use crate::record::{FromRow, Record, record_of};
+use crate::record::{FromRow, Record};
 use crate::row::Row;
 use crate::signature::IsSignature;
 use cells::{Cell, Signature, Token};
@@ -53,10 +53,6 @@ impl<'m, W: Row<'m>> FromRow<'m, W> for Module<'m> {
 }
 
 impl<'m> Record<'m> for Module<'m> {
-    fn from_cells(cells: &'m [Cell]) -> Option<Module<'m>> {
-        record_of(cells)
-    }
-
     fn cells(&self, alloc: Global) -> Result<Vec<Cell>, AllocError> {
         owned_cells(
             alloc,
@@ -104,10 +100,6 @@ impl<'m, W: Row<'m>> FromRow<'m, W> for TypeRef<'m> {
 }
 
 impl<'m> Record<'m> for TypeRef<'m> {
-    fn from_cells(cells: &'m [Cell]) -> Option<TypeRef<'m>> {
-        record_of(cells)
-    }
-
     fn cells(&self, alloc: Global) -> Result<Vec<Cell>, AllocError> {
         owned_cells(
             alloc,
@@ -175,10 +167,6 @@ impl<'m, W: Row<'m>> FromRow<'m, W> for TypeDef<'m> {
 }
 
 impl<'m> Record<'m> for TypeDef<'m> {
-    fn from_cells(cells: &'m [Cell]) -> Option<TypeDef<'m>> {
-        record_of(cells)
-    }
-
     fn cells(&self, alloc: Global) -> Result<Vec<Cell>, AllocError> {
         owned_cells(
             alloc,
@@ -236,10 +224,6 @@ impl<'m, W: Row<'m>> FromRow<'m, W> for InterfaceImpl {
 }
 
 impl<'m> Record<'m> for InterfaceImpl {
-    fn from_cells(cells: &'m [Cell]) -> Option<InterfaceImpl> {
-        record_of(cells)
-    }
-
     fn cells(&self, alloc: Global) -> Result<Vec<Cell>, AllocError>
         ensures { IfOk result (λ cells. all_said cells.items ≡ Ref self.now.class ∷ Ref self.now.interface ∷ []) }
     {
@@ -279,10 +263,6 @@ impl<'m, W: Row<'m>> FromRow<'m, W> for NestedClass {
 }
 
 impl<'m> Record<'m> for NestedClass {
-    fn from_cells(cells: &'m [Cell]) -> Option<NestedClass> {
-        record_of(cells)
-    }
-
     fn cells(&self, alloc: Global) -> Result<Vec<Cell>, AllocError>
         ensures { IfOk result (λ cells. all_said cells.items ≡ Ref self.now.nested_class ∷ Ref self.now.enclosing_class ∷ []) }
     {
@@ -328,10 +308,6 @@ impl<'m, W: Row<'m>> FromRow<'m, W> for ClassLayout {
 }
 
 impl<'m> Record<'m> for ClassLayout {
-    fn from_cells(cells: &'m [Cell]) -> Option<ClassLayout> {
-        record_of(cells)
-    }
-
     fn cells(&self, alloc: Global) -> Result<Vec<Cell>, AllocError>
         ensures { IfOk result (λ cells. all_said cells.items ≡ Number self.now.packing_size ∷ Number self.now.class_size ∷ Ref self.now.parent ∷ []) }
     {
@@ -372,10 +348,6 @@ impl<'m, S: IsSignature, W: Row<'m, Signature = S>> FromRow<'m, W> for TypeSpec<
 }
 
 impl<'m> Record<'m> for TypeSpec<&'m Signature> {
-    fn from_cells(cells: &'m [Cell]) -> Option<TypeSpec<&'m Signature>> {
-        record_of(cells)
-    }
-
     fn cells(&self, alloc: Global) -> Result<Vec<Cell>, AllocError> {
         owned_cells(alloc, &[FieldValue::Sig(self.signature)])
     }
