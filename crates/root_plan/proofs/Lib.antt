@@ -1,4 +1,3 @@
-pub mod Answered
 pub mod LengthLemmas
 pub mod StandLemmas
 pub mod TableLemmas

@@ -1,9 +1,11 @@
-ghost use Rattle.std.specs.Prelude.{◌≡◌, ◌^◌, ◌<◌, ◌≤◌, OnOk, IfOk, IfErr, IfSome, IfNone, length};
+ghost use Rattle.std.specs.Prelude.{◌≡◌, ◌+◌, ◌^◌, ◌<◌, ◌≤◌, OnOk, IfOk, IfErr, IfSome, IfNone, length, sum_by};
+ghost use Rattle.root.specs.declared.kind.Kind.{Kind as TheKind};
 ghost use Rattle.metadata.specs.Metadata.{Metadata};
-ghost use Rattle.canonical.specs.Canonical.{canonical};
+ghost use Rattle.canonical.specs.Canonical.{canonical, stream};
+ghost use Rattle.put.specs.Heading.{size_of, held, heading_size};
 ghost use Rattle.root_plan.specs.declared.plan_error.PlanError.TheVariants.{TooLarge};
 ghost use Rattle.root_plan.specs.Outlined.{Describes};
-ghost use Rattle.root_plan.specs.Planned.{ArePooled, IsRootPlan};
+ghost use Rattle.root_plan.specs.Planned.{AreHeapLens, ArePooled, IsRootPlan, IsTablesPlan};
 
 use crate::heap_lens::HeapLens;
 use crate::laws::streams_are_within_roots;
@@ -12,9 +14,8 @@ use crate::plan_error::PlanError;
 use crate::stream_lens::{filled_len, root_len};
 use crate::tables_plan::TablesPlan;
 use heaps::TextPool;
-use plan::{Numbering, numbers_are_put};
-use put::{StreamSizes, table_headers_are_put};
-use schema::{tables_stand, widths_follow_from_counts};
+use plan::Numbering;
+use put::StreamSizes;
 
 /// What is known of the canonical root of a model before a byte of it is written.
 #[derive(Drop)]
@@ -33,6 +34,44 @@ pub struct RootPlan<'a> {
     pub sizes: StreamSizes,
     /// How many bytes the root has, at most 2^30.
     pub len: u32,
+}
+
+/// How many bytes each stream has of a root with these heaps and tables, and the root itself; `None` where it has
+/// more bytes than the limit.
+fn lens_of(
+    outline: &Outline,
+    heaps: &HeapLens,
+    tables: &TablesPlan,
+    limit: u32,
+) -> Option<(StreamSizes, u32)>
+    requires limit { limit ≤ 2 ^ 30 }
+    requires few { (heaps.now.strings ≤ 2 ^ 30) × (heaps.now.guids ≤ 2 ^ 30) × (heaps.now.blobs ≤ 2 ^ 30) }
+    ensures sizes { (model : Metadata) → Describes outline.now model → AreHeapLens model heaps.now → IsTablesPlan model tables.now
+        → IfSome result (λ lens. (kind : TheKind) → size_of lens.0 kind ≡ length (stream model kind)) }
+    ensures len { (model : Metadata) → Describes outline.now model → AreHeapLens model heaps.now → IsTablesPlan model tables.now
+        → IfSome result (λ lens. lens.1 ≡ length (canonical model)) }
+    ensures parts { IfSome result (λ lens. lens.1 ≡ heading_size outline.now.version.now (size_of lens.0) (held (size_of lens.0))
+        + sum_by (size_of lens.0) (held (size_of lens.0))) }
+    ensures fits { IfSome result (λ lens. lens.1 ≤ limit) }
+    ensures too_large { (model : Metadata) → Describes outline.now model → AreHeapLens model heaps.now → IsTablesPlan model tables.now
+        → IfNone result (limit < length (canonical model)) }
+{
+    streams_are_within_roots();
+    if tables.len > limit as usize {
+        return None;
+    }
+    let sizes = StreamSizes {
+        tables: filled_len(tables.len),
+        strings: heaps.strings,
+        user_strings: filled_len(outline.user_strings.len()),
+        guids: heaps.guids,
+        blobs: heaps.blobs,
+    };
+    let len = root_len(outline.version, &sizes);
+    if len > limit as usize {
+        return None;
+    }
+    Some((sizes, len as u32))
 }
 
 impl<'a> RootPlan<'a> {
@@ -54,51 +93,19 @@ impl<'a> RootPlan<'a> {
         ensures too_large { (model : Metadata) → Describes outline.now model → ArePooled model texts numbering
             → IfErr result (λ error. (error ≡ PlanError.TooLarge) × (limit < length (canonical model))) }
     {
-        RootPlan::measure(outline, texts, numbering, limit).ok_or(PlanError::TooLarge)
-    }
-
-    /// The plan of what is outlined with these pools and numbers, `None` where the root has more bytes
-    /// than the limit.
-    fn measure(
-        outline: &Outline<'a>,
-        texts: TextPool,
-        numbering: Numbering,
-        limit: u32,
-    ) -> Option<RootPlan<'a>>
-        requires { limit ≤ 2 ^ 30 }
-        ensures plan { (model : Metadata) → Describes outline.now model → ArePooled model texts numbering → IfSome result (λ plan. IsRootPlan model plan) }
-        ensures fits { (model : Metadata) → Describes outline.now model → ArePooled model texts numbering → IfSome result (λ _. length (canonical model) ≤ limit) }
-        ensures too_large { (model : Metadata) → Describes outline.now model → ArePooled model texts numbering → IfNone result (limit < length (canonical model)) }
-    {
-        streams_are_within_roots();
-        tables_stand();
-        widths_follow_from_counts();
-        numbers_are_put();
-        table_headers_are_put();
         let heaps = HeapLens::of(&texts, &numbering);
         let tables = TablesPlan::of(outline, heaps.heap_sizes());
-        if tables.len > limit as usize {
-            return None;
-        }
-        let sizes = StreamSizes {
-            tables: filled_len(tables.len),
-            strings: heaps.strings,
-            user_strings: filled_len(outline.user_strings.len()),
-            guids: heaps.guids,
-            blobs: heaps.blobs,
+        let Some((sizes, len)) = lens_of(outline, &heaps, &tables, limit) else {
+            return Err(PlanError::TooLarge);
         };
-        let len = root_len(outline.version, &sizes);
-        if len > limit as usize {
-            return None;
-        }
-        Some(RootPlan {
+        Ok(RootPlan {
             version: outline.version,
             user_strings: outline.user_strings,
             texts,
             numbering,
             tables,
             sizes,
-            len: len as u32,
+            len,
         })
     }
 }

@@ -1,11 +1,16 @@
-ghost use Rattle.std.specs.Prelude.{◌≡◌, ◌<◌};
+ghost use Rattle.std.specs.Prelude.{◌≡◌, ◌<◌, length, sum_by};
+ghost use Rattle.schema.specs.Tables.{tables};
 ghost use Rattle.metadata.specs.Metadata.{Metadata};
-ghost use Rattle.canonical.specs.TableStream.{sizes_of};
+ghost use Rattle.canonical.specs.Numbers.{numbers};
+ghost use Rattle.canonical.specs.TableStream.{sizes_of, table_stream};
+ghost use Rattle.put.specs.Flat.{cells_of};
+ghost use Rattle.plan.specs.Numbered.{flat};
 ghost use Rattle.root_plan.specs.Outlined.{Describes};
-ghost use Rattle.root_plan.specs.Planned.{IsTablesPlan};
+ghost use Rattle.root_plan.specs.Planned.{IsTablesPlan, planned_tables};
 
 use crate::outline::Outline;
 use plan::numbers_are_put;
+use put::table_headers_are_put;
 use schema::{Layout, TableId, tables_stand, widths_follow_from_counts};
 
 /// The table stream of a root that is planned (II.24.2.6).
@@ -25,11 +30,15 @@ impl TablesPlan {
     /// The table stream of the canonical root of what is outlined, by the HeapSizes of that root.
     pub(crate) fn of(outline: &Outline, heap_sizes: u8) -> TablesPlan
         requires { heap_sizes < 8 }
-        ensures { (model : Metadata) → Describes outline.now model → heap_sizes ≡ (sizes_of model).heap_sizes → IsTablesPlan model result }
+        ensures plan { (model : Metadata) → Describes outline.now model → heap_sizes ≡ (sizes_of model).heap_sizes → IsTablesPlan model result }
+        ensures many { (model : Metadata) → Describes outline.now model → length (flat (numbers model)) ≡ sum_by (cells_of result.layout) tables }
+        ensures stream { (model : Metadata) → Describes outline.now model → heap_sizes ≡ (sizes_of model).heap_sizes
+            → planned_tables result (flat (numbers model)) ≡ table_stream model }
     {
         tables_stand();
         widths_follow_from_counts();
         numbers_are_put();
+        table_headers_are_put();
         let layout = Layout::of(&outline.counts, heap_sizes);
         let last = TableId::GenericParamConstraint;
         let len = layout.row_start(last, layout.count(last) + 1);
