@@ -96,6 +96,8 @@ impl<'a> RootPlan<'a> {
         let heaps = HeapLens::of(&texts, &numbering);
         let tables = TablesPlan::of(outline, heaps.heap_sizes());
         let Some((sizes, len)) = lens_of(outline, &heaps, &tables, limit) else {
+            drop(texts);
+            drop(numbering);
             return Err(PlanError::TooLarge);
         };
         Ok(RootPlan {
