@@ -29,7 +29,7 @@ loop-row-preserved c =
     let is = c.as_slice.ensures ∙ c.row-item.is in
     record {
       whole = ap (with_rows indexes columns (drop (i + 1) rows)) c.in_ok-put_row.ensures.ok
-        ∙ rows_at indexes columns rows i _ _ c.loop-row.numbering _ below is c.loop-row.invariant.whole;
+          ∙ rows_at indexes columns rows i _ _ c.loop-row.numbering _ below is c.loop-row.invariant.whole;
       ready = (subst (AllByRecursion (AllByRecursion CanBeNumbered)) (drop_more rows i c.row-item.result below) c.loop-row.invariant.ready).1;
     }
 
