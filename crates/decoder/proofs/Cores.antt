@@ -1,5 +1,6 @@
 -- Cores and what is made of them: reading by the first byte, and the views of values in a `Box` and in a `Vec`.
-use Rattle.std.proofs.Common.{◌≡◌, ◌∙◌, ℕ, zero, suc, ◌-◌, ◌<◌, Bool, Option, Some, None, List, [], ◌∷◌, Vec, Global, map, refl, ap, arith}
+use Rattle.std.proofs.Common.{◌≡◌, ◌∙◌, ℕ, zero, suc, ◌-◌, ◌<◌, ◌≢◌, ◌⊎◌, inl, inr, Bool, eqb, Option, Some, None, List, [], ◌∷◌, Vec, Global, map, refl, ap, arith}
+use Rattle.std.proofs.lemmas.Bool.{ne_eqb}
 use Rattle.std.specs.Prelude.{option_map, option_and_then}
 use Rattle.signature_values.specs.declared.element.Element.{Element}
 use Rattle.signature_values.specs.declared.types.Modifier.{Modifier}
@@ -14,8 +15,8 @@ use Rattle.signature_values.specs.declared.types.SlotKind as kinds
 use Rattle.signature_values.specs.declared.types.Ret as rets
 use Rattle.signature_values.specs.Syntax as sig
 use Rattle.signature_values.specs.Views.{core_of, type_of, content_of, slot_of, ret_of, method_of, slots_from}
-use Rattle.signature_values.specs.Reading.{Reader, change, deep, core_at, core_by, element_of}
-use Rattle.signature_values.proofs.ViewLemmas.{view_simple, view_void_pointer, view_pointer, view_typed_ref, view_plain, view_by_ref, view_void_ret, view_some_ret}
+use Rattle.signature_values.specs.Reading.{Reader, change, deep, void_or, named_at, content_at, core_at, core_by, element_of}
+use Rattle.signature_values.proofs.ViewLemmas.{view_some_ret}
 use Rattle.decoder.specs.declared.error.SigError.{SigError}
 use Rattle.decoder.specs.declared.error.SigError.TheVariants.{Bad, Memory}
 use Rattle.decoder.specs.Gives.{Fails}
@@ -58,22 +59,35 @@ pub fails_then : {A B : Type 0} (e : SigError) (f : A → Option B) (o : Option 
 fails_then Bad f o h = rw h refl
 fails_then Memory f o h = tt
 
+-- no byte is left
+pub fails_end : {A : Type 0} (e : SigError) (r : Reader A) (b : List ℕ) → (e ≡ Bad) × (b ≡ []) → r [] ≡ None → Fails e (r b)
+fails_end e r b h none = rw (h.0, h.1) none
+
+-- ---- by the first byte
+
+-- not VOID
+pub void_other : {A : Type 0} (r : Reader A) (c : ℕ) (b rest : List ℕ) → b ≡ c ∷ rest → c ≢ 0x01 → void_or r b ≡ change (λ x. Some x) r b
+unfolding void_or
+void_other r c b rest h p = rw (h, ne_eqb c 0x01 p) refl
+
+-- neither TYPEDBYREF nor BYREF
+pub content_other : (r : Reader sig.Core) (c : ℕ) (b rest : List ℕ) → b ≡ c ∷ rest → c ≢ 0x16 → c ≢ 0x10 → content_at r b ≡ change sig.plain r b
+unfolding content_at
+content_other r c b rest h p q = rw (h, ne_eqb c 0x16 p, ne_eqb c 0x10 q) refl
+
+-- CLASS or VALUETYPE
+pub named_is : (c : ℕ) (b rest : List ℕ) → b ≡ c ∷ rest → (c ≢ 0x11) × (c ≡ 0x12) ⊎ (c ≡ 0x11) → named_at b ≡ Some (eqb c 0x11, rest)
+unfolding named_at
+named_is c b rest h (inl k) = rw (h, k.1) refl
+named_is c b rest h (inr k) = rw (h, k) refl
+
 -- ---- cores
 
 pub view_typed : (mods : Vec Modifier Global) (core : cores.Core) → type_of (types.roll-TypeSig (record { mods = mods; core = core })) ≡ sig.typed mods.items (core_of core)
 unfolding type_of core_of
 view_typed mods core = rw types.fold-roll-TypeSig refl
 
--- the steps of a core
-pub ruleset core_steps = (core_none, core_end, core_simple, core_other, view_simple)
-
--- what a pointer is seen as
-pub ruleset pointer_views = (view_void_pointer, view_pointer)
-
 -- ---- contents, results and methods
-
--- what a content is seen as
-pub ruleset content_views = (view_typed_ref, view_plain, view_by_ref)
 
 pub view_slot : (mods : Vec Modifier Global) (kind : kinds.SlotKind) → slot_of (slots.roll-Slot (record { mods = mods; kind = kind })) ≡ sig.slot mods.items (content_of kind)
 unfolding slot_of content_of
@@ -81,9 +95,6 @@ view_slot mods kind = rw slots.fold-roll-Slot refl
 
 pub view_slot_ret : (mods : Vec Modifier Global) (kind : kinds.SlotKind) → ret_of (rets.Slot (slots.roll-Slot (record { mods = mods; kind = kind }))) ≡ sig.some_ret (sig.slot mods.items (content_of kind))
 view_slot_ret mods kind = view_some_ret (slots.roll-Slot (record { mods = mods; kind = kind })) ∙ ap sig.some_ret (view_slot mods kind)
-
--- what a result is seen as
-pub ruleset ret_views = (view_void_ret, view_slot_ret)
 
 pub view_method : (kind : ℕ) (this explicit : Bool) (generic : Option ℕ) (ret : rets.Ret) (params : Vec Slot Global) (sentinel : Option ℕ) → method_of (methods.roll-MethodSig (record { kind = kind; this = this; explicit = explicit; generic = generic; ret = ret; params = params; sentinel = sentinel })) ≡ sig.method kind this explicit generic (ret_of ret) (slots_from (map slot_of params.items)) sentinel
 unfolding method_of ret_of slot_of

@@ -15,6 +15,11 @@ pub failed : {A B : Type 0} (view : A → B) (e : SigError) (read : Option B) (r
 failed view e read (Ok x) k h = absurd k.1
 failed view e read (Err reason) k h = subst (λ (it : SigError). Fails it read) (sym k.1) h
 
+-- memory for a value in it was refused, whatever is read
+pub refused : {A B : Type 0} (view : A → B) (read : Option B) (result : Result A SigError) → IsErr result × IsErrAnd result (λ reason. reason ≡ Memory) → Gives view result read
+refused view read (Ok x) k = absurd k.1
+refused view read (Err reason) k = subst (λ (it : SigError). Fails it read) (sym k.1) tt
+
 -- what is read, with values before it
 abbrev pub with_front : {A : Type 0} → List A → Option (List A × List ℕ) → Option (List A × List ℕ)
 with_front front read = option_map (λ x. (front ++ x.0, x.1)) read

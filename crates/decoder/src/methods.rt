@@ -62,7 +62,7 @@ pub fn params(
 
 /// A method, which may have a SENTINEL of its own or not (II.23.2.1 to II.23.2.3).
 #[cycle(build)]
-#[tactic(auto, using(crate::proofs::Cores::view_method), unfolding(signature_values::specs::Reading::method_at, signature_values::specs::Reading::method_from))]
+#[tactic(auto, unfolding(signature_values::specs::Reading::method_at))]
 pub fn method(
     alloc: Global,
     bytes: &[u8],
@@ -101,7 +101,6 @@ pub fn method(
 
 /// A pointer to a method, behind FNPTR.
 #[cycle(build)]
-#[tactic(auto, using(crate::proofs::Cores::fails_change, signature_values::proofs::ViewLemmas::view_function))]
 pub fn function(alloc: Global, bytes: &[u8], depth: u8) -> Result<(Core, &[u8]), SigError>
     ensures { Gives (λ x. (core_of x.0, x.1.now)) result (change sig.function (method_at true (core_at depth)) bytes.now) }
 {

@@ -13,7 +13,6 @@ use std::alloc::Global;
 
 /// What a parameter, a field or a local variable holds (II.23.2.10).
 #[cycle(build)]
-#[tactic(auto, using(crate::proofs::Cores::content_views), unfolding(signature_values::specs::Reading::content_at, signature_values::specs::Reading::both))]
 pub fn content(alloc: Global, bytes: &[u8], depth: u8) -> Result<(SlotKind, &[u8]), SigError>
     ensures { Gives (λ x. (content_of x.0, x.1.now)) result (content_at (core_at depth) bytes.now) }
 {
@@ -34,7 +33,6 @@ pub fn content(alloc: Global, bytes: &[u8], depth: u8) -> Result<(SlotKind, &[u8
 
 /// A parameter or a field.
 #[cycle(build)]
-#[tactic(auto, using(crate::proofs::Cores::view_slot), unfolding(signature_values::specs::Reading::slot_at, signature_values::specs::Reading::both))]
 pub fn slot(alloc: Global, bytes: &[u8], depth: u8) -> Result<(Slot, &[u8]), SigError>
     ensures { Gives (λ x. (slot_of x.0, x.1.now)) result (slot_at (core_at depth) bytes.now) }
 {
@@ -45,7 +43,6 @@ pub fn slot(alloc: Global, bytes: &[u8], depth: u8) -> Result<(Slot, &[u8]), Sig
 
 /// A result (II.23.2.11).
 #[cycle(build)]
-#[tactic(auto, using(crate::proofs::Cores::ret_views), unfolding(signature_values::specs::Reading::ret_at, signature_values::specs::Reading::both, signature_values::specs::Reading::void_or))]
 pub fn ret(alloc: Global, bytes: &[u8], depth: u8) -> Result<(Ret, &[u8]), SigError>
     ensures { Gives (λ x. (ret_of x.0, x.1.now)) result (ret_at (core_at depth) bytes.now) }
 {

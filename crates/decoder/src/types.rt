@@ -19,7 +19,7 @@ use std::alloc::Global;
 
 /// A core that is at most so deep (II.23.2.12).
 #[cycle(build)]
-#[tactic(auto, using(crate::proofs::Cores::core_steps))]
+#[tactic(auto, using(crate::proofs::Cores::core_none))]
 pub fn core(alloc: Global, bytes: &[u8], depth: u8) -> Result<(Core, &[u8]), SigError>
     ensures { Gives (λ x. (core_of x.0, x.1.now)) result (core_at depth bytes.now) }
 {
@@ -35,7 +35,7 @@ pub fn core(alloc: Global, bytes: &[u8], depth: u8) -> Result<(Core, &[u8]), Sig
 
 /// A core behind its first byte, where the types inside it are at most so deep.
 #[cycle(build)]
-#[tactic(auto, using(crate::proofs::Cores::deep_some), unfolding(signature_values::specs::Reading::core_by))]
+#[tactic(auto, unfolding(signature_values::specs::Reading::core_by))]
 fn core_behind(alloc: Global, code: u8, bytes: &[u8], depth: u8) -> Result<(Core, &[u8]), SigError>
     ensures { Gives (λ x. (core_of x.0, x.1.now)) result (core_by depth (core_at depth) code bytes.now) }
 {
@@ -65,7 +65,6 @@ fn core_behind(alloc: Global, code: u8, bytes: &[u8], depth: u8) -> Result<(Core
 
 /// A type.
 #[cycle(build)]
-#[tactic(auto, using(crate::proofs::Cores::view_typed), unfolding(signature_values::specs::Reading::typed_at, signature_values::specs::Reading::both))]
 fn typed(alloc: Global, bytes: &[u8], depth: u8) -> Result<(TypeSig, &[u8]), SigError>
     ensures { Gives (λ x. (type_of x.0, x.1.now)) result (typed_at (core_at depth) bytes.now) }
 {
@@ -96,7 +95,6 @@ pub fn types(
 
 /// A pointer, behind PTR.
 #[cycle(build)]
-#[tactic(auto, using(crate::proofs::Cores::pointer_views), unfolding(signature_values::specs::Reading::target_at, signature_values::specs::Reading::both, signature_values::specs::Reading::void_or))]
 fn pointer(alloc: Global, bytes: &[u8], depth: u8) -> Result<(Core, &[u8]), SigError>
     ensures { Gives (λ x. (core_of x.0, x.1.now)) result (change pointer_to (target_at (core_at depth)) bytes.now) }
 {
@@ -111,7 +109,6 @@ fn pointer(alloc: Global, bytes: &[u8], depth: u8) -> Result<(Core, &[u8]), SigE
 
 /// An array of one dimension, behind SZARRAY.
 #[cycle(build)]
-#[tactic(auto, using(crate::proofs::Cores::fails_change, signature_values::proofs::ViewLemmas::view_vector))]
 fn vector(alloc: Global, bytes: &[u8], depth: u8) -> Result<(Core, &[u8]), SigError>
     ensures { Gives (λ x. (core_of x.0, x.1.now)) result (change sig.vector (typed_at (core_at depth)) bytes.now) }
 {
@@ -121,7 +118,6 @@ fn vector(alloc: Global, bytes: &[u8], depth: u8) -> Result<(Core, &[u8]), SigEr
 
 /// An array of a shape, behind ARRAY.
 #[cycle(build)]
-#[tactic(auto, using(signature_values::proofs::ViewLemmas::view_array), unfolding(signature_values::specs::Reading::array_at, signature_values::specs::Reading::both))]
 fn array(alloc: Global, bytes: &[u8], depth: u8) -> Result<(Core, &[u8]), SigError>
     ensures { Gives (λ x. (core_of x.0, x.1.now)) result (change array_from (array_at (core_at depth)) bytes.now) }
 {
@@ -133,7 +129,7 @@ fn array(alloc: Global, bytes: &[u8], depth: u8) -> Result<(Core, &[u8]), SigErr
 
 /// An instance of a generic type, behind GENERICINST.
 #[cycle(build)]
-#[tactic(auto, using(signature_values::proofs::ViewLemmas::view_instance), unfolding(signature_values::specs::Reading::instance_at, signature_values::specs::Reading::both, signature_values::specs::Reading::named_at, signature_values::specs::Reading::counted_at))]
+#[tactic(auto, unfolding(signature_values::specs::Reading::instance_at, signature_values::specs::Reading::both, signature_values::specs::Reading::named_at))]
 fn instance(alloc: Global, bytes: &[u8], depth: u8) -> Result<(Core, &[u8]), SigError>
     ensures { Gives (λ x. (core_of x.0, x.1.now)) result (change instance_from (instance_at (core_at depth)) bytes.now) }
 {
