@@ -2,6 +2,8 @@
 use Rattle.std.proofs.Common.{◌≡◌, ◌∙◌, ℕ, zero, suc, ◌-◌, ◌<◌, ◌≢◌, ◌⊎◌, inl, inr, Bool, eqb, Option, Some, None, List, [], ◌∷◌, Vec, Global, map, refl, ap, arith}
 use Rattle.std.proofs.lemmas.Bool.{ne_eqb}
 use Rattle.std.specs.Prelude.{option_map, option_and_then}
+use Rattle.schema.specs.declared.column.SigKind.{SigKind}
+use Rattle.schema.specs.declared.column.SigKind.TheVariants as column
 use Rattle.signature_values.specs.declared.element.Element.{Element}
 use Rattle.signature_values.specs.declared.types.Modifier.{Modifier}
 use Rattle.signature_values.specs.declared.types.TypeSig.{TypeSig}
@@ -15,7 +17,8 @@ use Rattle.signature_values.specs.declared.types.SlotKind as kinds
 use Rattle.signature_values.specs.declared.types.Ret as rets
 use Rattle.signature_values.specs.Syntax as sig
 use Rattle.signature_values.specs.Views.{core_of, type_of, content_of, slot_of, ret_of, method_of, slots_from}
-use Rattle.signature_values.specs.Reading.{Reader, change, deep, void_or, named_at, content_at, core_at, core_by, element_of}
+use Rattle.signature_values.specs.Reading.{Reader, change, deep, void_or, named_at, leading_within, leading_at, modifiers_at, content_at, ret_at, method_at, both, core_at, core_by, element_of}
+use Rattle.signature_values.specs.Columns.{body_at}
 use Rattle.signature_values.proofs.ViewLemmas.{view_some_ret}
 use Rattle.decoder.specs.declared.error.SigError.{SigError}
 use Rattle.decoder.specs.declared.error.SigError.TheVariants.{Bad, Memory}
@@ -80,6 +83,17 @@ pub named_is : (c : ℕ) (b rest : List ℕ) → b ≡ c ∷ rest → (c ≢ 0x1
 unfolding named_at
 named_is c b rest h (inl k) = rw (h, k.1) refl
 named_is c b rest h (inr k) = rw (h, k) refl
+
+-- no signature is empty
+pub body_end : (kind : SigKind) (r : Reader sig.Core) (b : List ℕ) → b ≡ [] → body_at kind r b ≡ None
+unfolding body_at method_at ret_at both void_or modifiers_at leading_at leading_within
+body_end column.Field r b h = rw h refl
+body_end column.MethodDef r b h = rw h refl
+body_end column.MemberRef r b h = rw h refl
+body_end column.StandAlone r b h = rw h refl
+body_end column.Property r b h = rw h refl
+body_end column.TypeSpec r b h = rw h refl
+body_end column.Instance r b h = rw h refl
 
 -- ---- cores
 

@@ -127,29 +127,30 @@ pub fn body(
 ) -> Result<(SigBody, &[u8]), SigError>
     ensures { Gives (λ x. (body_of x.0, x.1.now)) result (body_at kind (core_at depth) bytes.now) }
 {
+    let (first, rest) = byte(bytes)?;
     match kind {
-        SigKind::Field => match byte(bytes)? {
-            (0x06, rest) => field(alloc, rest, depth),
+        SigKind::Field => match first {
+            0x06 => field(alloc, rest, depth),
             _ => Err(SigError::Bad),
         },
         SigKind::MethodDef => method_body(alloc, bytes, false, depth),
-        SigKind::MemberRef => match byte(bytes)? {
-            (0x06, rest) => field(alloc, rest, depth),
+        SigKind::MemberRef => match first {
+            0x06 => field(alloc, rest, depth),
             _ => method_body(alloc, bytes, true, depth),
         },
-        SigKind::StandAlone => match byte(bytes)? {
-            (0x06, rest) => field(alloc, rest, depth),
-            (0x07, rest) => locals(alloc, rest, depth),
+        SigKind::StandAlone => match first {
+            0x06 => field(alloc, rest, depth),
+            0x07 => locals(alloc, rest, depth),
             _ => method_body(alloc, bytes, true, depth),
         },
-        SigKind::Property => match byte(bytes)? {
-            (0x08, rest) => property(alloc, rest, false, depth),
-            (0x28, rest) => property(alloc, rest, true, depth),
+        SigKind::Property => match first {
+            0x08 => property(alloc, rest, false, depth),
+            0x28 => property(alloc, rest, true, depth),
             _ => Err(SigError::Bad),
         },
         SigKind::TypeSpec => type_spec(alloc, bytes, depth),
-        SigKind::Instance => match byte(bytes)? {
-            (0x0A, rest) => arguments(alloc, rest, depth),
+        SigKind::Instance => match first {
+            0x0A => arguments(alloc, rest, depth),
             _ => Err(SigError::Bad),
         },
     }
