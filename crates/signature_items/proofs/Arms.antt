@@ -16,7 +16,7 @@ use Rattle.signature_items.specs.declared.place.Place.{Place}
 use Rattle.signature_items.specs.declared.place.Place.TheVariants as place
 use Rattle.signature_items.specs.declared.place.Frame.TheVariants as frame
 use Rattle.signature_items.specs.ItemsOf.{prefix_item, core_items, typed_items, content_items, slot_items, ret_items, local_items, shape_items, method_items}
-use Rattle.signature_items.specs.Places.{joined, item_then, place_at, frame_at, core_told, code_told, instance_told, content_told, method_told, types_told, void_items, target_items, IsLed}
+use Rattle.signature_items.specs.Places.{Told, joined, item_then, place_at, frame_at, core_told, code_told, instance_told, content_told, method_told, types_told, void_items, target_items, IsLed}
 use Rattle.signature_items.proofs.Joins.{changed, paired, both_items, fused, item_fused, item_told, joined_both}
 use Rattle.signature_items.proofs.Leading.{led_at, led_next, led_none, led_end, modifier_steps, prefix_steps}
 use Rattle.signature_items.proofs.Counts.{counted_item, count_types_from, types_from_items}
@@ -66,6 +66,15 @@ code_function (suc d) c b code lt = rw code (sym (item_fused item.Function metho
 pub code_function_none : (d c : ℕ) (b : List ℕ) → c ≡ 0x1B → d ≡ 0 → code_told d c b ≡ None
 unfolding code_told core_by
 code_function_none d c b code e = rw (code, e) refl
+
+-- what is told behind a pointer's code and behind a function's, however deep
+pub pointer_told : (d c : ℕ) (b : List ℕ) (t : Told) → c ≡ 0x0F → (d ≡ 0 → t ≡ None) → (0 < d → t ≡ item_then item.Pointer (place_at (place.Target d) b)) → t ≡ code_told d c b
+pointer_told zero c b t code none told = none refl ∙ sym (code_pointer_none zero c b code refl)
+pointer_told (suc d) c b t code none told = told (omega arith) ∙ sym (code_pointer (suc d) c b code (omega arith))
+
+pub function_told : (d c : ℕ) (b : List ℕ) (t : Told) → c ≡ 0x1B → (d ≡ 0 → t ≡ None) → (0 < d → t ≡ item_then item.Function (place_at (place.Method d) b)) → t ≡ code_told d c b
+function_told zero c b t code none told = none refl ∙ sym (code_function_none zero c b code refl)
+function_told (suc d) c b t code none told = told (omega arith) ∙ sym (code_function (suc d) c b code (omega arith))
 
 pub code_vector : (d c : ℕ) (b : List ℕ) → c ≡ 0x1D → code_told d c b ≡ item_then item.Vector (place_at (place.Typed d) b)
 unfolding code_told core_by place_at
@@ -119,8 +128,6 @@ code_bad d c b p1 p2 p3 p4 p5 p6 p7 p8 p9 =
     rw (ne_eqb c 0x0F p1, ne_eqb c 0x11 p2, ne_eqb c 0x12 p3, ne_eqb c 0x13 p4, ne_eqb c 0x14 p5, ne_eqb c 0x15 p6, ne_eqb c 0x1B p7, ne_eqb c 0x1D p8, ne_eqb c 0x1E p9) refl
 
 pub ruleset core_arms = (core_none, core_end, core_simple, core_other)
-
-pub ruleset code_arms = (code_pointer, code_pointer_none, code_function, code_function_none, code_vector, code_array, code_instance, code_value, code_value_none, code_class, code_class_none, code_var, code_var_none, code_mvar, code_mvar_none, code_bad)
 
 -- ---- an instance
 

@@ -3,10 +3,11 @@ use Rattle.std.proofs.Common.{◌≡◌, ◌≢◌, ◌∙◌, ℕ, ℤ, suc, �
 use Rattle.std.specs.Prelude.{flat_map, option_map, option_and_then}
 use Rattle.std.proofs.lemmas.Bool.{ne_eqb}
 use Rattle.std.proofs.lemmas.Bool.Decides.{nat_tests}
+use Rattle.schema.specs.declared.column.SigKind.{SigKind}
 use Rattle.schema.specs.declared.column.SigKind.TheVariants as column
 use Rattle.signature_values.specs.Syntax as sig
 use Rattle.signature_values.specs.Views.{slots_from}
-use Rattle.signature_values.specs.Reading.{Reader, change, both, many_at, counted_at, counted_within, number_at, signed_at, typed_at, slot_at, ret_at, params_at, generic_at, takes_sentinel, is_method_code, method_from, method_at, core_at, shape_at, shape_with}
+use Rattle.signature_values.specs.Reading.{Reader, change, both, void_or, leading_within, leading_at, modifiers_at, many_at, counted_at, counted_within, number_at, signed_at, typed_at, slot_at, ret_at, params_at, generic_at, takes_sentinel, is_method_code, method_from, method_at, core_at, shape_at, shape_with}
 use Rattle.signature_values.specs.Columns.{local_at, headed_at, property_from, body_at}
 use Rattle.signature_items.specs.declared.item.Item.{Item}
 use Rattle.signature_items.specs.declared.item.Item.TheVariants as item
@@ -107,6 +108,16 @@ arguments_is n b rest e =
 
 -- ---- whole signatures, by the kind of the column and the first byte
 
+pub body_end : (kind : SigKind) (b : List ℕ) → b ≡ [] → place_at (place.Body kind) b ≡ None
+unfolding place_at body_at method_at ret_at both void_or modifiers_at leading_at leading_within
+body_end column.Field b h = rw h refl
+body_end column.MethodDef b h = rw h refl
+body_end column.MemberRef b h = rw h refl
+body_end column.StandAlone b h = rw h refl
+body_end column.Property b h = rw h refl
+body_end column.TypeSpec b h = rw h refl
+body_end column.Instance b h = rw h refl
+
 pub body_method_def : (b : List ℕ) → place_at (place.Body column.MethodDef) b ≡ method_told false 128 b
 unfolding place_at body_at method_told
 body_method_def b = fused sig.method_body items_of method_items (λ x. refl) (method_at false (core_at 128) b)
@@ -114,10 +125,6 @@ body_method_def b = fused sig.method_body items_of method_items (λ x. refl) (me
 pub body_type_spec : (b : List ℕ) → place_at (place.Body column.TypeSpec) b ≡ place_at (place.Ret 128) b
 unfolding place_at body_at
 body_type_spec b = fused sig.type_spec items_of ret_items (λ x. refl) (ret_at (core_at 128) b)
-
-pub field_end : (b : List ℕ) → b ≡ [] → place_at (place.Body column.Field) b ≡ None
-unfolding place_at body_at
-field_end b h = rw h refl
 
 pub field_first : (c : ℕ) (b rest : List ℕ) → b ≡ c ∷ rest → c ≡ 0x06 → place_at (place.Body column.Field) b ≡ field_told rest
 unfolding place_at body_at field_told
@@ -127,10 +134,6 @@ pub field_bad : (c : ℕ) (b rest : List ℕ) → b ≡ c ∷ rest → c ≢ 0x0
 unfolding place_at body_at
 field_bad c b rest h p = rw (h, ne_eqb c 0x06 p) refl
 
-pub member_end : (b : List ℕ) → b ≡ [] → place_at (place.Body column.MemberRef) b ≡ None
-unfolding place_at body_at
-member_end b h = rw h refl
-
 pub member_field : (c : ℕ) (b rest : List ℕ) → b ≡ c ∷ rest → c ≡ 0x06 → place_at (place.Body column.MemberRef) b ≡ field_told rest
 unfolding place_at body_at field_told
 member_field c b rest h code = rw (h, code) refl
@@ -138,10 +141,6 @@ member_field c b rest h code = rw (h, code) refl
 pub member_method : (c : ℕ) (b rest : List ℕ) → b ≡ c ∷ rest → c ≢ 0x06 → place_at (place.Body column.MemberRef) b ≡ method_told true 128 b
 unfolding place_at body_at method_told
 member_method c b rest h p = rw (h, ne_eqb c 0x06 p) (fused sig.method_body items_of method_items (λ x. refl) (method_at true (core_at 128) (c ∷ rest)))
-
-pub alone_end : (b : List ℕ) → b ≡ [] → place_at (place.Body column.StandAlone) b ≡ None
-unfolding place_at body_at
-alone_end b h = rw h refl
 
 pub alone_field : (c : ℕ) (b rest : List ℕ) → b ≡ c ∷ rest → c ≡ 0x06 → place_at (place.Body column.StandAlone) b ≡ field_told rest
 unfolding place_at body_at field_told
@@ -155,10 +154,6 @@ pub alone_method : (c : ℕ) (b rest : List ℕ) → b ≡ c ∷ rest → c ≢ 
 unfolding place_at body_at method_told
 alone_method c b rest h p q = rw (h, ne_eqb c 0x06 p, ne_eqb c 0x07 q) (fused sig.method_body items_of method_items (λ x. refl) (method_at true (core_at 128) (c ∷ rest)))
 
-pub property_end : (b : List ℕ) → b ≡ [] → place_at (place.Body column.Property) b ≡ None
-unfolding place_at body_at
-property_end b h = rw h refl
-
 pub property_this : (c : ℕ) (b rest : List ℕ) → b ≡ c ∷ rest → c ≡ 0x28 → place_at (place.Body column.Property) b ≡ property_told true rest
 unfolding place_at body_at property_told
 property_this c b rest h code = rw (h, code) refl
@@ -171,10 +166,6 @@ pub property_bad : (c : ℕ) (b rest : List ℕ) → b ≡ c ∷ rest → c ≢ 
 unfolding place_at body_at
 property_bad c b rest h p q = rw (h, ne_eqb c 0x28 q, ne_eqb c 0x08 p) refl
 
-pub arguments_end : (b : List ℕ) → b ≡ [] → place_at (place.Body column.Instance) b ≡ None
-unfolding place_at body_at
-arguments_end b h = rw h refl
-
 pub arguments_first : (c : ℕ) (b rest : List ℕ) → b ≡ c ∷ rest → c ≡ 0x0A → place_at (place.Body column.Instance) b ≡ arguments_told rest
 unfolding place_at body_at arguments_told
 arguments_first c b rest h code = rw (h, code) refl
@@ -183,7 +174,7 @@ pub arguments_bad : (c : ℕ) (b rest : List ℕ) → b ≡ c ∷ rest → c ≢
 unfolding place_at body_at
 arguments_bad c b rest h p = rw (h, ne_eqb c 0x0A p) refl
 
-pub ruleset body_arms = (body_method_def, body_type_spec, field_end, field_first, field_bad, member_end, member_field, member_method, alone_end, alone_field, alone_locals, alone_method, property_end, property_this, property_static, property_bad, arguments_end, arguments_first, arguments_bad)
+pub ruleset body_arms = (body_end, body_method_def, body_type_spec, field_first, field_bad, member_field, member_method, alone_field, alone_locals, alone_method, property_this, property_static, property_bad, arguments_first, arguments_bad)
 
 -- ---- the shape of an array
 

@@ -72,34 +72,35 @@ fn arguments(bytes: &[u8]) -> Option<Step<'_>>
 }
 
 /// The first item of a signature, in a column of a kind.
-#[tactic(auto, using(crate::proofs::Heads::body_arms, crate::proofs::Heads::method_end))]
+#[tactic(auto, using(crate::proofs::Heads::body_arms))]
 pub fn body(bytes: &[u8], kind: SigKind) -> Option<Step<'_>>
     ensures told { told result ≡ place_at (place.Body kind) bytes.now }
     ensures within { IfSome result (IsWithin 129) }
 {
+    let (first, rest) = byte(bytes)?;
     match kind {
-        SigKind::Field => match byte(bytes) {
-            Some((0x06, rest)) => Some(field(rest)),
+        SigKind::Field => match first {
+            0x06 => Some(field(rest)),
             _ => None,
         },
         SigKind::MethodDef => method(bytes, false, DEPTH),
-        SigKind::MemberRef => match byte(bytes) {
-            Some((0x06, rest)) => Some(field(rest)),
+        SigKind::MemberRef => match first {
+            0x06 => Some(field(rest)),
             _ => method(bytes, true, DEPTH),
         },
-        SigKind::StandAlone => match byte(bytes) {
-            Some((0x06, rest)) => Some(field(rest)),
-            Some((0x07, rest)) => locals(rest),
+        SigKind::StandAlone => match first {
+            0x06 => Some(field(rest)),
+            0x07 => locals(rest),
             _ => method(bytes, true, DEPTH),
         },
-        SigKind::Property => match byte(bytes) {
-            Some((0x08, rest)) => property(rest, false),
-            Some((0x28, rest)) => property(rest, true),
+        SigKind::Property => match first {
+            0x08 => property(rest, false),
+            0x28 => property(rest, true),
             _ => None,
         },
         SigKind::TypeSpec => ret(bytes, DEPTH),
-        SigKind::Instance => match byte(bytes) {
-            Some((0x0A, rest)) => arguments(rest),
+        SigKind::Instance => match first {
+            0x0A => arguments(rest),
             _ => None,
         },
     }

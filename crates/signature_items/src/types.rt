@@ -79,7 +79,7 @@ fn deeper(item: Item, place: Place, rest: &[u8], depth: u8) -> Option<Step<'_>>
 }
 
 /// A core behind its first byte, where the types inside it are at most so deep.
-#[tactic(auto, using(crate::proofs::Arms::code_arms))]
+#[tactic(auto, using(crate::proofs::Arms::code_bad))]
 fn core_behind(code: u8, rest: &[u8], depth: u8) -> Option<Step<'_>>
     ensures told { told result ≡ code_told depth code rest.now }
     ensures within { IfSome result (IsWithin (suc depth)) }
