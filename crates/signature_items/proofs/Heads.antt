@@ -108,6 +108,7 @@ arguments_is n b rest e =
 
 -- ---- whole signatures, by the kind of the column and the first byte
 
+-- no signature is empty
 pub body_end : (kind : SigKind) (b : List ℕ) → b ≡ [] → place_at (place.Body kind) b ≡ None
 unfolding place_at body_at method_at ret_at both void_or modifiers_at leading_at leading_within
 body_end column.Field b h = rw h refl
@@ -173,8 +174,6 @@ arguments_first c b rest h code = rw (h, code) refl
 pub arguments_bad : (c : ℕ) (b rest : List ℕ) → b ≡ c ∷ rest → c ≢ 0x0A → place_at (place.Body column.Instance) b ≡ None
 unfolding place_at body_at
 arguments_bad c b rest h p = rw (h, ne_eqb c 0x0A p) refl
-
-pub ruleset body_arms = (body_end, body_method_def, body_type_spec, field_first, field_bad, member_field, member_method, alone_field, alone_locals, alone_method, property_this, property_static, property_bad, arguments_first, arguments_bad)
 
 -- ---- the shape of an array
 

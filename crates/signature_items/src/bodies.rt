@@ -72,7 +72,6 @@ fn arguments(bytes: &[u8]) -> Option<Step<'_>>
 }
 
 /// The first item of a signature, in a column of a kind.
-#[tactic(auto, using(crate::proofs::Heads::body_arms))]
 pub fn body(bytes: &[u8], kind: SigKind) -> Option<Step<'_>>
     ensures told { told result ≡ place_at (place.Body kind) bytes.now }
     ensures within { IfSome result (IsWithin 129) }
