@@ -1,8 +1,11 @@
 -- Skipping step by step, as loops and tests of depth meet it.
-use Rattle.std.proofs.Common.{◌≡◌, ℕ, zero, suc, ◌+◌, ◌-◌, ◌<◌, ◌≤◌, ◌&&◌, Bool, not, cond, Some, None, is_some, List, [], ◌∷◌, refl, arith}
+use Rattle.std.proofs.Common.{◌≡◌, ℕ, zero, suc, ◌+◌, ◌-◌, ◌<◌, ◌≤◌, ◌&&◌, Bool, not, cond, Option, Some, None, is_some, List, [], ◌∷◌, refl, arith}
 use Rattle.std.specs.Prelude.{option_and_then}
-use Rattle.signature_values.specs.Reading.{element_of}
-use Rattle.recogniser.specs.Skips.{Left, Skip, skip_many, skip_core, skip_by, skip_deep, skip_params, skip_slot, is_marked, behind_mark}
+use Rattle.schema.specs.declared.token.Token.{Token}
+use Rattle.schema.specs.declared.column.SigKind.{SigKind}
+use Rattle.schema.specs.declared.column.SigKind.TheVariants as column
+use Rattle.signature_values.specs.Reading.{leading_within, leading_at, modifiers_at, element_of}
+use Rattle.recogniser.specs.Skips.{Left, Skip, skip_many, skip_core, skip_by, skip_deep, skip_params, skip_slot, skip_modifiers, skip_void_or, skip_ret, skip_method, skip_body, is_marked, behind_mark}
 
 next_of : (n k : ℕ) → k < n → n - k ≡ suc (n - (k + 1))
 next_of n k lt = omega arith
@@ -42,3 +45,14 @@ skip_core_none counts (suc d) here h = absurd (omega arith)
 pub skip_deep_some : (d : ℕ) (inner : Skip) (here : Left) → 0 < d → skip_deep d inner here ≡ inner here
 skip_deep_some zero inner here h = absurd (omega arith)
 skip_deep_some (suc d) inner here h = refl
+
+-- no signature is empty
+pub skip_body_end : (counts : List ℕ) (kind : SigKind) (nested : Skip) (b : List ℕ) (bad : Option Token) → b ≡ [] → skip_body counts kind nested (b, bad) ≡ None
+unfolding skip_body skip_method skip_ret skip_modifiers skip_void_or modifiers_at leading_at leading_within
+skip_body_end counts column.Field nested b bad h = rw h refl
+skip_body_end counts column.MethodDef nested b bad h = rw h refl
+skip_body_end counts column.MemberRef nested b bad h = rw h refl
+skip_body_end counts column.StandAlone nested b bad h = rw h refl
+skip_body_end counts column.Property nested b bad h = rw h refl
+skip_body_end counts column.TypeSpec nested b bad h = rw h refl
+skip_body_end counts column.Instance nested b bad h = rw h refl

@@ -77,28 +77,29 @@ pub fn after_body<'a>(
 ) -> Option<Rest<'a>>
     ensures { option_map left result ≡ skip_body counts.now kind (skip_core counts.now depth) (left rest.entry) }
 {
+    let (first, behind) = byte(rest)?;
     match kind {
-        SigKind::Field => match byte(rest)? {
-            (0x06, rest) => after_slot(rest, depth, counts),
+        SigKind::Field => match first {
+            0x06 => after_slot(behind, depth, counts),
             _ => None,
         },
         SigKind::MethodDef => after_method(rest, false, depth, counts),
-        SigKind::MemberRef => match byte(rest)? {
-            (0x06, rest) => after_slot(rest, depth, counts),
+        SigKind::MemberRef => match first {
+            0x06 => after_slot(behind, depth, counts),
             _ => after_method(rest, true, depth, counts),
         },
-        SigKind::StandAlone => match byte(rest)? {
-            (0x06, rest) => after_slot(rest, depth, counts),
-            (0x07, rest) => after_variables(rest, depth, counts),
+        SigKind::StandAlone => match first {
+            0x06 => after_slot(behind, depth, counts),
+            0x07 => after_variables(behind, depth, counts),
             _ => after_method(rest, true, depth, counts),
         },
-        SigKind::Property => match byte(rest)? {
-            (0x08 | 0x28, rest) => after_property(rest, depth, counts),
+        SigKind::Property => match first {
+            0x08 | 0x28 => after_property(behind, depth, counts),
             _ => None,
         },
         SigKind::TypeSpec => after_ret(rest, depth, counts),
-        SigKind::Instance => match byte(rest)? {
-            (0x0A, rest) => after_arguments(rest, depth, counts),
+        SigKind::Instance => match first {
+            0x0A => after_arguments(behind, depth, counts),
             _ => None,
         },
     }
