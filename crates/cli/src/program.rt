@@ -1,4 +1,6 @@
-ghost use Rattle.std.specs.Prelude.{◌≡◌, IfErr, IfOk};
+ghost use Rattle.std.specs.Prelude.{◌≡◌, ◌≢◌, ◌≤◌, IfErr, IfOk};
+ghost use Rattle.std.specs.IoError.{error_kind};
+ghost use Rattle.std.specs.declared.io.ErrorKind.TheVariants as cause;
 ghost use Rattle.command_line.specs.Asked.{HasFile, HasSecond};
 ghost use Rattle.reports.specs.Stops.{status_of_stop};
 
@@ -17,8 +19,8 @@ use std::rt::Files;
 /// Runs the program on its words, its name first, and answers the status to end with:
 ///
 /// - 0: it did what was asked, or printed its help or version;
-/// - 1: the file breaks a rule of the standard, told as `fault LAYER CODE at OFFSET: NAME`, or lacks the
-///   row that was asked for, or its canonical root is too long;
+/// - 1: the file breaks a rule of the standard, told as `fault LAYER CODE at OFFSET: NAME`, or lacks
+///   what the token names, or its canonical root is too long;
 /// - 2: the words ask for nothing that the program does; no file was read;
 /// - 3: the file could not be read, `out` or the file to write could not be written, memory was refused, or
 ///   the budget was spent.
@@ -30,7 +32,9 @@ pub fn go<R: Files + AllocGlobal, W: Write, E: Write>(
     words: &[&str],
     out: &mut W,
     err: &mut E,
-) -> u8 {
+) -> u8
+    ensures { result ≤ 3 }
+{
     match ask(rt.alloc(), &*words) {
         Ok(ask) => status(run(rt, ask, out), err),
         Err(told) => tell(rt.alloc(), &told, out, err),
@@ -39,7 +43,10 @@ pub fn go<R: Files + AllocGlobal, W: Write, E: Write>(
 
 /// Tells why the words of the command line could not be collected, and answers the status to end
 /// with: 2 where a word is not UTF-8, so that it names nothing, and 3 where memory was refused.
-pub fn refuse_words<E: Write>(error: &io::Error, err: &mut E) -> u8 {
+pub fn refuse_words<E: Write>(error: &io::Error, err: &mut E) -> u8
+    ensures memory { error_kind error.now ≡ cause.OutOfMemory → result ≡ 3 }
+    ensures words { error_kind error.now ≢ cause.OutOfMemory → result ≡ 2 }
+{
     if error.kind() == io::ErrorKind::OutOfMemory {
         return status(Err(Stop::Failed(Failure::OutOfMemory)), err);
     }
@@ -62,7 +69,9 @@ fn status<E: Write>(outcome: Result<(), Stop<'_>>, err: &mut E) -> u8
 }
 
 /// Tells what `clap` answered in place of matches: a usage fault, or help or the version.
-fn tell<W: Write, E: Write>(alloc: Global, told: &clap::Error, out: &mut W, err: &mut E) -> u8 {
+fn tell<W: Write, E: Write>(alloc: Global, told: &clap::Error, out: &mut W, err: &mut E) -> u8
+    ensures { result ≤ 3 }
+{
     if told.kind() == ErrorKind::OutOfMemory {
         return status(Err(Stop::Failed(Failure::OutOfMemory)), err);
     }
