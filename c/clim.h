@@ -12,10 +12,10 @@
  * answer what its contract in crates/clim_c says. It takes no memory and keeps nothing between calls, so that
  * threads may call at once. Rows count from 1, and columns, which are cells of a row, from 0.
  *
- * A call on a view reads the directory of the root and the counts of its rows again, and looks over no heap: 3 to 4
- * microseconds, of a small file as of one of 5 MB. But clim_find_type walks over a table, 6 nanoseconds a type. A cell
- * that clim_cells answers among those of its column takes some 20 nanoseconds: so ask for columns where many cells are
- * wanted.
+ * A call on a view reads the directory of the root and the counts of its rows again, and looks over no heap: from some
+ * 3 microseconds on, of a small file as of one of 5 MB. But clim_find_type walks over a table, 6 nanoseconds a type. A
+ * cell that clim_cells answers among those of its column takes some 20 nanoseconds: so ask for columns where many cells
+ * are wanted.
  *
  * What a caller owes, which nothing checks:
  *   - No pointer is null, also where the length beside it is 0: "" will do.
@@ -181,8 +181,8 @@ bool clim_check(const uint8_t *file, size_t len, clim_fault *fault);
 /* The same of a bare metadata root, which a CLI header names (II.24.2.1). */
 bool clim_check_root(const uint8_t *root, size_t len, clim_fault *fault);
 
-/* Reads the CLI header of the file into *header, where the file's headers and the directory of its root meet what is
- * demanded of them; else writes *fault, and *header stays. Tables are not looked at. */
+/* True where the file's headers and the directory of its root meet what is demanded of them: *header is then its CLI
+ * header. Else writes *fault, and *header stays. Tables are not looked at. Reads the len bytes at file. */
 bool clim_read_header(const uint8_t *file, size_t len, clim_header *header, clim_fault *fault);
 
 /* Answers as clim_check does, and where that is true writes *view, the view of the file's root; else *view stays. The
@@ -220,9 +220,9 @@ uint32_t clim_count(const clim_view *view, uint8_t table);
  * table at most. */
 bool clim_cell_at(const clim_view *view, uint8_t table, uint32_t row, size_t column, clim_cell *cell);
 
-/* Writes the cells of a column from the row first on into the room cells at cells, as many as there are and as there
- * is room for, and answers how many it wrote; the others stay. 0 where the view is not open, or has no such table,
- * row or column. Reads *view and the root. Much faster than clim_cell_at, cell by cell. */
+/* Writes the cells of a column from the row first on into cells[0] to cells[room - 1], as many as there are and as
+ * there is room for, and answers how many it wrote; the others stay. 0 where the view is not open, or has no such
+ * table, row or column. Reads *view and the root. Much faster than clim_cell_at, cell by cell. */
 size_t clim_cells(const clim_view *view, uint8_t table, uint32_t first, size_t column, clim_cell *cells, size_t room);
 
 /* Writes the rows of the table member that a row of the table owner owns: from *first to before *past. Types own
@@ -237,10 +237,10 @@ bool clim_members(const clim_view *view, uint8_t owner, uint32_t row, uint8_t me
 uint32_t clim_find_type(const clim_view *view, const uint8_t *name_space, size_t name_space_len, const uint8_t *name,
                         size_t name_len);
 
-/* Writes the rows of a table whose key is the row key_row of the table key_table (II.22), from the lowest on, into the
- * room numbers at rows, as many as there are and as there is room for, and answers how many it wrote; the others stay.
- * 0 where the view is not open, or the table has no key. Where the table is in order of its key, as tables are, they
- * are found by halving. Reads *view and the root.
+/* Writes the rows of a table whose key is the row key_row of the table key_table (II.22), from the lowest on, into
+ * rows[0] to rows[room - 1], as many as there are and as there is room for, and answers how many it wrote; the others
+ * stay. 0 where the view is not open, no table has one of the numbers, or the table has no key. Where the table is in
+ * order of its key, as tables are, they are found by halving. Reads *view and the root.
  *
  *     uint32_t rows[16];
  *     size_t many = clim_rows_by_key(&view, CLIM_CUSTOM_ATTRIBUTE, CLIM_TYPE_DEF, row, rows, 16);

@@ -1,5 +1,5 @@
 -- What a cell that is handed to C tells.
-use Rattle.std.specs.Prelude.{◌≡◌, ℕ, List, Some, None}
+use Rattle.std.specs.Prelude.{◌≡◌, ℕ, List, [], replicate, Some, None}
 use Rattle.schema.specs.declared.table.TableId.{TableId}
 use Rattle.schema.specs.Tables.{table_number}
 use Rattle.schema.specs.CellColumns.{column_of}
@@ -11,17 +11,26 @@ use Rattle.reading.specs.declared.cell_ref.CellRef.TheVariants.{Number, Text, By
 use Rattle.reading.specs.Shown.{ShowsCell, ShowsBlob}
 use Rattle.clim_c.specs.declared.told_cell.ClimCell.{ClimCell}
 
--- a value is told by its kind, and by the fields that go with the kind
+-- what is told has a kind, bytes, a number, a table and a GUID
+abbrev pub HasFields : ClimCell → ℕ → List ℕ → ℕ → ℕ → List ℕ → Type 0
+HasFields told kind bytes number table guid =
+    (told.kind ≡ kind) × (told.bytes.now ≡ bytes) × (told.number ≡ number) × (told.table ≡ table) × (told.guid ≡ guid)
+
+-- where no GUID is told
+abbrev pub no_guid : List ℕ
+no_guid = replicate 16 0
+
+-- a value is told by its kind and by the fields that go with the kind; the others are 0 or no bytes
 abbrev pub Tells : ClimCell → CellRef → Type 0
-Tells told (Number number) = (told.kind ≡ 1) × (told.number ≡ number)
-Tells told (Text text) = (told.kind ≡ 2) × (told.bytes.now ≡ text.now)
-Tells told (Bytes blob) = (told.kind ≡ 3) × (told.bytes.now ≡ blob.now)
-Tells told (Guid None) = told.kind ≡ 4
-Tells told (Guid (Some guid)) = (told.kind ≡ 5) × (told.guid ≡ guid)
-Tells told (Ref None) = told.kind ≡ 6
-Tells told (Ref (Some token)) = (told.kind ≡ 7) × (told.table ≡ table_number token.table) × (told.number ≡ token.row)
-Tells told (Start start) = (told.kind ≡ 8) × (told.number ≡ start)
-Tells told (Sig blob) = (told.kind ≡ 9) × (told.bytes.now ≡ blob.now)
+Tells told (Number number) = HasFields told 1 [] number 0 no_guid
+Tells told (Text text) = HasFields told 2 text.now 0 0 no_guid
+Tells told (Bytes blob) = HasFields told 3 blob.now 0 0 no_guid
+Tells told (Guid None) = HasFields told 4 [] 0 0 no_guid
+Tells told (Guid (Some guid)) = HasFields told 5 [] 0 0 guid
+Tells told (Ref None) = HasFields told 6 [] 0 0 no_guid
+Tells told (Ref (Some token)) = HasFields told 7 [] token.row (table_number token.table) no_guid
+Tells told (Start start) = HasFields told 8 [] start 0 no_guid
+Tells told (Sig blob) = HasFields told 9 blob.now 0 0 no_guid
 
 -- what is told shows a cell of the root's model, and the blob of a signature is that of its number
 abbrev pub TellsCell : List ℕ → Metadata → TableId → ℕ → ℕ → ClimCell → Type 0

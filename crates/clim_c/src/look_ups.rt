@@ -43,6 +43,7 @@ fn run_of(seen: &View, owner: TableId, row: u32, member: TableId) -> Option<Rang
     requires first { 1 ≤ row }
     requires last { row ≤ row_count seen.now owner }
     ensures found { IfSome result (λ run. (model : Metadata) → IsModel seen.now model → IsOwned model owner member row run.start run.«end») }
+    ensures owned { IfSome result (λ run. Owns owner member) }
     ensures none { IfNone result (¬ Owns owner member) }
 {
     let run = match (owner, member) {
@@ -73,7 +74,8 @@ pub extern "C" fn clim_members(
     ensures only { view.now.is_open ≡ true → (owning owned : Table) → table_number owning ≡ owner → table_number owned ≡ member
         → Owns owning owned → 1 ≤ row → row ≤ row_count view.now.root.now owning → result ≡ true }
     ensures there { OnTrue result ((view.now.is_open ≡ true) × (1 ≤ row)
-        × ((owning : Table) → table_number owning ≡ owner → row ≤ row_count view.now.root.now owning)) }
+        × ((owning owned : Table) × (table_number owning ≡ owner) × (table_number owned ≡ member) × Owns owning owned
+        × (row ≤ row_count view.now.root.now owning))) }
     ensures same { OnFalse result ((first.new ≡ first.old) × (past.new ≡ past.old)) }
 {
     let (Some(owner), Some(member)) = (TableId::from_number(owner), TableId::from_number(member))
@@ -124,7 +126,8 @@ pub extern "C" fn clim_rows_by_key(
     ensures found { view.now.is_open ≡ true → (model : Metadata) → IsModel view.now.root.now model
         → (known keyed : Table) → table_number known ≡ table → table_number keyed ≡ key_table → IsSome (key_of known)
         → AreFirstByKey model known (record { table = keyed; row = key_row }) (length rows.old) (take result rows.new) }
-    ensures there { 0 < result → (view.now.is_open ≡ true) × ((known : Table) → table_number known ≡ table → IsSome (key_of known)) }
+    ensures there { 0 < result → (view.now.is_open ≡ true)
+        × ((known keyed : Table) × (table_number known ≡ table) × (table_number keyed ≡ key_table) × IsSome (key_of known)) }
     ensures within { result ≤ length rows.old }
     ensures same { SameFrom rows.old rows.new result }
 {

@@ -20,52 +20,18 @@ use schema::cell_count;
 fn told<'a>(cell: CellRef<'a>) -> ClimCell<'a>
     ensures { Tells result cell.entry }
 {
-    let none = ClimCell {
-        bytes: &[],
-        number: 0,
-        kind: 0,
-        table: 0,
-        guid: [0; 16],
-    };
     match cell {
-        CellRef::Number(number) => ClimCell {
-            kind: 1,
-            number,
-            ..none
-        },
-        CellRef::Text(text) => ClimCell {
-            kind: 2,
-            bytes: text.as_bytes(),
-            ..none
-        },
-        CellRef::Bytes(bytes) => ClimCell {
-            kind: 3,
-            bytes,
-            ..none
-        },
-        CellRef::Guid(None) => ClimCell { kind: 4, ..none },
-        CellRef::Guid(Some(guid)) => ClimCell {
-            kind: 5,
-            guid,
-            ..none
-        },
-        CellRef::Ref(None) => ClimCell { kind: 6, ..none },
-        CellRef::Ref(Some(token)) => ClimCell {
-            kind: 7,
-            table: token.table.number(),
-            number: token.row,
-            ..none
-        },
-        CellRef::Start(number) => ClimCell {
-            kind: 8,
-            number,
-            ..none
-        },
-        CellRef::Sig(bytes) => ClimCell {
-            kind: 9,
-            bytes,
-            ..none
-        },
+        CellRef::Number(number) => ClimCell::new(1, &[], number, 0, [0; 16]),
+        CellRef::Text(text) => ClimCell::new(2, text.as_bytes(), 0, 0, [0; 16]),
+        CellRef::Bytes(bytes) => ClimCell::new(3, bytes, 0, 0, [0; 16]),
+        CellRef::Guid(None) => ClimCell::new(4, &[], 0, 0, [0; 16]),
+        CellRef::Guid(Some(guid)) => ClimCell::new(5, &[], 0, 0, guid),
+        CellRef::Ref(None) => ClimCell::new(6, &[], 0, 0, [0; 16]),
+        CellRef::Ref(Some(token)) => {
+            ClimCell::new(7, &[], token.row, token.table.number(), [0; 16])
+        }
+        CellRef::Start(number) => ClimCell::new(8, &[], number, 0, [0; 16]),
+        CellRef::Sig(bytes) => ClimCell::new(9, bytes, 0, 0, [0; 16]),
     }
 }
 
@@ -92,7 +58,7 @@ pub extern "C" fn clim_cell_at<'a>(
     ensures shown { OnTrue result ((model : Metadata) → IsModel view.now.root.now model
         → (known : Table) → table_number known ≡ table → TellsCell view.now.root.now model known row column cell.new) }
     ensures there { OnTrue result ((view.now.is_open ≡ true) × (1 ≤ row)
-        × ((known : Table) → table_number known ≡ table → (row ≤ row_count view.now.root.now known) × (column < cell_count known))) }
+        × ((known : Table) × (table_number known ≡ table) × (row ≤ row_count view.now.root.now known) × (column < cell_count known))) }
     ensures only { view.now.is_open ≡ true → (known : Table) → table_number known ≡ table
         → 1 ≤ row → row ≤ row_count view.now.root.now known → column < cell_count known → result ≡ true }
     ensures same { OnFalse result (cell.new ≡ cell.old) }
@@ -125,7 +91,7 @@ pub extern "C" fn clim_cells<'a>(
     ensures count { view.now.is_open ≡ true → (known : Table) → table_number known ≡ table → 1 ≤ first → column < cell_count known
         → result ≡ min (length cells.old) (row_count view.now.root.now known + 1 - first) }
     ensures there { 0 < result → (view.now.is_open ≡ true) × (1 ≤ first)
-        × ((known : Table) → table_number known ≡ table → column < cell_count known) }
+        × ((known : Table) × (table_number known ≡ table) × (column < cell_count known)) }
     ensures same { SameFrom cells.old cells.new result }
 {
     let Some(table) = TableId::from_number(table) else {

@@ -13,3 +13,26 @@ pub struct ClimCell<'a> {
     /// A GUID.
     pub guid: [u8; 16],
 }
+
+impl<'a> ClimCell<'a> {
+    ghost use Rattle.clim_c.specs.Told.{HasFields};
+
+    /// A cell by its fields.
+    pub(crate) fn new(
+        kind: u8,
+        bytes: &'a [u8],
+        number: u32,
+        table: u8,
+        guid: [u8; 16],
+    ) -> ClimCell<'a>
+        ensures { HasFields result kind bytes.now number table guid }
+    {
+        ClimCell {
+            bytes,
+            number,
+            kind,
+            table,
+            guid,
+        }
+    }
+}

@@ -1,7 +1,8 @@
-use Rattle.std.proofs.Common.{◌≡◌, ℕ, List, sym, subst}
+use Rattle.std.proofs.Common.{◌≡◌, ◌≤◌, ℕ, List, sym, subst, arith}
 use Rattle.std.proofs.lemmas.Option.{same_Some}
 use Rattle.schema.specs.declared.table.TableId.{TableId}
 use Rattle.metadata.specs.Model.{IsModel}
+use Rattle.opening.specs.Views.{row_count}
 use Rattle.clim_c.specs.LookUps.{IsOwned}
 use Rattle.clim_c.proofs.look_ups.clim_members.Goals as goal
 
@@ -15,3 +16,20 @@ returns-clause-run c = λ model is owning owned owner_is member_is.
     let Q : TableId → Type 0 = λ t. IsOwned model t c.in-Some-Some.member row run.start run.«end» in
     let R : TableId → Type 0 = λ t. IsOwned model owning t row run.start run.«end» in
     subst R member (subst Q owner (c.in-Some-run_of.ensures.found model (subst P (sym c.in-Some.ensures.found.0) is)))
+
+pub returns-clause-there : goal.returns-clause-there
+returns-clause-there c =
+    let found = c.in-Some.ensures.found in
+    let P : List ℕ → Type 0 = λ root. c.args.row ≤ row_count root c.in-Some-Some.owner in
+    let last = subst P found.0 (omega (arith, c.if-row-count.false, c.count.ensures.rows)) in (
+      found.1,
+      c.if-row-lt1.false,
+      (
+        c.in-Some-Some.owner,
+        c.in-Some-Some.member,
+        c.in-Some-Some.ensures.found,
+        c.in-Some-Some.ensures'.found,
+        c.in-Some-run_of.ensures.owned,
+        last,
+      ),
+    )
