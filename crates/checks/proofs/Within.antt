@@ -6,18 +6,20 @@ use Rattle.packed.proofs.DemandLemmas.{before_fails, fails_back}
 use Rattle.checks.specs.declared.budget.Budget.{Budget}
 use Rattle.checks.specs.declared.budget.BoundedError.{BoundedError}
 use Rattle.checks.specs.declared.budget.BoundedError.TheVariants.{Fault, BudgetSpent}
-use Rattle.checks.specs.Budgets.{FailsWithin, Spends}
+use Rattle.checks.specs.Budgets.{FailsWithin, HoldBeforeSignatures, Spends}
 use Rattle.checks.specs.Signatures.{sum_below}
+use Rattle.checks.proofs.Before.{before_behind}
 use Rattle.checks.proofs.Spending.{part_below}
 
 -- parts before which all holds fail as the next of them does
 pub parts_fail : (demands : ℕ → List (Demand First)) (bytes : ℕ → ℕ) (k n : ℕ) (a b : Budget) (error : BoundedError) → HoldBefore demands 0 k → k < n
-    → Spends a b (sum_below bytes k) → FailsWithin b (bytes k) (demands k) error → FailsWithin a (sum_below bytes n) (demands_from demands 0 n) error
-parts_fail demands bytes k n a b (Fault found) hold below spent fails = before_fails demands 0 k n found hold (omega arith) (omega arith) fails
-parts_fail demands bytes k n a b BudgetSpent hold below spent fails = part_below bytes k n a b below spent fails
+    → Spends a b (sum_below bytes k) → HoldBeforeSignatures (demands_from demands 0 n) → FailsWithin b (bytes k) (demands k) error
+    → FailsWithin a (sum_below bytes n) (demands_from demands 0 n) error
+parts_fail demands bytes k n a b (Fault found) hold below spent before fails = before_fails demands 0 k n found hold (omega arith) (omega arith) fails
+parts_fail demands bytes k n a b BudgetSpent hold below spent before fails = (part_below bytes k n a b below spent fails.0, before)
 
 -- behind demands that hold, the answer is that of the rest
 pub rest_fails : (a : Budget) (n : ℕ) (ds es : List (Demand First)) (error : BoundedError) → AllHold ds → FailsWithin a n es error
     → FailsWithin a n (ds ++ es) error
 rest_fails a n ds es (Fault found) all fails = fails_back ds es found all fails
-rest_fails a n ds es BudgetSpent all below = below
+rest_fails a n ds es BudgetSpent all fails = (fails.0, before_behind ds es all fails.1)

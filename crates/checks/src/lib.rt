@@ -1,14 +1,14 @@
 //! Checks what is demanded of the tables of a root, in place (ECMA-335 II.22).
 //!
-//! [`check_tables`] poses the demands of `metadata` on what a `Source` of `reading` reads, in their order: on
-//! the cells, the order of rows, the runs of members, the order of nested types, and signatures. It answers
-//! the fault of the first that fails. A pass first looks column by column for the first row where all is not
-//! well, and walks that row for its fault. Nothing here takes memory. [`check_tables_within`] does the same
-//! within a [`Budget`] of bytes of signature blobs that are walked.
+//! [`check_tables_within`] poses the demands of `metadata` on what a `Source` of `reading` reads, in their order:
+//! on the cells, the order of rows, the runs of members, the order of nested types, and signatures. It answers
+//! the fault of the first that fails, or that a [`Budget`] of bytes of signature blobs was spent. A pass first
+//! looks column by column for the first row where all is not well, and walks that row for its fault. Nothing
+//! here takes memory.
 //!
 //! ```text
 //! let source = Source::new(rows, Strings::new(texts), blobs, guids, place);
-//! let checked = check_tables(&source)?;
+//! let checked = check_tables_within(&source, Budget::Unbounded)?;
 //! ```
 #![tactic(auto)]
 
@@ -24,4 +24,4 @@ mod signature_checks;
 mod tables;
 
 pub use budget::{BoundedError, Budget};
-pub use tables::{Checked, check_tables, check_tables_within};
+pub use tables::{Checked, check_tables_within};

@@ -34,6 +34,7 @@ pub fn check_signatures(source: &Source, budget: Budget) -> Result<(), BoundedEr
 ///
 /// A look down the columns finds the first row with a blob that spells none; only from that row on are the
 /// rows walked, for the first in it.
+#[tactic(auto, using(crate::proofs::Before::before_signatures_of))]
 fn check_signatures_of(
     source: &Source,
     table: TableId,

@@ -1,5 +1,5 @@
 ghost use Rattle.std.specs.Prelude.{IfOk, IfErr, OnOk};
-ghost use Rattle.packed.specs.Demand.{AllHold, Answers, FirstToFail};
+ghost use Rattle.packed.specs.Demand.{AllHold, FirstToFail};
 ghost use Rattle.metadata.specs.Demands.{demands_of_cells, demands_of_order, demands_of_runs, demands_of_nesting, demands_of_tables};
 ghost use Rattle.reading.specs.KnownStarts.{AreKnown};
 ghost use Rattle.checks.specs.Budgets.{AnswersWithin};
@@ -25,38 +25,20 @@ pub struct Checked {
     pub known: KnownRuns,
 }
 
-/// Checks what is demanded of the tables of a root, in the order in which it is posed (II.22).
+/// Checks what is demanded of the tables of a root, in the order in which it is posed (II.22), within a budget of
+/// bytes of signature blobs that are walked.
 ///
 /// Where all of it holds, it answers what was found on the way. It takes no memory. The cost is that of the
 /// rows, and of the texts and blobs that they name. The blob of a signature is walked again only where another
 /// number with the same low ten bits was accepted in between. Blobs may overlap, so that their lengths can add
-/// up to the square of the bytes: [`check_tables_within`] bounds them.
-///
-/// # Errors
-///
-/// The fault of the first demand that fails, with its place in the root.
-pub fn check_tables(source: &Source) -> Result<Checked, Fault>
-    ensures answers { Answers (demands_of_tables source.now) result }
-    ensures order { IfOk result (λ checked. TellsOrder source.now.source checked.in_order) }
-    ensures known { IfOk result (λ checked. AreKnown source.now.source checked.known) }
-{
-    match check_tables_within(source, Budget::Unbounded) {
-        Ok(checked) => Ok(checked),
-        Err(BoundedError::Fault(fault)) => Err(fault),
-        Err(BoundedError::BudgetSpent) => unreachable!(),
-    }
-}
-
-/// Checks what is demanded of the tables of a root as [`check_tables`] does, within a budget of bytes of
-/// signature blobs that are walked.
-///
-/// A blob counts its length each time that it is walked, but for the walk of one row that follows where a
-/// signature is at fault, by which that is found.
+/// up to the square of the bytes: the budget bounds them. A blob counts its length each time that it is walked,
+/// but for the walk of one row that follows where a signature is at fault, by which that is found.
 ///
 /// # Errors
 ///
 /// The fault of the first demand that fails, with its place in the root. `BudgetSpent` where more bytes were to be
-/// walked than the budget allows: only where the lengths of the signature blobs of all rows add up to more.
+/// walked than the budget allows: only where the lengths of the signature blobs of all rows add up to more, and
+/// where all that is demanded before signatures holds.
 pub fn check_tables_within(source: &Source, budget: Budget) -> Result<Checked, BoundedError>
     ensures answers { AnswersWithin budget (signature_bytes source.now.source) (demands_of_tables source.now) result }
     ensures order { IfOk result (λ checked. TellsOrder source.now.source checked.in_order) }

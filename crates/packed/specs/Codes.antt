@@ -1,5 +1,7 @@
--- The demands by number and by name. The hundreds of a number are the layer that poses the demand.
-use Rattle.std.specs.Prelude.{ℕ, List, [], ◌∷◌, codes, ◌==◌, if◌then◌else◌}
+-- The demands by number and by name, and how a fault is shown. The hundreds of a number are the layer that poses the demand.
+use Rattle.std.specs.Prelude.{ℕ, List, [], ◌∷◌, ◌++◌, codes, ◌==◌, if◌then◌else◌}
+use Rattle.std.specs.Fmt.{decimal}
+use Rattle.packed.specs.declared.fault.Fault.{Fault}
 use Rattle.packed.specs.declared.code.FaultCode.{FaultCode}
 use Rattle.packed.specs.declared.code.FaultCode.TheVariants.{TooLong, DosHeader, PeSignature, OptionalHeader, Pe32PlusSize, Magic, Directories, Sections, NoCliHeader, CliAddress, CliSize, MetadataAddress, RootSignature, Version, StreamCount, StreamHeader, StreamRange, DuplicateStream, Uncompressed, NoTables, TablesHeader, TablesVersion, HeapSizes, UnknownTable, RowCounts, RowCount, TablesShort, BadString, BadUtf8, BadBlob, BadGuid, BadTag, BadIndex, BadList, BadUserString, BadCell, UserBytes, NotSorted, BadRun, NoOwner, NestedOrder, BadSignature, SignatureIndex, EntryPoint, TooLarge}
 
@@ -106,3 +108,9 @@ name_among (pair ∷ pairs) number = if number == pair.0 then pair.1 else name_a
 -- the name of the demand of a number, and no text where no demand has it
 abbrev pub name_of : ℕ → List ℕ
 name_of number = name_among names number
+
+-- how a fault is shown: `fault LAYER CODE at OFFSET: NAME`, its numbers in decimal
+abbrev pub fault_text : Fault → List ℕ
+fault_text found =
+    codes "fault " ++ decimal found.layer ++ codes " " ++ decimal found.code ++ codes " at " ++ decimal found.offset
+    ++ codes ": " ++ name_of found.code

@@ -14,13 +14,13 @@ pub enum FaultCode {
     DosHeader,
     /// No PE signature where the DOS header says that it stands (II.25.2.1).
     PeSignature,
-    /// An optional header of under 216 bytes, or one that ends past the file (II.25.2.3).
+    /// An optional header of under 216 bytes, or one that ends past the file (II.25.2.2).
     OptionalHeader,
     /// The optional header of a PE32+ file has under 232 bytes.
     Pe32PlusSize,
     /// An optional header of neither PE32 nor PE32+ (II.25.2.3.1).
     Magic,
-    /// Fewer than fifteen data directories (II.25.2.3.3).
+    /// Fewer than fifteen data directories (II.25.2.3.2).
     Directories,
     /// Section headers that end past the file (II.25.3).
     Sections,

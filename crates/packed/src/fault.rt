@@ -1,6 +1,6 @@
-ghost use Rattle.std.specs.Prelude.{◌≡◌};
+ghost use Rattle.std.specs.Prelude.{◌≡◌, Some};
 ghost use Rattle.packed.specs.Demand.{fault};
-ghost use Rattle.packed.specs.Codes.{name_of};
+ghost use Rattle.packed.specs.Codes.{name_of, fault_text};
 
 use crate::code::FaultCode;
 use std::error::Error;
@@ -98,6 +98,8 @@ impl Fault {
 }
 
 impl fmt::Display for Fault {
+    ghost output = { λ fault. Some (fault_text fault) };
+
     /// Writes the words `fault LAYER CODE at OFFSET: NAME`.
     fn fmt<W: fmt::Write>(&self, f: &mut fmt::Formatter<W>) -> fmt::Result {
         let Fault {

@@ -1,6 +1,8 @@
 //! Why the program could not do what was asked, and what it tells of it.
-ghost use Rattle.std.specs.Prelude.{◌≡◌, ◌↔◌, IfErr, IsOk};
-ghost use Rattle.printed_faults.specs.Status.{IsOutput};
+ghost use Rattle.std.specs.Prelude.{◌≡◌, ◌↔◌, IfErr, IsOk, Some};
+ghost use Rattle.std.specs.IoError.{error_kind};
+ghost use Rattle.printed_faults.specs.Status.{IsOutput, TellsKind};
+ghost use Rattle.printed_faults.specs.Texts.{failure_text};
 ghost use Rattle.printed_faults.specs.declared.failure.Failure.TheVariants.{Fault};
 
 use packed::Fault;
@@ -94,6 +96,7 @@ impl<'a> Failure<'a> {
 pub fn printed(outcome: io::Result<()>) -> Result<(), Failure<'static>>
     ensures ok { IsOk result ↔ IsOk outcome }
     ensures told { IfErr result IsOutput }
+    ensures kind { IfErr outcome (λ error. IfErr result (TellsKind (error_kind error))) }
 {
     match outcome {
         Ok(()) => Ok(()),
@@ -110,13 +113,11 @@ impl From<Fault> for Failure<'_> {
 }
 
 impl fmt::Display for Failure<'_> {
+    ghost output = { λ failure. Some (failure_text failure) };
+
     fn fmt<W: fmt::Write>(&self, f: &mut fmt::Formatter<W>) -> fmt::Result {
         match self {
-            Failure::Fault(fault) => {
-                let (layer, code, offset) = (fault.layer, fault.code, fault.offset);
-                let name = fault.name();
-                write!(f, "fault {layer} {code} at {offset}: {name}")
-            }
+            Failure::Fault(fault) => write!(f, "{fault}"),
             Failure::NoSuchRow => write!(f, "no such row"),
             Failure::NoToken(word) => {
                 write!(

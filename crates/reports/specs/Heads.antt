@@ -1,6 +1,6 @@
 -- What stands at the head of a file (ECMA-335 II.25.3.3 and II.24.2.1): its CLI header, and the version and the stream
 -- headers of its metadata root.
-use Rattle.std.specs.Prelude.{◌≡◌, ℕ, Bool, true, false, List, ◌++◌, Option, Some, None}
+use Rattle.std.specs.Prelude.{◌≡◌, ℕ, Bool, true, false, List, Option, Some, None}
 use Rattle.packed.specs.declared.fault.Fault.{Fault}
 use Rattle.packed.specs.Demand.{Demand}
 use Rattle.pe.specs.Image.{Image, IsImage}

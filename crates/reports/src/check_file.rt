@@ -34,7 +34,7 @@ pub(crate) fn run<W: Write>(
 /// # Errors
 ///
 /// `Failed` with the fault of the first demand that fails, or where memory or the output is refused; `BudgetSpent`
-/// where more bytes of blobs were to be walked.
+/// where more bytes of blobs were to be walked, and nothing that is demanded before signatures fails.
 pub fn check_within<W: Write>(
     alloc: Global,
     bytes: &[u8],

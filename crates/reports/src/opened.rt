@@ -2,7 +2,7 @@
 ghost use Rattle.std.specs.Prelude.{◌<◌, ◌≤◌, IfOk, IfErr, IsErrOf, IsOk};
 ghost use Rattle.reports.specs.Checked.{IsWhole, IsOpened, demands_of, signature_bytes_of};
 ghost use Rattle.opening.specs.Views.{HasModel};
-ghost use Rattle.opening.specs.Within.{TellsFirst};
+ghost use Rattle.opening.specs.Within.{HoldBeforeSignatures, TellsFirst};
 ghost use Rattle.packed.specs.Demand.{FirstToFail};
 
 use opening::{BoundedError, View, open_image, open_image_within, open_root, open_root_within};
@@ -33,6 +33,7 @@ pub(crate) fn open_within(bytes: &[u8], bare: bool, budget: u64) -> Result<View<
     ensures only { IsWhole bare bytes.now → signature_bytes_of bare bytes.now ≤ budget → IsOk result }
     ensures first { IfErr result (TellsFirst (demands_of bare bytes.now)) }
     ensures spent { IsErrOf result BoundedError.BudgetSpent → budget < signature_bytes_of bare bytes.now }
+    ensures before { IsErrOf result BoundedError.BudgetSpent → HoldBeforeSignatures (demands_of bare bytes.now) }
 {
     if bare {
         return open_root_within(bytes, budget);

@@ -59,7 +59,6 @@ fn print_named<W: Write>(
 }
 
 fn print<W: Write>(alloc: Global, view: &View<'_>, token: Token, out: &mut W) -> io::Result<()>
-    requires model { HasModel view.now }
     requires first { 1 ≤ token.row }
     requires last { token.row ≤ row_count view.now token.table }
 {

@@ -1,6 +1,5 @@
 //! `clim show`: the rows of all tables.
 ghost use Rattle.std.specs.Prelude.{IfErr, OnOk};
-ghost use Rattle.opening.specs.Views.{HasModel};
 ghost use Rattle.reports.specs.Checked.{IsWhole, demands_of};
 ghost use Rattle.reports.specs.Reported.{LeavesOutput, TellsFault};
 
@@ -27,9 +26,7 @@ pub(crate) fn run<W: Write>(
     printed(print(alloc, &view, out))
 }
 
-fn print<W: Write>(alloc: Global, view: &View<'_>, out: &mut W) -> io::Result<()>
-    requires { HasModel view.now }
-{
+fn print<W: Write>(alloc: Global, view: &View<'_>, out: &mut W) -> io::Result<()> {
     let mut out = BufWriter::new(alloc, out)?;
     print_tables(alloc, view, &mut out)?;
     out.flush()

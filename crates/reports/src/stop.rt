@@ -1,5 +1,6 @@
 //! Why the program stopped before it did what was asked.
-ghost use Rattle.std.specs.Prelude.{◌≡◌};
+ghost use Rattle.std.specs.Prelude.{◌≡◌, Some};
+ghost use Rattle.reports.specs.Stops.{stop_text};
 ghost use Rattle.reports.specs.declared.stop.Stop.TheVariants.{Failed};
 
 use printed_faults::Failure;
@@ -39,6 +40,8 @@ impl<'a> From<Failure<'a>> for Stop<'a> {
 }
 
 impl fmt::Display for Stop<'_> {
+    ghost output = { λ stop. Some (stop_text stop) };
+
     fn fmt<W: fmt::Write>(&self, f: &mut fmt::Formatter<W>) -> fmt::Result {
         match self {
             Stop::Failed(failure) => write!(f, "{failure}"),

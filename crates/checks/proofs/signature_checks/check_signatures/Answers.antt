@@ -7,6 +7,7 @@ use Rattle.schema.specs.declared.table.TableId.TheVariants.{Module}
 use Rattle.metadata.specs.Rows.{table_at}
 use Rattle.checks.specs.Budgets.{FailsWithin}
 use Rattle.checks.specs.Signatures.{table_bytes_at, signature_bytes}
+use Rattle.checks.proofs.Before.{before_signatures}
 use Rattle.checks.proofs.Spending.{part_spent, parts_none}
 use Rattle.checks.proofs.Within.{parts_fail}
 use Rattle.checks.proofs.signature_checks.check_signatures.Goals as goal
@@ -40,7 +41,7 @@ returns-in_err-check_signatures_of c =
     let told : FailsWithin c.loop-position.left (table_bytes_at here.source position) (demands_of_signatures_at here position) error =
     rw listed at c.in_err-check_signatures_of.ensures.answers in
     rw (p.1, p.2) (parts_fail (demands_of_signatures_at here) (table_bytes_at here.source) position 38 c.args.budget c.loop-position.left error
-    c.loop-position.invariant.hold (omega (arith, c.all-tables.ensures.count)) c.loop-position.invariant.spends told)
+    c.loop-position.invariant.hold (omega (arith, c.all-tables.ensures.count)) c.loop-position.invariant.spends (before_signatures here) told)
 
 pub returns : goal.returns
 unfolding demands_of_signatures
