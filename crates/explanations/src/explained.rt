@@ -1,9 +1,13 @@
+ghost use Rattle.std.specs.Prelude.{◌≡◌};
+
 use crate::{cell_faults, file_faults, order_faults, other_faults, stream_faults, table_faults};
 use packed::FaultCode;
 
 /// What is known of a demand. The texts are plain, without line breaks; sections are those of ECMA-335.
 #[derive(Clone, Copy, Debug, PartialEq, Eq)]
 pub struct Explanation {
+    /// Which demand it is.
+    pub code: FaultCode,
     /// What is wrong, in a few words and without a full stop.
     pub summary: &'static str,
     /// The section that the demand comes from; `None` of a limit that the standard does not set.
@@ -17,7 +21,9 @@ pub struct Explanation {
 }
 
 /// The explanation of a demand.
-pub fn explain(code: FaultCode) -> &'static Explanation {
+pub fn explain(code: FaultCode) -> &'static Explanation
+    ensures { result.now.code ≡ code }
+{
     match code {
         FaultCode::TooLong => &file_faults::TOO_LONG,
         FaultCode::DosHeader => &file_faults::DOS_HEADER,

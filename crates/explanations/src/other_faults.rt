@@ -1,7 +1,9 @@
 //! Demands on signatures and the entry point, and on what is written.
 use crate::explained::Explanation;
+use packed::FaultCode;
 
 pub(crate) static BAD_SIGNATURE: Explanation = Explanation {
+    code: FaultCode::BadSignature,
     summary: "a blob that no signature of its column spells",
     section: Some("II.23.2"),
     demand: "Each signature blob is spelled, from its first byte to its last, by the grammar of its \
@@ -15,6 +17,7 @@ pub(crate) static BAD_SIGNATURE: Explanation = Explanation {
 };
 
 pub(crate) static SIGNATURE_INDEX: Explanation = Explanation {
+    code: FaultCode::SignatureIndex,
     summary: "a signature that names no row",
     section: Some("II.23.2.8"),
     demand: "Each type that a signature names is a row of TypeDef, TypeRef or TypeSpec that exists.",
@@ -23,6 +26,7 @@ pub(crate) static SIGNATURE_INDEX: Explanation = Explanation {
 };
 
 pub(crate) static ENTRY_POINT: Explanation = Explanation {
+    code: FaultCode::EntryPoint,
     summary: "an entry point that is no row of MethodDef or File",
     section: Some("II.25.3.3"),
     demand: "EntryPointToken of the CLI header is 0, or the token of a row of MethodDef or File that \
@@ -32,6 +36,7 @@ pub(crate) static ENTRY_POINT: Explanation = Explanation {
 };
 
 pub(crate) static TOO_LARGE: Explanation = Explanation {
+    code: FaultCode::TooLarge,
     summary: "the canonical root is too long",
     section: None,
     demand: "The root that 'clim rewrite' writes has at most 2^30 bytes. The limit is clim's own; OUT \

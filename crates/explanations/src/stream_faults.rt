@@ -1,7 +1,9 @@
 //! Demands on the front of a metadata root and on its stream headers.
 use crate::explained::Explanation;
+use packed::FaultCode;
 
 pub(crate) static ROOT_SIGNATURE: Explanation = Explanation {
+    code: FaultCode::RootSignature,
     summary: "no signature of a metadata root",
     section: Some("II.24.2.1"),
     demand: "The root has at least 16 bytes and begins with 42 53 4A 42, the letters 'BSJB'.",
@@ -13,6 +15,7 @@ pub(crate) static ROOT_SIGNATURE: Explanation = Explanation {
 };
 
 pub(crate) static VERSION: Explanation = Explanation {
+    code: FaultCode::Version,
     summary: "no version in its field",
     section: Some("II.24.2.1"),
     demand: "Length is a multiple of four, and the field of that many bytes behind it ends within the \
@@ -22,6 +25,7 @@ pub(crate) static VERSION: Explanation = Explanation {
 };
 
 pub(crate) static STREAM_COUNT: Explanation = Explanation {
+    code: FaultCode::StreamCount,
     summary: "the root ends before the number of its streams",
     section: Some("II.24.2.1"),
     demand: "Behind the version's field stand two bytes of flags and the number of stream headers in \
@@ -31,6 +35,7 @@ pub(crate) static STREAM_COUNT: Explanation = Explanation {
 };
 
 pub(crate) static STREAM_HEADER: Explanation = Explanation {
+    code: FaultCode::StreamHeader,
     summary: "no stream header",
     section: Some("II.24.2.2"),
     demand: "Here stand within the root the offset and the size of a stream, of four bytes each, and \
@@ -41,6 +46,7 @@ pub(crate) static STREAM_HEADER: Explanation = Explanation {
 };
 
 pub(crate) static STREAM_RANGE: Explanation = Explanation {
+    code: FaultCode::StreamRange,
     summary: "a stream that ends past the root",
     section: Some("II.24.2.2"),
     demand: "Each of the streams '#~', '#Strings', '#Blob', '#GUID' and '#US' ends within the root. A \
@@ -50,6 +56,7 @@ pub(crate) static STREAM_RANGE: Explanation = Explanation {
 };
 
 pub(crate) static DUPLICATE_STREAM: Explanation = Explanation {
+    code: FaultCode::DuplicateStream,
     summary: "a stream that was named before",
     section: Some("II.24.2.2"),
     demand: "Each of the streams '#~', '#Strings', '#Blob', '#GUID' and '#US' has one header at most.",
@@ -58,6 +65,7 @@ pub(crate) static DUPLICATE_STREAM: Explanation = Explanation {
 };
 
 pub(crate) static UNCOMPRESSED: Explanation = Explanation {
+    code: FaultCode::Uncompressed,
     summary: "tables of the uncompressed form, '#-'",
     section: Some("II.24.2.2"),
     demand: "No stream is named '#-'. The standard has the tables in '#~' alone.",
@@ -66,6 +74,7 @@ pub(crate) static UNCOMPRESSED: Explanation = Explanation {
 };
 
 pub(crate) static NO_TABLES: Explanation = Explanation {
+    code: FaultCode::NoTables,
     summary: "no stream '#~'",
     section: Some("II.24.2.2"),
     demand: "One stream header has the name '#~', that of the tables.",

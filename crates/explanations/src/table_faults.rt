@@ -1,7 +1,9 @@
 //! Demands on the table stream.
 use crate::explained::Explanation;
+use packed::FaultCode;
 
 pub(crate) static TABLES_HEADER: Explanation = Explanation {
+    code: FaultCode::TablesHeader,
     summary: "a table stream of fewer than 24 bytes",
     section: Some("II.24.2.6"),
     demand: "The table stream has at least the 24 bytes of its header.",
@@ -10,6 +12,7 @@ pub(crate) static TABLES_HEADER: Explanation = Explanation {
 };
 
 pub(crate) static TABLES_VERSION: Explanation = Explanation {
+    code: FaultCode::TablesVersion,
     summary: "a table stream of another version than 2.0",
     section: Some("II.24.2.6"),
     demand: "MajorVersion is 2 and MinorVersion 0.",
@@ -18,6 +21,7 @@ pub(crate) static TABLES_VERSION: Explanation = Explanation {
 };
 
 pub(crate) static HEAP_SIZES: Explanation = Explanation {
+    code: FaultCode::HeapSizes,
     summary: "HeapSizes has bits that the standard does not know",
     section: Some("II.24.2.6"),
     demand: "HeapSizes has no bits but 1, 2 and 4, for wide indexes into '#Strings', '#GUID' and \
@@ -30,6 +34,7 @@ pub(crate) static HEAP_SIZES: Explanation = Explanation {
 };
 
 pub(crate) static UNKNOWN_TABLE: Explanation = Explanation {
+    code: FaultCode::UnknownTable,
     summary: "Valid names a table that the standard does not have",
     section: Some("II.24.2.6"),
     demand: "Valid has the bits of the standard's 38 tables and no other.",
@@ -41,6 +46,7 @@ pub(crate) static UNKNOWN_TABLE: Explanation = Explanation {
 };
 
 pub(crate) static ROW_COUNTS: Explanation = Explanation {
+    code: FaultCode::RowCounts,
     summary: "row counts that end past the table stream",
     section: Some("II.24.2.6"),
     demand: "Behind the header stand four bytes of row count for each bit of Valid, within the stream.",
@@ -49,6 +55,7 @@ pub(crate) static ROW_COUNTS: Explanation = Explanation {
 };
 
 pub(crate) static ROW_COUNT: Explanation = Explanation {
+    code: FaultCode::RowCount,
     summary: "a table of more than 0xFFFFFF rows",
     section: Some("II.22"),
     demand: "No table has more rows than the 24 bits of a token can name.",
@@ -57,6 +64,7 @@ pub(crate) static ROW_COUNT: Explanation = Explanation {
 };
 
 pub(crate) static TABLES_SHORT: Explanation = Explanation {
+    code: FaultCode::TablesShort,
     summary: "tables that end past their stream",
     section: Some("II.24.2.6"),
     demand: "The rows of all tables, at the widths that HeapSizes and the row counts give, end within \

@@ -52,9 +52,11 @@ pub use opening::{
 };
 
 // The heaps, for user strings and for what is shown of a GUID.
-pub use heaps::{HeapFault, Units, UserString, guid_text, user_string};
+pub use heaps::{HeapFault, PoolError, Units, UserString, guid_text, user_string};
+pub use user_heap::UserHeap;
 
-// What columns hold.
+// What columns hold, and their names.
+pub use column_names::column_names;
 pub use schema::{Coded, Column, ColumnKind, cell_count, columns, key};
 
 // Models that own what they hold.

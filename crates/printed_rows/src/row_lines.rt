@@ -51,10 +51,11 @@ pub fn print_row<W: Write>(
     row: u32,
     out: &mut W,
 ) -> io::Result<()>
-    requires model { HasModel view.now }
     requires first { 1 ≤ row }
     requires last { row ≤ row_count view.now table }
 {
+    // The root of a view has a model.
+    let _root = view.root();
     write!(out, "{row}:")?;
     for place in 0..cell_count(table) {
         out.write_all(b" ")?;

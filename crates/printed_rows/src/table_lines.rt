@@ -1,5 +1,4 @@
 //! All tables of a view, in lines.
-ghost use Rattle.opening.specs.Views.{HasModel};
 
 use crate::row_lines::print_row;
 use opening::{TableId, View};
@@ -15,9 +14,7 @@ use std::io::Write;
 /// # Errors
 ///
 /// Those of [`print_row`]. The writer has then been given the front of the lines.
-pub fn print_tables<W: Write>(alloc: Global, view: &View<'_>, out: &mut W) -> io::Result<()>
-    requires { HasModel view.now }
-{
+pub fn print_tables<W: Write>(alloc: Global, view: &View<'_>, out: &mut W) -> io::Result<()> {
     for table in TableId::all() {
         print_table(alloc, view, *table, out)?;
     }
@@ -29,9 +26,7 @@ fn print_table<W: Write>(
     view: &View<'_>,
     table: TableId,
     out: &mut W,
-) -> io::Result<()>
-    requires { HasModel view.now }
-{
+) -> io::Result<()> {
     let count = view.count(table);
     if count == 0 {
         return Ok(());

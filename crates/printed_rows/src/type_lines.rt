@@ -17,9 +17,9 @@ use std::io::Write;
 /// methods it has.
 ///
 /// It takes no memory. The error is that of the writer, which has then been given the front of the lines.
-pub fn print_types<W: Write>(view: &View<'_>, out: &mut W) -> io::Result<()>
-    requires { HasModel view.now }
-{
+pub fn print_types<W: Write>(view: &View<'_>, out: &mut W) -> io::Result<()> {
+    // The root of a view has a model.
+    let _root = view.root();
     for row in 1..=view.count(TableId::TypeDef) {
         print_type(view, row, out)?;
     }

@@ -1,4 +1,4 @@
-ghost use Rattle.std.specs.Prelude.{◌≡◌, ◌≢◌, ◌≤◌, ◌<◌, ◌+◌, ◌*◌, ℕ, Some, IfSome, IfNone};
+ghost use Rattle.std.specs.Prelude.{◌≡◌, ◌≢◌, ◌≤◌, ◌<◌, ◌+◌, ◌*◌, ◌/◌, ℕ, Some, IsSome, IfSome, IfNone};
 ghost use Rattle.schema.specs.declared.table.TableId.{TableId as Table};
 ghost use Rattle.schema.specs.declared.column.ColumnKind.TheVariants.{List};
 ghost use Rattle.schema.specs.Columns.{column_at};
@@ -30,6 +30,7 @@ impl KnownStarts {
     /// Room for the starts of every 256th part of the owners, none of which is known.
     pub fn new(owners: u32) -> KnownStarts
         requires { owners ≤ 0xFFFFFF }
+        ensures step { result.step ≡ owners / 256 + 1 }
         ensures room { owners < 256 * result.step }
         ensures none { (start : ℕ → ℕ) → IsKnown result start (owners + 1) owners }
     {
@@ -67,7 +68,8 @@ impl KnownStarts {
     /// The start of an owner, if it is known.
     pub fn at(&self, row: u32) -> Option<u32>
         requires { 1 ≤ row }
-        ensures { (start : ℕ → ℕ) (owners : ℕ) → row ≤ owners → IsKnown self.now start 1 owners → IfSome result (λ first. first ≡ start row) }
+        ensures known { (start : ℕ → ℕ) (owners : ℕ) → row ≤ owners → IsKnown self.now start 1 owners → IfSome result (λ first. first ≡ start row) }
+        ensures there { (k : ℕ) → k < 256 → row ≡ self.now.step * (k + 1) → IsSome result }
     {
         let place = self.place(row)?;
         self.starts.get(place).copied()

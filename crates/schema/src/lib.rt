@@ -45,4 +45,4 @@ pub use layout::Layout;
 pub use packed::{Fault, FaultCode};
 pub use read_laws::{numbers_are_read, streams_are_read};
 pub use table::TableId;
-pub use token::Token;
+pub use token::{Token, tokens_are_in_order};

@@ -1,4 +1,6 @@
-ghost use Rattle.std.specs.Prelude.{Some};
+ghost use Rattle.std.specs.Prelude.{◌≡◌, Some};
+ghost use Rattle.std.specs.Ordering.{nat_cmp, ordering_then};
+ghost use Rattle.schema.specs.declared.token.Token.{Token as TheToken};
 ghost use Rattle.schema.specs.Tokens.{token_text};
 
 use crate::table::TableId;
@@ -51,3 +53,8 @@ impl fmt::Display for Token {
         write!(f, "{table:02x}{row:06x}")
     }
 }
+
+/// Tokens are in the order of their tables, and those of one table in the order of their rows.
+pub fn tokens_are_in_order()
+    ensures { (a b : TheToken) → ⟦<Token as Ord>⟧.cmp a b ≡ ordering_then (⟦<TableId as Ord>⟧.cmp a.table b.table) (nat_cmp a.row b.row) }
+{}
