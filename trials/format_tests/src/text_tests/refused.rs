@@ -1,21 +1,30 @@
 use signature_text::{SigKind, TextSink, Token, write_signature};
 
-/// A sink that takes so many words.
+/// A sink that refuses one word, and takes those before it and behind it.
 #[derive(Drop)]
 struct Words {
-    room: usize,
-    taken: usize,
+    bad: usize,
+    offered: usize,
     refused: bool,
 }
 
 impl Words {
+    /// A sink that refuses the word behind so many.
+    fn new(bad: usize) -> Words {
+        Words {
+            bad,
+            offered: 0,
+            refused: false,
+        }
+    }
+
     /// Takes a word, or refuses it.
     fn take(&mut self) -> Option<()> {
-        if self.taken == self.room {
+        self.offered += 1;
+        if self.offered > self.bad && !self.refused {
             self.refused = true;
             return None;
         }
-        self.taken += 1;
         Some(())
     }
 }
@@ -47,25 +56,30 @@ const METHOD: &[u8] = &[
     0x01, 0x1E, 0x00, 0x1B, 0x00, 0x01, 0x01, 0x10, 0x11, 0x04,
 ];
 
+/// A field with three modifiers: an array of three dimensions, with two sizes and three low bounds.
+const FIELD: &[u8] = &[
+    0x06, 0x1F, 0x05, 0x20, 0x09, 0x1F, 0x0D, 0x14, 0x08, 0x03, 0x02, 0x02, 0x03, 0x03, 0x00, 0x02,
+    0x7F,
+];
+
+/// The first word behind whose refusal the text of a signature goes on; `None` where it ends at each of so many.
+fn first_passed_over(blob: &[u8], kind: SigKind, count: usize) -> Option<usize> {
+    (0..count).find(|bad| {
+        let mut words = Words::new(*bad);
+        let written = write_signature(&mut words, blob, kind);
+        written.is_some() || !words.refused || words.offered != *bad + 1
+    })
+}
+
 #[test]
-fn each_word_may_be_refused(rt: HostRuntime) {
-    let mut all = Words {
-        room: 1000,
-        taken: 0,
-        refused: false,
-    };
-    let written = write_signature(&mut all, METHOD, SigKind::MethodDef);
-    assert!(rt; written.is_some());
-    assert!(rt; 30 < all.taken);
-    for room in 0..all.taken {
-        let mut words = Words {
-            room,
-            taken: 0,
-            refused: false,
-        };
-        let written = write_signature(&mut words, METHOD, SigKind::MethodDef);
-        assert!(rt; written.is_none());
-        assert!(rt; words.refused);
-        assert_eq!(rt; words.taken, room);
+fn a_text_ends_with_the_word_that_is_refused(rt: HostRuntime) {
+    for (blob, kind, least) in [
+        (METHOD, SigKind::MethodDef, 30),
+        (FIELD, SigKind::Field, 15),
+    ] {
+        let mut all = Words::new(usize::MAX);
+        assert!(rt; write_signature(&mut all, blob, kind).is_some());
+        assert!(rt; least < all.offered);
+        assert_eq!(rt; first_passed_over(blob, kind, all.offered), None);
     }
 }

@@ -8,7 +8,7 @@ use assembly_records::{
     Signature, StandAloneSig, TypeDef, TypeRef, TypeSpec,
 };
 use loading::load_root;
-use opening::{View, open_root};
+use opening::{CellRef, TableId, View, open_root};
 use owned_model::Model;
 use signatures::decode;
 use std::alloc::Global;
@@ -59,6 +59,14 @@ fn spells(alloc: Global, blob: &[u8], column: SigKind, signature: &Signature) ->
     match decode(alloc, blob, column) {
         Ok(decoded) => decoded == *signature,
         Err(_) => false,
+    }
+}
+
+/// The blob of a signature in a table's first row, by the place of its cell.
+fn blob_of<'a>(view: &View<'a>, table: TableId, place: usize) -> &'a [u8] {
+    match view.cell(table, 1, place) {
+        CellRef::Sig(blob) => blob,
+        _ => &[],
     }
 }
 
@@ -119,6 +127,7 @@ fn signatures_in_place_are_their_blobs(rt: HostRuntime) -> Result<(), Fail> {
     let (mine, its): (Field, Field<_>) = (owned(&model)?, seen(&view)?);
     assert_eq!(rt; (mine.flags, mine.name), (its.flags, its.name));
     assert!(rt; spells(alloc, its.signature, SigKind::Field, mine.signature));
+    assert!(rt; its.signature == blob_of(&view, TableId::Field, 2));
     let (mine, its): (MethodDef, MethodDef<_>) = (owned(&model)?, seen(&view)?);
     assert_eq!(rt;
         (mine.rva, mine.impl_flags, mine.flags),
@@ -126,16 +135,21 @@ fn signatures_in_place_are_their_blobs(rt: HostRuntime) -> Result<(), Fail> {
     );
     assert_eq!(rt; (mine.name, mine.param_list), (its.name, its.param_list));
     assert!(rt; spells(alloc, its.signature, SigKind::MethodDef, mine.signature));
+    assert!(rt; its.signature == blob_of(&view, TableId::MethodDef, 4));
     let (mine, its): (MemberRef, MemberRef<_>) = (owned(&model)?, seen(&view)?);
     assert_eq!(rt; (mine.class, mine.name), (its.class, its.name));
     assert!(rt; spells(alloc, its.signature, SigKind::MemberRef, mine.signature));
+    assert!(rt; its.signature == blob_of(&view, TableId::MemberRef, 2));
     let (mine, its): (StandAloneSig<_>, StandAloneSig<_>) = (owned(&model)?, seen(&view)?);
     assert!(rt; spells(alloc, its.signature, SigKind::StandAlone, mine.signature));
+    assert!(rt; its.signature == blob_of(&view, TableId::StandAloneSig, 0));
     let (mine, its): (Property, Property<_>) = (owned(&model)?, seen(&view)?);
     assert_eq!(rt; (mine.flags, mine.name), (its.flags, its.name));
     assert!(rt; spells(alloc, its.kind, SigKind::Property, mine.kind));
+    assert!(rt; its.kind == blob_of(&view, TableId::Property, 2));
     let (mine, its): (TypeSpec<_>, TypeSpec<_>) = (owned(&model)?, seen(&view)?);
     assert!(rt; spells(alloc, its.signature, SigKind::TypeSpec, mine.signature));
+    assert!(rt; its.signature == blob_of(&view, TableId::TypeSpec, 0));
     let (mine, its): (MethodSpec<_>, MethodSpec<_>) = (owned(&model)?, seen(&view)?);
     assert_eq!(rt; mine.method, its.method);
     assert!(rt;
