@@ -8,12 +8,12 @@
         for row in table:
             print(table.name, row.number, row.cells())
     for row in assembly["TypeDef"]:
-        print(row.TypeNamespace, row.TypeName, list(row.members("MethodDef")))
+        print(row.TypeNamespace, row.TypeName, row.members("MethodDef"))
 
 A file is opened exactly where it meets all demands, and then each cell is proved to be the one of its model. Rows
 count from 1. A number is an int, a text a str, a blob bytes, a signature's blob a Signature, a GUID a uuid.UUID, a row
-of a table a Token, the first row of a run a Start, and null is None. The library is libclim.so beside this file or in
-out/ there, or what the environment names by CLIM_LIBRARY.
+of a table a Token, the first row of a run a Start, and null is None. The library is what the environment names by
+CLIM_LIBRARY, or else libclim.so beside this file or in out/ there.
 """
 import collections
 import ctypes
@@ -104,11 +104,12 @@ _ROOM = 1 << 14
 
 def _load():
     here = os.path.dirname(os.path.abspath(__file__))
-    paths = [os.environ.get("CLIM_LIBRARY"), os.path.join(here, "libclim.so"), os.path.join(here, "out", "libclim.so")]
-    path = next((path for path in paths if path and os.path.exists(path)), None)
+    path = os.environ.get("CLIM_LIBRARY")
+    paths = [path] if path else [os.path.join(here, "libclim.so"), os.path.join(here, "out", "libclim.so")]
+    path = next((path for path in paths if os.path.exists(path)), None)
     if path is None:
-        raise OSError("libclim.so is not there: c/run builds it, and CLIM_LIBRARY names it")
-    library = ctypes.CDLL(path)
+        raise OSError(f"{paths[-1]} is not there: c/run builds the library, and CLIM_LIBRARY names it")
+    library = ctypes.CDLL(os.path.abspath(path))
     view, text, fault = POINTER(_View), POINTER(_Bytes), POINTER(_Fault)
     for name, result, *parameters in [
         ("clim_check", c_bool, c_void_p, c_size_t, fault),
@@ -295,14 +296,20 @@ class Table:
 
     def by_key(self, token):
         """The rows whose key is the row that a Token names, from the lowest on; none where the table has no key."""
-        rows = (c_uint32 * max(self._count, 1))()
-        view = byref(self.assembly._view)
-        count = _library.clim_rows_by_key(view, self.number, token.table, token.row, rows, self._count)
-        return [Row(self, number) for number in rows[:count]]
+        view, room = byref(self.assembly._view), 16
+        while True:
+            rows = (c_uint32 * room)()
+            count = _library.clim_rows_by_key(view, self.number, token.table, token.row, rows, room)
+            if count < room:
+                return [Row(self, number) for number in rows[:count]]
+            room *= 2
 
 
 class Row:
-    """A row of a table. A cell is an attribute, and an item, by the name of its column."""
+    """A row of a table. A cell is an attribute, and an item, by the name of its column.
+
+    The first cell asked of a column reads the whole column, which the table keeps.
+    """
 
     __slots__ = ("table", "number")
 

@@ -15,7 +15,7 @@ _clim() {
             ;;
         explain)
             # The first word of each line is the number of a fault.
-            while read -r line; do COMPREPLY+=("$line"); done < <(compgen -W "$(clim explain 2>/dev/null | cut -c 1-3)" -- "$word")
+            while read -r line; do COMPREPLY+=("$line"); done < <(compgen -W "$(clim explain 2>/dev/null | cut -c 1-3) --help" -- "$word")
             ;;
         *)
             local flags='--bare --help'

@@ -7,7 +7,7 @@ complete -c clim -f
 complete -c clim -s h -l help -d 'Print help'
 complete -c clim -n "not __fish_seen_subcommand_from $subcommands" -s V -l version -d 'Print version'
 complete -c clim -n "not __fish_seen_subcommand_from $subcommands" -a root -d 'Print the CLI header, and the version and the stream headers of the metadata root'
-complete -c clim -n "not __fish_seen_subcommand_from $subcommands" -a check -d 'Tell whether a file keeps the rules of the standard'
+complete -c clim -n "not __fish_seen_subcommand_from $subcommands" -a check -d 'Check a file against the rules that explain lists'
 complete -c clim -n "not __fish_seen_subcommand_from $subcommands" -a show -d 'Print the rows of all tables'
 complete -c clim -n "not __fish_seen_subcommand_from $subcommands" -a types -d 'Print the types, and how many fields and methods each has'
 complete -c clim -n "not __fish_seen_subcommand_from $subcommands" -a token -d 'Print the row or the user string that a token names'
@@ -18,4 +18,4 @@ complete -c clim -n "__fish_seen_subcommand_from $readers" -F
 complete -c clim -n "__fish_seen_subcommand_from $readers" -l bare -d 'FILE is a metadata root and no PE file'
 complete -c clim -n "__fish_seen_subcommand_from check" -l budget -x -d 'Walk at most N bytes of signatures, or stop with status 3'
 complete -c clim -n "__fish_seen_subcommand_from explain" -a "(clim explain | string replace -r '^(\d+)[ :]+' '\$1\t')"
-complete -c clim -n "__fish_seen_subcommand_from help" -a "$readers explain"
+complete -c clim -n "__fish_seen_subcommand_from help" -a "$readers explain help"

@@ -74,6 +74,7 @@ const STATUSES: &str = "\
 
 Exit status:
   0  done
-  1  FILE breaks a rule of the standard, told as 'fault LAYER CODE at OFFSET: NAME', or lacks the row
+  1  FILE breaks a rule of the standard, told as 'fault LAYER CODE at OFFSET: NAME', or lacks what HEX
+     names, or its canonical root has more than 2^30 bytes
   2  the words ask for nothing that clim does; FILE was not read
   3  a file or the output could not be read or written, memory ran out, or the budget was spent";

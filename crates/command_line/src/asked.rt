@@ -21,7 +21,7 @@ pub struct Ask<'a> {
 /// What the program can do, each by a word of its own.
 #[derive(Clone, Copy, Debug, PartialEq, Eq)]
 pub enum Subcommand {
-    /// `root`: print the metadata root's version and its directory of streams.
+    /// `root`: print the CLI header, and the version and the stream headers of the metadata root.
     Root,
     /// `check`: tell whether the file breaks a rule of the standard.
     Check,

@@ -5,7 +5,7 @@ use crate::sink::TextSink;
 use signature_leaves::{has_prefix, prefix};
 use signature_values::{Modifier, Prefix};
 
-/// The bytes behind a modifier or PINNED at the front; all bytes where none stands there.
+/// The bytes behind a modifier or PINNED at the front; `None` where none stands there.
 fn behind_one(bytes: &[u8]) -> Option<&[u8]> {
     if !has_prefix(bytes) {
         return None;

@@ -1,10 +1,9 @@
 //! The rows of a view's tables as records, in place (ECMA-335 II.22): the same records that a model in
 //! memory has, but for signatures, which are their blobs.
 //!
-//! [`rows`] goes over the records of a table, [`row`] answers one, and [`resolve`] the one that a reference
-//! names. What records hold lives as long as
-//! the bytes that were opened, and longer than the view; nothing is copied, and no memory is taken.
-//! [`cells_of`] answers the cells of one row, whichever table it is in.
+//! [`rows`] goes over the records of a table, [`row`] answers one, and [`resolve`] the one that a reference names. What
+//! records hold lives as long as the bytes that were opened, and longer than the view; nothing is copied, and no memory
+//! is taken. [`cells_of`] answers the cells of one row, whichever table it is in.
 //!
 //! ```text
 //! for class in rows::<TypeDef>(&view) { class.type_name }

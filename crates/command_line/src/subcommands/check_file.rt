@@ -16,7 +16,7 @@ pub(crate) fn command<'a>(alloc: Global) -> Result<Command<'a>, AllocError>
     reader(
         alloc,
         "check",
-        "Tells whether a file keeps the rules of ECMA-335, II.22 to II.25, that docs/FAULTS.md lists",
+        "Tells whether a file keeps the rules that 'clim explain' lists from 101 to 801, but for 508 to 510",
         OUTPUT,
     )?
     .arg(budget(alloc))
@@ -46,7 +46,7 @@ standard error. OFFSET counts in FILE. LAYER is, with the sections whose rules a
   6  the order of rows, members and nested types (II.22)
   7  a signature (II.23.2)
   8  the entry point (II.25.3.3)
-'clim explain CODE' tells what a fault means, and docs/FAULTS.md has all of them.
+'clim explain CODE' tells what a fault means, and 'clim explain' lists them.
 
 Blobs of signatures may overlap, so that a FILE of some kilobytes can take long. With '--budget N' the line
 'error: budget spent' ends the check, with status 3, before it has walked more than N of their bytes.

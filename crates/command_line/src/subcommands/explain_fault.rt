@@ -31,7 +31,7 @@ fn code<'a>(alloc: Global) -> Arg<'a>
 const OUTPUT: &str = "\
 The lines are the number of the fault, its name and what is wrong; then, each behind a dash, what is
 demanded, the section of ECMA-335, where OFFSET points, and what usually makes such a file, where that
-is known. docs/FAULTS.md has all of them.
+is known. 'clim explain' lists all faults.
 
 Examples:
   $ clim explain 504

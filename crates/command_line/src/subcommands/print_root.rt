@@ -25,8 +25,8 @@ const OUTPUT: &str = "\
 The lines are, of a PE file first, 'cli MAJOR.MINOR flags F entry E root OFFSET SIZE' (ECMA-335,
 II.25.3.3), where F and E are hexadecimal and OFFSET counts in the file; then 'version TEXT' and, for
 each stream header, 'stream OFFSET SIZE NAME' (II.24.2.1 and II.24.2.2), where OFFSET counts in the
-root. A byte of TEXT or NAME that is not printable ASCII, a quote or a backslash stands as \\x and two
-hexadecimal digits. Tables, heaps and signatures are not looked at.
+root. Each byte of TEXT or NAME that is not printable ASCII, and each quote and backslash, stands as
+\\x and two hexadecimal digits. Tables, heaps and signatures are not looked at.
 
 Examples:
   $ clim root one_module.dll

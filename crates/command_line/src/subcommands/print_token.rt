@@ -25,8 +25,9 @@ pub(crate) fn command<'a>(alloc: Global) -> Result<Command<'a>, AllocError>
 const OUTPUT: &str = "\
 The high byte of HEX is the number of a table and the rest a row (ECMA-335, III.1.9); the line is that of
 'clim show'. The high byte 70 names an offset in the user strings (II.24.2.4); the line is then 'user TEXT
-FLAG', where a unit that is not printable ASCII or is a backslash stands as \\u and four hexadecimal digits
-and FLAG is the last byte, or 'user' of the empty string. FILE is checked first, as 'clim check' does it.
+FLAG', where each unit that is not printable ASCII, and each backslash, stands as \\u and four hexadecimal
+digits, and FLAG is the last byte; or 'user' alone of an entry of no bytes. FILE is checked first, as
+'clim check' does it.
 
 Examples:
   $ clim token --bare one_module.root 00000001

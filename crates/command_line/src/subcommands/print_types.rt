@@ -23,7 +23,8 @@ pub(crate) fn command<'a>(alloc: Global) -> Result<Command<'a>, AllocError>
 
 const OUTPUT: &str = "\
 Each line is 'TOKEN NAME FIELDS METHODS' of a row of TypeDef (ECMA-335, II.22.37): NAME has the namespace
-and a dot before it where there is one. FILE is checked first, as 'clim check' does it.
+and a dot before it where there is one, and its bytes stand as in the texts of 'clim show'. FILE is
+checked first, as 'clim check' does it.
 
 Examples:
   $ clim types --bare two_types.root

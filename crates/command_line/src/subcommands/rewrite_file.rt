@@ -24,10 +24,10 @@ pub(crate) fn command<'a>(alloc: Global) -> Result<Command<'a>, AllocError>
 
 const OUTPUT: &str = "\
 OUT is made, or emptied, once FILE was read whole and checked as 'clim check' does it, and the root is
-ready: it may be FILE, and a FILE that is refused leaves OUT as it was. The root is a metadata root
-alone, which '--bare' reads: the one spelling of what FILE's metadata says, with the heaps in order of
-first use, each text, blob and GUID once, and the narrowest indexes (ECMA-335, II.24.2). Methods'
-bodies and resources are not in it.
+ready: it may be FILE, and a FILE that is refused, also where the root is too long (fault 901), leaves
+OUT as it was. The root is a metadata root alone, which '--bare' reads: the one spelling of what FILE's
+metadata says, with the heaps in order of first use, each text, blob and GUID once, and the narrowest
+indexes (ECMA-335, II.24.2). Methods' bodies and resources are not in it.
 
 Examples:
   $ clim rewrite one_module.dll out.root

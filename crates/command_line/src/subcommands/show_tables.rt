@@ -19,9 +19,10 @@ pub(crate) fn command<'a>(alloc: Global) -> Result<Command<'a>, AllocError>
 const OUTPUT: &str = "\
 The lines are, for each table that has rows (ECMA-335, II.22), 'table NN NAME COUNT', where NN is the
 table's number in hexadecimal, and then each row: its number and its cells. A text stands in quotes,
-bytes and signatures (II.23.2) in hexadecimal between < and >, a signature in its shortest spelling, a
-GUID in braces, a reference as the token of its row, and the start of a run of members as + and a row.
-Where there is no GUID or row, 'null' stands. FILE is checked first, as 'clim check' does it.
+each byte of it that is not printable ASCII, and each quote and backslash, as \\x and two hexadecimal
+digits; bytes and signatures (II.23.2) in hexadecimal between < and >, a signature in its shortest
+spelling, a GUID in braces, a reference as the token of its row, and the start of a run of members as +
+and a row. Where there is no GUID or row, 'null' stands. FILE is checked first, as 'clim check' does it.
 
 Examples:
   $ clim show --bare one_module.root
