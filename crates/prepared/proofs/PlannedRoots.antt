@@ -1,5 +1,5 @@
 -- A planned root whose offsets have four bytes.
-use Rattle.std.proofs.Common.{◌≡◌, ℕ, ◌+◌, ◌^◌, ◌≤◌, length, ap, arith}
+use Rattle.std.proofs.Common.{◌+◌, ◌^◌, ◌≤◌, length, ap, arith}
 use Rattle.std.specs.Prelude.{sum_by}
 use Rattle.metadata.specs.Metadata.{Metadata}
 use Rattle.put.specs.Heading.{size_of, held, heading_size}

@@ -1,5 +1,5 @@
 -- User strings and their fill (ECMA-335 II.24.2.2).
-use Rattle.std.proofs.Common.{ℕ, ◌-◌, ◌%◌, ◌≤◌, List, ◌++◌, length, replicate, length-append, arith}
+use Rattle.std.proofs.Common.{ℕ, ◌-◌, ◌%◌, ◌≤◌, List, length, replicate, length-append, arith}
 use Rattle.heaps.specs.Fill.{filled}
 
 pub fill_adds : (bytes : List ℕ) → length bytes ≤ length (filled bytes)

@@ -1,8 +1,7 @@
-use Rattle.std.proofs.Common.{◌≡◌, ◌++◌, length, ap, ◌∙◌, arith}
+use Rattle.std.proofs.Common.{◌++◌, length, ap, ◌∙◌, arith}
 use Rattle.std.proofs.Math.Logic.{∥∥₁_map, ∥∥₁_elim}
 use Rattle.std.specs.Coded.{le_prop}
 use Rattle.metadata.specs.Metadata.{Metadata}
-use Rattle.canonical.specs.Canonical.{canonical}
 use Rattle.put.specs.Root.{root_bytes}
 use Rattle.root_plan.specs.Planned.{IsRootPlan}
 use Rattle.prepared.proofs.prepared.make.Goals as goal

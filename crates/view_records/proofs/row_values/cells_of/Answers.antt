@@ -1,4 +1,4 @@
-use Rattle.std.proofs.Common.{◌≤◌, slice_get}
+use Rattle.std.proofs.Common.{slice_get}
 use Rattle.std.proofs.lemmas.Grind.{not_there}
 use Rattle.metadata.specs.Metadata.{row_of}
 use Rattle.opening.specs.Views.{row_count}

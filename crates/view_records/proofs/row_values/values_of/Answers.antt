@@ -1,4 +1,4 @@
-use Rattle.std.proofs.Common.{◌≡◌, ◌<◌, ◌+◌, ℕ, length, slice_set, Option, ◌∙◌, arith}
+use Rattle.std.proofs.Common.{◌<◌, ℕ, length, Option, ◌∙◌, arith}
 use Rattle.std.proofs.lemmas.List.{length-set}
 use Rattle.metadata.specs.Metadata.{cell_in}
 use Rattle.reading.specs.declared.cell_ref.CellRef.{CellRef}
