@@ -1,17 +1,17 @@
--- Demands in order.
+-- Rules in order.
 use Rattle.std.proofs.Common.{◌≡◌, ℕ, zero, suc, ◌+◌, ◌<◌, ◌≤◌, arith, List, [], ◌∷◌, ◌++◌, inl, inr, sym, ◌∙◌, ap, Result, Ok, Err}
 use Rattle.std.proofs.lemmas.Bool.{cases_eq}
 use Rattle.std.specs.Result.{IfErr}
 use Rattle.packed.specs.declared.fault.Fault.{Fault}
 use Rattle.packed.specs.Demand.{Demand, AllHold, FirstToFail, Answers, HoldBefore, demands_from, raise, raised}
 
--- where all demands hold none fails
+-- if all rules hold, none is the first broken one
 pub none_fails : {F : Type 0} (ds : List (Demand F)) (found : F) → AllHold ds → FirstToFail ds found → ⊥
 none_fails [] found all first = first
 none_fails (d ∷ ds) found all (inl fails) = fails.0 all.0
 none_fails (d ∷ ds) found all (inr later) = none_fails ds found all.1 later.1
 
--- at most one fault is the first
+-- at most one error is the first
 pub first_is_one : {F : Type 0} (ds : List (Demand F)) (a b : F) → FirstToFail ds a → FirstToFail ds b → a ≡ b
 first_is_one [] a b x y = absurd x
 first_is_one (d ∷ ds) a b (inl x) (inl y) = x.1 ∙ sym y.1
@@ -19,12 +19,12 @@ first_is_one (d ∷ ds) a b (inl x) (inr y) = absurd (x.0 y.0)
 first_is_one (d ∷ ds) a b (inr x) (inl y) = absurd (y.0 x.0)
 first_is_one (d ∷ ds) a b (inr x) (inr y) = first_is_one ds a b x.1 y.1
 
--- an answer's fault is the first to fail
+-- the error of a result is that of the first broken rule
 pub answers_first : {X F : Type 0} (ds : List (Demand F)) (r : Result X F) → Answers ds r → IfErr r (FirstToFail ds)
 answers_first ds (Ok x) all = tt
 answers_first ds (Err found) fails = fails
 
--- the demands of both lists hold where those of each do
+-- the rules of a concatenation hold if those of both lists hold
 pub all_append : {F : Type 0} (ds es : List (Demand F)) → AllHold ds → AllHold es → AllHold (ds ++ es)
 all_append [] es x y = y
 all_append (d ∷ ds) es x y = (x.0, all_append ds es x.1 y)
@@ -37,23 +37,23 @@ pub all_back : {F : Type 0} (ds es : List (Demand F)) → AllHold (ds ++ es) →
 all_back [] es x = x
 all_back (d ∷ ds) es x = all_back ds es x.1
 
--- a demand that is the first to fail stays the first whatever follows
+-- the first broken rule of a list stays the first if rules are appended
 pub fails_front : {F : Type 0} (ds es : List (Demand F)) (found : F) → FirstToFail ds found → FirstToFail (ds ++ es) found
 fails_front [] es found x = absurd x
 fails_front (d ∷ ds) es found (inl x) = inl x
 fails_front (d ∷ ds) es found (inr x) = inr (x.0, fails_front ds es found x.1)
 
--- behind demands that hold, the first to fail is the first of all
+-- after rules that hold, the first broken rule is the first of all
 pub fails_back : {F : Type 0} (ds es : List (Demand F)) (found : F) → AllHold ds → FirstToFail es found → FirstToFail (ds ++ es) found
 fails_back [] es found all x = x
 fails_back (d ∷ ds) es found all x = inr (all.0, fails_back ds es found all.1 x)
 
--- there are no demands of no numbers
+-- zero numbers have no rules
 pub none_from : {F : Type 0} (demands : ℕ → List (Demand F)) (i n : ℕ) → n ≡ 0 → AllHold (demands_from demands i n)
 unfolding demands_from
 none_from demands i n e = rw e tt
 
--- where the demands of all hold those of each do, and the other way around
+-- the rules of a range of numbers hold if and only if the rules of each number hold
 pub each_holds : {F : Type 0} (demands : ℕ → List (Demand F)) (i n : ℕ) → AllHold (demands_from demands i n) → (k : ℕ) → i ≤ k → k < i + n → AllHold (demands k)
 unfolding demands_from
 each_holds demands i zero all k low high = absurd (omega arith)
@@ -69,7 +69,7 @@ all_of_each demands i zero each = tt
 all_of_each demands i (suc n) each =
     all_append (demands i) (demands_from demands (i + 1) n) (each i (omega arith) (omega arith)) (all_of_each demands (i + 1) n (λ k low high. each k (omega arith) (omega arith)))
 
--- the first to fail behind numbers whose demands hold
+-- the first broken rule, after numbers whose rules hold
 pub fails_from : {F : Type 0} (demands : ℕ → List (Demand F)) (i n k : ℕ) (found : F) → i ≤ k → k < i + n → ((j : ℕ) → i ≤ j → j < k → AllHold (demands j)) → FirstToFail (demands k) found → FirstToFail (demands_from demands i n) found
 unfolding demands_from
 fails_from demands i zero k found low high before first = absurd (omega arith)
@@ -79,7 +79,7 @@ fails_from demands i (suc n) k found low high before first =
       | inr other ↦ fails_back (demands i) (demands_from demands (i + 1) n) found (before i (omega arith) (omega arith)) (fails_from demands (i + 1) n k found (omega arith) (omega arith) (λ j l h. before j (omega arith) (omega arith)) first)
     ]
 
--- a loop over numbers: before the first, one more, after the last, at a fault
+-- a loop over numbers: before the first, one step, after the last, at a fault
 pub before_none : {F : Type 0} (demands : ℕ → List (Demand F)) (first end : ℕ) → end ≤ first → HoldBefore demands first end
 before_none demands first end h = record { each = λ k low high. absurd (omega arith) }
 
@@ -99,7 +99,7 @@ before_fewer demands first k n fewer before = record { each = λ j low high. bef
 pub before_fails : {F : Type 0} (demands : ℕ → List (Demand F)) (first k n : ℕ) (found : F) → HoldBefore demands first k → first ≤ k → k < first + n → FirstToFail (demands k) found → FirstToFail (demands_from demands first n) found
 before_fails demands first k n found before low high fails = fails_from demands first n k found low high before.each fails
 
--- demands whose places count from further on hold where they did, and fail as they did, further on
+-- rebased rules hold if the rules hold, and their first fault is the rebased one
 pub all_raised : (by : ℕ) (ds : List (Demand Fault)) → AllHold ds → AllHold (raised by ds)
 all_raised by [] all = tt
 all_raised by (d ∷ ds) all = (all.0, all_raised by ds all.1)

@@ -1,4 +1,4 @@
--- What fields that stand at a place say of the bytes there.
+-- The values of fields at an offset are those of the bytes there.
 use Rattle.std.proofs.Common.{◌≡◌, ℕ, ◌+◌, ◌≤◌, List, [], ◌∷◌, ◌++◌, length, take, drop, refl, sym, ap, ◌∙◌, subst, arith, append_assoc, length-append, length-drop}
 use Rattle.std.proofs.lemmas.List.{append-nil, take_all, take_at, drop_at, drop-drop, take-append-drop, length-take-le}
 use Rattle.std.proofs.Math.Seq.{take-add}
@@ -21,7 +21,7 @@ field_stands (literal expected) whole place long says = says
 field_stands (number count value) whole place long says = record { long = long; equal = says }
 field_stands (ignored count) whole place long says = long
 
--- the fields say what they are of the bytes, and are as long
+-- the fields have the values of the bytes, and the bytes have the widths of the fields
 fields_say : (fields : List Field) (whole : List ℕ) (place : ℕ) (bytes rest : List ℕ) → drop place whole ≡ bytes ++ rest → AreFields fields bytes
     → AllSay whole place fields × (length bytes ≡ widths fields)
 fields_say [] whole place bytes rest e are = (tt, ap length are)
@@ -33,7 +33,7 @@ fields_say (field ∷ fields) whole place bytes rest e (front, back, split, is, 
     let more = fields_say fields whole (place + width field) back rest next are in
     ((field_says field whole front place at is, more.0), ap length split ∙ length-append front back ∙ (let back_long = more.1 in omega arith))
 
--- where there is room, fields that say so are there
+-- if there is room, fields with the values of the bytes are encoded by these bytes
 fields_stand : (fields : List Field) (whole : List ℕ) (place : ℕ) → place + widths fields ≤ length whole → AllSay whole place fields → AreFields fields (part whole place (widths fields))
 fields_stand [] whole place room says = refl
 fields_stand (field ∷ fields) whole place room says =
@@ -46,7 +46,7 @@ fields_stand (field ∷ fields) whole place room says =
       fields_stand fields whole (place + width field) (omega arith) says.1,
     )
 
--- what stands at a place says what it is, and has room
+-- fields at an offset have the values of the bytes there, and fit in the whole
 pub stand_says : (whole : List ℕ) (place : ℕ) (fields : List Field) → StandAt whole place fields → AllSay whole place fields × (place + widths fields ≤ length whole)
 stand_says whole place fields h =
     let behind : drop place whole ≡ h.bytes ++ h.after = ap (drop place) h.split ∙ drop_at h.before (h.bytes ++ h.after) place h.behind in
@@ -55,7 +55,7 @@ stand_says whole place fields h =
     let before = h.behind in
     (said.0, omega (arith, ap length h.split, length-append h.before (h.bytes ++ h.after), length-append h.bytes h.after))
 
--- where there is room, what says so stands there
+-- if there is room and the bytes encode the fields, the fields are at the offset
 fields_of_part : (whole : List ℕ) (place : ℕ) (fields : List Field) → place + widths fields ≤ length whole → AreFields fields (part whole place (widths fields)) → StandAt whole place fields
 fields_of_part whole place fields room are = record {
   before = take place whole;
@@ -69,7 +69,7 @@ fields_of_part whole place fields room are = record {
 pub says_stand : (whole : List ℕ) (place : ℕ) (fields : List Field) → place + widths fields ≤ length whole → AllSay whole place fields → StandAt whole place fields
 says_stand whole place fields room says = fields_of_part whole place fields room (fields_stand fields whole place room says)
 
--- the same by the part of the whole that the fields are
+-- the same for the part of the whole that the fields cover
 pub stand_says_part : (whole : List ℕ) (place : ℕ) (fields : List Field) → StandAt whole place fields → AllSay (part whole place (widths fields)) 0 fields × (place + widths fields ≤ length whole)
 stand_says_part whole place fields h =
     let behind : drop place whole ≡ h.bytes ++ h.after = ap (drop place) h.split ∙ drop_at h.before (h.bytes ++ h.after) place h.behind in

@@ -1,4 +1,4 @@
--- The number of the bytes at a place.
+-- The number in the bytes at an offset.
 use Rattle.std.proofs.Common.{◌≡◌, ℕ, zero, suc, ◌+◌, ◌≤◌, List, [], ◌∷◌, length, take, drop, refl, ◌∙◌, arith, length-drop}
 use Rattle.byteorder.specs.Endian.{little_from, little_number}
 use Rattle.byteorder.specs.Numbers.{little_from-cons}
@@ -6,7 +6,7 @@ use Rattle.std.proofs.lemmas.List.{length-take-le}
 use Rattle.packed.specs.Number.{little_endian, IsNumber}
 use Rattle.packed.specs.Places.{part}
 
--- `byteorder` reads the number of the first bytes
+-- `byteorder` reads the number in the first bytes
 little_from-number : (count : ℕ) (bytes : List ℕ) → count ≤ length bytes → little_from 0 count bytes ≡ little_endian (take count bytes)
 little_from-number zero bytes h = refl
 little_from-number (suc count) [] h = absurd (omega arith)
@@ -15,11 +15,11 @@ little_from-number (suc count) (byte ∷ bytes) h =
     let moved = little_from-cons 0 count byte bytes in
     rw (moved, rest) refl
 
--- what `byteorder` reads behind a place is the number at that place
+-- what `byteorder` reads after dropping the bytes before an offset is the number at that offset
 pub little_number_part : (whole : List ℕ) (place count : ℕ) → place + count ≤ length whole → little_number count (drop place whole) ≡ little_endian (part whole place count)
 little_number_part whole place count h = little_from-number count (drop place whole) (omega (arith, length-drop place whole))
 
--- so the bytes at that place are a number of so many bytes
+-- so the `count` bytes at that offset encode the number
 pub number_stands : (whole : List ℕ) (place count number : ℕ) → place + count ≤ length whole → number ≡ little_number count (drop place whole)
     → IsNumber count (part whole place count) number
 number_stands whole place count number h is = record {

@@ -1,15 +1,15 @@
--- Packed numbers are read as they are spelled.
+-- Decoding a packed number inverts encoding it.
 use Rattle.std.proofs.Common.{◌≡◌, ℕ, ◌+◌, ◌-◌, ◌*◌, ◌/◌, ◌%◌, ◌^◌, ◌<◌, ◌≤◌, Bool, true, false, cond, ltb, Option, Some, List, [], ◌∷◌, ◌++◌, length, take, get_or, refl, sym, ap, ◌∙◌, subst, arith, inl, inr}
 use Rattle.std.specs.Option.{IfSome, IsSomeAnd}
 use Rattle.std.proofs.lemmas.Bool.{ltb-true, ltb-false, lt-ltb, le-ltb}
 use Rattle.packed.specs.Front.{unsigned_at, two_at, four_at}
 use Rattle.packed.specs.Packed.{IsPacked}
 
--- each is a byte
+-- each element is a byte
 abbrev pub AreBytes : List ℕ → Type 0
 AreBytes bytes = (k : ℕ) → get_or bytes k 0 < 2 ^ 8
 
--- what is read from bytes is spelled by their front
+-- a decoded number is encoded by the bytes that were read
 abbrev IsRead : List ℕ → ℕ × ℕ → Type 0
 IsRead bytes read = (read.1 ≤ length bytes) × IsPacked read.0 (take read.1 bytes)
 
@@ -49,7 +49,7 @@ unsigned_found (a ∷ b) h =
     (λ f. two_found a b (ltb-false a 0x80 e) (ltb-true a 0xC0 f) h)
     (λ f. IfSome-cond (IsRead (a ∷ b)) (ltb a 0xE0) _ _ (λ g. four_found a b (ltb-false a 0xC0 f) (ltb-true a 0xE0 g) h) (λ g. tt)))
 
--- what spells a number at the front is read as that number
+-- an encoding at the start of bytes decodes to its number
 pub unsigned_again : (n : ℕ) (front rest : List ℕ) → IsPacked n front → unsigned_at (front ++ rest) ≡ Some (n, length front)
 unfolding unsigned_at
 unsigned_again n front rest (inl h) = rw (h.1, lt-ltb n 0x80 h.0) refl
@@ -64,7 +64,7 @@ unsigned_again n front rest (inr (inr h)) =
     let back : (a - 0xC0) * 2 ^ 24 + n / 2 ^ 16 % 2 ^ 8 * 2 ^ 16 + n / 2 ^ 8 % 2 ^ 8 * 2 ^ 8 + n % 2 ^ 8 ≡ n = omega arith in
     rw (h.1, le-ltb a 0x80 (omega arith), le-ltb a 0xC0 (omega arith), lt-ltb a 0xE0 (omega arith)) (ap (λ (m : ℕ). Some (m, 4)) back)
 
--- so it is the only number that a front spells
+-- so a prefix of the bytes encodes no other number
 pub unsigned_only : (bytes front rest : List ℕ) (n : ℕ) (r : Option (ℕ × ℕ)) → r ≡ unsigned_at bytes → bytes ≡ front ++ rest → IsPacked n front
     → IsSomeAnd r (λ read. (read.0 ≡ n) × (read.1 ≡ length front))
 unsigned_only bytes front rest n r is split packed =

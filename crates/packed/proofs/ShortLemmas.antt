@@ -1,4 +1,4 @@
--- The shortest form of a number spells it, and nothing shorter does.
+-- The shortest form encodes the number, and no encoding is shorter.
 use Rattle.std.proofs.Common.{◌≡◌, ℕ, ◌-◌, ◌^◌, ◌<◌, ◌≤◌, Bool, true, false, cond, not, ltb, List, length, refl, arith, inl, inr, rules}
 use Rattle.std.specs.Prelude.{ℤ, pos, negsuc, neg_ℤ, int_lt, ◌↔◌}
 use Rattle.std.proofs.lemmas.Bool.{and_parts, ltb-true, lt-ltb}
@@ -13,7 +13,7 @@ unsigned_spells n lt = by_test (ltb n (2 ^ 7)) (ltb n (2 ^ 14)) (λ e. ltb-true 
     by_test false true f g = inr (inl (g refl, refl))
     by_test false false f g = inr (inr (lt, refl))
 
--- of three forms the first that may stand
+-- the length of the first of three forms that is allowed is the least
 by_forms : (p q : Bool) (one two four : List ℕ) (count : ℕ) → length one ≡ 1 → length two ≡ 2 → length four ≡ 4 → 1 ≤ count → (p ≡ false → 2 ≤ count) → (p ≡ false → q ≡ false → 4 ≤ count) → length (cond p one (cond q two four)) ≤ count
 by_forms true q one two four count e f g h k l = omega arith
 by_forms false true one two four count e f g h k l = let more = k refl in omega arith
@@ -44,7 +44,7 @@ bits_twenty_nine : (z : ℤ) → FitsBits 29 z → signed_bits 29 z < 2 ^ 29
 bits_twenty_nine (pos n) h = let k : n < 2 ^ 28 = (let a = h.high in omega (arith, ints)) in omega arith
 bits_twenty_nine (negsuc n) h = let k : n < 2 ^ 28 = (let a = h.low in omega (arith, ints)) in omega arith
 
--- the test of the bounds tells whether they hold
+-- the computed test of the bounds is true if and only if they hold
 fits_from : (w : ℕ) (z : ℤ) → fits_bits w z ≡ true → FitsBits w z
 fits_from w z e =
     let both = and_parts (not (int_lt z (neg_ℤ (half_range w)))) (int_lt z (half_range w)) e in

@@ -1,4 +1,4 @@
--- Packed signed numbers are read as they are spelled.
+-- Decoding a packed signed number inverts encoding it.
 use Rattle.std.proofs.Common.{◌≡◌, ℕ, ◌-◌, ◌/◌, ◌%◌, ◌^◌, ◌<◌, ◌≤◌, Bool, true, false, cond, eqb, Option, Some, None, List, ◌++◌, length, take, refl, sym, ap, ◌∙◌, subst, arith, inl, inr}
 use Rattle.std.specs.Prelude.{ℤ, pos, negsuc, ◌-ℤ◌, option_map}
 use Rattle.std.specs.Option.{IfSome, IsSomeAnd}
@@ -9,7 +9,7 @@ use Rattle.packed.specs.Front.{unsigned_at, signed_at, bits_of, unrotated}
 use Rattle.packed.specs.Packed.{IsPacked, IsOneByte, IsTwoBytes, IsFourBytes, IsPackedSigned, FitsBits, signed_bits}
 use Rattle.packed.proofs.PackedLemmas.{AreBytes, unsigned_found, unsigned_again}
 
--- bits that spell the number that they are read as
+-- the bits n encode the number z that they decode to
 record SpellsBack (w n : ℕ) (z : ℤ) : Type 0 where
   fits : FitsBits w z
   same : n ≡ signed_bits w z
@@ -54,7 +54,7 @@ two_signed n s h = let t = back_two n h.0 in inr (inl (t.fits, subst (λ (m : �
 four_signed : (n : ℕ) (s : List ℕ) → IsFourBytes n s → IsPackedSigned (unrotated 29 n) s
 four_signed n s h = let t = back_four n h.0 in inr (inr (t.fits, subst (λ (m : ℕ). IsFourBytes m s) t.same h))
 
--- what spells a number spells the signed number of the bits of its form
+-- bytes that encode an unsigned number encode the signed number of its bits
 signed_from : (n count : ℕ) (s : List ℕ) → length s ≡ count → IsPacked n s → IsPackedSigned (unrotated (bits_of count) n) s
 signed_from n count s long (inl h) = rw (sym long ∙ ap length h.1) (one_signed n s h)
 signed_from n count s long (inr (inl h)) = rw (sym long ∙ ap length h.1) (two_signed n s h)
@@ -72,7 +72,7 @@ pub signed_found : (bytes : List ℕ) → AreBytes bytes → IfSome (signed_at b
 unfolding signed_at
 signed_found bytes small = map_found bytes (unsigned_at bytes) (unsigned_found bytes small)
 
--- ---- the number that the bits of a number are read as
+-- ---- the number that the encoded bits decode to
 
 even_of : (w n : ℕ) → n % 2 ≡ 0 → unrotated w n ≡ pos (n / 2)
 even_of w n e = rw (eq-eqb (n % 2) 0 e) refl

@@ -1,11 +1,11 @@
--- The demands by number and by name, and how a fault is shown. The hundreds of a number are the layer that poses the demand.
+-- The number and the name of each rule, and how a fault is printed. The hundreds of a number are the layer.
 use Rattle.std.specs.Prelude.{ℕ, List, [], ◌∷◌, ◌++◌, codes, ◌==◌, if◌then◌else◌}
 use Rattle.std.specs.Fmt.{decimal}
 use Rattle.packed.specs.declared.fault.Fault.{Fault}
 use Rattle.packed.specs.declared.code.FaultCode.{FaultCode}
 use Rattle.packed.specs.declared.code.FaultCode.TheVariants.{TooLong, DosHeader, PeSignature, OptionalHeader, Pe32PlusSize, Magic, Directories, Sections, NoCliHeader, CliAddress, CliSize, MetadataAddress, RootSignature, Version, StreamCount, StreamHeader, StreamRange, DuplicateStream, Uncompressed, NoTables, TablesHeader, TablesVersion, HeapSizes, UnknownTable, RowCounts, RowCount, TablesShort, BadString, BadUtf8, BadBlob, BadGuid, BadTag, BadIndex, BadList, BadUserString, BadCell, UserBytes, NotSorted, BadRun, NoOwner, NestedOrder, BadSignature, SignatureIndex, EntryPoint, TooLarge}
 
--- the number of each demand
+-- the number of each rule
 abbrev pub number_of_code : FaultCode → ℕ
 number_of_code TooLong = 101
 number_of_code DosHeader = 102
@@ -53,7 +53,7 @@ number_of_code SignatureIndex = 702
 number_of_code EntryPoint = 801
 number_of_code TooLarge = 901
 
--- the name of each demand beside its number
+-- each rule's number with its name
 abbrev pub names : List (ℕ × List ℕ)
 names =
     (101, codes "TooLong") ∷
@@ -100,16 +100,16 @@ names =
     (801, codes "EntryPoint") ∷
     (901, codes "TooLarge") ∷ []
 
--- the name beside the first such number, and no text where there is none
+-- the name of the first pair that has this number, or the empty text if none has it
 abbrev pub name_among : List (ℕ × List ℕ) → ℕ → List ℕ
 name_among [] number = []
 name_among (pair ∷ pairs) number = if number == pair.0 then pair.1 else name_among pairs number
 
--- the name of the demand of a number, and no text where no demand has it
+-- the name of the rule with this number, or the empty text if no rule has it
 abbrev pub name_of : ℕ → List ℕ
 name_of number = name_among names number
 
--- how a fault is shown: `fault LAYER CODE at OFFSET: NAME`, its numbers in decimal
+-- how a fault is printed: `fault LAYER CODE at OFFSET: NAME`, with decimal numbers
 abbrev pub fault_text : Fault → List ℕ
 fault_text found =
     codes "fault " ++ decimal found.layer ++ codes " " ++ decimal found.code ++ codes " at " ++ decimal found.offset

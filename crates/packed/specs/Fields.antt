@@ -1,27 +1,27 @@
--- The fields of a header (ECMA-335 II.25), which stand one behind the other.
+-- The fields of a header, which follow one another without gaps (ECMA-335 II.25).
 use Rattle.std.specs.Prelude.{◌≡◌, ℕ, ◌+◌, List, [], ◌∷◌, ◌++◌, length}
 use Rattle.packed.specs.Number.{little_endian, IsNumber}
 use Rattle.packed.specs.Places.{part}
 
--- a field: bytes that are written out, a number in so many bytes, or so many bytes of any kind
+-- a field: fixed bytes, a number in `count` bytes, or `count` bytes that can have any value
 pub data Field : Type 0 where
   literal : (expected : List ℕ) → Field
   number : (count value : ℕ) → Field
   ignored : (count : ℕ) → Field
 
--- the bytes of a field
+-- the bytes encode the field
 abbrev pub IsField : Field → List ℕ → Type 0
 IsField (literal expected) bytes = bytes ≡ expected
 IsField (number count value) bytes = IsNumber count bytes value
 IsField (ignored count) bytes = length bytes ≡ count
 
--- the bytes are these fields, one behind the other
+-- the bytes encode these fields, one after another
 abbrev pub AreFields : List Field → List ℕ → Type 0
 AreFields [] bytes = bytes ≡ []
 AreFields (field ∷ fields) bytes =
     (front : List ℕ) × (rest : List ℕ) × (bytes ≡ front ++ rest) × IsField field front × AreFields fields rest
 
--- these fields stand at a place of the whole, behind so many bytes
+-- the fields begin at an offset of the whole
 pub record StandAt (whole : List ℕ) (place : ℕ) (fields : List Field) : Type 0 where
   pub before : List ℕ
   pub bytes : List ℕ
@@ -30,24 +30,24 @@ pub record StandAt (whole : List ℕ) (place : ℕ) (fields : List Field) : Type
   pub behind : length before ≡ place
   pub are : AreFields fields bytes
 
--- how many bytes a field has
+-- the number of bytes of a field
 abbrev pub width : Field → ℕ
 width (literal expected) = length expected
 width (number count value) = count
 width (ignored count) = count
 
--- how many bytes fields have
+-- the number of bytes of all the fields together
 abbrev pub widths : List Field → ℕ
 widths [] = 0
 widths (field ∷ fields) = width field + widths fields
 
--- what a field says of the bytes from a place of the whole on
+-- the bytes of the whole at an offset have the value that the field states
 abbrev pub Says : List ℕ → ℕ → Field → Type 0
 Says whole place (literal expected) = part whole place (length expected) ≡ expected
 Says whole place (number count value) = value ≡ little_endian (part whole place count)
 Says whole place (ignored count) = Unit {0}
 
--- what fields say, each of the bytes behind the one before
+-- the bytes at an offset have the values that the fields state, one field after another
 abbrev pub AllSay : List ℕ → ℕ → List Field → Type 0
 AllSay whole place [] = Unit {0}
 AllSay whole place (field ∷ fields) = Says whole place field × AllSay whole (place + width field) fields

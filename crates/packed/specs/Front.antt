@@ -1,12 +1,12 @@
--- The packed number at the front of bytes (ECMA-335 II.23.2), and how many bytes spell it; None where no number stands there.
+-- Decoding the packed number at the start of bytes (ECMA-335 II.23.2): its value and length, or None if there is none.
 use Rattle.std.specs.Prelude.{ℕ, ◌+◌, ◌-◌, ◌*◌, ◌/◌, ◌%◌, ◌^◌, ◌==◌, ℤ, pos, ◌-ℤ◌, List, [], ◌∷◌, Option, Some, None, option_map, nat_lt, if◌then◌else◌}
 
--- a number of two bytes, the first of which is given
+-- a number of two bytes: the value and the length, given the first byte and the bytes after it
 abbrev pub two_at : ℕ → List ℕ → Option (ℕ × ℕ)
 two_at a [] = None
 two_at a (b ∷ rest) = Some ((a - 0x80) * 2 ^ 8 + b, 2)
 
--- a number of four bytes, the first of which is given
+-- a number of four bytes: the value and the length, given the first byte and the bytes after it
 abbrev pub four_at : ℕ → List ℕ → Option (ℕ × ℕ)
 four_at a (b ∷ c ∷ d ∷ rest) = Some ((a - 0xC0) * 2 ^ 24 + b * 2 ^ 16 + c * 2 ^ 8 + d, 4)
 four_at a _ = None
@@ -17,11 +17,11 @@ unsigned_at (a ∷ rest) =
     if nat_lt a 0x80 then Some (a, 1)
     else (if nat_lt a 0xC0 then two_at a rest else (if nat_lt a 0xE0 then four_at a rest else None))
 
--- how many bits the form of so many bytes has
+-- the number of value bits in the form of 1, 2 or 4 bytes
 abbrev pub bits_of : ℕ → ℕ
 bits_of count = if count == 1 then 7 else (if count == 2 then 14 else 29)
 
--- the signed number of w bits that are rotated left by one
+-- the signed number whose w bits, rotated left by one, are the number n (II.23.2)
 abbrev pub unrotated : ℕ → ℕ → ℤ
 unrotated w n = if n % 2 == 0 then pos (n / 2) else pos (n / 2) -ℤ pos (2 ^ (w - 1))
 

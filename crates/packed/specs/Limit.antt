@@ -1,6 +1,6 @@
--- The limit of what is read and written whole.
+-- The size limit of files, roots and heaps.
 use Rattle.std.specs.Prelude.{ℕ, ◌^◌}
 
--- the most bytes of a file, of a metadata root and of a heap
+-- the largest number of bytes of a file, a metadata root or a heap
 abbrev pub byte_limit : ℕ
 byte_limit = 2 ^ 30

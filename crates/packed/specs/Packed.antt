@@ -1,9 +1,9 @@
--- Packed numbers (ECMA-335 II.23.2): one, two or four bytes, high byte first, by how great the number is. A longer form than
--- is needed spells a number too.
+-- Packed numbers (ECMA-335 II.23.2): one, two or four bytes, high byte first. The size of the number decides which
+-- forms can hold it. A form that is longer than needed is a valid encoding too.
 use Rattle.std.specs.Prelude.{◌≡◌, ℕ, ◌+◌, ◌-◌, ◌*◌, ◌/◌, ◌%◌, ◌^◌, ◌<◌, ◌⊎◌, ℤ, pos, ◌≤ℤ◌, ◌<ℤ◌, List, [], ◌∷◌, Bool, not, ◌&&◌, nat_lt, int_lt, neg_ℤ, unsigned_abs, if◌then◌else◌}
 use Rattle.std.specs.Int.{int_rem_euclid}
 
--- the bytes of a number in each form: of n itself, of 0x8000 + n, and of 0xC0000000 + n, high byte first
+-- the bytes of each form, high byte first: of n itself, of 0x8000 + n, and of 0xC0000000 + n
 abbrev pub one_byte : ℕ → List ℕ
 one_byte n = n ∷ []
 
@@ -22,28 +22,28 @@ IsTwoBytes n bytes = (n < 2 ^ 14) × (bytes ≡ two_bytes n)
 abbrev pub IsFourBytes : ℕ → List ℕ → Type 0
 IsFourBytes n bytes = (n < 2 ^ 29) × (bytes ≡ four_bytes n)
 
--- the bytes spell the number, in one of the three forms
+-- the bytes encode the number, in one of the three forms
 abbrev pub IsPacked : ℕ → List ℕ → Type 0
 IsPacked n bytes = IsOneByte n bytes ⊎ (IsTwoBytes n bytes ⊎ IsFourBytes n bytes)
 
--- the shortest form of a number below 2^29
+-- the shortest encoding of a number below 2^29
 abbrev pub short_unsigned : ℕ → List ℕ
 short_unsigned n = if nat_lt n (2 ^ 7) then one_byte n else (if nat_lt n (2 ^ 14) then two_bytes n else four_bytes n)
 
--- numbers of w bits of two's complement are at least this below 0, and at most one less than this above
+-- w bits of two's complement hold the numbers from minus this value to this value minus one
 abbrev pub half_range : ℕ → ℤ
 half_range w = pos (2 ^ (w - 1))
 
--- the number is one of w bits of two's complement
+-- the number fits in w bits of two's complement
 pub record FitsBits (w : ℕ) (z : ℤ) : Type 0 where
   pub low : neg_ℤ (half_range w) ≤ℤ z
   pub high : z <ℤ half_range w
 
--- the same as a test
+-- the same condition as a computed test
 abbrev pub fits_bits : ℕ → ℤ → Bool
 fits_bits w z = not (int_lt z (neg_ℤ (half_range w))) && int_lt z (half_range w)
 
--- those bits: the number modulo 2^w
+-- the number in w bits of two's complement: its value modulo 2^w
 abbrev pub twos_complement : ℕ → ℤ → ℕ
 twos_complement w z = unsigned_abs (int_rem_euclid z (pos (2 ^ w)))
 
@@ -51,17 +51,17 @@ twos_complement w z = unsigned_abs (int_rem_euclid z (pos (2 ^ w)))
 abbrev pub rotated : ℕ → ℕ → ℕ
 rotated w u = 2 * u % 2 ^ w + u / 2 ^ (w - 1)
 
--- what stands in the form of w bits for a signed number
+-- the bits that encode a signed number in a form of w bits
 abbrev pub signed_bits : ℕ → ℤ → ℕ
 signed_bits w z = rotated w (twos_complement w z)
 
--- the bytes spell the signed number: its 7, 14 or 29 bits, rotated left by one, in the form of as many bits
+-- the bytes encode the signed number: its 7, 14 or 29 bits, rotated left by one, in the form with that many bits
 abbrev pub IsPackedSigned : ℤ → List ℕ → Type 0
 IsPackedSigned z bytes =
     (FitsBits 7 z × IsOneByte (signed_bits 7 z) bytes)
     ⊎ ((FitsBits 14 z × IsTwoBytes (signed_bits 14 z) bytes) ⊎ (FitsBits 29 z × IsFourBytes (signed_bits 29 z) bytes))
 
--- the shortest form of a signed number of 29 bits: the first that its bits fit
+-- the shortest encoding of a signed number of at most 29 bits
 abbrev pub short_signed : ℤ → List ℕ
 short_signed z =
     if fits_bits 7 z then one_byte (signed_bits 7 z)

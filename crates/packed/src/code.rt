@@ -1,107 +1,107 @@
 ghost use Rattle.std.specs.Prelude.{◌≡◌};
 ghost use Rattle.packed.specs.Codes.{number_of_code};
 
-/// A demand on a file or a root, or on what is written: what a fault says is not met.
+/// A rule for a file, a metadata root or the output. A fault carries the number of the rule that is broken.
 ///
-/// The hundreds of its number are the layer that poses it: 1 the image, 2 the CLI header, 3 the
-/// root, 4 the table stream, 5 the cells, 6 the order of rows, 7 the signatures, 8 the entry point,
-/// 9 the writer. The sections are those of ECMA-335.
+/// The hundreds of the number are the layer that checks the rule: 1 the image, 2 the CLI header,
+/// 3 the metadata root, 4 the table stream, 5 the cells, 6 the order of rows, 7 the signatures,
+/// 8 the entry point, 9 the writer. Section numbers are those of ECMA-335.
 #[derive(Clone, Copy, Debug, PartialEq, Eq)]
 pub enum FaultCode {
-    /// More than 2^30 bytes were handed in.
+    /// The input has more than 2^30 bytes.
     TooLong,
-    /// No DOS header: fewer than 64 bytes, or no `MZ` at their begin (II.25.2.1).
+    /// There is no DOS header: fewer than 64 bytes, or they do not begin with `MZ` (II.25.2.1).
     DosHeader,
-    /// No PE signature where the DOS header says that it stands (II.25.2.1).
+    /// There is no PE signature at the offset that the DOS header gives (II.25.2.1).
     PeSignature,
-    /// An optional header of under 216 bytes, or one that ends past the file (II.25.2.2).
+    /// The optional header has fewer than 216 bytes, or ends past the end of the file (II.25.2.2).
     OptionalHeader,
-    /// The optional header of a PE32+ file has under 232 bytes.
+    /// The optional header of a PE32+ file has fewer than 232 bytes.
     Pe32PlusSize,
-    /// An optional header of neither PE32 nor PE32+ (II.25.2.3.1).
+    /// The optional header is neither PE32 nor PE32+ (II.25.2.3.1).
     Magic,
-    /// Fewer than fifteen data directories (II.25.2.3.2).
+    /// There are fewer than fifteen data directories (II.25.2.3.2).
     Directories,
-    /// Section headers that end past the file (II.25.3).
+    /// The section headers end past the end of the file (II.25.3).
     Sections,
-    /// No CLI header in the data directories (II.25.2.3.3).
+    /// The data directories have no CLI header (II.25.2.3.3).
     NoCliHeader,
-    /// The CLI header's directory has under 72 bytes, or its bytes have no place in the file (II.25.3.3).
+    /// The CLI header's directory has fewer than 72 bytes, or its bytes are not in the file (II.25.3.3).
     CliAddress,
-    /// The CLI header says of itself that it has under 72 bytes (II.25.3.3).
+    /// The Cb field of the CLI header is below 72 (II.25.3.3).
     CliSize,
-    /// The metadata's bytes have no place in the file (II.25.3.3).
+    /// The bytes of the metadata are not in the file (II.25.3.3).
     MetadataAddress,
-    /// No signature of a metadata root (II.24.2.1).
+    /// There is no metadata root signature (II.24.2.1).
     RootSignature,
-    /// No version in the field that Length measures (II.24.2.1).
+    /// The field of Length bytes does not hold a valid version (II.24.2.1).
     Version,
-    /// The root ends before the number of its streams (II.24.2.1).
+    /// The root ends before or within Streams, the number of its streams (II.24.2.1).
     StreamCount,
-    /// No stream header stands there (II.24.2.2).
+    /// There is no valid stream header at this offset (II.24.2.2).
     StreamHeader,
-    /// A stream of the standard ends past the root (II.24.2.2).
+    /// A stream that the standard names ends past the end of the root (II.24.2.2).
     StreamRange,
-    /// A stream of the standard is named twice (II.24.2.2).
+    /// Two headers name the same stream of the standard (II.24.2.2).
     DuplicateStream,
-    /// The tables stand in the uncompressed stream `#-`.
+    /// The tables are in the uncompressed stream `#-`.
     Uncompressed,
-    /// No stream `#~` (II.24.2.2).
+    /// There is no stream `#~` (II.24.2.2).
     NoTables,
     /// The table stream has fewer than 24 bytes (II.24.2.6).
     TablesHeader,
-    /// A table stream of another version than 2.0 (II.24.2.6).
+    /// The version of the table stream is not 2.0 (II.24.2.6).
     TablesVersion,
-    /// HeapSizes has other bits than those of the three heaps (II.24.2.6).
+    /// HeapSizes sets bits other than those of the three heaps (II.24.2.6).
     HeapSizes,
-    /// Valid names a table that is not listed (II.24.2.6).
+    /// Valid names a table that the standard does not define (II.24.2.6).
     UnknownTable,
-    /// The row counts end past the table stream (II.24.2.6).
+    /// The row counts end past the end of the table stream (II.24.2.6).
     RowCounts,
-    /// A table of more than 0xFFFFFF rows (II.22).
+    /// A table has more than 0xFFFFFF rows (II.22).
     RowCount,
-    /// The tables end past their stream (II.24.2.6).
+    /// The tables end past the end of their stream (II.24.2.6).
     TablesShort,
-    /// No NUL ends the text at an index (II.24.2.3).
+    /// No NUL ends the string at an index (II.24.2.3).
     BadString,
-    /// The text at an index is not UTF-8 (II.24.2.3).
+    /// The string at an index is not UTF-8 (II.24.2.3).
     BadUtf8,
-    /// No blob stands at an index (II.24.2.4).
+    /// There is no blob at an index (II.24.2.4).
     BadBlob,
-    /// No GUID stands at an index (II.24.2.5).
+    /// There is no GUID at an index (II.24.2.5).
     BadGuid,
     /// A coded index has an unused tag (II.24.2.6).
     BadTag,
-    /// An index names no row, or is null where it may not be (II.22).
+    /// An index names no row, or is null although its column does not allow null (II.22).
     BadIndex,
-    /// A list index lies past the end of its table (II.22).
+    /// A list index is past the end of its table (II.22).
     BadList,
-    /// A user string of an even number of bytes above 0 (II.24.2.4).
+    /// A user string has an even number of bytes, more than 0 (II.24.2.4).
     BadUserString,
-    /// A cell that its column can't hold (II.22). No file has one.
+    /// A cell has a value that its column cannot hold (II.22). No file can break this rule.
     BadCell,
-    /// User bytes that are not filled, or too many (II.24.2.4). No file has them.
+    /// The user bytes are not padded, or are too long (II.24.2.4). No file can break this rule.
     UserBytes,
-    /// A row's key is lower than that of the row before (II.22).
+    /// A row has a lower key than the row before it (II.22).
     NotSorted,
-    /// The first run of members does not start at 1, or a run starts before the one before (II.22).
+    /// The first run of members does not start at row 1, or a run starts before the run of the row before (II.22).
     BadRun,
-    /// Members that no row owns (II.22).
+    /// No row owns some of the members (II.22).
     NoOwner,
-    /// A nested class whose enclosing class does not stand before it (II.22.32).
+    /// The enclosing class of a nested class does not come before it (II.22.32).
     NestedOrder,
-    /// A blob that the grammar of its column does not spell (II.23.2).
+    /// A blob does not match the grammar of its column (II.23.2).
     BadSignature,
     /// A type index in a signature names no row (II.23.2.8).
     SignatureIndex,
     /// The entry point names no row of MethodDef or File (II.25.3.3).
     EntryPoint,
-    /// The canonical root is longer than it may be.
+    /// The canonical root would be longer than the limit.
     TooLarge,
 }
 
 impl FaultCode {
-    /// The number of the demand, as it is printed.
+    /// The number of the rule, as it is printed.
     pub fn number(self) -> u16
         ensures { result ≡ number_of_code self }
     {

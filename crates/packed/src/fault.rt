@@ -6,14 +6,14 @@ use crate::code::FaultCode;
 use std::error::Error;
 use std::fmt;
 
-/// The first demand that some bytes do not meet, and where.
+/// The first rule that some bytes break, and the offset at which they break it.
 #[derive(Clone, Copy, Debug, PartialEq, Eq)]
 pub struct Fault {
-    /// The layer that poses the demand: the hundreds of its code.
+    /// The layer that checks the rule: the hundreds of its code.
     pub layer: u8,
-    /// The number of the demand.
+    /// The number of the rule.
     pub code: u16,
-    /// Where the demand is not met, counted in the bytes that were handed in.
+    /// Where the rule is broken: an offset in bytes, relative to the start of the input.
     pub offset: u64,
 }
 
@@ -21,7 +21,7 @@ impl Fault {
     ghost use Rattle.std.specs.Prelude.{◌≡◌, ◌+◌, ◌^◌, ◌<◌};
     ghost use Rattle.packed.specs.Demand.{raise};
 
-    /// The fault of a demand at a place.
+    /// The fault of a rule at an offset in bytes.
     pub fn new(code: FaultCode, offset: u64) -> Fault
         ensures { result ≡ fault code offset }
     {
@@ -33,7 +33,7 @@ impl Fault {
         }
     }
 
-    /// The same fault, whose place counts from so many bytes further on.
+    /// The same fault, with `by` bytes added to its offset.
     pub fn raised(self, by: u64) -> Fault
         requires { by + self.offset < 2 ^ 64 }
         ensures { result ≡ raise by self }
@@ -44,7 +44,7 @@ impl Fault {
         }
     }
 
-    /// The name of the demand, empty where no demand has this code.
+    /// The name of the rule, or the empty text if no rule has this code.
     pub fn name(&self) -> &'static str
         ensures { result.now ≡ name_of self.now.code }
     {
@@ -100,7 +100,7 @@ impl Fault {
 impl fmt::Display for Fault {
     ghost output = { λ fault. Some (fault_text fault) };
 
-    /// Writes the words `fault LAYER CODE at OFFSET: NAME`.
+    /// Writes the text `fault LAYER CODE at OFFSET: NAME`.
     fn fmt<W: fmt::Write>(&self, f: &mut fmt::Formatter<W>) -> fmt::Result {
         let Fault {
             layer,

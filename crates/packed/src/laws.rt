@@ -4,8 +4,8 @@ ghost use Rattle.packed.specs.Front.{unsigned_at, signed_at};
 ghost use Rattle.packed.specs.Packed.{IsPacked, IsPackedSigned, FitsBits, fits_bits, short_unsigned, short_signed};
 ghost use Rattle.packed.specs.Places.{part};
 
-/// What is read at the front of bytes spells the number that is read, and what spells a number is read
-/// as it, whatever follows.
+/// A decoded number is encoded by the bytes that it was decoded from. An encoding of a number
+/// decodes to this number, whatever bytes follow.
 pub fn numbers_are_read()
     ensures unsigned { (bytes : List ℕ) → ((k : ℕ) → get_or bytes k 0 < 2 ^ 8)
         → IfSome (unsigned_at bytes) (λ read. (read.1 ≤ length bytes) × IsPacked read.0 (take read.1 bytes)) }
@@ -15,8 +15,8 @@ pub fn numbers_are_read()
     ensures signed_only { (z : ℤ) (front rest : List ℕ) → IsPackedSigned z front → signed_at (front ++ rest) ≡ Some (z, length front) }
 {}
 
-/// The shortest form of a number spells it, and nothing shorter does; and the numbers that have a form
-/// are those below 2^29, and the signed ones of 29 bits.
+/// The shortest form encodes the number, and no encoding is shorter. A number has an encoding if and only
+/// if it is below 2^29, or, for signed numbers, if it fits in 29 bits.
 pub fn shortest_forms_spell()
     ensures unsigned { (n : ℕ) → n < 2 ^ 29 → IsPacked n (short_unsigned n) }
     ensures unsigned_least { (n : ℕ) (bytes : List ℕ) → IsPacked n bytes → length (short_unsigned n) ≤ length bytes }
@@ -27,8 +27,8 @@ pub fn shortest_forms_spell()
     ensures fits { (w : ℕ) (z : ℤ) → (fits_bits w z ≡ true) ↔ FitsBits w z }
 {}
 
-/// Fields stand at a place exactly where there is room for them and each says what stands in its
-/// bytes, counted in the whole or in the part of it that they are.
+/// Fields are at an offset if and only if they fit in the whole and each has the value of the bytes
+/// there. The bytes can be counted in the whole, or in the part of it that the fields cover.
 pub fn fields_are_parts()
     ensures said { (whole : List ℕ) (place : ℕ) (fields : List Field) → StandAt whole place fields
         → AllSay whole place fields × (place + widths fields ≤ length whole) }

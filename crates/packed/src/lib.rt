@@ -1,9 +1,9 @@
-//! The ground of every layer: numbers of a fixed size and packed numbers, as the format spells them,
-//! the fields of headers, and the faults that a file is refused with.
+//! The base of every layer: numbers of fixed size, packed numbers, the fields of headers,
+//! and the faults that are reported for invalid bytes.
 //!
-//! A layer that reads poses its demands in one order, and answers `Ok` exactly where all of them
-//! hold, else the [`Fault`] of the first that does not. The definitions for that are in
-//! `specs/Demand.antt`, over an answer of any type.
+//! A layer that reads has an ordered list of rules. It returns `Ok` if and only if all of them
+//! hold, else the [`Fault`] of the first broken rule. `specs/Demand.antt` defines this for any
+//! error type.
 //!
 //! ```text
 //! let fault = Fault::new(FaultCode::Version, 12);

@@ -4,7 +4,7 @@ ghost use Rattle.packed.specs.Places.{part};
 
 use byteorder::{ByteOrder, LittleEndian};
 
-/// The number in the two bytes at a place.
+/// The little-endian number in the two bytes at offset `at`.
 #[tactic(auto, using(crate::proofs::NumberLemmas::little_number_part, crate::proofs::NumberLemmas::number_stands))]
 pub fn u16_at(bytes: &[u8], at: usize) -> u16
     requires { at + 2 ≤ length bytes.now }
@@ -14,7 +14,7 @@ pub fn u16_at(bytes: &[u8], at: usize) -> u16
     LittleEndian::read_u16(&bytes[at..])
 }
 
-/// The number in the four bytes at a place.
+/// The little-endian number in the four bytes at offset `at`.
 #[tactic(auto, using(crate::proofs::NumberLemmas::little_number_part, crate::proofs::NumberLemmas::number_stands))]
 pub fn u32_at(bytes: &[u8], at: usize) -> u32
     requires { at + 4 ≤ length bytes.now }
@@ -24,7 +24,7 @@ pub fn u32_at(bytes: &[u8], at: usize) -> u32
     LittleEndian::read_u32(&bytes[at..])
 }
 
-/// The number in the eight bytes at a place.
+/// The little-endian number in the eight bytes at offset `at`.
 #[tactic(auto, using(crate::proofs::NumberLemmas::little_number_part, crate::proofs::NumberLemmas::number_stands))]
 pub fn u64_at(bytes: &[u8], at: usize) -> u64
     requires { at + 8 ≤ length bytes.now }

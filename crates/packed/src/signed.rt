@@ -5,7 +5,7 @@ ghost use Rattle.packed.specs.Packed.{IsPackedSigned, short_signed};
 use crate::unsigned::{in_four_bytes, in_one_byte, in_two_bytes, read_unsigned};
 use std::alloc::AllocError;
 
-/// What the highest bit of the form of so many bytes is worth.
+/// The value of the highest bit in the form of `count` bytes.
 fn sign_bit(count: usize) -> i32
     ensures { result ≡ pos (2 ^ (bits_of count - 1)) }
 {
@@ -16,7 +16,7 @@ fn sign_bit(count: usize) -> i32
     }
 }
 
-/// The packed signed number at the front.
+/// Decodes the packed signed number at the start of the bytes.
 #[tactic(auto, unfolding(crate::specs::Front::signed_at))]
 fn signed(bytes: &[u8]) -> Option<(i32, usize)>
     ensures { result ≡ signed_at bytes.now }
@@ -29,10 +29,10 @@ fn signed(bytes: &[u8]) -> Option<(i32, usize)>
     Some((half - sign_bit(count), count))
 }
 
-/// Reads the packed signed number at the front (II.23.2): the number, from -2^28 to 2^28 - 1, and how
-/// many bytes spell it, which may be more than the shortest form has.
+/// Decodes the packed signed number at the start of the bytes (II.23.2). Returns the number, from
+/// -2^28 to 2^28 - 1, and the number of bytes read. The encoding need not be the shortest one.
 ///
-/// `None` where no packed number stands there.
+/// Returns `None` if the bytes do not begin with a packed number.
 pub fn read_signed(bytes: &[u8]) -> Option<(i32, usize)>
     ensures found { IfSome result (λ read. (read.1 ≤ length bytes.now) × IsPackedSigned read.0 (take read.1 bytes.now)) }
     ensures only { (z : ℤ) (front rest : List ℕ) → bytes.now ≡ front ++ rest → IsPackedSigned z front
@@ -42,7 +42,7 @@ pub fn read_signed(bytes: &[u8]) -> Option<(i32, usize)>
     signed(bytes)
 }
 
-/// The bits of a number in two's complement, rotated left by one, the highest of them worth `sign_bit`.
+/// The bits of a number in two's complement, rotated left by one. `sign_bit` is the value of the highest bit.
 fn rotated_bits(number: i32, sign_bit: i32) -> u32
     requires some { pos 0 <ℤ sign_bit }
     requires few { sign_bit ≤ℤ pos (2 ^ 28) }
@@ -57,12 +57,12 @@ fn rotated_bits(number: i32, sign_bit: i32) -> u32
     2 * (number + sign_bit) as u32 + 1
 }
 
-/// Appends the shortest form of a number (II.23.2): 7 bits from -64 to 63, 14 bits from -8192 to 8191,
-/// else 29 bits.
+/// Appends the shortest encoding of a number (II.23.2): 7 bits from -64 to 63, 14 bits from -8192
+/// to 8191, else 29 bits.
 ///
 /// # Errors
 ///
-/// Want of memory alone; the bytes stay as they were.
+/// Out of memory only. The bytes are then unchanged.
 pub fn put_signed(bytes: &mut Vec<u8>, number: i32) -> Result<(), AllocError>
     requires low { neg_ℤ (pos (2 ^ 28)) ≤ℤ number }
     requires high { number <ℤ pos (2 ^ 28) }

@@ -4,7 +4,7 @@ ghost use Rattle.packed.specs.Packed.{IsPacked, one_byte, two_bytes, four_bytes,
 
 use std::alloc::AllocError;
 
-/// The first byte, and those behind it.
+/// The first byte, and the bytes after it.
 fn first(bytes: &[u8]) -> Option<(u32, &[u8])>
     ensures cases { MatchOption result (bytes.now ≡ []) (λ split. bytes.now ≡ split.0 ∷ split.1.now) }
     ensures byte { IfSome result (λ split. split.0 < 2 ^ 8) }
@@ -13,7 +13,7 @@ fn first(bytes: &[u8]) -> Option<(u32, &[u8])>
     Some((u32::from(*byte), rest))
 }
 
-/// The packed unsigned number at the front.
+/// Decodes the packed unsigned number at the start of the bytes.
 #[tactic(auto, unfolding(crate::specs::Front::unsigned_at))]
 fn unsigned(bytes: &[u8]) -> Option<(u32, usize)>
     ensures { result ≡ unsigned_at bytes.now }
@@ -36,10 +36,10 @@ fn unsigned(bytes: &[u8]) -> Option<(u32, usize)>
     None
 }
 
-/// Reads the packed unsigned number at the front (II.23.2): the number, below 2^29, and how many
-/// bytes spell it, which may be more than the shortest form has.
+/// Decodes the packed unsigned number at the start of the bytes (II.23.2). Returns the number, below
+/// 2^29, and the number of bytes read. The encoding need not be the shortest one.
 ///
-/// `None` where the bytes end within the number, and where the first byte is 0xE0 or more.
+/// Returns `None` if the bytes end within the number, or if the first byte is 0xE0 or more.
 pub fn read_unsigned(bytes: &[u8]) -> Option<(u32, usize)>
     ensures found { IfSome result (λ read. (read.1 ≤ length bytes.now) × IsPacked read.0 (take read.1 bytes.now)) }
     ensures only { (n : ℕ) (front rest : List ℕ) → bytes.now ≡ front ++ rest → IsPacked n front
@@ -49,7 +49,7 @@ pub fn read_unsigned(bytes: &[u8]) -> Option<(u32, usize)>
     unsigned(bytes)
 }
 
-/// How many bytes the shortest form of a number has: 1, 2 or 4.
+/// The number of bytes of the shortest encoding of a number: 1, 2 or 4.
 pub fn unsigned_len(number: u32) -> usize
     requires { number < 2 ^ 29 }
     ensures { result ≡ length (short_unsigned number) }
@@ -61,7 +61,7 @@ pub fn unsigned_len(number: u32) -> usize
     }
 }
 
-/// The form of one byte.
+/// The one-byte form of a number.
 pub(crate) fn in_one_byte(number: u32) -> [u8; 1]
     requires { number < 2 ^ 7 }
     ensures { result ≡ one_byte number }
@@ -69,7 +69,7 @@ pub(crate) fn in_one_byte(number: u32) -> [u8; 1]
     [number as u8]
 }
 
-/// The form of two bytes.
+/// The two-byte form of a number.
 pub(crate) fn in_two_bytes(number: u32) -> [u8; 2]
     requires { number < 2 ^ 14 }
     ensures { result ≡ two_bytes number }
@@ -77,7 +77,7 @@ pub(crate) fn in_two_bytes(number: u32) -> [u8; 2]
     [(0x80 + number / 0x100) as u8, (number % 0x100) as u8]
 }
 
-/// The form of four bytes.
+/// The four-byte form of a number.
 pub(crate) fn in_four_bytes(number: u32) -> [u8; 4]
     requires { number < 2 ^ 29 }
     ensures { result ≡ four_bytes number }
@@ -90,11 +90,11 @@ pub(crate) fn in_four_bytes(number: u32) -> [u8; 4]
     ]
 }
 
-/// Appends the shortest form of a number (II.23.2).
+/// Appends the shortest encoding of a number (II.23.2).
 ///
 /// # Errors
 ///
-/// Want of memory alone; the bytes stay as they were.
+/// Out of memory only. The bytes are then unchanged.
 pub fn put_unsigned(bytes: &mut Vec<u8>, number: u32) -> Result<(), AllocError>
     requires { number < 2 ^ 29 }
     ensures ok { OnOk result (bytes.new.items ≡ bytes.old.items ++ short_unsigned number) }
