@@ -1,4 +1,4 @@
--- A header at a place.
+-- A stream header at an offset.
 use Rattle.std.proofs.Common.{◌≡◌, ℕ, suc, ◌+◌, ◌-◌, ◌*◌, ◌/◌, ◌<◌, ◌≤◌, List, ◌∷◌, ◌++◌, length, take, drop, refl, sym, ap, ◌∙◌, arith, length-append, length-drop}
 use Rattle.std.proofs.Common.{Result, Ok, Err, Some, None, subst}
 use Rattle.std.specs.Result.{result_ok, MatchResult}
@@ -12,15 +12,15 @@ use Rattle.root.specs.Shown.{ShowsHeader}
 use Rattle.root.specs.Demands.{HasHeader}
 use Rattle.root.proofs.NulLemmas.{nul_place, nul_split, before_nul-text, before_nul-no_nul, length-before_nul}
 
--- so many bytes that are filled up
+-- the length of bytes with their padding
 filled_length : (count fill : ℕ) → IsFilled count fill → count + fill ≡ (count + 3) / 4 * 4
 filled_length count fill h = let a = h.fewer in let b = h.multiple in omega arith
 
--- a part of bytes that are written out
+-- a part of bytes that are given as a concatenation
 pub part_at : (whole before middle after : List ℕ) (place count : ℕ) → whole ≡ before ++ (middle ++ after) → length before ≡ place → length middle ≡ count → part whole place count ≡ middle
 part_at whole before middle after place count e p c = rw (e, drop_at before (middle ++ after) place p) (take_at middle after count c)
 
--- the header that stands at a place is the one that the fields there tell
+-- the header at an offset is the one that the fields there encode
 pub record Tells (root : List ℕ) (place : ℕ) (header : Header) (bytes rest : List ℕ) : Type 0 where
   pub is : header_at root place ≡ record header { place = place }
   pub long : length bytes ≡ header_length header
@@ -55,7 +55,7 @@ header_tells root place header bytes rest whole h =
       };
     }
 
--- where the test sees a header, one stands
+-- if the tests on the bytes accept a header, there is one
 pub header_stands : (root : List ℕ) (place : ℕ) → ShowsHeader root place → IsHeader (part root place (header_length (header_at root place))) (header_at root place)
 header_stands root place h =
     let field = drop (place + 8) root in
@@ -91,7 +91,7 @@ header_stands root place h =
       filled = record { fewer = omega arith; multiple = omega arith };
     }
 
--- the test sees a header exactly where one stands
+-- the tests on the bytes accept a header if there is one
 pub shows_from_has : (root : List ℕ) (place : ℕ) → HasHeader root place → ShowsHeader root place
 shows_from_has root place h = (header_tells root place h.header h.bytes h.rest h.whole h.is).shows
 
@@ -104,7 +104,7 @@ has_from_shows root place h = record {
   is = header_stands root place h;
 }
 
--- what a `Result` was, by its `ok()`
+-- an error, if `ok()` of the result is `None`
 pub err_from_none : {X E : Type 0} (r : Result X E) (P : X → Type 0) (Q : E → Type 0) → None ≡ result_ok r → MatchResult r P Q → (e : E) × Q e
 err_from_none (Ok x) P Q h m = cc
 err_from_none (Err e) P Q h m = (e, m)
@@ -113,7 +113,7 @@ pub ok_from_some : {X E : Type 0} (r : Result X E) (x : X) (P : X → Type 0) (Q
 ok_from_some (Ok y) x P Q h m = let same : y ≡ x = cc in subst P same m
 ok_from_some (Err e) x P Q h m = cc
 
--- the same of the bytes behind the two numbers, wherever they lie
+-- the same for the bytes after the two numbers, at any address
 pub record ShowsIn (size place : ℕ) (field : List ℕ) : Type 0 where
   pub ends : place + 8 + (nul_place field + 4) / 4 * 4 ≤ size
   pub nul : nul_place field < length field

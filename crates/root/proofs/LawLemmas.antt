@@ -1,4 +1,4 @@
--- A root, its demands and its directory.
+-- A root, its rules and its stream headers.
 use Rattle.std.proofs.Common.{◌≡◌, ℕ, ◌+◌, ◌≤◌, ◌^◌, List, length, Option, Some, None, refl, ap, ◌∙◌, arith}
 use Rattle.std.specs.Option.{IfSome, option_map}
 use Rattle.packed.specs.Demand.{AllHold, demands_from}
@@ -22,7 +22,7 @@ directory_said root version headers small is =
 pub root_found : (root : List ℕ) → AllHold (demands_of_root root) → (length root ≤ 2 ^ 30) × IsRoot root (root_read root).version (root_read root).headers
 root_found root all = (all.0, root_from_demands root all)
 
--- the place of a header that ends within so many bytes
+-- the span of the stream of a header that ends within `limit` bytes
 place_ends : (limit : ℕ) (found : Option Header) → ((header : Header) → found ≡ Some header → header.offset + header.size ≤ limit)
     → IfSome {T = ℕ × ℕ} (option_map (λ header. (header.offset, header.offset + header.size)) found) (λ place. (place.0 ≤ place.1) × (place.1 ≤ limit))
 place_ends limit None ends = tt

@@ -1,4 +1,4 @@
--- A root meets all demands exactly where the relation holds.
+-- All rules hold if and only if the relation `IsRoot` holds.
 use Rattle.std.proofs.Common.{◌≡◌, ℕ, zero, suc, add-one, ◌+◌, ◌%◌, ◌≤◌, ◌<◌, ◌^◌, List, [], ◌∷◌, ◌++◌, length, drop, refl, sym, ap, ◌∙◌, subst, arith, append_assoc, length-append, length-drop}
 use Rattle.std.proofs.lemmas.List.{append-nil, drop_at, drop-drop, take-append-drop, length-take-le}
 use Rattle.packed.specs.Number.{little_endian}
@@ -27,7 +27,7 @@ use Rattle.root.proofs.NulLemmas.{before_nul-text}
 use Rattle.root.proofs.HeaderLemmas.{part_at, header_tells, header_stands}
 use Rattle.root.proofs.WalkLemmas.{shows_from_all}
 
--- a part and what is behind it
+-- a part and the bytes after it
 pub part_split : (bytes : List ℕ) (place count next : ℕ) → place + count ≡ next → drop place bytes ≡ part bytes place count ++ drop next bytes
 part_split bytes place count next e =
     sym (take-append-drop count (drop place bytes)) ∙ ap (λ (t : List ℕ). part bytes place count ++ t) (drop-drop count place bytes ∙ ap (λ (n : ℕ). drop n bytes) e)
@@ -42,7 +42,7 @@ joined a b c d e f g h r r1 r2 r3 r4 r5 r6 p0 p1 p2 p3 p4 p5 p6 =
     p0 ∙ ap (λ (t : List ℕ). a ++ t) (p1 ∙ ap (λ (t : List ℕ). b ++ t) (p2 ∙ ap (λ (t : List ℕ). c ++ t) (p3 ∙ ap (λ (t : List ℕ). d ++ t) (p4 ∙ ap (λ (t : List ℕ). e ++ t) (p5 ∙ ap (λ (t : List ℕ). f ++ t) p6)))))
     ∙ simp append_assoc
 
--- one more header behind others
+-- one more header after others
 are_push : (place : ℕ) (bytes : List ℕ) (headers : List Header) (front : List ℕ) (header : Header)
     → AreHeaders place bytes headers → header.place ≡ place + length bytes → IsHeader front header → AreHeaders place (bytes ++ front) (headers ++ header ∷ [])
 are_push place bytes [] front header none at is =
@@ -67,7 +67,7 @@ meet_push size earlier (h ∷ headers) header all within new compressed =
     let P : List Header → Type 0 = λ hs. IsNew hs header in
     (all.0, all.1, all.2, meet_push size (earlier ++ h ∷ []) headers header all.3 within (subst P (sym (append_assoc earlier (h ∷ []) headers)) new) compressed)
 
--- the bytes of so many headers
+-- the bytes of the first `count` headers
 directory_bytes : List ℕ → ℕ → List ℕ
 directory_bytes root zero = []
 directory_bytes root (suc count) = directory_bytes root count ++ part root (header_place root count) (header_length (header_at root (header_place root count)))
@@ -142,7 +142,7 @@ root_of_version root version begins room headers_hold tables =
       tables = tables;
     }
 
--- what meets all demands is a root
+-- bytes that satisfy all rules are a root
 pub root_from_demands : (root : List ℕ) → AllHold (demands_of_root root) → IsRoot root (version_of root) (headers_before root (header_count root))
 root_from_demands root all =
     let front = all_front (demands_of_front root) _ all in
@@ -152,7 +152,7 @@ root_from_demands root all =
     let P : List ℕ → Type 0 = λ v. IsRoot root v (headers_before root (header_count root)) in
     subst P is (root_of_version root version front.1.0 front.1.1.1.0 (all_front (demands_from (demands_of_header root) 0 (header_count root)) (demands_of_tables root) behind) (all_back (demands_from (demands_of_header root) 0 (header_count root)) (demands_of_tables root) behind).0)
 
--- headers that are written one behind the other are those that are found there
+-- headers that are written one after another are those that are read there
 record Walks (root : List ℕ) (k : ℕ) (headers : List Header) : Type 0 where
   hold : HoldBefore (demands_of_header root) 0 (k + length headers)
   are : headers_before root (k + length headers) ≡ headers_before root k ++ headers
@@ -187,7 +187,7 @@ walks root k (header ∷ headers) bytes rest whole are meet hold =
       are = ap (headers_before root) (sym e) ∙ more.are ∙ ap (λ (hs : List Header). hs ++ headers) before_next ∙ append_assoc (headers_before root k) (header ∷ []) headers;
     }
 
--- where the fields of a root stand
+-- the parts of a root and its fields
 record Fields (root signature_bytes length_bytes field count_bytes directory rest : List ℕ) : Type 0 where
   first : part root 0 4 ≡ signature_bytes
   lengths : part root 12 4 ≡ length_bytes
@@ -207,7 +207,7 @@ fields_stand root a b c field e f g h whole la lb lc le lf = record {
   room = rw whole (simp length-append (omega arith));
 }
 
--- a root meets all demands, and is of one version and one list of headers
+-- a root satisfies all rules, and its version and headers are those of the relation
 pub record Meets (root version : List ℕ) (headers : List Header) : Type 0 where
   pub all : AllHold (demands_of_root root)
   pub version_is : version_of root ≡ version
@@ -250,7 +250,7 @@ pub within_from_all : (root : List ℕ) (count all_count : ℕ) → count ≡ al
     → (i : ℕ) → i < count → EndsWithin (length root) (header_at root (header_place root i))
 within_from_all root count all_count e all i lt = let before = before_of_all (demands_of_header root) all_count all in (before.each i (omega arith) (omega arith)).1.0
 
--- what is left of the headers
+-- the headers that are left
 pub rest_none : (root : List ℕ) (next count : ℕ) → next ≡ count → drop next (headers_before root count) ≡ []
 rest_none root next count e = drop_all next (headers_before root count) (omega (arith, length-headers_before root count))
 
@@ -269,7 +269,7 @@ rest_more root next count place header lt p e =
     drop_more (headers_before root count) next header (omega (arith, length-headers_before root count))
     ∙ ap (λ (h : Header). h ∷ drop (next + 1) (headers_before root count)) (header_among root count next header lt ∙ sym (e ∙ ap (header_at root) p))
 
--- what a search finds is an element that passes
+-- an element that a search returns passes the test, and the property of all elements
 find_among : {X : Type 0} (P : X → Type 0) (test : X → Bool) (xs : List X) (y : X) → ((i : ℕ) (d : X) → i < length xs → P (get_or xs i d)) → find test xs ≡ Some y → P y × (test y ≡ true)
 find_among P test [] y each e = cc
 find_among P test (x ∷ xs) y each e = go (test x) refl (find_among P test xs y (λ i d lt. each (suc i) d (omega arith))) e where
@@ -287,7 +287,7 @@ found_within root count kind header within e =
     (λ i d lt. subst P (sym (header_among root count i d (omega (arith, length-headers_before root count)))) (within i (omega (arith, length-headers_before root count)))) e in
     found.0 kind ((bytes_eq-Decides header.name (stream_name kind)).0 found.1)
 
--- what a result that answers the demands says of the relation
+-- what the relation says of a result that reports the rules
 pub answers_found : (root : List ℕ) (r : Result RootRead Fault) → Answers (demands_of_root root) r → IfOk r (λ d. d ≡ root_read root)
     → IfOk r (λ d. (length root ≤ 2 ^ 30) × (d.bytes ≡ root) × IsRoot root d.version d.headers)
 answers_found root (Ok d) all is =

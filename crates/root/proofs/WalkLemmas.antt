@@ -1,4 +1,4 @@
--- Headers one behind the other.
+-- Headers one after another.
 use Rattle.std.proofs.Common.{◌≡◌, ℕ, zero, suc, ◌+◌, ◌<◌, ◌≤◌, Bool, true, false, cond, List, [], ◌∷◌, ◌++◌, Some, None, inl, inr, refl, sym, ap, ◌∙◌, arith, add-one, append_assoc}
 use Rattle.std.proofs.lemmas.List.{append-nil}
 use Rattle.std.proofs.lemmas.Bool.{cases_lt}
@@ -39,7 +39,7 @@ place_more root i place header p e = rw (e, p, add-one i) refl
 pub headers_before_more : (root : List ℕ) (i : ℕ) → headers_before root (i + 1) ≡ headers_before root i ++ header_at root (header_place root i) ∷ []
 headers_before_more root i = rw (add-one i) refl
 
--- more headers begin with fewer
+-- the first i headers are a prefix of any longer list of headers
 pub headers_before_front : (root : List ℕ) (i count : ℕ) → i ≤ count → (rest : List Header) × (headers_before root count ≡ headers_before root i ++ rest)
 headers_before_front root i zero h = let e : i ≡ 0 = omega arith in ([], rw e refl)
 headers_before_front root i (suc count) h = elim (cases_lt count i) [
@@ -49,7 +49,7 @@ headers_before_front root i (suc count) h = elim (cases_lt count i) [
       (before.0 ++ header_at root (header_place root count) ∷ [], ap (λ (hs : List Header). hs ++ header_at root (header_place root count) ∷ []) before.1 ∙ append_assoc (headers_before root i) before.0 (header_at root (header_place root count) ∷ []))
 ]
 
--- no header of a name among so many, nor is the next one
+-- if none of i headers has a name, nor has the next one, then none of i + 1 has it
 pub named_more : (root name : List ℕ) (i place : ℕ) (header : Header) → place ≡ header_place root i → header ≡ header_at root place → bytes_eq header.name name ≡ false
     → named name (headers_before root i) ≡ None → named name (headers_before root (i + 1)) ≡ None
 named_more root name i place header p e differs none =
@@ -58,7 +58,7 @@ named_more root name i place header p e differs none =
     let back = find_back test (headers_before root i) (header_at root (header_place root i) ∷ []) none in
     ap (find test) (headers_before_more root i) ∙ back ∙ missing_alone test _ header is differs
 
--- the next one is, and so the first among any more
+-- if the next one has the name, it is the first with it among any number of headers
 pub named_here : (root name : List ℕ) (i count place : ℕ) (header : Header) → i < count → place ≡ header_place root i → header ≡ header_at root place → bytes_eq header.name name ≡ true
     → named name (headers_before root i) ≡ None → Some header ≡ named name (headers_before root count)
 named_here root name i count place header lt p e same none =
@@ -69,7 +69,7 @@ named_here root name i count place header lt p e same none =
     let all = headers_before_front root (i + 1) count (omega arith) in
     sym (ap (named name) all.1 ∙ find_front test (headers_before root (i + 1)) all.0 header here)
 
--- a header stands at each place before the count, where the demands of so many headers hold
+-- if the rules for the first `count` headers hold, each of these headers is valid
 pub shows_from_before : (root : List ℕ) (count : ℕ) → HoldBefore (demands_of_header root) 0 count → AllShow root count
 shows_from_before root count before i lt = shows_from_has root (header_place root i) (before.each i (omega arith) lt).0
 

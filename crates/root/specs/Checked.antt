@@ -1,4 +1,4 @@
--- What a root that was read is, by its fields.
+-- What the fields of a `Root` mean, and their invariant.
 use Rattle.std.specs.Prelude.{◌≡◌, ℕ, ◌≤◌, ◌<◌, length}
 use Rattle.packed.specs.Limit.{byte_limit}
 use Rattle.root.specs.declared.root.Root.TheInside.{Inside}
@@ -10,7 +10,7 @@ use Rattle.root.specs.Streams.{RootRead}
 abbrev pub root_of : Inside → RootRead
 root_of root = record { bytes = root.bytes.now; version = root.version.now; headers = headers_before root.bytes.now root.count }
 
--- its headers stand, and each stream of the standard ends within it
+-- the headers are valid, and each stream of the standard ends within the root (ECMA-335 II.24.2.2)
 pub record IsChecked (root : Inside) : Type 0 where
   pub small : length root.bytes.now ≤ byte_limit
   pub start : root.start ≡ header_place root.bytes.now 0

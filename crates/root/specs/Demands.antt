@@ -1,5 +1,5 @@
--- What is demanded of a root, in order (ECMA-335 II.24.2.1 and II.24.2.2). A demand is posed only where all before it
--- hold. Each has a number, and a place at which it fails.
+-- The rules for a metadata root, in order (ECMA-335 II.24.2.1 and II.24.2.2). A rule applies only if all rules
+-- before it hold. Each rule has a code, and the offset that is reported if it is broken.
 use Rattle.std.specs.Prelude.{◌≡◌, ℕ, ◌+◌, ◌%◌, ◌≤◌, List, [], ◌∷◌, ◌++◌, length, drop, IsSome}
 use Rattle.packed.specs.declared.code.FaultCode.TheVariants.{TooLong, RootSignature, Version, StreamCount, StreamHeader, StreamRange, DuplicateStream, Uncompressed, NoTables}
 use Rattle.packed.specs.declared.fault.Fault.{Fault}
@@ -11,11 +11,11 @@ use Rattle.root.specs.Fields.{version_length, header_count, header_place, header
 use Rattle.root.specs.Root.{signature, IsVersion, IsHeader, EndsWithin, IsNew, IsCompressed}
 use Rattle.root.specs.Streams.{Header, named, stream_name}
 
--- there is room for the fields up to Length, and the signature stands first
+-- there is room for the fields up to Length, and the signature comes first
 abbrev pub HasSignature : List ℕ → Type 0
 HasSignature root = (16 ≤ length root) × (part root 0 4 ≡ signature)
 
--- Length is a multiple of four, and that many bytes are a version, a NUL and any bytes
+-- Length is a multiple of four, and the Length bytes after it are a version, a NUL and any bytes (II.24.2.1)
 pub record HasVersion (root : List ℕ) : Type 0 where
   pub version : List ℕ
   pub padding : List ℕ
@@ -24,7 +24,7 @@ pub record HasVersion (root : List ℕ) : Type 0 where
   pub whole : part root 16 (version_length root) ≡ version ++ 0 ∷ padding
   pub is : IsVersion version
 
--- some stream header stands at a place
+-- there is a stream header at an offset (II.24.2.2)
 pub record HasHeader (root : List ℕ) (place : ℕ) : Type 0 where
   pub header : Header
   pub bytes : List ℕ
@@ -32,7 +32,7 @@ pub record HasHeader (root : List ℕ) (place : ℕ) : Type 0 where
   pub whole : drop place root ≡ bytes ++ rest
   pub is : IsHeader bytes header
 
--- of the fields before the stream headers
+-- the rules for the fields before the stream headers (II.24.2.1)
 abbrev pub demands_of_front : List ℕ → List (Demand Fault)
 demands_of_front root =
     demand (length root ≤ byte_limit) TooLong 0
@@ -41,7 +41,7 @@ demands_of_front root =
     ∷ demand (20 + version_length root ≤ length root) StreamCount (16 + version_length root)
     ∷ []
 
--- of the stream header of a number, counted from 0
+-- the rules for stream header i, counted from 0 (II.24.2.2)
 abbrev pub demands_of_header : List ℕ → ℕ → List (Demand Fault)
 demands_of_header root i =
     demand (HasHeader root (header_place root i)) StreamHeader (header_place root i)
@@ -50,11 +50,11 @@ demands_of_header root i =
     ∷ demand (IsCompressed (header_number root i)) Uncompressed (header_place root i)
     ∷ []
 
--- of the tables, which one of the headers has to name
+-- one of the stream headers must name the tables, `#~` (II.24.2.2)
 abbrev pub demands_of_tables : List ℕ → List (Demand Fault)
 demands_of_tables root =
     demand (IsSome (named (stream_name Tables) (headers_before root (header_count root)))) NoTables (18 + version_length root) ∷ []
 
--- of the whole root: its front, header by header, and the tables
+-- the rules for the whole root: its first fields, each stream header, and the tables
 abbrev pub demands_of_root : List ℕ → List (Demand Fault)
 demands_of_root root = demands_of_front root ++ (demands_from (demands_of_header root) 0 (header_count root) ++ demands_of_tables root)

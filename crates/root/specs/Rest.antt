@@ -1,4 +1,4 @@
--- What is left of the stream headers, by the fields of the iterator.
+-- The stream headers that an iterator has left, and its invariant.
 use Rattle.std.specs.Prelude.{◌≡◌, ◌≤◌, List, length, drop}
 use Rattle.packed.specs.Limit.{byte_limit}
 use Rattle.root.specs.declared.headers.Headers.TheInside.{Inside}
@@ -10,7 +10,7 @@ use Rattle.root.specs.Streams.{Header}
 abbrev pub rest_of : Inside → List Header
 rest_of headers = drop headers.next (headers_before headers.bytes.now headers.count)
 
--- the next header begins at the place that the iterator has come to
+-- the iterator's offset is that of the next header
 pub record IsOnTheWay (headers : Inside) : Type 0 where
   pub small : length headers.bytes.now ≤ byte_limit
   pub place : headers.place ≡ header_place headers.bytes.now headers.next

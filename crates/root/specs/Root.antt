@@ -1,5 +1,5 @@
--- The root of metadata and its directory of streams (ECMA-335 II.24.2.1 and II.24.2.2), as a relation
--- between the bytes of a root, its version and its stream headers.
+-- The metadata root and its stream headers (ECMA-335 II.24.2.1 and II.24.2.2): the relation between
+-- the bytes of a root, its version and its list of stream headers.
 use Rattle.std.specs.Prelude.{◌≡◌, ◌≢◌, ℕ, ◌+◌, ◌%◌, ◌<◌, ◌≤◌, List, [], ◌∷◌, ◌++◌, length, codes, None, IsSome}
 use Rattle.std.specs.List.{All}
 use Rattle.std.specs.Str.{IsAscii, IsUtf8}
@@ -8,28 +8,28 @@ use Rattle.root.specs.declared.kind.Kind.{Kind}
 use Rattle.root.specs.declared.kind.Kind.TheVariants.{Tables}
 use Rattle.root.specs.Streams.{Header, named, stream_name}
 
--- `BSJB`
+-- the signature `BSJB` (II.24.2.1)
 abbrev pub signature : List ℕ
 signature = 0x42 ∷ 0x53 ∷ 0x4A ∷ 0x42 ∷ []
 
--- a version is UTF-8 of at most 254 bytes, and no NUL
+-- a version is UTF-8, has at most 254 bytes, and contains no NUL (II.24.2.1)
 pub record IsVersion (version : List ℕ) : Type 0 where
   pub short : length version ≤ 254
   pub text : IsUtf8 version
   pub no_nul : All (λ byte. byte ≢ 0) version
 
--- a stream's name is at most 32 characters of ASCII, and no NUL
+-- a stream's name is ASCII, has at most 32 characters, and contains no NUL (II.24.2.2)
 pub record IsStreamName (name : List ℕ) : Type 0 where
   pub short : length name ≤ 32
   pub ascii : IsAscii name
   pub no_nul : All (λ byte. byte ≢ 0) name
 
--- so many bytes are filled up to a multiple of four by fewer than four
+-- `fill` bytes, at most three, pad `count` bytes to a multiple of four
 pub record IsFilled (count fill : ℕ) : Type 0 where
   pub fewer : fill < 4
   pub multiple : (count + fill) % 4 ≡ 0
 
--- the bytes of a stream header: four of its offset, four of its size, and its name, ended by NUL and filled
+-- the bytes encode a stream header: offset, size, and the name with its NUL and padding (II.24.2.2)
 pub record IsHeader (bytes : List ℕ) (header : Header) : Type 0 where
   pub offset_bytes : List ℕ
   pub size_bytes : List ℕ
@@ -40,34 +40,34 @@ pub record IsHeader (bytes : List ℕ) (header : Header) : Type 0 where
   pub name : IsStreamName header.name
   pub filled : IsFilled (length header.name + 1) (length fill)
 
--- the bytes are these headers, one after another, the first of them at a place
+-- the bytes are these headers, one after another, the first at offset `place` of the root
 abbrev pub AreHeaders : ℕ → List ℕ → List Header → Type 0
 AreHeaders place bytes [] = bytes ≡ []
 AreHeaders place bytes (header ∷ headers) =
     (front : List ℕ) × (rest : List ℕ) × (bytes ≡ front ++ rest) × (header.place ≡ place) × IsHeader front header
     × AreHeaders (place + length front) rest headers
 
--- a stream of the standard ends within the root
+-- if the standard names the stream, it ends within the root of `size` bytes (II.24.2.2)
 abbrev pub EndsWithin : ℕ → Header → Type 0
 EndsWithin size header = (kind : Kind) → header.name ≡ stream_name kind → header.offset + header.size ≤ size
 
--- no earlier header names the same stream of the standard
+-- no earlier header names the same stream of the standard (II.24.2.2)
 abbrev pub IsNew : List Header → Header → Type 0
 IsNew earlier header = (kind : Kind) → header.name ≡ stream_name kind → named (stream_name kind) earlier ≡ None
 
--- the tables are not of the uncompressed form
+-- the stream is not `#-`, which holds tables in uncompressed form
 abbrev pub IsCompressed : Header → Type 0
 IsCompressed header = header.name ≢ codes "#-"
 
--- what is demanded of each header, by the root's size and the headers before it
+-- each header follows the rules, given the root's size and the headers before it
 abbrev pub AllMeet : ℕ → List Header → List Header → Type 0
 AllMeet size earlier [] = Unit {0}
 AllMeet size earlier (header ∷ headers) =
     EndsWithin size header × IsNew earlier header × IsCompressed header × AllMeet size (earlier ++ header ∷ []) headers
 
--- The bytes are a root of this version with these stream headers: the signature; eight bytes of versions and a
--- reserved field; the length of the next field in four bytes; the version, a NUL and any bytes, a multiple of four;
--- two bytes of flags; the number of streams in two; their headers; and the rest.
+-- The bytes are a root with this version and these stream headers (II.24.2.1): the signature; eight bytes of version
+-- numbers and a reserved field; Length in four bytes; the version, a NUL and any bytes, together a multiple of four;
+-- Flags in two bytes; Streams, the number of headers, in two; the headers; and the remaining bytes of the root.
 pub record IsRoot (root version : List ℕ) (headers : List Header) : Type 0 where
   pub ignored : List ℕ
   pub length_bytes : List ℕ

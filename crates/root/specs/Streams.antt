@@ -7,14 +7,14 @@ use Rattle.packed.specs.Places.{part}
 use Rattle.root.specs.declared.kind.Kind.{Kind}
 use Rattle.root.specs.declared.kind.Kind.TheVariants.{Tables, Strings, UserStrings, Guids, Blobs}
 
--- a stream header: where it stands in the root, where its stream begins there, how long that is, and its name
+-- a stream header: its own offset in the root; its stream's offset in the root, size in bytes, and name (II.24.2.2)
 pub record Header : Type 0 where
   pub place : ℕ
   pub offset : ℕ
   pub size : ℕ
   pub name : List ℕ
 
--- the names of the five streams
+-- the names of the five streams (II.24.2.2)
 abbrev pub stream_name : Kind → List ℕ
 stream_name Tables = codes "#~"
 stream_name Strings = codes "#Strings"
@@ -22,7 +22,7 @@ stream_name UserStrings = codes "#US"
 stream_name Guids = codes "#GUID"
 stream_name Blobs = codes "#Blob"
 
--- the first header of this name
+-- the first header with this name
 abbrev pub named : List ℕ → List Header → Option Header
 named name headers = find (λ header. bytes_eq header.name name) headers
 
@@ -32,10 +32,10 @@ pub record RootRead : Type 0 where
   pub version : List ℕ
   pub headers : List Header
 
--- where the stream of a kind begins and ends
+-- the start and the end of a stream, as offsets in the root
 abbrev pub place_of : RootRead → Kind → Option (ℕ × ℕ)
 place_of root kind = option_map (λ header. (header.offset, header.offset + header.size)) (named (stream_name kind) root.headers)
 
--- the stream of a kind
+-- the bytes of a stream
 abbrev pub stream_of : RootRead → Kind → Option (List ℕ)
 stream_of root kind = option_map (λ header. part root.bytes header.offset header.size) (named (stream_name kind) root.headers)

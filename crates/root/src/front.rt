@@ -8,10 +8,10 @@ use crate::header::nul_in;
 use packed::{BYTE_LIMIT, Fault, FaultCode, u16_at, u32_at};
 use simdutf8::basic;
 
-/// The most bytes of a version.
+/// The largest number of bytes of a version (II.24.2.1).
 const VERSION_LIMIT: usize = 254;
 
-/// The version in its field of so many bytes, where one stands there.
+/// The version in its field of `len` bytes, if the field holds a valid one.
 fn read_version(bytes: &[u8], len: usize) -> Option<&str>
     requires room { 16 ≤ length bytes.now }
     requires len { len ≡ version_length bytes.now }
@@ -32,18 +32,18 @@ fn read_version(bytes: &[u8], len: usize) -> Option<&str>
     Some(version)
 }
 
-/// The fields of a root before its stream headers.
+/// The fields of a root before its stream headers (II.24.2.1).
 #[derive(Clone, Copy)]
 pub struct Front<'a> {
-    /// The version.
+    /// The version, without its NUL and padding.
     pub version: &'a str,
-    /// Where the first stream header begins.
+    /// The offset of the first stream header.
     pub start: usize,
-    /// How many stream headers there are.
+    /// The number of stream headers.
     pub count: usize,
 }
 
-/// Reads the fields of a root before its stream headers.
+/// Reads the fields of a root before its stream headers (II.24.2.1).
 pub fn read_front(bytes: &[u8]) -> Result<Front<'_>, Fault>
     ensures answers { Answers (demands_of_front bytes.now) result }
     ensures version { IfOk result (λ front. front.version.now ≡ version_of bytes.now) }

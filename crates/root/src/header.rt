@@ -6,30 +6,30 @@ ghost use Rattle.root.specs.Views.{view};
 
 use packed::u32_at;
 
-/// A stream header (II.24.2.2), of whatever name.
+/// A stream header (II.24.2.2). Its name can be one that the standard does not define.
 #[derive(Clone, Copy, Debug, PartialEq, Eq)]
 pub struct StreamHeader<'a> {
-    /// Where the header begins, counted from the root's begin.
+    /// The offset of the header, in bytes from the start of the root.
     pub place: usize,
-    /// Where the stream begins, counted from the root's begin.
+    /// The offset of the stream, in bytes from the start of the root.
     pub offset: u32,
-    /// How many bytes the stream has.
+    /// The size of the stream, in bytes.
     pub size: u32,
-    /// The stream's name: ASCII of at most 32 characters, without the NUL that ends it.
+    /// The stream's name: ASCII, at most 32 characters, without the NUL at its end.
     pub name: &'a str,
 }
 
-/// The most characters of a stream's name.
+/// The largest number of characters of a stream's name (II.24.2.2).
 const NAME_LIMIT: usize = 32;
 
-/// Where the first NUL stands.
+/// The index of the first NUL.
 pub fn nul_in(bytes: &[u8]) -> Option<usize>
     ensures { result ≡ position (λ byte. byte == 0) bytes.now }
 {
     bytes.iter().position(|byte| *byte == 0)
 }
 
-/// The header at a place, where one stands there.
+/// The header at an offset, if there is a valid one.
 pub fn read_header(bytes: &[u8], place: usize) -> Option<StreamHeader<'_>>
     requires { length bytes.now ≤ byte_limit }
     ensures found { IfSome result (λ header. HasHeader bytes.now place × (view header ≡ header_at bytes.now place)) }
@@ -60,7 +60,7 @@ pub fn read_header(bytes: &[u8], place: usize) -> Option<StreamHeader<'_>>
 impl StreamHeader<'_> {
     ghost use Rattle.root.specs.Views.{view};
 
-    /// Where the header ends, with its fill.
+    /// The offset of the end of the header, padding included.
     pub(crate) fn end(&self) -> usize
         requires { self.now.place + header_length (view self.now) ≤ byte_limit }
         ensures { result ≡ self.now.place + header_length (view self.now) }

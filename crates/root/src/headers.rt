@@ -9,7 +9,7 @@ ghost use Rattle.root.specs.Views.{view};
 use crate::header::{StreamHeader, read_header};
 use std::marker::Model;
 
-/// The stream headers of a root in their order, those of other names too; made by `Root::headers`.
+/// An iterator over all stream headers of a root, in file order. `Root::headers` creates it.
 #[derive(Drop)]
 pub struct Headers<'a> {
     bytes: &'a [u8],
@@ -32,7 +32,7 @@ impl<'a> Model for Headers<'a> {
 }
 
 impl<'a> Headers<'a> {
-    /// So many headers, the first of which begins at `start`.
+    /// An iterator over `count` headers, the first at offset `start`.
     pub(crate) fn new(bytes: &'a [u8], start: usize, count: usize) -> Headers<'a>
         requires small { length bytes.now ≤ byte_limit }
         requires start { start ≡ header_place bytes.now 0 }

@@ -6,18 +6,18 @@ ghost use Rattle.root.specs.Streams.{stream_name};
 pub enum Kind {
     /// `#~`: the tables (II.24.2.6).
     Tables,
-    /// `#Strings`: texts of names (II.24.2.3).
+    /// `#Strings`: names and other identifiers (II.24.2.3).
     Strings,
-    /// `#US`: the strings of programs (II.24.2.4).
+    /// `#US`: the string literals of programs (II.24.2.4).
     UserStrings,
-    /// `#GUID`: identifiers of 16 bytes (II.24.2.5).
+    /// `#GUID`: GUIDs of 16 bytes (II.24.2.5).
     Guids,
-    /// `#Blob`: signatures and other bytes (II.24.2.4).
+    /// `#Blob`: signatures and other byte sequences (II.24.2.4).
     Blobs,
 }
 
 impl Kind {
-    /// The name that the stream has in its header.
+    /// The name of the stream, as its header writes it.
     pub fn name(self) -> &'static str
         ensures { result.now ≡ stream_name self }
     {
@@ -30,7 +30,7 @@ impl Kind {
         }
     }
 
-    /// The stream of a name, where the standard has one.
+    /// The stream with this name, if the standard defines one.
     pub fn of(name: &str) -> Option<Kind>
         ensures { MatchOption result ((kind : Kind) → name.now ≢ stream_name kind) (λ kind. name.now ≡ stream_name kind) }
     {

@@ -1,9 +1,9 @@
 //! The metadata root and its directory of streams (ECMA-335 II.24.2.1 and II.24.2.2).
 //!
-//! [`read_root`] answers a [`Root`] exactly where the bytes are a metadata root, and else the fault
-//! of the first demand that they do not meet, with the place in these bytes. A root shows its
-//! version, the five streams of the standard and all stream headers, each as a part of the bytes
-//! that were handed in. Nothing here takes memory.
+//! [`read_root`] returns a [`Root`] if and only if the bytes are a metadata root. Otherwise it
+//! returns the fault of the first broken rule, with its offset in these bytes. A `Root` gives access to
+//! the version, the five streams of the standard and all stream headers. All of these borrow the
+//! input. Nothing here allocates.
 //!
 //! ```text
 //! let root = read_root(bytes)?;

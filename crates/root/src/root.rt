@@ -15,7 +15,7 @@ use packed::Fault;
 use std::marker::Model;
 use std::ops::Range;
 
-/// A metadata root, in the bytes that it was read from.
+/// A metadata root. It borrows the bytes that it was read from.
 #[derive(Drop)]
 pub struct Root<'a> {
     bytes: &'a [u8],
@@ -37,21 +37,21 @@ impl<'a> Model for Root<'a> {
 }
 
 impl<'a> Root<'a> {
-    /// The version of the metadata: a text of at most 254 bytes, such as `v4.0.30319`.
+    /// The version of the metadata: at most 254 bytes of UTF-8, such as `v4.0.30319` (II.24.2.1).
     pub fn version(&self) -> &'a str
         ensures { result.now ≡ self.now.version }
     {
         self.version
     }
 
-    /// All stream headers in their order, those of other names than the standard's too.
+    /// All stream headers in file order, including those with names that the standard does not define.
     pub fn headers(&self) -> Headers<'a>
         ensures { result ≡ self.now.headers }
     {
         Headers::new(self.bytes, self.start, self.count)
     }
 
-    /// Where a stream lies, counted from the root's begin; `None` where no header names it.
+    /// The span of a stream, in bytes from the start of the root; `None` if no header names it.
     pub fn stream_place(&self, kind: Kind) -> Option<Range<usize>>
         ensures place { option_map (λ range. (range.start, range.«end»)) result ≡ place_of self.now kind }
         ensures within { IfSome result (λ range. (range.start ≤ range.«end») × (range.«end» ≤ length self.now.bytes)) }
@@ -61,7 +61,7 @@ impl<'a> Root<'a> {
         Some(start..start + header.size as usize)
     }
 
-    /// The bytes of a stream, `None` where no header names it.
+    /// The bytes of a stream; `None` if no header names it.
     pub fn stream(&self, kind: Kind) -> Option<&'a [u8]>
         ensures { option_map (λ bytes. bytes.now) result ≡ stream_of self.now kind }
     {
@@ -72,7 +72,7 @@ impl<'a> Root<'a> {
     }
 }
 
-/// The root that meets all demands, or the fault of the first that is not met.
+/// Checks all rules. Returns the root, or the fault of the first broken rule.
 fn check_root(bytes: &[u8]) -> Result<Root<'_>, Fault>
     ensures answers { Answers (demands_of_root bytes.now) result }
     ensures root { IfOk result (λ root. root ≡ root_read bytes.now) }
@@ -89,26 +89,26 @@ fn check_root(bytes: &[u8]) -> Result<Root<'_>, Fault>
     })
 }
 
-/// Reads the metadata root that these bytes begin with (II.24.2.1).
+/// Reads the metadata root in these bytes (II.24.2.1).
 ///
-/// Every offset counts from the first of them. It takes no memory, and its cost is linear in the
-/// stream headers. What the streams contain is not looked at.
+/// Every offset is relative to their start. The call does not allocate. Its time is linear in the
+/// size of the stream headers. It does not look at the contents of the streams.
 ///
 /// # Errors
 ///
-/// The fault of the first demand on the root's front and its stream headers that fails, with its place.
+/// The fault of the first broken rule for the first fields and the stream headers, with its offset.
 pub fn read_root(bytes: &[u8]) -> Result<Root<'_>, Fault>
-    // What is read is a root of this version with these stream headers.
+    // If it returns a root, the bytes are a root with this version and these stream headers.
     ensures found { IfOk result (λ root. (length bytes.now ≤ byte_limit) × (root.bytes ≡ bytes.now)
         × IsRoot bytes.now root.version root.headers) }
-    // A root is read, with its one version and its one list of stream headers.
+    // If the bytes are a root, it returns this root, with its only version and list of stream headers.
     ensures only { (version : List ℕ) (headers : List Header) → length bytes.now ≤ byte_limit → IsRoot bytes.now version headers
         → IsOkAnd result (λ root. (root.version ≡ version) × (root.headers ≡ headers)) }
-    // What is read meets all demands, and says what stands in the fields.
+    // If it returns a root, all rules hold, and the root has the values of the fields.
     ensures all { IfOk result (λ root. AllHold (demands_of_root bytes.now) × (root ≡ root_read bytes.now)) }
-    // A fault is that of the first demand that fails.
+    // A fault is that of the first broken rule.
     ensures first { IfErr result (FirstToFail (demands_of_root bytes.now)) }
-    // Its place is one of these bytes, or their end.
+    // The fault's offset is within the bytes, or at their end.
     ensures within { IfErr result (λ fault. fault.offset ≤ length bytes.now) }
 {
     check_root(bytes)

@@ -12,7 +12,7 @@ use crate::header::{StreamHeader, read_header};
 use crate::kind::Kind;
 use packed::{Fault, FaultCode};
 
-/// The first of so many headers that names a stream.
+/// The first of `count` headers that names a stream.
 pub fn find_header<'a>(
     bytes: &'a [u8],
     start: usize,
@@ -35,7 +35,7 @@ pub fn find_header<'a>(
     None
 }
 
-/// The header of a number at its place, where it meets what is demanded of it.
+/// The header with this number, at offset `place`, if it follows its rules.
 fn check_header<'a>(
     bytes: &'a [u8],
     start: usize,
@@ -69,7 +69,7 @@ fn check_header<'a>(
     Ok(header)
 }
 
-/// Whether each of the root's headers meets what is demanded of it.
+/// Checks that each stream header of the root follows its rules.
 #[tactic(auto, using(packed::proofs::DemandLemmas::before_none, packed::proofs::DemandLemmas::before_all))]
 pub fn check_headers(bytes: &[u8], start: usize, count: usize) -> Result<(), Fault>
     requires small { length bytes.now ≤ byte_limit }
@@ -87,7 +87,7 @@ pub fn check_headers(bytes: &[u8], start: usize, count: usize) -> Result<(), Fau
     Ok(())
 }
 
-/// Whether one of the root's headers names the tables.
+/// Checks that one of the root's headers names the tables.
 pub fn check_tables(bytes: &[u8], start: usize, count: usize) -> Result<(), Fault>
     requires small { length bytes.now ≤ byte_limit }
     requires start { start ≡ header_place bytes.now 0 }
