@@ -1,4 +1,4 @@
--- A file meets all demands exactly where it is an image.
+-- A file satisfies all rules if and only if it is an image.
 use Rattle.std.proofs.Common.{◌≡◌, ℕ, ◌+◌, ◌-◌, ◌*◌, ◌≤◌, ◌⊎◌, inl, inr, List, ◌∷◌, ◌++◌, length, refl, sym, ap, ◌∙◌, subst, arith}
 use Rattle.std.proofs.Common.{Result, Ok, Err}
 use Rattle.std.specs.List.{flat_map}
@@ -15,12 +15,12 @@ use Rattle.pe.specs.Headers.{lfanew, magic, wider, section_count, optional_heade
 use Rattle.pe.specs.Demands.{demands_of_image}
 use Rattle.pe.proofs.SectionLemmas.{moved, length-sections_from, widths-sections, sections_say, sections_said}
 
--- fields stand where there is room for them and each says what stands in its bytes
+-- fields are at an offset if there is room for them and each has the value of its bytes
 pub record FieldsAreParts : Type 0 where
   pub said : (whole : List ℕ) (place : ℕ) (fields : List Field) → StandAt whole place fields → AllSay whole place fields × (place + widths fields ≤ length whole)
   pub stand : (whole : List ℕ) (place : ℕ) (fields : List Field) → place + widths fields ≤ length whole → AllSay whole place fields → StandAt whole place fields
 
--- what the headers from the PE signature on say
+-- the values of the headers from the PE signature on
 record HeadersSay (file : List ℕ) (e : ℕ) (format : Format) (count left : ℕ) (directory : ℕ × ℕ) (sections : List SectionHeader) : Type 0 where
   signature : part file e 4 ≡ pe_signature
   sections_count : length sections ≡ little_endian (part file (e + 6) 2)
@@ -91,18 +91,18 @@ headers_said file e format count left directory sections h =
       ),
     )
 
--- how many bytes the headers have
+-- there is room for the headers
 headers_room : (file : List ℕ) (e : ℕ) (format : Format) (count left : ℕ) (directory : ℕ × ℕ) (sections : List SectionHeader)
     → e + widths (literal pe_signature ∷ file_header (length sections) (216 + wider_by format + left) ++ optional_header format count directory left ++ flat_map section_header sections)
     ≡ e + 24 + (216 + wider_by format + left) + 40 * length sections
 headers_room file e format count left directory sections = let more = widths-sections sections in omega arith
 
--- Magic tells how much wider an image is
+-- Magic decides how much longer the fields before the data directories are
 wider_is : (file : List ℕ) (format : Format) → magic_of format ≡ magic file → wider file ≡ wider_by format
 wider_is file pe32 e = rw (← e) refl
 wider_is file pe32_plus e = rw (← e) refl
 
--- the image that stands in a file of a form
+-- the image in a file of a format
 stands : (known : FieldsAreParts) (file : List ℕ) (format : Format) → magic_of format ≡ magic file → 216 + wider_by format ≤ optional_header_size file → AllHold (demands_of_image file) → IsImage file (image_of file)
 stands known file format form room all =
     let e : ℕ = lfanew file in
@@ -138,7 +138,7 @@ stands known file format form room all =
       place_is = ap (λ (w : ℕ). e + 232 + w) wide;
     }
 
--- a file that meets all demands is an image
+-- a file that satisfies all rules is an image
 pub image_from_demands : (known : FieldsAreParts) (file : List ℕ) → AllHold (demands_of_image file) → IsImage file (image_of file)
 image_from_demands known file all = elim all.1.1.1.1.1.0 [
   | inl plain ↦ stands known file pe32 (sym plain) all.1.1.1.0.0 all
@@ -154,7 +154,7 @@ same_image a b bytes rva size place sections =
     ∙ ap (λ (p : ℕ). make b.bytes b.cli_directory.0 b.cli_directory.1 p a.sections) place
     ∙ ap (make b.bytes b.cli_directory.0 b.cli_directory.1 b.cli_directory_place) sections
 
--- an image meets all demands, and is what its headers say
+-- an image satisfies all rules and has the values of its headers
 pub record Meets (file : List ℕ) (image : Image) : Type 0 where
   pub all : AllHold (demands_of_image file)
   pub is : image ≡ image_of file
@@ -196,7 +196,7 @@ image_meets known file image h =
           ∙ ap (sections_from file (sections_place file)) sections_long);
     }
 
--- what a result that answers the demands says of the relation
+-- what the relation says of a result that reports the rules
 pub answers_found : (file : List ℕ) (r : Result Image Fault) → Answers (demands_of_image file) r → IfOk r (λ image. image ≡ image_of file)
     → (AllHold (demands_of_image file) → IsImage file (image_of file)) → IfOk r (λ image. IsImage file image)
 answers_found file (Ok image) all is found =

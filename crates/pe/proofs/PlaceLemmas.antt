@@ -1,4 +1,4 @@
--- Where the bytes at an address lie, by the fields of an image that was read.
+-- The file offset of the bytes at an address, by the fields of an image that was read.
 use Rattle.std.proofs.Common.{◌≡◌, ℕ, ◌+◌, ◌-◌, ◌≤◌, sym, ap, ◌∙◌, Some}
 use Rattle.std.specs.List.{find}
 use Rattle.std.specs.Option.{option_map}
@@ -10,7 +10,7 @@ use Rattle.pe.specs.Image.{Image}
 use Rattle.pe.specs.Place.{has_bytes, offset_at}
 use Rattle.pe.proofs.SectionLemmas.{found_before}
 
--- what a section that was found says
+-- the properties of a section that was found
 pub record PlaceFound (image : Image) (rva n : ℕ) (section : SectionHeader) : Type 0 where
   pub before : section.virtual_address ≤ rva
   pub offset : offset_at image rva n ≡ Some (section.pointer_to_raw_data + rva - section.virtual_address)

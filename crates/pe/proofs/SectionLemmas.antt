@@ -1,4 +1,4 @@
--- Section headers, one behind the other.
+-- Section headers, one after another.
 use Rattle.std.proofs.Common.{◌≡◌, ℕ, zero, suc, ◌+◌, ◌-◌, ◌*◌, ◌<◌, ◌≤◌, List, [], ◌∷◌, length, refl, sym, ap, ◌∙◌, subst, arith}
 use Rattle.std.specs.List.{flat_map, find}
 use Rattle.std.proofs.Common.{Bool, true, false, cond, Some, Option}
@@ -11,7 +11,7 @@ use Rattle.pe.specs.Image.{section_header}
 use Rattle.pe.specs.Headers.{section_at, sections_from}
 use Rattle.pe.specs.Place.{has_bytes}
 
--- a number does not depend on how its place is written
+-- equal offsets have equal numbers
 pub moved : (whole : List ℕ) (place other count : ℕ) → place ≡ other → little_endian (part whole place count) ≡ little_endian (part whole other count)
 moved whole place other count e = ap (λ (p : ℕ). little_endian (part whole p count)) e
 
@@ -30,7 +30,7 @@ same_section a b address size pointer =
     ∙ ap (λ (y : ℕ). make b.virtual_address y a.pointer_to_raw_data) size
     ∙ ap (make b.virtual_address b.size_of_raw_data) pointer
 
--- section headers that stand at a place are those that are read there
+-- section headers at an offset are those that are read there
 pub sections_say : (file : List ℕ) (place : ℕ) (sections : List SectionHeader) → AllSay file place (flat_map section_header sections) → sections ≡ sections_from file place (length sections)
 sections_say file place [] says = refl
 sections_say file place (section ∷ sections) says =
@@ -48,7 +48,7 @@ sections_said file place (suc count) =
     let rest : Said (place + 12 + 4 + 4 + 4 + 16) = subst Said (omega arith) (sections_said file (place + 40) count) in
     (tt, (refl, (moved file (place + 16) (place + 12 + 4) 4 (omega arith), (moved file (place + 20) (place + 12 + 4 + 4) 4 (omega arith), (tt, rest)))))
 
--- a search over section headers, one step on
+-- one step of a search over section headers
 sections_more : (file : List ℕ) (place number count : ℕ) → number < count
     → sections_from file (place + 40 * number) (count - number) ≡ section_at file (place + 40 * number) ∷ sections_from file (place + 40 * (number + 1)) (count - (number + 1))
 sections_more file place number count lt =
@@ -71,7 +71,7 @@ search_more file place number count rva n section sought lt is rest fails =
     let at : has_bytes rva n (section_at file (place + 40 * number)) ≡ false = ap (has_bytes rva n) (sym is) ∙ fails in
     rest ∙ here ∙ cond-false _ (Some (section_at file (place + 40 * number))) _ at
 
--- what a search finds passes
+-- the section that a search returns has the bytes
 found_passes : (rva n : ℕ) (sections : List SectionHeader) (section : SectionHeader) → find (has_bytes rva n) sections ≡ Some section → has_bytes rva n section ≡ true
 found_passes rva n [] section e = cc
 found_passes rva n (first ∷ sections) section e = go (has_bytes rva n first) refl (found_passes rva n sections section) e where
@@ -80,7 +80,7 @@ found_passes rva n (first ∷ sections) section e = go (has_bytes rva n first) r
   go true is rest e = let same : first ≡ section = cc in ap (has_bytes rva n) (sym same) ∙ is
   go false is rest e = rest e
 
--- the section that has bytes begins before them
+-- a section that has the bytes begins at or before their address
 pub found_before : (rva n : ℕ) (sections : List SectionHeader) (section : SectionHeader) → find (has_bytes rva n) sections ≡ Some section → section.virtual_address ≤ rva
 found_before rva n sections section e =
     let passes = and_parts _ _ (found_passes rva n sections section e) in

@@ -1,4 +1,4 @@
--- What an image that was read is, by its fields.
+-- What the fields of a `Pe` mean, and their invariant.
 use Rattle.std.specs.Prelude.{◌≡◌, ◌+◌, ◌*◌, ◌≤◌, length}
 use Rattle.packed.specs.Limit.{byte_limit}
 use Rattle.pe.specs.declared.image.Pe.TheInside.{Inside}
@@ -8,7 +8,7 @@ use Rattle.pe.specs.Image.{Image}
 abbrev pub shown_image : Inside → Image
 shown_image pe = image_of pe.bytes.now
 
--- its directory and its section headers stand where it says
+-- the fields have the offsets that the headers give, and the directory and the section headers end within the file
 pub record IsChecked (pe : Inside) : Type 0 where
   pub small : length pe.bytes.now ≤ byte_limit
   pub directory : pe.cli_directory_place ≡ directory_place pe.bytes.now

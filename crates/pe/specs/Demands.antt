@@ -1,5 +1,5 @@
--- What is demanded of an image, in order (ECMA-335 II.25.2 and II.25.3). A demand is posed only where all before it
--- hold. Each has a number, and a place at which it fails.
+-- The rules for an image, in order (ECMA-335 II.25.2 and II.25.3). A rule applies only if all rules before it hold.
+-- Each rule has a code, and the offset that is reported if it is broken.
 use Rattle.std.specs.Prelude.{◌≡◌, ℕ, ◌+◌, ◌*◌, ◌≤◌, ◌⊎◌, List, [], ◌∷◌, ◌++◌, length, codes}
 use Rattle.packed.specs.declared.code.FaultCode.TheVariants.{TooLong, DosHeader, PeSignature, OptionalHeader, Pe32PlusSize, Magic, Directories, Sections}
 use Rattle.packed.specs.declared.fault.Fault.{Fault}
@@ -9,30 +9,30 @@ use Rattle.packed.specs.Places.{part}
 use Rattle.pe.specs.Headers.{lfanew, section_count, optional_header_size, magic, wider, directory_count, sections_place}
 use Rattle.pe.specs.Image.{pe_signature}
 
--- there is room for the MS-DOS header, and `MZ` stands first
+-- there is room for the MS-DOS header, and `MZ` comes first (II.25.2.1)
 abbrev pub HasDosHeader : List ℕ → Type 0
 HasDosHeader file = (64 ≤ length file) × (part file 0 2 ≡ codes "MZ")
 
--- there is room for the PE signature and the PE file header, and the signature stands there
+-- there is room for the PE signature and the PE file header, and the signature is there (II.25.2.2)
 abbrev pub HasPeSignature : List ℕ → Type 0
 HasPeSignature file = (lfanew file + 24 ≤ length file) × (part file (lfanew file) 4 ≡ pe_signature)
 
--- the optional header has room for fifteen data directories, and ends within the file
+-- the optional header has room for fifteen data directories, and ends within the file (II.25.2.3)
 abbrev pub HasOptionalHeader : List ℕ → Type 0
 HasOptionalHeader file = (216 ≤ optional_header_size file) × (lfanew file + 24 + optional_header_size file ≤ length file)
 
--- of the MS-DOS header
+-- the rules for the MS-DOS header (II.25.2.1)
 abbrev pub demands_of_dos_header : List ℕ → List (Demand Fault)
 demands_of_dos_header file =
     demand (length file ≤ byte_limit) TooLong 0
     ∷ demand (HasDosHeader file) DosHeader 0
     ∷ []
 
--- of the PE signature
+-- the rule for the PE signature (II.25.2.1)
 abbrev pub demands_of_signature : List ℕ → List (Demand Fault)
 demands_of_signature file = demand (HasPeSignature file) PeSignature 0x3C ∷ []
 
--- of the optional header
+-- the rules for the optional header (II.25.2.3)
 abbrev pub demands_of_optional_header : List ℕ → List (Demand Fault)
 demands_of_optional_header file =
     demand (HasOptionalHeader file) OptionalHeader (lfanew file + 20)
@@ -41,11 +41,11 @@ demands_of_optional_header file =
     ∷ demand (15 ≤ directory_count file) Directories (lfanew file + 116 + wider file)
     ∷ []
 
--- of the section headers
+-- the rule for the section headers (II.25.3)
 abbrev pub demands_of_sections : List ℕ → List (Demand Fault)
 demands_of_sections file = demand (sections_place file + 40 * section_count file ≤ length file) Sections (lfanew file + 6) ∷ []
 
--- of the whole image, header by header
+-- the rules for the whole image, header by header
 abbrev pub demands_of_image : List ℕ → List (Demand Fault)
 demands_of_image file =
     demands_of_dos_header file ++ (demands_of_signature file ++ (demands_of_optional_header file ++ demands_of_sections file))

@@ -1,43 +1,43 @@
--- What the headers of an image say (ECMA-335 II.25.2 and II.25.3), whether or not the bytes are an image.
+-- The values in the headers of an image (ECMA-335 II.25.2 and II.25.3), whether or not the bytes are an image.
 use Rattle.std.specs.Prelude.{ℕ, zero, suc, ◌+◌, ◌==◌, if◌then◌else◌, List, [], ◌∷◌}
 use Rattle.packed.specs.Number.{little_endian}
 use Rattle.packed.specs.Places.{part}
 use Rattle.pe.specs.declared.section.SectionHeader.{SectionHeader}
 use Rattle.pe.specs.Image.{Image}
 
--- where the PE signature stands
+-- lfanew: the offset of the PE signature (II.25.2.1)
 abbrev pub lfanew : List ℕ → ℕ
 lfanew file = little_endian (part file 0x3C 4)
 
--- Number of Sections
+-- Number of Sections (II.25.2.2)
 abbrev pub section_count : List ℕ → ℕ
 section_count file = little_endian (part file (lfanew file + 6) 2)
 
--- Optional Header Size
+-- Optional Header Size (II.25.2.2)
 abbrev pub optional_header_size : List ℕ → ℕ
 optional_header_size file = little_endian (part file (lfanew file + 20) 2)
 
--- Magic
+-- Magic (II.25.2.3.1)
 abbrev pub magic : List ℕ → ℕ
 magic file = little_endian (part file (lfanew file + 24) 2)
 
--- how many bytes the fields before the data directories have more than in PE32
+-- the number of bytes that PE32+ has more than PE32 before the data directories
 abbrev pub wider : List ℕ → ℕ
 wider file = if magic file == 0x20B then 16 else 0
 
--- Number of Data Directories
+-- Number of Data Directories (II.25.2.3.2)
 abbrev pub directory_count : List ℕ → ℕ
 directory_count file = little_endian (part file (lfanew file + 116 + wider file) 4)
 
--- where the CLI header's RVA and size stand
+-- the offset of the CLI header's data directory: RVA and size (II.25.2.3.3)
 abbrev pub directory_place : List ℕ → ℕ
 directory_place file = lfanew file + 232 + wider file
 
--- where the first section header begins
+-- the offset of the first section header (II.25.3)
 abbrev pub sections_place : List ℕ → ℕ
 sections_place file = lfanew file + 24 + optional_header_size file
 
--- the section header at a place
+-- the section header at an offset (II.25.3)
 abbrev pub section_at : List ℕ → ℕ → SectionHeader
 section_at file place = record {
   virtual_address = little_endian (part file (place + 12) 4);
@@ -45,12 +45,12 @@ section_at file place = record {
   pointer_to_raw_data = little_endian (part file (place + 20) 4);
 }
 
--- so many section headers, the first of them at a place
+-- `count` section headers, the first at offset `place`
 abbrev pub sections_from : List ℕ → ℕ → ℕ → List SectionHeader
 sections_from file place zero = []
 sections_from file place (suc count) = section_at file place ∷ sections_from file (place + 40) count
 
--- the whole
+-- the whole image
 abbrev pub image_of : List ℕ → Image
 image_of file = record {
   bytes = file;

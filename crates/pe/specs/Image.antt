@@ -1,39 +1,39 @@
--- A PE file (ECMA-335 II.25.2 and II.25.3, and for PE32+ Microsoft's PE format), as a relation between the bytes of a
--- file and what its headers say.
+-- A PE file (ECMA-335 II.25.2 and II.25.3; PE32+ by Microsoft's PE format): the relation between the bytes of a
+-- file and the values in its headers.
 use Rattle.std.specs.Prelude.{◌≡◌, ℕ, ◌+◌, ◌≤◌, List, [], ◌∷◌, ◌++◌, length, codes}
 use Rattle.std.specs.List.{flat_map}
 use Rattle.pe.specs.declared.section.SectionHeader.{SectionHeader}
 use Rattle.packed.specs.Limit.{byte_limit}
 use Rattle.packed.specs.Fields.{Field, literal, number, ignored, StandAt}
 
--- what an image shows: its bytes, the RVA and the size of the CLI header, where these two stand, and the section
--- headers in their order
+-- an image: its bytes, the CLI header's RVA and size, the file offset of these two, and the section headers
+-- in file order
 pub record Image : Type 0 where
   pub bytes : List ℕ
   pub cli_directory : ℕ × ℕ
   pub cli_directory_place : ℕ
   pub sections : List SectionHeader
 
--- the two forms of an image
+-- the two formats of an image
 pub data Format : Type 0 where
   pe32 : Format
   pe32_plus : Format
 
--- Magic, by which an optional header tells its form
+-- Magic, which distinguishes the two formats (II.25.2.3.1)
 abbrev pub magic_of : Format → ℕ
 magic_of pe32 = 0x10B
 magic_of pe32_plus = 0x20B
 
--- how many bytes the fields before the data directories have more than in PE32
+-- the number of bytes that the format has more than PE32 before the data directories
 abbrev pub wider_by : Format → ℕ
 wider_by pe32 = 0
 wider_by pe32_plus = 16
 
--- the MS-DOS header (II.25.2.1): `MZ`, and last lfanew, where the PE signature stands
+-- the MS-DOS header (II.25.2.1): `MZ`, 58 other bytes, and lfanew, the offset of the PE signature
 abbrev pub dos_header : ℕ → List Field
 dos_header lfanew = literal (codes "MZ") ∷ ignored 58 ∷ number 4 lfanew ∷ []
 
--- `PE` and two NULs
+-- the PE signature: `PE` and two NULs (II.25.2.1)
 abbrev pub pe_signature : List ℕ
 pe_signature = 0x50 ∷ 0x45 ∷ 0 ∷ 0 ∷ []
 
@@ -43,8 +43,8 @@ abbrev pub file_header : ℕ → ℕ → List Field
 file_header section_count optional_header_size =
     ignored 2 ∷ number 2 section_count ∷ ignored 12 ∷ number 2 optional_header_size ∷ ignored 2 ∷ []
 
--- the optional header (II.25.2.3): Magic; the other fields up to Number of Data Directories, and that; fourteen data
--- directories of eight bytes; the fifteenth, which is the CLI header's; so many bytes more
+-- the optional header (II.25.2.3): Magic; the other fields up to Number of Data Directories; this number; fourteen data
+-- directories of eight bytes; the fifteenth, which is the CLI header's; `left` more bytes
 abbrev pub optional_header : Format → ℕ → ℕ × ℕ → ℕ → List Field
 optional_header format directory_count cli_directory left =
     number 2 (magic_of format)
@@ -66,8 +66,8 @@ section_header section =
     ∷ ignored 16
     ∷ []
 
--- The file, of at most 2^30 bytes, is this image: the MS-DOS header stands first; and where lfanew says, the PE
--- signature, the PE file header, an optional header of at least fifteen data directories, and the section headers.
+-- The file, of at most 2^30 bytes, is this image. The MS-DOS header is at offset 0. At lfanew follow the PE
+-- signature, the PE file header, an optional header with at least fifteen data directories, and the section headers.
 pub record IsImage (file : List ℕ) (image : Image) : Type 0 where
   pub lfanew : ℕ
   pub format : Format

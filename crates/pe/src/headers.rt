@@ -7,25 +7,25 @@ ghost use Rattle.pe.specs.Headers.{lfanew, section_count, sections_place, direct
 use crate::section::SECTION_HEADER_SIZE;
 use packed::{BYTE_LIMIT, Fault, FaultCode, u16_at, u32_at};
 
-/// Where the place of the PE signature stands in the MS-DOS header.
+/// The offset of lfanew in the MS-DOS header.
 const LFANEW: usize = 0x3C;
 
-/// Where the number of sections stands, counted from the PE signature.
+/// The offset of Number of Sections, relative to the PE signature.
 const SECTION_COUNT: usize = 6;
 
-/// Where the size of the optional header stands, counted from the PE signature.
+/// The offset of Optional Header Size, relative to the PE signature.
 const OPTIONAL_HEADER_SIZE: usize = 20;
 
-/// Where the optional header begins, counted from the PE signature.
+/// The offset of the optional header, relative to the PE signature.
 pub const OPTIONAL_HEADER: usize = 24;
 
-/// Where the number of data directories stands in PE32, counted from the PE signature.
+/// The offset of Number of Data Directories in PE32, relative to the PE signature.
 const DIRECTORY_COUNT: usize = 116;
 
-/// Where the CLI header's directory stands in PE32, counted from the PE signature.
+/// The offset of the CLI header's data directory in PE32, relative to the PE signature.
 const CLI_DIRECTORY: usize = 232;
 
-/// How many bytes more PE32+ has before these two.
+/// In PE32+, these two are at offsets that are larger by this number of bytes.
 const PE32_PLUS_WIDER: usize = 16;
 
 /// Magic of PE32.
@@ -34,16 +34,16 @@ const PE32: u16 = 0x10B;
 /// Magic of PE32+.
 const PE32_PLUS: u16 = 0x20B;
 
-/// The fewest bytes of an optional header: as far as the fifteenth data directory in PE32.
+/// The least size of a PE32 optional header in bytes: up to the end of the fifteenth data directory.
 const PE32_SIZE: usize = 216;
 
-/// The same in PE32+.
+/// The least size of a PE32+ optional header in bytes.
 const PE32_PLUS_SIZE: usize = 232;
 
-/// The fewest data directories: the CLI header's is the fifteenth.
+/// The least number of data directories: the CLI header's is the fifteenth.
 const DIRECTORIES: u32 = 15;
 
-/// Reads the MS-DOS header (II.25.2.1): where the PE signature stands.
+/// Reads the MS-DOS header (II.25.2.1). Returns the offset of the PE signature.
 pub fn read_dos_header(bytes: &[u8]) -> Result<usize, Fault>
     ensures answers { Answers (demands_of_dos_header bytes.now) result }
     ensures lfanew { IfOk result (λ place. place ≡ lfanew bytes.now) }
@@ -64,16 +64,16 @@ pub fn read_dos_header(bytes: &[u8]) -> Result<usize, Fault>
     Ok(u32_at(bytes, LFANEW) as usize)
 }
 
-/// The fields of the PE file header by which the headers behind it are found (II.25.2.2).
+/// The fields of the PE file header that are needed to find the headers after it (II.25.2.2).
 #[derive(Clone, Copy)]
 pub struct FileHeader {
-    /// How many section headers there are.
+    /// The number of section headers.
     pub section_count: usize,
-    /// How many bytes the optional header has.
+    /// The size of the optional header, in bytes.
     pub optional_header_size: usize,
 }
 
-/// Reads the PE file header, where the PE signature stands before it (II.25.2.2).
+/// Reads the PE file header (II.25.2.2). The PE signature must be at offset `place`.
 pub fn read_file_header(bytes: &[u8], place: usize) -> Result<FileHeader, Fault>
     requires small { length bytes.now ≤ byte_limit }
     requires header { 64 ≤ length bytes.now }
@@ -98,7 +98,7 @@ pub fn read_file_header(bytes: &[u8], place: usize) -> Result<FileHeader, Fault>
     })
 }
 
-/// Reads the optional header of so many bytes (II.25.2.3): where the CLI header's directory stands.
+/// Reads the optional header of `size` bytes (II.25.2.3). Returns the offset of the CLI header's data directory.
 pub fn read_optional_header(bytes: &[u8], place: usize, size: usize) -> Result<usize, Fault>
     requires small { length bytes.now ≤ byte_limit }
     requires place { place ≡ lfanew bytes.now }
@@ -134,7 +134,7 @@ pub fn read_optional_header(bytes: &[u8], place: usize, size: usize) -> Result<u
     Ok(place + CLI_DIRECTORY + wider)
 }
 
-/// Whether so many section headers end within the file (II.25.3).
+/// Checks that `count` section headers, the first at offset `start`, end within the file (II.25.3).
 pub fn check_sections(bytes: &[u8], place: usize, start: usize, count: usize) -> Result<(), Fault>
     requires small { length bytes.now ≤ byte_limit }
     requires place { place ≡ lfanew bytes.now }

@@ -14,7 +14,7 @@ use packed::{Fault, u32_at};
 use std::marker::Model;
 use std::ops::Range;
 
-/// A PE file, in the bytes that it was read from.
+/// A PE file. It borrows the bytes that it was read from.
 #[derive(Drop)]
 pub struct Pe<'a> {
     bytes: &'a [u8],
@@ -43,9 +43,9 @@ impl<'a> Pe<'a> {
         self.bytes
     }
 
-    /// The RVA and the size of the CLI header, as the fifteenth data directory says them (II.25.2.3.3).
+    /// The RVA and the size in bytes of the CLI header, from the fifteenth data directory (II.25.2.3.3).
     ///
-    /// Both are 0 in a file that has none.
+    /// Both are 0 in a file that has no CLI header.
     pub fn cli_directory(&self) -> (u32, u32)
         ensures { result ≡ self.now.cli_directory }
     {
@@ -53,17 +53,17 @@ impl<'a> Pe<'a> {
         (u32_at(self.bytes, place), u32_at(self.bytes, place + 4))
     }
 
-    /// Where the CLI header's directory stands in the file: its RVA, and four bytes on its size.
+    /// The file offset of the CLI header's data directory: the RVA, and the size four bytes later.
     pub fn cli_directory_place(&self) -> usize
         ensures { result ≡ self.now.cli_directory_place }
     {
         self.cli_directory_place
     }
 
-    /// Where so many bytes at an address lie in the file (II.25.3).
+    /// The file span of the `n` bytes at address `rva` (II.25.3).
     ///
-    /// The first section that has all of them decides. `None` where no section has them, and where
-    /// the file ends before they do; no later section is tried then.
+    /// Only the first section that has all of them counts. Returns `None` if no section has them, or if
+    /// the file ends before they do. It does not try a later section then.
     pub fn range(&self, rva: u32, n: u32) -> Option<Range<usize>>
         ensures found { IfSome result (λ range. IsPlace self.now rva n range.start × (range.«end» ≡ range.start + n)) }
         ensures only { (offset : ℕ) → IsPlace self.now rva n offset
@@ -79,7 +79,7 @@ impl<'a> Pe<'a> {
     }
 }
 
-/// The image that meets all demands, or the fault of the first that is not met.
+/// Checks all rules. Returns the image, or the fault of the first broken rule.
 fn check_image(bytes: &[u8]) -> Result<Pe<'_>, Fault>
     ensures answers { Answers (demands_of_image bytes.now) result }
     ensures image { IfOk result (λ image. image ≡ image_of bytes.now) }
@@ -98,24 +98,24 @@ fn check_image(bytes: &[u8]) -> Result<Pe<'_>, Fault>
     })
 }
 
-/// Reads the headers of the PE file that these bytes are (II.25.2 and II.25.3).
+/// Reads the headers of a PE file (II.25.2 and II.25.3). The bytes are the whole file.
 ///
-/// There is no memory to want, and the cost does not grow with the file. Machine, characteristics,
-/// alignments and the sizes of sections in memory are not looked at.
+/// The call does not allocate, and its time does not depend on the size of the file. It does not check
+/// machine, characteristics, alignments and the sizes of sections in memory.
 ///
 /// # Errors
 ///
-/// The fault of the first demand on the headers that fails, with its place in the file.
+/// The fault of the first broken rule for the headers, with its offset in the file.
 pub fn read_pe(bytes: &[u8]) -> Result<Pe<'_>, Fault>
-    // What is read is an image.
+    // If it returns an image, the bytes are this image.
     ensures found { IfOk result (λ image. IsImage bytes.now image) }
-    // An image is read, and a file is at most one.
+    // If the bytes are an image, it returns this image. Bytes are at most one image.
     ensures only { (image : Image) → IsImage bytes.now image → IsOkAnd result (λ found. found ≡ image) }
-    // What is read meets all demands, and says what stands in the headers.
+    // If it returns an image, all rules hold, and the image has the values of the headers.
     ensures all { IfOk result (λ image. AllHold (demands_of_image bytes.now) × (image ≡ image_of bytes.now)) }
-    // A fault is that of the first demand that fails.
+    // A fault is that of the first broken rule.
     ensures first { IfErr result (FirstToFail (demands_of_image bytes.now)) }
-    // Its place is one of these bytes, or their end.
+    // The fault's offset is within the bytes, or at their end.
     ensures within { IfErr result (λ fault. fault.offset ≤ length bytes.now) }
 {
     images_are_read();

@@ -6,8 +6,8 @@ ghost use Rattle.pe.specs.Image.{Image, IsImage};
 
 use packed::fields_are_parts;
 
-/// An image meets all demands and is what its headers say; and a file that meets all demands is the
-/// image that its headers say.
+/// An image satisfies all rules and has the values of its headers. A file that satisfies all rules is
+/// an image with the values of its headers.
 pub fn images_are_read()
     ensures demanded { (file : List ℕ) (image : Image) → IsImage file image → AllHold (demands_of_image file) }
     ensures said { (file : List ℕ) (image : Image) → IsImage file image → image ≡ image_of file }

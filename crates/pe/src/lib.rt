@@ -1,9 +1,9 @@
 //! The headers of a PE file (ECMA-335 II.25.2 and II.25.3), PE32 and Microsoft's PE32+.
 //!
-//! [`read_pe`] answers a [`Pe`] exactly where the bytes are an image, and else the fault of the first
-//! demand that they do not meet, with the place in these bytes. An image shows where the bytes at an
-//! address lie in the file, by its section headers, and the directory of the CLI header. Nothing
-//! here takes memory.
+//! [`read_pe`] returns a [`Pe`] if and only if the bytes are an image. Otherwise it returns the fault
+//! of the first broken rule, with its offset in these bytes. A `Pe` converts an address to a file
+//! offset, by the section headers, and gives the data directory of the CLI header. Nothing here
+//! allocates.
 //!
 //! ```text
 //! let pe = read_pe(bytes)?;

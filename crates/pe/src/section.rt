@@ -5,17 +5,17 @@ ghost use Rattle.pe.specs.Place.{has_bytes};
 
 use packed::u32_at;
 
-/// How many bytes a section header has.
+/// The size of a section header, in bytes.
 pub const SECTION_HEADER_SIZE: usize = 40;
 
-/// The fields of a section header by which addresses are found in the file (II.25.3).
+/// The fields of a section header that are needed to convert addresses to file offsets (II.25.3).
 #[derive(Clone, Copy)]
 pub struct SectionHeader {
-    /// The address of the section's first byte.
+    /// VirtualAddress: the address of the section's first byte.
     pub virtual_address: u32,
-    /// How many bytes of the section the file has.
+    /// SizeOfRawData: the number of the section's bytes in the file.
     pub size_of_raw_data: u32,
-    /// Where these bytes begin in the file.
+    /// PointerToRawData: the file offset of these bytes.
     pub pointer_to_raw_data: u32,
 }
 
@@ -23,7 +23,7 @@ impl SectionHeader {
     ghost use Rattle.pe.specs.Headers.{section_at};
     ghost use Rattle.pe.specs.Place.{has_bytes};
 
-    /// The section header at a place.
+    /// The section header at an offset.
     fn read(bytes: &[u8], place: usize) -> SectionHeader
         requires { place + 40 ≤ length bytes.now }
         ensures { result ≡ section_at bytes.now place }
@@ -35,7 +35,7 @@ impl SectionHeader {
         }
     }
 
-    /// Whether so many bytes at an address are among those that the file has of the section.
+    /// Whether the file has all of the `n` bytes at address `rva` in this section.
     fn has_bytes(self, rva: u32, n: u32) -> bool
         ensures { result ≡ has_bytes rva n self }
     {
@@ -45,7 +45,7 @@ impl SectionHeader {
     }
 }
 
-/// The first of so many sections that has these bytes; the section headers begin at `start`.
+/// The first of `count` sections that has these bytes. The section headers begin at offset `start`.
 pub fn find_section(
     bytes: &[u8],
     start: usize,
