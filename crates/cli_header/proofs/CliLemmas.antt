@@ -1,4 +1,4 @@
--- An image meets all demands exactly where it has a CLI header.
+-- An image satisfies all rules if and only if it has a CLI header.
 use Rattle.std.proofs.Common.{◌≡◌, ℕ, ◌+◌, ◌≤◌, List, length, take, drop, refl, sym, ap, ◌∙◌, subst, arith, unwrap_or}
 use Rattle.std.proofs.Common.{Result, Ok, Err, Option}
 use Rattle.std.specs.Result.{IfOk, IsOkAnd}
@@ -16,26 +16,26 @@ use Rattle.cli_header.specs.Header.{fields_of, IsCliHeader}
 use Rattle.cli_header.specs.Said.{header_place, header_bytes, directory_at, metadata, root_place, header_of}
 use Rattle.cli_header.specs.Demands.{HasPlace, demands_of_cli_header}
 
--- a place is the one that the first section says
+-- the file offset of bytes is the one that the first section with them gives
 pub place_is : (image : Image) (rva count offset : ℕ) → IsPlace image rva count offset → offset ≡ unwrap_or (offset_at image rva count) 0
 place_is image rva count offset is = ap (λ (o : Option ℕ). unwrap_or o 0) (sym is.first)
 
--- the bytes that are split off at the header's place are the header's
+-- the 72 bytes after the header's offset are the header's bytes
 pub split_off : (image : Image) (place : ℕ) (whole rest bytes : List ℕ) → place ≡ header_place image → whole ≡ image.bytes → rest ≡ drop place whole → bytes ≡ take 72 rest → bytes ≡ header_bytes image
 split_off image place whole rest bytes at is behind front = front ∙ ap (take 72) (behind ∙ ap (drop place) is ∙ ap (λ (p : ℕ). drop p image.bytes) at)
 
--- where bytes have a place, that is it
+-- if bytes have a file offset, it is the computed one
 has_place : (image : Image) (rva count : ℕ) → HasPlace image rva count → IsPlace image rva count (unwrap_or (offset_at image rva count) 0)
 has_place image rva count (offset, is) =
     let At : ℕ → Type 0 = λ o. IsPlace image rva count o in
     subst At (place_is image rva count offset is) is
 
--- fields stand where there is room for them and each says what stands in the part that they are
+-- fields are at an offset if there is room and each has the value of its bytes, counted in the part they cover
 pub record FieldsAreParts : Type 0 where
   pub said_of_part : (whole : List ℕ) (place : ℕ) (fields : List Field) → StandAt whole place fields → AllSay (part whole place (widths fields)) 0 fields
   pub stand_by_part : (whole : List ℕ) (place : ℕ) (fields : List Field) → place + widths fields ≤ length whole → AllSay (part whole place (widths fields)) 0 fields → StandAt whole place fields
 
--- an image that meets all demands has the header that its bytes say
+-- an image that satisfies all rules has a header with the values of its bytes
 pub header_from_demands : (known : FieldsAreParts) (image : Image) → AllHold (demands_of_cli_header image) → IsCliHeader image (header_of image)
 header_from_demands known image all =
     let place = has_place image image.cli_directory.0 72 all.1.0.1 in
@@ -56,7 +56,7 @@ directory_is bytes place directory rva size =
     let make : ℕ → ℕ → DataDirectory = λ r s. record { rva = r; size = s } in
     ap (λ (r : ℕ). make r directory.size) rva ∙ ap (make (little_endian (part bytes place 4))) size
 
--- the header that bytes say, with its place and the root's
+-- the header with the values of the bytes, its offset and the root's offset
 pub record IsSaid (image : Image) (bytes : List ℕ) (header : CliHeader) : Type 0 where
   pub bytes_are : bytes ≡ header_bytes image
   pub place : header.place ≡ header_place image
@@ -75,7 +75,7 @@ pub record IsSaid (image : Image) (bytes : List ℕ) (header : CliHeader) : Type
   pub root : IsPlace image header.metadata.rva header.metadata.size header.root.start
   pub root_end : header.root.«end» ≡ header.root.start + header.metadata.size
 
--- MetaData, where it is read of the bytes
+-- MetaData, as it is read from the bytes
 pub metadata_read : (image : Image) (bytes : List ℕ) (directory : DataDirectory) → bytes ≡ header_bytes image → directory ≡ directory_at bytes 8 → directory ≡ metadata image
 metadata_read image bytes directory bytes_are is = is ∙ ap (λ (b : List ℕ). directory_at b 8) bytes_are
 
@@ -107,7 +107,7 @@ header_is image bytes header h =
     ≡ header_of image = rw (h.place, h.cb, h.major, h.minor, md, h.flags, h.entry_point, h.resources, h.strong_name, h.code_manager, h.vtable, h.export_jumps, h.native, start, stop, h.bytes_are) refl in
     spelled
 
--- a header meets all demands, and is what its bytes say
+-- a header satisfies all rules and has the values of its bytes
 pub record Meets (image : Image) (header : CliHeader) : Type 0 where
   pub all : AllHold (demands_of_cli_header image)
   pub is : header ≡ header_of image
@@ -143,11 +143,11 @@ header_meets known image header h =
       is = is;
     }
 
--- Cb, where it is read of the bytes
+-- Cb, as it is read from the bytes
 pub enough_read : (image : Image) (bytes : List ℕ) (cb : ℕ) → bytes ≡ header_bytes image → cb ≡ little_endian (part bytes 0 4) → 72 ≤ cb → 72 ≤ (header_of image).cb
 enough_read image bytes cb bytes_are is enough = let same : cb ≡ (header_of image).cb = is ∙ ap (λ (b : List ℕ). little_endian (part b 0 4)) bytes_are in omega arith
 
--- what a result that answers the demands says of the relation
+-- what the relation says of a result that reports the rules
 pub answers_found : (image : Image) (r : Result CliHeader Fault) → Answers (demands_of_cli_header image) r → IfOk r (λ header. header ≡ header_of image)
     → (AllHold (demands_of_cli_header image) → IsCliHeader image (header_of image)) → IfOk r (λ header. IsCliHeader image header)
 answers_found image (Ok header) all is found =

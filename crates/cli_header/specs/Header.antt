@@ -1,11 +1,11 @@
--- The CLI header of an image (ECMA-335 II.25.3.3), as a relation between what the image shows and the header's fields.
+-- The CLI header of an image (ECMA-335 II.25.3.3): the relation between an image and the fields of its header.
 use Rattle.std.specs.Prelude.{◌≡◌, ◌≢◌, ◌+◌, ◌≤◌, List, [], ◌∷◌}
 use Rattle.packed.specs.Fields.{Field, number, StandAt}
 use Rattle.pe.specs.Image.{Image}
 use Rattle.pe.specs.Place.{IsPlace}
 use Rattle.cli_header.specs.declared.header.CliHeader.{CliHeader}
 
--- the fields of the header in their order, with how many bytes each has
+-- the fields of the header in order, each with its size in bytes (II.25.3.3)
 abbrev pub fields_of : CliHeader → List Field
 fields_of header =
     number 4 header.cb
@@ -29,12 +29,12 @@ fields_of header =
     ∷ number 4 header.managed_native_header.size
     ∷ []
 
--- the image's directory names a CLI header
+-- the image's data directory names a CLI header (II.25.2.3.3)
 abbrev pub IsNamed : Image → Type 0
 IsNamed image = (image.cli_directory.0 ≢ 0) × (image.cli_directory.1 ≢ 0)
 
--- The image has this CLI header: its directory names 72 bytes at least, the fields stand at the place of the first 72
--- of them, Cb counts 72 bytes at least, and the bytes that MetaData names are the root's.
+-- The image has this CLI header: its data directory names at least 72 bytes, the fields are in the first 72 of them,
+-- Cb is at least 72, and the metadata root is the bytes that MetaData names.
 pub record IsCliHeader (image : Image) (header : CliHeader) : Type 0 where
   pub named : IsNamed image
   pub long : 72 ≤ image.cli_directory.1

@@ -1,4 +1,4 @@
--- What the CLI header's bytes say (ECMA-335 II.25.3.3), whether or not they are a header.
+-- The values in the bytes of the CLI header (ECMA-335 II.25.3.3), whether or not they are a valid header.
 use Rattle.std.specs.Prelude.{ℕ, ◌+◌, List, unwrap_or}
 use Rattle.packed.specs.Number.{little_endian}
 use Rattle.packed.specs.Places.{part}
@@ -7,23 +7,23 @@ use Rattle.pe.specs.Place.{offset_at}
 use Rattle.cli_header.specs.declared.header.CliHeader.{CliHeader}
 use Rattle.cli_header.specs.declared.header.DataDirectory.{DataDirectory}
 
--- where the header begins
+-- the file offset of the header
 abbrev pub header_place : Image → ℕ
 header_place image = unwrap_or (offset_at image image.cli_directory.0 72) 0
 
--- its bytes
+-- the bytes of the header
 abbrev pub header_bytes : Image → List ℕ
 header_bytes image = part image.bytes (header_place image) 72
 
--- the directory at a place of the header
+-- the data directory at an offset in the header
 abbrev pub directory_at : List ℕ → ℕ → DataDirectory
 directory_at header place = record { rva = little_endian (part header place 4); size = little_endian (part header (place + 4) 4) }
 
--- MetaData
+-- MetaData (II.25.3.3)
 abbrev pub metadata : Image → DataDirectory
 metadata image = directory_at (header_bytes image) 8
 
--- where the root begins
+-- the file offset of the metadata root
 abbrev pub root_place : Image → ℕ
 root_place image = unwrap_or (offset_at image (metadata image).rva (metadata image).size) 0
 

@@ -9,28 +9,28 @@ use packed::{Fault, FaultCode, u16_at, u32_at};
 use pe::Pe;
 use std::ops::Range;
 
-/// How many bytes a CLI header has at least.
+/// The least size of a CLI header, in bytes.
 const HEADER_SIZE: u32 = 72;
 
-/// An address and how many bytes lie there, as headers name them (II.25.2.3.3).
+/// The address and the size of some data, as headers give them (II.25.2.3.3).
 ///
-/// Both are 0 where there is nothing to name.
+/// Both are 0 if there is no such data.
 #[derive(Clone, Copy, Debug, PartialEq, Eq)]
 pub struct DataDirectory {
     /// The relative virtual address of the first byte.
     pub rva: u32,
-    /// How many bytes there are.
+    /// The number of bytes.
     pub size: u32,
 }
 
 /// The CLI header of an image (II.25.3.3).
 #[derive(Clone, Debug, PartialEq, Eq, Drop)]
 pub struct CliHeader {
-    /// Where the header begins in the file.
+    /// The file offset of the header, in bytes.
     pub place: usize,
-    /// How many bytes the header says that it has: 72 at least.
+    /// The size of the header in bytes, as its Cb field gives it: at least 72.
     pub cb: u32,
-    /// The least version of the runtime that the image needs.
+    /// The major part of the least runtime version that the image needs.
     pub major_runtime_version: u16,
     /// The minor part of that version.
     pub minor_runtime_version: u16,
@@ -38,28 +38,28 @@ pub struct CliHeader {
     pub metadata: DataDirectory,
     /// Flags that describe the image, one bit each (II.25.3.3.1).
     pub flags: u32,
-    /// The token of the method where the program begins, or of the file that has it; 0 in a library.
+    /// The token of the program's entry point: a method, or the file that has it. 0 in a library.
     pub entry_point_token: u32,
-    /// The resources that the image has.
+    /// The resources in the image.
     pub resources: DataDirectory,
-    /// The hash of the file by which a loader checks its strong name.
+    /// The hash of the file, with which a loader checks its strong name.
     pub strong_name_signature: DataDirectory,
     /// Always 0 in the standard.
     pub code_manager_table: DataDirectory,
-    /// The tables of function pointers that a loader fills in.
+    /// The tables of function pointers that a loader initializes.
     pub vtable_fixups: DataDirectory,
     /// Always 0 in the standard.
     pub export_address_table_jumps: DataDirectory,
     /// Always 0 in the standard.
     pub managed_native_header: DataDirectory,
-    /// Where the metadata root lies in the file, by its directory `metadata`.
+    /// The span of the metadata root in the file, as `metadata` gives it.
     pub root: Range<usize>,
 }
 
 impl DataDirectory {
     ghost use Rattle.cli_header.specs.Said.{directory_at};
 
-    /// The directory at a place of a header.
+    /// The data directory at an offset in a header.
     fn read(header: &[u8], place: usize) -> DataDirectory
         requires { place + 8 ≤ length header.now }
         ensures { result ≡ directory_at header.now place }
@@ -71,7 +71,7 @@ impl DataDirectory {
     }
 }
 
-/// Where the header that the image's directory names begins in the file.
+/// The file offset of the header that the image's data directory names.
 fn find_header(pe: &Pe) -> Result<usize, Fault>
     ensures answers { Answers (demands_of_directory pe.now) result }
     ensures place { IfOk result (λ place. place ≡ header_place pe.now) }
@@ -91,7 +91,7 @@ fn find_header(pe: &Pe) -> Result<usize, Fault>
     Ok(range.start)
 }
 
-/// The header that meets all demands, or the fault of the first that is not met.
+/// Checks all rules. Returns the header, or the fault of the first broken rule.
 fn check_cli(pe: &Pe) -> Result<CliHeader, Fault>
     ensures answers { Answers (demands_of_cli_header pe.now) result }
     ensures header { IfOk result (λ header. header ≡ header_of pe.now) }
@@ -127,22 +127,22 @@ fn check_cli(pe: &Pe) -> Result<CliHeader, Fault>
 
 /// Reads the CLI header that the image's fifteenth data directory names (II.25.3.3).
 ///
-/// There is no memory to want, and the cost is linear in the section headers. What the flags and the
-/// entry point say is not looked at.
+/// The call does not allocate. Its time is linear in the number of section headers. It does not check
+/// the flags and the entry point.
 ///
 /// # Errors
 ///
-/// The fault of the first demand on the directory and the header that fails, with its place in the file.
+/// The fault of the first broken rule for the data directory and the header, with its offset in the file.
 pub fn read_cli(pe: &Pe) -> Result<CliHeader, Fault>
-    // What is read is the image's header.
+    // If it returns a header, it is the image's header.
     ensures found { IfOk result (λ header. IsCliHeader pe.now header) }
-    // A header is read, and an image has at most one.
+    // If the image has a header, it returns this header. An image has at most one.
     ensures only { (header : CliHeader) → IsCliHeader pe.now header → IsOkAnd result (λ found. found ≡ header) }
-    // The root lies within the file.
+    // The metadata root is within the file.
     ensures root { IfOk result (λ header. (header.root.start ≤ header.root.«end») × (header.root.«end» ≤ length pe.now.bytes)) }
-    // What is read meets all demands, and says what its bytes say.
+    // If it returns a header, all rules hold, and the header has the values of its bytes.
     ensures all { IfOk result (λ header. AllHold (demands_of_cli_header pe.now) × (header ≡ header_of pe.now)) }
-    // A fault is that of the first demand that fails.
+    // A fault is that of the first broken rule.
     ensures first { IfErr result (FirstToFail (demands_of_cli_header pe.now)) }
 {
     headers_are_read();

@@ -8,8 +8,8 @@ ghost use Rattle.cli_header.specs.Said.{header_of};
 
 use packed::fields_are_parts;
 
-/// An image with a CLI header meets all demands, and the header is what its bytes say; and an image
-/// that meets all demands has the header that its bytes say.
+/// An image with a CLI header satisfies all rules, and the header has the values of its bytes. An image
+/// that satisfies all rules has a CLI header with the values of its bytes.
 pub fn headers_are_read()
     ensures demanded { (image : Image) (header : Header) → IsCliHeader image header → AllHold (demands_of_cli_header image) }
     ensures said { (image : Image) (header : Header) → IsCliHeader image header → header ≡ header_of image }

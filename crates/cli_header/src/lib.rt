@@ -1,9 +1,9 @@
 //! The CLI header of a PE file (ECMA-335 II.25.3.3).
 //!
-//! [`read_cli`] answers a [`CliHeader`] exactly where the image has one, and else the fault of the
-//! first demand that it does not meet, with the place in the file. A header has all fields of the
-//! standard, its own place, and the range of the metadata root, which lies within the file. Nothing
-//! here takes memory.
+//! [`read_cli`] returns a [`CliHeader`] if and only if the image has one. Otherwise it returns the
+//! fault of the first broken rule, with its offset in the file. A header has all fields of the
+//! standard, its own file offset, and the span of the metadata root, which is within the file.
+//! Nothing here allocates.
 //!
 //! ```text
 //! let pe = read_pe(bytes)?;
