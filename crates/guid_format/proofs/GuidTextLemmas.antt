@@ -1,10 +1,10 @@
--- The bytes of a GUID as its text has them.
+-- The bytes of a GUID in the order of its text.
 use Rattle.std.proofs.Common.{◌≡◌, ℕ, List, [], ◌∷◌, length, Result, Ok, Err, IfOk, Some, refl, ◌∙◌, ap, arith}
 use Rattle.uuid.specs.Parts.{swap_fields}
 use Rattle.uuid.specs.Text.{parsed}
 use Rattle.guid_format.specs.GuidText.{as_read}
 
--- `uuid` swaps the same bytes
+-- `uuid` reverses the same bytes
 pub swapped_is : (guid : List ℕ) → length guid ≡ 16 → swap_fields guid ≡ as_read guid
 swapped_is ([]) len = absurd (omega arith)
 swapped_is (a ∷ []) len = absurd (omega arith)
@@ -25,7 +25,7 @@ swapped_is (a ∷ b ∷ c ∷ d ∷ e ∷ f ∷ g ∷ h ∷ i ∷ j ∷ k ∷ l 
 swapped_is (a ∷ b ∷ c ∷ d ∷ e ∷ f ∷ g ∷ h ∷ i ∷ j ∷ k ∷ l ∷ m ∷ n ∷ o ∷ p ∷ []) len = refl
 swapped_is (a ∷ b ∷ c ∷ d ∷ e ∷ f ∷ g ∷ h ∷ i ∷ j ∷ k ∷ l ∷ m ∷ n ∷ o ∷ p ∷ q ∷ rest) len = absurd (omega arith)
 
--- a copy of a text is spelled and parses as the text is
+-- a copy of a text has the same bytes, and parses to the same result
 pub copy_is : {T E : Type 0} (bytes_of : T → List ℕ) (copied : Result T E) (text spelled : List ℕ) → IfOk copied (λ t. bytes_of t ≡ text) → text ≡ spelled → IfOk copied (λ t. bytes_of t ≡ spelled)
 copy_is bytes_of (Ok t) text spelled same is = same ∙ is
 copy_is bytes_of (Err e) text spelled same is = tt

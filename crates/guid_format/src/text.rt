@@ -8,12 +8,12 @@ use uuid::Uuid;
 
 /// The text of a GUID: 32 hexadecimal digits in lower case and four hyphens, without braces.
 ///
-/// The first 4, 2 and 2 bytes are numbers with their lowest byte first, and the other 8 stand in
-/// order, so that 00 01 02 .. 0F is `03020100-0504-0706-0809-0a0b0c0d0e0f`.
+/// The first 4, 2 and 2 bytes are little-endian numbers, and the other 8 keep their order.
+/// So the text of the bytes 00 01 02 .. 0F is `03020100-0504-0706-0809-0a0b0c0d0e0f`.
 ///
 /// # Errors
 ///
-/// Want of memory alone.
+/// Out of memory only.
 pub fn guid_text(alloc: Global, guid: &[u8; 16]) -> Result<String, AllocError>
     ensures text { IfOk result (λ text. string_bytes text ≡ hyphenated_text lower (as_read guid.now)) }
     ensures parsed { IfOk result (λ text. parsed (string_bytes text) ≡ Some (as_read guid.now)) }
