@@ -1,4 +1,4 @@
--- The heap of user strings, its lengths and its fill.
+-- The heap of user strings, its lengths and its padding.
 use Rattle.std.proofs.Common.{◌≡◌, ℕ, zero, suc, ◌+◌, ◌-◌, ◌%◌, ◌*◌, ◌<◌, ◌≤◌, max, List, [], ◌∷◌, ◌++◌, length, take, flat_map, replicate, refl, ap, arith, length-append}
 use Rattle.packed.specs.Packed.{short_unsigned}
 use Rattle.heaps.specs.Fill.{filled}
@@ -15,7 +15,7 @@ unfolding user_entry
 length-user_entry units =
     omega (arith, length-append (short_unsigned (user_length units)) (flat_map unit_bytes units ++ last_byte units ∷ []), length-units units (last_byte units))
 
--- where a user string begins, and how long the heap is with it
+-- the offset of a pushed user string, and the length of the heap with it
 pub pushed_lengths : (bytes heap units : List ℕ) (len start used : ℕ) → len ≡ length bytes → start ≡ max len 1 → begun bytes ≡ heap → used ≡ length (short_unsigned (user_length units))
     → (start ≡ length heap) × (length (heap ++ user_entry units) ≡ start + (used + user_length units))
 pushed_lengths bytes heap units len start used long at is counts =

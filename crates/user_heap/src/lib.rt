@@ -1,7 +1,7 @@
-//! The heap of user strings, as it is written (ECMA-335 II.24.2.4).
+//! The heap of user strings that is written, `#US` (ECMA-335 II.24.2.4).
 //!
-//! A [`UserHeap`] has each string that is pushed, also one of no units or one that is there already, and answers its
-//! offset, by which the code of methods names it. What is pushed is read back by `heaps::user_string`.
+//! A [`UserHeap`] keeps each string that is pushed, even one of no units or a duplicate. It returns the offset of the
+//! string, by which the code of methods refers to it. `heaps::user_string` reads at this offset what was pushed.
 //!
 //! ```text
 //! let mut heap = UserHeap::new(alloc);

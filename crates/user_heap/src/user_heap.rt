@@ -10,12 +10,12 @@ use packed::{put_unsigned, unsigned_len};
 use std::alloc::{AllocError, Global};
 use std::marker::Model;
 
-/// The most bytes of a blob.
+/// The largest number of bytes of a blob.
 const BLOB_LIMIT: usize = (1 << 29) - 1;
 
-/// The heap of user strings, as it is written (II.24.2.4).
+/// The heap of user strings that is written, `#US` (II.24.2.4).
 ///
-/// Contracts see its bytes, of which the first is 0 and stands also where nothing was pushed.
+/// Contracts see its bytes. The first of them is 0, even if nothing was pushed.
 #[derive(Drop)]
 pub struct UserHeap {
     bytes: Vec<u8>,
@@ -34,14 +34,14 @@ impl Model for UserHeap {
 }
 
 /// Whether a unit makes the last byte of its string 1: its high byte is not 0, or its low byte is
-/// one that needs more than plain handling (II.24.2.4).
+/// one that needs special handling (II.24.2.4).
 fn is_special_unit(unit: u16) -> bool
     ensures { result ≡ is_special unit }
 {
     unit / 0x100 != 0 || matches!(unit % 0x100, 0x01..=0x08 | 0x0E..=0x1F | 0x27 | 0x2D | 0x7F)
 }
 
-/// Whether some unit is special.
+/// Whether one of the units is special.
 fn has_special_unit(units: &[u16]) -> bool
     ensures { result ≡ list_any is_special units.now }
 {
@@ -66,7 +66,7 @@ fn put_units(bytes: &mut Vec<u8>, units: &[u16]) -> Result<(), AllocError>
     Ok(())
 }
 
-/// Appends the entry of a user string, and before the first one the byte that the heap begins with.
+/// Appends the entry of a user string. Before the first one it appends the first byte of the heap.
 fn write_user_string(bytes: &mut Vec<u8>, units: &[u16]) -> Result<(), AllocError>
     requires { user_length units.now < 2 ^ 29 }
     ensures ok { OnOk result (bytes.new.items ≡ begun bytes.old.items ++ user_entry units.now) }
@@ -79,7 +79,7 @@ fn write_user_string(bytes: &mut Vec<u8>, units: &[u16]) -> Result<(), AllocErro
     Ok(())
 }
 
-/// Appends a user string as `write_user_string` does, or leaves the heap as it was.
+/// Appends a user string like `write_user_string`. If this fails, the heap is unchanged.
 fn append_user_string(bytes: &mut Vec<u8>, units: &[u16]) -> Result<(), AllocError>
     requires { user_length units.now < 2 ^ 29 }
     ensures ok { OnOk result (bytes.new.items ≡ begun bytes.old.items ++ user_entry units.now) }
@@ -96,7 +96,7 @@ fn append_user_string(bytes: &mut Vec<u8>, units: &[u16]) -> Result<(), AllocErr
 impl UserHeap {
     ghost use Rattle.user_heap.specs.UserHeap.{IsPastLimit};
 
-    /// A heap without user strings, which takes no memory.
+    /// A heap without user strings. The call does not allocate.
     pub fn new(alloc: Global) -> UserHeap
         ensures { result ≡ 0 ∷ [] }
     {
@@ -105,12 +105,12 @@ impl UserHeap {
         }
     }
 
-    /// Appends a user string, also one of no units, and answers its offset, which is its index (II.24.2.4).
+    /// Appends a user string, which may be empty. Returns its index, which is its offset in bytes (II.24.2.4).
     ///
     /// # Errors
     ///
-    /// `Full` where the string would have more than 2^29 - 1 bytes, and where the heap would pass 2^30 bytes, told
-    /// before any memory is taken; `Memory` where memory is refused. Each leaves the heap as it was.
+    /// `Full` if the string would have more than 2^29 - 1 bytes, or the heap more than 2^30 bytes. This is checked
+    /// before it allocates. `Memory` if it is out of memory. The heap is then unchanged.
     pub fn push(&mut self, units: &[u16]) -> Result<u32, PoolError>
         ensures heap { OnOk result (self.new ≡ self.old ++ user_entry units.now) }
         ensures offset { IfOk result (λ offset. offset ≡ length self.old) }
@@ -129,11 +129,11 @@ impl UserHeap {
         Ok(start as u32)
     }
 
-    /// The heap filled with zeros to a multiple of four bytes.
+    /// The heap, padded with zeros to a multiple of four bytes.
     ///
     /// # Errors
     ///
-    /// The heap as it was, where memory is refused.
+    /// The unchanged heap, if it is out of memory.
     pub fn padded(self) -> Result<Vec<u8>, UserHeap>
         ensures ok { IfOk result (λ bytes. bytes.items ≡ filled self) }
         ensures err { IfErr result (λ heap. heap ≡ self) }
