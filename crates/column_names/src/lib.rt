@@ -1,4 +1,4 @@
-//! The names of the columns of the tables of metadata, as the standard writes them (ECMA-335 II.22).
+//! The names of the columns of the metadata tables, as the standard writes them (ECMA-335 II.22).
 //!
 //! ```text
 //! column_names(TableId::Field) == ["Flags", "Name", "Signature"]

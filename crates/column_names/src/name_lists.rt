@@ -70,7 +70,7 @@ const EXPORTED_TYPE: &[&str] = &[
 
 /// The names of the columns of a table, in order (II.22).
 ///
-/// The second column of Constant, whose byte means nothing, is called `padding`.
+/// The second column of Constant, a padding byte without meaning, has the name `padding`.
 pub fn column_names(table: TableId) -> &'static [&'static str]
     ensures value { map (λ name. name.now) result.now ≡ column_names_of table }
     ensures count { length result.now ≡ length (columns_of table) }
