@@ -1,4 +1,4 @@
--- Where a blob stands in its heap.
+-- The offset of a blob in its heap.
 use Rattle.std.proofs.Common.{◌≡◌, ℕ, ◌+◌, ◌<◌, max, true, false, ◌||◌, cond, true≢false, ◌↔◌, nat_eq, List, [], ◌∷◌, ◌++◌, length, drop, map, flat_map, Vec, Option, Some, None, IfSome, IfNone, inl, inr, refl, sym, ap, ◌∙◌, ⊎_elim, arith, length-append}
 use Rattle.std.proofs.lemmas.Bool.{cases_Bool}
 use Rattle.std.proofs.lemmas.Cmp.{nat_list_eq_equiv}
@@ -15,16 +15,16 @@ use Rattle.heaps.specs.Entries.{IsCounted, IsBlob}
 use Rattle.heaps.specs.FirstByte.{begun}
 use Rattle.heaps.proofs.DistinctLemmas.{pooled_new}
 
--- behind where it begins stand its number, its bytes and the rest
+-- after the offset follow the packed length, the bytes and the remainder of the heap
 pub counted_behind : (heap : List ℕ) (index : ℕ) (bytes : List ℕ) → (e : IsCounted heap index bytes) → drop index heap ≡ e.count ++ (bytes ++ e.after)
 counted_behind heap index bytes e = ap (drop index) e.whole ∙ drop_at e.before (e.count ++ (bytes ++ e.after)) index e.at
 
--- the blob of an index above 0 stands there, counted
+-- a blob at an index above 0 has its packed length there
 pub blob_counted : (heap : List ℕ) (index : ℕ) (blob : List ℕ) → 0 < index → IsBlob heap index blob → IsCounted heap index blob
 blob_counted heap index blob some (inl none) = absurd (omega (arith, none.0))
 blob_counted heap index blob some (inr is) = is.1
 
--- the heap with one blob more
+-- the heap with one more blob
 pub length-begun : (heap : List ℕ) → length (begun heap) ≡ max (length heap) 1
 length-begun [] = refl
 length-begun (byte ∷ bytes) = omega arith
@@ -38,12 +38,12 @@ pub length-counted : (blob : List ℕ) → length (counted blob) ≡ length (sho
 unfolding counted
 length-counted blob = length-append (short_unsigned (length blob)) blob
 
--- where the entries end that begin at 1
+-- the offset after the entries, if the first begins at 1
 pub begun_is : (entries : List (List ℕ)) → length (begun (blob_heap entries)) ≡ 1 + length (flat_map counted entries)
 begun_is [] = refl
 begun_is (entry ∷ entries) = omega arith
 
--- a blob that is not there gets the place behind the entries
+-- a new blob gets the offset after the entries
 pub blob_from-new : (at : ℕ) (entries : List (List ℕ)) (blob : List ℕ) → is_among entries blob ≡ false → blob_from at (entries ++ blob ∷ []) blob ≡ at + length (flat_map counted entries)
 blob_from-new at [] blob new = ap (λ b. cond b at 0) (nat_list_eq_equiv.refl blob) ∙ omega arith
 blob_from-new at (entry ∷ entries) blob new = ⊎_elim
@@ -64,7 +64,7 @@ module _ {A : Type 0} where
   abbrev pub names_of : List (Vec ℕ A × ℕ) → List (List ℕ)
   names_of entries = map (λ (key : Vec ℕ A). key.items) (keys_of entries)
 
-  -- what a look-up finds in a map of where entries begin
+  -- what a lookup finds in a map of entry offsets
   pub lookup_there : (entries : List (Vec ℕ A × ℕ)) (at : ℕ) (blob : List ℕ) (start : ℕ) → values_of entries ≡ starts_from at (names_of entries) → lookup (λ (key : Vec ℕ A). pointwise nat_eq blob key.items) entries ≡ Some start
       → (is_among (names_of entries) blob ≡ true) × (start ≡ blob_from at (names_of entries) blob)
   lookup_there [] at blob start starts found = cc
@@ -88,7 +88,7 @@ module _ {A : Type 0} where
       (λ (e : bytes_eq blob entry.0.items ≡ false). rw e (lookup_new entries blob))
       (cases_Bool (bytes_eq blob entry.0.items))
 
-  -- the same of what the look-up answers
+  -- the same for the result of the lookup
   pub found_there : (entries : List (Vec ℕ A × ℕ)) (blob : List ℕ) (o : Option ℕ) → values_of entries ≡ starts_from 1 (names_of entries) → o ≡ lookup (λ (key : Vec ℕ A). pointwise nat_eq blob key.items) entries
       → IfSome o (λ start. (is_among (names_of entries) blob ≡ true) × (start ≡ blob_from 1 (names_of entries) blob))
   found_there entries blob None starts is = tt
@@ -98,7 +98,7 @@ module _ {A : Type 0} where
   found_new entries blob None is = (lookup_new entries blob).0 (sym is)
   found_new entries blob (Some start) is = tt
 
-  -- an entry that comes last
+  -- an entry that is appended
   pub names_of-push : (entries : List (Vec ℕ A × ℕ)) (key : Vec ℕ A) (start : ℕ) (blob : List ℕ) → key.items ≡ blob → names_of (entries ++ (key, start) ∷ []) ≡ names_of entries ++ blob ∷ []
   names_of-push [] key start blob is = ap (λ (l : List ℕ). l ∷ []) is
   names_of-push (entry ∷ entries) key start blob is = ap (λ (l : List (List ℕ)). entry.0.items ∷ l) (names_of-push entries key start blob is)
@@ -116,13 +116,13 @@ module _ {A : Type 0} where
       ∙ sym (starts_from-push 1 (names_of entries) blob)
       ∙ ap (starts_from 1) (sym (names_of-push entries key start blob is))
 
--- the length of the heap with a blob that is not there yet
+-- the length of the heap with a new blob
 pub length-pooled : (entries : List (List ℕ)) (blob : List ℕ) → 0 < length blob → is_among entries blob ≡ false → length (blob_heap (pooled entries blob)) ≡ max (length (blob_heap entries)) 1 + length (counted blob)
 length-pooled entries blob some new =
     let e = ap (λ (l : List (List ℕ)). length (blob_heap l)) (pooled_new entries blob some new) in
     omega (arith, e, ap length (blob_heap-push entries blob), length-append (begun (blob_heap entries)) (counted blob), length-begun (blob_heap entries))
 
--- the index of a blob that comes last
+-- the index of a blob that is appended
 pub blob_index-push : (entries : List (List ℕ)) (blob : List ℕ) → 0 < length blob → is_among entries blob ≡ false → blob_index (entries ++ blob ∷ []) blob ≡ max (length (blob_heap entries)) 1
 blob_index-push entries [] some new = absurd (omega arith)
 blob_index-push entries (byte ∷ bytes) some new =

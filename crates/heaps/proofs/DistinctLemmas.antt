@@ -2,7 +2,7 @@
 use Rattle.std.proofs.Common.{◌≡◌, ℕ, ◌<◌, true, false, List, [], ◌∷◌, ◌++◌, length, refl, arith}
 use Rattle.heaps.specs.Distinct.{is_among, pooled}
 
--- a value that is there leaves the entries, and another comes last
+-- adding a value that is there keeps the entries; a new value is appended
 pub pooled_there : (entries : List (List ℕ)) (value : List ℕ) → is_among entries value ≡ true → pooled entries value ≡ entries
 pooled_there entries [] there = refl
 pooled_there entries (byte ∷ bytes) there = rw there refl

@@ -1,4 +1,4 @@
--- At an index of a heap stands one entry at most.
+-- An index into a heap refers to at most one entry.
 use Rattle.std.proofs.Common.{◌≡◌, ℕ, List, ◌∷◌, ◌++◌, length, take, drop, get_or, Option, Some, None, inl, inr, refl, sym, ap, ◌∙◌, arith}
 use Rattle.std.proofs.lemmas.List.{take_at}
 use Rattle.packed.specs.Packed.{IsPacked}
@@ -9,7 +9,7 @@ use Rattle.heaps.proofs.BlobLemmas.{blob_counted, counted_behind}
 use Rattle.heaps.proofs.GuidLemmas.{guid_is}
 use Rattle.heaps.proofs.UserLemmas.{spells_only}
 
--- bytes begin with one packed number at most
+-- bytes begin with at most one packed number
 packed_one : (m n : ℕ) (a b x y : List ℕ) → IsPacked m a → IsPacked n b → a ++ x ≡ b ++ y → (m ≡ n) × (x ≡ y)
 packed_one m n a b x y (inl p) (inl q) e =
     let same : m ∷ x ≡ n ∷ y = ap (λ (l : List ℕ). l ++ x) (sym p.1) ∙ e ∙ ap (λ (l : List ℕ). l ++ y) q.1 in
@@ -45,7 +45,7 @@ packed_one m n a b x y (inr (inr p)) (inr (inr q)) e =
     let fourth = ap (λ (l : List ℕ). get_or l 3 0) same in
     (omega (arith, first, second, third, fourth), ap (drop 4) same)
 
--- at most one run of bytes stands counted at an index
+-- an index has at most one sequence of bytes after its packed length
 counted_one : (heap : List ℕ) (index : ℕ) (a b : List ℕ) → IsCounted heap index a → IsCounted heap index b → a ≡ b
 counted_one heap index a b x y =
     let behind = sym (counted_behind heap index a x) ∙ counted_behind heap index b y in

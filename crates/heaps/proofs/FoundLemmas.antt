@@ -77,7 +77,7 @@ held used text h some =
     let long : 0 < length found.holder = omega (arith, ap length parts.1, length-append parts.0 text) in
     in_any (λ entry. ends_with entry text) found.holder (holders used) (in_filter (is_holder used) found.holder (distinct used) (in_distinct used found.holder found.within long) found.is) found.ends
 
--- a text in the first entry that ends with it
+-- a text is the ending of the first entry that ends with it
 record IsFirstText (at : ℕ) (entries : List (List ℕ)) (text : List ℕ) : Type 0 where
   before : List ℕ
   after : List ℕ

@@ -1,4 +1,4 @@
--- Pools that grow: what is there stays, and where it stands.
+-- Growing pools: entries stay, and so do their offsets.
 use Rattle.std.proofs.Common.{◌≡◌, ℕ, ◌+◌, ◌≤◌, Bool, true, false, not, ◌||◌, cond, List, [], ◌∷◌, ◌++◌, length, flat_map, Contains, Option, Some, None, ◌⊎◌, inl, inr, refl, sym, ap, ◌∙◌, ⊎_elim, arith, append_assoc, length-append}
 use Rattle.std.specs.List.{position_or_len}
 use Rattle.std.specs.Str.{bytes_eq}
@@ -11,7 +11,7 @@ use Rattle.heaps.specs.GuidHeap.{given, guid_heap, guid_index, pooled_guid}
 use Rattle.heaps.proofs.DistinctLemmas.{pooled_there}
 use Rattle.heaps.proofs.MemberLemmas.{among_in, in_distinct, in_from_contains, distinct-push}
 
--- the first uses of more values come behind
+-- the first uses of more values are appended
 first_uses-append : (before used more : List (List ℕ)) → first_uses before (used ++ more) ≡ first_uses before used ++ first_uses (before ++ used) more
 first_uses-append before [] more = ap (λ (l : List (List ℕ)). first_uses l more) (sym (append-nil before))
 first_uses-append before (value ∷ values) more =
@@ -37,7 +37,7 @@ pub distinct_given : (used : List (List ℕ)) (guid : Option (List ℕ)) → dis
 distinct_given used None = ap distinct (append-nil used)
 distinct_given used (Some guid) = distinct-push used guid
 
--- where an entry begins does not depend on what comes behind it
+-- the offset of an entry does not depend on later entries
 blob_from-append : (at : ℕ) (entries more : List (List ℕ)) (blob : List ℕ) → is_among entries blob ≡ true → blob_from at (entries ++ more) blob ≡ blob_from at entries blob
 blob_from-append at [] more blob there = absurd (false≢true there)
 blob_from-append at (entry ∷ entries) more blob there = ⊎_elim

@@ -1,4 +1,4 @@
--- Where a GUID stands in its heap.
+-- The offset of a GUID in its heap.
 use Rattle.std.proofs.Common.{◌≡◌, ℕ, ◌+◌, ◌-◌, ◌*◌, ◌^◌, ◌<◌, ◌≤◌, Bool, true, false, not, true≢false, ◌↔◌, IsTrue, nat_eq, All, List, [], ◌∷◌, ◌++◌, length, take, drop, Option, Some, None, refl, sym, ap, ◌∙◌, arith, ⊎_elim, length-append, subst}
 use Rattle.std.proofs.lemmas.List.{take-append-drop, drop_at, take_at, length-take-le}
 use Rattle.std.proofs.lemmas.List.Elements.{All-head, All-tail, All-cons, All-nil, All-append}
@@ -10,7 +10,7 @@ use Rattle.heaps.specs.Entries.{IsGuidEntry, IsGuid}
 use Rattle.heaps.specs.GuidHeap.{guid_heap}
 use Rattle.heaps.proofs.DistinctLemmas.{pooled_there, pooled_new}
 
--- the first sixteen bytes from where an entry begins are that entry
+-- the sixteen bytes at the offset of an entry are that entry
 pub guid_stands : (heap : List ℕ) (number start : ℕ) (rest guid : List ℕ) → start ≡ 16 * (number - 1) → start ≤ length heap → rest ≡ drop start heap → 16 ≤ length rest → guid ≡ take 16 rest → IsGuidEntry heap number guid
 guid_stands heap number start rest guid at within behind enough is = record {
   before = take start heap;
@@ -20,7 +20,7 @@ guid_stands heap number start rest guid at within behind enough is = record {
   long = ap length is ∙ length-take-le 16 rest enough;
 }
 
--- an entry ends within the heap, and is the first sixteen bytes from where it begins
+-- an entry ends within the heap, and is the sixteen bytes at its offset
 pub guid_within : (heap : List ℕ) (number : ℕ) (guid : List ℕ) → IsGuidEntry heap number guid → 16 * (number - 1) + 16 ≤ length heap
 guid_within heap number guid e = omega (arith, ap length e.whole, length-append e.before (guid ++ e.after), length-append guid e.after, e.at, e.long)
 
@@ -44,11 +44,11 @@ length-guid_heap (guid ∷ guids) h =
     let rest = length-guid_heap guids (All-tail (λ g. length g ≡ 16) guid guids h) in
     omega (arith, length-append guid (guid_heap guids))
 
--- a new GUID comes last
+-- a new GUID is appended
 pub sixteen_more : (guids : List (List ℕ)) (guid : List ℕ) → All (λ g. length g ≡ 16) guids → length guid ≡ 16 → All (λ g. length g ≡ 16) (guids ++ guid ∷ [])
 sixteen_more guids guid h sixteen = All-append (λ g. length g ≡ 16) guids (guid ∷ []) h (All-cons (λ g. length g ≡ 16) guid [] sixteen (All-nil (λ g. length g ≡ 16)))
 
--- the heap with a GUID passes 2^30 bytes exactly where the GUID is new and there are 2^26 already
+-- the heap with a GUID is longer than 2^30 bytes if and only if the GUID is new and there are 2^26 already
 pub fits_there : (guids : List (List ℕ)) (guid : List ℕ) → All (λ g. length g ≡ 16) guids → length guids ≤ 2 ^ 26 → is_among guids guid ≡ true → length (guid_heap (pooled guids guid)) ≤ 2 ^ 30
 fits_there guids guid h few there = rw (pooled_there guids guid there) (omega (arith, length-guid_heap guids h))
 
@@ -61,14 +61,14 @@ module _ (guids : List (List ℕ)) (guid : List ℕ) (h : All (λ g. length g �
   full_at_most most true is = (λ no_more. absurd (true≢false (sym no_more)), λ long. absurd (omega (arith, fits_there guids guid h few (sym is))))
   full_at_most most false is = (λ _. omega (arith, long_new guids guid h sixteen (sym is)), λ _. refl)
 
-  -- with fewer than that there is room
+  -- with fewer entries there is room
   pub room_below : length guids < 2 ^ 26 → 2 ^ 30 < length (guid_heap (pooled guids guid)) → ⊥
   room_below less long = ⊎_elim
       (λ (e : is_among guids guid ≡ true). omega (arith, fits_there guids guid h few e))
       (λ (e : is_among guids guid ≡ false). omega (arith, long_new guids guid h sixteen e))
       (cases_Bool (is_among guids guid))
 
-  -- what is pooled where there is room keeps the two facts
+  -- adding a GUID when there is room keeps the two facts
   pub pooled_sixteen : All (λ g. length g ≡ 16) (pooled guids guid)
   pooled_sixteen = ⊎_elim
       (λ (e : is_among guids guid ≡ true). subst (All (λ g. length g ≡ 16)) (sym (pooled_there guids guid e)) h)
@@ -81,13 +81,13 @@ module _ (guids : List (List ℕ)) (guid : List ℕ) (h : All (λ g. length g �
       (λ (le : length (guid_heap (pooled guids guid)) ≤ 2 ^ 30). omega (arith, length-guid_heap (pooled guids guid) pooled_sixteen))
       (cases_lt (2 ^ 30) (length (guid_heap (pooled guids guid))))
 
-  -- the keys with the GUID, as the set tells them
+  -- the keys with the GUID, as the set returns them
   pub inserted_is : insert_key (pointwise nat_eq) guids guid ≡ pooled guids guid
   inserted_is = ⊎_elim
       (λ (e : is_among guids guid ≡ true). rw (pooled_there guids guid e, e) refl)
       (λ (e : is_among guids guid ≡ false). rw (pooled_new guids guid (omega arith) e, e) refl)
       (cases_Bool (is_among guids guid))
 
--- a heap that fits has room for its own entries
+-- a heap within the limit has room for its own entries
 pub fits_itself : (guids : List (List ℕ)) → All (λ g. length g ≡ 16) guids → length guids ≤ 2 ^ 26 → 2 ^ 30 < length (guid_heap guids) → ⊥
 fits_itself guids h few long = omega (arith, length-guid_heap guids h)

@@ -1,5 +1,5 @@
--- The heap of the texts used first is no longer than that of all: each of its entries stands at the end of another
--- one's entry there.
+-- The heap of the texts used first is not longer than the heap of all: each of its entries is at the end of a
+-- different entry there.
 use Rattle.std.proofs.Common.{◌≡◌, ℕ, ◌<◌, ◌≤◌, Bool, true, false, not, ◌&&◌, ◌||◌, cond, true≢false, List, [], ◌∷◌, ◌++◌, length, filter, drop, ◌⊎◌, inl, inr, refl, sym, ap, subst, ◌∙◌, ⊎_elim, arith, length-append}
 use Rattle.std.specs.List.{list_any}
 use Rattle.std.specs.Str.{bytes_eq}
@@ -15,7 +15,7 @@ use Rattle.heaps.proofs.HeapLemmas.{ended-append}
 use Rattle.heaps.proofs.MemberLemmas.{IsIn, in_any, any_in, among_push}
 use Rattle.heaps.proofs.PlanLemmas.{not_true}
 
--- of two endings of one text one ends with the other
+-- of two endings of one text, one ends with the other
 ends_either : (p q a b : List ℕ) → p ++ a ≡ q ++ b → (ends_with a b ≡ true) ⊎ (ends_with b a ≡ true)
 ends_either [] q a b e = inl (ends_from a b q e)
 ends_either (x ∷ p) [] a b e = inr (ends_from b a (x ∷ p) (sym e))
@@ -27,7 +27,7 @@ one_ends text a b ha hb =
     let q = ends_parts text b hb in
     ends_either p.0 q.0 a b (sym p.1 ∙ q.1)
 
--- a used text that ends with a holder is it
+-- a used text that ends with a holder is equal to it
 holder_is : (used : List (List ℕ)) (holder text : List ℕ) → is_holder used holder ≡ true → IsIn text used → ends_with text holder ≡ true → text ≡ holder
 unfolding is_holder
 holder_is used holder text is there ends = ⊎_elim
@@ -38,7 +38,7 @@ holder_is used holder text is there ends = ⊎_elim
     absurd (true≢false (sym other ∙ not_true _ is)))
     (cases_Bool (bytes_eq text holder))
 
--- what a filter leaves
+-- the elements that a filter leaves
 left_in : {X : Type 0} (test : X → Bool) (x : X) (xs : List X) → IsIn x (filter test xs) → IsIn x xs × (test x ≡ true)
 left_in test x [] h = absurd h
 left_in test x (z ∷ zs) h = ⊎_elim
@@ -57,7 +57,7 @@ or_right : (a b : Bool) → (a || b) ≡ false → b ≡ false
 or_right true b h = absurd (true≢false h)
 or_right false b h = h
 
--- a first use stands among the values, and not before
+-- a first use is among the values, and not in `before`
 first_is : (before values : List (List ℕ)) (x : List ℕ) → IsIn x (first_uses before values) → IsIn x values × (is_among before x ≡ false)
 first_is before [] x h = absurd h
 first_is before (value ∷ values) x h =
@@ -78,7 +78,7 @@ AreApart [] = Unit {0}
 AreApart (x ∷ xs) = ((other text : List ℕ) → IsIn other xs → ends_with text x ≡ true → ends_with text other ≡ true → ⊥) × AreApart xs
 
 module _ (used : List (List ℕ)) where
-  -- two holders that one text ends with are one
+  -- two holders that one text ends with are equal
   same_holder : (a b text : List ℕ) → is_holder used a ≡ true → is_holder used b ≡ true → IsIn a used → IsIn b used → ends_with text a ≡ true → ends_with text b ≡ true → a ≡ b
   same_holder a b text is_a is_b in_a in_b ends_a ends_b = ⊎_elim
       (λ (e : ends_with a b ≡ true). holder_is used b a is_b in_a e)
@@ -106,7 +106,7 @@ module _ (used : List (List ℕ)) where
       (cases_Bool (is_holder used value))))
       (cases_Bool (is_among before value))
 
--- a list split where an element stands
+-- a list split at an element
 record IsSplit (x : List ℕ) (xs : List (List ℕ)) : Type 0 where
   before : List (List ℕ)
   after : List (List ℕ)
@@ -123,7 +123,7 @@ in_rest [] after x y (inr h) apart = h
 in_rest (z ∷ before) after x y (inl e) apart = inl e
 in_rest (z ∷ before) after x y (inr h) apart = inr (in_rest before after x y h apart)
 
--- texts that stand at the ends of others, no two of them at the end of one, take no more bytes
+-- texts at the ends of other texts, each at the end of a different one, take no more bytes than these
 ended_longer : (xs ys : List (List ℕ)) → AreApart xs → ((x : List ℕ) → IsIn x xs → (y : List ℕ) × IsIn y ys × (ends_with y x ≡ true)) → length (ended xs) ≤ length (ended ys)
 ended_longer [] ys apart each = omega arith
 ended_longer (x ∷ xs) ys apart each =

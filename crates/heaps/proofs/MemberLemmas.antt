@@ -9,7 +9,7 @@ use Rattle.std.proofs.lemmas.List.{append-nil}
 use Rattle.std.proofs.lemmas.List.Folds.{list_any-append}
 use Rattle.heaps.specs.Distinct.{is_among, first_uses, distinct, pooled}
 
--- a value stands in a list
+-- a list contains a value
 abbrev pub IsIn : {X : Type 0} → X → List X → Type 0
 IsIn x [] = ⊥
 IsIn x (y ∷ ys) = (y ≡ x) ⊎ IsIn x ys
@@ -55,7 +55,7 @@ in_filter test x (z ∷ zs) (inr h) t = ⊎_elim
 pub among_in : (values : List (List ℕ)) (value : List ℕ) → IsIn value values → is_among values value ≡ true
 among_in values value h = in_any (bytes_eq value) value values h (nat_list_eq_equiv.refl value)
 
--- a value that stands before counts no more
+-- a value that is in the list before it is not added again
 pub among_push : (before : List (List ℕ)) (value x : List ℕ) → is_among (before ++ value ∷ []) x ≡ (is_among before x || bytes_eq x value)
 among_push before value x = list_any-append (bytes_eq x) before (value ∷ []) ∙ ap (λ b. is_among before x || b) (or_false (bytes_eq x value))
 
@@ -85,7 +85,7 @@ nothing_like (b ∷ bs) h = refl
 pub in_distinct : (used : List (List ℕ)) (x : List ℕ) → IsIn x used → 0 < length x → IsIn x (distinct used)
 in_distinct used x h some = first_use ([] ∷ []) used x h (nothing_like x some)
 
--- a value stands before or among the first uses where it stands before or among the values
+-- a value is in `before` or the first uses if and only if it is in `before` or the values
 among_known : (before rest : List (List ℕ)) (value x : List ℕ) → is_among before value ≡ true → is_among ((before ++ value ∷ []) ++ rest) x ≡ is_among (before ++ rest) x
 among_known before rest value x known =
     let left = list_any-append (bytes_eq x) (before ++ value ∷ []) rest in
@@ -111,7 +111,7 @@ among_first_uses before (value ∷ values) x =
     ap (λ b. is_among (before ++ cond b rest (value ∷ rest)) x) f ∙ sym (ap (λ (l : List (List ℕ)). is_among l x) (append_assoc before (value ∷ []) rest)) ∙ more ∙ moved)
     (cases_Bool (is_among before value))
 
--- one value more
+-- one more value
 first_uses-push : (before used : List (List ℕ)) (x : List ℕ) → first_uses before (used ++ x ∷ []) ≡ cond (is_among (before ++ used) x) (first_uses before used) (first_uses before used ++ x ∷ [])
 first_uses-push before [] x = ap (λ (l : List (List ℕ)). cond (is_among l x) [] (x ∷ [])) (sym (append-nil before))
 first_uses-push before (value ∷ values) x =

@@ -1,4 +1,4 @@
--- From the uses of first uses to the heap of the holders.
+-- From the first uses to the heap of the holders.
 use Rattle.std.proofs.Common.{◌≡◌, ℕ, zero, suc, ◌+◌, ◌-◌, ◌<◌, ◌≤◌, Bool, true, false, not, ◌&&◌, ◌||◌, cond, List, [], ◌∷◌, ◌++◌, length, take, get_or, filter, slice_index_or, refl, sym, ap, subst, ◌∙◌, ◌⊎◌, inl, inr, ⊎_elim, true≢false, arith, length-append}
 use Rattle.std.specs.List.{list_any}
 use Rattle.std.specs.Str.{bytes_eq}
@@ -15,7 +15,7 @@ use Rattle.heaps.specs.TextHeap.{is_holder, ended, text_from}
 use Rattle.heaps.specs.Ranking.{TextUse, text_at, place_at, used_at, AreFirstUses, IsTop, IsRun, FindsHolder, flagged}
 use Rattle.heaps.proofs.EndingLemmas.{ends_from, ends_length, ends_itself, ends_cases, ends_between, not_both, not_itself}
 
--- a test that some element passes, by its place
+-- the index of an element that passes a test
 pub any_at : {X : Type 0} (test : X → Bool) (xs : List X) (d : X) → list_any test xs ≡ true → (k : ℕ) × (k < length xs) × (test (get_or xs k d) ≡ true)
 any_at test xs d h =
     let a = Any-from_list_any test xs h in
@@ -44,9 +44,9 @@ differ_from_false x y h e = true≢false (sym (nat_list_eq_equiv.refl x) ∙ ap 
 pub false_from_differ : (x y : List ℕ) → (x ≡ y → ⊥) → bytes_eq x y ≡ false
 false_from_differ x y apart = ⊎_elim (λ e. absurd (apart (same_text x y (sym e)))) (λ e. e) (bool_cases (bytes_eq x y))
 
--- the texts of uses in order
+-- the texts of sorted uses
 module _ (used : List (List ℕ)) (ranked : List TextUse) (f : AreFirstUses used ranked) where
-  -- a text stands after its endings
+  -- a text comes after its endings
   pub ends_after : (i j : ℕ) → i < length ranked → j < length ranked → ends_with (text_at ranked j) (text_at ranked i) ≡ true → i ≤ j
   ends_after i j hi hj h = ⊎_elim
       (λ (lt : j < i). ⊎_elim
@@ -106,7 +106,7 @@ module _ (used : List (List ℕ)) (ranked : List TextUse) (f : AreFirstUses used
           list_any_at (λ other. ends_with other (text_at ranked k) && not (bytes_eq other (text_at ranked k))) used (place_at ranked (k + 1)) [] (f.places (k + 1) next)
           (subst (λ t. ends_with t (text_at ranked k) && not (bytes_eq t (text_at ranked k)) ≡ true) here passes)
 
--- the place of the first use of the first holder that ends with a text
+-- the use index of the first use of the first holder that ends with a text
 pub record IsFirstHolder (used : List (List ℕ)) (text : List ℕ) (place : ℕ) : Type 0 where
   pub within : place < length used
   pub holder : is_holder used (used_at used place) ≡ true
@@ -140,7 +140,7 @@ module _ (used : List (List ℕ)) (ranked : List TextUse) (f : AreFirstUses used
             omega (arith, h.first.least r.0 low high top, r.3);
       }
 
--- the flagged texts before a place, the one there, and those after it
+-- the flagged texts before a use index, the one there, and those after it
 pub flagged_split : (texts : List (List ℕ)) (flags : List Bool) (p : ℕ) → p < length texts → slice_index_or flags p false ≡ true → (rest : List (List ℕ)) × (flagged texts flags ≡ flagged (take p texts) (take p flags) ++ used_at texts p ∷ rest)
 flagged_split [] flags p h e = absurd (omega arith)
 flagged_split (t ∷ ts) [] p h e = absurd (false≢true e)
@@ -149,7 +149,7 @@ flagged_split (t ∷ ts) (false ∷ fs) zero h e = absurd (false≢true e)
 flagged_split (t ∷ ts) (true ∷ fs) (suc p) h e = let r = flagged_split ts fs p (omega arith) e in (r.0, ap (λ l. t ∷ l) r.1)
 flagged_split (t ∷ ts) (false ∷ fs) (suc p) h e = flagged_split ts fs p (omega arith) e
 
--- a flagged text is the text at a place with a flag
+-- a flagged text is the text at a use index whose flag is true
 pub flagged_at : (test : List ℕ → Bool) (texts : List (List ℕ)) (flags : List Bool) (n : ℕ) → list_any test (flagged (take n texts) (take n flags)) ≡ true → (p : ℕ) × (p < n) × (p < length texts) × (slice_index_or flags p false ≡ true) × (test (used_at texts p) ≡ true)
 flagged_at test [] flags zero h = absurd (false≢true h)
 flagged_at test [] flags (suc n) h = absurd (false≢true h)
@@ -161,7 +161,7 @@ flagged_at test (t ∷ ts) (true ∷ fs) (suc n) h = ⊎_elim
     (λ e. let r = flagged_at test ts fs n (ap (λ b. b || list_any test (flagged (take n ts) (take n fs))) (sym e) ∙ h) in (suc r.0, omega (arith, r.1), omega (arith, r.2), r.3, r.4))
     (bool_cases (test t))
 
--- the index of a text that stands at the end of an entry and of none before it
+-- the index of a text that is the ending of an entry, and of no entry before it
 pub text_from-entry : (at : ℕ) (before : List (List ℕ)) (entry : List ℕ) (rest : List (List ℕ)) (text : List ℕ) → list_any (λ other. ends_with other text) before ≡ false → ends_with entry text ≡ true
     → text_from at (before ++ entry ∷ rest) text ≡ at + length (ended before) + length entry - length text
 text_from-entry at [] entry rest text none ends = ap (λ b. cond b (at + length entry - length text) (text_from (at + length entry + 1) rest text)) ends ∙ ap (λ n. n + length entry - length text) (omega arith)

@@ -1,11 +1,11 @@
--- Where a text stands in the strings heap.
+-- The offset of a text in the strings heap.
 use Rattle.std.proofs.Common.{◌≡◌, ◌≢◌, ℕ, ◌+◌, ◌<◌, ◌≤◌, List, ◌∷◌, ◌++◌, length, take, drop, slice_index, IsUtf8, inl, inr, refl, sym, ap, subst, ◌∙◌, ⊎_elim, arith, length-append}
 use Rattle.std.proofs.lemmas.Bool.{cases_lt}
 use Rattle.std.proofs.lemmas.List.{take-append-drop, get_or-take, drop_more, drop_at, take_at, get_or_append_left, get_or_at, length-take-le}
 use Rattle.std.proofs.lemmas.List.Elements.{All-from_get_or}
 use Rattle.heaps.specs.Entries.{IsEnded, IsText}
 
--- the bytes before the first NUL from the index on stand there, ended
+-- the bytes from the index up to the first NUL satisfy `IsEnded`
 pub ended_from : (heap : List ℕ) (index n : ℕ) → index ≤ length heap → n < length (drop index heap) → ((k : ℕ) → k < n → slice_index (drop index heap) k ≢ 0) → slice_index (drop index heap) n ≡ 0 → IsEnded heap index (take n (drop index heap))
 ended_from heap index n h in_rest none nul =
     let rest = drop index heap in
@@ -33,7 +33,7 @@ module _ (heap : List ℕ) (index : ℕ) (bytes : List ℕ) (e : IsEnded heap in
   pub bytes_are : (n : ℕ) → n ≡ length bytes → take n (drop index heap) ≡ bytes
   bytes_are n h = ap (take n) rest_is ∙ take_at bytes (0 ∷ e.after) n (sym h)
 
--- at most one run of bytes stands ended at an index
+-- an index has at most one sequence of bytes before its NUL
 pub ended_same : (heap : List ℕ) (index : ℕ) (a b : List ℕ) → IsEnded heap index a → IsEnded heap index b → a ≡ b
 ended_same heap index a b x y =
     let same : length a ≡ length b = ⊎_elim
@@ -45,7 +45,7 @@ ended_same heap index a b x y =
     (cases_lt (length a) (length b)) in
     sym (bytes_are heap index a x (length a) refl) ∙ bytes_are heap index b y (length a) same
 
--- the text of an index above 0 is what stands ended there, if that is UTF-8
+-- the text at an index above 0 is the bytes before its NUL, if they are UTF-8
 pub text_same : (heap : List ℕ) (index : ℕ) (bytes text : List ℕ) → 0 < index → IsEnded heap index bytes → IsText heap index text → (bytes ≡ text) × IsUtf8 bytes
 text_same heap index bytes text some stands (inl none) = absurd (omega (arith, none.0))
 text_same heap index bytes text some stands (inr is) =

@@ -26,7 +26,7 @@ pub length-user : (units : List ℕ) (last : ℕ) → length (flat_map unit_byte
 length-user [] last = refl
 length-user (unit ∷ units) last = omega (arith, length-user units last)
 
--- an odd number of bytes are units and one byte more
+-- an odd number of bytes is two bytes for each unit and one more
 pub odd_parts : (blob : List ℕ) → AreBytes blob → length blob % 2 ≡ 1 → (last : ℕ) × (blob ≡ flat_map unit_bytes (units_in blob) ++ last ∷ []) × (last_of blob ≡ Some last)
 odd_parts [] h odd = absurd (omega arith)
 odd_parts (last ∷ []) h odd = (last, refl, refl)
@@ -73,7 +73,7 @@ pub blob_bytes : (heap : List ℕ) (index : ℕ) (blob : List ℕ) → IsBlob he
 blob_bytes heap index blob (inl none) h = λ i. rw (none.1) (omega arith)
 blob_bytes heap index blob (inr is) h = counted_bytes heap index blob is.1 h
 
--- the last byte, by its place
+-- the last byte, by its index
 pub last_at : (bytes : List ℕ) → slice_get bytes (length bytes - 1) ≡ last_of bytes
 last_at [] = refl
 last_at (byte ∷ []) = refl

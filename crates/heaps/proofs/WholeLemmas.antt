@@ -1,4 +1,4 @@
--- Texts in a heap that is UTF-8 as a whole, and what its last NUL says.
+-- Texts in a heap that is UTF-8 as a whole, and what follows from the offset of its last NUL.
 use Rattle.std.proofs.Common.{◌≡◌, ◌≢◌, ℕ, suc, zero, ◌+◌, ◌-◌, ◌<◌, ◌≤◌, List, [], ◌∷◌, ◌++◌, length, take, drop, slice_index, IsUtf8, Option, Some, None, is_some, Result, Ok, Err, MatchResult, sym, ap, subst, ◌∙◌, arith, length-drop, ⊎_elim, inl, inr}
 use Rattle.std.specs.Borrow.{Bor}
 use Rattle.std.specs.Result.{result_ok}
@@ -14,7 +14,7 @@ use Rattle.heaps.specs.StringsView.{heap_of, IsWhole, IsKnown}
 use Rattle.heaps.specs.Entries.{IsEnded, IsText, HasNoNul}
 use Rattle.heaps.proofs.TextLemmas.{ended_length, nul_behind, rest_is, bytes_are}
 
--- what is known of the whole, and of the last NUL
+-- what is known of the whole heap as a text
 pub whole_is : (strings : Inside) (text : Bor (List ℕ)) → strings.whole ≡ Some text → IsKnown strings → (text.now ≡ heap_of strings) × IsUtf8 (heap_of strings)
 whole_is strings text is known = subst (IsWhole (heap_of strings)) is known.whole
 
@@ -23,7 +23,7 @@ last_is strings heap last here is known =
     let P : Option ℕ → Type 0 = λ found. IfSome found (λ l. IsLastByte (is_byte 0) (heap_of strings) (Some l)) in
     subst (λ l. IsLastByte (is_byte 0) l (Some last)) here (subst P is known.last)
 
--- what a look at the heap finds
+-- the result of reading the heap once
 pub whole_found : {E : Type 0} (heap : List ℕ) (found : Result (Bor (List ℕ)) E)
     → MatchResult found (λ text. (text.now ≡ heap) × IsUtf8 heap) (λ _. ¬ IsUtf8 heap) → IsWhole heap (result_ok found)
 whole_found heap (Ok text) is = is
@@ -33,39 +33,39 @@ pub last_found : (heap : List ℕ) (last : Option ℕ) → IsLastByte (is_byte 0
 last_found heap None is = tt
 last_found heap (Some last) is = is
 
--- whether the heap is UTF-8, by the whole
+-- whether the heap is UTF-8, by `whole`
 pub utf8_is : (heap : List ℕ) (whole : Option (Bor (List ℕ))) → IsWhole heap whole → is_some whole ≡ is_utf8 heap
 utf8_is heap None is = sym (false_from_ne_true (is_utf8 heap) (λ e. is (IsUtf8-from_is_utf8 heap e)))
 utf8_is heap (Some text) is = sym (is_utf8-from_IsUtf8 heap is.1)
 
--- a character begins where a text does, before its NUL
+-- a character begins at the start of a text that a NUL follows
 front_boundary : (text after : List ℕ) → IsUtf8 text → IsCharBoundary (text ++ 0 ∷ after) 0
 front_boundary [] after utf8 = (omega arith, λ _ high. omega (arith, high))
 front_boundary (byte ∷ bytes) after utf8 = (omega arith, λ _ high. (IsCharBoundary-start (byte ∷ bytes) utf8).1 (omega arith) high)
 
 module _ (heap : List ℕ) (index : ℕ) (bytes : List ℕ) (stands : IsEnded heap index bytes) where
-  -- a character begins at a place where a text stands
+  -- a character begins at the index of a text
   pub text_boundary : IsUtf8 bytes → IsCharBoundary heap index
   text_boundary utf8 =
       let front = subst (λ l. IsCharBoundary l 0) (sym (rest_is heap index bytes stands)) (front_boundary bytes stands.after utf8) in
       let at_sum : IsCharBoundary heap (index + 0) = IsCharBoundary-from_rest heap index 0 (omega (arith, ended_length heap index bytes stands)) front in
       subst (IsCharBoundary heap) (omega arith) at_sum
 
-  -- the NUL that ends them
+  -- the NUL that follows them
   pub nul_stands : slice_index heap (index + length bytes) ≡ 0
   nul_stands = sym (get_or-drop index heap (length bytes) 0) ∙ nul_behind heap index bytes stands
 
-  -- a character ends where they do
+  -- a character ends at their end
   pub end_boundary : IsCharBoundary heap (index + length bytes)
   end_boundary = IsCharBoundary-before_ascii heap (index + length bytes) (ended_length heap index bytes stands) (omega (arith, nul_stands))
 
-  -- the bytes from the beginning of a character up to a NUL are a text, where all bytes are
+  -- the bytes from a character's start up to a NUL are UTF-8, if the whole heap is
   pub bytes_utf8 : IsUtf8 heap → IsCharBoundary heap index → IsUtf8 bytes
   bytes_utf8 utf8 begins =
       let end = index + length bytes in
       subst IsUtf8 (bytes_are heap index bytes stands (end - index) (omega arith)) (IsUtf8-between heap index end utf8 (omega arith) begins end_boundary)
 
--- bytes with a NUL have a first, before which there is none
+-- bytes with a NUL have a first one, and no NUL is before it
 split_at_nul : (bytes : List ℕ) (place : ℕ) → place < length bytes → slice_index bytes place ≡ 0 → (front : List ℕ) × (back : List ℕ) × (bytes ≡ front ++ 0 ∷ back) × HasNoNul front
 split_at_nul [] place within nul = absurd (omega (arith, within))
 split_at_nul (byte ∷ bytes) zero within nul = ([], bytes, ap (λ b. b ∷ bytes) nul, λ i d few. absurd (omega (arith, few)))
@@ -77,7 +77,7 @@ split_at_nul (byte ∷ bytes) (suc place) within nul = ⊎_elim
     (cases_lt 0 byte)
 
 module _ (heap : List ℕ) (index : ℕ) where
-  -- bytes stand ended at each index up to the last NUL
+  -- each index up to the last NUL has bytes with a NUL after them
   pub ended_up_to : (last : ℕ) → IsLastByte (is_byte 0) heap (Some last) → index ≤ last → (bytes : List ℕ) × IsEnded heap index bytes
   ended_up_to last is up_to =
       let nul : slice_index (drop index heap) (last - index) ≡ 0 = get_or-drop index heap (last - index) 0 ∙ (ap (slice_index heap) (omega (arith, up_to)) ∙ eqb-true _ 0 is.1) in

@@ -1,4 +1,4 @@
--- What a strings heap that is planned stands for, and how its bytes and spans hold it.
+-- The value of a planned strings heap, and its encoding in bytes and spans.
 use Rattle.std.specs.Prelude.{◌≡◌, ◌==◌, ℕ, ◌+◌, ◌<◌, ◌≤◌, ◌^◌, List, [], ◌∷◌, length, take, drop, slice_index, if◌then◌else◌}
 use Rattle.std.specs.declared.cmp.Ordering.TheVariants.{Less}
 use Rattle.heaps.specs.declared.text_plan.Span.{Span}
@@ -7,7 +7,7 @@ use Rattle.heaps.specs.TextHeap.{text_heap, text_index, holders, ended}
 use Rattle.heaps.specs.Ranking.{used_at, IsFirstPlace}
 use Rattle.heaps.specs.Uses.{span_at}
 
--- the entries of the heap, the texts that were planned, and the index of each text in the order in which they were given
+-- the entries of the heap, the texts that were planned, and the index of each text in the order of use
 pub record TextPlan : Type 0 where
   pub entries : List (List ℕ)
   pub texts : List (List ℕ)
@@ -17,7 +17,7 @@ abbrev pub with_front : ℕ → List (List ℕ) → List (List ℕ)
 with_front byte [] = []
 with_front byte (text ∷ texts) = (byte ∷ text) ∷ texts
 
--- the texts that NULs end
+-- the texts before each NUL
 abbrev pub texts_in : List ℕ → List (List ℕ)
 texts_in [] = []
 texts_in (byte ∷ bytes) = if byte == 0 then [] ∷ texts_in bytes else with_front byte (texts_in bytes)
@@ -26,11 +26,11 @@ texts_in (byte ∷ bytes) = if byte == 0 then [] ∷ texts_in bytes else with_fr
 abbrev pub entries_in : List ℕ → List (List ℕ)
 entries_in heap = texts_in (drop 1 heap)
 
--- the text at a span
+-- the text in a span of the heap
 abbrev pub text_in : List ℕ → Span → List ℕ
 text_in heap span = take span.len (drop span.start heap)
 
--- the heap is that of its entries, and each span is that of a text at its index, in the order of the texts' endings
+-- the heap has its entries, and each span is that of a text at its index, sorted by the endings of the texts
 pub record IsTextPool (heap : List ℕ) (spans : List Span) : Type 0 where
   pub whole : heap ≡ text_heap (entries_in heap)
   pub fits : length heap ≤ 2 ^ 30
@@ -38,14 +38,14 @@ pub record IsTextPool (heap : List ℕ) (spans : List Span) : Type 0 where
   pub indexes : (k : ℕ) → k < length spans → (span_at spans k).start ≡ text_index (entries_in heap) (text_in heap (span_at spans k))
   pub rises : (i j : ℕ) → i < j → j < length spans → ending_cmp (text_in heap (span_at spans i)) (text_in heap (span_at spans j)) ≡ Less
 
--- a span is where a text stands in the heap of the used texts' holders
+-- the span is that of a text in the heap of the holders of the used texts
 pub record IsSpanOf (used : List (List ℕ)) (text : List ℕ) (span : Span) : Type 0 where
   pub start : span.start ≡ text_index (holders used) text
   pub len : span.len ≡ length text
   pub within : span.start + span.len ≤ length (ended (holders used))
   pub reads : text_in (0 ∷ ended (holders used)) span ≡ text
 
--- at the first place of each text that is not empty stands its index
+-- the index of each non-empty text is at the first use index of this text
 abbrev pub HasFirstIndexes : List (List ℕ) → List ℕ → Type 0
 HasFirstIndexes used indexes = (place : ℕ) → place < length used → 0 < length (used_at used place) → IsFirstPlace used place place
     → slice_index indexes place ≡ text_index (holders used) (used_at used place)

@@ -1,9 +1,9 @@
--- What a pool of texts stands for.
+-- The value of a pool of texts, and its invariant.
 use Rattle.std.specs.Prelude.{map}
 use Rattle.heaps.specs.declared.text_pool.TextPool.TheInside.{Inside}
 use Rattle.heaps.specs.TextPlan.{TextPlan, IsTextPool, entries_in, text_in}
 
--- the entries of the heap, the texts of the spans, and the indexes
+-- the entries of the heap, the texts in the spans, and the indexes
 abbrev pub plan_of : Inside → TextPlan
 plan_of pool = record {
   entries = entries_in pool.heap.items;

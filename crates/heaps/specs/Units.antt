@@ -3,27 +3,27 @@ use Rattle.std.specs.Prelude.{ℕ, ◌+◌, ◌*◌, ◌/◌, ◌%◌, Bool, not
 use Rattle.std.specs.List.{list_any}
 use Rattle.packed.specs.Packed.{short_unsigned}
 
--- the two bytes of a unit, the lower first
+-- the two bytes of a unit, the lower byte first
 abbrev pub unit_bytes : ℕ → List ℕ
 unit_bytes unit = unit % 256 ∷ unit / 256 ∷ []
 
--- whether a byte is one of 01 to 08, 0E to 1F, 27, 2D and 7F
+-- whether a byte is one of 01 to 08, 0E to 1F, 27, 2D and 7F (II.24.2.4)
 abbrev pub is_special_byte : ℕ → Bool
 is_special_byte byte =
     (nat_le 0x01 byte && nat_le byte 0x08) || ((nat_le 0x0E byte && nat_le byte 0x1F) || (byte == 0x27 || (byte == 0x2D || byte == 0x7F)))
 
--- whether a unit needs more than plain 8-bit handling: its high byte is not 0, or its low byte is special
+-- whether a unit needs more than plain 8-bit handling (II.24.2.4): its high byte is not 0, or its low byte is special
 abbrev pub is_special : ℕ → Bool
 is_special unit = not (unit / 256 == 0) || is_special_byte (unit % 256)
 
--- the last byte of a user string: 1 where some unit is special, and else 0
+-- the last byte of a user string: 1 if one of its units is special, else 0
 abbrev pub last_byte : List ℕ → ℕ
 last_byte units = if list_any is_special units then 1 else 0
 
--- the number of bytes of a user string of so many units
+-- the number of bytes of a user string with these units
 abbrev pub user_length : List ℕ → ℕ
 user_length units = 2 * length units + 1
 
--- the entry of a user string: its number of bytes in the shortest form, its units and its last byte
+-- the entry of a user string: its number of bytes in the shortest encoding, its units, and its last byte
 unfoldable pub user_entry : List ℕ → List ℕ
 user_entry units = short_unsigned (user_length units) ++ (flat_map unit_bytes units ++ last_byte units ∷ [])

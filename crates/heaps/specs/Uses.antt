@@ -1,4 +1,4 @@
--- The uses that the program's uses and spans stand for.
+-- The values of the program's uses and spans.
 use Rattle.std.specs.Prelude.{◌≡◌, ◌<◌, ℕ, List, All, map, slice_index_or}
 use Rattle.std.specs.declared.cmp.Ordering.{Ordering}
 use Rattle.std.specs.Ordering.{nat_cmp, ordering_then}
@@ -8,7 +8,7 @@ use Rattle.heaps.specs.declared.text_plan.Span.{Span}
 use Rattle.heaps.specs.EndingOrder.{ending_cmp, last_number}
 use Rattle.heaps.specs.Ranking.{TextUse}
 
--- a use without where its text lies in memory
+-- a use as a value: the bytes of its text, without their address
 abbrev pub use_of : Use → TextUse
 use_of item = (item.text.now, item.place)
 
@@ -22,7 +22,7 @@ bytes_of texts = map (λ text. text.now) texts
 abbrev pub span_at : List Span → ℕ → Span
 span_at spans k = slice_index_or spans k (record { start = 0; len = 0 })
 
--- the number of a use is that of the last bytes of its text
+-- the number of a use is that of the last eight bytes of its text
 pub record IsNumbered (item : Use) : Type 0 where
   pub number : item.number ≡ last_number item.text.now
   pub bytes : All (λ byte. byte < 256) item.text.now

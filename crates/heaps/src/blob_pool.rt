@@ -30,7 +30,7 @@ impl Model for BlobPool {
     ghost invariant = { IsBlobPool };
 }
 
-/// Appends the entry of a blob, and before the first one the byte that the heap begins with.
+/// Appends the entry of a blob. Before the first one it appends the first byte of the heap.
 #[tactic(auto, unfolding(crate::specs::BlobHeap::counted))]
 fn write_blob(heap: &mut Vec<u8>, blob: &[u8]) -> Result<(), AllocError>
     requires { length blob.now < 2 ^ 29 }
@@ -42,7 +42,7 @@ fn write_blob(heap: &mut Vec<u8>, blob: &[u8]) -> Result<(), AllocError>
     heap.extend_from_slice(blob)
 }
 
-/// Appends the entry of a blob as `write_blob` does, or leaves the heap as it was.
+/// Appends the entry of a blob like `write_blob`. If this fails, the heap is unchanged.
 fn append_blob(heap: &mut Vec<u8>, blob: &[u8]) -> Result<(), AllocError>
     requires { length blob.now < 2 ^ 29 }
     ensures ok { OnOk result (heap.new.items ≡ begun heap.old.items ++ counted blob.now) }
@@ -57,7 +57,7 @@ fn append_blob(heap: &mut Vec<u8>, blob: &[u8]) -> Result<(), AllocError>
 }
 
 impl BlobPool {
-    /// A pool without entries, which takes no memory.
+    /// A pool without entries. The call does not allocate.
     pub fn new(alloc: Global) -> BlobPool
         ensures { result ≡ [] }
     {
@@ -68,20 +68,20 @@ impl BlobPool {
         }
     }
 
-    /// Pools a blob of at most 2^29 - 1 bytes and answers its index, which counts bytes (II.24.2.4); no bytes
-    /// have index 0 and no entry.
+    /// Adds a blob of at most 2^29 - 1 bytes. Returns its index, an offset in bytes (II.24.2.4). The empty blob
+    /// has index 0 and no entry.
     ///
     /// # Errors
     ///
-    /// `Full` where the heap would pass 2^30 bytes, told before any memory is taken; `Memory` where memory for a
-    /// new entry is refused, but never of a blob that is there already. Each leaves the pool as it was.
+    /// `Full` if the heap would have more than 2^30 bytes, which is checked before it allocates. `Memory` if it is out
+    /// of memory for a new entry; a blob that is already there needs none. The pool is then unchanged.
     pub fn add(&mut self, blob: &[u8]) -> Result<u32, PoolError>
         requires { length blob.now < 2 ^ 29 }
         ensures entries { OnOk result (self.new ≡ pooled self.old blob.now) }
         ensures index { IfOk result (λ index. index ≡ blob_index self.new blob.now) }
         ensures err { OnErr result (self.new ≡ self.old) }
 
-        // No bytes and a blob that is there already are not refused.
+        // The empty blob and a blob that is already there never fail.
         ensures known { pooled self.old blob.now ≡ self.old → IsOk result }
         ensures full { (result ≡ Err PoolError.Full) ↔ (2 ^ 30 < length (blob_heap (pooled self.old blob.now))) }
     {
@@ -100,7 +100,7 @@ impl BlobPool {
         Ok(start as u32)
     }
 
-    /// The index of a blob that is there.
+    /// The index of a blob that is already in the pool.
     fn find(&self, blob: &[u8]) -> Option<u32>
         ensures found { IfSome result (λ index. (is_among self.now blob.now ≡ true) × (index ≡ blob_from 1 self.now blob.now)) }
         ensures none { IfNone result (is_among self.now blob.now ≡ false) }
@@ -108,7 +108,7 @@ impl BlobPool {
         self.indexes.get(blob).copied()
     }
 
-    /// Appends the entry of a blob that is not there, at the end of the heap.
+    /// Appends the entry of a new blob at the end of the heap.
     fn insert(&mut self, blob: &[u8], start: u32) -> Result<(), AllocError>
         requires short { length blob.now < 2 ^ 29 }
         requires new { is_among self.old blob.now ≡ false }
@@ -124,7 +124,7 @@ impl BlobPool {
         Ok(())
     }
 
-    /// The heap without fill: a zero byte, and the entries, each behind its length; no bytes where
+    /// The heap without padding: a zero byte, then the entries, each after its length. It has no bytes if
     /// there are no entries.
     pub fn bytes(&self) -> &[u8]
         ensures heap { result.now ≡ blob_heap self.now }

@@ -6,7 +6,7 @@ ghost use Rattle.heaps.specs.Entries.{IsBlob, IsCounted};
 use crate::fault::HeapFault;
 use packed::read_unsigned;
 
-/// The bytes behind their number at a place.
+/// The bytes after their packed length, which is at an offset.
 fn counted_at(heap: &[u8], start: usize) -> Option<&[u8]>
     ensures found { IfSome result (λ bytes. IsCounted heap.now start bytes.now) }
     ensures only { (bytes : List ℕ) → IsCounted heap.now start bytes → IsSomeAnd result (λ found. found.now ≡ bytes) }
@@ -24,18 +24,18 @@ fn counted_at(heap: &[u8], start: usize) -> Option<&[u8]>
     Some(bytes)
 }
 
-/// The blob of an index into `#Blob` (II.24.2.4), in the bytes of the heap.
+/// The blob at an index into `#Blob` (II.24.2.4). It borrows the bytes of the heap.
 ///
-/// The index counts bytes. Index 0 is no bytes, also of an absent heap, which is no bytes. The length
-/// before a blob may be spelled in a longer form than it needs.
+/// The index is an offset in bytes. Index 0 is the empty blob, even if the heap is absent and so has no bytes.
+/// The length before a blob may use a longer form than it needs.
 ///
 /// # Errors
 ///
-/// `BadBlob` where no length stands at the index, or fewer bytes than it says stand behind it.
+/// `BadBlob` if there is no packed length at the index, or if fewer bytes than this length follow it.
 pub fn blob(heap: &[u8], index: u32) -> Result<&[u8], HeapFault>
-    // What is answered is the blob of the index.
+    // If it returns a blob, this is the blob at the index.
     ensures found { IfOk result (λ blob. IsBlob heap.now index blob.now) }
-    // The blob of an index is answered, so there is no other.
+    // If there is a blob at the index, it returns this blob. So there is no other.
     ensures only { (blob : List ℕ) → IsBlob heap.now index blob → IsOkAnd result (λ found. found.now ≡ blob) }
     ensures answers { (place : ℕ) → Answers (demands_of_blob heap.now index place) (at_place place result) }
 {

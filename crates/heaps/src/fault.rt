@@ -3,23 +3,23 @@ ghost use Rattle.heaps.specs.Demands.{code_of};
 
 use packed::FaultCode;
 
-/// Why an index into a heap is refused.
+/// The reason why an index into a heap is invalid.
 #[derive(Clone, Copy, Debug, PartialEq, Eq)]
 pub enum HeapFault {
-    /// No NUL stands at the index or behind it in `#Strings` (II.24.2.3).
+    /// There is no NUL at the index or after it in `#Strings` (II.24.2.3).
     BadString,
     /// The text at an index into `#Strings` is not UTF-8 (II.24.2.3).
     BadUtf8,
-    /// No blob stands at an index into `#Blob` or `#US` (II.24.2.4).
+    /// There is no blob at an index into `#Blob` or `#US` (II.24.2.4).
     BadBlob,
-    /// `#GUID` has no entry of this number (II.24.2.5).
+    /// `#GUID` has no entry with this number (II.24.2.5).
     BadGuid,
-    /// A user string of an even number of bytes above 0 (II.24.2.4).
+    /// A user string has an even number of bytes, more than 0 (II.24.2.4).
     BadUserString,
 }
 
 impl HeapFault {
-    /// The demand that is not met; its place is that of the index, which the caller knows.
+    /// The rule that is broken. It is reported at the offset of the index, which the caller knows.
     pub fn code(self) -> FaultCode
         ensures { result ≡ code_of self }
     {

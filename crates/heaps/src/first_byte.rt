@@ -3,11 +3,11 @@ ghost use Rattle.heaps.specs.FirstByte.{begun};
 
 use std::alloc::AllocError;
 
-/// Puts the first byte into a heap of blobs or user strings that has none yet (II.24.2.4).
+/// Appends the first byte to a heap of blobs or user strings, if it has none yet (II.24.2.4).
 ///
 /// # Errors
 ///
-/// Where memory is refused, which a heap that has its first byte does not ask for; the heap is as it was.
+/// Out of memory. A heap that has its first byte never fails. The heap is then unchanged.
 pub fn begin(heap: &mut Vec<u8>) -> Result<(), AllocError>
     ensures ok { OnOk result (heap.new.items ≡ begun heap.old.items) }
     ensures err { OnErr result (heap.new.items ≡ heap.old.items) }

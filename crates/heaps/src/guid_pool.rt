@@ -7,7 +7,7 @@ use indexmap::IndexSet;
 use std::alloc::Global;
 use std::marker::Model;
 
-/// The most entries of a GUID heap.
+/// The largest number of entries of a GUID heap.
 const MOST_GUIDS: usize = HEAP_LIMIT / 16;
 
 /// The GUIDs of a heap that is written, each once, in the order of first use (II.24.2.5).
@@ -28,7 +28,7 @@ impl Model for GuidPool {
     ghost invariant = { IsGuidPool };
 }
 
-/// Whether a GUID is not there yet and has no room in the heap.
+/// Whether a GUID is new and the heap has no room for it.
 fn is_full(guids: &IndexSet<[u8; 16]>, guid: &[u8; 16]) -> bool
     requires sixteen { All (λ guid. length guid ≡ 16) guids.now.keys }
     requires fits { length guids.now.keys ≤ 2 ^ 26 }
@@ -39,7 +39,7 @@ fn is_full(guids: &IndexSet<[u8; 16]>, guid: &[u8; 16]) -> bool
 }
 
 impl GuidPool {
-    /// A pool without entries, which takes no memory.
+    /// A pool without entries. The call does not allocate.
     pub fn new(alloc: Global) -> GuidPool
         ensures { result ≡ [] }
     {
@@ -48,18 +48,18 @@ impl GuidPool {
         }
     }
 
-    /// Pools a GUID and answers its index, which counts entries from 1 (II.24.2.5); null has index 0 and no entry.
+    /// Adds a GUID. Returns its index, which counts entries from 1 (II.24.2.5). Null has index 0 and no entry.
     ///
     /// # Errors
     ///
-    /// `Full` where the heap would pass 2^30 bytes, told before any memory is taken; `Memory` where memory for a
-    /// new entry is refused, but never of a GUID that is there already. Each leaves the pool as it was.
+    /// `Full` if the heap would have more than 2^30 bytes, which is checked before it allocates. `Memory` if it is out
+    /// of memory for a new entry; a GUID that is already there needs none. The pool is then unchanged.
     pub fn add(&mut self, guid: Option<[u8; 16]>) -> Result<u32, PoolError>
         ensures entries { IfOk result (λ _. self.new ≡ pooled_guid self.old guid) }
         ensures index { IfOk result (λ index. index ≡ guid_index self.new guid) }
         ensures err { OnErr result (self.new ≡ self.old) }
 
-        // Null and a GUID that is there already are not refused.
+        // Null and a GUID that is already there never fail.
         ensures known { pooled_guid self.old guid ≡ self.old → IsOk result }
         ensures full { (result ≡ Err PoolError.Full) ↔ (2 ^ 30 < length (guid_heap (pooled_guid self.old guid))) }
     {
@@ -74,7 +74,7 @@ impl GuidPool {
         Ok(index as u32 + 1)
     }
 
-    /// The heap without fill: the entries one after another.
+    /// The heap without padding: the entries one after another.
     pub fn bytes(&self) -> &[u8]
         ensures heap { result.now ≡ guid_heap self.now }
         ensures fits { length result.now ≤ 2 ^ 30 }

@@ -5,21 +5,21 @@ ghost use Rattle.heaps.specs.Entries.{IsGuid};
 
 use crate::fault::HeapFault;
 
-/// The bytes of a GUID.
+/// The number of bytes of a GUID.
 const GUID_LEN: usize = 16;
 
-/// The GUID of an index into `#GUID` (II.24.2.5), null for index 0.
+/// The GUID at an index into `#GUID` (II.24.2.5). Index 0 is null.
 ///
-/// The index numbers entries of sixteen bytes from 1; a rest of fewer bytes at the end of the heap
-/// is none. Sixteen zero bytes are a GUID.
+/// The index counts entries of sixteen bytes from 1. Fewer than sixteen bytes at the end of the heap
+/// are not an entry. Sixteen zero bytes are a GUID, not null.
 ///
 /// # Errors
 ///
-/// `BadGuid` where there is no such entry.
+/// `BadGuid` if there is no such entry.
 pub fn guid(heap: &[u8], index: u32) -> Result<Option<[u8; 16]>, HeapFault>
-    // What is answered is the GUID of the index.
+    // If it returns a GUID, this is the GUID at the index.
     ensures found { IfOk result (λ guid. IsGuid heap.now index guid) }
-    // The GUID of an index is answered, so there is no other.
+    // If there is a GUID at the index, it returns this GUID. So there is no other.
     ensures only { (guid : Option (List ℕ)) → IsGuid heap.now index guid → IsOkAnd result (λ found. found ≡ guid) }
     ensures answers { (place : ℕ) → Answers (demands_of_guid heap.now index place) (at_place place result) }
 {

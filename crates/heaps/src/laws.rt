@@ -6,32 +6,32 @@ ghost use Rattle.heaps.specs.GuidHeap.{given, guid_heap, guid_index, pooled_guid
 ghost use Rattle.heaps.specs.TextHeap.{holders, text_heap, text_index};
 ghost use Rattle.heaps.specs.Units.{last_byte, user_entry, user_length};
 
-/// A used text is the text of its index in the planned heap, whatever bytes follow that heap.
+/// In the planned heap, the text at the index of a used text is this text. More bytes may follow the heap.
 pub fn used_text_is_found()
     ensures { (used : List (List ℕ)) (text rest : List ℕ) → Contains used text → HasNoNul text → IsUtf8 text
         → IsText (text_heap (holders used) ++ rest) (text_index (holders used) text) text }
 {}
 
-/// A pooled blob is the blob of its index in the heap, whatever bytes follow that heap.
+/// In the heap, the blob at the index of a pooled blob is this blob. More bytes may follow the heap.
 pub fn pooled_blob_is_found()
     ensures { (entries : List (List ℕ)) (blob rest : List ℕ) → (blob ≡ []) ⊎ Contains entries blob → length blob < 2 ^ 29
         → IsBlob (blob_heap entries ++ rest) (blob_index entries blob) blob }
 {}
 
-/// A pooled GUID is the GUID of its index in the heap, whatever bytes follow that heap.
+/// In the heap, the GUID at the index of a pooled GUID is this GUID. More bytes may follow the heap.
 pub fn pooled_guid_is_found()
     ensures { (entries : List (List ℕ)) (guid rest : List ℕ) → Contains entries guid → All (λ entry. length entry ≡ 16) entries
         → IsGuid (guid_heap entries ++ rest) (guid_index entries (Some guid)) (Some guid) }
 {}
 
-/// A user string that was pushed is the one of its offset, whatever bytes follow.
+/// The user string at the offset at which one was pushed is this one, whatever bytes follow.
 pub fn pushed_string_is_found()
     ensures { (heap units rest : List ℕ) → 0 < length heap → user_length units < 2 ^ 29
         → IsUserString (heap ++ (user_entry units ++ rest)) (length heap) (record { units = units; flag = Some (last_byte units) }) }
 {}
 
-/// Values that are pooled one after another are the distinct ones, those of more uses behind those of
-/// the first. Each that is not empty is there, and adds nothing again. Of GUIDs null is left out.
+/// Adding values one after another gives the distinct ones; more uses only append entries. Each non-empty
+/// value is among them, and adding it again changes nothing. Null GUIDs have no entry.
 pub fn pooled_are_distinct()
     ensures more { (used : List (List ℕ)) (value : List ℕ) → distinct (used ++ value ∷ []) ≡ pooled (distinct used) value }
     ensures guid { (used : List (List ℕ)) (guid : Option (List ℕ)) → distinct (used ++ given guid) ≡ pooled_guid (distinct used) guid }
@@ -40,7 +40,7 @@ pub fn pooled_are_distinct()
     ensures front { (used more : List (List ℕ)) → (rest : List (List ℕ)) × (distinct (used ++ more) ≡ distinct used ++ rest) }
 {}
 
-/// The index of a pooled value stays as its pool grows.
+/// The index of a blob or a GUID does not change when its pool grows.
 pub fn indexes_stay()
     ensures blob { (entries more : List (List ℕ)) (blob : List ℕ) → (blob ≡ []) ⊎ Contains entries blob
         → blob_index (entries ++ more) blob ≡ blob_index entries blob }
@@ -48,14 +48,14 @@ pub fn indexes_stay()
         → guid_index (entries ++ more) (Some guid) ≡ guid_index entries (Some guid) }
 {}
 
-/// The heap of what is used first is no longer than that of all.
+/// The heap of the first uses is not longer than the heap of all uses.
 pub fn heaps_grow()
     ensures texts { (used more : List (List ℕ)) → length (text_heap (holders used)) ≤ length (text_heap (holders (used ++ more))) }
     ensures blobs { (used more : List (List ℕ)) → length (blob_heap (distinct used)) ≤ length (blob_heap (distinct (used ++ more))) }
     ensures guids { (used more : List (List ℕ)) → length (guid_heap (distinct used)) ≤ length (guid_heap (distinct (used ++ more))) }
 {}
 
-/// At an index of a heap stands one text, one blob, one user string and one GUID at most.
+/// At an index into a heap there is at most one text, one blob, one user string and one GUID.
 pub fn entries_are_one()
     ensures text { (heap : List ℕ) (index : ℕ) (text other : List ℕ) → IsText heap index text → IsText heap index other → text ≡ other }
     ensures blob { (heap : List ℕ) (index : ℕ) (blob other : List ℕ) → IsBlob heap index blob → IsBlob heap index other → blob ≡ other }

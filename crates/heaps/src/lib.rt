@@ -1,11 +1,11 @@
 //! The heaps of the metadata root (ECMA-335 II.24.2.3 to II.24.2.5): `#Strings`, `#Blob`, `#US` and `#GUID`.
 //!
-//! [`text`], [`blob`], [`user_string`] and [`guid`] read what stands at an index, in the bytes of the heap and without
-//! memory. They answer it exactly where something stands there, else the [`HeapFault`] that says what is missing; a
-//! heap that is absent is no bytes. [`Strings`] checks an index in constant time, after one look at a heap that is
-//! UTF-8. [`TextPool`], [`BlobPool`] and [`GuidPool`] make the heaps that are written: each value once, in order of
-//! first use, and texts that others end with inside these. `laws.rt` says that what is pooled is read back, and stays
-//! where it is as its pool grows.
+//! [`text`], [`blob`], [`user_string`] and [`guid`] read the value at an index. It borrows the bytes of the heap, and
+//! nothing is allocated. They succeed if and only if there is a value at the index. Otherwise the [`HeapFault`] says
+//! what is missing. An absent heap has no bytes. [`Strings`] reads a heap once and, if all of it is UTF-8, then checks
+//! an index in constant time. [`TextPool`], [`BlobPool`] and [`GuidPool`] build the heaps that are written. Each value
+//! has one entry, in the order of first use; a text that another one ends with is part of that one's entry. `laws.rt`
+//! states that pooled values are read back, and that blobs and GUIDs keep their index as a pool grows.
 //!
 //! ```text
 //! text(b"\0a.dll\0", 1) == Ok("a.dll")

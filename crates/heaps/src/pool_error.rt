@@ -1,14 +1,14 @@
 use std::alloc::{AllocError, AllocFailed};
 
-/// The most bytes of a heap that is written.
+/// The largest number of bytes of a heap that is written.
 pub const HEAP_LIMIT: usize = 1 << 30;
 
-/// Why a pool or a heap takes no more.
+/// The reason why a pool or a heap cannot take a value.
 #[derive(Debug, Clone, Copy, PartialEq, Eq)]
 pub enum PoolError {
-    /// There is no more memory.
+    /// Out of memory.
     Memory,
-    /// The heap would pass 2^30 bytes, or a user string the limit of a blob.
+    /// The heap would have more than 2^30 bytes, or a user string more bytes than a blob can have.
     Full,
 }
 

@@ -10,7 +10,7 @@ use simdutf8::basic;
 use std::marker::Model;
 use std::str;
 
-/// The bytes from a place up to the next NUL.
+/// The bytes from an offset up to the next NUL.
 fn ended_at(heap: &[u8], start: usize) -> Option<&[u8]>
     ensures found { IfSome result (λ bytes. IsEnded heap.now start bytes.now) }
     ensures none { IfNone result ((bytes : List ℕ) → IsEnded heap.now start bytes → ⊥) }
@@ -24,21 +24,21 @@ fn ended_at(heap: &[u8], start: usize) -> Option<&[u8]>
     Some(bytes)
 }
 
-/// The text of an index into `#Strings` (II.24.2.3), in the bytes of the heap.
+/// The text at an index into `#Strings` (II.24.2.3). It borrows the bytes of the heap.
 ///
-/// The index counts bytes and may point into another text. Index 0 is the empty text, also of an
-/// absent heap, which is no bytes.
+/// The index is an offset in bytes and may point into another text. Index 0 is the empty text, even if
+/// the heap is absent and so has no bytes.
 ///
 /// # Errors
 ///
-/// `BadString` where no NUL stands at the index or behind it, and `BadUtf8` where the bytes before the first of
-/// these are not UTF-8.
+/// `BadString` if there is no NUL at the index or after it. `BadUtf8` if the bytes before the first such NUL are
+/// not UTF-8.
 pub fn text(heap: &[u8], index: u32) -> Result<&str, HeapFault>
-    // What is answered is the text of the index.
+    // If it returns a text, this is the text at the index.
     ensures found { IfOk result (λ text. IsText heap.now index text.now) }
-    // The text of an index is answered, so there is no other.
+    // If there is a text at the index, it returns this text. So there is no other.
     ensures only { (text : List ℕ) → IsText heap.now index text → IsOkAnd result (λ found. found.now ≡ text) }
-    // A fault is that of the first demand that fails.
+    // A fault is that of the first broken rule.
     ensures answers { (place : ℕ) → Answers (demands_of_text heap.now index place) (at_place place result) }
 {
     if index == 0 {
@@ -53,7 +53,7 @@ pub fn text(heap: &[u8], index: u32) -> Result<&str, HeapFault>
     }
 }
 
-/// Whether a text stands at an index, by the bytes of that text.
+/// Checks that there is a text at an index, by reading the bytes of that text.
 fn check_alone(heap: &[u8], index: u32) -> Result<(), HeapFault>
     ensures answers { (place : ℕ) → Answers (demands_of_text heap.now index place) (at_place place result) }
 {
@@ -61,7 +61,7 @@ fn check_alone(heap: &[u8], index: u32) -> Result<(), HeapFault>
     Ok(())
 }
 
-/// The heap as a text, where it is known to be UTF-8.
+/// The heap as a text, if it is known to be UTF-8.
 fn known_text(heap: &[u8], utf8: bool) -> Option<&str>
     requires { utf8 ≡ is_utf8 heap.now }
     ensures { MatchOption result (¬ IsUtf8 heap.now) (λ whole. (whole.now ≡ heap.now) × IsUtf8 heap.now) }
@@ -73,16 +73,16 @@ fn known_text(heap: &[u8], utf8: bool) -> Option<&str>
     }
 }
 
-/// The bytes of a `#Strings` heap (II.24.2.3), looked at once as a whole.
+/// The bytes of a `#Strings` heap (II.24.2.3), with what is known about the heap as a whole.
 ///
-/// It answers what the function `text` answers of these bytes. Where all of them are UTF-8, no text is looked at for
-/// that again, and `check` takes constant time where one stands; else both read as it does.
+/// Its methods return what the function `text` returns. If the whole heap is UTF-8, `text` does not check for UTF-8
+/// again, and after `new`, `check` takes constant time for a valid index. Otherwise both read the bytes of a text.
 #[derive(Clone, Drop)]
 pub struct Strings<'a> {
     heap: &'a [u8],
-    /// The heap, where all of it is UTF-8.
+    /// The heap as a text, if all of it is UTF-8.
     whole: Option<&'a str>,
-    /// Where the last NUL stands, if it was looked for.
+    /// The offset of the last NUL, if it was searched.
     last_nul: Option<usize>,
 }
 
@@ -99,7 +99,7 @@ impl<'a> Model for Strings<'a> {
 }
 
 impl<'a> Strings<'a> {
-    /// Looks once at the bytes of a heap, without memory; an absent heap is no bytes.
+    /// Reads the bytes of a heap once. The call does not allocate. An absent heap has no bytes.
     pub fn new(heap: &'a [u8]) -> Strings<'a>
         ensures { result ≡ heap.now }
     {
@@ -110,9 +110,9 @@ impl<'a> Strings<'a> {
         }
     }
 
-    /// The bytes of a heap that was looked at before, when it was found whether all of them are UTF-8.
+    /// The bytes of a heap for which it is already known whether all of them are UTF-8.
     ///
-    /// They are not looked at again: this takes constant time, and `check` reads a text up to its NUL.
+    /// They are not read again, so this takes constant time. `check` then reads each text up to its NUL.
     pub fn again(heap: &'a [u8], utf8: bool) -> Strings<'a>
         requires { utf8 ≡ is_utf8 heap.now }
         ensures { result ≡ heap.now }
@@ -131,18 +131,18 @@ impl<'a> Strings<'a> {
         self.heap
     }
 
-    /// Whether all bytes of the heap are UTF-8, in constant time.
+    /// Whether all bytes of the heap are UTF-8. Takes constant time.
     pub fn is_utf8(&self) -> bool
         ensures { result ≡ is_utf8 self.now }
     {
         self.whole.is_some()
     }
 
-    /// Whether a text stands at an index into the heap (II.24.2.3).
+    /// Checks that there is a text at an index into the heap (II.24.2.3).
     ///
     /// # Errors
     ///
-    /// Those of the function [`text`].
+    /// The same as for the function [`text`].
     pub fn check(&self, index: u32) -> Result<(), HeapFault>
         ensures answers { (place : ℕ) → Answers (demands_of_text self.now index place) (at_place place result) }
     {
@@ -158,11 +158,11 @@ impl<'a> Strings<'a> {
         }
     }
 
-    /// The text of an index into the heap (II.24.2.3).
+    /// The text at an index into the heap (II.24.2.3).
     ///
     /// # Errors
     ///
-    /// Those of the function [`text`].
+    /// The same as for the function [`text`].
     pub fn text(&self, index: u32) -> Result<&'a str, HeapFault>
         ensures found { IfOk result (λ text. IsText self.now index text.now) }
         ensures only { (text : List ℕ) → IsText self.now index text → IsOkAnd result (λ found. found.now ≡ text) }

@@ -9,7 +9,7 @@ use crate::fault::HeapFault;
 use packed::u16_at;
 use std::marker::Model;
 
-/// A user string (II.24.2.4), in the bytes of its heap; made by `user_string`.
+/// A user string (II.24.2.4). It borrows the bytes of its heap. `user_string` creates it.
 #[derive(Drop)]
 pub struct UserString<'a> {
     blob: &'a [u8],
@@ -28,16 +28,16 @@ impl<'a> Model for UserString<'a> {
 }
 
 impl<'a> UserString<'a> {
-    /// The UTF-16 units, in order; they may be no text.
+    /// The UTF-16 units, in order. They need not be valid UTF-16.
     pub fn units(&self) -> Units<'a>
         ensures { result ≡ self.now.units }
     {
         Units { bytes: self.blob }
     }
 
-    /// The last byte, any from 0 to 255; `None` where the string is the one of no bytes.
+    /// The last byte, any from 0 to 255; `None` if the string has no bytes.
     ///
-    /// The standard has 1 there where some unit is special, and else 0.
+    /// In the standard it is 1 if one of the units is special, else 0.
     pub fn flag(&self) -> Option<u8>
         ensures { result ≡ self.now.flag }
     {
@@ -45,7 +45,7 @@ impl<'a> UserString<'a> {
     }
 }
 
-/// The UTF-16 units of a user string; made by `UserString::units`.
+/// An iterator over the UTF-16 units of a user string. `UserString::units` creates it.
 #[derive(Drop)]
 pub struct Units<'a> {
     bytes: &'a [u8],
@@ -78,24 +78,24 @@ impl<'a> Iterator for Units<'a> {
     }
 }
 
-/// Whether the bytes of a blob are a user string: none, or units of two bytes and one byte more.
+/// Whether the bytes of a blob are a user string: no bytes, or two bytes for each unit and one more.
 fn is_spelled(blob: &[u8]) -> bool
     ensures { IsTrue result ↔ (0 < length blob.now → length blob.now % 2 ≡ 1) }
 {
     blob.is_empty() || blob.len() % 2 == 1
 }
 
-/// The user string of an index into `#US` (II.24.2.4), in the bytes of the heap.
+/// The user string at an index into `#US` (II.24.2.4). It borrows the bytes of the heap.
 ///
-/// The index counts bytes; index 0 is the string of no bytes. Any last byte is accepted.
+/// The index is an offset in bytes. Index 0 is the string of no bytes. Any last byte is accepted.
 ///
 /// # Errors
 ///
-/// `BadBlob` where no blob stands at the index, and `BadUserString` where its number of bytes is even and not 0.
+/// `BadBlob` if there is no blob at the index. `BadUserString` if its number of bytes is even and not 0.
 pub fn user_string(heap: &[u8], index: u32) -> Result<UserString<'_>, HeapFault>
-    // What is answered is the user string of the index.
+    // If it returns a user string, this is the one at the index.
     ensures found { IfOk result (λ string. IsUserString heap.now index string) }
-    // The user string of an index is answered, so there is no other.
+    // If there is a user string at the index, it returns this one. So there is no other.
     ensures only { (string : UserText) → IsUserString heap.now index string → IsOkAnd result (λ found. found ≡ string) }
     ensures answers { (place : ℕ) → Answers (demands_of_user_string heap.now index place) (at_place place result) }
 {

@@ -13,7 +13,7 @@ of_ok : {X E : Type 0} (r : Result X E) (P : Type 0) → IsOk r → OnOk r P →
 of_ok (Ok x) P is holds = holds
 of_ok (Err e) P is holds = absurd (true≢false (sym is))
 
--- the entries of the map afterwards: the blob's comes last
+-- the entries of the map afterwards: the blob's entry is last
 inserted : (c : goal.Joined-insert) → c.insert.new.self.entries ≡ c.self.inside.indexes.entries ++ (c.in_ok-key.key, c.args.start) ∷ []
 inserted c =
     let old = c.self.inside.indexes.entries in
