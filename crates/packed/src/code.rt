@@ -80,13 +80,13 @@ pub enum FaultCode {
     BadUserString,
     /// A cell has a value that its column cannot hold (II.22). No file can break this rule.
     BadCell,
-    /// The user bytes are not padded, or are too long (II.24.2.4). No file can break this rule.
+    /// The number of user bytes is not a multiple of four, or above 2^30 (II.24.2.4). No file can break this rule.
     UserBytes,
     /// A row has a lower key than the row before it (II.22).
     NotSorted,
     /// The first run of members does not start at row 1, or a run starts before the run of the row before (II.22).
     BadRun,
-    /// No row owns some of the members (II.22).
+    /// There are members, but the table of their owners has no rows (II.22).
     NoOwner,
     /// The enclosing class of a nested class does not come before it (II.22.32).
     NestedOrder,
