@@ -22,7 +22,7 @@ bits_cons test table listed = sum_by-cons (λ t. cond (test t) (2 ^ table_number
     times true = omega arith
     times false = omega arith
 
--- the numbers of the tables rise, from a number on
+-- the numbers of the tables increase, from a number on
 abbrev IsAscending : ℕ → List TableId → Type 0
 IsAscending low [] = Unit {0}
 IsAscending low (table ∷ listed) = (low ≤ table_number table) × IsAscending (suc (table_number table)) listed
@@ -31,7 +31,7 @@ ascending : IsAscending 0 tables
 unfolding tables
 ascending = (lit≤ tt, (lit≤ tt, (lit≤ tt, (lit≤ tt, (lit≤ tt, (lit≤ tt, (lit≤ tt, (lit≤ tt, (lit≤ tt, (lit≤ tt, (lit≤ tt, (lit≤ tt, (lit≤ tt, (lit≤ tt, (lit≤ tt, (lit≤ tt, (lit≤ tt, (lit≤ tt, (lit≤ tt, (lit≤ tt, (lit≤ tt, (lit≤ tt, (lit≤ tt, (lit≤ tt, (lit≤ tt, (lit≤ tt, (lit≤ tt, (lit≤ tt, (lit≤ tt, (lit≤ tt, (lit≤ tt, (lit≤ tt, (lit≤ tt, (lit≤ tt, (lit≤ tt, (lit≤ tt, (lit≤ tt, (lit≤ tt, tt))))))))))))))))))))))))))))))))))))))
 
--- the bits lie at the numbers from there on
+-- the bits are at these numbers and above
 multiple : (test : TableId → Bool) (low : ℕ) (listed : List TableId) → IsAscending low listed → (q : ℕ) × (bits_of test listed ≡ q * 2 ^ low)
 unfolding bits_of
 multiple test low [] up = (0, omega arith)
@@ -126,13 +126,13 @@ bit_at test low (table ∷ listed) (suc i) none up below =
     plus_zero : (n : ℕ) → n + 0 * 2 ^ table_number table ≡ n
     plus_zero n = omega arith
 
--- the bit of a table says whether it passes
+-- the bit of a table is set if and only if it passes
 pub bit_is : (test : TableId → Bool) (table : TableId) → bits_of test tables / 2 ^ table_number table % 2 ≡ bit (test table)
 bit_is test table =
     let P : TableId → Type 0 = λ t. bits_of test tables / 2 ^ table_number t % 2 ≡ bit (test t) in
     subst P (table_at_position table) (bit_at test 0 tables (position_of table) Module ascending (omega (arith, position_below table, length-tables)))
 
--- the bits of tables that pass a test are set where it passes
+-- the bits of the tables that pass a test are set if and only if the test passes
 pub has_bit_of : (test : TableId → Bool) (table : TableId) → has_bit (bits_of test tables) table ≡ test table
 has_bit_of test table = ap (λ n. eqb n 1) (bit_is test table) ∙ tested (test table)
   where
@@ -140,11 +140,11 @@ has_bit_of test table = ap (λ n. eqb n 1) (bit_is test table) ∙ tested (test 
     tested true = refl
     tested false = refl
 
--- a test is that of the bits that it gives
+-- a test is that of the bits computed from it
 pub tests_are : (test : TableId → Bool) → ◌≡◌ {A = TableId → Bool} (has_bit (bits_of test tables)) test
 tests_are test = λ i table. has_bit_of test table i
 
--- Valid names tables where it is the bits of those that it names
+-- a Valid that names only tables is the bits of the tables that it names
 pub names_tables : (valid : ℕ) → NamesTables valid → bits_of (has_bit valid) tables ≡ valid
 names_tables valid named =
     ap (λ (n : ℕ). bits_of (has_bit n) tables) named.bits ∙ ap (λ (test : TableId → Bool). bits_of test tables) (tests_are named.counted) ∙ sym named.bits
@@ -159,7 +159,7 @@ bits_more test i below =
     times true = omega arith
     times false = omega arith
 
--- a table's bit is below the 45th
+-- a table's bit is one of the low 45
 power_low : (table : TableId) → 2 ^ table_number table ≤ 2 ^ 44
 power_low table = let low : table_number table ≤ 44 = omega (arith, number_below table) in pow-le-pow_right (lit< tt) {i = table_number table} {j = 44} low
 
@@ -179,7 +179,7 @@ bit_clear valid i bits table below t e clear =
     let this : bit (has_bit valid table) * 2 ^ table_number table ≡ 0 = ap (λ b. bit b * 2 ^ table_number table) clear ∙ omega arith in
     omega (arith, more, this)
 
--- so many bits stay low
+-- the bits of i tables are bounded
 pub bit_low : (i bits number : ℕ) (table : TableId) → bits ≤ i * 2 ^ 44 → number ≡ table_number table → bits + 1 * 2 ^ number % 2 ^ 64 ≤ (i + 1) * 2 ^ 44
 bit_low i bits number table low n =
     let one : 1 * 2 ^ number % 2 ^ 64 ≡ 2 ^ table_number table = rw n (one_shl (table_number table) 64 (omega (arith, number_below table))) in
@@ -206,7 +206,7 @@ bits_low test = let small = bits_below test tables in omega (arith, small, lengt
         term_low true t = let low = power_low t in omega arith
         term_low false t = omega arith
 
--- numbers rise with positions
+-- numbers increase with table indexes
 rises : (low : ℕ) (listed : List TableId) (i k : ℕ) (none : TableId) → IsAscending low listed → i < k → k < length listed → table_number (get_or listed i none) < table_number (get_or listed k none)
 rises low [] i k none up less below = absurd (omega arith)
 rises low (table ∷ listed) i zero none up less below = absurd (omega arith)

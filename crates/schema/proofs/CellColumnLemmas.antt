@@ -7,13 +7,13 @@ use Rattle.schema.specs.declared.column.ColumnKind.TheVariants as kind
 use Rattle.schema.specs.Columns.{columns_of, column_at, col}
 use Rattle.schema.specs.CellColumns.{is_padding, indexes_from, cell_columns, cell_count, column_of}
 
--- an index that is listed, whether or not one more stands before it
+-- an index in the list, whether or not one more is put before it
 listed_behind : (padding : Bool) (first : ℕ) (rest : List ℕ) (index : ℕ) → (k : ℕ) × (k < length rest) × (get_or rest k 0 ≡ index)
     → (k : ℕ) × (k < length (cond padding rest (first ∷ rest))) × (get_or (cond padding rest (first ∷ rest)) k 0 ≡ index)
 listed_behind true first rest index there = there
 listed_behind false first rest index there = (suc there.0, omega (arith, there.1), there.2)
 
--- each column that is no padding is listed
+-- each column that is not padding is in the list
 column_listed : (index : ℕ) (columns : List Column) (i : ℕ) (d : Column) → i < length columns → is_padding (get_or columns i d).kind ≡ false
     → (k : ℕ) × (k < length (indexes_from index columns)) × (get_or (indexes_from index columns) k 0 ≡ index + i)
 column_listed index [] i d within cell = absurd (omega arith)
@@ -22,7 +22,7 @@ column_listed index (column ∷ columns) (suc i) d within cell =
     let rest = column_listed (index + 1) columns i d (omega arith) cell in
     listed_behind (is_padding column.kind) index (indexes_from (index + 1) columns) (index + suc i) (rest.0, rest.1, omega (arith, rest.2))
 
--- a listed index is that of a column that is no padding
+-- an index in the list is that of a column that is not padding
 record IsListed (columns : List Column) (index listed : ℕ) (d : Column) : Type 0 where
   i : ℕ
   is : listed ≡ index + i
@@ -48,7 +48,7 @@ listed_is index [] k d within = absurd (omega arith)
 listed_is index (column ∷ columns) k d within =
     listed_at column columns index d (is_padding column.kind) refl (λ j below. listed_is (index + 1) columns j d below) k within
 
--- the column of a cell is one of the table's, and no padding
+-- the column of a cell is one of the table's columns, and not padding
 pub cell_column : (table : TableId) (place : ℕ) → place < cell_count table
     → (column_of table place < length (columns_of table)) × (is_padding (column_at table (column_of table place)).kind ≡ false)
 unfolding cell_columns
@@ -57,7 +57,7 @@ cell_column table place below =
     let is : listed.i ≡ column_of table place = omega (arith, listed.is) in
     (omega (arith, listed.within), subst (λ (i : ℕ). is_padding (column_at table i).kind ≡ false) is listed.cell)
 
--- each column of a table that is no padding has a cell
+-- each column of a table that is not padding has a cell
 pub column_cell : (table : TableId) (column : ℕ) → column < length (columns_of table) → is_padding (column_at table column).kind ≡ false
     → (place : ℕ) × (place < cell_count table) × (column_of table place ≡ column)
 unfolding cell_columns
@@ -129,7 +129,7 @@ only_constant GenericParam other = refl
 only_constant MethodSpec other = refl
 only_constant GenericParamConstraint other = refl
 
--- each column of a table but Constant has a cell
+-- each column of a table other than Constant has a cell
 pub same_column : (table : TableId) → table ≢ Constant → (cell : ℕ) → cell < cell_count table → (cell ≡ column_of table cell) × (cell < length
     (columns_of table))
 unfolding cell_columns
@@ -139,7 +139,7 @@ same_column table other cell within =
     let is = index_at 0 (columns_of table) all cell (omega arith) in
     (omega arith, omega arith)
 
--- a table but Constant has a cell for each column
+-- a table other than Constant has a cell for each column
 pub same_count : (table : TableId) → table ≢ Constant → length (columns_of table) ≡ cell_count table
 unfolding cell_columns
 same_count table other = let long = indexes_long 0 (columns_of table) (only_constant table other) in omega (arith, long)

@@ -1,4 +1,4 @@
--- Cells, rows and tables one behind the other.
+-- Cells, rows and tables one after another.
 use Rattle.std.proofs.Common.{◌≡◌, ℕ, zero, suc, ◌+◌, ◌*◌, ◌^◌, ◌<◌, ◌≤◌, List, [], ◌∷◌, ◌++◌, take, drop, length, get_or, refl, sym, ◌∙◌, ap, append_assoc, length-append, add-zero, add_assoc, zero-mul, arith}
 use Rattle.std.proofs.lemmas.List.{drop-drop, drop_at, take-append-drop}
 use Rattle.std.proofs.lemmas.List.Sums.{sum_by-cons}
@@ -12,11 +12,11 @@ use Rattle.schema.specs.Places.{columns_width, tables_size, table_size, row_widt
 use Rattle.schema.specs.LaidOut.{number_bytes, row_bytes, FitRow, rows_bytes, FitRows, tables_bytes, FitTables}
 use Rattle.schema.proofs.NumberLemmas.{IsBytes, length-number_bytes, part_of_number, part_fits}
 
--- bytes begin so behind a place
+-- the bytes from an offset on begin with these
 abbrev pub Begins : List ℕ → ℕ → List ℕ → Type 0
 Begins bytes at front = (rest : List ℕ) × (drop at bytes ≡ front ++ rest)
 
--- what stands behind a front stands after its length
+-- what follows a prefix is at the offset after it
 pub behind : (bytes : List ℕ) (at width : ℕ) (front back : List ℕ) → length front ≡ width → Begins bytes at (front ++ back) → Begins bytes (at + width) back
 behind bytes at width front back e begins = (
   begins.0,
@@ -43,7 +43,7 @@ pub tables_size-nil : (sizes : Sizes) → tables_size sizes [] ≡ 0
 unfolding tables_size
 tables_size-nil sizes = refl
 
--- each table has as many rows as are counted
+-- each table has the number of rows that its count gives
 abbrev pub AreCounted : Sizes → List TableId → List (List (List ℕ)) → Type 0
 AreCounted sizes [] [] = Unit {0}
 AreCounted sizes [] (rows ∷ numbers) = ⊥
@@ -134,7 +134,7 @@ in_tables sizes (table ∷ listed) (rows ∷ numbers) bytes at (suc k) none fit 
     (in_tables sizes listed numbers bytes (at + size) k none fit.1 counted.1
     (behind bytes at size (rows_bytes sizes (columns_of table) rows) (tables_bytes sizes listed numbers) (length-table sizes table rows fit.0 counted.0) begins) (omega arith))
 
--- a cell of the tables that begin at a place
+-- a cell of the tables that begin at an offset
 pub in_cells : (sizes : Sizes) (listed : List TableId) (numbers : List (List (List ℕ))) (bytes : List ℕ) (at k row column : ℕ) (table none : TableId) (no_column : Column)
     → FitTables sizes listed numbers → AreCounted sizes listed numbers → Begins bytes at (tables_bytes sizes listed numbers) → k < length listed → get_or listed k none ≡ table
     → row < count_of sizes table → column < length (columns_of table)
@@ -145,7 +145,7 @@ in_cells sizes listed numbers bytes at k row column table none no_column fit cou
     let there = in_rows sizes (columns_of table) (get_or numbers k []) bytes (at + tables_size sizes (take k listed)) row here.fit here.begins (omega (arith, here.count)) in
     in_row sizes (columns_of table) (get_or (get_or numbers k []) row []) bytes (at + tables_size sizes (take k listed) + row * row_width sizes table) column no_column there.fit there.begins within
 
--- where there is room for a row, some row stands there
+-- if there is room for a row, there is one
 row_there : (sizes : Sizes) (columns : List Column) (bytes : List ℕ) (at : ℕ) → IsBytes bytes → at + columns_width sizes columns ≤ length bytes
     → (numbers : List ℕ) × FitRow sizes columns numbers × (drop at bytes ≡ row_bytes sizes columns numbers ++ drop (at + columns_width sizes columns) bytes)
 row_there sizes [] bytes at are long = ([], tt, ap (λ n. drop n bytes) (omega (arith, columns_width-nil sizes)))
@@ -178,7 +178,7 @@ rows_there sizes columns bytes at (suc n) are long =
           ∙ ap (λ k. (row_bytes sizes columns here.0 ++ rows_bytes sizes columns next.0) ++ drop k bytes) all,
     )
 
--- where there is room for tables, some tables stand there
+-- if there is room for tables, there are some
 pub tables_there : (sizes : Sizes) (listed : List TableId) (bytes : List ℕ) (at : ℕ) → IsBytes bytes → at + tables_size sizes listed ≤ length bytes
     → (numbers : List (List (List ℕ))) × FitTables sizes listed numbers × AreCounted sizes listed numbers × (drop at bytes ≡ tables_bytes sizes listed numbers ++ drop (at + tables_size sizes listed) bytes)
 tables_there sizes [] bytes at are long = ([], tt, tt, ap (λ n. drop n bytes) (omega (arith, tables_size-nil sizes)))

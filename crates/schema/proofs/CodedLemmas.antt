@@ -34,13 +34,13 @@ tables_few coded.TypeOrMethodDef = lit≤ tt
 pub tag_below : (c : Coded) (tag : ℕ) (table : TableId) → slice_get (tables_of c) tag ≡ Some (Some table) → tag < 2 ^ tag_bits c
 tag_below c tag table e = let few = tables_few c in let within = slice_get_within (tables_of c) tag (Some table) e in omega arith
 
--- no table of this number is listed
+-- the list has no table with this number
 abbrev lacks : ℕ → List (Option TableId) → Bool
 lacks number [] = true
 lacks number (None ∷ listed) = lacks number listed
 lacks number (Some table ∷ listed) = cond (eqb (table_number table) number) false (lacks number listed)
 
--- no table is listed twice
+-- the list has no table twice
 abbrev are_distinct : List (Option TableId) → Bool
 are_distinct [] = true
 are_distinct (None ∷ listed) = are_distinct listed
@@ -98,7 +98,7 @@ tag_alone (Some first ∷ listed) (suc a) (suc b) table h e f = ap suc (tag_alon
 pub one_tag : (c : Coded) (a b : ℕ) (table : TableId) → slice_get (tables_of c) a ≡ Some (Some table) → slice_get (tables_of c) b ≡ Some (Some table) → a ≡ b
 one_tag c a b table e f = tag_alone (tables_of c) a b table (distinct c) e f
 
--- a number names one table and one row
+-- a number refers to one table and one row
 pub one_name : (c : Coded) (number : ℕ) (a b : TableId) (m n : ℕ) → IsCoded c number a m → IsCoded c number b n → (a ≡ b) × (m ≡ n)
 one_name c number a b m n x y =
     let below = tag_below c x.tag a x.listed in
@@ -107,7 +107,7 @@ one_name c number a b m n x y =
     let tables : Some (Some a) ≡ Some (Some b) = sym x.listed ∙ ap (slice_get (tables_of c)) same.1 ∙ y.listed in
     (cc, same.0)
 
--- the row and the tag that a number has
+-- the row and the tag in a number
 pub is_named : (c : Coded) (number bits : ℕ) (table : TableId) → bits ≡ tag_bits c → number < 2 ^ 32
     → slice_get (tables_of c) (number - number / 2 ^ bits * 2 ^ bits % 2 ^ 32) ≡ Some (Some table) → IsCoded c number table (number / 2 ^ bits)
 is_named c number bits table e small listed =
@@ -116,7 +116,7 @@ is_named c number bits table e small listed =
     let whole = mod-eq_of_lt below in
     record { tag = number - number / 2 ^ bits * 2 ^ bits % 2 ^ 32; listed = listed; equal = omega (arith, ap (λ k. number / 2 ^ bits * 2 ^ k) e) }
 
--- the tag that is left of a number without the row
+-- the tag that is left when the row is removed from a number
 pub tag_is : (c : Coded) (number bits : ℕ) (table : TableId) (row : ℕ) → bits ≡ tag_bits c → number < 2 ^ 32 → IsCoded c number table row
     → slice_get (tables_of c) (number - number / 2 ^ bits * 2 ^ bits % 2 ^ 32) ≡ Some (Some table)
 tag_is c number bits table row e small named =
@@ -130,7 +130,7 @@ tag_is c number bits table row e small named =
     let left : number - number / 2 ^ bits * 2 ^ bits % 2 ^ 32 ≡ named.tag = omega arith in
     rw left named.listed
 
--- a table that is at no tag below the length is at none
+-- a table that is at no tag below the length is at no tag
 pub lists_no_more : (listed same : List (Option TableId)) (n : ℕ) (table : TableId) → same ≡ listed → length same ≤ n
     → ((k : ℕ) → k < n → slice_get listed k ≢ Some (Some table)) → (tag : ℕ) → slice_get listed tag ≢ Some (Some table)
 lists_no_more listed same n table e le none tag found =
@@ -138,7 +138,7 @@ lists_no_more listed same n table e le none tag found =
     let equal : length same ≡ length listed = ap length e in
     none tag (omega arith) found
 
--- what stands at a tag, and what then does not
+-- an entry of the list of tables at a tag, and the table in it, if there is one
 stands_at : (listed same : List (Option TableId)) (tag : ℕ) (o : Option TableId) → same ≡ listed → tag < length same → o ≡ get_or same tag o → slice_get listed tag ≡ Some o
 stands_at listed same tag o e within is = subst (λ (l : List (Option TableId)). slice_get l tag ≡ Some o) e (slice_get_read same (length same) tag o refl within is)
 
@@ -152,7 +152,7 @@ pub unnamed_at : (listed same : List (Option TableId)) (tag : ℕ) (o : Option T
 unnamed_at listed same tag None e within is = λ table other. let here = stands_at listed same tag None e within is in cc
 unnamed_at listed same tag (Some table) e within is = tt
 
--- the table is the one at a tag, or is not
+-- whether the table is the one at a tag
 equal_some : (o : Option TableId) (table : TableId) → option_eq equality.eq-value.it o (Some table) ≡ true → o ≡ Some table
 equal_some None table h = absurd cc
 equal_some (Some other) table h = ap Some (same_true kind.the_type tt other table h)
@@ -171,11 +171,11 @@ misses listed same tag d table e h found =
     let unequal : equality.eq-value.it table table ≡ false = sym (ap (λ o. option_eq equality.eq-value.it o (Some table)) read) ∙ h in
     cc
 
--- one shifted by the bits of the tag
+-- one shifted by the number of tag bits
 pub shifted : (c : Coded) (bits row : ℕ) → bits ≡ tag_bits c → bits ≤ 5 → row * (1 * 2 ^ bits % 2 ^ 32) ≡ row * 2 ^ tag_bits c
 shifted c bits row e few = ap (λ n. row * n) (one_shl bits 32 (omega arith) ∙ ap (λ k. 2 ^ k) e)
 
--- two bytes less the tag
+-- the tag bits and the remaining bits together make 16 bits
 pub tag_narrow : (c : Coded) → 2 ^ tag_bits c * 2 ^ (16 - tag_bits c) ≡ 2 ^ 16
 tag_narrow coded.TypeDefOrRef = refl
 tag_narrow coded.HasConstant = refl

@@ -1,4 +1,4 @@
--- The fields of a row: each number by its low bytes, at widths that follow from the counts and HeapSizes.
+-- The fields of a row: each number as its low bytes, in widths that depend on the row counts and HeapSizes.
 use Rattle.std.proofs.Common.{◌≡◌, ℕ, zero, suc, ◌+◌, ◌-◌, ◌*◌, ◌/◌, ◌%◌, ◌^◌, ◌<◌, ltb, eqb, ◌&&◌, Option, Some, None, List, [], ◌∷◌, ◌++◌, length, get_or, refl, sym, ap, subst, ◌∙◌, arith, mul_assoc}
 use Rattle.std.specs.List.{list_all}
 use Rattle.std.proofs.lemmas.Nat.{div-add-mod', div-mul-add, mod-mul-add, mod_below}
@@ -14,7 +14,7 @@ use Rattle.schema.specs.LaidOut.{number_bytes, row_bytes, rows_bytes, tables_byt
 
 -- ---- low bytes
 
--- the low bytes are the lowest, and the low ones of the rest
+-- the low bytes are the lowest byte, and the low bytes of the remaining number
 low_split : (width number : ℕ) → number % 256 ^ suc width ≡ number / 256 % 256 ^ width * 256 + number % 256
 low_split width number =
     let p = 256 ^ width in
@@ -98,7 +98,7 @@ kind_same sizes others (kind.Coded coded) same = ap narrow_or_wide (below_same s
 pub width_same : (sizes others : Sizes) → SameCounts sizes others → (column : Column) → width_of sizes column ≡ width_of others column
 width_same sizes others same column = kind_same sizes others column.kind same
 
--- ---- and the bytes that follow from them
+-- ---- the bytes that depend on them
 
 pub fit_same : (sizes others : Sizes) → SameCounts sizes others
     → (columns : List Column) (numbers : List ℕ) → FitRow sizes columns numbers → FitRow others columns numbers

@@ -1,4 +1,4 @@
--- The counts of tables, one behind the other.
+-- The row counts of tables, one after another.
 use Rattle.std.proofs.Common.{◌≡◌, ℕ, ◌+◌, ◌<◌, ◌≤◌, Bool, true, false, cond, List, length, take, map, get_or, refl, sym, ap, subst, ◌∙◌, arith}
 use Rattle.std.specs.List.{count_by}
 use Rattle.std.proofs.lemmas.List.{same_lists, get_or-map, length-map, get_or_default}
@@ -16,7 +16,7 @@ use Rattle.schema.specs.Demands.{demands_of_position}
 use Rattle.schema.specs.Kept.{AreFew}
 use Rattle.schema.proofs.TableFacts.{position_at, position_below, table_at_position, length-tables}
 
--- the count of a table that is counted stands before the first table
+-- the row count of a table that Valid names is before the first table
 pub count_within : (test : TableId → Bool) (table : TableId) → test table ≡ true → header_size (count_by test (take (position_of table) tables)) + 4 ≤ header_size (count_by test tables)
 count_within test table set =
     let P : TableId → Type 0 = λ t. count_by test (take (position_of table) tables) + cond (test t) 1 0 ≤ count_by test tables in
@@ -25,11 +25,11 @@ count_within test table set =
     let one : ◌≡◌ {A = ℕ} (cond (test table) 1 0) 1 = ap (λ b. cond b 1 0) set in
     omega (arith, more, one)
 
--- at most all tables are counted
+-- Valid names at most all tables
 pub count_few : (test : TableId → Bool) → count_by test tables ≤ 38
 count_few test = omega (arith, count_by-le-length test tables, length-tables)
 
--- where the next count stands
+-- the offset of the next row count
 pub place_set : (test : TableId → Bool) (i place : ℕ) → i < 38 → place ≡ header_size (count_by test (take i tables)) → test (get_or tables i Module) ≡ true → place + 4 ≡ header_size (count_by test (take (i + 1) tables))
 place_set test i place below e set =
     let more = sum_by_more (λ t. cond (test t) 1 0) tables i Module (omega (arith, length-tables)) in
@@ -45,7 +45,7 @@ place_clear test i place below e clear =
 pub place_at : (test : TableId → Bool) (i place : ℕ) → i < 38 → place ≡ header_size (count_by test (take i tables)) → place ≡ header_size (count_by test (take (position_of (get_or tables i Module)) tables))
 place_at test i place below e = e ∙ ap (λ (n : ℕ). header_size (count_by test (take n tables))) (sym (position_at i below))
 
--- a list of what each table has, in the order of the tables
+-- a list of the values of each table, in the order of the tables
 pub counts_are : (f : TableId → ℕ) (counts : List ℕ) → length counts ≡ 38 → ((k : ℕ) → k < 38 → get_or counts k 0 ≡ f (get_or tables k Module)) → counts ≡ map f tables
 counts_are f counts long each =
     same_lists counts (map f tables) (omega (arith, long, length-map tables f, length-tables))
@@ -54,27 +54,27 @@ counts_are f counts long each =
     let there : k < length counts = below in
     get_or_default counts k d 0 there ∙ each k low ∙ sym (get_or-map f tables k Module d (omega (arith, length-tables))))
 
--- the count that a stream has of a table
+-- the row count of a table in a stream
 pub count_counted : (stream : List ℕ) (table : TableId) → has_bit (valid_of stream) table ≡ true → count_in stream table ≡ little_endian (part stream (count_place (valid_of stream) table) 4)
 count_counted stream table set = ap (λ b. cond b (little_endian (part stream (count_place (valid_of stream) table) 4)) 0) set
 
 pub count_uncounted : (stream : List ℕ) (table : TableId) → has_bit (valid_of stream) table ≡ false → count_in stream table ≡ 0
 count_uncounted stream table clear = ap (λ b. cond b (little_endian (part stream (count_place (valid_of stream) table) 4)) 0) clear
 
--- what a test of a bit says of a stream
+-- the value of a tested bit of a stream
 pub bit_there : (stream : List ℕ) (valid : ℕ) (table : TableId) (is answer : Bool) → valid ≡ valid_of stream → is ≡ has_bit valid table → is ≡ answer → has_bit (valid_of stream) table ≡ answer
 bit_there stream valid table is answer e f g = ap (λ (n : ℕ). has_bit n table) (sym e) ∙ sym f ∙ g
 
--- what each table has in a list of what each table has
+-- the value of each table in a list of such values
 pub count_is : (f : TableId → ℕ) (counts : List ℕ) → counts ≡ map f tables → (table : TableId) → get_or counts (position_of table) 0 ≡ f table
 count_is f counts e table =
     ap (λ (xs : List ℕ). get_or xs (position_of table) 0) e ∙ get_or-map f tables (position_of table) Module 0 (omega (arith, position_below table, length-tables)) ∙ ap f (table_at_position table)
 
--- sizes are equal where all that they say is
+-- sizes are equal if all their fields are
 pub same_sizes : (a b : Sizes) → a.counts ≡ b.counts → a.heap_sizes ≡ b.heap_sizes → a.sorted ≡ b.sorted → a.body ≡ b.body → a ≡ b
 same_sizes a b c h s d = λ i. record { counts = c i; heap_sizes = h i; sorted = s i; body = d i }
 
--- where the demands of the header and of each count hold, the counts are few
+-- if the rules for the header and for each row count hold, the counts are within their limit
 pub few_from : (stream : List ℕ) → AllHold (demands_from (demands_of_position stream) 0 38) → AreFew (sizes_of stream)
 few_from stream all = record {
   counts = λ table.

@@ -7,7 +7,7 @@ use Rattle.packed.specs.Number.{little_endian}
 use Rattle.packed.specs.Places.{part}
 use Rattle.schema.specs.LaidOut.{number_bytes}
 
--- each is a byte
+-- each element is a byte
 abbrev pub IsBytes : List ℕ → Type 0
 IsBytes bytes = (i : ℕ) → get_or bytes i 0 < 256
 
@@ -15,7 +15,7 @@ pub length-number_bytes : (width number : ℕ) → length (number_bytes width nu
 length-number_bytes zero number = refl
 length-number_bytes (suc width) number = ap suc (length-number_bytes width (number / 256))
 
--- the bytes of a number spell it
+-- the bytes of a number encode it
 pub number_bytes-spell : (width number : ℕ) → number < 256 ^ width → little_endian (number_bytes width number) ≡ number
 number_bytes-spell zero number h = omega arith
 number_bytes-spell (suc width) number h =
@@ -24,7 +24,7 @@ number_bytes-spell (suc width) number h =
     let split = div-add-mod' number 256 in
     omega (arith, rest, split)
 
--- bytes are those of the number that they spell
+-- bytes are those of the number that they encode
 pub bytes_of_number : (bytes : List ℕ) → IsBytes bytes → number_bytes (length bytes) (little_endian bytes) ≡ bytes
 bytes_of_number [] are = refl
 bytes_of_number (byte ∷ bytes) are =
@@ -35,7 +35,7 @@ bytes_of_number (byte ∷ bytes) are =
     ap (λ b. b ∷ number_bytes (length bytes) (little_endian (byte ∷ bytes) / 256)) low
     ∙ ap (λ bs. byte ∷ bs) (ap (number_bytes (length bytes)) high ∙ bytes_of_number bytes (λ i. are (suc i)))
 
--- bytes spell a number that fits as many
+-- bytes encode a number that fits in them
 pub bytes_fit : (bytes : List ℕ) → IsBytes bytes → little_endian bytes < 256 ^ length bytes
 bytes_fit [] are = lit< tt
 bytes_fit (byte ∷ bytes) are =
@@ -54,7 +54,7 @@ bytes_take (suc count) (byte ∷ bytes) are (suc i) = bytes_take count bytes (λ
 pub bytes_drop : (place : ℕ) (bytes : List ℕ) → IsBytes bytes → IsBytes (drop place bytes)
 bytes_drop place bytes are i = rw get_or-drop (are (place + i))
 
--- the number at a place stands there by its bytes
+-- the number at an offset is encoded by the bytes there
 pub part_of_number : (bytes : List ℕ) (place count : ℕ) → IsBytes bytes → place + count ≤ length bytes → number_bytes count (little_endian (part bytes place count)) ≡ part bytes place count
 part_of_number bytes place count are within =
     let long : length (part bytes place count) ≡ count = length-take-le count (drop place bytes) (omega (arith, length-drop place bytes)) in
@@ -67,7 +67,7 @@ part_fits bytes place count are within =
     let P : ℕ → Type 0 = λ n. little_endian (part bytes place count) < 256 ^ n in
     subst P long fits
 
--- a number that stands at a place is the one that is read there
+-- a number whose bytes are at an offset is the one that is read there
 pub number_read : (bytes rest : List ℕ) (place width number : ℕ) → number < 256 ^ width → drop place bytes ≡ number_bytes width number ++ rest → little_endian (part bytes place width) ≡ number
 number_read bytes rest place width number fits stands =
     ap (λ (xs : List ℕ). little_endian (take width xs)) stands

@@ -17,7 +17,7 @@ use Rattle.schema.proofs.PlaceLemmas.{cell_within}
 use Rattle.schema.proofs.CellLemmas.{Begins, in_cells, in_tables, in_rows}
 use Rattle.schema.proofs.StreamLemmas.{sizes_laid, counted_rows, body_laid, end_laid, fit_long}
 
--- what begins behind a place within the whole stands there
+-- bytes that begin at an offset within the whole are at this offset
 stands_at : (whole bytes : List ℕ) (place : ℕ) → place ≤ length whole → Begins whole place bytes → StandsAt whole place bytes
 stands_at whole bytes place within begins = record {
   before = take place whole;
@@ -41,14 +41,14 @@ cell_laid stream sizes numbers laid table row column first last within =
       read = number_read stream cell.begins.0 (cell_start sizes table row column) (width_of sizes (get_or (columns_of table) column none)) _ cell.fits cell.begins.1;
     }
 
--- a row that fits has a number a column
+-- a row that fits has one number for each column
 pub row_long : (sizes : Sizes) (columns : List Column) (row : List ℕ) → FitRow sizes columns row → length row ≡ length columns
 row_long sizes [] [] fit = refl
 row_long sizes [] (number ∷ row) fit = absurd fit
 row_long sizes (column ∷ columns) [] fit = absurd fit
 row_long sizes (column ∷ columns) (number ∷ row) fit = ap suc (row_long sizes columns row fit.1)
 
--- two lists of numbers in one stream of the same sizes
+-- two lists of numbers in one stream with the same sizes
 numbers_same : (stream : List ℕ) (sizes : Sizes) (a b : List (List (List ℕ))) → IsLaidOut stream sizes a → IsLaidOut stream sizes b → a ≡ b
 numbers_same stream sizes a b x y =
     let long_a = fit_long sizes tables a x.fit in

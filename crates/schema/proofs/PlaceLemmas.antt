@@ -1,4 +1,4 @@
--- Where tables, rows and columns stand.
+-- The offsets of tables, rows and columns.
 use Rattle.std.proofs.Common.{◌≡◌, ℕ, ◌+◌, ◌-◌, ◌*◌, ◌^◌, ◌<◌, ◌≤◌, ◌≢◌, List, [], length, take, get_or, refl, sym, ◌∙◌, ap, subst, arith, inl, inr, lit<, Bool, true, false, mul-le-mul, below_more, get_or-set_other, get_or-set_same}
 use Rattle.std.proofs.Math.ListN.{set}
 use Rattle.std.proofs.lemmas.List.{take_all}
@@ -48,7 +48,7 @@ rows_within row count width first last =
     let all : (row - 1 + 1) * width ≤ count * width = mul-le-mul more same in
     omega (arith, all)
 
--- a cell that is there stands within the tables
+-- a cell of an existing row is within the tables
 pub cell_within : (sizes : Sizes) (table : TableId) (row column : ℕ) (none : Column) → 1 ≤ row → row ≤ count_of sizes table → column < length (columns_of table)
     → cell_start sizes table row column + width_of sizes (get_or (columns_of table) column none) ≤ tables_end sizes
 cell_within sizes table row column none first last h =
@@ -78,7 +78,7 @@ kind_width_known sizes (kind.Coded coded) = narrow_or_wide_known _
 pub width_known : (sizes : Sizes) (column : Column) (width : ℕ) → width ≡ width_of sizes column → IsWidth width
 width_known sizes column width e = rw e (kind_width_known sizes column.kind)
 
--- an array that is filled from the front keeps what was written
+-- an array that is written from the start keeps what was written
 pub number_kept : (f : ℕ → ℕ) (kept : List ℕ) (i value : ℕ) → i < length kept → value ≡ f i → ((k : ℕ) → k < i → get_or kept k 0 ≡ f k) → (k : ℕ) → k < i + 1 → get_or (set kept i value) k 0 ≡ f k
 number_kept f kept i value h e before =
     below_more _ _
@@ -91,23 +91,23 @@ item_kept {X} P kept i value h here before k none b =
     (λ k b. let ne : k ≢ i = omega arith in rw get_or-set_other (before k none b))
     (rw get_or-set_same here) k b
 
--- the place that is kept for a table
+-- the offsets that are kept for a table
 pub place_kept : (sizes : Sizes) (kept : List Place) → ArePlaces sizes kept → (table : TableId) (n : ℕ) (none : Place) → n ≡ position_of table → IsPlace sizes table (get_or kept n none)
 place_kept sizes kept are table n none e =
     rw e (rw table_at_position at (are.each (position_of table) none (position_below table)))
 
--- a row begins below 2^36
+-- a row has an offset of at most 2^36
 pub row_low : (start row count width : ℕ) → start ≤ 2 ^ 35 → row ≤ count + 1 → count ≤ 0xFFFFFF → width ≤ 36 → start + (row - 1) * width ≤ 2 ^ 36
 row_low start row count width s r c w =
     let few : row - 1 ≤ 0xFFFFFF = omega arith in
     let below : (row - 1) * width ≤ 0xFFFFFF * 36 = mul-le-mul few w in
     omega arith
 
--- the count of a table is limited
+-- the row count of a table is limited
 pub count_low : (sizes now : Sizes) (table : TableId) → AreFew sizes → sizes ≡ now → count_of now table ≤ 0xFFFFFF
 count_low sizes now table few e = let P : Sizes → Type 0 = λ s. count_of s table ≤ 0xFFFFFF in subst P e (few.counts table)
 
--- what is read of the place of a table
+-- the row offset that is computed from the offsets of a table
 pub row_at : (sizes now : Sizes) (table : TableId) (row : ℕ) (place : Place) → IsPlace sizes table place → sizes ≡ now → place.start + (row - 1) * place.row_width ≡ row_start now table row
 row_at sizes now table row place is e =
     let here : place.start + (row - 1) * place.row_width ≡ row_start sizes table row = cc (is.start, is.row_width) in
@@ -120,18 +120,18 @@ cell_at sizes now table row column place is e below =
     let here : place.start + (row - 1) * place.row_width + get_or place.offsets column 0 ≡ cell_start sizes table row column = cc (is.start, is.row_width, offset) in
     here ∙ ap (λ (s : Sizes). cell_start s table row column) e
 
--- the table that follows begins where this one ends
+-- the next table begins where this one ends
 pub next_start : (sizes : Sizes) (p start count width : ℕ) → p < 38 → start ≡ sizes.body + tables_size sizes (take p tables) → count ≡ count_of sizes (get_or tables p Module) → width ≡ row_width sizes (get_or tables p Module)
     → start + count * width ≡ sizes.body + tables_size sizes (take (p + 1) tables)
 next_start sizes p start count width below s c w =
     let size : count * width ≡ table_size sizes (get_or tables p Module) = cc (c, w) in
     omega (arith, s, size, tables_size_more sizes p below)
 
--- the table at a position begins behind those before it
+-- the table with a table index follows those before it
 pub start_at : (sizes : Sizes) (p start : ℕ) → p < 38 → start ≡ sizes.body + tables_size sizes (take p tables) → start ≡ table_start sizes (get_or tables p Module)
 start_at sizes p start below e = e ∙ ap (λ (n : ℕ). sizes.body + tables_size sizes (take n tables)) (sym (position_at p below))
 
--- the last table ends where all do
+-- the last table ends where all tables end
 pub last_end : (sizes : Sizes) (count : ℕ) → count ≡ count_of sizes GenericParamConstraint → row_start sizes GenericParamConstraint (count + 1) ≡ tables_end sizes
 last_end sizes count e =
     let last : TableId = GenericParamConstraint in

@@ -1,4 +1,4 @@
--- The numbers and the counts of a stream are those that are read.
+-- The numbers and the row counts of a stream are those that are read.
 use Rattle.std.proofs.Common.{◌≡◌, ◌≢◌, ℕ, zero, suc, ◌+◌, ◌-◌, ◌<◌, ◌≤◌, List, [], length, get_or, set, replicate, refl, sym, ◌∙◌, ap, arith, below_more}
 use Rattle.std.proofs.lemmas.List.{same_lists, get_or-map, length-map, get_or_default, get_or-set_same, get_or-set_other}
 use Rattle.std.proofs.lemmas.List.FromFn.{length-map-range_with_len, get_or-map-range_with_len}
@@ -15,7 +15,7 @@ use Rattle.schema.proofs.CellLemmas.{in_tables, in_rows}
 use Rattle.schema.proofs.StreamLemmas.{counted_rows, body_laid, fit_long}
 use Rattle.schema.proofs.OneLemmas.{cell_laid, row_long}
 
--- the numbers of the table at a position
+-- the numbers of the table with a table index
 rows_there : (stream : List ℕ) (sizes : Sizes) (k : ℕ) (none : List (List ℕ)) → k < 38 → get_or (numbers_at stream sizes) k none ≡ rows_at stream sizes (get_or tables k Module)
 unfolding numbers_at
 rows_there stream sizes k none below = get_or-map (rows_at stream sizes) tables k Module none (omega (arith, length-tables))
@@ -40,7 +40,7 @@ numbers_each stream sizes table row column first last within =
     ∙ ap (λ (r : List ℕ). get_or r column 0) (row_there stream sizes table (row - 1) row [] (omega arith) (omega arith))
     ∙ cell_there stream sizes table row column 0 within
 
--- the numbers of a stream that is laid out
+-- the numbers of a table stream
 pub numbers_laid : (stream : List ℕ) (sizes : Sizes) (numbers : List (List (List ℕ))) → IsLaidOut stream sizes numbers → numbers ≡ numbers_at stream sizes
 numbers_laid stream sizes numbers laid =
     let long = fit_long sizes tables numbers laid.fit in
@@ -65,7 +65,7 @@ numbers_laid stream sizes numbers laid =
     one_less : (n : ℕ) → 1 + n - 1 ≡ n
     one_less n = omega arith
 
--- an array of what each table has, by its number, that is filled table by table
+-- an array of the values of each table, by table number, that is written table by table
 pub table_kept : (f : TableId → ℕ) (kept : List ℕ) (i number value : ℕ) → i < 38 → length kept ≡ 45 → number ≡ table_number (get_or tables i Module) → value ≡ f (get_or tables i Module)
     → ((k : ℕ) → k < i → get_or kept (table_number (get_or tables k Module)) 0 ≡ f (get_or tables k Module))
     → (k : ℕ) → k < i + 1 → get_or (set kept number value) (table_number (get_or tables k Module)) 0 ≡ f (get_or tables k Module)
@@ -86,7 +86,7 @@ no_counts zero n = refl
 no_counts (suc long) zero = refl
 no_counts (suc long) (suc n) = no_counts long n
 
--- so each table has what was kept at its number
+-- so each table has the value at its number
 pub tables_kept : (f : TableId → ℕ) (kept : List ℕ) → ((k : ℕ) → k < 38 → get_or kept (table_number (get_or tables k Module)) 0 ≡ f (get_or tables k Module)) → (table : TableId) → get_or kept (table_number table) 0 ≡ f table
 tables_kept f kept each table =
     let here = table_at_position table in

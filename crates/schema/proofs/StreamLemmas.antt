@@ -1,4 +1,4 @@
--- A table stream, its demands and its sizes.
+-- A table stream, its rules and its sizes.
 use Rattle.std.proofs.Common.{◌≡◌, ℕ, zero, suc, ◌+◌, ◌*◌, ◌<◌, ◌≤◌, Bool, true, false, cond, List, [], ◌∷◌, ◌++◌, take, drop, map, length, get_or, refl, sym, subst, inl, inr, ◌∙◌, ap, append_assoc, length-append, add-zero, arith, Result, Ok, Err}
 use Rattle.std.specs.List.{count_by}
 use Rattle.std.proofs.lemmas.Bool.{cases_Bool}
@@ -24,7 +24,7 @@ use Rattle.schema.proofs.NumberLemmas.{IsBytes, length-number_bytes, part_of_num
 use Rattle.schema.proofs.HeaderLemmas.{counts_are, count_is, count_counted, count_uncounted, same_sizes, few_from, place_at}
 use Rattle.schema.proofs.CellLemmas.{Begins, AreCounted, length-tables_bytes, tables_there}
 
--- one more table that is counted, or is not
+-- one more table that passes the test, or does not
 count_by-true : (test : TableId → Bool) (table : TableId) (listed : List TableId) → test table ≡ true → count_by test (table ∷ listed) ≡ 1 + count_by test listed
 count_by-true test table listed e = sum_by-cons (λ t. cond (test t) 1 0) table listed ∙ ap (λ b. cond b 1 0 + count_by test listed) e
 
@@ -37,7 +37,7 @@ counts_bytes-true test sizes table listed e = ap (λ b. cond b (number_bytes 4 (
 counts_bytes-false : (test : TableId → Bool) (sizes : Sizes) (table : TableId) (listed : List TableId) → test table ≡ false → counts_bytes test sizes (table ∷ listed) ≡ counts_bytes test sizes listed
 counts_bytes-false test sizes table listed e = ap (λ b. cond b (number_bytes 4 (count_of sizes table)) [] ++ counts_bytes test sizes listed) e
 
--- the counts take four bytes each
+-- the row counts have four bytes each
 length-counts : (test : TableId → Bool) (sizes : Sizes) (listed : List TableId) → length (counts_bytes test sizes listed) ≡ 4 * count_by test listed
 length-counts test sizes [] = refl
 length-counts test sizes (table ∷ listed) =
@@ -47,11 +47,11 @@ length-counts test sizes (table ∷ listed) =
       | inr clear ↦ ap length (counts_bytes-false test sizes table listed clear) ∙ rest ∙ ap (λ n. 4 * n) (sym (count_by-false test table listed clear))
     ]
 
--- what stands behind a front
+-- what follows a prefix
 past : (bytes front back : List ℕ) (at width : ℕ) → length front ≡ width → drop at bytes ≡ front ++ back → drop (at + width) bytes ≡ back
 past bytes front back at width e stands = sym (drop-drop width at bytes) ∙ ap (drop width) stands ∙ drop_at front back width e
 
--- a count stands behind those before it
+-- a row count follows those before it
 count_stands : (test : TableId → Bool) (sizes : Sizes) (listed : List TableId) (bytes back : List ℕ) (at k : ℕ) → drop at bytes ≡ counts_bytes test sizes listed ++ back → k < length listed → test (get_or listed k Module) ≡ true
     → Begins bytes (at + 4 * count_by test (take k listed)) (number_bytes 4 (count_of sizes (get_or listed k Module)))
 count_stands test sizes [] bytes back at k stands below set = absurd (omega arith)
@@ -73,7 +73,7 @@ count_stands test sizes (table ∷ listed) bytes back at (suc k) stands below se
           subst P (omega (arith, count_by-false test table (take k listed) here)) (count_stands test sizes listed bytes back at k next (omega arith) set)
     ]
 
--- where each count is that of the number there, the counts stand there
+-- if each count is that of the number there, the bytes of the counts are there
 counts_there : (test : TableId → Bool) (sizes : Sizes) (listed : List TableId) (bytes : List ℕ) (at : ℕ) → IsBytes bytes → at + 4 * count_by test listed ≤ length bytes
     → ((k place : ℕ) → k < length listed → test (get_or listed k Module) ≡ true → place ≡ at + 4 * count_by test (take k listed) → count_of sizes (get_or listed k Module) ≡ little_endian (part bytes place 4))
     → drop at bytes ≡ counts_bytes test sizes listed ++ drop (at + 4 * count_by test listed) bytes
@@ -98,7 +98,7 @@ counts_there test sizes (table ∷ listed) bytes at are long each =
           ∙ ap (λ n. counts_bytes test sizes (table ∷ listed) ++ drop n bytes) end
     ]
 
--- seven parts one behind the other
+-- seven parts one after another
 regroup : (a b c d e f g : List ℕ) → a ++ b ++ c ++ d ++ e ++ f ++ g ≡ a ++ (b ++ (c ++ (d ++ (e ++ (f ++ g)))))
 regroup a b c d e f g = simp append_assoc
 
@@ -130,21 +130,21 @@ parts_of stream a b c d e f g whole la lb lc ld =
 rebuild : (stream a b c d e f g x4 x8 x16 x24 body : List ℕ) → stream ≡ a ++ x4 → x4 ≡ b ++ x8 → x8 ≡ c ++ x16 → x16 ≡ d ++ x24 → x24 ≡ e ++ body → body ≡ f ++ g → stream ≡ a ++ b ++ c ++ d ++ e ++ f ++ g
 rebuild stream a b c d e f g x4 x8 x16 x24 body h0 h4 h8 h16 h24 h = rw (h0, h4, h8, h16, h24, h) (sym (regroup a b c d e f g))
 
--- the parts of a stream that is laid out
+-- the parts of a table stream
 parts_laid : (stream : List ℕ) (sizes : Sizes) (numbers : List (List (List ℕ))) (laid : IsLaidOut stream sizes numbers)
     → Parts stream (2 ∷ 0 ∷ sizes.heap_sizes ∷ laid.reserved_byte ∷ []) (number_bytes 8 (bits_of laid.counted tables)) (number_bytes 8 sizes.sorted) (counts_bytes laid.counted sizes tables) (tables_bytes sizes tables numbers) laid.rest
 parts_laid stream sizes numbers laid =
     parts_of stream laid.reserved (2 ∷ 0 ∷ sizes.heap_sizes ∷ laid.reserved_byte ∷ []) (number_bytes 8 (bits_of laid.counted tables)) (number_bytes 8 sizes.sorted) (counts_bytes laid.counted sizes tables) (tables_bytes sizes tables numbers) laid.rest
     laid.whole laid.reserved_long refl (length-number_bytes 8 (bits_of laid.counted tables)) (length-number_bytes 8 sizes.sorted)
 
--- Valid, and which tables it counts
+-- Valid, and the tables that it names
 valid_laid : (stream : List ℕ) (sizes : Sizes) (numbers : List (List (List ℕ))) (laid : IsLaidOut stream sizes numbers) → valid_of stream ≡ bits_of laid.counted tables
 valid_laid stream sizes numbers laid = number_read stream _ 8 8 (bits_of laid.counted tables) (bits_low laid.counted) (parts_laid stream sizes numbers laid).valid
 
 counted_laid : (stream : List ℕ) (sizes : Sizes) (numbers : List (List (List ℕ))) (laid : IsLaidOut stream sizes numbers) → ◌≡◌ {A = TableId → Bool} (has_bit (valid_of stream)) laid.counted
 counted_laid stream sizes numbers laid = ap has_bit (valid_laid stream sizes numbers laid) ∙ tests_are laid.counted
 
--- the count of each table
+-- the row count of each table
 count_laid : (stream : List ℕ) (sizes : Sizes) (numbers : List (List (List ℕ))) → IsLaidOut stream sizes numbers → (table : TableId) → count_in stream table ≡ count_of sizes table
 count_laid stream sizes numbers laid table =
     let tests = counted_laid stream sizes numbers laid in
@@ -161,7 +161,7 @@ count_laid stream sizes numbers laid table =
       | inr clear ↦ count_uncounted stream table (ap (λ (f : TableId → Bool). f table) tests ∙ clear) ∙ sym (laid.uncounted table clear)
     ]
 
--- as many lists of rows as tables
+-- there is one list of rows for each table
 pub fit_long : (sizes : Sizes) (listed : List TableId) (numbers : List (List (List ℕ))) → FitTables sizes listed numbers → length numbers ≡ length listed
 fit_long sizes [] [] fit = refl
 fit_long sizes [] (rows ∷ numbers) fit = absurd fit
@@ -171,11 +171,11 @@ fit_long sizes (table ∷ listed) (rows ∷ numbers) fit = ap suc (fit_long size
 counts_long : (stream : List ℕ) (sizes : Sizes) (numbers : List (List (List ℕ))) → IsLaidOut stream sizes numbers → length sizes.counts ≡ 38
 counts_long stream sizes numbers laid = ap length laid.counts ∙ length-map numbers length ∙ fit_long sizes tables numbers laid.fit ∙ length-tables
 
--- the count of the table at a position
+-- the row count of the table with a table index
 count_at : (sizes : Sizes) (k : ℕ) → k < 38 → count_of sizes (get_or tables k Module) ≡ get_or sizes.counts k 0
 count_at sizes k below = ap (λ (n : ℕ). get_or sizes.counts n 0) (position_at k below)
 
--- a stream that is laid out has one list of sizes
+-- a table stream has one list of sizes
 pub sizes_laid : (stream : List ℕ) (sizes : Sizes) (numbers : List (List (List ℕ))) → IsLaidOut stream sizes numbers → sizes ≡ sizes_of stream
 sizes_laid stream sizes numbers laid =
     let parts = parts_laid stream sizes numbers laid in
@@ -185,7 +185,7 @@ sizes_laid stream sizes numbers laid =
     let body : sizes.body ≡ (sizes_of stream).body = laid.body ∙ ap (λ (f : TableId → Bool). header_size (count_by f tables)) (sym (counted_laid stream sizes numbers laid)) in
     same_sizes sizes (sizes_of stream) counts heap sorted body
 
--- rows are as many as are counted
+-- the number of rows is the row count
 counted_each : (sizes : Sizes) (listed : List TableId) (numbers : List (List (List ℕ))) → length numbers ≡ length listed → ((k : ℕ) → k < length listed → length (get_or numbers k []) ≡ count_of sizes (get_or listed k Module)) → AreCounted sizes listed numbers
 counted_each sizes [] [] e each = tt
 counted_each sizes [] (rows ∷ numbers) e each = absurd (omega arith)
@@ -199,7 +199,7 @@ counted_rows stream sizes numbers laid =
     let low : k < 38 = omega (arith, length-tables) in
     sym (get_or-map length numbers k [] 0 (omega (arith, long))) ∙ ap (λ (xs : List ℕ). get_or xs k 0) (sym laid.counts) ∙ sym (count_at sizes k low))
 
--- the tables begin behind the counts, and end within the stream
+-- the tables follow the row counts
 pub body_laid : (stream : List ℕ) (sizes : Sizes) (numbers : List (List (List ℕ))) → IsLaidOut stream sizes numbers → Begins stream sizes.body (tables_bytes sizes tables numbers)
 body_laid stream sizes numbers laid =
     let P : ℕ → Type 0 = λ n. Begins stream n (tables_bytes sizes tables numbers) in
@@ -211,7 +211,7 @@ end_laid stream sizes numbers laid =
     let parts = parts_laid stream sizes numbers laid in
     omega (arith, parts.long, laid.body, length-counts laid.counted sizes tables, length-tables_bytes sizes tables numbers laid.fit (counted_rows stream sizes numbers laid))
 
--- a stream that is laid out meets all demands
+-- a table stream satisfies all rules
 pub demands_laid : (stream : List ℕ) (sizes : Sizes) (numbers : List (List (List ℕ))) → IsLaidOut stream sizes numbers → AllHold (demands_of_stream stream)
 demands_laid stream sizes numbers laid =
     let parts = parts_laid stream sizes numbers laid in
@@ -225,26 +225,26 @@ demands_laid stream sizes numbers laid =
     (all_of_each (demands_of_position stream) 0 38 (λ k low high. let few = laid.few (get_or tables k Module) in (omega (arith, few, count_laid stream sizes numbers laid (get_or tables k Module)), tt)))
     (end, tt))
 
--- rows are as many as were counted
+-- the number of rows is the row count
 count_rows : (sizes : Sizes) (listed : List TableId) (numbers : List (List (List ℕ))) → AreCounted sizes listed numbers → (k : ℕ) → k < length listed → length (get_or numbers k []) ≡ count_of sizes (get_or listed k Module)
 count_rows sizes [] numbers counted k below = absurd (omega arith)
 count_rows sizes (table ∷ listed) [] counted k below = absurd counted
 count_rows sizes (table ∷ listed) (rows ∷ numbers) counted zero below = counted.0
 count_rows sizes (table ∷ listed) (rows ∷ numbers) counted (suc k) below = count_rows sizes listed numbers counted.1 k (omega arith)
 
--- the four bytes behind the first four
+-- the four bytes after the first four
 version_there : (stream : List ℕ) → 24 ≤ length stream → part stream 4 2 ≡ 2 ∷ 0 ∷ [] → drop 4 stream ≡ 2 ∷ 0 ∷ heap_sizes_of stream ∷ get_or stream 7 0 ∷ drop 8 stream
 version_there stream long version =
     sym (take-append-drop 2 (drop 4 stream)) ∙ ap (λ (f : List ℕ). f ++ drop 2 (drop 4 stream)) version
     ∙ ap (λ (b : List ℕ). 2 ∷ 0 ∷ b) (drop-drop 2 4 stream ∙ drop_more stream 6 0 (omega arith) ∙ ap (λ (b : List ℕ). heap_sizes_of stream ∷ b) (drop_more stream 7 0 (omega arith)))
 
--- a number of eight bytes that stands at a place
+-- a number of eight bytes at an offset
 number_there : (stream : List ℕ) (place number : ℕ) → IsBytes stream → place + 8 ≤ length stream → little_endian (part stream place 8) ≡ number → drop place stream ≡ number_bytes 8 number ++ drop (place + 8) stream
 number_there stream place number are long is =
     sym (take-append-drop 8 (drop place stream)) ∙ ap (λ (f : List ℕ). f ++ drop 8 (drop place stream)) (sym (part_of_number stream place 8 are long) ∙ ap (number_bytes 8) is)
     ∙ ap (λ (b : List ℕ). number_bytes 8 number ++ b) (drop-drop 8 place stream)
 
--- where all demands hold, the bytes are a table stream
+-- if all rules hold, the bytes are a table stream
 pub stream_there : (stream : List ℕ) → IsBytes stream → AllHold (demands_of_stream stream) → IsTableStream stream (sizes_of stream)
 stream_there stream are all =
     let sizes = sizes_of stream in
@@ -286,7 +286,7 @@ stream_there stream are all =
       },
     )
 
--- what a result that answers the demands says of the relation
+-- what the relation says of a result that reports the rules
 pub answers_found : (stream : List ℕ) (r : Result Sizes Fault) → IsBytes stream → Answers (demands_of_stream stream) r → IfOk r (λ sizes. sizes ≡ sizes_of stream) → IfOk r (λ sizes. IsTableStream stream sizes)
 answers_found stream (Ok sizes) are all is = subst (IsTableStream stream) (sym is) (stream_there stream are all)
 answers_found stream (Err found) are fails is = tt

@@ -1,4 +1,4 @@
--- Facts of the tables and their columns, by cases.
+-- Facts about the tables and their columns, by cases.
 use Rattle.std.proofs.Common.{◌≡◌, ℕ, zero, suc, ◌<◌, ◌≤◌, List, length, get_or, refl, lit<, lit≤, arith, true, [], ◌∷◌, Some, inl, inr, subst}
 use Rattle.schema.specs.declared.table.TableId.{TableId}
 use Rattle.schema.specs.declared.table.TableId.TheVariants.{Module, TypeRef, TypeDef, Field, MethodDef, Param, InterfaceImpl, MemberRef, Constant, CustomAttribute, FieldMarshal, DeclSecurity, ClassLayout, FieldLayout, StandAloneSig, EventMap, Event, PropertyMap, Property, MethodSemantics, MethodImpl, ModuleRef, TypeSpec, ImplMap, FieldRVA, Assembly, AssemblyProcessor, AssemblyOS, AssemblyRef, AssemblyRefProcessor, AssemblyRefOS, File, ExportedType, ManifestResource, NestedClass, GenericParam, MethodSpec, GenericParamConstraint}
@@ -131,7 +131,7 @@ number_below GenericParam = lit< tt
 number_below MethodSpec = lit< tt
 number_below GenericParamConstraint = lit< tt
 
--- each table stands at its position
+-- each table is at its table index
 pub table_at_position : (table : TableId) → get_or tables (position_of table) Module ≡ table
 unfolding tables
 table_at_position Module = refl
@@ -173,7 +173,7 @@ table_at_position GenericParam = refl
 table_at_position MethodSpec = refl
 table_at_position GenericParamConstraint = refl
 
--- the table at a position stands there
+-- the table at a table index has this index
 pub position_at : (p : ℕ) → p < 38 → position_of (get_or tables p Module) ≡ p
 unfolding tables
 position_at zero h = refl
@@ -257,7 +257,7 @@ key_within GenericParam column e = let here : 2 ≡ column = cc in omega arith
 key_within MethodSpec column e = cc
 key_within GenericParamConstraint column e = let here : 0 ≡ column = cc in omega arith
 
--- a key names rows
+-- a key refers to rows
 pub key_reference : (table : TableId) (column : ℕ) → key_of table ≡ Some column → IsReference (column_at table column)
 key_reference Module column e = cc
 key_reference TypeRef column e = cc
@@ -298,7 +298,7 @@ key_reference GenericParam column e = let here : 2 ≡ column = cc in subst (λ 
 key_reference MethodSpec column e = cc
 key_reference GenericParamConstraint column e = let here : 0 ≡ column = cc in subst (λ (n : ℕ). IsReference (column_at GenericParamConstraint n)) here (inl (GenericParam, refl))
 
--- the columns that may be null have a number for null
+-- the columns that allow null have a number for null
 abbrev AllNull : List Column → Type 0
 AllNull [] = Unit {0}
 AllNull (column ∷ columns) = (column.nullable ≡ true → MayBeNull column) × AllNull columns

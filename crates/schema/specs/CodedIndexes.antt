@@ -1,11 +1,11 @@
--- The coded indexes (ECMA-335 II.24.2.6): the tables of each, by tag, and how a number names a table and a row.
+-- Coded indexes (ECMA-335 II.24.2.6): the tables of each by tag, and the table and row that a number refers to.
 use Rattle.std.specs.Prelude.{◌≡◌, ℕ, ◌+◌, ◌*◌, ◌^◌, List, [], ◌∷◌, Option, Some, None, slice_get}
 use Rattle.schema.specs.declared.table.TableId.{TableId}
 use Rattle.schema.specs.declared.table.TableId.TheVariants.{Module, TypeRef, TypeDef, Field, MethodDef, Param, InterfaceImpl, MemberRef, DeclSecurity, StandAloneSig, Event, Property, ModuleRef, TypeSpec, Assembly, AssemblyRef, File, ExportedType, ManifestResource, GenericParam, MethodSpec, GenericParamConstraint}
 use Rattle.schema.specs.declared.coded.Coded.{Coded}
 use Rattle.schema.specs.declared.coded.Coded.TheVariants as coded
 
--- the tables of each coded index by their tags, from 0 on; None is a tag that is not used
+-- the tables of each coded index by tag, from 0 on; None is an unused tag
 abbrev pub tables_of : Coded → List (Option TableId)
 tables_of coded.TypeDefOrRef = Some TypeDef ∷ Some TypeRef ∷ Some TypeSpec ∷ []
 tables_of coded.HasConstant = Some Field ∷ Some Param ∷ Some Property ∷ []
@@ -21,7 +21,7 @@ tables_of coded.CustomAttributeType = None ∷ None ∷ Some MethodDef ∷ Some 
 tables_of coded.ResolutionScope = Some Module ∷ Some ModuleRef ∷ Some AssemblyRef ∷ Some TypeRef ∷ []
 tables_of coded.TypeOrMethodDef = Some TypeDef ∷ Some MethodDef ∷ []
 
--- how many bits the tag takes
+-- the number of bits of the tag
 abbrev pub tag_bits : Coded → ℕ
 tag_bits coded.TypeDefOrRef = 2
 tag_bits coded.HasConstant = 2
@@ -37,7 +37,7 @@ tag_bits coded.CustomAttributeType = 3
 tag_bits coded.ResolutionScope = 2
 tag_bits coded.TypeOrMethodDef = 1
 
--- the number names this row of this table: the row, and behind it the tag of the table
+-- the number refers to this row of this table: the row in the high bits, the tag of the table in the low bits
 pub record IsCoded (coded : Coded) (number : ℕ) (table : TableId) (row : ℕ) : Type 0 where
   pub tag : ℕ
   pub listed : slice_get (tables_of coded) tag ≡ Some (Some table)

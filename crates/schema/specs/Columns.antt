@@ -10,14 +10,14 @@ use Rattle.schema.specs.declared.column.ColumnKind.TheVariants as kind
 use Rattle.schema.specs.declared.column.Column.{Column}
 use Rattle.schema.specs.CodedIndexes.{tables_of}
 
--- a column that may not be null, and one that may
+-- a column that does not allow null, and one that does
 abbrev pub col : ColumnKind → Column
 col kind = record { kind = kind; nullable = false }
 
 abbrev pub nullable : ColumnKind → Column
 nullable kind = record { kind = kind; nullable = true }
 
--- the columns of each table, in order
+-- the columns of each table, in order (II.22)
 abbrev pub columns_of : TableId → List Column
 columns_of Module = col kind.U16 ∷ col kind.Text ∷ col kind.Guid ∷ col kind.Guid ∷ col kind.Guid ∷ []
 columns_of TypeRef = nullable (kind.Coded coded.ResolutionScope) ∷ col kind.Text ∷ col kind.Text ∷ []
@@ -58,22 +58,22 @@ columns_of GenericParam = col kind.U16 ∷ col kind.U16 ∷ col (kind.Coded code
 columns_of MethodSpec = col (kind.Coded coded.MethodDefOrRef) ∷ col (kind.Signature signature.Instance) ∷ []
 columns_of GenericParamConstraint = col (kind.Row GenericParam) ∷ col (kind.Coded coded.TypeDefOrRef) ∷ []
 
--- the column of an index
+-- the column with an index
 abbrev pub column_at : TableId → ℕ → Column
 column_at table index = slice_index_or (columns_of table) index (col kind.U8)
 
--- a column names rows, by a simple or a coded index
+-- the column refers to rows, by a simple or a coded index
 abbrev pub IsReference : Column → Type 0
 IsReference column = ((table : TableId) × (column.kind ≡ kind.Row table)) ⊎ ((coded : Coded) × (column.kind ≡ kind.Coded coded))
 
--- a column of a coded index whose tag 0 is used, so that null is the number 0
+-- the column is a coded index with a table for tag 0, so that the number 0 is null
 pub record MayBeNull (column : Column) : Type 0 where
   pub coded : Coded
   pub first : TableId
   pub is : column.kind ≡ kind.Coded coded
   pub used : slice_get (tables_of coded) 0 ≡ Some (Some first)
 
--- the column by which the rows of a table are in order
+-- the column by which the rows of a table are sorted (II.22)
 abbrev pub key_of : TableId → Option ℕ
 key_of InterfaceImpl = Some 0
 key_of Constant = Some 2

@@ -1,5 +1,5 @@
--- What is demanded of a table stream, in order (ECMA-335 II.24.2.6). A demand is posed only where all before it hold.
--- Each has a number, and a place at which it fails.
+-- The rules for a table stream, in order (ECMA-335 II.24.2.6). A rule applies only if all rules before it hold.
+-- Each rule has a code, and the offset that is reported if it is broken.
 use Rattle.std.specs.Prelude.{◌≡◌, ℕ, ◌<◌, ◌≤◌, Bool, List, [], ◌∷◌, ◌++◌, length, slice_index_or}
 use Rattle.packed.specs.declared.code.FaultCode.TheVariants.{TablesHeader, TablesVersion, HeapSizes, UnknownTable, RowCounts, RowCount, TablesShort}
 use Rattle.packed.specs.declared.fault.Fault.{Fault}
@@ -12,12 +12,12 @@ use Rattle.schema.specs.Places.{tables_end}
 use Rattle.schema.specs.LaidOut.{bits_of}
 use Rattle.schema.specs.Header.{heap_sizes_of, valid_of, count_place, count_in, sizes_of}
 
--- Valid has the bits of some tables, and no other
+-- Valid sets bits of tables only
 pub record NamesTables (valid : ℕ) : Type 0 where
   pub counted : TableId → Bool
   pub bits : valid ≡ bits_of counted tables
 
--- of the fields before the counts, and of all counts together
+-- the rules for the fields before the row counts, and for the size of all row counts together
 abbrev pub demands_of_header : List ℕ → List (Demand Fault)
 demands_of_header stream =
     demand (24 ≤ length stream) TablesHeader 0
@@ -27,18 +27,18 @@ demands_of_header stream =
     ∷ demand ((sizes_of stream).body ≤ length stream) RowCounts 24
     ∷ []
 
--- of the count of a table
+-- the rule for the row count of a table (II.22)
 abbrev pub demands_of_count : List ℕ → TableId → List (Demand Fault)
 demands_of_count stream table = demand (count_in stream table ≤ 0xFFFFFF) RowCount (count_place (valid_of stream) table) ∷ []
 
--- of the count of the table at a position
+-- the rule for the row count of the table with this table index
 abbrev pub demands_of_position : List ℕ → ℕ → List (Demand Fault)
 demands_of_position stream position = demands_of_count stream (slice_index_or tables position Module)
 
--- of the tables, which end within the stream
+-- the rule for the tables: they end within the stream
 abbrev pub demands_of_tables : List ℕ → List (Demand Fault)
 demands_of_tables stream = demand (tables_end (sizes_of stream) ≤ length stream) TablesShort (sizes_of stream).body ∷ []
 
--- of the whole stream: its header, count by count, and the tables
+-- the rules for the whole stream: its header, each row count, and the tables
 abbrev pub demands_of_stream : List ℕ → List (Demand Fault)
 demands_of_stream stream = demands_of_header stream ++ (demands_from (demands_of_position stream) 0 38 ++ demands_of_tables stream)

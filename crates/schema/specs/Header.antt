@@ -1,4 +1,4 @@
--- Where the fields of a table stream stand (ECMA-335 II.24.2.6), whether or not the bytes are one.
+-- The values in the header of a table stream (ECMA-335 II.24.2.6), whether or not the bytes are a table stream.
 use Rattle.std.specs.Prelude.{ℕ, Bool, ◌/◌, ◌%◌, ◌^◌, ◌==◌, List, take, map, count_by, if◌then◌else◌, slice_index}
 use Rattle.packed.specs.Number.{little_endian}
 use Rattle.packed.specs.Places.{part}
@@ -6,31 +6,31 @@ use Rattle.schema.specs.declared.table.TableId.{TableId}
 use Rattle.schema.specs.Tables.{table_number, position_of, tables}
 use Rattle.schema.specs.Sizes.{Sizes, header_size}
 
--- HeapSizes
+-- HeapSizes (II.24.2.6)
 abbrev pub heap_sizes_of : List ℕ → ℕ
 heap_sizes_of stream = slice_index stream 6
 
--- Valid
+-- Valid (II.24.2.6)
 abbrev pub valid_of : List ℕ → ℕ
 valid_of stream = little_endian (part stream 8 8)
 
--- Sorted
+-- Sorted (II.24.2.6)
 abbrev pub sorted_of : List ℕ → ℕ
 sorted_of stream = little_endian (part stream 16 8)
 
--- the bit of a table is set
+-- whether the bit of a table is set
 abbrev pub has_bit : ℕ → TableId → Bool
 has_bit bits table = bits / 2 ^ table_number table % 2 == 1
 
--- where the count of a table stands, behind those of lower numbers
+-- the offset of a table's row count, after those of tables with lower numbers
 abbrev pub count_place : ℕ → TableId → ℕ
 count_place valid table = header_size (count_by (has_bit valid) (take (position_of table) tables))
 
--- how many rows a table has; one that is not counted has none
+-- the number of rows of a table; it is 0 if Valid does not set the bit of the table
 abbrev pub count_in : List ℕ → TableId → ℕ
 count_in stream table = if has_bit (valid_of stream) table then little_endian (part stream (count_place (valid_of stream) table) 4) else 0
 
--- what the stream says of its tables
+-- the sizes that the header gives
 abbrev pub sizes_of : List ℕ → Sizes
 sizes_of stream = record {
   counts = map (count_in stream) tables;

@@ -1,4 +1,4 @@
--- What a layout keeps: the sizes, and for each table where it and its columns stand (ECMA-335 II.24.2.6).
+-- The fields of a layout: the sizes, and the offsets of each table and its columns (ECMA-335 II.24.2.6).
 use Rattle.std.specs.Prelude.{◌≡◌, ℕ, ◌^◌, ◌<◌, ◌≤◌, List, length, slice_index, slice_index_or}
 use Rattle.schema.specs.declared.header.Header.{Header}
 use Rattle.schema.specs.declared.place.Place.{Place}
@@ -9,16 +9,16 @@ use Rattle.schema.specs.Columns.{columns_of}
 use Rattle.schema.specs.Sizes.{Sizes, count_of}
 use Rattle.schema.specs.Places.{row_width, offset_in_row, table_start}
 
--- the sizes that a header holds
+-- the sizes in a header
 abbrev pub sizes_kept : Header → Sizes
 sizes_kept header = record { counts = header.counts; heap_sizes = header.heap_sizes; sorted = header.sorted; body = header.body }
 
--- no table has more rows than it may, and the first begins within the counts of all tables
+-- each table has at most 0xFFFFFF rows, and the first table has an offset below 256
 pub record AreFew (sizes : Sizes) : Type 0 where
   pub counts : (table : TableId) → count_of sizes table ≤ 0xFFFFFF
   pub body : sizes.body < 256
 
--- the place of a table
+-- the start of a table, its row width and the offsets of its columns
 pub record IsPlace (sizes : Sizes) (table : TableId) (place : Place) : Type 0 where
   pub start : place.start ≡ table_start sizes table
   pub low : place.start ≤ 2 ^ 35
@@ -26,11 +26,11 @@ pub record IsPlace (sizes : Sizes) (table : TableId) (place : Place) : Type 0 wh
   pub narrow : place.row_width ≤ 36
   pub offsets : (column : ℕ) → column ≤ length (columns_of table) → slice_index place.offsets column ≡ offset_in_row sizes table column
 
--- the places of the tables at the first positions
+-- this for the first n tables
 abbrev pub AreFirstPlaces : Sizes → ℕ → List Place → Type 0
 AreFirstPlaces sizes n places = (position : ℕ) (none : Place) → position < n → IsPlace sizes (slice_index_or tables position Module) (slice_index_or places position none)
 
--- the places of all tables
+-- this for all tables
 pub record ArePlaces (sizes : Sizes) (places : List Place) : Type 0 where
   pub few : AreFew sizes
   pub each : AreFirstPlaces sizes 38 places

@@ -1,4 +1,4 @@
--- A table stream (ECMA-335 II.24.2.6), as a relation between its bytes, its sizes and the numbers in its tables.
+-- A table stream (ECMA-335 II.24.2.6): the relation between its bytes, its sizes and the numbers in its tables.
 use Rattle.std.specs.Prelude.{◌≡◌, ℕ, zero, suc, Bool, false, ◌-◌, ◌/◌, ◌%◌, ◌^◌, ◌<◌, ◌≤◌, List, [], ◌∷◌, ◌++◌, length, map, count_by, sum_by, if◌then◌else◌, slice_index, slice_index_or}
 use Rattle.schema.specs.declared.table.TableId.{TableId}
 use Rattle.schema.specs.declared.column.Column.{Column}
@@ -6,31 +6,31 @@ use Rattle.schema.specs.Tables.{table_number, position_of, tables}
 use Rattle.schema.specs.Columns.{columns_of}
 use Rattle.schema.specs.Sizes.{Sizes, count_of, header_size, width_of}
 
--- the bytes of a number at a width, the lowest first; a number too great for the width stands by its low bytes
+-- a number as `width` bytes, the lowest first; if it does not fit, the bytes are its low ones
 abbrev pub number_bytes : ℕ → ℕ → List ℕ
 number_bytes zero number = []
 number_bytes (suc width) number = number % 256 ∷ number_bytes width (number / 256)
 
--- the bytes of a row: of each of its numbers at its column's width
+-- the bytes of a row: each number in the width of its column
 abbrev pub row_bytes : Sizes → List Column → List ℕ → List ℕ
 row_bytes sizes [] numbers = []
 row_bytes sizes (column ∷ columns) [] = []
 row_bytes sizes (column ∷ columns) (number ∷ numbers) = number_bytes (width_of sizes column) number ++ row_bytes sizes columns numbers
 
--- a row has one number a column, within its width
+-- a row has one number for each column, and each fits its width
 abbrev pub FitRow : Sizes → List Column → List ℕ → Type 0
 FitRow sizes [] [] = Unit {0}
 FitRow sizes [] (number ∷ numbers) = ⊥
 FitRow sizes (column ∷ columns) [] = ⊥
 FitRow sizes (column ∷ columns) (number ∷ numbers) = (number < 256 ^ width_of sizes column) × FitRow sizes columns numbers
 
--- what the fields of a row hold: of each number what fits its column's width, which its low bytes spell
+-- the numbers of a row, cut to the widths of their columns: what their low bytes encode
 abbrev pub fields_of : Sizes → List Column → List ℕ → List ℕ
 fields_of sizes [] numbers = []
 fields_of sizes (column ∷ columns) [] = []
 fields_of sizes (column ∷ columns) (number ∷ numbers) = number % 256 ^ width_of sizes column ∷ fields_of sizes columns numbers
 
--- the bytes of rows, one behind the other
+-- the bytes of rows, one after another
 abbrev pub rows_bytes : Sizes → List Column → List (List ℕ) → List ℕ
 rows_bytes sizes columns [] = []
 rows_bytes sizes columns (row ∷ rows) = row_bytes sizes columns row ++ rows_bytes sizes columns rows
@@ -39,31 +39,31 @@ abbrev pub FitRows : Sizes → List Column → List (List ℕ) → Type 0
 FitRows sizes columns [] = Unit {0}
 FitRows sizes columns (row ∷ rows) = FitRow sizes columns row × FitRows sizes columns rows
 
--- the bytes of tables, one behind the other
+-- the bytes of tables, one after another
 abbrev pub tables_bytes : Sizes → List TableId → List (List (List ℕ)) → List ℕ
 tables_bytes sizes [] numbers = []
 tables_bytes sizes (table ∷ listed) [] = []
 tables_bytes sizes (table ∷ listed) (rows ∷ numbers) = rows_bytes sizes (columns_of table) rows ++ tables_bytes sizes listed numbers
 
--- there are rows for each of the tables and no others, and they fit
+-- there is one list of rows for each table, and the rows fit
 abbrev pub FitTables : Sizes → List TableId → List (List (List ℕ)) → Type 0
 FitTables sizes [] [] = Unit {0}
 FitTables sizes [] (rows ∷ numbers) = ⊥
 FitTables sizes (table ∷ listed) [] = ⊥
 FitTables sizes (table ∷ listed) (rows ∷ numbers) = FitRows sizes (columns_of table) rows × FitTables sizes listed numbers
 
--- the bits of the tables that pass a test, as one number
+-- a number with the bits of the tables that pass a test
 unfoldable pub bits_of : (TableId → Bool) → List TableId → ℕ
 bits_of test listed = sum_by (λ table. if test table then 2 ^ table_number table else 0) listed
 
--- the counts of the tables that are counted, each in four bytes
+-- the row counts of the tables that Valid names, each in four bytes
 abbrev pub counts_bytes : (TableId → Bool) → Sizes → List TableId → List ℕ
 counts_bytes counted sizes [] = []
 counts_bytes counted sizes (table ∷ listed) = (if counted table then number_bytes 4 (count_of sizes table) else []) ++ counts_bytes counted sizes listed
 
--- The bytes are a table stream of these sizes with these numbers, by table, row and column: four reserved bytes; the
--- version, 2 and 0; HeapSizes; a reserved byte; Valid, which has the bits of the tables that are counted; Sorted; their
--- counts; all numbers by table, row and column; and a rest. A table that is not counted has no rows.
+-- The bytes are a table stream with these sizes and numbers: four reserved bytes; the version, 2 and 0; HeapSizes;
+-- a reserved byte; Valid, with the bits of some tables; Sorted; the row counts of these tables; all numbers by table,
+-- row and column; and any further bytes. A table that Valid does not name has no rows.
 pub record IsLaidOut (stream : List ℕ) (sizes : Sizes) (numbers : List (List (List ℕ))) : Type 0 where
   pub reserved : List ℕ
   pub reserved_byte : ℕ
@@ -80,7 +80,7 @@ pub record IsLaidOut (stream : List ℕ) (sizes : Sizes) (numbers : List (List (
   pub counts : sizes.counts ≡ map length numbers
   pub fit : FitTables sizes tables numbers
 
--- the bytes are a table stream of these sizes
+-- the bytes are a table stream with these sizes
 abbrev pub IsTableStream : List ℕ → Sizes → Type 0
 IsTableStream stream sizes = (numbers : List (List (List ℕ))) × IsLaidOut stream sizes numbers
 
@@ -88,7 +88,7 @@ IsTableStream stream sizes = (numbers : List (List (List ℕ))) × IsLaidOut str
 abbrev pub number_in : List (List (List ℕ)) → TableId → ℕ → ℕ → ℕ
 number_in numbers table row column = slice_index (slice_index_or (slice_index_or numbers (position_of table) []) (row - 1) []) column
 
--- these bytes stand at a place of a whole: the length of what precedes them
+-- these bytes are at an offset of the whole
 pub record StandsAt (whole : List ℕ) (place : ℕ) (bytes : List ℕ) : Type 0 where
   pub before : List ℕ
   pub after : List ℕ

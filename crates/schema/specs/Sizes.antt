@@ -1,4 +1,4 @@
--- What a table stream says of its tables, and the widths of columns that follow (ECMA-335 II.24.2.6).
+-- The sizes in the header of a table stream, and the widths of columns that follow from them (ECMA-335 II.24.2.6).
 use Rattle.std.specs.Prelude.{◌≡◌, ◌⊎◌, ℕ, Bool, true, List, Option, Some, None, map, ◌+◌, ◌*◌, ◌^◌, ◌-◌, ◌/◌, ◌%◌, nat_lt, ◌==◌, if◌then◌else◌, slice_index, count_by}
 use Rattle.std.specs.List.{list_all}
 use Rattle.schema.specs.declared.table.TableId.{TableId}
@@ -9,27 +9,27 @@ use Rattle.schema.specs.declared.column.Column.{Column}
 use Rattle.schema.specs.Tables.{table_number, position_of, tables}
 use Rattle.schema.specs.CodedIndexes.{tables_of, tag_bits}
 
--- how many rows each table has, in the order of the tables; HeapSizes; Sorted; and where the first table begins
+-- the number of rows of each table, in the order of the tables; HeapSizes; Sorted; the offset of the first table
 pub record Sizes : Type 0 where
   pub counts : List ℕ
   pub heap_sizes : ℕ
   pub sorted : ℕ
   pub body : ℕ
 
--- how many rows a table has
+-- the number of rows of a table
 abbrev pub count_of : Sizes → TableId → ℕ
 count_of sizes table = slice_index sizes.counts (position_of table)
 
--- by both each table has as many rows, and HeapSizes is the same; Sorted and where the first table begins may differ
+-- both have the same number of rows of each table and the same HeapSizes; Sorted and `body` may differ
 pub record SameCounts (sizes others : Sizes) : Type 0 where
   pub counts : (table : TableId) → count_of sizes table ≡ count_of others table
   pub heap_sizes : sizes.heap_sizes ≡ others.heap_sizes
 
--- where the first table begins behind a header with the counts of so many tables
+-- the offset of the first table, after a header with `counted` row counts
 abbrev pub header_size : ℕ → ℕ
 header_size counted = 24 + 4 * counted
 
--- the sizes of tables with these counts, by their numbers, where those that have rows are counted and none is said to be in order
+-- the sizes of tables with these row counts by table number: Valid names the tables with rows, and Sorted is 0
 abbrev pub sizes_by_number : List ℕ → ℕ → Sizes
 sizes_by_number counts heap_sizes = record {
   counts = map (λ table. slice_index counts (table_number table)) tables;
@@ -38,28 +38,28 @@ sizes_by_number counts heap_sizes = record {
   body = header_size (count_by (λ table. nat_lt 0 (slice_index counts (table_number table))) tables);
 }
 
--- an index has two bytes where it may, and else four
+-- an index is two bytes wide if it is narrow, else four
 abbrev pub narrow_or_wide : Bool → ℕ
 narrow_or_wide narrow = if narrow then 2 else 4
 
--- an index into the heap of this bit of HeapSizes has four bytes where the bit is set
+-- an index into a heap is four bytes wide if the heap's bit of HeapSizes is set, else two
 abbrev pub heap_width : Sizes → ℕ → ℕ
 heap_width sizes bit = narrow_or_wide (sizes.heap_sizes / bit % 2 == 0)
 
--- an index into a table has two bytes where the table has fewer than 2^16 rows
+-- an index into a table is two bytes wide if the table has fewer than 2^16 rows, else four
 abbrev pub row_index_width : Sizes → TableId → ℕ
 row_index_width sizes table = narrow_or_wide (nat_lt (count_of sizes table) (2 ^ 16))
 
--- a table has fewer rows than a limit; a tag that is not used has none
+-- whether a table has fewer rows than a limit; true for an unused tag
 abbrev pub is_below : Sizes → ℕ → Option TableId → Bool
 is_below sizes limit (Some table) = nat_lt (count_of sizes table) limit
 is_below sizes limit None = true
 
--- a coded index has two bytes where each of its tables has fewer rows than fit beside the tag
+-- a coded index is two bytes wide if the row numbers of all its tables fit in the bits beside the tag, else four
 abbrev pub coded_width : Sizes → Coded → ℕ
 coded_width sizes coded = narrow_or_wide (list_all (is_below sizes (2 ^ (16 - tag_bits coded))) (tables_of coded))
 
--- how many bytes a column of a kind takes
+-- the number of bytes of a column of a kind
 abbrev pub kind_width : Sizes → ColumnKind → ℕ
 kind_width sizes kind.U8 = 1
 kind_width sizes kind.Padding = 1
@@ -73,7 +73,7 @@ kind_width sizes (kind.Row table) = row_index_width sizes table
 kind_width sizes (kind.List table) = row_index_width sizes table
 kind_width sizes (kind.Coded coded) = coded_width sizes coded
 
--- how many bytes a column takes
+-- the number of bytes of a column
 abbrev pub width_of : Sizes → Column → ℕ
 width_of sizes column = kind_width sizes column.kind
 

@@ -1,4 +1,4 @@
--- The tables of metadata (ECMA-335 II.22): their numbers, their names and their order.
+-- The metadata tables (ECMA-335 II.22): their numbers, names and order.
 use Rattle.std.specs.Prelude.{ℕ, List, [], ◌∷◌, codes}
 use Rattle.schema.specs.declared.table.TableId.{TableId}
 use Rattle.schema.specs.declared.table.TableId.TheVariants.{Module, TypeRef, TypeDef, Field, MethodDef, Param, InterfaceImpl, MemberRef, Constant, CustomAttribute, FieldMarshal, DeclSecurity, ClassLayout, FieldLayout, StandAloneSig, EventMap, Event, PropertyMap, Property, MethodSemantics, MethodImpl, ModuleRef, TypeSpec, ImplMap, FieldRVA, Assembly, AssemblyProcessor, AssemblyOS, AssemblyRef, AssemblyRefProcessor, AssemblyRefOS, File, ExportedType, ManifestResource, NestedClass, GenericParam, MethodSpec, GenericParamConstraint}
@@ -127,7 +127,7 @@ tables =
     MethodSpec ∷
     GenericParamConstraint ∷ []
 
--- how many tables have a lower number
+-- the table index: the number of tables with a lower number
 abbrev pub position_of : TableId → ℕ
 position_of Module = 0
 position_of TypeRef = 1

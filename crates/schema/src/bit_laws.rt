@@ -4,7 +4,7 @@ ghost use Rattle.schema.specs.Tables.{tables};
 ghost use Rattle.schema.specs.LaidOut.{bits_of};
 ghost use Rattle.schema.specs.Header.{has_bit};
 
-/// The bits of the tables that pass a test are set for those and for no other table, and fit eight bytes.
+/// The bits of the tables that pass a test are set for these tables and no other, and fit in eight bytes.
 pub fn bits_are_known()
     ensures set { (test : Table → Bool) (table : Table) → has_bit (bits_of test tables) table ≡ test table }
     ensures low { (test : Table → Bool) → bits_of test tables < 2 ^ 64 }

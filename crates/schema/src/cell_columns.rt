@@ -6,7 +6,7 @@ ghost use Rattle.schema.specs.CellColumns.{is_padding, cell_count, column_of};
 use crate::column_lists::columns;
 use crate::table::TableId;
 
-/// How many cells a row of a table has: one a column, but for the padding of Constant (II.22.9).
+/// The number of cells of a row: one for each column, except the padding of Constant (II.22.9).
 #[tactic(auto, unfolding(crate::specs::CellColumns::cell_columns))]
 pub fn cell_count(table: TableId) -> usize
     ensures { result ≡ cell_count table }
@@ -17,7 +17,7 @@ pub fn cell_count(table: TableId) -> usize
     }
 }
 
-/// The column of a cell, by its place in its row, counted from 0.
+/// The column of a cell. `cell` is the index of the cell in its row, from 0.
 #[tactic(auto, unfolding(crate::specs::CellColumns::cell_columns))]
 pub fn column_of_cell(table: TableId, cell: usize) -> usize
     requires { cell < cell_count table }
@@ -30,7 +30,7 @@ pub fn column_of_cell(table: TableId, cell: usize) -> usize
     }
 }
 
-/// Each cell has a column, which is no padding, and each other column has a cell.
+/// Each cell has a column, which is not padding. Each column that is not padding has a cell.
 pub fn cells_have_columns()
     ensures column { (table : Table) (cell : ℕ) → cell < cell_count table
         → (column_of table cell < length (columns_of table)) × (is_padding (column_at table (column_of table cell)).kind ≡ false) }

@@ -1,37 +1,37 @@
 use crate::table::TableId;
 
-/// A coded index: an index into one of several tables, whose tag says which (II.24.2.6).
+/// A coded index: an index into one of several tables, with a tag that selects the table (II.24.2.6).
 #[derive(Clone, Copy, Debug, PartialEq, Eq)]
 pub enum Coded {
     /// A type.
     TypeDefOrRef,
-    /// What may have a constant value.
+    /// A row that can have a constant value.
     HasConstant,
-    /// What may have a custom attribute.
+    /// A row that can have a custom attribute.
     HasCustomAttribute,
-    /// What may be marshalled.
+    /// A row that can be marshalled.
     HasFieldMarshal,
-    /// What may have a permission set.
+    /// A row that can have a permission set.
     HasDeclSecurity,
-    /// Where a member of another module belongs.
+    /// The parent of a member reference.
     MemberRefParent,
     /// An event or a property.
     HasSemantics,
     /// A method.
     MethodDefOrRef,
-    /// A member that is implemented outside of managed code.
+    /// A member that is implemented outside managed code.
     MemberForwarded,
-    /// Where an exported type or a resource is found.
+    /// The file, assembly or type that has an exported type or a resource.
     Implementation,
     /// The constructor of a custom attribute.
     CustomAttributeType,
-    /// Where a type of another module is found.
+    /// The module, assembly or enclosing type of a type reference.
     ResolutionScope,
-    /// What may have generic parameters.
+    /// A row that can have generic parameters.
     TypeOrMethodDef,
 }
 
-/// Tables by their tags, each of which is used.
+/// A list of tables by tag, if every tag is used.
 macro_rules! listed {
     ($($table:ident),*) => {
         &[$(Some(TableId::$table)),*]
@@ -42,7 +42,7 @@ impl Coded {
     ghost use Rattle.std.specs.Prelude.{◌≡◌, ◌≤◌};
     ghost use Rattle.schema.specs.CodedIndexes.{tables_of, tag_bits};
 
-    /// The tables by their tags, `None` for a tag that is not used.
+    /// The tables by tag, `None` for an unused tag.
     pub fn tables(self) -> &'static [Option<TableId>]
         ensures { result.now ≡ tables_of self }
     {
@@ -92,7 +92,7 @@ impl Coded {
         }
     }
 
-    /// How many bits the tag takes.
+    /// The number of bits of the tag: 1 to 5.
     pub fn tag_bits(self) -> u32
         ensures value { result ≡ tag_bits self }
         ensures some { 1 ≤ result }

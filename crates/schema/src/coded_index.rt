@@ -26,7 +26,7 @@ fn tag_of(coded: Coded, table: TableId) -> Option<u32>
     None
 }
 
-/// The table and the row that a number of a coded index names, `None` where its tag is not used (II.24.2.6).
+/// The table and the row that a coded index refers to, `None` if its tag is unused (II.24.2.6).
 ///
 /// The row counts from 1; 0 is null.
 pub fn split(coded: Coded, number: u32) -> Option<(TableId, u32)>
@@ -40,9 +40,9 @@ pub fn split(coded: Coded, number: u32) -> Option<(TableId, u32)>
     Some((table, row))
 }
 
-/// The number by which a coded index names a row of a table (II.24.2.6).
+/// The number with which a coded index refers to a row of a table (II.24.2.6).
 ///
-/// `None` where the index has no tag for the table, or where the number needs more than 32 bits.
+/// `None` if the index has no tag for the table, or if the number does not fit in 32 bits.
 pub fn join(coded: Coded, table: TableId, row: u32) -> Option<u32>
     ensures found { IfSome result (λ number. IsCoded coded number table row) }
     ensures only { (number : ℕ) → IsCoded coded number table row → number < 2 ^ 32 → result ≡ Some number }

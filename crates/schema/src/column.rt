@@ -1,14 +1,14 @@
 use crate::coded::Coded;
 use crate::table::TableId;
 
-/// What the signatures of a column are (II.23.2).
+/// The kind of the signatures in a column (II.23.2).
 #[derive(Clone, Copy, Debug, PartialEq, Eq)]
 pub enum SigKind {
     /// Of a field (II.23.2.4).
     Field,
     /// Of a method that this module defines (II.23.2.1).
     MethodDef,
-    /// Of a field or method of another module (II.23.2.2).
+    /// Of a field or a method of another module (II.23.2.2).
     MemberRef,
     /// Of local variables, or of a method that is called by its address (II.23.2.3, II.23.2.6).
     StandAlone,
@@ -20,7 +20,7 @@ pub enum SigKind {
     Instance,
 }
 
-/// What the cells of a column are (II.22).
+/// The kind of the cells in a column (II.22).
 #[derive(Clone, Copy, Debug, PartialEq, Eq)]
 pub enum ColumnKind {
     /// A number of one byte.
@@ -29,7 +29,7 @@ pub enum ColumnKind {
     U16,
     /// A number of four bytes.
     U32,
-    /// A byte that means nothing: ignored when read, and written as 0.
+    /// A byte without meaning: ignored when read, written as 0.
     Padding,
     /// An index into `#Strings`.
     Text,
@@ -37,21 +37,21 @@ pub enum ColumnKind {
     Guid,
     /// An index into `#Blob`.
     Blob,
-    /// An index into `#Blob`, of a signature.
+    /// An index into `#Blob`, to a signature.
     Signature(SigKind),
     /// A row of a table: a simple index.
     Row(TableId),
     /// A row of one of several tables: a coded index.
     Coded(Coded),
-    /// The first row of a run in a table, which goes up to that of the next row: a list index.
+    /// The first row of a run in a table, which ends before the run of the next row: a list index.
     List(TableId),
 }
 
 /// A column of a table.
 #[derive(Clone, Copy, Debug, PartialEq, Eq)]
 pub struct Column {
-    /// What its cells are.
+    /// The kind of its cells.
     pub kind: ColumnKind,
-    /// Whether its cells may name no row. Only columns of coded indexes say so.
+    /// Whether its cells may be null, so that they refer to no row. It is true only for some coded indexes.
     pub nullable: bool,
 }

@@ -5,7 +5,7 @@ use crate::coded::Coded;
 use crate::column::{Column, ColumnKind, SigKind};
 use crate::table::TableId;
 
-/// A column of a kind, which may be null where the word says so.
+/// A column of a kind, which allows null if `nullable` precedes the kind.
 macro_rules! column {
     ($kind:expr) => {
         Column {
@@ -153,7 +153,7 @@ pub fn columns(table: TableId) -> &'static [Column]
     }
 }
 
-/// The column by which the rows of a table are in order (II.22), `None` where a table has no such column.
+/// The column by which the rows of a table are sorted (II.22), `None` if the table has no such column.
 pub fn key(table: TableId) -> Option<usize>
     ensures value { result ≡ key_of table }
     ensures within { IfSome result (λ column. column < length (columns_of table)) }

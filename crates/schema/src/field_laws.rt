@@ -6,8 +6,8 @@ ghost use Rattle.schema.specs.Columns.{col};
 ghost use Rattle.schema.specs.Sizes.{Sizes, SameCounts, width_of};
 ghost use Rattle.schema.specs.LaidOut.{number_bytes, row_bytes, tables_bytes, fields_of, FitRow};
 
-/// A number too great for its field stands by its low bytes, as what is left of it modulo the field
-/// does: so any numbers, one a column, give a row that fits, of the same bytes.
+/// The low bytes of a number that is too large for its field are those of the number modulo the field's
+/// range. So any numbers, one for each column, have the bytes of a row that fits.
 pub fn low_bytes_stand()
     ensures number { (width number : ℕ) → number_bytes width (number % 256 ^ width) ≡ number_bytes width number }
     ensures row { (sizes : Sizes) (columns : List TheColumn) (numbers : List ℕ)
@@ -21,8 +21,8 @@ pub fn low_bytes_stand()
         ≡ slice_index numbers column % 256 ^ width_of sizes (slice_index_or columns column (col kind.U8)) }
 {}
 
-/// Widths, and so the bytes of rows, follow from the counts and HeapSizes alone: neither from Sorted
-/// nor from where the first table begins.
+/// Widths and the bytes of rows depend on the row counts and HeapSizes only, not on Sorted or the
+/// offset of the first table.
 pub fn widths_follow_from_counts()
     ensures width { (sizes others : Sizes) → SameCounts sizes others
         → (column : TheColumn) → width_of sizes column ≡ width_of others column }

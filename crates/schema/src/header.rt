@@ -2,16 +2,16 @@ use crate::coded::Coded;
 use crate::column::{Column, ColumnKind};
 use crate::table::TableId;
 
-/// What a table stream says of its tables (II.24.2.6).
+/// The sizes in the header of a table stream (II.24.2.6).
 #[derive(Clone, Copy)]
 pub struct Header {
-    /// How many rows each table has, by its position.
+    /// The number of rows of each table, by table index.
     pub counts: [u32; 38],
-    /// Which heaps have indexes of four bytes.
+    /// HeapSizes: the heaps whose indexes have four bytes.
     pub heap_sizes: u8,
-    /// The tables that are said to be in order, as the bits of their numbers.
+    /// Sorted: the tables that claim to be sorted, as the bits of their numbers.
     pub sorted: u64,
-    /// Where the first table begins.
+    /// The offset of the first table, in bytes from the start of the stream.
     pub body: usize,
 }
 
@@ -20,14 +20,14 @@ impl Header {
     ghost use Rattle.schema.specs.Sizes.{count_of, coded_width, row_index_width, heap_width, width_of, IsWidth};
     ghost use Rattle.schema.specs.Kept.{sizes_kept};
 
-    /// How many rows a table has.
+    /// The number of rows of a table.
     pub fn count(&self, table: TableId) -> u32
         ensures { result ≡ count_of (sizes_kept self.now) table }
     {
         self.counts[table.position()]
     }
 
-    /// How many bytes a column takes.
+    /// The number of bytes of a column.
     pub fn width(&self, column: Column) -> usize
         ensures value { result ≡ width_of (sizes_kept self.now) column }
         ensures known { IsWidth result }
@@ -45,7 +45,7 @@ impl Header {
         }
     }
 
-    /// How many bytes an index takes into the heap of this bit of HeapSizes.
+    /// The number of bytes of an index into the heap with this bit of HeapSizes.
     fn heap_index(&self, bit: u8) -> usize
         requires { 1 ≤ bit }
         ensures value { result ≡ heap_width (sizes_kept self.now) bit }
@@ -55,7 +55,7 @@ impl Header {
         narrow_or_wide(self.heap_sizes / bit % 2 == 0)
     }
 
-    /// How many bytes a simple index or a list index takes into a table.
+    /// The number of bytes of a simple index or a list index into a table.
     fn row_index(&self, table: TableId) -> usize
         ensures value { result ≡ row_index_width (sizes_kept self.now) table }
         ensures known { IsWidth result }
@@ -64,7 +64,7 @@ impl Header {
         narrow_or_wide(self.count(table) < 1 << 16)
     }
 
-    /// How many bytes a coded index takes.
+    /// The number of bytes of a coded index.
     fn coded_index(&self, coded: Coded) -> usize
         ensures value { result ≡ coded_width (sizes_kept self.now) coded }
         ensures known { IsWidth result }
@@ -84,7 +84,7 @@ impl Header {
         listed.iter().all(|table| self.is_below(limit, table))
     }
 
-    /// Whether a table has fewer rows than a limit, as one that is not there has.
+    /// Whether a table has fewer rows than a limit; true for an unused tag.
     fn is_below(&self, limit: u32, table: &Option<TableId>) -> bool
         ensures { result ≡ is_below (sizes_kept self.now) limit table.now }
     {
@@ -98,7 +98,7 @@ impl Header {
 ghost use Rattle.std.specs.Prelude.{◌≡◌, ◌≤◌};
 ghost use Rattle.schema.specs.Sizes.{narrow_or_wide as index_width, IsWidth};
 
-/// How many bytes an index takes, by whether two are enough.
+/// The number of bytes of an index: two if it is narrow, else four.
 fn narrow_or_wide(narrow: bool) -> usize
     ensures value { result ≡ index_width narrow }
     ensures known { IsWidth result }

@@ -12,7 +12,7 @@ ghost use Rattle.schema.specs.Places.{tables_end};
 ghost use Rattle.schema.specs.LaidOut.{number_bytes, IsLaidOut};
 ghost use Rattle.schema.specs.Cells.{HoldsCell};
 
-/// The tables stand in the order of their numbers, each at its position.
+/// The tables are in the order of their numbers, each at its table index.
 pub fn tables_stand()
     ensures count { length tables ≡ 38 }
     ensures position { (table : Table) → position_of table < 38 }
@@ -21,7 +21,7 @@ pub fn tables_stand()
     ensures rise { (lower higher : Table) → position_of lower < position_of higher → table_number lower < table_number higher }
 {}
 
-/// A table has few columns; its key, where it has one, names rows; and a column that may be null has
+/// A table has at most nine columns. Its key, if it has one, refers to rows. A column that allows null has
 /// a number for null.
 pub fn columns_stand()
     ensures few { (table : Table) → length (columns_of table) ≤ 9 }
@@ -31,7 +31,7 @@ pub fn columns_stand()
         → MayBeNull (column_at table column) }
 {}
 
-/// The tags of a coded index fit beside a row, and each of its tables has one tag.
+/// The tag of a coded index fits beside a row number, and each of its tables has one tag.
 pub fn tags_fit()
     ensures few { (coded : TheCoded) → length (tables_of coded) ≤ 2 ^ tag_bits coded }
     ensures narrow { (coded : TheCoded) → 2 ^ tag_bits coded * 2 ^ (16 - tag_bits coded) ≡ 2 ^ 16 }
@@ -40,12 +40,12 @@ pub fn tags_fit()
         → slice_get (tables_of coded) b ≡ Some (Some table) → a ≡ b }
 {}
 
-/// A column takes one, two or four bytes.
+/// A column has one, two or four bytes.
 pub fn widths_are_known()
     ensures { (sizes : Sizes) (column : TheColumn) → IsWidth (width_of sizes column) }
 {}
 
-/// The bytes of a number that fits them spell it.
+/// The bytes of a number encode the number, if it fits.
 pub fn numbers_are_spelled()
     ensures { (width number : ℕ) → number < 256 ^ width → IsNumber width (number_bytes width number) number }
 {}
@@ -56,14 +56,14 @@ pub fn tables_end_within()
         → tables_end sizes ≤ length stream }
 {}
 
-/// Each cell of a stream begins behind the bytes that precede it, and is read there.
+/// Each cell of a stream is at its computed offset, and is read there.
 pub fn cells_stand()
     ensures { (stream : List ℕ) (sizes : Sizes) (numbers : List (List (List ℕ))) → IsLaidOut stream sizes numbers
         → (table : Table) (row column : ℕ) → 1 ≤ row → row ≤ count_of sizes table → column < length (columns_of table)
         → HoldsCell stream sizes numbers table row column }
 {}
 
-/// A stream has one list of sizes and one list of numbers.
+/// A stream has only one list of sizes and one list of numbers.
 pub fn stream_is_one()
     ensures sizes { (stream : List ℕ) (sizes others : Sizes) (numbers more : List (List (List ℕ)))
         → IsLaidOut stream sizes numbers → IsLaidOut stream others more → sizes ≡ others }

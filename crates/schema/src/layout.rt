@@ -5,11 +5,11 @@ use crate::place::Place;
 use crate::table::TableId;
 use std::marker::Model;
 
-/// Where every cell of a table stream stands (II.24.2.6).
+/// The offset of every cell of a table stream (II.24.2.6).
 ///
-/// Widths and places follow from the row counts and HeapSizes. They are worked out once, when a
-/// layout is made, so that each call costs the same whatever the table. A layout has about a
-/// kilobyte and keeps nothing of the stream.
+/// Widths and offsets follow from the row counts and HeapSizes. They are computed once, when the
+/// layout is created, so that each call takes constant time. A layout has about a kilobyte and does
+/// not borrow the stream.
 #[derive(Drop)]
 pub struct Layout {
     header: Header,
@@ -32,7 +32,7 @@ impl Header {
     ghost use Rattle.schema.specs.Places.{table_start};
     ghost use Rattle.schema.specs.Kept.{sizes_kept, IsPlace};
 
-    /// The place of a table that begins there.
+    /// The offsets of a table that begins at `start`.
     fn place(&self, table: TableId, start: usize) -> Place
         requires low { start ≤ 2 ^ 35 }
         requires start { start ≡ table_start (sizes_kept self.now) table }
@@ -63,7 +63,7 @@ impl Layout {
     ghost use Rattle.schema.specs.Places.{row_width, row_start, cell_start, tables_end};
     ghost use Rattle.schema.specs.Kept.{sizes_kept, AreFew};
 
-    /// The layout of these sizes.
+    /// The layout with these sizes.
     pub(crate) fn new(header: Header) -> Layout
         requires { AreFew (sizes_kept header) }
         ensures { result ≡ sizes_kept header }
@@ -82,10 +82,10 @@ impl Layout {
         Layout { header, places }
     }
 
-    /// The layout of tables with these counts, by their numbers, and this HeapSizes.
+    /// The layout of tables with these row counts, by table number, and this HeapSizes.
     ///
-    /// The counts of numbers that no table has are not read. The stream counts the tables that have
-    /// rows, and says of none that it is in order.
+    /// Counts at numbers that no table has are not read. Valid then names the tables that have rows,
+    /// and Sorted is 0.
     pub fn of(counts: &[u32; 45], heap_sizes: u8) -> Layout
         requires counts { (table : Table) → slice_index counts.now (table_number table) ≤ 0xFFFFFF }
         requires heap_sizes { heap_sizes < 8 }
@@ -109,7 +109,7 @@ impl Layout {
         })
     }
 
-    /// How many rows a table has.
+    /// The number of rows of a table, at most 0xFFFFFF.
     pub fn count(&self, table: TableId) -> u32
         ensures value { result ≡ count_of self.now table }
         ensures limit { result ≤ 0xFFFFFF }
@@ -118,7 +118,7 @@ impl Layout {
         header.count(table)
     }
 
-    /// How many rows each table has, by its number; 0 at a number that no table has.
+    /// The number of rows of each table, by table number; 0 at a number that no table has.
     pub fn counts(&self) -> [u32; 45]
         ensures each { (table : Table) → slice_index result (table_number table) ≡ count_of self.now table }
         ensures others { (number : ℕ) → ((table : Table) → table_number table ≢ number) → slice_index result number ≡ 0 }
@@ -130,14 +130,14 @@ impl Layout {
         counts
     }
 
-    /// The tables that are said to be in order, as the bits of their numbers.
+    /// Sorted: the tables that claim to be sorted, as the bits of their numbers.
     pub fn sorted(&self) -> u64
         ensures { result ≡ self.now.sorted }
     {
         self.header.sorted
     }
 
-    /// How many bytes a column takes.
+    /// The number of bytes of a column: 1, 2 or 4.
     pub fn width(&self, column: Column) -> usize
         ensures value { result ≡ width_of self.now column }
         ensures known { IsWidth result }
@@ -146,7 +146,7 @@ impl Layout {
         header.width(column)
     }
 
-    /// How many bytes a row of a table takes.
+    /// The number of bytes of a row of a table.
     pub fn row_width(&self, table: TableId) -> usize
         ensures { result ≡ row_width self.now table }
     {
@@ -154,7 +154,7 @@ impl Layout {
         place.row_width as usize
     }
 
-    /// Where a row begins in the stream; behind the last row, where its table ends.
+    /// The offset of a row in the stream. For the row after the last one, the end of its table.
     pub fn row_start(&self, table: TableId, row: u32) -> usize
         requires first { 1 ≤ row }
         requires last { row ≤ count_of self.now table + 1 }
@@ -165,7 +165,7 @@ impl Layout {
         place.start + rows_before * place.row_width as usize
     }
 
-    /// Where a cell begins in the stream.
+    /// The offset of a cell in the stream.
     pub fn cell_start(&self, table: TableId, row: u32, column: usize) -> usize
         requires first { 1 ≤ row }
         requires last { row ≤ count_of self.now table }
@@ -178,7 +178,7 @@ impl Layout {
         place.start + (row - 1) as usize * place.row_width as usize + offset as usize
     }
 
-    /// How many bytes a cell of a column takes.
+    /// The number of bytes of a cell in a column: 1, 2 or 4.
     pub fn cell_width(&self, table: TableId, column: usize) -> usize
         requires { column < length (columns_of table) }
         ensures value { result ≡ width_of self.now (column_at table column) }
@@ -188,7 +188,7 @@ impl Layout {
         (place.offsets[column + 1] - place.offsets[column]) as usize
     }
 
-    /// Where the last table ends.
+    /// The offset of the end of the last table.
     pub(crate) fn end(&self) -> usize
         ensures { result ≡ tables_end self.now }
     {

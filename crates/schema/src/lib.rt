@@ -1,11 +1,11 @@
-//! The tables of metadata: what columns they have, and where each cell of a table stream stands
-//! (ECMA-335 II.22 and II.24.2.6).
+//! The metadata tables: their columns, and the offset of each cell of a table stream (ECMA-335 II.22
+//! and II.24.2.6).
 //!
-//! [`columns`], [`key`] and [`Coded`] are the standard's tables and lists; [`split`] and [`join`] go
-//! between the number of a coded index and the row that it names, and [`Token`] is a row in four
-//! bytes. [`Layout::read`] answers exactly where bytes are a table stream, and else the fault of the
-//! first demand that they do not meet. A layout then tells widths and places at once, without a
-//! search. Nothing here takes memory.
+//! [`columns`], [`key`] and [`Coded`] are the tables and lists of the standard. [`split`] and [`join`]
+//! convert between a coded index and the row that it refers to. A [`Token`] is a row in four bytes.
+//! [`Layout::read`] succeeds if and only if the bytes are a table stream. Otherwise it returns the
+//! fault of the first broken rule. A layout has the widths and offsets ready, so it does not search
+//! for them. Nothing here allocates.
 //!
 //! ```text
 //! let layout = Layout::read(stream)?;

@@ -1,10 +1,10 @@
-/// Where a table and its columns stand.
+/// The offsets of a table and its columns.
 #[derive(Clone, Copy)]
 pub struct Place {
-    /// Where the table begins in the stream.
+    /// The offset of the table in the stream.
     pub start: usize,
-    /// How many bytes a row takes.
+    /// The number of bytes of a row.
     pub row_width: u8,
-    /// Where each column begins in its row, and behind the last where the row ends.
+    /// The offset of each column in its row; after the last one, the end of the row.
     pub offsets: [u8; 10],
 }

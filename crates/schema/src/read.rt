@@ -10,7 +10,7 @@ use crate::layout::Layout;
 use crate::table::TableId;
 use packed::{Fault, FaultCode, u32_at, u64_at};
 
-/// The most rows of a table.
+/// The largest number of rows of a table (II.22).
 const ROW_LIMIT: u32 = 0xFF_FFFF;
 
 /// Whether the bit of a table is set.
@@ -20,7 +20,7 @@ fn is_set(bits: u64, table: TableId) -> bool
     bits >> table.number() & 1 == 1
 }
 
-/// Those bits of Valid that are the bits of tables.
+/// The bits of Valid that are bits of tables.
 fn table_bits(valid: u64) -> u64
     ensures { result ≡ bits_of (has_bit valid) tables }
 {
@@ -33,14 +33,14 @@ fn table_bits(valid: u64) -> u64
     bits
 }
 
-/// Whether Valid has the bits of tables alone.
+/// Whether Valid sets bits of tables only.
 fn names_tables(valid: u64) -> bool
     ensures { IsTrue result ↔ NamesTables valid }
 {
     table_bits(valid) == valid
 }
 
-/// How many tables Valid counts.
+/// The number of tables that Valid names.
 fn counted(valid: u64) -> usize
     ensures value { result ≡ count_by (has_bit valid) tables }
     ensures limit { result ≤ 38 }
@@ -51,7 +51,7 @@ fn counted(valid: u64) -> usize
         .count()
 }
 
-/// Reads Valid, where the fields up to the counts are those of a table stream.
+/// Checks the fields up to the row counts. Returns Valid.
 fn read_valid(bytes: &[u8]) -> Result<u64, Fault>
     ensures answers { Answers (demands_of_header bytes.now) result }
     ensures valid { IfOk result (λ valid. valid ≡ valid_of bytes.now) }
@@ -78,7 +78,7 @@ fn read_valid(bytes: &[u8]) -> Result<u64, Fault>
     Ok(valid)
 }
 
-/// Reads the count of a table at its place; that of a table that is not counted is 0.
+/// Reads the row count of a table at its offset. It is 0 if Valid does not name the table.
 fn read_count(bytes: &[u8], valid: u64, table: TableId, place: usize) -> Result<u32, Fault>
     requires valid { valid ≡ valid_of bytes.now }
     requires place { place ≡ count_place (valid_of bytes.now) table }
@@ -97,7 +97,7 @@ fn read_count(bytes: &[u8], valid: u64, table: TableId, place: usize) -> Result<
     Ok(count)
 }
 
-/// Reads the counts of all tables.
+/// Reads the row counts of all tables.
 fn read_counts(bytes: &[u8], valid: u64) -> Result<[u32; 38], Fault>
     requires valid { valid ≡ valid_of bytes.now }
     requires room { (sizes_of bytes.now).body ≤ length bytes.now }
@@ -117,7 +117,7 @@ fn read_counts(bytes: &[u8], valid: u64) -> Result<[u32; 38], Fault>
     Ok(counts)
 }
 
-/// The layout of a stream that meets all demands, or the fault of the first that is not met.
+/// Checks all rules. Returns the layout, or the fault of the first broken rule.
 fn read_layout(bytes: &[u8]) -> Result<Layout, Fault>
     ensures answers { Answers (demands_of_stream bytes.now) result }
     ensures layout { IfOk result (λ layout. layout ≡ sizes_of bytes.now) }
@@ -147,21 +147,21 @@ impl Layout {
 
     /// Reads the layout of a table stream (II.24.2.6).
     ///
-    /// Only the header is looked at, and that the tables end within the bytes: what is in their
-    /// cells is not. Bytes behind the last table are ignored.
+    /// It reads the header only, and checks that the tables end within the bytes. It does not read their
+    /// cells. Bytes after the last table are ignored.
     ///
     /// # Errors
     ///
-    /// The fault of the first demand on the header that fails, with its place in the stream.
+    /// The fault of the first broken rule for the header, with its offset in the stream.
     pub fn read(bytes: &[u8]) -> Result<Layout, Fault>
-        // What is read are the sizes of a table stream, which these bytes are.
+        // If it returns a layout, the bytes are a table stream with these sizes.
         ensures found { IfOk result (λ layout. IsTableStream bytes.now layout) }
-        // A table stream is read, with its one layout.
+        // If the bytes are a table stream, it returns the layout with its only sizes.
         ensures only { (sizes : Sizes) (numbers : List (List (List ℕ))) → IsLaidOut bytes.now sizes numbers
             → IsOkAnd result (λ layout. layout ≡ sizes) }
-        // A fault is that of the first demand that fails.
+        // A fault is that of the first broken rule.
         ensures first { IfErr result (FirstToFail (demands_of_stream bytes.now)) }
-        // Its place is in the header.
+        // The fault's offset is below 256.
         ensures within { IfErr result (λ fault. fault.offset < 256) }
     {
         read_layout(bytes)

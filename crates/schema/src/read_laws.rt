@@ -8,8 +8,8 @@ ghost use Rattle.schema.specs.Header.{sizes_of};
 ghost use Rattle.schema.specs.Demands.{demands_of_stream};
 ghost use Rattle.schema.specs.Cells.{number_at, numbers_at};
 
-/// A table stream meets all demands and has the sizes that its header says; and bytes that meet all
-/// demands are a table stream of these sizes.
+/// A table stream satisfies all rules, and its sizes are those of its header. Bytes that satisfy all
+/// rules are a table stream with these sizes.
 pub fn streams_are_read()
     ensures demanded { (stream : List ℕ) (sizes : Sizes) (numbers : List (List (List ℕ))) → IsLaidOut stream sizes numbers
         → AllHold (demands_of_stream stream) }
@@ -19,7 +19,7 @@ pub fn streams_are_read()
         → IsTableStream stream (sizes_of stream) }
 {}
 
-/// The numbers of a stream are those that are read at the places of its cells.
+/// The numbers of a stream are those that are read at the offsets of its cells.
 pub fn numbers_are_read()
     ensures is { (stream : List ℕ) (sizes : Sizes) (numbers : List (List (List ℕ))) → IsLaidOut stream sizes numbers
         → numbers ≡ numbers_at stream sizes }

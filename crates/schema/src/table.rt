@@ -4,10 +4,10 @@ ghost use Rattle.schema.specs.Tables.{table_name};
 
 use std::fmt;
 
-/// A table of metadata (II.22). Tables are in the order of their numbers.
+/// A metadata table (II.22). Tables are ordered by their numbers.
 #[derive(Clone, Copy, Debug, PartialEq, Eq, PartialOrd, Ord, Hash)]
 pub enum TableId {
-    /// This module, in one row (II.22.30).
+    /// This module, one row (II.22.30).
     Module,
     /// Types of other modules (II.22.38).
     TypeRef,
@@ -25,7 +25,7 @@ pub enum TableId {
     MemberRef,
     /// Constant values of fields, parameters and properties (II.22.9).
     Constant,
-    /// Custom attributes and what they stand on (II.22.10).
+    /// Custom attributes and the rows that have them (II.22.10).
     CustomAttribute,
     /// How fields and parameters are marshalled (II.22.17).
     FieldMarshal,
@@ -37,11 +37,11 @@ pub enum TableId {
     FieldLayout,
     /// Signatures that no other row has (II.22.36).
     StandAloneSig,
-    /// Types that have events, and which (II.22.12).
+    /// The events of each type (II.22.12).
     EventMap,
     /// Events of types (II.22.13).
     Event,
-    /// Types that have properties, and which (II.22.35).
+    /// The properties of each type (II.22.35).
     PropertyMap,
     /// Properties of types (II.22.34).
     Property,
@@ -51,27 +51,27 @@ pub enum TableId {
     MethodImpl,
     /// Other modules (II.22.31).
     ModuleRef,
-    /// Types that a signature spells (II.22.39).
+    /// Types that a signature describes (II.22.39).
     TypeSpec,
-    /// Methods that are implemented outside of managed code (II.22.22).
+    /// Methods that are implemented outside managed code (II.22.22).
     ImplMap,
-    /// Where the initial values of fields stand (II.22.18).
+    /// Addresses of the initial values of fields (II.22.18).
     FieldRVA,
-    /// This assembly, in at most one row (II.22.2).
+    /// This assembly, at most one row (II.22.2).
     Assembly,
-    /// Processors of this assembly, which are not used (II.22.4).
+    /// Processors of this assembly, unused (II.22.4).
     AssemblyProcessor,
-    /// Operating systems of this assembly, which are not used (II.22.3).
+    /// Operating systems of this assembly, unused (II.22.3).
     AssemblyOS,
     /// Other assemblies (II.22.5).
     AssemblyRef,
-    /// Processors of other assemblies, which are not used (II.22.7).
+    /// Processors of other assemblies, unused (II.22.7).
     AssemblyRefProcessor,
-    /// Operating systems of other assemblies, which are not used (II.22.6).
+    /// Operating systems of other assemblies, unused (II.22.6).
     AssemblyRefOS,
     /// Other files of this assembly (II.22.19).
     File,
-    /// Types that this assembly offers from its other modules (II.22.14).
+    /// Types that this assembly exports from its other modules (II.22.14).
     ExportedType,
     /// Resources of this assembly (II.22.24).
     ManifestResource,
@@ -141,7 +141,7 @@ impl TableId {
         &TABLES
     }
 
-    /// The table's number, by which tokens and the bits of Valid and Sorted name it.
+    /// The table's number, which tokens and the bits of Valid and Sorted use (II.22).
     pub fn number(self) -> u8
         ensures value { result ≡ table_number self }
         ensures limit { result < 45 }
@@ -188,7 +188,7 @@ impl TableId {
         }
     }
 
-    /// The table of a number, `None` where no table has it.
+    /// The table with a number, `None` if no table has it.
     pub fn from_number(number: u8) -> Option<TableId>
         ensures found { IfSome result (λ table. table_number table ≡ number) }
         ensures only { (table : Table) → table_number table ≡ number → result ≡ Some table }
@@ -282,7 +282,7 @@ impl TableId {
         }
     }
 
-    /// How many tables have a lower number.
+    /// The table index, from 0: the number of tables with a lower number.
     pub fn position(self) -> usize
         ensures value { result ≡ position_of self }
         ensures limit { result < 38 }
@@ -291,7 +291,7 @@ impl TableId {
     }
 }
 
-/// A table shows as its name in the standard.
+/// A table is printed as its name in the standard.
 impl fmt::Display for TableId {
     ghost output = { λ table. Some (table_name table) };
 

@@ -6,8 +6,8 @@ ghost use Rattle.schema.specs.Tokens.{token_text};
 use crate::table::TableId;
 use std::fmt;
 
-/// A row of a table, as code and the CLI header name it (III.1.9). Tokens are in order of their tables,
-/// and those of one table in order of their rows.
+/// A row of a table, in the form that code and the CLI header use (III.1.9). Tokens are ordered by table,
+/// and then by row.
 #[derive(Clone, Copy, Debug, PartialEq, Eq, PartialOrd, Ord, Hash)]
 pub struct Token {
     /// The table.
@@ -21,7 +21,7 @@ impl Token {
     ghost use Rattle.schema.specs.declared.token.Token.{Token as TheToken};
     ghost use Rattle.schema.specs.Tokens.{IsToken};
 
-    /// The token of a number, `None` where its high byte is the number of no table.
+    /// The token with a number, `None` if the high byte is not the number of a table.
     pub fn from_u32(number: u32) -> Option<Token>
         ensures found { IfSome result (λ token. IsToken number token) }
         ensures only { (token : TheToken) → IsToken number token → result ≡ Some token }
@@ -33,7 +33,7 @@ impl Token {
         })
     }
 
-    /// The number of the token: its table's in the high byte, and its row below.
+    /// The number of the token: the table's number in the high byte, the row in the three bytes below.
     pub fn to_u32(self) -> u32
         requires { self.row ≤ 0xFFFFFF }
         ensures { IsToken result self }
@@ -42,8 +42,8 @@ impl Token {
     }
 }
 
-/// A token shows in lower-case hexadecimal: two digits of its table's number and six of its row, and
-/// more of a row that has more.
+/// A token is printed in lower-case hexadecimal: two digits for the table's number and at least six for
+/// the row.
 impl fmt::Display for Token {
     ghost output = { λ token. Some (token_text token) };
 
@@ -54,7 +54,7 @@ impl fmt::Display for Token {
     }
 }
 
-/// Tokens are in the order of their tables, and those of one table in the order of their rows.
+/// Tokens are ordered by table, and then by row.
 pub fn tokens_are_in_order()
     ensures { (a b : TheToken) → ⟦<Token as Ord>⟧.cmp a b ≡ ordering_then (⟦<TableId as Ord>⟧.cmp a.table b.table) (nat_cmp a.row b.row) }
 {}
