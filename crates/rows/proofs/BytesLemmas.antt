@@ -6,12 +6,12 @@ use Rattle.packed.specs.Number.{little_endian}
 use Rattle.packed.specs.Places.{part}
 use Rattle.schema.specs.LaidOut.{number_bytes}
 
--- elements of a list, behind those before them
+-- elements of a list that follow those before them
 pub record Follows (whole before here : List ℕ) : Type 0 where
   pub after : List ℕ
   pub split : whole ≡ before ++ (here ++ after)
 
--- what follows within a part follows within the whole, behind more
+-- what follows other elements within a part also follows them within the whole
 pub follows_within : (whole before here fewer inner : List ℕ) → Follows whole before here → Follows here fewer inner → Follows whole (before ++ fewer) inner
 follows_within whole before here fewer inner outside inside =
     record {
@@ -22,7 +22,7 @@ follows_within whole before here fewer inner outside inside =
           ∙ sym (append_assoc before fewer (inner ++ (inside.after ++ outside.after)));
     }
 
--- it stands at the length of what precedes it
+-- it is at the offset that is the length of what precedes it
 pub part_follows : (whole before here : List ℕ) (place width : ℕ) → Follows whole before here → length before ≡ place → length here ≡ width → part whole place width ≡ here
 part_follows whole before here place width follows long wide =
     ap (λ w. take width (drop place w)) follows.split
@@ -33,7 +33,7 @@ pub length-number_bytes : (width number : ℕ) → length (number_bytes width nu
 length-number_bytes zero number = refl
 length-number_bytes (suc width) number = ap suc (length-number_bytes width (number / 256))
 
--- a number within its width is read again
+-- a number that fits its width is read back
 pub number_again : (width number : ℕ) → number < 256 ^ width → little_endian (number_bytes width number) ≡ number
 number_again zero number fits = omega arith
 number_again (suc width) number fits =

@@ -1,17 +1,17 @@
--- Halving, and binary digits.
+-- Binary search, and binary digits.
 use Rattle.std.proofs.Common.{◌≡◌, ℕ, zero, suc, ◌+◌, ◌-◌, ◌*◌, ◌^◌, ◌<◌, ◌≤◌, eqb, List, length, arith, add-one, ap, ◌∙◌}
 use Rattle.std.proofs.Math.Nat.{pow-succ'}
 use Rattle.std.proofs.lemmas.Bool.{cond_both, eqb-true, eqb-false}
 use Rattle.std.specs.List.Sorted.{IsNonDecreasing}
 use Rattle.rows.specs.Keys.{key_at, digits_after, binary_digits}
 
--- what is left has no more binary digits than may still be read
+-- the number of rows left has at most as many binary digits as keys may still be read
 pub record Halves (left reads digits : ℕ) : Type 0 where
   pub spare : ℕ
   pub few : reads + spare ≤ digits
   pub below : left < 2 ^ spare
 
--- a number is below two to the power of its digits
+-- a number is below two to the power of its number of digits
 next_below : (digits number : ℕ) → number < 2 ^ digits → suc number < 2 ^ digits_after digits (suc number)
 next_below digits number below =
     let more : 2 ^ (digits + 1) ≡ 2 * 2 ^ digits = ap (λ (d : ℕ). 2 ^ d) (add-one digits) ∙ pow-succ' 2 digits in
@@ -24,7 +24,7 @@ unfolding binary_digits
 below_digits zero = omega arith
 below_digits (suc number) = next_below (binary_digits number) number (below_digits number)
 
--- a number has at most as many digits as it counts
+-- a number has at most as many digits as its value
 pub digits_few : (number : ℕ) → binary_digits number ≤ number
 unfolding binary_digits
 digits_few zero = omega arith
@@ -32,13 +32,13 @@ digits_few (suc number) =
     let few = digits_few number in
     cond_both (eqb (suc number) (2 ^ binary_digits number)) (binary_digits number + 1) (binary_digits number) (λ d. d ≤ suc number) (λ e. omega arith) (λ e. omega arith)
 
--- before anything is read
+-- the state before anything is read
 pub halves_whole : (left reads count : ℕ) → left ≤ count → Halves left reads (reads + binary_digits count)
 halves_whole left reads count within =
     let below = below_digits count in
     record { spare = binary_digits count; few = omega arith; below = omega arith }
 
--- one read leaves at most half
+-- one read leaves at most half of the rows
 half_below : (left spare next : ℕ) → left < 2 ^ spare → 0 < left → next * 2 ≤ left → (fewer : ℕ) × (spare ≡ fewer + 1) × (next < 2 ^ fewer)
 half_below left zero next below some half = absurd (omega arith)
 half_below left (suc spare) next below some half =
@@ -52,6 +52,6 @@ halves_more left reads digits next more halves some half e =
     let fewer = facts.1 in
     record { spare = facts.0; few = omega arith; below = facts.2 }
 
--- the key of an earlier row is no greater
+-- the key of an earlier row is not greater
 pub key_rises : (keys : List ℕ) (row later : ℕ) → IsNonDecreasing keys → row ≤ later → later ≤ length keys → 1 ≤ later → key_at keys row ≤ key_at keys later
 key_rises keys row later sorted order within some = sorted (row - 1) (later - 1) 0 (omega arith) (omega arith)

@@ -1,4 +1,4 @@
--- A cell stands at the length of what precedes it.
+-- The offset of a cell is the length of what precedes it.
 use Rattle.std.proofs.Common.{◌≡◌, ℕ, zero, suc, ◌+◌, ◌-◌, ◌*◌, ◌<◌, ◌≤◌, Bool, true, false, cond, eqb, List, [], ◌∷◌, ◌++◌, take, drop, map, length, get_or, refl, sym, ◌∙◌, ap, length-append, arith, add-one}
 use Rattle.std.proofs.lemmas.Bool.{eqb-true}
 use Rattle.std.proofs.lemmas.List.{take_all, drop-drop, get_or-drop}
@@ -14,7 +14,7 @@ use Rattle.schema.specs.LaidOut.{row_bytes, rows_bytes, tables_bytes, FitRow, Fi
 use Rattle.rows.specs.Cells.{bytes_before}
 use Rattle.rows.proofs.RowLemmas.{length_of_fit, columns_length, row_length}
 
--- how many bytes the first rows of a table take
+-- the number of bytes of the first rows of a table
 pub rows_length : (sizes : Sizes) (columns : List Column) (rows : List (List ℕ)) (i : ℕ) → FitRows sizes columns rows → i ≤ length rows → length (rows_bytes sizes columns (take i rows)) ≡ i * columns_width sizes columns
 rows_length sizes columns rows zero fit h = omega arith
 rows_length sizes columns [] (suc i) fit h = absurd (omega arith)
@@ -28,13 +28,13 @@ row_fits sizes columns [] i fit h = absurd (omega arith)
 row_fits sizes columns (row ∷ rows) zero fit h = fit.0
 row_fits sizes columns (row ∷ rows) (suc i) fit h = row_fits sizes columns rows i fit.1 (omega arith)
 
--- each table has as many rows as the sizes say
+-- the number of rows of each table is that of the sizes
 abbrev pub AreCounted : Sizes → List TableId → List (List (List ℕ)) → Type 0
 AreCounted sizes [] numbers = Unit {0}
 AreCounted sizes (table ∷ listed) [] = ⊥
 AreCounted sizes (table ∷ listed) (rows ∷ numbers) = (length rows ≡ count_of sizes table) × AreCounted sizes listed numbers
 
--- how many bytes the first tables take
+-- the number of bytes of the first tables
 pub tables_length : (sizes : Sizes) (listed : List TableId) (numbers : List (List (List ℕ))) (k : ℕ) → FitTables sizes listed numbers → AreCounted sizes listed numbers
     → length (tables_bytes sizes (take k listed) numbers) ≡ tables_size sizes (take k listed)
 unfolding tables_size
@@ -49,7 +49,7 @@ tables_length sizes (table ∷ listed) (rows ∷ numbers) (suc k) fit counted =
     let rest = tables_length sizes listed numbers k fit.1 counted.1 in
     omega (arith, length-append (rows_bytes sizes columns rows) (tables_bytes sizes (take k listed) numbers), sum_by-cons (table_size sizes) table (take k listed))
 
--- the rows of a table among those of all
+-- the rows of a table among those of all tables
 pub record HasRows (sizes : Sizes) (table : TableId) (rows : List (List ℕ)) : Type 0 where
   pub count : length rows ≡ count_of sizes table
   pub fit : FitRows sizes (columns_of table) rows
@@ -61,7 +61,7 @@ rows_at sizes (table ∷ listed) [] k none fit counted h = absurd fit
 rows_at sizes (table ∷ listed) (rows ∷ numbers) zero none fit counted h = record { count = counted.0; fit = fit.0 }
 rows_at sizes (table ∷ listed) (rows ∷ numbers) (suc k) none fit counted h = rows_at sizes listed numbers k none fit.1 counted.1 (omega arith)
 
--- the tables stand at positions that rise by one
+-- the tables have table indexes that increase by one
 are_in_order : ℕ → List TableId → Bool
 are_in_order i [] = true
 are_in_order i (table ∷ listed) = cond (eqb (position_of table) i) (are_in_order (suc i) listed) false
@@ -74,7 +74,7 @@ both : (a b : Bool) → cond a b false ≡ true → (a ≡ true) × (b ≡ true)
 both true b e = (refl, e)
 both false b e = cc
 
--- so the counts of the sizes are those of the rows
+-- so the row counts of the sizes are the numbers of rows
 counted_from : (sizes : Sizes) (listed : List TableId) (numbers : List (List (List ℕ))) (i : ℕ) → are_in_order i listed ≡ true → FitTables sizes listed numbers → drop i sizes.counts ≡ map length numbers → AreCounted sizes listed numbers
 unfolding are_in_order
 counted_from sizes [] numbers i order fit counts = tt
@@ -89,7 +89,7 @@ counted_from sizes (table ∷ listed) (rows ∷ numbers) i order fit counts =
     let next : drop (suc i) sizes.counts ≡ drop 1 (drop i sizes.counts) = ap (λ n. drop n sizes.counts) (sym (add-one i)) ∙ sym (drop-drop 1 i sizes.counts) in
     (sym first ∙ here ∙ ap (λ n. get_or sizes.counts n 0) place, counted_from sizes listed numbers (suc i) tests.1 fit.1 (next ∙ rest))
 
--- a cell stands behind the header and all cells before it
+-- a cell follows the header and all cells before it
 pub place_behind : (stream : List ℕ) (sizes : Sizes) (numbers : List (List (List ℕ))) (table : TableId) (row column : ℕ) → position_of table < length tables → get_or tables (position_of table) Module ≡ table
     → 1 ≤ row → row ≤ count_of sizes table → column < length (columns_of table) → IsLaidOut stream sizes numbers
     → cell_start sizes table row column ≡ sizes.body + length (bytes_before sizes numbers table row column)

@@ -1,4 +1,4 @@
--- The cells of a table stream, read in place (ECMA-335 II.24.2.6): by table, row from 1 and column from 0.
+-- The cells of a table stream (ECMA-335 II.24.2.6), by table, row from 1 and column from 0.
 use Rattle.std.specs.Prelude.{ℕ, ◌-◌, ◌≤◌, List, [], ◌++◌, length, take, slice_index_or}
 use Rattle.schema.specs.declared.table.TableId.{TableId}
 use Rattle.schema.specs.Tables.{position_of, tables}
@@ -16,7 +16,7 @@ pub record Stream : Type 0 where
 abbrev pub IsWhole : Stream → Type 0
 IsWhole stream = tables_end stream.sizes ≤ length stream.bytes
 
--- the bytes of all cells before a cell: of the tables before its own, of the rows before its own, and of the columns before its own
+-- the bytes of all cells before a cell: of the tables before its own, and the rows and columns before it in its table
 abbrev pub bytes_before : Sizes → List (List (List ℕ)) → TableId → ℕ → ℕ → List ℕ
 bytes_before sizes numbers table row column =
     let rows = slice_index_or numbers (position_of table) [] in

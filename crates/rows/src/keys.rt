@@ -2,9 +2,9 @@ ghost use Rattle.std.specs.Prelude.{◌≡◌, ℕ, ◌+◌, ◌*◌, ◌^◌, �
 ghost use Rattle.std.specs.List.Sorted.{IsNonDecreasing};
 ghost use Rattle.rows.specs.Keys.{key_at, binary_digits};
 
-/// The keys of rows, which are read one at a time, and counted as they are.
+/// A list of keys, one for each row, that are read one at a time. It counts how many were read.
 ///
-/// Rows count from 1. A value stands for one list of keys, and reading changes nothing but the count.
+/// Rows are counted from 1. The keys do not change while they are read; only the count does.
 pub trait Keys {
     ghost use Rattle.std.specs.Prelude.{◌≡◌, ℕ, ◌+◌, ◌^◌, ◌<◌, ◌≤◌, List, length};
     ghost use Rattle.rows.specs.Keys.{key_at};
@@ -12,15 +12,15 @@ pub trait Keys {
     // The keys, that of row 1 first.
     ghost keys: { Self → List ℕ };
 
-    // How many keys were read.
+    // The number of keys that were read.
     ghost asked: { Self → ℕ };
 
-    /// How many rows there are.
+    /// The number of rows.
     fn count(&self) -> u32
         ensures value { result ≡ length (keys self.now) }
         ensures limit { result ≤ 0xFFFFFF };
 
-    /// How many keys were read.
+    /// The number of keys that were read.
     fn asked(&self) -> u64
         ensures { result ≡ asked self.now };
 
@@ -34,18 +34,18 @@ pub trait Keys {
         ensures counted { asked self.new ≡ asked self.old + 1 };
 }
 
-/// The rows with a key, from `first` to before `past`, and how many keys were read to find them.
+/// The rows with a key, from `first` up to but not including `past`, and the number of keys read to find them.
 #[derive(Clone, Copy, Debug, PartialEq, Eq)]
 pub struct Found {
-    /// The first row with the key; where none has it, the same as `past`.
+    /// The first row with the key. It equals `past` if no row has the key.
     pub first: u32,
-    /// The first row with a greater key, behind the last row where no key is greater.
+    /// The first row with a greater key, or the row after the last one if no key is greater.
     pub past: u32,
-    /// How many keys were read.
+    /// The number of keys that were read.
     pub reads: u64,
 }
 
-/// The first row from `low` on whose key is at least a limit, behind the last row where there is none.
+/// The first row from `low` on with a key of at least `limit`, or the row after the last one if there is none.
 fn first_at_least<K: Keys>(keys: &mut K, low: u32, limit: u64) -> u32
     requires sorted { IsNonDecreasing (K.keys keys.old) }
     requires from { 1 ≤ low }
@@ -73,17 +73,17 @@ fn first_at_least<K: Keys>(keys: &mut K, low: u32, limit: u64) -> u32
     low
 }
 
-/// Finds the rows with a key by halving, where the keys never fall.
+/// Finds the rows with a key by binary search. The keys must be in non-decreasing order.
 ///
-/// Rows count from 1. Where no row has the key, `first` is `past`: the row before which one with the
-/// key would stand.
+/// Rows are counted from 1. If no row has the key, `first` and `past` are both the row before which a
+/// row with this key belongs.
 pub fn find_key<K: Keys>(keys: &mut K, key: u32) -> Found
     requires sorted { IsNonDecreasing (K.keys keys.old) }
     requires unread { K.asked keys.old ≡ 0 }
-    // The rows from `first` to before `past` are those with the key.
+    // The rows with the key are those from `first` up to but not including `past`.
     ensures rows { (row : ℕ) → 1 ≤ row → row ≤ length (K.keys keys.old)
         → (key_at (K.keys keys.old) row ≡ key) ↔ ((result.first ≤ row) × (row < result.past)) }
-    // The keys before them are lower, and those behind them greater, also where no row has the key.
+    // The keys before them are smaller, and those after them greater, also if no row has the key.
     ensures below { (row : ℕ) → 1 ≤ row → row < result.first → key_at (K.keys keys.old) row < key }
     ensures above { (row : ℕ) → result.past ≤ row → row ≤ length (K.keys keys.old) → key < key_at (K.keys keys.old) row }
     ensures within { (1 ≤ result.first) × (result.first ≤ result.past) × (result.past ≤ length (K.keys keys.old) + 1) }

@@ -1,9 +1,9 @@
 //! The rows of the tables in a table stream (ECMA-335 II.22 and II.24.2.6).
 //!
-//! [`Rows`] reads the cells of a stream in place, each in constant time, and [`put_row`] appends a row
-//! as a stream has it: what is written is read again. Where the keys of a table never fall,
-//! [`find_key`] finds the rows with a key by halving, and tells how many keys it read. Only
-//! [`put_row`] takes memory.
+//! [`Rows`] reads the cells of a stream in constant time, without copying the stream. [`put_row`]
+//! appends the bytes of a row; the row is read back from them. If the keys of a table are sorted,
+//! [`find_key`] finds the rows with a key by binary search, and reports how many keys it read. Only
+//! [`put_row`] allocates.
 //!
 //! ```text
 //! let rows = Rows::new(stream, Layout::read(stream)?);

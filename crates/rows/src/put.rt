@@ -11,7 +11,7 @@ ghost use Rattle.schema.specs.LaidOut.{FitRow, number_bytes, row_bytes};
 use schema::{Layout, TableId};
 use std::alloc::AllocError;
 
-/// Appends a number in so many bytes, the lowest first.
+/// Appends a number as `width` bytes, the lowest first.
 fn put_number(bytes: &mut Vec<u8>, width: usize, number: u32) -> Result<(), AllocError>
     requires known { IsWidth width }
     requires fits { number < 256 ^ width }
@@ -27,22 +27,22 @@ fn put_number(bytes: &mut Vec<u8>, width: usize, number: u32) -> Result<(), Allo
     }
 }
 
-/// Appends a row of a table, as a table stream of this layout has it (II.24.2.6).
+/// Appends the bytes of a row, as a table stream with this layout has them (II.24.2.6).
 ///
 /// # Errors
 ///
-/// Want of memory alone; the bytes stay as they were.
+/// Out of memory only. The bytes are then unchanged.
 pub fn put_row(
     bytes: &mut Vec<u8>,
     layout: &Layout,
     table: TableId,
     numbers: &[u32],
 ) -> Result<(), AllocError>
-    // There is one number a column, within the column's width.
+    // There is one number for each column, and each fits the width of its column.
     requires { FitRow layout.now (columns_of table) numbers.now }
     ensures ok { OnOk result (bytes.new.items ≡ bytes.old.items ++ row_bytes layout.now (columns_of table) numbers.now) }
     ensures err { OnErr result (bytes.new.items ≡ bytes.old.items) }
-    // Where there is room for a row it is taken, and no memory is asked for.
+    // If the vector has capacity for the row, the call succeeds and does not allocate.
     ensures len { OnOk result (vec_len bytes.new ≡ vec_len bytes.old + row_width layout.now table) }
     ensures capacity { vec_capacity bytes.old ≤ vec_capacity bytes.new }
     ensures succeeds { vec_len bytes.old + row_width layout.now table ≤ vec_capacity bytes.old → IsOk result }
@@ -54,8 +54,8 @@ pub fn put_row(
     Ok(())
 }
 
-/// A row that [`put_row`] appends is read again, column by column, whatever stands before it and
-/// behind it.
+/// A row that [`put_row`] appends is read back, column by column, whatever bytes are before and after
+/// it.
 pub fn rows_are_read_again()
     ensures { (sizes : Sizes) (table : Table) (numbers before after : List ℕ) → FitRow sizes (columns_of table) numbers
         → (column : ℕ) → column < length (columns_of table)

@@ -7,7 +7,7 @@ use packed::{u16_at, u32_at};
 use schema::{Layout, TableId, cells_stand, tables_end_within, tables_stand};
 use std::marker::Model;
 
-/// The number in so many bytes at a place.
+/// The number in `width` bytes at offset `place`.
 fn number_of(bytes: &[u8], place: usize, width: usize) -> u32
     requires known { IsWidth width }
     requires within { place + width ≤ length bytes.now }
@@ -21,9 +21,9 @@ fn number_of(bytes: &[u8], place: usize, width: usize) -> u32
     }
 }
 
-/// The cells of a table stream, read in place (II.24.2.6).
+/// The cells of a table stream, read from the bytes of the stream (II.24.2.6).
 ///
-/// A cell is named by its table, its row, counted from 1, and its column, counted from 0.
+/// A cell is given by its table, its row, counted from 1, and its column, counted from 0.
 #[derive(Drop)]
 pub struct Rows<'a> {
     bytes: &'a [u8],
@@ -49,7 +49,7 @@ impl<'a> Rows<'a> {
     ghost use Rattle.schema.specs.Cells.{number_at, cell_width};
     ghost use Rattle.rows.specs.Cells.{bytes_before};
 
-    /// The rows of a table stream, by the layout that [`Layout::read`] answered for these bytes.
+    /// The rows of a table stream, with the layout that [`Layout::read`] returned for these bytes.
     pub fn new(bytes: &'a [u8], layout: Layout) -> Rows<'a>
         requires { IsTableStream bytes.now layout }
         ensures { result ≡ record { bytes = bytes.now; sizes = layout } }
@@ -65,17 +65,17 @@ impl<'a> Rows<'a> {
         &self.layout
     }
 
-    /// Where a cell begins in the stream.
+    /// The offset of a cell, in bytes from the start of the stream.
     pub fn place(&self, table: TableId, row: u32, column: usize) -> usize
         requires first { 1 ≤ row }
         requires last { row ≤ count_of self.now.sizes table }
         requires column { column < length (columns_of table) }
         ensures value { result ≡ cell_start self.now.sizes table row column }
         ensures within { result + cell_width self.now.sizes table column ≤ length self.now.bytes }
-        // It is how many bytes stand before the cell: the header and all cells of lower tables, rows and columns.
+        // It is the number of bytes before the cell: the header and all cells of earlier tables, rows and columns.
         ensures behind { (numbers : List (List (List ℕ))) → IsLaidOut self.now.bytes self.now.sizes numbers
             → result ≡ self.now.sizes.body + length (bytes_before self.now.sizes numbers table row column) }
-        // The cell's own bytes stand there.
+        // The bytes of the cell are at this offset.
         ensures stands { (numbers : List (List (List ℕ))) → IsLaidOut self.now.bytes self.now.sizes numbers
             → StandsAt self.now.bytes result (number_bytes (cell_width self.now.sizes table column) (number_in numbers table row column)) }
     {
@@ -84,13 +84,13 @@ impl<'a> Rows<'a> {
         self.layout.cell_start(table, row, column)
     }
 
-    /// The number of a cell.
+    /// The number in a cell.
     pub fn number(&self, table: TableId, row: u32, column: usize) -> u32
         requires first { 1 ≤ row }
         requires last { row ≤ count_of self.now.sizes table }
         requires column { column < length (columns_of table) }
         ensures value { result ≡ number_at self.now.bytes self.now.sizes table row column }
-        // It is the number of every list of rows that is laid out in the stream.
+        // It is the cell's number in any list of numbers that the stream encodes.
         ensures cell { (numbers : List (List (List ℕ))) → IsLaidOut self.now.bytes self.now.sizes numbers
             → result ≡ number_in numbers table row column }
         ensures fits { result < 256 ^ cell_width self.now.sizes table column }

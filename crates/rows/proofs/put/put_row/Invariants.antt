@@ -4,7 +4,7 @@ use Rattle.schema.specs.Places.{columns_width}
 use Rattle.schema.specs.LaidOut.{row_bytes}
 use Rattle.rows.proofs.put.put_row.Given as goal
 
--- with the columns that are left it is the whole row, and there is room for them
+-- what was written and the columns that are left make the whole row, and there is room for them
 abbrev pub invariant-loop-column : goal.invariant-loop-column
 invariant-loop-column l = record {
   whole : l.bytes.items ++ row_bytes l.layout (drop l.column (columns_of l.table)) (drop l.column l.numbers) ≡ l.fn.bytes.items ++ row_bytes l.layout (columns_of l.table) l.numbers;
