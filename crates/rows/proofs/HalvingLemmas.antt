@@ -5,7 +5,7 @@ use Rattle.std.proofs.lemmas.Bool.{cond_both, eqb-true, eqb-false}
 use Rattle.std.specs.List.Sorted.{IsNonDecreasing}
 use Rattle.rows.specs.Keys.{key_at, digits_after, binary_digits}
 
--- the number of rows left has at most as many binary digits as keys may still be read
+-- fewer than 2^spare rows are left, and `spare` more reads stay within `digits` reads
 pub record Halves (left reads digits : ℕ) : Type 0 where
   pub spare : ℕ
   pub few : reads + spare ≤ digits
