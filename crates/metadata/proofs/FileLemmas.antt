@@ -1,4 +1,4 @@
--- A file has a model exactly where what is demanded of it holds, and one at most.
+-- A file has a model if and only if all rules for it hold. It has at most one.
 use Rattle.std.proofs.Common.{◌≡◌, ℕ, ◌-◌, ◌^◌, ◌<◌, false, List, ◌++◌, slice_index, sym, ◌∙◌, subst, arith, inl, inr}
 use Rattle.packed.specs.Demand.{AllHold}
 use Rattle.packed.proofs.DemandLemmas.{all_append, all_front, all_back}
@@ -33,7 +33,7 @@ pub record AreRead : Type 0 where
   pub one : (root : List ℕ) (model other : Metadata) → IsModel root model → IsModel root other → model ≡ other
   pub count : (root : List ℕ) (model : Metadata) → IsModel root model → (table : TableId) → count_in model table ≡ rows_in (source_of root) table
 
--- the same counts have the same entry points
+-- the same row counts have the same entry points
 entry_same : (entry : ℕ) (count other : TableId → ℕ) → ((table : TableId) → count table ≡ other table) → IsEntryPoint entry count → IsEntryPoint entry other
 entry_same entry count other same (inl none) = inl none
 entry_same entry count other same (inr there) = let e = same there.0.table in inr (there.0, there.1, there.2, there.3, omega (arith, there.4, e))

@@ -1,17 +1,17 @@
--- Items that stand one behind the other.
+-- Items one after another.
 use Rattle.std.proofs.Common.{◌≡◌, ℕ, zero, suc, ◌+◌, ◌<◌, ◌≤◌, List, [], ◌∷◌, length, get_or, refl, sym, ap, subst, arith, inl, inr}
 use Rattle.std.specs.List.{AllByRecursion}
 use Rattle.std.proofs.lemmas.Bool.{cases_eq}
 use Rattle.metadata.specs.Rows.{AreFrom}
 
--- there are so many
+-- the number of items
 pub items_length : {X : Type 0} (P : ℕ → X → Type 0) (i n : ℕ) (xs : List X) → AreFrom P i n xs → length xs ≡ n
 items_length P i zero [] are = refl
 items_length P i zero (x ∷ xs) are = absurd are
 items_length P i (suc n) [] are = absurd are
 items_length P i (suc n) (x ∷ xs) are = ap suc (items_length P (i + 1) n xs are.1)
 
--- what stands at a place
+-- the item at an index
 pub item_at : {X : Type 0} (P : ℕ → X → Type 0) (i n : ℕ) (xs : List X) → AreFrom P i n xs → (k : ℕ) (d : X) → k < n → P (i + k) (get_or xs k d)
 item_at P i zero xs are k d below = absurd (omega arith)
 item_at P i (suc n) [] are k d below = absurd are
@@ -20,7 +20,7 @@ item_at P i (suc n) (x ∷ xs) are (suc k) d below =
     let there : i + 1 + k ≡ i + suc k = omega arith in
     subst (λ (j : ℕ). P j (get_or xs k d)) there (item_at P (i + 1) n xs are.1 k d (omega arith))
 
--- something stands for each number
+-- there is an item for each number
 pub item_of : {X : Type 0} (P : ℕ → X → Type 0) (i n : ℕ) (xs : List X) → AreFrom P i n xs → (k : ℕ) → i ≤ k → k < i + n → (x : X) × P k x
 item_of P i zero xs are k low high = absurd (omega arith)
 item_of P i (suc n) [] are k low high = absurd are
@@ -30,7 +30,7 @@ item_of P i (suc n) (x ∷ xs) are k low high =
       | inr other ↦ item_of P (i + 1) n xs are.1 k (omega arith) (omega arith)
     ]
 
--- where something stands for each number there are items
+-- if there is an item for each number, there is a list of items
 pub items_of : {X : Type 0} (P : ℕ → X → Type 0) (i n : ℕ) → ((k : ℕ) → i ≤ k → k < i + n → (x : X) × P k x) → (xs : List X) × AreFrom P i n xs
 items_of P i zero each = ([], tt)
 items_of P i (suc n) each =
@@ -38,7 +38,7 @@ items_of P i (suc n) each =
     let rest = items_of P (i + 1) n (λ k low high. each k (omega arith) (omega arith)) in
     (here.0 ∷ rest.0, (here.1, rest.1))
 
--- where one thing at most stands for each number there is one list of items at most
+-- if there is at most one item for each number, there is at most one list of items
 pub items_one : {X : Type 0} (P : ℕ → X → Type 0) → ((k : ℕ) (x y : X) → P k x → P k y → x ≡ y) → (i n : ℕ) (xs ys : List X) → AreFrom P i n xs
     → AreFrom P i n ys → xs ≡ ys
 items_one P each i zero [] [] are also = refl
@@ -51,7 +51,7 @@ items_one P each i (suc n) (x ∷ xs) (y ∷ ys) are also =
     let tail = items_one P each (i + 1) n xs ys are.1 also.1 in
     cc
 
--- what stands at a place, by the number that it stands for
+-- the item at an index, by its number
 pub from_at : {X : Type 0} (P : ℕ → X → Type 0) (i n : ℕ) (xs : List X) (k j : ℕ) (d : X) → AreFrom P i n xs → k < n → j ≡ i + k → P j (get_or xs k d)
 from_at P i n xs k j d are below e = subst (λ m. P m (get_or xs k d)) (sym e) (item_at P i n xs are k d below)
 

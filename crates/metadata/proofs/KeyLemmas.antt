@@ -27,7 +27,7 @@ use Rattle.metadata.specs.Valid.{kind_at}
 use Rattle.metadata.specs.KeyOrder.{key_number, key_in, IsKeyOrdered}
 use Rattle.metadata.proofs.TableLemmas.{HaveCells}
 
--- what the laws of the tables say
+-- the laws of the tables
 pub record KeysKnown : Type 0 where
   pub stand : (table : TableId) → get_or tables (position_of table) Module ≡ table
   pub rise : (lower higher : TableId) → position_of lower < position_of higher → table_number lower < table_number higher
@@ -37,7 +37,7 @@ pub record KeysKnown : Type 0 where
       → slice_get (tables_of coded) b ≡ Some (Some table) → a ≡ b
   pub columns : HaveCells
 
--- ---- the tag of a table is its position in the list
+-- ---- the tag of a table is its index in the list
 
 same_table : KeysKnown → (a b : TableId) → table_number a ≡ table_number b → a ≡ b
 same_table known a b e =
@@ -50,7 +50,7 @@ same_table known a b e =
     (cases_lt (position_of a) (position_of b)) in
     sym (known.stand a) ∙ ap (λ (k : ℕ). get_or tables k Module) same ∙ known.stand b
 
--- the position is that of some table of the same number
+-- the index is that of some table with the same number
 record IsPlaced (listed : List (Option TableId)) (table : TableId) (position : ℕ) : Type 0 where
   other : TableId
   at : slice_get listed position ≡ Some (Some other)
@@ -94,7 +94,7 @@ tag_is known coded table tag e =
     let same = same_table known table is.other is.number in
     known.one coded _ tag table (is.at ∙ ap (λ (t : TableId). Some (Some t)) (sym same)) e
 
--- ---- the number of a reference that may not be null
+-- ---- the number of a reference that does not allow null
 
 row_key : (source : Source) (table : TableId) (number : ℕ) (cell : Cell) → Refers source false (record { table = table; row = number }) cell
     → number ≡ key_number (kind.Row table) cell

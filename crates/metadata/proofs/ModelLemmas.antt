@@ -1,4 +1,4 @@
--- A root has a model exactly where what is demanded of it holds, and one at most.
+-- A root has a model if and only if all rules for it hold. It has at most one.
 use Rattle.std.proofs.Common.{◌≡◌, ℕ, ◌+◌, ◌-◌, ◌^◌, ◌<◌, ◌≤◌, List, [], ◌++◌, length, drop, slice_index, slice_index_or, Option, Some, None, unwrap_or, refl, sym, ◌∙◌, ap, subst, arith, inl, inr}
 use Rattle.std.specs.Option.{option_map}
 use Rattle.std.proofs.lemmas.Bool.{cases_lt}
@@ -66,7 +66,7 @@ demands_met have here all cells ordered owned nested =
     (all_append runs (nesting ++ signatures) (runs_met here owned)
     (all_append nesting signatures (nesting_met here nested) (signatures_met have here all cells))))
 
--- all that is asked of a source
+-- all rules for a source
 pub record Fits (source : Source) : Type 0 where
   pub all : List (List (List Cell))
   pub cells : AreTables source all

@@ -1,4 +1,4 @@
--- All that is asked of tables holds exactly where they are those of a valid model.
+-- All rules for tables hold if and only if they are those of a valid model.
 use Rattle.std.proofs.Common.{◌≡◌, ℕ, ◌-◌, ◌<◌, ◌≤◌, ◌++◌, length, get_or, subst, arith}
 use Rattle.packed.specs.Demand.{AllHold}
 use Rattle.packed.proofs.DemandLemmas.{all_append, all_front, all_back, each_holds, all_of_each}
@@ -12,7 +12,7 @@ use Rattle.metadata.specs.Rows.{table_at}
 use Rattle.metadata.specs.Valid.{IsValidAt, HasOwners, IsBehind, IsValid}
 use Rattle.metadata.specs.Refusals.{refusals_of_count, refusals_of_counts, refusals_of_cell, refusals_of_row, refusals_of_table_at, refusals_of_cells, refusals_of_start, refusals_of_run, refusals_of_runs, refusals_of_nesting_in, refusals_of_nesting, refusals_of_signature, refusals_of_signatures_in, refusals_of_signatures_at, refusals_of_signatures, refusals_of}
 
--- each table stands at its position
+-- each table is at its table index
 pub record TablesStand : Type 0 where
   pub position : (table : TableId) → position_of table < 38
   pub stand : (table : TableId) → get_or tables (position_of table) Module ≡ table
@@ -20,7 +20,7 @@ pub record TablesStand : Type 0 where
 each_table : TablesStand → (P : TableId → Type 0) → ((j : ℕ) → j < 38 → P (table_at j)) → (table : TableId) → P table
 each_table stands P each table = subst P (stands.stand table) (each (position_of table) (stands.position table))
 
--- what is asked of a cell
+-- the rules for a cell
 abbrev CellHolds : Metadata → TableId → ℕ → ℕ → Type 0
 CellHolds model table row place = AllHold (refusals_of_cell model table row place) × AllHold (refusals_of_signature model table row place)
 
@@ -33,7 +33,7 @@ cell_met : (model : Metadata) (table : TableId) (row place : ℕ) → IsValidAt 
 unfolding refusals_of_cell refusals_of_signature
 cell_met model table row place is = (((is.of_kind, is.storable), (is.refers, (is.within, tt))), (is.held, (is.types, tt)))
 
--- what a table's rows are
+-- the properties of a table's rows
 abbrev RowsAre : Metadata → TableId → Type 0
 RowsAre model table = (row : ℕ) → HasRow model table row
     → (length (row_of model table row) ≡ cell_count table) × ((place : ℕ) → place < cell_count table → IsValidAt model table place (cell_in model table row place))

@@ -1,4 +1,4 @@
--- The rules beside the cells hold exactly where what is demanded of order, runs and nesting holds.
+-- The rules beside those for cells hold if and only if the fault rules of order, runs and nesting hold.
 use Rattle.std.proofs.Common.{◌≡◌, ℕ, ◌-◌, Bool, true, false, List, ◌++◌, Option, Some, None, refl, arith}
 use Rattle.packed.specs.declared.fault.Fault.{Fault}
 use Rattle.packed.specs.Demand.{Demand, AllHold, demands_where}

@@ -1,4 +1,4 @@
--- Models of the same parts are one.
+-- Models with the same parts are equal.
 use Rattle.std.proofs.Common.{◌≡◌, ℕ, zero, suc, ◌+◌, ◌-◌, ◌<◌, List, [], ◌∷◌, length, get_or, map, refl, sym, ap, subst, ◌∙◌, arith}
 use Rattle.std.proofs.lemmas.List.{get_or-map}
 use Rattle.schema.specs.declared.table.TableId.{TableId}
@@ -10,7 +10,7 @@ use Rattle.metadata.specs.Lookups.{HasRow}
 use Rattle.metadata.specs.Rows.{table_at}
 use Rattle.metadata.specs.Same.{SaysSame}
 
--- lists with the same items are one
+-- lists with the same items are equal
 pub lists_one : {X : Type 0} (d : X) (xs ys : List X) → length xs ≡ length ys → ((k : ℕ) → k < length xs → get_or xs k d ≡ get_or ys k d) → xs ≡ ys
 lists_one d [] [] long each = refl
 lists_one d [] (y ∷ ys) long each = absurd (omega arith)
@@ -20,7 +20,7 @@ lists_one d (x ∷ xs) (y ∷ ys) long each =
     let tail = lists_one d xs ys (omega arith) (λ k below. each (suc k) (omega arith)) in
     cc
 
--- the positions of tables, in order
+-- the table indexes, in order
 abbrev pub count_up : ℕ → ℕ → List ℕ
 count_up from zero = []
 count_up from (suc n) = from ∷ count_up (suc from) n
@@ -34,7 +34,7 @@ positions : map position_of tables ≡ count_up 0 38
 unfolding tables
 positions = refl
 
--- a table is found by its position
+-- a table is found by its table index
 pub position_at : length tables ≡ 38 → (k : ℕ) → k < 38 → position_of (table_at k) ≡ k
 position_at count k below =
     sym (get_or-map position_of tables k Module 0 (omega (arith, count))) ∙ ap (λ (l : List ℕ). get_or l k 0) positions ∙ count_up_at 0 38 k below

@@ -14,7 +14,7 @@ cells_of_module : cell_columns Module ≡ 0 ∷ 1 ∷ 2 ∷ 3 ∷ 4 ∷ []
 unfolding cell_columns
 cells_of_module = refl
 
--- four types and three fields, whose fields begin at 1, null, 3 and null
+-- four types and three fields, with the field lists 1, null, 3 and null
 four_types : Source
 four_types = record {
   sizes = record { counts = 0 ∷ 0 ∷ 4 ∷ 3 ∷ []; heap_sizes = 0; sorted = 0; body = 0 };
@@ -33,7 +33,7 @@ null_start : start_of four_types TypeDef 2 4 Field ≡ 3
 unfolding four_types start_of number_of
 null_start = refl
 
--- and the last null the end
+-- and the last null takes the end
 last_start : start_of four_types TypeDef 4 4 Field ≡ 4
 unfolding four_types start_of number_of
 last_start = refl

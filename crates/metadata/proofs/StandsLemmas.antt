@@ -1,4 +1,4 @@
--- A number stands for a cell exactly where what is demanded of it holds, and for one at most.
+-- A number represents a cell if and only if all rules for it hold. It represents at most one.
 use Rattle.std.proofs.Common.{◌≡◌, ℕ, ◌^◌, ◌≤◌, length, Bool, true, false, List, Option, Some, None, refl, sym, ◌∙◌, ap, subst, arith, inl, inr}
 use Rattle.std.specs.List.{slice_get}
 use Rattle.std.proofs.lemmas.Nat.{same_from_place}
@@ -100,7 +100,7 @@ spelling_met source (kind.Row table) nullable start number place cell is = tt
 spelling_met source (kind.Coded coded) nullable start number place cell is = tt
 spelling_met source (kind.List member) nullable start number place cell is = tt
 
--- padding has no demands
+-- padding has no rules
 pub padding_met : (source : Source) (kind : ColumnKind) (nullable : Bool) (number place other : ℕ) → is_padding kind ≡ true
     → AllHold (demands_of_number source kind nullable number place) × AllHold (demands_of_spelling source kind number other)
 padding_met source kind.U8 nullable number place other padding = absurd cc
@@ -123,7 +123,7 @@ pub record AreOne : Type 0 where
   pub few_tags : (coded : Coded) → length (tables_of coded) ≤ 2 ^ tag_bits coded
   pub signature : (kind : SigKind) (first second : Body) (bytes : List ℕ) → Spells kind first bytes → Spells kind second bytes → first ≡ second
 
--- a number of a coded index names one row
+-- a coded index refers to one row
 token_one : (coded : Coded) (number : ℕ) (a b : Token) → length (tables_of coded) ≤ 2 ^ tag_bits coded
     → IsCoded coded number a.table a.row → IsCoded coded number b.table b.row → a ≡ b
 token_one coded number a b few x y =

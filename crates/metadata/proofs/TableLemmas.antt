@@ -1,4 +1,4 @@
--- The rows of all tables are there exactly where what is demanded of cells and signatures holds, and once at most.
+-- There are rows of all tables if and only if the rules for cells and signatures hold. There is only one such list.
 use Rattle.std.proofs.Common.{◌≡◌, ℕ, ◌+◌, ◌<◌, ◌≤◌, true, false, List, length, subst, arith, inl, inr}
 use Rattle.std.proofs.lemmas.Bool.{cases_Bool}
 use Rattle.packed.specs.Demand.{AllHold}
@@ -15,7 +15,7 @@ use Rattle.metadata.specs.Demands.{demands_of_cell, demands_of_row, demands_of_t
 use Rattle.metadata.proofs.ItemLemmas.{item_of, items_of, items_one}
 use Rattle.metadata.proofs.StandsLemmas.{AreOne, stands_found, number_met, spelling_met, padding_met, stands_one}
 
--- each cell has a column, which is no padding, and each other column has a cell
+-- each cell has a column, which is not padding, and each column that is not padding has a cell
 pub record HaveCells : Type 0 where
   pub column : (table : TableId) (cell : ℕ) → cell < cell_count table
       → (column_of table cell < length (columns_of table)) × (is_padding (column_at table (column_of table cell)).kind ≡ false)
@@ -24,7 +24,7 @@ pub record HaveCells : Type 0 where
 
 -- cells
 
--- what is demanded of a cell, of its number and of what that spells
+-- the rules for a cell, its number and its signature
 abbrev CellHolds : Placed → TableId → ℕ → ℕ → Type 0
 CellHolds here table row column = AllHold (demands_of_cell here table row column) × AllHold (demands_of_signature here table row column)
 

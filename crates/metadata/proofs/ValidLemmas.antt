@@ -40,7 +40,7 @@ use Rattle.metadata.specs.Valid.{Names, IsWithinMembers, IsValidCell, IsValidAt,
 use Rattle.metadata.proofs.ItemLemmas.{all_weaker, items_length, from_at}
 use Rattle.metadata.proofs.TableLemmas.{HaveCells}
 
--- what the laws of the crates below say of roots and signatures
+-- the laws of the crates below about roots and signatures
 pub record Known : Type 0 where
   pub count : length tables ≡ 38
   pub position : (table : TableId) → position_of table < 38
@@ -51,7 +51,7 @@ pub record Known : Type 0 where
   pub columns : HaveCells
   pub spellable : (kind : SigKind) (signature : Body) (bytes : List ℕ) → Spells kind signature bytes → IsSpellable signature
 
--- ---- what a number stands for is valid
+-- ---- the cell that a number represents is valid
 
 packed_small : (n : ℕ) (bytes : List ℕ) → IsPacked n bytes → n < 2 ^ 29
 packed_small n bytes (inl one) = let less = one.0 in omega (arith, less)
@@ -82,7 +82,7 @@ module _ (known : Known) (model : Metadata) (source : Source) (counts : (table :
   names : (token : Token) → IsThere source token → Names model token
   names token there = (there.0, rw (counts token.table) (there.1))
 
-  -- a reference that stands for a token is to a row that exists, or null where the column may be
+  -- a reference that represents a token is to an existing row, or is null and the column allows null
   refers : (k : ColumnKind) (listed : List (Option TableId)) (nullable : Bool) (token : Token) (cell : Cell)
       → ((reference : Option Token) → IsTo listed reference → IsOfKind k (Ref reference)) → ((reference : Option Token) → IsHeld k (Ref reference))
       → ((reference : Option Token) → IsWithinMembers model k (Ref reference))
@@ -211,7 +211,7 @@ module _ (known : Known) (root : List ℕ) (model : Metadata) (is : IsModel root
   number_fits table row column first last below =
       (known.holds (stream_in root is.headers Tables) is.sizes is.numbers is.laid_out table row column first last below).fits
 
-  -- the cell of a list column is the start of its run, which is one of the members or the end
+  -- the cell of a list column is the start of its run: a member's row, or the row after the last
   list_is : (table : TableId) (row place : ℕ) (member : TableId) → 1 ≤ row → row ≤ rows_in source table → place < cell_count table
       → (column_at table (column_of table place)).kind ≡ kind.List member
       → (number_of source table row (column_of table place) ≤ rows_in source member + 1)

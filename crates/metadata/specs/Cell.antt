@@ -1,10 +1,10 @@
--- What a cell of a row says, without where it lies in memory (ECMA-335 II.22).
+-- The value of a cell of a row, independent of its encoding (ECMA-335 II.22).
 use Rattle.std.specs.Prelude.{ℕ, List, Option}
 use Rattle.schema.specs.declared.token.Token.{Token}
 use Rattle.signature_values.specs.Syntax.{Body}
 
--- a number; the bytes of a text; bytes; a GUID, or null; a row of a table, or null; the first row of an owner's run, in the
--- table of its members; or a signature
+-- a number; the bytes of a text; bytes; a GUID, or null; a row of a table, or null; the first row of an owner's run in
+-- the table of its members; or a signature
 pub data Cell : Type 0 where
   Number : ℕ → Cell
   Text : List ℕ → Cell

@@ -1,5 +1,5 @@
--- What is demanded of a root and of a file, from the first demand to the last (ECMA-335 II.22 to II.25). A demand is posed
--- only where all before it hold. Each has a code, and a place in the bytes that were handed in.
+-- The rules for a root and for a file, from the first to the last (ECMA-335 II.22 to II.25). A rule applies only if all
+-- rules before it hold. Each has a code, and the offset in the input that is reported if it is broken.
 use Rattle.std.specs.Prelude.{◌≡◌, ◌≢◌, ℕ, ◌+◌, ◌-◌, ◌<◌, ◌≤◌, ◌⊎◌, ⊤, Bool, true, false, List, [], ◌∷◌, ◌++◌, length, Option, Some, None}
 use Rattle.packed.specs.declared.code.FaultCode.TheVariants.{BadTag, BadIndex, BadList, NotSorted, NoOwner, BadRun, NestedOrder, BadSignature, SignatureIndex, EntryPoint}
 use Rattle.packed.specs.declared.fault.Fault.{Fault}
@@ -33,17 +33,17 @@ use Rattle.metadata.specs.Rules.{is_said_sorted}
 use Rattle.metadata.specs.Model.{IsEntryPoint, has_native_entry_point}
 use Rattle.metadata.specs.Placed.{Placed, cell_place, tables_in, tables_place, source_of, placed_at}
 
--- ---- cells, but for what signatures spell
+-- ---- cells, without the contents of signatures
 
--- the row exists, or is null where the column may be
+-- the row exists, or is null and the column allows null
 abbrev pub MayRefer : Source → Bool → Token → Type 0
 MayRefer source nullable token = ((token.row ≡ 0) × (nullable ≡ true)) ⊎ IsThere source token
 
--- the number has a tag that is used
+-- the tag of the number is used
 abbrev pub HasTag : Coded → ℕ → Type 0
 HasTag coded number = (token : Token) × IsCoded coded number token.table token.row
 
--- of a number in a column of a kind, which stands at a place
+-- the rules for a number in a column of a kind, at an offset (II.22)
 abbrev pub demands_of_number : Source → ColumnKind → Bool → ℕ → ℕ → List (Demand Fault)
 demands_of_number source kind.Text nullable number place = demands_of_text source.texts number place
 demands_of_number source kind.Guid nullable number place = demands_of_guid source.guids number place
@@ -72,13 +72,13 @@ demands_of_table here table = demands_from (demands_of_row here table) 1 (rows_i
 unfoldable pub demands_of_table_at : Placed → ℕ → List (Demand Fault)
 demands_of_table_at here position = demands_of_table here (table_at position)
 
--- of all cells, by table, row and column
+-- the rules for all cells, by table, row and column
 unfoldable pub demands_of_cells : Placed → List (Demand Fault)
 demands_of_cells here = demands_from (demands_of_table_at here) 0 38
 
 -- ---- the order of rows
 
--- of a key, which is no lower than that of the row before
+-- the rule for a key: it is not lower than that of the row before (II.22)
 unfoldable pub demands_of_key_in : Placed → TableId → ℕ → ℕ → List (Demand Fault)
 demands_of_key_in here table key row =
     demand (number_of here.source table (row - 1) key ≤ number_of here.source table row key) NotSorted (cell_place here table row key) ∷ []
@@ -86,7 +86,7 @@ demands_of_key_in here table key row =
 unfoldable pub demands_of_keys : Placed → TableId → ℕ → List (Demand Fault)
 demands_of_keys here table key = demands_from (demands_of_key_in here table key) 2 (rows_in here.source table - 1)
 
--- of a table that is said to be sorted
+-- the rules for a table that Sorted claims to be sorted (II.24.2.6)
 abbrev pub demands_of_order_by : Placed → TableId → Option ℕ → List (Demand Fault)
 demands_of_order_by here table None = []
 demands_of_order_by here table (Some key) = demands_where (is_said_sorted here.source table) (demands_of_keys here table key)
@@ -94,18 +94,18 @@ demands_of_order_by here table (Some key) = demands_where (is_said_sorted here.s
 unfoldable pub demands_of_order_at : Placed → ℕ → List (Demand Fault)
 demands_of_order_at here position = demands_of_order_by here (table_at position) (key_of (table_at position))
 
--- of all tables
+-- the rules for all tables
 unfoldable pub demands_of_order : Placed → List (Demand Fault)
 demands_of_order here = demands_from (demands_of_order_at here) 0 38
 
 -- ---- the runs of members
 
--- of a start, which is no lower than that of the owner before
+-- the rule for the start of a run: it is not lower than that of the owner before
 unfoldable pub demands_of_start : Placed → TableId → ℕ → TableId → ℕ → List (Demand Fault)
 demands_of_start here owner column member row =
     demand (start_of here.source owner (row - 1) column member ≤ start_of here.source owner row column member) BadRun (cell_place here owner row column) ∷ []
 
--- of the owners of members: where there are none there is no member; the first run begins with the first member; starts never fall
+-- the rules for owners: without owners there are no members; the first run starts at 1; starts never decrease (II.22)
 unfoldable pub demands_of_run : Placed → TableId → ℕ → TableId → List (Demand Fault)
 demands_of_run here owner column member =
     demand (rows_in here.source owner ≡ 0 → rows_in here.source member ≡ 0) NoOwner (cell_place here member 1 0)
@@ -122,7 +122,7 @@ demands_of_runs here =
 
 -- ---- the order of nested types
 
--- of a row of NestedClass: the enclosing type stands before the nested one
+-- the rule for a row of NestedClass: the enclosing type comes before the nested one (II.22.32)
 unfoldable pub demands_of_nesting_in : Placed → ℕ → List (Demand Fault)
 demands_of_nesting_in here row =
     demand (number_of here.source NestedClass row 1 < number_of here.source NestedClass row 0) NestedOrder (cell_place here NestedClass row 1) ∷ []
@@ -132,12 +132,12 @@ demands_of_nesting here = demands_from (demands_of_nesting_in here) 1 (rows_in h
 
 -- ---- signatures
 
--- the blob spells some signature of which something holds
+-- the blob encodes a signature with this property
 abbrev pub HasSignature : Source → SigKind → ℕ → (Body → Type 0) → Type 0
 HasSignature source column number P =
     (blob : List ℕ) × (signature : Body) × IsBlob source.blobs number blob × Spells column signature blob × P signature
 
--- of the number of a blob, in a column of a kind: it spells a signature, whose type indexes name rows that exist
+-- the rules for a signature's blob: it encodes a signature (II.23.2), and the type indexes in it refer to existing rows
 abbrev pub demands_of_spelling : Source → ColumnKind → ℕ → ℕ → List (Demand Fault)
 demands_of_spelling source (kind.Signature column) number place =
     demand (HasSignature source column number (λ signature. ⊤)) BadSignature place
@@ -158,13 +158,13 @@ demands_of_signatures_of here table = demands_from (demands_of_signatures_in her
 unfoldable pub demands_of_signatures_at : Placed → ℕ → List (Demand Fault)
 demands_of_signatures_at here position = demands_of_signatures_of here (table_at position)
 
--- of all signatures, by table, row and column
+-- the rules for all signatures, by table, row and column
 unfoldable pub demands_of_signatures : Placed → List (Demand Fault)
 demands_of_signatures here = demands_from (demands_of_signatures_at here) 0 38
 
 -- ---- the whole
 
--- of the tables of a root
+-- the rules for the tables of a root
 unfoldable pub demands_of_tables : Placed → List (Demand Fault)
 demands_of_tables here =
     demands_of_cells here
@@ -173,19 +173,19 @@ demands_of_tables here =
     ++ (demands_of_nesting here
     ++ demands_of_signatures here)))
 
--- of a root that begins at a place: its directory, its table stream, and its tables
+-- the rules for a root at offset `place` of the input: its stream headers, its table stream, and its tables
 unfoldable pub demands_of_metadata : ℕ → List ℕ → List (Demand Fault)
 demands_of_metadata place root =
     raised place (demands_of_root root)
     ++ (raised (place + tables_place root) (demands_of_stream (tables_in root))
     ++ demands_of_tables (placed_at place root))
 
--- of the entry point, unless it is native
+-- the rule for the entry point, unless it is native (II.25.3.3)
 unfoldable pub demands_of_entry_point : CliHeader → Source → List (Demand Fault)
 demands_of_entry_point header source =
     demand (has_native_entry_point header ≡ false → IsEntryPoint header.entry_point_token (rows_in source)) EntryPoint (header.place + 20) ∷ []
 
--- of a file: its image, its CLI header, its root, and its entry point
+-- the rules for a file: its image, its CLI header, its root, and its entry point
 unfoldable pub demands_of_file : List ℕ → List (Demand Fault)
 demands_of_file file =
     demands_of_image file

@@ -1,4 +1,4 @@
--- The key numbers of a model's tables, and whether they are in order (ECMA-335 II.22 and II.24.2.6).
+-- The key numbers of a model's tables, and their order (ECMA-335 II.22 and II.24.2.6).
 use Rattle.std.specs.Prelude.{ℕ, ◌-◌, ◌+◌, ◌*◌, ◌^◌, ◌≤◌, Some}
 use Rattle.std.specs.List.{position_or_len}
 use Rattle.schema.specs.declared.table.TableId.{TableId}
@@ -12,7 +12,7 @@ use Rattle.metadata.specs.Metadata.{Metadata, count_in, cell_in}
 use Rattle.metadata.specs.Lookups.{IsKeyPlace}
 use Rattle.metadata.specs.Valid.{kind_at}
 
--- the number of a row: of a coded index the row, and behind it the tag of the table (II.24.2.6)
+-- the number of a row in a column: for a coded index, the row in the high bits and the tag in the low bits (II.24.2.6)
 abbrev pub row_number : ColumnKind → Token → ℕ
 row_number (kind.Coded coded) token = token.row * 2 ^ tag_bits coded + position_or_len (is_table token.table) (tables_of coded)
 row_number _ token = token.row
@@ -22,11 +22,11 @@ abbrev pub key_number : ColumnKind → Cell → ℕ
 key_number kind (Ref (Some token)) = row_number kind token
 key_number kind _ = 0
 
--- the key number of a row, by the place of the key among the cells
+-- the key number of a row, by the cell of the key
 abbrev pub key_in : Metadata → TableId → ℕ → ℕ → ℕ
 key_in model table place row = key_number (kind_at table place) (cell_in model table row place)
 
--- the key numbers of a table never fall
+-- the key numbers of a table never decrease
 abbrev pub IsKeyOrdered : Metadata → TableId → Type 0
 IsKeyOrdered model table =
     (place row : ℕ) → IsKeyPlace table place → 2 ≤ row → row ≤ count_in model table → key_in model table place (row - 1) ≤ key_in model table place row

@@ -1,4 +1,4 @@
--- Which cells a column takes (ECMA-335 II.22).
+-- The cells that a column can hold (ECMA-335 II.22).
 use Rattle.std.specs.Prelude.{◌≡◌, ◌<◌, ◌^◌, ⊤, List, [], ◌∷◌, length, Option, Some, IfSome, Contains, IsUtf8}
 use Rattle.heaps.specs.Entries.{HasNoNul}
 use Rattle.schema.specs.declared.table.TableId.{TableId}
@@ -14,8 +14,8 @@ use Rattle.metadata.specs.Cell as cell
 abbrev pub IsTo : List (Option TableId) → Option Token → Type 0
 IsTo listed reference = IfSome reference (λ token. Contains listed (Some token.table))
 
--- a number of so many bytes; a text, a GUID, bytes or a signature; a row of its table, or of one that its coded index lists
--- (II.24.2.6); or the start of a run. Padding has no cell.
+-- a number that fits its bytes; a text, GUID, bytes or signature; a row of the column's table, or of one of its coded
+-- index's tables (II.24.2.6); or the start of a run. Padding has no cell.
 abbrev pub IsOfKind : ColumnKind → Cell → Type 0
 IsOfKind kind.U8 (cell.Number number) = number < 2 ^ 8
 IsOfKind kind.U16 (cell.Number number) = number < 2 ^ 16
@@ -29,14 +29,14 @@ IsOfKind (kind.Coded coded) (cell.Ref reference) = IsTo (tables_of coded) refere
 IsOfKind (kind.List member) (cell.Start row) = ⊤
 IsOfKind _ _ = ⊥
 
--- a heap can hold it: a text without NUL, fewer than 2^29 bytes, the sixteen bytes of a GUID (II.24.2.3 to II.24.2.5)
+-- a heap can store it: a text without NUL, fewer than 2^29 bytes, a GUID of sixteen bytes (II.24.2.3 to II.24.2.5)
 abbrev pub IsStorable : Cell → Type 0
 IsStorable (cell.Text text) = HasNoNul text × IsUtf8 text
 IsStorable (cell.Bytes bytes) = length bytes < 2 ^ 29
 IsStorable (cell.Guid guid) = IfSome guid (λ bytes. length bytes ≡ 16)
 IsStorable _ = ⊤
 
--- a signature is one that its column holds, and that has a spelling (II.23.2)
+-- a signature is of the column's kind and has an encoding (II.23.2)
 abbrev pub IsHeld : ColumnKind → Cell → Type 0
 IsHeld (kind.Signature column) (cell.Sig signature) = Holds column signature × IsSpellable signature
 IsHeld _ _ = ⊤

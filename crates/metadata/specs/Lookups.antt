@@ -1,4 +1,4 @@
--- What look-ups in a model answer (ECMA-335 II.22).
+-- The results of lookups in a model (ECMA-335 II.22).
 use Rattle.std.specs.Prelude.{◌≡◌, ℕ, ◌+◌, ◌<◌, ◌≤◌, List, Some}
 use Rattle.schema.specs.declared.table.TableId.{TableId}
 use Rattle.schema.specs.declared.table.TableId.TheVariants.{TypeDef}
@@ -12,8 +12,8 @@ use Rattle.schema.specs.CellColumns.{cell_count, column_of}
 abbrev pub HasRow : Metadata → TableId → ℕ → Type 0
 HasRow model table row = (1 ≤ row) × (row ≤ count_in model table)
 
--- The run of an owner, by its cell that lists members: it goes from its start to before the start of the next owner, and
--- that of the last owner to the last member.
+-- The run of an owner, by its cell in the list column: from its start up to but not including the next owner's start.
+-- The run of the last owner ends with the last member.
 pub record IsRun (model : Metadata) (owner : TableId) (place : ℕ) (member : TableId) (row first past : ℕ) : Type 0 where
   pub start : cell_in model owner row place ≡ Start first
   pub next : row < count_in model owner → cell_in model owner (row + 1) place ≡ Start past
@@ -23,13 +23,13 @@ pub record IsRun (model : Metadata) (owner : TableId) (place : ℕ) (member : Ta
 abbrev pub HasNames : Metadata → List ℕ → List ℕ → ℕ → Type 0
 HasNames model namespace name row = (cell_in model TypeDef row 1 ≡ Text name) × (cell_in model TypeDef row 2 ≡ Text namespace)
 
--- the lowest row of a type with these names
+-- the first row of a type with these names
 pub record IsFirstType (model : Metadata) (namespace name : List ℕ) (row : ℕ) : Type 0 where
   pub there : HasRow model TypeDef row
   pub names : HasNames model namespace name row
   pub first : (earlier : ℕ) → 1 ≤ earlier → earlier < row → ¬ HasNames model namespace name earlier
 
--- the place among the cells of a table's key column
+-- the cell of a table's key column
 pub record IsKeyPlace (table : TableId) (place : ℕ) : Type 0 where
   pub within : place < cell_count table
   pub key : key_of table ≡ Some (column_of table place)

@@ -1,4 +1,4 @@
--- Which model the bytes of a root have, and those of a file (ECMA-335 II.22 to II.25).
+-- The model of a root's bytes, and of a file's (ECMA-335 II.22 to II.25).
 use Rattle.std.specs.Prelude.{◌≡◌, ℕ, ◌/◌, ◌%◌, ◌≤◌, ◌⊎◌, ◌==◌, ◌^◌, Bool, false, List, length}
 use Rattle.root.specs.declared.kind.Kind.TheVariants.{Tables, UserStrings}
 use Rattle.root.specs.Root.{IsRoot}
@@ -19,9 +19,9 @@ use Rattle.metadata.specs.Rows.{AreTables}
 use Rattle.metadata.specs.Rules.{AreByKey, AreOwned, AreNested}
 use Rattle.metadata.specs.Streams.{stream_in, source_in, root_in}
 
--- The root has this model: it is a root of the model's version; its `#~` stream is laid out with numbers that stand for
--- the model's cells; tables are in order where they are said to be, members have one owner each, and types stand behind
--- those that they are nested in; and `#US` has the user bytes.
+-- The root has this model: it is a root with the model's version; its `#~` stream encodes numbers that represent the
+-- model's cells; tables are sorted if Sorted claims it, each member has one owner, and types come after the types that
+-- they are nested in; and the user bytes are those of `#US`, padded to a multiple of four.
 pub record IsModel (root : List ℕ) (model : Metadata) : Type 0 where
   pub small : length root ≤ 2 ^ 30
   pub headers : List Header
@@ -35,18 +35,18 @@ pub record IsModel (root : List ℕ) (model : Metadata) : Type 0 where
   pub nested : AreNested (source_in root headers sizes numbers)
   pub user : model.user ≡ filled (stream_in root headers UserStrings)
 
--- II.25.3.3.2: the entry point is 0, or the token of a row of MethodDef or File that exists
+-- II.25.3.3.2: the entry point is 0, or the token of an existing row of MethodDef or File
 abbrev pub IsEntryPoint : ℕ → (TableId → ℕ) → Type 0
 IsEntryPoint entry count =
     (entry ≡ 0)
     ⊎ ((token : Token) × IsToken entry token × ((token.table ≡ MethodDef) ⊎ (token.table ≡ File)) × (1 ≤ token.row) × (token.row ≤ count token.table))
 
--- the flag of a native entry point (II.25.3.3.1), which is no token
+-- the flag of a native entry point (II.25.3.3.1), which is not a token
 abbrev pub has_native_entry_point : CliHeader → Bool
 has_native_entry_point header = header.flags / 0x10 % 2 == 1
 
--- The file has this CLI header and this model: it is an image with that header, whose root has the model; and its entry
--- point is one, unless it is native.
+-- The file has this CLI header and this model: it is an image with this header, the header's root has the model, and
+-- the entry point is valid, unless it is native.
 pub record IsModelOfFile (file : List ℕ) (header : CliHeader) (model : Metadata) : Type 0 where
   pub image : Image
   pub is_image : pe.IsImage file image

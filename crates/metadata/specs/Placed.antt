@@ -1,4 +1,4 @@
--- What is read from bytes that were handed in, and where it stands in them, whether or not the bytes meet the demands.
+-- The values that are read from the input and their offsets in it, whether or not the input follows the rules.
 use Rattle.std.specs.Prelude.{ℕ, ◌+◌, List, unwrap_or}
 use Rattle.std.specs.Option.{option_map}
 use Rattle.root.specs.declared.kind.Kind.TheVariants.{Tables}
@@ -11,12 +11,12 @@ use Rattle.schema.specs.Cells.{numbers_at}
 use Rattle.metadata.specs.Source.{Source}
 use Rattle.metadata.specs.Streams.{stream_in, source_in}
 
--- what cells are read from, and where the table stream begins in the bytes that were handed in
+-- the numbers and heaps that cells are read from, and the offset of the table stream in the input
 pub record Placed : Type 0 where
   pub source : Source
   pub place : ℕ
 
--- where a cell begins in these bytes
+-- the offset of a cell in the input
 unfoldable pub cell_place : Placed → TableId → ℕ → ℕ → ℕ
 cell_place here table row column = here.place + cell_start here.source.sizes table row column
 
@@ -24,15 +24,15 @@ cell_place here table row column = here.place + cell_start here.source.sizes tab
 abbrev pub tables_in : List ℕ → List ℕ
 tables_in root = stream_in root (root_read root).headers Tables
 
--- where it begins in the root
+-- its offset in the root
 abbrev pub tables_place : List ℕ → ℕ
 tables_place root = unwrap_or (option_map (λ place. place.0) (place_of (root_read root) Tables)) 0
 
--- what the cells of a root are read from
+-- the numbers and heaps that the cells of a root are read from
 abbrev pub source_of : List ℕ → Source
 source_of root =
     source_in root (root_read root).headers (sizes_of (tables_in root)) (numbers_at (tables_in root) (sizes_of (tables_in root)))
 
--- the same, if the root begins at a place
+-- the same, if the root is at offset `place` of the input
 abbrev pub placed_at : ℕ → List ℕ → Placed
 placed_at place root = record { source = source_of root; place = place + tables_place root }

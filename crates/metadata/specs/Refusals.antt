@@ -1,6 +1,6 @@
--- What is asked of a model that is made from tables, from the first demand to the last (ECMA-335 II.22 and II.24.2). A demand
--- is posed only where all before it hold. Each has a code and names a cell: table, row and column are 0 where none is meant,
--- and a column is counted among the cells of its row.
+-- The rules for tables from which a model is built, in order (ECMA-335 II.22 and II.24.2). A rule applies only if all
+-- rules before it hold. Each has a code and a cell. Table, row and column are 0 if the rule concerns none; the column
+-- is the index of the cell in its row.
 use Rattle.std.specs.Prelude.{◌≡◌, ◌≢◌, ℕ, ◌-◌, ◌≤◌, List, [], ◌∷◌, ◌++◌, length}
 use Rattle.packed.specs.declared.code.FaultCode.{FaultCode}
 use Rattle.packed.specs.declared.code.FaultCode.TheVariants.{Version, UserBytes, RowCount, BadCell, BadIndex, BadList, BadRun, NoOwner, NestedOrder, BadSignature, SignatureIndex}
@@ -17,19 +17,19 @@ use Rattle.metadata.specs.Metadata.{Metadata, row_of, count_in, cell_in}
 use Rattle.metadata.specs.Rows.{table_at}
 use Rattle.metadata.specs.Valid.{MayRefer, IsWithinMembers, NamesTypes, kind_at, nullable_at, start_in, IsBehind, IsUser}
 
--- that something must hold, or it is refused with this code at this cell
+-- the rule that something must hold, else the refusal with this code at this cell
 abbrev pub refuse : Type 0 → FaultCode → ℕ → ℕ → ℕ → Demand Refusal
 refuse holds code table row column =
     record { holds = holds; fault = record { code = number_of_code code; table = table; row = row; column = column } }
 
--- the number of rows of a table
+-- the rule for the number of rows of a table (II.22)
 unfoldable pub refusals_of_count : Metadata → ℕ → List (Demand Refusal)
 refusals_of_count model position = refuse (count_in model (table_at position) ≤ 0xFFFFFF) RowCount (table_number (table_at position)) 0 0 ∷ []
 
 unfoldable pub refusals_of_counts : Metadata → List (Demand Refusal)
 refusals_of_counts model = demands_from (refusals_of_count model) 0 38
 
--- ---- cells, but for what signatures hold
+-- ---- cells, without the contents of signatures
 
 unfoldable pub refusals_of_cell : Metadata → TableId → ℕ → ℕ → List (Demand Refusal)
 refusals_of_cell model table row place =
@@ -38,7 +38,7 @@ refusals_of_cell model table row place =
     ∷ refuse (IsWithinMembers model (kind_at table place) (cell_in model table row place)) BadList (table_number table) row place
     ∷ []
 
--- a row has as many cells as its table has; then each of them
+-- a row has as many cells as its table defines; then the rules for each cell
 unfoldable pub refusals_of_row : Metadata → TableId → ℕ → List (Demand Refusal)
 refusals_of_row model table row =
     refuse (length (row_of model table row) ≡ cell_count table) BadCell (table_number table) row 0
@@ -53,12 +53,12 @@ refusals_of_cells model = demands_from (refusals_of_table_at model) 0 38
 
 -- ---- the runs of members
 
--- of a start, which is no lower than that of the owner before
+-- the rule for the start of a run: it is not lower than that of the owner before
 unfoldable pub refusals_of_start : Metadata → TableId → ℕ → ℕ → List (Demand Refusal)
 refusals_of_start model owner place row =
     refuse (start_in (cell_in model owner (row - 1) place) ≤ start_in (cell_in model owner row place)) BadRun (table_number owner) row place ∷ []
 
--- of the owners of members: where there are none there is no member; the first start is 1; starts never fall
+-- the rules for owners: without owners there are no members; the first start is 1; starts never decrease (II.22)
 unfoldable pub refusals_of_run : Metadata → TableId → ℕ → TableId → List (Demand Refusal)
 refusals_of_run model owner place member =
     refuse (count_in model owner ≡ 0 → count_in model member ≡ 0) NoOwner (table_number member) 1 0
@@ -75,7 +75,7 @@ refusals_of_runs model =
 
 -- ---- nested types
 
--- of a row of NestedClass, at its cell EnclosingClass
+-- the rule for a row of NestedClass, reported at its cell EnclosingClass (II.22.32)
 unfoldable pub refusals_of_nesting_in : Metadata → ℕ → List (Demand Refusal)
 refusals_of_nesting_in model row = refuse (IsBehind model row) NestedOrder (table_number NestedClass) row 1 ∷ []
 

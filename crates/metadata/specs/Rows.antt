@@ -1,4 +1,4 @@
--- The rows of cells that a root's numbers stand for (ECMA-335 II.22).
+-- The rows of cells that a root's numbers represent (ECMA-335 II.22).
 use Rattle.std.specs.Prelude.{ℕ, zero, suc, ◌+◌, List, [], ◌∷◌, slice_index_or}
 use Rattle.schema.specs.declared.table.TableId.{TableId}
 use Rattle.schema.specs.declared.table.TableId.TheVariants.{Module}
@@ -10,7 +10,7 @@ use Rattle.metadata.specs.Source.{Source, rows_in, number_of}
 use Rattle.metadata.specs.Starts.{start_of}
 use Rattle.metadata.specs.Stands.{StandsFor}
 
--- so many items, of which the first is what stands at i, the next what stands behind it, and so on
+-- a list of n items: the first one satisfies P at i, the next one P at i + 1, and so on
 abbrev pub AreFrom : {X : Type 0} → (ℕ → X → Type 0) → ℕ → ℕ → List X → Type 0
 AreFrom P i zero [] = Unit {0}
 AreFrom P i zero (x ∷ xs) = ⊥
@@ -22,7 +22,7 @@ abbrev pub StandsIn : Source → TableId → ℕ → ℕ → Cell → Type 0
 StandsIn source table row column cell =
     StandsFor source (column_at table column).kind (column_at table column).nullable (start_of source table row column) (number_of source table row column) cell
 
--- a cell of a row, by its place in the row
+-- a cell of a row, by its index in the row
 abbrev pub IsCell : Source → TableId → ℕ → ℕ → Cell → Type 0
 IsCell source table row place cell = StandsIn source table row (column_of table place) cell
 
@@ -32,7 +32,7 @@ IsRow source table row cells = AreFrom (IsCell source table row) 0 (cell_count t
 unfoldable pub IsTable : Source → TableId → List (List Cell) → Type 0
 IsTable source table rows = AreFrom (IsRow source table) 1 (rows_in source table) rows
 
--- the table at a position
+-- the table with a table index
 abbrev pub table_at : ℕ → TableId
 table_at position = slice_index_or tables position Module
 

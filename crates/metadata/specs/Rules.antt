@@ -1,4 +1,4 @@
--- What is asked of the rows of a root beside their cells (ECMA-335 II.22).
+-- The rules for the rows of a root, beside those for single cells (ECMA-335 II.22).
 use Rattle.std.specs.Prelude.{◌≡◌, ◌≢◌, ℕ, ◌-◌, ◌<◌, ◌≤◌, Bool, true, Option, Some, None}
 use Rattle.schema.specs.declared.table.TableId.{TableId}
 use Rattle.schema.specs.declared.table.TableId.TheVariants.{TypeDef, Field, MethodDef, Param, EventMap, Event, PropertyMap, Property, NestedClass}
@@ -8,26 +8,26 @@ use Rattle.metadata.specs.Source.{Source, rows_in, number_of}
 use Rattle.metadata.specs.Starts.{start_of}
 use Rattle.metadata.specs.Rows.{table_at}
 
--- the numbers of a column never fall
+-- the numbers of a column never decrease
 abbrev pub IsInOrder : Source → TableId → ℕ → Type 0
 IsInOrder source table column =
     (row : ℕ) → 2 ≤ row → row ≤ rows_in source table → number_of source table (row - 1) column ≤ number_of source table row column
 
--- Sorted has the bit of a table
+-- Sorted sets the bit of a table (II.24.2.6)
 abbrev pub is_said_sorted : Source → TableId → Bool
 is_said_sorted source table = has_bit source.sizes.sorted table
 
--- a table with a key is in order of it, where it is said to be
+-- a table with a key is sorted by it, if Sorted claims so
 abbrev pub IsByKey : Source → TableId → Option ℕ → Type 0
 IsByKey source table None = Unit {0}
 IsByKey source table (Some key) = is_said_sorted source table ≡ true → IsInOrder source table key
 
--- II.22 and II.24.2.6
+-- this for all tables (II.22 and II.24.2.6)
 abbrev pub AreByKey : Source → Type 0
 AreByKey source = (position : ℕ) → position < 38 → IsByKey source (table_at position) (key_of (table_at position))
 
--- Each member has one owner, by the column of the owners that lists members: without owners there are no members; the
--- first owner's run begins with the first member; and starts never fall.
+-- Each member has one owner, by the owners' column that lists members: without owners there are no members; the first
+-- owner's run starts with the first member; and starts never decrease.
 pub record IsOwned (source : Source) (owner : TableId) (column : ℕ) (member : TableId) : Type 0 where
   pub ownerless : rows_in source owner ≡ 0 → rows_in source member ≡ 0
   pub first : rows_in source owner ≢ 0 → start_of source owner 1 column member ≡ 1
@@ -41,7 +41,7 @@ pub record AreOwned (source : Source) : Type 0 where
   pub events : IsOwned source EventMap 1 Event
   pub properties : IsOwned source PropertyMap 1 Property
 
--- II.22.32: a type stands behind the one that it is nested in
+-- II.22.32: a type comes after the one that it is nested in
 abbrev pub AreNested : Source → Type 0
 AreNested source =
     (row : ℕ) → 1 ≤ row → row ≤ rows_in source NestedClass → number_of source NestedClass row 1 < number_of source NestedClass row 0

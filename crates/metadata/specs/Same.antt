@@ -1,10 +1,10 @@
--- Two models whose parts are the same.
+-- Two models with the same parts.
 use Rattle.std.specs.Prelude.{◌≡◌, ℕ, ◌<◌, length}
 use Rattle.schema.specs.declared.table.TableId.{TableId}
 use Rattle.metadata.specs.Metadata.{Metadata, row_of, count_in, cell_in}
 use Rattle.metadata.specs.Lookups.{HasRow}
 
--- their versions and user bytes are the same, how many rows each of the 38 tables has, how many cells these have, and the cells
+-- they have the same version and user bytes, 38 tables with the same numbers of rows and cells, and the same cells
 pub record SaysSame (model other : Metadata) : Type 0 where
   pub version : model.version ≡ other.version
   pub user : model.user ≡ other.user

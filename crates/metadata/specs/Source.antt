@@ -13,11 +13,11 @@ pub record Source : Type 0 where
   pub blobs : List ℕ
   pub guids : List ℕ
 
--- how many rows a table has
+-- the number of rows of a table
 abbrev pub rows_in : Source → TableId → ℕ
 rows_in source table = count_of source.sizes table
 
--- the number of a column, in a row counted from 1
+-- the number in a column, in a row counted from 1
 unfoldable pub number_of : Source → TableId → ℕ → ℕ → ℕ
 number_of source table row column = number_in source.numbers table row column
 

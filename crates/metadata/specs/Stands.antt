@@ -1,4 +1,4 @@
--- Which cell the number of a column stands for (ECMA-335 II.22 and II.24.2.6).
+-- The cell that the number in a column represents (ECMA-335 II.22 and II.24.2.6).
 use Rattle.std.specs.Prelude.{◌≡◌, ℕ, ◌+◌, ◌≤◌, ◌⊎◌, Bool, true, List, Option, Some, None}
 use Rattle.std.specs.List.{AllByRecursion}
 use Rattle.schema.specs.declared.table.TableId.{TableId}
@@ -13,17 +13,17 @@ use Rattle.metadata.specs.Cell.{Cell}
 use Rattle.metadata.specs.Cell.{Number, Text, Bytes, Guid, Ref, Start, Sig}
 use Rattle.metadata.specs.Source.{Source, rows_in, IsThere}
 
--- the cell is the row that a reference names, which exists, or null where the column may be
+-- the cell is an existing row that a reference names, or null if the column allows null
 abbrev pub Refers : Source → Bool → Token → Cell → Type 0
 Refers source nullable token cell =
     ((token.row ≡ 0) × (nullable ≡ true) × (cell ≡ Ref None)) ⊎ (IsThere source token × (cell ≡ Ref (Some token)))
 
--- each type index of a signature names a row that exists (II.23.2.8)
+-- each type index in a signature refers to an existing row (II.23.2.8)
 abbrev pub HasRows : Source → Body → Type 0
 HasRows source signature = AllByRecursion (IsThere source) (tokens signature)
 
--- A number of a column of a kind stands for a cell. Padding has no cell. Of a list, `start` says by the member table
--- where the owner's run begins.
+-- A number in a column of a kind represents a cell. Padding has no cell. For a list column, `start` gives the start of
+-- the owner's run, by member table.
 abbrev pub StandsFor : Source → ColumnKind → Bool → (TableId → ℕ) → ℕ → Cell → Type 0
 StandsFor source kind.U8 nullable start number cell = cell ≡ Number number
 StandsFor source kind.U16 nullable start number cell = cell ≡ Number number

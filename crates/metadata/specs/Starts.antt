@@ -1,10 +1,10 @@
--- Where the runs of members begin that owners have (ECMA-335 II.22.12, II.22.26, II.22.35 and II.22.37).
+-- The starts of the runs of members that owners have (ECMA-335 II.22.12, II.22.26, II.22.35 and II.22.37).
 use Rattle.std.specs.Prelude.{ℕ, zero, suc, ◌+◌, ◌-◌, ◌==◌, if◌then◌else◌}
 use Rattle.schema.specs.declared.table.TableId.{TableId}
 use Rattle.metadata.specs.Source.{Source, rows_in, number_of}
 
--- the start of an owner, the first of so many that are left: its list value, or where that is null the start of the next
--- owner; behind the last owner stands the end
+-- the start of the owner in `row`, the first of `left` owners: its list value; if that is null, the start of the next
+-- owner; after the last owner, it is `end`
 abbrev pub start_from : (ℕ → ℕ) → ℕ → ℕ → ℕ → ℕ
 start_from value end row zero = end
 start_from value end row (suc left) = if value row == 0 then start_from value end (row + 1) left else value row

@@ -1,4 +1,4 @@
--- Where a file has its root, and a root its tables and heaps (ECMA-335 II.24.2.2 and II.25.3.3).
+-- The root of a file, and the tables and heaps of a root (ECMA-335 II.24.2.2 and II.25.3.3).
 use Rattle.std.specs.Prelude.{ℕ, ◌-◌, List, [], unwrap_or}
 use Rattle.packed.specs.Places.{part}
 use Rattle.root.specs.declared.kind.Kind.{Kind}
@@ -8,7 +8,7 @@ use Rattle.cli_header.specs.declared.header.CliHeader.{CliHeader}
 use Rattle.schema.specs.Sizes.{Sizes}
 use Rattle.metadata.specs.Source.{Source}
 
--- the stream of a kind; no bytes where no header names it
+-- the bytes of a stream; none if no header names it
 abbrev pub stream_in : List ℕ → List Header → Kind → List ℕ
 stream_in root headers kind = unwrap_or (stream_of (record { bytes = root; version = []; headers = headers }) kind) []
 
@@ -22,6 +22,6 @@ source_in root headers sizes numbers = record {
   guids = stream_in root headers Guids;
 }
 
--- the root that a CLI header names
+-- the root that a CLI header refers to
 abbrev pub root_in : List ℕ → CliHeader → List ℕ
 root_in file header = part file header.root.start (header.root.«end» - header.root.start)

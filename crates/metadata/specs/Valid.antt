@@ -1,4 +1,4 @@
--- Which models are valid: what is asked of their parts, whatever root they may come from (ECMA-335 II.22 and II.24.2).
+-- The rules for a valid model, independent of a root (ECMA-335 II.22 and II.24.2).
 use Rattle.std.specs.Prelude.{◌≡◌, ◌≢◌, ℕ, ◌-◌, ◌+◌, ◌^◌, ◌%◌, ◌<◌, ◌≤◌, ⊤, Bool, true, List, length, Some, None}
 use Rattle.std.specs.List.{AllByRecursion}
 use Rattle.root.specs.Root.{IsVersion}
@@ -17,11 +17,11 @@ use Rattle.metadata.specs.Lookups.{HasRow}
 
 -- ---- cells
 
--- the row that a token names exists
+-- the row that a token refers to exists
 abbrev pub Names : Metadata → Token → Type 0
 Names model token = HasRow model token.table token.row
 
--- a reference is to a row that exists, or null where the column may be
+-- a reference is to an existing row, or is null and the column allows null
 abbrev pub MayRefer : Metadata → Bool → Cell → Type 0
 MayRefer model nullable (Ref None) = nullable ≡ true
 MayRefer model nullable (Ref (Some token)) = Names model token
@@ -32,7 +32,7 @@ abbrev pub IsWithinMembers : Metadata → ColumnKind → Cell → Type 0
 IsWithinMembers model (kind.List member) (Start start) = start ≤ count_in model member + 1
 IsWithinMembers model _ _ = ⊤
 
--- each type index of a signature names a row that exists (II.23.2.8)
+-- each type index in a signature refers to an existing row (II.23.2.8)
 abbrev pub NamesTypes : Metadata → Cell → Type 0
 NamesTypes model (Sig signature) = AllByRecursion (Names model) (tokens signature)
 NamesTypes model _ = ⊤
@@ -46,14 +46,14 @@ pub record IsValidCell (model : Metadata) (kind : ColumnKind) (nullable : Bool) 
   pub held : IsHeld kind cell
   pub types : NamesTypes model cell
 
--- the kind of the column of a cell, by its place in a row, and whether that column may be null
+-- the kind of a cell's column, by the index of the cell in its row, and whether the column allows null
 abbrev pub kind_at : TableId → ℕ → ColumnKind
 kind_at table place = (column_at table (column_of table place)).kind
 
 abbrev pub nullable_at : TableId → ℕ → Bool
 nullable_at table place = (column_at table (column_of table place)).nullable
 
--- the cell can stand at a place of a row
+-- the cell is valid at an index of a row
 abbrev pub IsValidAt : Metadata → TableId → ℕ → Cell → Type 0
 IsValidAt model table place cell = IsValidCell model (kind_at table place) (nullable_at table place) cell
 
@@ -69,27 +69,27 @@ abbrev pub row_in : Cell → ℕ
 row_in (Ref (Some token)) = token.row
 row_in _ = 0
 
--- each member has one owner, by the starts at a place of the owners' rows: without owners there are no members; the first
--- start is 1; and starts never fall
+-- each member has one owner, by the starts in the owners' rows: without owners there are no members; the first start is
+-- 1; and starts never decrease
 pub record HasOwners (model : Metadata) (owner : TableId) (place : ℕ) (member : TableId) : Type 0 where
   pub ownerless : count_in model owner ≡ 0 → count_in model member ≡ 0
   pub first : count_in model owner ≢ 0 → start_in (cell_in model owner 1 place) ≡ 1
   pub rising : (row : ℕ) → 2 ≤ row → row ≤ count_in model owner → start_in (cell_in model owner (row - 1) place) ≤ start_in (cell_in model owner row place)
 
--- a type stands behind the one that it is nested in (II.22.32)
+-- a type comes after the one that it is nested in (II.22.32)
 abbrev pub IsBehind : Metadata → ℕ → Type 0
 IsBehind model row = row_in (cell_in model NestedClass row 1) < row_in (cell_in model NestedClass row 0)
 
 -- ---- the whole
 
--- the bytes of `#US`: filled to a multiple of four, and at most 2^30
+-- the bytes of `#US`: their number is a multiple of four, and at most 2^30
 pub record IsUser (user : List ℕ) : Type 0 where
   pub filled : length user % 4 ≡ 0
   pub small : length user ≤ 2 ^ 30
 
--- A valid model: a version; user bytes; 38 tables of few rows, each of as many cells as its table has, each of its column;
--- owned members (II.22.12, II.22.26, II.22.35 and II.22.37); and nested types behind those that they are nested in. Keys may
--- stand in any order.
+-- A valid model: a version; user bytes; 38 tables with at most 0xFFFFFF rows each; each row has the cells of its
+-- table's columns; members have owners (II.22.12, II.22.26, II.22.35, II.22.37); nested types come after the types that
+-- they are nested in. Keys may have any order.
 pub record IsValid (model : Metadata) : Type 0 where
   pub version : IsVersion model.version
   pub user : IsUser model.user

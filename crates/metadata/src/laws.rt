@@ -32,7 +32,7 @@ use schema::{
 };
 use signature_values::{signatures_are_read, spelled_is_spellable};
 
-/// All demands of a root, which is bytes, hold exactly where it has a model, and it has one at most.
+/// All rules for a root hold if and only if it has a model. It has at most one. The root consists of bytes.
 pub fn roots_have_models()
     ensures met { (place : ℕ) (root : List ℕ) (model : Metadata) → IsModel root model → AllHold (demands_of_metadata place root) }
     ensures found { (place : ℕ) (root : List ℕ) → ((k : ℕ) → slice_index root k < 2 ^ 8) → AllHold (demands_of_metadata place root)
@@ -48,8 +48,8 @@ pub fn roots_have_models()
     signatures_are_read();
 }
 
-/// All demands of a file, which is bytes, hold exactly where it has a model, and it has one CLI header
-/// and one model at most.
+/// All rules for a file hold if and only if it has a model. It has at most one CLI header and model. The
+/// file consists of bytes.
 pub fn files_have_models()
     ensures met { (file : List ℕ) (header : CliHeader) (model : Metadata) → IsModelOfFile file header model → AllHold (demands_of_file file) }
     ensures found { (file : List ℕ) → ((k : ℕ) → slice_index file k < 2 ^ 8) → AllHold (demands_of_file file)
@@ -85,7 +85,7 @@ pub fn models_are_read()
     tables_stand();
 }
 
-/// A number stands for one cell at most.
+/// A number represents at most one cell.
 pub fn cells_are_one()
     ensures { (source : Source) (table : Table) (row place : ℕ) (cell other : Cell) → IsCell source table row place cell
         → IsCell source table row place other → cell ≡ other }
@@ -95,7 +95,7 @@ pub fn cells_are_one()
     signatures_are_read();
 }
 
-/// The model of a root is valid: a model that is made from its parts is refused nothing.
+/// The model of a root is valid, so a model that is built from its parts is never refused.
 pub fn models_of_roots_are_valid()
     ensures { (root : List ℕ) (model : Metadata) → IsModel root model → IsValid model }
 {
@@ -105,7 +105,7 @@ pub fn models_of_roots_are_valid()
     spelled_is_spellable();
 }
 
-/// All that is asked of 38 tables and what goes with them holds exactly where they are a valid model.
+/// All rules for a model with 38 tables hold if and only if it is valid.
 pub fn valid_models_are_not_refused()
     ensures met { (model : Metadata) → IsValid model → AllHold (refusals_of model) }
     ensures found { (model : Metadata) → length model.tables ≡ 38 → AllHold (refusals_of model) → IsValid model }
@@ -113,7 +113,7 @@ pub fn valid_models_are_not_refused()
     tables_stand();
 }
 
-/// The keys of a table are in order in a root exactly where they are in its model.
+/// The keys of a table are sorted in a root if and only if they are sorted in its model.
 pub fn keys_are_in_order()
     ensures { (root : List ℕ) (model : Metadata) → IsModel root model → (table : Table) (key : ℕ) → key_of table ≡ Some key
         → IsInOrder (source_of root) table key ↔ IsKeyOrdered model table }
@@ -125,7 +125,7 @@ pub fn keys_are_in_order()
     tags_fit();
 }
 
-/// Two models of the same parts are one.
+/// Two models with the same parts are equal.
 pub fn models_of_same_parts_are_one()
     ensures { (model other : Metadata) → SaysSame model other → model ≡ other }
 {

@@ -1,10 +1,10 @@
-//! Which model the bytes of a root or of a file have (ECMA-335 II.22 to II.25), and what is demanded of
-//! them, from the first demand to the last.
+//! The model of the bytes of a root or of a file (ECMA-335 II.22 to II.25), and the rules for them, from
+//! the first to the last.
 //!
-//! There is no code here, but the definitions in `specs/` in which reading and writing meet, and their
-//! laws. `Model.antt` says which model a root and a file have, by the relations of the layers below;
-//! `Demands.antt` lists what is demanded, each with its code and its place. All demands hold exactly
-//! where there is a model, and there is one at most: [`roots_have_models`], [`files_have_models`].
+//! This crate has no code. It has the definitions in `specs/` that reading and writing share, and their
+//! laws. `Model.antt` defines the model of a root and of a file, by the relations of the layers below.
+//! `Demands.antt` lists the rules, each with its code and its offset. All rules hold if and only if
+//! there is a model, and there is at most one: [`roots_have_models`], [`files_have_models`].
 //!
 //! ```text
 //! IsModel root model    -- the bytes of a root have this model

@@ -3,24 +3,24 @@ ghost use Rattle.packed.specs.Codes.{number_of_code};
 
 use packed::FaultCode;
 
-/// The first demand that the tables of a model do not meet, and the cell where (II.22).
+/// The first rule that the tables of a model break, and the cell where they break it (II.22).
 ///
-/// Table, row and column are 0 where none is meant. Rows count from 1; a column is counted from 0, among
-/// the cells of its row.
+/// Table, row and column are 0 if the rule concerns none. Rows are counted from 1. The column is the
+/// index of the cell in its row, counted from 0.
 #[derive(Clone, Copy, Debug, PartialEq, Eq)]
 pub struct Refusal {
-    /// The number of the demand, as that of a fault; its hundreds are the layer.
+    /// The number of the rule, as in a fault; its hundreds are the layer.
     pub code: u16,
-    /// The number of the table.
+    /// The number of the table (II.22).
     pub table: u8,
-    /// The row of the table.
+    /// The row of the table, counted from 1.
     pub row: u32,
-    /// The place of the cell in its row.
+    /// The index of the cell in its row, counted from 0.
     pub column: usize,
 }
 
 impl Refusal {
-    /// The refusal of a demand at a cell.
+    /// The refusal of a rule at a cell.
     pub fn new(code: FaultCode, table: u8, row: u32, column: usize) -> Refusal
         ensures { result ≡ record { code = number_of_code code; table = table; row = row; column = column } }
     {
