@@ -33,8 +33,8 @@ fields_of header =
 abbrev pub IsNamed : Image → Type 0
 IsNamed image = (image.cli_directory.0 ≢ 0) × (image.cli_directory.1 ≢ 0)
 
--- The image has this CLI header: its data directory names at least 72 bytes, the fields are in the first 72 of them,
--- Cb is at least 72, and the metadata root is the bytes that MetaData names.
+-- The image has this CLI header. Its data directory names at least 72 bytes, and the fields are in the first 72 of
+-- them. Cb is at least 72. The metadata root is the bytes that MetaData names.
 pub record IsCliHeader (image : Image) (header : CliHeader) : Type 0 where
   pub named : IsNamed image
   pub long : 72 ≤ image.cli_directory.1
