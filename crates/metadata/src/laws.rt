@@ -32,7 +32,7 @@ use schema::{
 };
 use signature_values::{signatures_are_read, spelled_is_spellable};
 
-/// All rules for a root hold if and only if it has a model. It has at most one. The root consists of bytes.
+/// A list of bytes satisfies all rules for a root if and only if it has a model. It has at most one model.
 pub fn roots_have_models()
     ensures met { (place : ℕ) (root : List ℕ) (model : Metadata) → IsModel root model → AllHold (demands_of_metadata place root) }
     ensures found { (place : ℕ) (root : List ℕ) → ((k : ℕ) → slice_index root k < 2 ^ 8) → AllHold (demands_of_metadata place root)
@@ -48,8 +48,8 @@ pub fn roots_have_models()
     signatures_are_read();
 }
 
-/// All rules for a file hold if and only if it has a model. It has at most one CLI header and model. The
-/// file consists of bytes.
+/// A list of bytes satisfies all rules for a file if and only if it has a CLI header and a model. It has at
+/// most one of each.
 pub fn files_have_models()
     ensures met { (file : List ℕ) (header : CliHeader) (model : Metadata) → IsModelOfFile file header model → AllHold (demands_of_file file) }
     ensures found { (file : List ℕ) → ((k : ℕ) → slice_index file k < 2 ^ 8) → AllHold (demands_of_file file)

@@ -1,5 +1,5 @@
-//! The model of the bytes of a root or of a file (ECMA-335 II.22 to II.25), and the rules for them, from
-//! the first to the last.
+//! The model of a root or a file (ECMA-335 II.22 to II.25): what it is, and the rules that the bytes
+//! must follow, in order.
 //!
 //! This crate has no code. It has the definitions in `specs/` that reading and writing share, and their
 //! laws. `Model.antt` defines the model of a root and of a file, by the relations of the layers below.
