@@ -1,5 +1,5 @@
--- Rules in order. A rule applies only if all rules before it hold. Each rule carries the error that is returned if it
--- is broken: a fault for bytes that are read, another error type elsewhere.
+-- Rules in order. A rule applies only if all rules before it hold. Each rule has the error that is returned if it is
+-- broken: a fault for bytes that are read, another type elsewhere.
 use Rattle.std.specs.Prelude.{◌≡◌, ℕ, zero, suc, ◌+◌, ◌≤◌, ◌<◌, ◌/◌, Bool, true, false, List, [], ◌∷◌, ◌++◌, ◌⊎◌, Result, Ok, Err}
 use Rattle.packed.specs.Codes.{number_of_code}
 use Rattle.packed.specs.declared.code.FaultCode.{FaultCode}

@@ -22,11 +22,11 @@ IsTwoBytes n bytes = (n < 2 ^ 14) × (bytes ≡ two_bytes n)
 abbrev pub IsFourBytes : ℕ → List ℕ → Type 0
 IsFourBytes n bytes = (n < 2 ^ 29) × (bytes ≡ four_bytes n)
 
--- the bytes encode the number, in one of the three forms
+-- the bytes encode the number, in one of the three forms (II.23.2)
 abbrev pub IsPacked : ℕ → List ℕ → Type 0
 IsPacked n bytes = IsOneByte n bytes ⊎ (IsTwoBytes n bytes ⊎ IsFourBytes n bytes)
 
--- the shortest encoding of a number below 2^29
+-- the shortest encoding of a number below 2^29 (II.23.2)
 abbrev pub short_unsigned : ℕ → List ℕ
 short_unsigned n = if nat_lt n (2 ^ 7) then one_byte n else (if nat_lt n (2 ^ 14) then two_bytes n else four_bytes n)
 
@@ -55,7 +55,7 @@ rotated w u = 2 * u % 2 ^ w + u / 2 ^ (w - 1)
 abbrev pub signed_bits : ℕ → ℤ → ℕ
 signed_bits w z = rotated w (twos_complement w z)
 
--- the bytes encode the signed number: its 7, 14 or 29 bits, rotated left by one, in the form with that many bits
+-- the bytes encode the signed number (II.23.2): its 7, 14 or 29 bits, rotated left by one, in the form with these bits
 abbrev pub IsPackedSigned : ℤ → List ℕ → Type 0
 IsPackedSigned z bytes =
     (FitsBits 7 z × IsOneByte (signed_bits 7 z) bytes)

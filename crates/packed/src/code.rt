@@ -3,9 +3,9 @@ ghost use Rattle.packed.specs.Codes.{number_of_code};
 
 /// A rule for a file, a metadata root or the output. A fault carries the number of the rule that is broken.
 ///
-/// The hundreds of the number are the layer that checks the rule: 1 the image, 2 the CLI header,
-/// 3 the metadata root, 4 the table stream, 5 the cells, 6 the order of rows, 7 the signatures,
-/// 8 the entry point, 9 the writer. Section numbers are those of ECMA-335.
+/// The hundreds of the number are the layer that checks the rule. 1: the image; 2: the CLI header;
+/// 3: the metadata root; 4: the table stream; 5: the cells; 6: the order of rows; 7: the signatures;
+/// 8: the entry point; 9: the writer. Section numbers are those of ECMA-335.
 #[derive(Clone, Copy, Debug, PartialEq, Eq)]
 pub enum FaultCode {
     /// The input has more than 2^30 bytes.

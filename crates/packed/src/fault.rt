@@ -13,7 +13,7 @@ pub struct Fault {
     pub layer: u8,
     /// The number of the rule.
     pub code: u16,
-    /// Where the rule is broken: an offset in bytes, relative to the start of the input.
+    /// The offset in bytes at which the rule is broken, from the start of the input.
     pub offset: u64,
 }
 
