@@ -1,4 +1,4 @@
--- All rules hold if and only if the relation `IsRoot` holds.
+-- All rules hold if and only if the bytes are a root of at most 2^30 bytes.
 use Rattle.std.proofs.Common.{◌≡◌, ℕ, zero, suc, add-one, ◌+◌, ◌%◌, ◌≤◌, ◌<◌, ◌^◌, List, [], ◌∷◌, ◌++◌, length, drop, refl, sym, ap, ◌∙◌, subst, arith, append_assoc, length-append, length-drop}
 use Rattle.std.proofs.lemmas.List.{append-nil, drop_at, drop-drop, take-append-drop, length-take-le}
 use Rattle.packed.specs.Number.{little_endian}
@@ -207,7 +207,7 @@ fields_stand root a b c field e f g h whole la lb lc le lf = record {
   room = rw whole (simp length-append (omega arith));
 }
 
--- a root satisfies all rules, and its version and headers are those of the relation
+-- a root of at most 2^30 bytes satisfies all rules, and its version and headers are those of the relation
 pub record Meets (root version : List ℕ) (headers : List Header) : Type 0 where
   pub all : AllHold (demands_of_root root)
   pub version_is : version_of root ≡ version

@@ -7,8 +7,8 @@ ghost use Rattle.root.specs.Fields.{root_read};
 ghost use Rattle.root.specs.Root.{IsRoot};
 ghost use Rattle.root.specs.Streams.{Header, place_of};
 
-/// A root satisfies all rules, and its fields give its version and headers. Bytes that satisfy all
-/// rules are a root, and each stream of the standard ends within them.
+/// A root of at most 2^30 bytes satisfies all rules, and its fields give its version and headers. Bytes
+/// that satisfy all rules are a root, and each stream of the standard ends within them.
 pub fn roots_are_read()
     ensures demanded { (root version : List ℕ) (headers : List Header) → length root ≤ byte_limit → IsRoot root version headers
         → AllHold (demands_of_root root) }

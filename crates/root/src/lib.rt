@@ -1,7 +1,7 @@
 //! The metadata root and its directory of streams (ECMA-335 II.24.2.1 and II.24.2.2).
 //!
-//! [`read_root`] returns a [`Root`] if and only if the bytes are a metadata root. Otherwise it
-//! returns the fault of the first broken rule, with its offset in these bytes. A `Root` gives access to
+//! [`read_root`] returns a [`Root`] if and only if the bytes are a metadata root of at most 2^30 bytes.
+//! Otherwise it returns the fault of the first broken rule, with its offset in these bytes. A `Root` has
 //! the version, the five streams of the standard and all stream headers. All of these borrow the
 //! input. Nothing here allocates.
 //!

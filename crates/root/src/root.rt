@@ -101,7 +101,7 @@ pub fn read_root(bytes: &[u8]) -> Result<Root<'_>, Fault>
     // If it returns a root, the bytes are a root with this version and these stream headers.
     ensures found { IfOk result (λ root. (length bytes.now ≤ byte_limit) × (root.bytes ≡ bytes.now)
         × IsRoot bytes.now root.version root.headers) }
-    // If the bytes are a root, it returns this root, with its only version and list of stream headers.
+    // If the bytes are a root of at most 2^30 bytes, it returns this root. Version and headers are unique.
     ensures only { (version : List ℕ) (headers : List Header) → length bytes.now ≤ byte_limit → IsRoot bytes.now version headers
         → IsOkAnd result (λ root. (root.version ≡ version) × (root.headers ≡ headers)) }
     // If it returns a root, all rules hold, and the root has the values of the fields.
