@@ -2,8 +2,8 @@
 //!
 //! [`text`], [`blob`], [`user_string`] and [`guid`] read the value at an index. It borrows the bytes of the heap, and
 //! nothing is allocated. They succeed if and only if there is a value at the index. Otherwise the [`HeapFault`] says
-//! what is missing. An absent heap has no bytes. [`Strings`] reads a heap once and, if all of it is UTF-8, then checks
-//! an index in constant time. [`TextPool`], [`BlobPool`] and [`GuidPool`] build the heaps that are written. Each value
+//! what is missing. An absent heap has no bytes. [`Strings`] reads a heap once. If all of it is UTF-8, it then checks a
+//! valid index in constant time. [`TextPool`], [`BlobPool`] and [`GuidPool`] build the heaps that are written. A value
 //! has one entry, in the order of first use; a text that another one ends with is part of that one's entry. `laws.rt`
 //! states that pooled values are read back, and that blobs and GUIDs keep their index as a pool grows.
 //!
