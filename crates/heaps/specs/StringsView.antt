@@ -11,7 +11,7 @@ heap_of strings = strings.heap.now
 abbrev pub IsWhole : List ℕ → Option (Bor (List ℕ)) → Type 0
 IsWhole heap whole = MatchOption whole (¬ IsUtf8 heap) (λ whole. (whole.now ≡ heap) × IsUtf8 heap)
 
--- a known index of the last NUL is the true one
+-- if the offset of the last NUL is known, it is correct
 pub record IsKnown (strings : Inside) : Type 0 where
   pub whole : IsWhole strings.heap.now strings.whole
   pub last : IfSome strings.last_nul (λ last. IsLastByte (is_byte 0) strings.heap.now (Some last))

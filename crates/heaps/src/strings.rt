@@ -82,7 +82,7 @@ pub struct Strings<'a> {
     heap: &'a [u8],
     /// The heap as a text, if all of it is UTF-8.
     whole: Option<&'a str>,
-    /// The offset of the last NUL, if it was searched.
+    /// The offset of the last NUL, if it is known.
     last_nul: Option<usize>,
 }
 
