@@ -42,7 +42,7 @@ pub fn put_row(
     requires { FitRow layout.now (columns_of table) numbers.now }
     ensures ok { OnOk result (bytes.new.items ≡ bytes.old.items ++ row_bytes layout.now (columns_of table) numbers.now) }
     ensures err { OnErr result (bytes.new.items ≡ bytes.old.items) }
-    // If the vector has capacity for the row, the call succeeds and does not allocate.
+    // If the vector has capacity for the row, the call succeeds. Its capacity never shrinks.
     ensures len { OnOk result (vec_len bytes.new ≡ vec_len bytes.old + row_width layout.now table) }
     ensures capacity { vec_capacity bytes.old ≤ vec_capacity bytes.new }
     ensures succeeds { vec_len bytes.old + row_width layout.now table ≤ vec_capacity bytes.old → IsOk result }
