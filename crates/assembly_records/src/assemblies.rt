@@ -11,21 +11,21 @@ use std::alloc::{AllocError, Global};
 pub struct Assembly<'m> {
     /// AssemblyHashAlgorithm (II.23.1.1).
     pub hash_alg_id: u32,
-    /// The first part of its version.
+    /// The major version.
     pub major_version: u32,
-    /// The second part of its version.
+    /// The minor version.
     pub minor_version: u32,
-    /// The third part of its version.
+    /// The build number of its version.
     pub build_number: u32,
-    /// The fourth part of its version.
+    /// The revision number of its version.
     pub revision_number: u32,
     /// AssemblyFlags (II.23.1.2).
     pub flags: u32,
-    /// The key of its publisher; empty where it has none.
+    /// The public key of its publisher; empty if it has none.
     pub public_key: &'m [u8],
     /// Its name.
     pub name: &'m str,
-    /// Its culture (II.23.1.3); empty where it is neutral.
+    /// Its culture (II.23.1.3); empty if it is neutral.
     pub culture: &'m str,
 }
 
@@ -76,7 +76,7 @@ impl<'m> Record<'m> for Assembly<'m> {
     }
 }
 
-/// A processor of this assembly, which is not used (II.22.4).
+/// A processor of this assembly (II.22.4). The standard says to ignore it.
 #[derive(Clone, Copy, Debug, PartialEq, Eq)]
 pub struct AssemblyProcessor {
     /// The processor.
@@ -109,14 +109,14 @@ impl<'m> Record<'m> for AssemblyProcessor {
     }
 }
 
-/// An operating system of this assembly, which is not used (II.22.3).
+/// An operating system of this assembly (II.22.3). The standard says to ignore it.
 #[derive(Clone, Copy, Debug, PartialEq, Eq)]
 pub struct AssemblyOS {
-    /// The system.
+    /// The operating system.
     pub os_platform_id: u32,
-    /// The first part of its version.
+    /// The major version of the operating system.
     pub os_major_version: u32,
-    /// The second part of its version.
+    /// The minor version of the operating system.
     pub os_minor_version: u32,
 }
 

@@ -12,7 +12,7 @@ pub struct Constant<'m> {
     pub kind: u32,
     /// The Field, Param or Property.
     pub parent: Option<Token>,
-    /// The value: little-endian, or the UTF-16 of a string; four zero bytes are the null of a class.
+    /// The value, in little-endian order, or the UTF-16 of a string. Four zero bytes are the null of a class.
     pub value: &'m [u8],
 }
 
@@ -52,12 +52,12 @@ impl<'m> Record<'m> for Constant<'m> {
 /// A custom attribute (II.22.10).
 #[derive(Clone, Copy, Debug, PartialEq, Eq)]
 pub struct CustomAttribute<'m> {
-    /// What it stands on: a row of one of the tables of HasCustomAttribute (II.24.2.6).
+    /// The row that it is attached to, in one of the tables of HasCustomAttribute (II.24.2.6).
     pub parent: Option<Token>,
-    /// The constructor that makes it, a MethodDef or MemberRef, in the column Type.
+    /// Its constructor, a MethodDef or MemberRef, in the column Type.
     pub kind: Option<Token>,
-    /// The arguments of the constructor, and the fields and properties that are set (II.23.3); empty where it
-    /// takes none.
+    /// The arguments of the constructor, and the fields and properties that are set (II.23.3). It may be empty if
+    /// there are none.
     pub value: &'m [u8],
 }
 
@@ -97,11 +97,11 @@ impl<'m> Record<'m> for CustomAttribute<'m> {
 /// A permission set of a type, a method or the assembly (II.22.11).
 #[derive(Clone, Copy, Debug, PartialEq, Eq)]
 pub struct DeclSecurity<'m> {
-    /// What is asked for: a security action.
+    /// The security action.
     pub action: u32,
     /// The TypeDef, MethodDef or Assembly.
     pub parent: Option<Token>,
-    /// The permissions.
+    /// The permission set.
     pub permission_set: &'m [u8],
 }
 

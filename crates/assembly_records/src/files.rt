@@ -12,7 +12,7 @@ use std::fmt;
 pub struct File<'m> {
     /// FileAttributes (II.23.1.6).
     pub flags: u32,
-    /// Its name, with its extension and no folder.
+    /// Its name, with its extension but without a folder.
     pub name: &'m str,
     /// The hash of its bytes.
     pub hash_value: &'m [u8],
@@ -51,19 +51,19 @@ impl<'m> Record<'m> for File<'m> {
     }
 }
 
-/// A type that this assembly offers from another of its modules, or from another assembly (II.22.14).
+/// A type that this assembly exports from another of its modules, or forwards to another assembly (II.22.14).
 #[derive(Clone, Copy, Debug, PartialEq, Eq)]
 pub struct ExportedType<'m> {
     /// TypeAttributes (II.23.1.15).
     pub flags: u32,
-    /// A hint: the token or row of the type in TypeDef of the module that has it; a number, as that is another module.
+    /// A hint: the token or row of the type in TypeDef of its own module. It is a number, because it counts there.
     pub type_def_id: u32,
     /// The type's name.
     pub type_name: &'m str,
-    /// Its namespace; empty where it has none.
+    /// Its namespace; empty if it has none.
     pub type_namespace: &'m str,
-    /// Where the type is: a File, an AssemblyRef, or the ExportedType that encloses it; null where that is not
-    /// told.
+    /// The location of the type: a File, an AssemblyRef, or the ExportedType that encloses it; null if the location is
+    /// not given.
     pub implementation: Option<Token>,
 }
 
@@ -105,7 +105,7 @@ impl<'m> Record<'m> for ExportedType<'m> {
     }
 }
 
-/// The full name of the type: its namespace and a dot, unless that is empty, and its name.
+/// The full name of the type: the namespace and a dot, unless the namespace is empty, then the name.
 impl fmt::Display for ExportedType<'_> {
     ghost output = { λ r. Some (full_name r.type_namespace.now r.type_name.now) };
 
@@ -121,13 +121,13 @@ impl fmt::Display for ExportedType<'_> {
 /// A resource of this assembly (II.22.24).
 #[derive(Clone, Copy, Debug, PartialEq, Eq)]
 pub struct ManifestResource<'m> {
-    /// Where it begins, in bytes from the start of the resources in its file.
+    /// Its offset in bytes from the start of the resources in its file.
     pub offset: u32,
     /// ManifestResourceAttributes (II.23.1.9).
     pub flags: u32,
     /// Its name.
     pub name: &'m str,
-    /// Where it is: a File or an AssemblyRef; null where it is in this file.
+    /// Its location: a File or an AssemblyRef; null if it is in this file.
     pub implementation: Option<Token>,
 }
 

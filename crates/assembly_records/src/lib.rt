@@ -1,9 +1,9 @@
-//! The rows of tables as records (ECMA-335 II.22): those of assemblies, their files and their
-//! resources, and of what is attached to other rows. The other records are here too, so that all 38
-//! are. What the coded indexes name is here too, as an enum over the tables that each lists.
+//! The rows of tables as records (ECMA-335 II.22). This crate has the records of assemblies, their files and
+//! their resources, and of what is attached to other rows. It exports the other records too, so that all 38
+//! are here. For each coded index it has an enum of the records of the tables that the index lists.
 //!
 //! ```text
-//! let record = AssemblyRef::from_cells(cells)?; // None where they are no row of AssemblyRef
+//! let record = AssemblyRef::from_cells(cells)?; // None if they are not a row of AssemblyRef
 //! record.name == "mscorlib" && record.culture.is_empty()
 //! ```
 #![tactic(auto)]

@@ -7,18 +7,18 @@ use member_records::{MemberRef, MethodDef};
 use records::{CodedRow, FromRow, IsSignature, Row, TableId, TypeDef, TypeRef, TypeSpec};
 use schema::Coded;
 
-/// Where a member of another module belongs, as a MemberRefParent names it (II.24.2.6).
+/// The parent of a member of another module, which a MemberRefParent names (II.24.2.6).
 #[derive(Clone, Copy, Debug)]
 pub enum MemberRefParent<'m, S> {
     /// A type of this module.
     TypeDef(TypeDef<'m>),
     /// A type of another module or assembly.
     TypeRef(TypeRef<'m>),
-    /// Another module, whose global member it is.
+    /// Another module; the member is global there.
     ModuleRef(ModuleRef<'m>),
-    /// The method that is called with variable arguments.
+    /// A method of this module that is called with variable arguments.
     MethodDef(MethodDef<'m, S>),
-    /// A type that a signature spells.
+    /// A type that is given by a signature.
     TypeSpec(TypeSpec<S>),
 }
 
@@ -60,7 +60,7 @@ impl<'m, S: IsSignature, W: Row<'m, Signature = S>> CodedRow<'m, W> for MemberRe
 pub enum MethodDefOrRef<'m, S> {
     /// A method of this module.
     MethodDef(MethodDef<'m, S>),
-    /// A method of another module, or of a type that a signature spells.
+    /// A method of another module, or of a type that is given by a signature.
     MemberRef(MemberRef<'m, S>),
 }
 
@@ -91,12 +91,12 @@ impl<'m, S: IsSignature, W: Row<'m, Signature = S>> CodedRow<'m, W> for MethodDe
     }
 }
 
-/// The constructor of a custom attribute, as a CustomAttributeType names it (II.24.2.6).
+/// The constructor of a custom attribute, which a CustomAttributeType names (II.24.2.6).
 #[derive(Clone, Copy, Debug)]
 pub enum CustomAttributeType<'m, S> {
     /// A constructor of this module.
     MethodDef(MethodDef<'m, S>),
-    /// A constructor of another module, or of a type that a signature spells.
+    /// A constructor of another module, or of a type that is given by a signature.
     MemberRef(MemberRef<'m, S>),
 }
 
@@ -127,7 +127,7 @@ impl<'m, S: IsSignature, W: Row<'m, Signature = S>> CodedRow<'m, W> for CustomAt
     }
 }
 
-/// What has generic parameters, as a TypeOrMethodDef names it (II.24.2.6).
+/// The owner of generic parameters, which a TypeOrMethodDef names (II.24.2.6).
 #[derive(Clone, Copy, Debug)]
 pub enum TypeOrMethodDef<'m, S> {
     /// A type of this module.

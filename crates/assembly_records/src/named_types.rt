@@ -14,7 +14,7 @@ pub enum TypeDefOrRef<'m, S> {
     TypeDef(TypeDef<'m>),
     /// A type of another module or assembly.
     TypeRef(TypeRef<'m>),
-    /// A type that a signature spells.
+    /// A type that is given by a signature.
     TypeSpec(TypeSpec<S>),
 }
 
@@ -47,7 +47,7 @@ impl<'m, S: IsSignature, W: Row<'m, Signature = S>> CodedRow<'m, W> for TypeDefO
     }
 }
 
-/// Where a type of another module is found, as a ResolutionScope names it (II.24.2.6).
+/// The scope of a type of another module, which a ResolutionScope names (II.24.2.6).
 #[derive(Clone, Copy, Debug)]
 pub enum ResolutionScope<'m> {
     /// This module.
@@ -56,7 +56,7 @@ pub enum ResolutionScope<'m> {
     ModuleRef(ModuleRef<'m>),
     /// Another assembly.
     AssemblyRef(AssemblyRef<'m>),
-    /// The type that encloses it.
+    /// The type that encloses the type.
     TypeRef(TypeRef<'m>),
 }
 
@@ -91,14 +91,14 @@ impl<'m, W: Row<'m>> CodedRow<'m, W> for ResolutionScope<'m> {
     }
 }
 
-/// Where an exported type or a resource is found, as an Implementation names it (II.24.2.6).
+/// The location of an exported type or a resource, which an Implementation names (II.24.2.6).
 #[derive(Clone, Copy, Debug)]
 pub enum Implementation<'m> {
     /// Another file of this assembly.
     File(File<'m>),
     /// Another assembly.
     AssemblyRef(AssemblyRef<'m>),
-    /// The exported type that encloses it.
+    /// The exported type that encloses the type.
     ExportedType(ExportedType<'m>),
 }
 

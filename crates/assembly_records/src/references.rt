@@ -9,23 +9,23 @@ use std::alloc::{AllocError, Global};
 /// Another assembly (II.22.5).
 #[derive(Clone, Copy, Debug, PartialEq, Eq)]
 pub struct AssemblyRef<'m> {
-    /// The first part of its version.
+    /// The major version.
     pub major_version: u32,
-    /// The second part of its version.
+    /// The minor version.
     pub minor_version: u32,
-    /// The third part of its version.
+    /// The build number of its version.
     pub build_number: u32,
-    /// The fourth part of its version.
+    /// The revision number of its version.
     pub revision_number: u32,
-    /// AssemblyFlags (II.23.1.2), which tell whether the key is whole.
+    /// AssemblyFlags (II.23.1.2), which say whether the key is complete.
     pub flags: u32,
-    /// The key of its publisher or the token of that key; empty where it has none.
+    /// The public key of its publisher, or the token of that key; empty if it has none.
     pub public_key_or_token: &'m [u8],
     /// Its name.
     pub name: &'m str,
-    /// Its culture (II.23.1.3); empty where it is neutral.
+    /// Its culture (II.23.1.3); empty if it is neutral.
     pub culture: &'m str,
-    /// The hash of its bytes; empty where none is given.
+    /// The hash of its bytes; empty if none is given.
     pub hash_value: &'m [u8],
 }
 
@@ -76,7 +76,7 @@ impl<'m> Record<'m> for AssemblyRef<'m> {
     }
 }
 
-/// A processor of another assembly, which is not used (II.22.7).
+/// A processor of another assembly (II.22.7). The standard says to ignore it.
 #[derive(Clone, Copy, Debug, PartialEq, Eq)]
 pub struct AssemblyRefProcessor {
     /// The processor.
@@ -118,14 +118,14 @@ impl<'m> Record<'m> for AssemblyRefProcessor {
     }
 }
 
-/// An operating system of another assembly, which is not used (II.22.6).
+/// An operating system of another assembly (II.22.6). The standard says to ignore it.
 #[derive(Clone, Copy, Debug, PartialEq, Eq)]
 pub struct AssemblyRefOS {
-    /// The system.
+    /// The operating system.
     pub os_platform_id: u32,
-    /// The first part of its version.
+    /// The major version of the operating system.
     pub os_major_version: u32,
-    /// The second part of its version.
+    /// The minor version of the operating system.
     pub os_minor_version: u32,
     /// The assembly, in AssemblyRef.
     pub assembly_ref: Option<Token>,
@@ -172,7 +172,7 @@ impl<'m> Record<'m> for AssemblyRefOS {
 /// Another module (II.22.31).
 #[derive(Clone, Copy, Debug, PartialEq, Eq)]
 pub struct ModuleRef<'m> {
-    /// The module's name, by which a row of File has it.
+    /// The module's name, which a row of File repeats.
     pub name: &'m str,
 }
 
@@ -203,11 +203,11 @@ impl<'m> Record<'m> for ModuleRef<'m> {
 pub struct ImplMap<'m> {
     /// PInvokeAttributes (II.23.1.8).
     pub mapping_flags: u32,
-    /// The method, a MethodDef; a Field is not used.
+    /// The method, a MethodDef. A Field is possible but not used.
     pub member_forwarded: Option<Token>,
-    /// The name of what implements it, in its module.
+    /// The name of the function in its module.
     pub import_name: &'m str,
-    /// The module that has it, in ModuleRef.
+    /// The module that exports it, in ModuleRef.
     pub import_scope: Option<Token>,
 }
 

@@ -1,4 +1,4 @@
--- The test whether two cells are the same decides that they are equal.
+-- The equality test of two cells is true if and only if they are equal.
 use Rattle.std.proofs.Common.{◌≡◌, ℕ, false, List, Some, None, refl, ap, ◌∙◌}
 use Rattle.std.specs.Bool.{Decides}
 use Rattle.std.specs.Cmp.Lexicographic.{pointwise_decides}
@@ -29,7 +29,7 @@ token_decides a b =
     Decides-like _ (λ p. token_same a b p.0 p.1) (λ e. (ap (λ (t : Token). t.table) e, ap (λ (t : Token). t.row) e))
     (Decides-and _ _ (table_decides a.table b.table) (Decides-eqb a.row b.row))
 
--- where it does so for signatures
+-- if the test of signatures is so
 pub cell_decides : ((a b : Body) → Decides (signatures.eq-value.it a b) (a ≡ b)) → (a b : Cell) → Decides (cells.eq-value.it a b) (a ≡ b)
 cell_decides same (Number m) (Number n) = Decides-like _ (λ h. ap Number h) (λ k. cc k) (Decides-eqb m n)
 cell_decides same (Text s) (Text t) = Decides-like _ (λ h. ap Text h) (λ k. cc k) (pointwise_decides Decides-eqb s t)

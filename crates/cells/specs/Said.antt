@@ -1,11 +1,11 @@
--- What cells say, without where it lies in memory (ECMA-335 II.22).
+-- The content of cells, independent of memory layout (ECMA-335 II.22).
 use Rattle.std.specs.Prelude.{List, map}
 use Rattle.metadata.specs.Cell as says
 use Rattle.metadata.specs.Cell.{Cell}
 use Rattle.cells.specs.declared.cell.Cell.{Cell as Owned}
 use Rattle.cells.specs.declared.cell.Cell.TheVariants.{Number, Text, Bytes, Guid, Ref, Start, Sig}
 
--- the cell, as the definitions of metadata speak of it
+-- the cell in the terms of the definitions of metadata
 abbrev pub said : Owned → Cell
 said (Number number) = says.Number number
 said (Text text) = says.Text text

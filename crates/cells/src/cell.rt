@@ -8,15 +8,15 @@ use signatures::Signature;
 pub enum Cell {
     /// A number.
     Number(u32),
-    /// A text.
+    /// A string of `#Strings`.
     Text(Text),
-    /// Bytes.
+    /// A blob of `#Blob`.
     Bytes(Bytes),
-    /// A GUID, or null.
+    /// A GUID; `None` is null.
     Guid(Option<[u8; 16]>),
-    /// A row of a table, or null.
+    /// A row of a table; `None` is null.
     Ref(Option<Token>),
-    /// The first row of an owner's run, in the table of its members, counted from 1.
+    /// The first row of an owner's run, in the member table, counted from 1.
     Start(u32),
     /// A signature.
     Sig(Signature),

@@ -5,20 +5,20 @@ ghost use Rattle.cells.specs.Said.{said};
 use crate::cell::Cell;
 use schema::{Coded, ColumnKind, TableId, Token};
 
-/// A blob has fewer bytes (II.24.2.4: its length is a packed number).
+/// Blobs have fewer bytes than this (II.24.2.4), because their length is a packed number.
 const BLOB_LIMIT: usize = 0x2000_0000;
 
-/// A GUID has so many bytes (II.24.2.5).
+/// The number of bytes of a GUID (II.24.2.5).
 const GUID_SIZE: usize = 16;
 
-/// Whether a list of tables has one.
+/// Whether the list contains the table.
 fn lists(listed: &[Option<TableId>], table: TableId) -> bool
     ensures { IsTrue result ↔ Contains listed.now (Some table) }
 {
     listed.contains(&Some(table))
 }
 
-/// Whether a reference is null, or to a row of one of some tables.
+/// Whether a reference is null or names a row of one of the tables.
 fn is_to(listed: &[Option<TableId>], reference: Option<Token>) -> bool
     ensures { IsTrue result ↔ IsTo listed.now reference }
 {
@@ -29,10 +29,10 @@ fn is_to(listed: &[Option<TableId>], reference: Option<Token>) -> bool
 }
 
 impl Cell {
-    /// Whether a column of a kind takes the cell (II.22).
+    /// Whether a column of this kind takes the cell (II.22).
     ///
-    /// Padding has no cell. A reference may be null in any column of rows, and its row need not exist;
-    /// a signature is of the kind of every column of signatures, whichever that column holds.
+    /// A padding column has no cell. A reference may be null in each column of rows, and its row need not exist. A
+    /// signature fits each column of signatures, whichever form of signature that column holds.
     pub fn is_of_kind(&self, kind: ColumnKind) -> bool
         ensures { IsTrue result ↔ IsOfKind kind (said self.now) }
     {
@@ -58,8 +58,8 @@ impl Cell {
         }
     }
 
-    /// Whether a heap can hold what the cell says (II.24.2.3, II.24.2.4): a text without NUL, or fewer
-    /// than 2^29 bytes. Any other cell is no entry of a heap, or is one that fits.
+    /// Whether a heap can hold the cell (II.24.2.3, II.24.2.4): a string without NUL, or fewer than 2^29
+    /// bytes. For any other cell it is true.
     pub fn is_storable(&self) -> bool
         ensures { IsTrue result ↔ IsStorable (said self.now) }
     {
@@ -71,8 +71,8 @@ impl Cell {
         }
     }
 
-    /// Whether a column of a kind holds the signature that the cell is (II.22, II.23.2); true of any
-    /// other cell and of any other column.
+    /// Whether a column of this kind holds the form of the cell's signature (II.22, II.23.2). True for any
+    /// other cell and any other column.
     pub fn is_held(&self, kind: ColumnKind) -> bool
         ensures { IsTrue result ↔ IsHeld kind (said self.now) }
     {

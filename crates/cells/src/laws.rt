@@ -3,7 +3,7 @@ ghost use Rattle.cells.specs.declared.cell.Cell.{Cell as TheCell};
 
 use crate::cell::Cell;
 
-/// `==` tells of all cells whether they are equal: whether they say the same.
+/// `==` is true of two cells if and only if they are equal: if their content is the same.
 pub fn equality_is_tested()
     ensures { (first second : TheCell) → IsTrue (⟦<Cell as PartialEq>⟧.eq first second) ↔ (first ≡ second) }
 {

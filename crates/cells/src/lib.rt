@@ -1,10 +1,10 @@
-//! The cells of rows (ECMA-335 II.22): a number, a text, bytes, a GUID, a row, the first member of an
-//! owner's run, or a signature.
+//! The cells of rows (ECMA-335 II.22). A cell is a number, a string, bytes, a GUID, a row, the first member
+//! of an owner's run, or a signature.
 //!
-//! A [`Cell`] owns what it holds. A clause sees it as a value with lists in it, without where they lie
-//! in memory, so `==` compares what cells say. [`Text`] and [`Bytes`] are made of a `String` and a
-//! `Vec<u8>` and give them back, without memory. [`Cell::is_of_kind`] tells whether a column takes a
-//! cell.
+//! A [`Cell`] owns its content. Contracts see only the content, not its address, so `==` compares content.
+//! [`Text`] wraps a `String`, and [`Bytes`] wraps a `Vec<u8>`. Wrapping and unwrapping do not allocate.
+//! [`Cell::is_of_kind`] says whether a column takes a cell. A cell of the right kind can still break other
+//! rules.
 //!
 //! ```text
 //! Cell::Number(0x100).is_of_kind(ColumnKind::U16) // and not of ColumnKind::U8

@@ -1,4 +1,4 @@
--- What holds before signatures.
+-- The rules that come before those of signatures.
 use Rattle.std.proofs.Common.{ℕ, zero, suc, ◌+◌, List, [], ◌∷◌, ◌++◌, length, arith}
 use Rattle.packed.specs.declared.fault.Fault.{Fault}
 use Rattle.packed.specs.Demand.{Demand, AllHold, demands_from}
@@ -12,7 +12,7 @@ use Rattle.metadata.specs.Placed.{Placed, cell_place}
 use Rattle.metadata.specs.Demands.{demands_of_spelling, demands_of_signature, demands_of_signatures_in, demands_of_signatures_of, demands_of_signatures_at, demands_of_signatures}
 use Rattle.checks.specs.Budgets.{HoldBeforeSignatures}
 
--- behind demands that hold
+-- after rules that hold
 pub before_behind : (ds es : List (Demand Fault)) → AllHold ds → HoldBeforeSignatures es → HoldBeforeSignatures (ds ++ es)
 before_behind [] es all before = before
 before_behind (d ∷ ds) es all before = (λ low. all.0, before_behind ds es all.1 before)
@@ -26,7 +26,7 @@ unfolding demands_from
 before_from demands i zero each = tt
 before_from demands i (suc n) each = before_append (demands i) (demands_from demands (i + 1) n) (each i) (before_from demands (i + 1) n each)
 
--- no demand on a signature is posed before those on signatures
+-- no rule for a signature comes before the rules for signatures
 before_spelling : (source : Source) (held : ColumnKind) (number place : ℕ) → HoldBeforeSignatures (demands_of_spelling source held number place)
 before_spelling source (kind.Signature column) number place = (λ low. absurd (omega arith), (λ low. absurd (omega arith), tt))
 before_spelling source _ number place = tt

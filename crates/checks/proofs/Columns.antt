@@ -1,4 +1,4 @@
--- Columns whose demands hold.
+-- Columns whose rules hold.
 use Rattle.std.proofs.Common.{◌≡◌, ℕ, ◌+◌, ◌<◌, ◌≤◌, List, ◌⊎◌, inl, inr, sym, subst, arith, length}
 use Rattle.std.proofs.lemmas.Bool.{cases_eq}
 use Rattle.packed.specs.declared.fault.Fault.{Fault}
@@ -15,13 +15,13 @@ use Rattle.metadata.specs.Demands.{demands_of_number, demands_of_cell, demands_o
 use Rattle.metadata.specs.Demands.{demands_of_spelling, demands_of_signature, demands_of_signatures_in}
 use Rattle.checks.specs.Columns.{AllPass, ColumnMeets, ColumnStands, ColumnSpells}
 
--- the demands of a row hold where those of all columns do
+-- if the rules of all columns hold, the rules of a row hold
 row_meets : (demands : ℕ → ℕ → List (Demand Fault)) (end width row : ℕ) → ((column : ℕ) → column < width → ColumnMeets demands end column)
     → 1 ≤ row → row < end → AllHold (demands_from (demands row) 0 width)
 row_meets demands end width row meet first before =
     all_of_each (demands row) 0 width (λ column low high. (meet column (omega arith)).each row first before)
 
--- one more column, whose demands hold in fewer rows
+-- one more column, whose rules hold in fewer rows
 pub meets_more : (demands : ℕ → ℕ → List (Demand Fault)) (end fewer column : ℕ) → fewer ≤ end
     → ((earlier : ℕ) → earlier < column → ColumnMeets demands end earlier) → ColumnMeets demands fewer column
     → (earlier : ℕ) → earlier < column + 1 → ColumnMeets demands fewer earlier
@@ -31,7 +31,7 @@ meets_more demands end fewer column few meet here earlier within = elim (cases_e
 ]
 
 module _ (here : Placed) (table : TableId) (end columns : ℕ) (all : length (columns_of table) ≤ columns) where
-  -- the demands of rows hold where those of all columns do
+  -- if the rules of all columns hold, the rules of the rows hold
   pub rows_stand : ((column : ℕ) → column < columns → ColumnStands here table end column) → HoldBefore (demands_of_row here table) 1 end
   unfolding demands_of_row
   rows_stand stand = record {
@@ -46,12 +46,12 @@ module _ (here : Placed) (table : TableId) (end columns : ℕ) (all : length (co
         row_meets (demands_of_signature here table) end (length (columns_of table)) row (λ column within. spell column (omega arith)) first before;
   }
 
--- any number passes where nothing is asked
+-- any number passes if there is no rule
 pub none_asked : (here : Placed) (table : TableId) (column end : ℕ) → AllPass (λ number. Unit {0}) here.source table column end
 none_asked here table column end = record { each = λ row first last. tt }
 
 module _ (here : Placed) (table : TableId) (column end : ℕ) (held : Column) (is : held ≡ column_at table column) where
-  -- where each number of a column passes, and what passes meets the demands of the column's kind, wherever it is
+  -- each number of a column passes, and a number that passes obeys the rules of the column's kind, whatever its offset
   pub passed_stands : (P : ℕ → Type 0) (kind : ColumnKind) → held.kind ≡ kind → AllPass P here.source table column end
       → ((number : ℕ) → P number → (place : ℕ) → AllHold (demands_of_number here.source kind held.nullable number place))
       → ColumnStands here table end column
@@ -74,7 +74,7 @@ module _ (here : Placed) (table : TableId) (column end : ℕ) (held : Column) (i
       → ((number place : ℕ) → AllHold (demands_of_number here.source kind held.nullable number place)) → ColumnStands here table end column
   plain kind of_kind all = passed_stands (λ number. Unit {0}) kind of_kind (none_asked here table column end) (λ number passed. all number)
 
-  -- nothing is asked of plain numbers
+  -- plain numbers have no rule
   pub plain_stands : (held.kind ≡ kind.U8) ⊎ ((held.kind ≡ kind.U16) ⊎ ((held.kind ≡ kind.U32) ⊎ (held.kind ≡ kind.Padding)))
       → ColumnStands here table end column
   plain_stands (inl of_kind) = plain kind.U8 of_kind (λ number place. tt)

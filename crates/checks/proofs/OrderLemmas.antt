@@ -1,4 +1,4 @@
--- What is known of the order of tables, one table after another.
+-- The order of tables, one table after another.
 use Rattle.std.proofs.Common.{◌≡◌, ℕ, ◌+◌, ◌<◌, ◌↔◌, Bool, false, IsTrue, List, length, Some, slice_index_or, slice_set, sym, ◌∙◌, ap, subst, inl, inr, arith}
 use Rattle.std.proofs.lemmas.Bool.{cases_eq, cases_lt}
 use Rattle.std.proofs.lemmas.List.{get_or-set_other}
@@ -10,13 +10,13 @@ use Rattle.schema.specs.Columns.{key_of}
 use Rattle.metadata.specs.Source.{Source}
 use Rattle.metadata.specs.Rules.{IsInOrder}
 
--- the bit of a table tells whether its keys never fall
+-- the bit of a table says whether its keys never decrease
 abbrev pub Tells : Source → Bool → TableId → Type 0
 Tells source bit table = (key : ℕ) → key_of table ≡ Some key → IsTrue bit ↔ IsInOrder source table key
 
 module _ (stand : (table : TableId) → slice_index_or tables (position_of table) Module ≡ table) (rise : (lower higher : TableId)
     → position_of lower < position_of higher → table_number lower < table_number higher) where
-  -- tables of one number are one
+  -- tables with the same number are equal
   one_number : (a b : TableId) → table_number a ≡ table_number b → a ≡ b
   one_number a b same =
       elim (cases_eq (position_of a) (position_of b)) [
@@ -27,7 +27,7 @@ module _ (stand : (table : TableId) → slice_index_or tables (position_of table
         ]
       ]
 
-  -- the bit of the next table is told too
+  -- the bit of the next table is known too
   pub told_more : (source : Source) (bits : List Bool) (position number : ℕ) (here : TableId) (bit : Bool) → here ≡ slice_index_or tables position Module
       → number ≡ table_number here → number < length bits → Tells source bit here
       → ((table : TableId) → position_of table < position → Tells source (slice_index_or bits (table_number table) false) table)

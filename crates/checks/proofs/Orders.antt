@@ -1,4 +1,4 @@
--- A table in order of its key meets what is demanded of its order.
+-- A table in order of its key obeys the rules for its order.
 use Rattle.std.proofs.Common.{ℕ, ◌-◌, Bool, true, false, List, arith}
 use Rattle.packed.specs.declared.fault.Fault.{Fault}
 use Rattle.packed.specs.Demand.{Demand, AllHold, demands_where}

@@ -1,4 +1,4 @@
--- What a walk over a blob says of the signature that is demanded of it.
+-- What a check of a blob says about the rules for its signature.
 use Rattle.std.proofs.Common.{◌≡◌, ℕ, Bool, true, false, List, [], ◌∷◌, Some, None, Result, refl, sym, ◌⊎◌, slice_index, inl, inr, arith}
 use Rattle.std.specs.List.{AllByRecursion}
 use Rattle.std.proofs.lemmas.Bool.Decides.{nat_tests}
@@ -20,13 +20,13 @@ use Rattle.metadata.specs.Placed.{Placed, cell_place}
 use Rattle.metadata.specs.Demands.{demands_of_spelling, demands_of_signature}
 use Rattle.reading.specs.Codes.{code_at}
 
--- what is checked of a number in a column is demanded of its signature
+-- the check of a number in a column reports the rules for its signature
 pub spelling_answers : (here : Placed) (table : TableId) (row column number : ℕ) (held : Column) {X : Type 0} (r : Result X FaultCode) → held ≡ column_at table column → number ≡ number_of here.source table row column → ((place : ℕ) → Answers (demands_of_spelling here.source held.kind number place) (code_at place r)) → Answers (demands_of_signature here table row column) (code_at (cell_place here table row column) r)
 unfolding demands_of_signature
 spelling_answers here table row column number held r is_held is_number answers =
     rw (is_held, is_number) at (answers (cell_place here table row column))
 
--- a blob that spells no signature, or no blob
+-- a blob that encodes no signature, or no blob
 pub no_signature : (source : Source) (column : SigKind) (number place : ℕ) → ((blob : List ℕ) → IsBlob source.blobs number blob → (signature : Body) → ¬ Spells column signature blob)
     → FirstToFail (demands_of_spelling source (kind.Signature column) number place) (fault BadSignature place)
 no_signature source column number place none = inl (λ has. none has.0 has.2 has.1 has.3, refl)
@@ -42,7 +42,7 @@ module _ (source : Source) (counts : List ℕ) (counted : (table : TableId) → 
   has : (token : Token) → IsThere source token → has_row counts token ≡ true
   has token is = grind (arith, nat_tests, counted token.table)
 
-  -- each token has a row where none is the first without one
+  -- each token has a row if none is the first without one
   pub all_there : (tokens : List Token) → first_bad counts tokens ≡ None → AllByRecursion (IsThere source) tokens
   all_there [] e = tt
   all_there (token ∷ tokens) e = elim (cases (has_row counts token)) [
@@ -55,11 +55,11 @@ module _ (source : Source) (counts : List ℕ) (counted : (table : TableId) → 
   none_bad (token ∷ tokens) all = rw (has token all.0) (none_bad tokens all.1)
 
   module _ (column : SigKind) (number : ℕ) (place : ℕ) where
-    -- a blob that spells a signature whose tokens have rows
+    -- a blob that encodes a signature whose tokens have rows
     pub is_met : (blob : List ℕ) → IsBlob source.blobs number blob → (signature : Body) × Spells column signature blob × (None ≡ first_bad counts (tokens signature)) → AllHold (demands_of_spelling source (kind.Signature column) number place)
     is_met blob is some = ((blob, some.0, is, some.1, tt), ((blob, some.0, is, some.1, all_there (tokens some.0) (sym some.2)), tt))
 
-    -- a blob that spells a signature one of whose tokens has no row
+    -- a blob that encodes a signature one of whose tokens has no row
     pub no_row : (blob : List ℕ) (bad : Token) → IsBlob source.blobs number blob → ((other : List ℕ) → IsBlob source.blobs number other → blob ≡ other) → (signature : Body) × Spells column signature blob × (Some bad ≡ first_bad counts (tokens signature)) → ((signature : Body) → Spells column signature blob → Some bad ≡ first_bad counts (tokens signature)) → FirstToFail (demands_of_spelling source (kind.Signature column) number place) (fault SignatureIndex place)
     no_row blob bad is one some only = inr (
       (blob, some.0, is, some.1, tt),

@@ -1,4 +1,4 @@
--- What is spent of a budget, bit by bit.
+-- Spending a budget, step by step.
 use Rattle.std.proofs.Common.{◌≡◌, ℕ, ◌+◌, ◌-◌, ◌<◌, ◌≤◌, refl, subst, arith}
 use Rattle.checks.specs.declared.budget.Budget.{Budget}
 use Rattle.checks.specs.declared.budget.Budget.TheVariants.{Unbounded, Left}
@@ -32,12 +32,12 @@ below_within : (a : Budget) (m n : ℕ) → m ≤ n → IsBelow a m → IsBelow 
 below_within Unbounded m n more below = below
 below_within (Left k) m n more below = omega arith
 
--- what is spent over rows, of which each has so many bytes
+-- what is spent over rows, with the number of bytes of each
 module _ (f : ℕ → ℕ) (row count : ℕ) (first : 1 ≤ row) (last : row ≤ count) (a b : Budget) (spent : Spends a b (sum_below f (row - 1))) where
   step : sum_below f (row - 1) + f (row - 1) ≤ sum_below f count
   step = sum_step f (row - 1) count (omega arith)
 
-  -- the row is walked, or not, or its bytes are not left
+  -- the row is read, or not, or too few bytes are left for it
   pub row_walked : (c : Budget) (bytes : ℕ) → f (row - 1) ≡ bytes → Spends b c bytes → Spends a c (sum_below f (row + 1 - 1))
   row_walked c bytes is here =
       let next : row - 1 + 1 ≡ row + 1 - 1 = omega arith in
@@ -54,20 +54,20 @@ module _ (f : ℕ → ℕ) (row count : ℕ) (first : 1 ≤ row) (last : row ≤
 pub parts_none : (f : ℕ → ℕ) (budget : Budget) → Spends budget budget (sum_below f 0)
 parts_none f budget = rw sum_none (spends_none budget)
 
--- what is spent over some parts is spent over all
+-- what is spent over some parts is at most what all parts need
 pub parts_spent : (f : ℕ → ℕ) (few count : ℕ) (a b : Budget) → few ≤ count → Spends a b (sum_below f few) → Spends a b (sum_below f count)
 parts_spent f few count a b fewer spent = spends_within a b (sum_below f few) (sum_below f count) (sum_fewer f few count fewer) spent
 
--- one part more is spent
+-- one more part is spent
 pub part_spent : (f : ℕ → ℕ) (k : ℕ) (a b c : Budget) → Spends a b (sum_below f k) → Spends b c (f k) → Spends a c (sum_below f (k + 1))
 part_spent f k a b c before here = rw sum_more (spends_more a b c (sum_below f k) (f k) before here)
 
--- the budget is below all parts where what is left is below the next
+-- if what is left is less than the next part, the budget is less than all parts
 pub part_below : (f : ℕ → ℕ) (k count : ℕ) (a b : Budget) → k < count → Spends a b (sum_below f k) → IsBelow b (f k) → IsBelow a (sum_below f count)
 part_below f k count a b below spent here =
     below_within a (sum_below f k + f k) (sum_below f count) (sum_step f k count below) (below_more a b (sum_below f k) (f k) spent here)
 
--- where nothing is spent, any bytes are enough
+-- spending nothing stays within any number of bytes
 pub spends_any : (budget : Budget) (bytes : ℕ) → Spends budget budget bytes
 spends_any Unbounded bytes = refl
 spends_any (Left left) bytes = omega arith

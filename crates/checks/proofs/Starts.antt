@@ -1,4 +1,4 @@
--- The start of an owner, from that of the next.
+-- The start of an owner, from that of the next owner.
 use Rattle.std.proofs.Common.{◌≡◌, ℕ, ◌+◌, ◌-◌, ◌<◌, ◌≤◌, ltb, ◌&&◌, cond, Bool, true, false, Option, Some, None}
 use Rattle.std.proofs.Common.{refl, arith, inl, inr}
 use Rattle.std.proofs.lemmas.Bool.{cases_lt}
@@ -28,7 +28,7 @@ module _ (here : Placed) (owner : TableId) (column : ℕ) (member : TableId) whe
   pick row falls true = refl
   pick row falls false = refl
 
-  -- the demand on the start behind the first
+  -- the rule for the start after the first
   fallen_verdict : (row next start : ℕ) → next ≡ start_of here.source owner (row + 1) column member
       → start ≡ start_of here.source owner row column member
       → IsVerdict (demands_of_start here owner column member (row + 1))

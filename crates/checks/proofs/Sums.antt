@@ -1,4 +1,4 @@
--- Sums of the numbers below one, and how long blobs are.
+-- Sums of the numbers below one, and the lengths of blobs.
 use Rattle.std.proofs.Common.{◌≡◌, ℕ, zero, suc, ◌+◌, ◌-◌, ◌<◌, ◌≤◌, List, ◌++◌, length, drop, Some, inl, inr, refl, subst, sym, ap, ◌∙◌, true, add-one, arith}
 use Rattle.std.specs.Prelude.{nat_le}
 use Rattle.std.proofs.lemmas.Bool.{cases_eq}
@@ -23,7 +23,7 @@ pub sum_more : (f : ℕ → ℕ) (n : ℕ) → sum_below f (n + 1) ≡ sum_below
 unfolding sum_below
 sum_more f n = rw add-one refl
 
--- the sum of fewer numbers is no greater
+-- the sum of fewer numbers is not greater
 pub sum_fewer : (f : ℕ → ℕ) (m n : ℕ) → m ≤ n → sum_below f m ≤ sum_below f n
 unfolding sum_below
 sum_fewer f zero zero few = omega arith
@@ -33,12 +33,12 @@ sum_fewer f m (suc n) few = elim (cases_eq m (suc n)) [
   | inr other ↦ (let fewer : sum_below f m ≤ sum_below f n = sum_fewer f m n (omega arith) in omega arith)
 ]
 
--- a number that is one of those that are added
+-- a number that is one of the summands
 pub sum_step : (f : ℕ → ℕ) (k n : ℕ) → k < n → sum_below f k + f k ≤ sum_below f n
 sum_step f k n below = omega (arith, sum_fewer f (k + 1) n (omega arith), sum_more f k)
 
 module _ (read : (n : ℕ) (front rest : List ℕ) → IsPacked n front → unsigned_at (front ++ rest) ≡ Some (n, length front)) where
-  -- bytes behind their number are as many as it says
+  -- the number of the bytes after a count is the count
   counted_is : (count bytes after : List ℕ) → IsPacked (length bytes) count → counted_length (count ++ (bytes ++ after)) ≡ length bytes
   unfolding counted_length
   counted_is count bytes after packed =
@@ -46,7 +46,7 @@ module _ (read : (n : ℕ) (front rest : List ℕ) → IsPacked n front → unsi
       let fits : nat_le (length count + length bytes) (length (count ++ (bytes ++ after))) ≡ true = grind (arith, nat_tests, all) in
       rw (read (length bytes) count (bytes ++ after) packed, fits) refl
 
-  -- the blob of an index has as many bytes as are counted of it
+  -- the blob of an index has the counted number of bytes
   pub blob_is : (heap : List ℕ) (index : ℕ) (blob : List ℕ) → IsBlob heap index blob → blob_length heap index ≡ length blob
   blob_is heap index blob (inl none) = rw (none.0, none.1) refl
   blob_is heap zero blob (inr some) = absurd (omega (arith, some.0))
@@ -57,7 +57,7 @@ module _ (read : (n : ℕ) (front rest : List ℕ) → IsPacked n front → unsi
       ∙ drop-append_seam at.before (at.count ++ (blob ++ at.after)) in
       ap counted_length behind ∙ counted_is at.count blob at.after at.counts
 
--- a cell of signatures has as many bytes as the blob of its number
+-- a signature cell has the same number of bytes as the blob of its number
 pub cell_is : ((n : ℕ) (front rest : List ℕ) → IsPacked n front → unsigned_at (front ++ rest) ≡ Some (n, length front))
     → (source : Source) (table : TableId) (column row number : ℕ) (spelled : SigKind) (blob : List ℕ) → 1 ≤ row → (column_at table column).kind ≡ kind.Signature spelled
     → number ≡ number_of source table row column → IsBlob source.blobs number blob → cell_bytes source table column (row - 1) ≡ length blob

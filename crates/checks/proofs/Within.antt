@@ -1,4 +1,4 @@
--- What is answered within a budget, part by part.
+-- Results within a budget, part by part.
 use Rattle.std.proofs.Common.{ℕ, ◌<◌, List, ◌++◌, arith}
 use Rattle.packed.specs.declared.fault.Fault.{Fault as First}
 use Rattle.packed.specs.Demand.{Demand, AllHold, HoldBefore, demands_from}
@@ -11,14 +11,14 @@ use Rattle.checks.specs.Signatures.{sum_below}
 use Rattle.checks.proofs.Before.{before_behind}
 use Rattle.checks.proofs.Spending.{part_below}
 
--- parts before which all holds fail as the next of them does
+-- if all parts before hold, the error of the next part is the error of all parts
 pub parts_fail : (demands : ℕ → List (Demand First)) (bytes : ℕ → ℕ) (k n : ℕ) (a b : Budget) (error : BoundedError) → HoldBefore demands 0 k → k < n
     → Spends a b (sum_below bytes k) → HoldBeforeSignatures (demands_from demands 0 n) → FailsWithin b (bytes k) (demands k) error
     → FailsWithin a (sum_below bytes n) (demands_from demands 0 n) error
 parts_fail demands bytes k n a b (Fault found) hold below spent before fails = before_fails demands 0 k n found hold (omega arith) (omega arith) fails
 parts_fail demands bytes k n a b BudgetSpent hold below spent before fails = (part_below bytes k n a b below spent fails.0, before)
 
--- behind demands that hold, the answer is that of the rest
+-- after rules that hold, the error is that of the remaining rules
 pub rest_fails : (a : Budget) (n : ℕ) (ds es : List (Demand First)) (error : BoundedError) → AllHold ds → FailsWithin a n es error
     → FailsWithin a n (ds ++ es) error
 rest_fails a n ds es (Fault found) all fails = fails_back ds es found all fails

@@ -1,4 +1,4 @@
--- What a budget allows, and what is answered within it.
+-- What a budget allows, and the results within it.
 use Rattle.std.specs.Prelude.{◌≡◌, ℕ, ◌+◌, ◌≤◌, ◌<◌, ⊤, List, [], ◌∷◌, Result, Ok, Err}
 use Rattle.packed.specs.declared.code.FaultCode.TheVariants.{BadSignature}
 use Rattle.packed.specs.declared.fault.Fault.{Fault as First}
@@ -9,29 +9,29 @@ use Rattle.checks.specs.declared.budget.Budget.TheVariants.{Unbounded, Left}
 use Rattle.checks.specs.declared.budget.BoundedError.{BoundedError}
 use Rattle.checks.specs.declared.budget.BoundedError.TheVariants.{Fault, BudgetSpent}
 
--- the budget allows fewer bytes than these
+-- the budget is less than this number of bytes
 abbrev pub IsBelow : Budget → ℕ → Type 0
 IsBelow Unbounded bytes = ⊥
 IsBelow (Left left) bytes = left < bytes
 
--- one budget is what is left of another, of which at most these bytes were spent
+-- the second budget is what is left of the first, after at most this number of bytes was spent
 abbrev pub Spends : Budget → Budget → ℕ → Type 0
 Spends Unbounded after bytes = after ≡ Unbounded
 Spends (Left left) Unbounded bytes = ⊥
 Spends (Left left) (Left after) bytes = left ≤ after + bytes
 
--- each demand that is posed before those on signatures holds: its number is below theirs
+-- each rule that comes before the rules for signatures holds: the number of its code is less than theirs
 abbrev pub HoldBeforeSignatures : List (Demand First) → Type 0
 HoldBeforeSignatures [] = ⊤
 HoldBeforeSignatures (d ∷ ds) = (d.fault.code < number_of_code BadSignature → d.holds) × HoldBeforeSignatures ds
 
--- what is told within a budget: the fault of the first demand that does not hold; or that the budget is spent, only where it
--- allows fewer bytes than there are, and where what is demanded before signatures holds
+-- An error is the fault of the first broken rule, or `BudgetSpent`. The budget is spent only if it is less than
+-- all the bytes, and all rules before those of signatures hold.
 abbrev pub FailsWithin : Budget → ℕ → List (Demand First) → BoundedError → Type 0
 FailsWithin budget bytes demands (Fault found) = FirstToFail demands found
 FailsWithin budget bytes demands BudgetSpent = IsBelow budget bytes × HoldBeforeSignatures demands
 
--- a result answers demands within a budget: it is `Ok` where all of them hold
+-- a result reports rules within a budget: it is `Ok` only if all of them hold
 abbrev pub AnswersWithin : {X : Type 0} → Budget → ℕ → List (Demand First) → Result X BoundedError → Type 0
 AnswersWithin budget bytes demands (Ok x) = AllHold demands
 AnswersWithin budget bytes demands (Err error) = FailsWithin budget bytes demands error

@@ -6,7 +6,7 @@ use Rattle.schema.specs.Columns.{key_of}
 use Rattle.metadata.specs.Source.{Source}
 use Rattle.metadata.specs.Rules.{IsInOrder}
 
--- whether the keys of each table with a key never fall, under the numbers of the tables
+-- whether the keys of each table with a key never decrease, by table number
 abbrev pub TellsOrder : Source → List Bool → Type 0
 TellsOrder source bits =
     (table : TableId) (key : ℕ) → key_of table ≡ Some key → IsTrue (slice_index_or bits (table_number table) false) ↔ IsInOrder source table key

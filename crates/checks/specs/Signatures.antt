@@ -1,4 +1,4 @@
--- How many bytes the blobs of all signatures of a root have (ECMA-335 II.22 and II.24.2.4), each cell counted for itself.
+-- The number of bytes of all signature blobs of a metadata root (ECMA-335 II.22, II.24.2.4). Each cell counts.
 use Rattle.std.specs.Prelude.{ℕ, zero, suc, ◌+◌, List, length, drop, nat_le, if◌then◌else◌}
 use Rattle.std.specs.Option.{option_map_or}
 use Rattle.packed.specs.Front.{unsigned_at}
@@ -9,16 +9,16 @@ use Rattle.schema.specs.Columns.{columns_of, column_at}
 use Rattle.metadata.specs.Source.{Source, rows_in, number_of}
 use Rattle.metadata.specs.Rows.{table_at}
 
--- the number at the front of bytes, where as many bytes stand behind it, and else 0
+-- the length at the start of the bytes, if that number of bytes follows it, else 0
 unfoldable pub counted_length : List ℕ → ℕ
 counted_length bytes = option_map_or (λ read. if nat_le (read.1 + read.0) (length bytes) then read.0 else 0) (unsigned_at bytes) 0
 
--- how many bytes the blob of an index into `#Blob` has, and 0 where no blob stands there
+-- the number of bytes of the blob at an index of `#Blob`; 0 if there is no blob
 abbrev pub blob_length : List ℕ → ℕ → ℕ
 blob_length heap zero = 0
 blob_length heap (suc before) = counted_length (drop (suc before) heap)
 
--- how many the blob of a number in a column of a kind has, if the column is of signatures
+-- the number of bytes of the blob of a number in a column of a kind; 0 if the column is not of signatures
 abbrev pub spelling_length : Source → ColumnKind → ℕ → ℕ
 spelling_length source (kind.Signature column) number = blob_length source.blobs number
 spelling_length source _ number = 0
@@ -28,7 +28,7 @@ unfoldable pub sum_below : (ℕ → ℕ) → ℕ → ℕ
 sum_below f zero = 0
 sum_below f (suc n) = sum_below f n + f n
 
--- of a cell, by how many rows stand before it; of a column, over its rows; and of a table, over its columns
+-- the bytes of a cell, by the number of rows before it; of a column, over its rows; of a table, over its columns
 unfoldable pub cell_bytes : Source → TableId → ℕ → ℕ → ℕ
 cell_bytes source table column before = spelling_length source (column_at table column).kind (number_of source table (before + 1) column)
 
@@ -41,6 +41,6 @@ table_bytes source table = sum_below (column_bytes source table) (length (column
 unfoldable pub table_bytes_at : Source → ℕ → ℕ
 table_bytes_at source position = table_bytes source (table_at position)
 
--- of all tables
+-- the bytes of all tables
 unfoldable pub signature_bytes : Source → ℕ
 signature_bytes source = sum_below (table_bytes_at source) 38

@@ -5,12 +5,12 @@ use packed::Fault;
 use std::error::Error;
 use std::fmt;
 
-/// How many bytes of the blobs of signatures may be walked.
+/// The number of bytes of signature blobs that may still be read.
 #[derive(Clone, Copy, Debug, PartialEq, Eq)]
 pub enum Budget {
-    /// As many as there are.
+    /// No limit.
     Unbounded,
-    /// So many at most.
+    /// At most this number of bytes.
     Left(u64),
 }
 
@@ -18,7 +18,7 @@ impl Budget {
     ghost use Rattle.std.specs.Prelude.{OnSome, IfNone};
     ghost use Rattle.checks.specs.Budgets.{Spends, IsBelow};
 
-    /// Takes the bytes of a blob that is to be walked; `None` where fewer are left.
+    /// Subtracts the bytes of a blob that will be read; `None` if fewer are left.
     pub(crate) fn spend(&mut self, bytes: usize) -> Option<()>
         ensures spends { OnSome result (Spends self.old self.new bytes) }
         ensures spent { IfNone result (IsBelow self.old bytes) }
@@ -30,12 +30,12 @@ impl Budget {
     }
 }
 
-/// Why bytes were not opened within a budget.
+/// The reason why bytes were not opened within a budget.
 #[derive(Clone, Copy, Debug, PartialEq, Eq)]
 pub enum BoundedError {
-    /// The first demand that they do not meet.
+    /// The first rule that they break.
     Fault(Fault),
-    /// The budget was spent before all was checked.
+    /// The budget was spent before all rules were checked.
     BudgetSpent,
 }
 
@@ -48,7 +48,7 @@ impl From<Fault> for BoundedError {
 }
 
 impl fmt::Display for BoundedError {
-    /// Writes the fault as it is written alone, or the words `budget spent`.
+    /// Writes the fault in the same form as `Fault` does, or the words `budget spent`.
     fn fmt<W: fmt::Write>(&self, f: &mut fmt::Formatter<W>) -> fmt::Result {
         match self {
             BoundedError::Fault(fault) => write!(f, "{fault}"),

@@ -13,7 +13,7 @@ use packed::{Fault, FaultCode};
 use reading::{Source, column_at, named_by};
 use schema::{Coded, Column, ColumnKind, TableId, columns};
 
-/// Each number stands for a cell (II.22).
+/// Checks that each number of each table stands for a cell (II.22).
 pub fn check_cells(source: &Source) -> Result<(), Fault>
     ensures { Answers (demands_of_cells source.now) result }
 {
@@ -24,17 +24,17 @@ pub fn check_cells(source: &Source) -> Result<(), Fault>
     Ok(())
 }
 
-/// Each number of a table stands for a cell.
+/// Checks that each number of a table stands for a cell.
 ///
-/// A look down the columns finds the first row that has one which does not; only from that row on are the
-/// rows walked, for the first in it.
+/// A pass over the columns finds the first row with a number that does not. The rows are checked one by one
+/// only from that row on, to find its first fault.
 fn check_table(source: &Source, table: TableId) -> Result<(), Fault>
     ensures { Answers (demands_of_table source.now table) result }
 {
     check_rows(source, table, first_row(source, table))
 }
 
-/// Each number of a table stands for a cell, row by row from a first on.
+/// Checks that each number of a table stands for a cell, row by row from `first` on.
 fn check_rows(source: &Source, table: TableId, first: u32) -> Result<(), Fault>
     requires first { 1 ≤ first }
     requires last { first ≤ rows_in source.now.source table + 1 }
@@ -48,8 +48,8 @@ fn check_rows(source: &Source, table: TableId, first: u32) -> Result<(), Fault>
     Ok(())
 }
 
-/// The first row of a table with a number that stands for no cell, by its columns; behind the last row
-/// where there is none.
+/// The first row of a table with a number that stands for no cell. If there is none, one more than the last row.
+/// It reads column by column.
 fn first_row(source: &Source, table: TableId) -> u32
     ensures first { 1 ≤ result }
     ensures last { result ≤ rows_in source.now.source table + 1 }
@@ -62,9 +62,9 @@ fn first_row(source: &Source, table: TableId) -> u32
     limit
 }
 
-/// The first row before a limit whose number in a column stands for no cell, the limit where there is none.
+/// The first row before `limit` whose number in this column stands for no cell; `limit` if there is none.
 ///
-/// The column's kind is looked at once, before the walk over the rows.
+/// The column's kind is matched once, before the loop over the rows.
 fn first_in_column(source: &Source, table: TableId, column: usize, limit: u32) -> u32
     requires column { column < length (columns_of table) }
     requires first { 1 ≤ limit }
@@ -99,7 +99,7 @@ fn first_in_column(source: &Source, table: TableId, column: usize, limit: u32) -
     }
 }
 
-/// The same of a column of indexes into tables; the first row where it is of another kind.
+/// The same for a column of indexes into tables; returns row 1 if the column is of another kind.
 fn first_index(source: &Source, table: TableId, column: usize, limit: u32) -> u32
     requires column { column < length (columns_of table) }
     requires first { 1 ≤ limit }
@@ -133,7 +133,7 @@ fn first_index(source: &Source, table: TableId, column: usize, limit: u32) -> u3
     }
 }
 
-/// Each number of a row stands for a cell.
+/// Checks that each number of a row stands for a cell.
 fn check_row(source: &Source, table: TableId, row: u32) -> Result<(), Fault>
     requires first { 1 ≤ row }
     requires last { row ≤ rows_in source.now.source table }
@@ -145,7 +145,7 @@ fn check_row(source: &Source, table: TableId, row: u32) -> Result<(), Fault>
     Ok(())
 }
 
-/// The number of a column stands for a cell.
+/// Checks that the number of a column stands for a cell.
 fn check_cell(source: &Source, table: TableId, row: u32, column: usize) -> Result<(), Fault>
     requires first { 1 ≤ row }
     requires last { row ≤ rows_in source.now.source table }
@@ -160,7 +160,7 @@ fn check_cell(source: &Source, table: TableId, row: u32, column: usize) -> Resul
     }
 }
 
-/// The number, in a column, stands for a cell.
+/// Checks that the number stands for a cell of the column.
 fn check_number(source: &Source, column: Column, number: u32) -> Result<(), FaultCode>
     ensures { (place : ℕ) → Answers (demands_of_number source.now.source column.kind column.nullable number place) (code_at place result) }
 {
@@ -175,14 +175,14 @@ fn check_number(source: &Source, column: Column, number: u32) -> Result<(), Faul
     }
 }
 
-/// Whether a reference names a row that exists, or is null where it may be.
+/// Whether a reference names a row that exists, or is null in a column that allows null.
 fn may_refer(source: &Source, nullable: bool, table: TableId, row: u32) -> bool
     ensures { IsTrue result ↔ MayRefer source.now.source nullable (record { table = table; row = row }) }
 {
     nullable && row == 0 || source.has_row(table, row)
 }
 
-/// A simple index names a row that exists.
+/// Checks that a simple index names a row that exists.
 fn check_reference(
     source: &Source,
     nullable: bool,
@@ -198,7 +198,7 @@ fn check_reference(
     }
 }
 
-/// A coded index has a tag that is used, and names a row that exists.
+/// Checks that a coded index has a tag in use, and names a row that exists.
 fn check_coded(source: &Source, nullable: bool, coded: Coded, number: u32) -> Result<(), FaultCode>
     ensures { (place : ℕ) → Answers (demands_of_number source.now.source (kind.Coded coded) nullable number place) (code_at place result) }
 {
@@ -212,7 +212,7 @@ fn check_coded(source: &Source, nullable: bool, coded: Coded, number: u32) -> Re
     }
 }
 
-/// A list value is null, or that of a member or behind the last.
+/// Checks that a list value is null, a row of the member table, or one more than its last row.
 fn check_list(source: &Source, member: TableId, number: u32) -> Result<(), FaultCode>
     ensures { (place : ℕ) → Answers (demand (number ≤ rows_in source.now.source member + 1) BadList place ∷ []) (code_at place result) }
 {

@@ -7,9 +7,9 @@ use packed::FaultCode;
 use reading::Source;
 use schema::TableId;
 
-/// The first row before a limit whose number in a column a check refuses, the limit where there is none.
+/// The first row before `limit` whose number in a column breaks a rule; `limit` if there is none.
 ///
-/// A number that stands in the row before too is not checked again.
+/// A number that equals the number of the row before is not checked again.
 pub fn first_refused<F: Fn(u32) -> Result<(), FaultCode>>(
     source: &Source,
     table: TableId,

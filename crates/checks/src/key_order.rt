@@ -6,9 +6,9 @@ ghost use Rattle.checks.specs.Orders.{TellsOrder};
 use reading::Source;
 use schema::{TableId, columns_stand, key, tables_stand};
 
-/// Whether the keys of each table never fall, under the tables' numbers; false of tables without a key.
+/// Whether the keys of each table never decrease, by table number; `false` for tables without a key.
 ///
-/// Each key is read once, or twice: with its own row and with the next.
+/// Each key is read at most twice: with its own row and with the next row.
 pub fn find_order(source: &Source) -> [bool; 45]
     ensures { TellsOrder source.now.source result }
 {
@@ -22,7 +22,7 @@ pub fn find_order(source: &Source) -> [bool; 45]
     in_order
 }
 
-/// Whether a table has keys that never fall.
+/// Whether a table has a key column that never decreases.
 fn is_in_order(source: &Source, table: TableId) -> bool
     ensures { (column : ℕ) → key_of table ≡ Some column → IsTrue result ↔ IsInOrder source.now.source table column }
 {
@@ -33,7 +33,7 @@ fn is_in_order(source: &Source, table: TableId) -> bool
     }
 }
 
-/// Whether the numbers of a column never fall.
+/// Whether the numbers of a column never decrease.
 fn never_falls(source: &Source, table: TableId, column: usize) -> bool
     requires { column < length (columns_of table) }
     ensures { IsTrue result ↔ IsInOrder source.now.source table column }

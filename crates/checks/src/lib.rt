@@ -1,10 +1,10 @@
-//! Checks what is demanded of the tables of a root, in place (ECMA-335 II.22).
+//! Checks the rules for the tables of a metadata root, in place (ECMA-335 II.22).
 //!
-//! [`check_tables_within`] poses the demands of `metadata` on what a `Source` of `reading` reads, in their order:
-//! on the cells, the order of rows, the runs of members, the order of nested types, and signatures. It answers
-//! the fault of the first that fails, or that a [`Budget`] of bytes of signature blobs was spent. A pass first
-//! looks column by column for the first row where all is not well, and walks that row for its fault. Nothing
-//! here takes memory.
+//! [`check_tables_within`] checks the rules of `metadata` for what a `Source` of `reading` reads. It checks, in
+//! order, the cells, the order of rows, the runs of members, the order of nested types, and signatures. It returns
+//! the fault of the first broken rule, or that a [`Budget`] of bytes of signature blobs was spent. Each check
+//! first looks column by column for the first row that breaks a rule, and then checks that row for its fault.
+//! Nothing here allocates.
 //!
 //! ```text
 //! let source = Source::new(rows, Strings::new(texts), blobs, guids, place);

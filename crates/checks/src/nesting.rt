@@ -8,12 +8,12 @@ use packed::{Fault, FaultCode};
 use reading::Source;
 use schema::TableId;
 
-/// The column of a nested type, and that of the type around it.
+/// The columns of a nested type, and of the type that encloses it.
 const NESTED: usize = 0;
 
 const ENCLOSING: usize = 1;
 
-/// Each type stands behind the one that it is nested in (II.22.32).
+/// Checks that each nested type follows its enclosing type (II.22.32).
 pub fn check_nesting(source: &Source) -> Result<(), Fault>
     ensures { Answers (demands_of_nesting source.now) result }
 {
@@ -24,7 +24,7 @@ pub fn check_nesting(source: &Source) -> Result<(), Fault>
     Ok(())
 }
 
-/// The nested type of a row stands behind the one around it.
+/// Checks that the nested type of a row follows its enclosing type.
 #[tactic(auto, unfolding(metadata::specs::Demands::demands_of_nesting_in))]
 fn check_nested(source: &Source, row: u32) -> Result<(), Fault>
     requires first { 1 ≤ row }

@@ -9,7 +9,7 @@ use packed::{Fault, FaultCode};
 use reading::Source;
 use schema::{TableId, columns_stand, key, tables_stand};
 
-/// Each table is in order of its key, where it is said to be (II.22), by the tables whose keys never fall.
+/// Checks that each table whose `Sorted` bit is set is in order of its key (II.22). `in_order` says which are.
 pub fn check_order(source: &Source, in_order: &[bool; 45]) -> Result<(), Fault>
     requires { TellsOrder source.now.source in_order.now }
     ensures { Answers (demands_of_order source.now) result }
@@ -21,9 +21,9 @@ pub fn check_order(source: &Source, in_order: &[bool; 45]) -> Result<(), Fault>
     Ok(())
 }
 
-/// A table is in order of its key, where it is said to be.
+/// Checks that a table is in order of its key, if its `Sorted` bit is set.
 ///
-/// Only a table that is not is walked again, for the first key that falls.
+/// Only a table that is not in order is read again, to find the first key that decreases.
 fn check_order_of(source: &Source, table: TableId, in_order: &[bool; 45]) -> Result<(), Fault>
     requires { TellsOrder source.now.source in_order.now }
     ensures { Answers (demands_of_order_by source.now table (key_of table)) result }
@@ -42,7 +42,7 @@ fn check_order_of(source: &Source, table: TableId, in_order: &[bool; 45]) -> Res
     check_keys(source, table, key)
 }
 
-/// The keys of a table never fall.
+/// Checks that the keys of a table never decrease.
 fn check_keys(source: &Source, table: TableId, key: usize) -> Result<(), Fault>
     requires { key < length (columns_of table) }
     ensures { Answers (demands_of_keys source.now table key) result }
@@ -54,7 +54,7 @@ fn check_keys(source: &Source, table: TableId, key: usize) -> Result<(), Fault>
     Ok(())
 }
 
-/// A key is no lower than that of the row before.
+/// Checks that a key is not less than the key of the row before.
 #[tactic(auto, unfolding(metadata::specs::Demands::demands_of_key_in))]
 fn check_key(source: &Source, table: TableId, key: usize, row: u32) -> Result<(), Fault>
     requires first { 2 ≤ row }

@@ -3,10 +3,10 @@ ghost use Rattle.checks.specs.Passed.{Keeps};
 
 use std::marker::Model;
 
-/// How many numbers are kept at most.
+/// The greatest number of numbers that are kept.
 const SLOTS: usize = 1024;
 
-/// Numbers that a check passed of late, each in the slot of its low bits; 0 stands in a slot without one.
+/// Numbers that passed a check recently. Each is in the slot of its low bits; an empty slot has 0.
 #[derive(Drop)]
 pub struct Passed {
     numbers: [u32; 1024],
@@ -37,7 +37,7 @@ impl Passed {
         number != 0 && self.numbers[number as usize % SLOTS] == number
     }
 
-    /// Keeps a number, in place of another with the same low bits.
+    /// Keeps a number. It replaces any number with the same low bits.
     pub fn keep(&mut self, number: u32)
         ensures { (other : ℕ) → Keeps self.new other → (other ≡ number) ⊎ Keeps self.old other }
     {

@@ -11,8 +11,8 @@ use packed::{Fault, FaultCode};
 use reading::{KnownRuns, KnownStarts, Source, start_before};
 use schema::TableId;
 
-/// Where the first owner's run begins, the first owner behind it whose run begins before that of the owner
-/// before, and the starts that are kept.
+/// The results of a pass over owners: the start of the first run, the first owner whose start is less than the
+/// start before, and the starts that are kept.
 #[derive(Clone, Copy)]
 struct Walk {
     first: u32,
@@ -20,9 +20,9 @@ struct Walk {
     known: KnownStarts,
 }
 
-/// Each member of the five runs has one owner (II.22.37, II.22.26, II.22.12 and II.22.35).
+/// Checks that each member of the five runs has one owner (II.22.37, II.22.26, II.22.12 and II.22.35).
 ///
-/// Where all have, it answers the starts that were kept on the way.
+/// If each has one, it returns the starts that were kept during the check.
 pub fn check_runs(source: &Source) -> Result<KnownRuns, Fault>
     ensures answers { Answers (demands_of_runs source.now) result }
     ensures known { IfOk result (AreKnown source.now.source) }
@@ -41,7 +41,7 @@ pub fn check_runs(source: &Source) -> Result<KnownRuns, Fault>
     })
 }
 
-/// Each member has one owner, by a column of the owners.
+/// Checks that each member has one owner, by a list column of the owners.
 #[tactic(auto, using(packed::proofs::DemandLemmas::none_from), unfolding(metadata::specs::Demands::demands_of_run))]
 fn check_run(
     source: &Source,
@@ -70,7 +70,7 @@ fn check_run(
     }
 }
 
-/// From the last owner to the first, since a null takes the start of the next owner.
+/// Goes from the last owner to the first, because the start of a null is that of the next owner.
 fn walk_owners(source: &Source, owner: TableId, column: usize, member: TableId) -> Walk
     requires column { column < length (columns_of owner) }
     ensures first { result.first ≡ start_of source.now.source owner 1 column member }
@@ -98,7 +98,7 @@ fn walk_owners(source: &Source, owner: TableId, column: usize, member: TableId) 
     }
 }
 
-/// The first owner whose start falls, one row further to the front.
+/// The first owner whose start decreases, after one more owner before it.
 fn fallen(falls: Option<u32>, row: u32, count: u32, next: u32, start: u32) -> Option<u32>
     requires { row ≤ 0xFFFFFF }
     ensures value { result ≡ (if nat_lt row count && nat_lt next start then Some (row + 1) else falls) }

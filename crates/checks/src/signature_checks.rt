@@ -18,7 +18,7 @@ use reading::{Source, column_at};
 use recogniser::recognise_first_bad;
 use schema::{ColumnKind, SigKind, TableId, columns};
 
-/// Each blob of a signature spells one, whose type indexes name rows that exist (II.23.2).
+/// Checks that each signature blob encodes a signature, and that the rows of its type indexes exist (II.23.2).
 pub fn check_signatures(source: &Source, budget: Budget) -> Result<(), BoundedError>
     ensures { AnswersWithin budget (signature_bytes source.now.source) (demands_of_signatures source.now) result }
 {
@@ -30,10 +30,10 @@ pub fn check_signatures(source: &Source, budget: Budget) -> Result<(), BoundedEr
     Ok(())
 }
 
-/// The signatures of a table.
+/// Checks the signatures of a table.
 ///
-/// A look down the columns finds the first row with a blob that spells none; only from that row on are the
-/// rows walked, for the first in it.
+/// A pass over the columns finds the first row with a blob that breaks a rule. The rows are checked one by
+/// one only from that row on, to find its first fault.
 #[tactic(auto, using(crate::proofs::Before::before_signatures_of))]
 fn check_signatures_of(
     source: &Source,
@@ -50,7 +50,7 @@ fn check_signatures_of(
     Ok(())
 }
 
-/// The signatures of a table, row by row from a first on.
+/// Checks the signatures of a table, row by row from `first` on.
 fn check_signature_rows(source: &Source, table: TableId, first: u32) -> Result<(), Fault>
     requires first { 1 ≤ first }
     requires last { first ≤ rows_in source.now.source table + 1 }
@@ -64,8 +64,8 @@ fn check_signature_rows(source: &Source, table: TableId, first: u32) -> Result<(
     Ok(())
 }
 
-/// The first row of a table with a blob that does not spell the signature that is asked of it, by its
-/// columns; behind the last row where there is none. `None` where the budget is spent.
+/// The first row of a table with a blob that breaks a rule of its signature. If there is none, one more than
+/// the last row. `None` if the budget is spent. It reads column by column.
 fn first_row(source: &Source, table: TableId, budget: &mut Budget) -> Option<u32>
     ensures found { IfSome result (λ row. (1 ≤ row) × (row ≤ rows_in source.now.source table + 1)) }
     ensures before { IfSome result (HoldBefore (demands_of_signatures_in source.now table) 1) }
@@ -79,8 +79,8 @@ fn first_row(source: &Source, table: TableId, budget: &mut Budget) -> Option<u32
     Some(limit)
 }
 
-/// The first row before a limit whose blob in a column does not spell the signature that is asked of it,
-/// if the column is of signatures; the limit where there is none. `None` where the budget is spent.
+/// The first row before `limit` whose blob in this column breaks a rule of its signature. It is `limit` if there
+/// is none, or if the column is not of signatures. `None` if the budget is spent.
 fn first_in_column(
     source: &Source,
     table: TableId,
@@ -104,10 +104,10 @@ fn first_in_column(
     }
 }
 
-/// The first row before a limit whose blob does not spell a signature of a kind, the limit where there is
-/// none. `None` where the budget is spent.
+/// The first row before `limit` whose blob breaks a rule of a signature of this kind; `limit` if there is
+/// none. `None` if the budget is spent.
 ///
-/// A number that was accepted of late is not walked again.
+/// A number that was accepted recently is not checked again.
 fn first_misspelled(
     source: &Source,
     table: TableId,
@@ -144,7 +144,7 @@ fn first_misspelled(
     Some(limit)
 }
 
-/// The signatures of a row.
+/// Checks the signatures of a row.
 fn check_signatures_in(source: &Source, table: TableId, row: u32) -> Result<(), Fault>
     requires first { 1 ≤ row }
     requires last { row ≤ rows_in source.now.source table }
@@ -156,7 +156,7 @@ fn check_signatures_in(source: &Source, table: TableId, row: u32) -> Result<(), 
     Ok(())
 }
 
-/// The signature of a column, if it has one.
+/// Checks the signature of a column, if the column is of signatures.
 fn check_signature(source: &Source, table: TableId, row: u32, column: usize) -> Result<(), Fault>
     requires first { 1 ≤ row }
     requires last { row ≤ rows_in source.now.source table }
@@ -171,8 +171,8 @@ fn check_signature(source: &Source, table: TableId, row: u32, column: usize) -> 
     }
 }
 
-/// The blob of a number spells a signature, if the column is of signatures, and its type indexes name
-/// rows that exist.
+/// Checks that the blob of a number encodes a signature, if the column is of signatures, and that the rows of
+/// its type indexes exist.
 fn check_spelling(source: &Source, kind: ColumnKind, number: u32) -> Result<(), FaultCode>
     ensures { (place : ℕ) → Answers (demands_of_spelling source.now.source kind number place) (code_at place result) }
 {
@@ -182,7 +182,7 @@ fn check_spelling(source: &Source, kind: ColumnKind, number: u32) -> Result<(), 
     }
 }
 
-/// The blob of a number spells a signature, whose type indexes name rows that exist.
+/// Checks that the blob of a number encodes a signature, and that the rows of its type indexes exist.
 fn check_signature_at(source: &Source, column: SigKind, number: u32) -> Result<(), FaultCode>
     ensures { (place : ℕ) → Answers (demands_of_spelling source.now.source (kind.Signature column) number place) (code_at place result) }
 {
@@ -192,7 +192,7 @@ fn check_signature_at(source: &Source, column: SigKind, number: u32) -> Result<(
     }
 }
 
-/// A blob spells a signature, whose type indexes name rows that exist.
+/// Checks that a blob encodes a signature, and that the rows of its type indexes exist.
 fn check_blob(source: &Source, column: SigKind, blob: &[u8]) -> Result<(), FaultCode>
     ensures { (number : ℕ) → IsBlob source.now.source.blobs number blob.now → IsSpelled source.now.source (kind.Signature column) number result }
 {

@@ -16,29 +16,29 @@ use crate::signature_checks::check_signatures;
 use packed::Fault;
 use reading::{KnownRuns, Source};
 
-/// What is found of the tables of a root that meet all that is demanded of them.
+/// The results for the tables of a metadata root that obey all rules.
 #[derive(Clone, Copy)]
 pub struct Checked {
-    /// Which tables with a key are in order of it, under their numbers.
+    /// Which tables with a key are in order of it, by table number.
     pub in_order: [bool; 45],
     /// The starts of runs that were kept.
     pub known: KnownRuns,
 }
 
-/// Checks what is demanded of the tables of a root, in the order in which it is posed (II.22), within a budget of
-/// bytes of signature blobs that are walked.
+/// Checks the rules for the tables of a metadata root, in their order (II.22). The budget limits the number of bytes
+/// of signature blobs that are read.
 ///
-/// Where all of it holds, it answers what was found on the way. It takes no memory. The cost is that of the
-/// rows, and of the texts and blobs that they name. The blob of a signature is walked again only where another
-/// number with the same low ten bits was accepted in between. Blobs may overlap, so that their lengths can add
-/// up to the square of the bytes: the budget bounds them. A blob counts its length each time that it is walked,
-/// but for the walk of one row that follows where a signature is at fault, by which that is found.
+/// If all rules hold, it returns what it found. It does not allocate. The cost is linear in the rows and in the
+/// strings and blobs that they name. The blob of a signature is read again only if another number with the same
+/// low ten bits was accepted since. Blobs may overlap, so the sum of their lengths can grow with the square of the
+/// size of the file. The budget limits this. Each read of a blob spends its length. An invalid signature is read
+/// once more to find its fault; this read is free.
 ///
 /// # Errors
 ///
-/// The fault of the first demand that fails, with its place in the root. `BudgetSpent` where more bytes were to be
-/// walked than the budget allows: only where the lengths of the signature blobs of all rows add up to more, and
-/// where all that is demanded before signatures holds.
+/// The fault of the first broken rule, with its offset in the metadata root. `BudgetSpent` if more bytes had to be
+/// read than the budget allows. This happens only if the signature blobs of all rows have more bytes in sum, and
+/// if all rules before those of signatures hold.
 pub fn check_tables_within(source: &Source, budget: Budget) -> Result<Checked, BoundedError>
     ensures answers { AnswersWithin budget (signature_bytes source.now.source) (demands_of_tables source.now) result }
     ensures order { IfOk result (λ checked. TellsOrder source.now.source checked.in_order) }
@@ -49,7 +49,7 @@ pub fn check_tables_within(source: &Source, budget: Budget) -> Result<Checked, B
     Ok(checked)
 }
 
-/// Checks what is demanded of the rows before their signatures.
+/// Checks the rules for the rows that come before the rules for signatures.
 #[tactic(auto, using(packed::proofs::DemandLemmas::fails_front, packed::proofs::DemandLemmas::fails_back, packed::proofs::DemandLemmas::all_append), unfolding(metadata::specs::Demands::demands_of_tables))]
 fn check_rows(source: &Source) -> Result<Checked, Fault>
     ensures first { IfErr result (FirstToFail (demands_of_tables source.now)) }

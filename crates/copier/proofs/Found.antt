@@ -1,4 +1,4 @@
--- Where the rows stop is the first type index without a row.
+-- The row checker stops at the first type index whose row does not exist.
 use Rattle.std.proofs.Common.{◌≡◌, ◌∙◌, ℕ, Bool, true, false, not, cond, Option, Some, None, Result, Ok, Err, List, [], ◌∷◌, refl, ap}
 use Rattle.std.specs.Prelude.{flat_map}
 use Rattle.schema.specs.declared.token.Token.{Token}
@@ -11,7 +11,7 @@ use Rattle.walk.specs.Items.{Item, part, broken, kept, body_items}
 use Rattle.copier.specs.Rows.{row_checker_step}
 use Rattle.copier.specs.declared.row_checker.RowChecker.{RowChecker}
 
--- the rows, with what was found
+-- the row checker, with the result of the search
 abbrev told : RowChecker → Option Token → Result RowChecker RowChecker
 told rows None = Ok rows
 told rows (Some token) = Err (record { counts = rows.counts; bad = Some token })

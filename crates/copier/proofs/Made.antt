@@ -1,4 +1,4 @@
--- What clauses see of a type, a parameter and a method that are made of their parts.
+-- The content of a type, a parameter and a method that are made from their parts.
 use Rattle.std.proofs.Common.{◌≡◌, ◌∙◌, ℕ, ◌+◌, ◌<◌, ◌≤◌, Bool, Option, List, [], ◌∷◌, ◌++◌, length, take, get_or, Vec, Global, map, refl, sym}
 use Rattle.std.proofs.lemmas.List.{take_more, take_all, map-append}
 use Rattle.signature_values.specs.declared.types.Modifier.{Modifier}
@@ -28,7 +28,7 @@ made_method kind this explicit generic ret params sentinel = rw methods.fold-rol
 -- ---- copies
 
 module _ {A B : Type 0} (view : A → B) (xs : List A) (k : ℕ) (copies : List A) where
-  -- one copy more
+  -- one more copy
   pub copied_next : (after : List A) (copy item : A) → after ≡ copies ++ copy ∷ [] → k < length xs → item ≡ get_or xs k item → view copy ≡ view item → map view copies ≡ map view (take k xs) → map view after ≡ map view (take (k + 1) xs)
   copied_next after copy item e lt is same so_far =
       let more : take (k + 1) xs ≡ take k xs ++ item ∷ [] = take_more xs k item lt ∙ (λ i. take k xs ++ sym is i ∷ []) in

@@ -1,4 +1,4 @@
--- Equality of what clauses see of two values, from that of their parts.
+-- The content of two values is equal if the content of their parts is.
 use Rattle.std.proofs.Common.{◌≡◌, ℕ, Bool, true, false, Option, Some, None, Vec, Global, List, [], ◌∷◌, map, drop, refl, ap, sym, ◌∙◌, subst}
 use Rattle.std.specs.Bool.{Decides}
 use Rattle.std.specs.declared.boxed.Box.{Box}
@@ -38,7 +38,7 @@ use Rattle.signature_values.proofs.ViewLemmas.{view_simple, view_void_pointer, v
 pub denied : {P : Type 0} → (P → ⊥) → Decides false P
 denied never = (λ h. absurd cc, λ p. absurd (never p))
 
--- ---- what is compared in place
+-- ---- parts that are compared directly
 
 bool_decides : (a b : Bool) → Decides (bools.eq-value.it a b) (a ≡ b)
 bool_decides true true = (λ h. refl, λ e. refl)
@@ -83,7 +83,7 @@ shape_decides s t =
 
 -- ---- a type of another form
 
--- the type has not the form that shows that syntax
+-- the type does not have the form with that syntax
 abbrev Never : sig.Core → cores.Core → Type 0
 Never (sig.simple e) c = (x : Element) → c ≡ cores.Simple x → ⊥
 Never (sig.void_pointer ms) c =
@@ -100,7 +100,7 @@ Never (sig.instance v t ts) c = (x : Bool) (y : Token) (z : Vec TypeSig Global) 
 Never (sig.function m) c = (x : Box MethodSig Global) → c ≡ cores.Function x → ⊥
 
 module _ {c made : cores.Core} {v : sig.Core} (is : c ≡ made) (seen : core_of made ≡ v) where
-  -- so a type that is made as that form is not without it
+  -- so a type that is made in that form has it
   has_form : (Never v made → ⊥) → Never (core_of c) c → ⊥
   has_form made_so never = made_so (subst (λ d. Never v d) is (subst (λ w. Never w c) (ap core_of is ∙ seen) never))
 
@@ -150,10 +150,10 @@ slots_one (s ∷ ss) (u ∷ us) e =
     let tail : slots_from ss ≡ slots_from us = cc e in
     ap (λ (v : sig.Slot). v ∷ ss) head ∙ ap (λ (vs : List sig.Slot). u ∷ vs) (slots_one ss us tail)
 
--- ---- lists, from a place on
+-- ---- lists, from an index on
 
 module _ {A B : Type 0} (view : A → B) (xs ys : List A) where
-  -- from a place on they show the same exactly where the whole lists do
+  -- the remainders of both lists are equal if and only if the whole lists are
   abbrev pub SameFrom : ℕ → Type 0
   SameFrom k =
       (map view (drop k xs) ≡ map view (drop k ys) → map view xs ≡ map view ys) × (map view xs ≡ map view ys → map view (drop k xs) ≡ map view (drop k ys))

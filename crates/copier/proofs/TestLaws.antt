@@ -1,4 +1,4 @@
--- The test whether two signatures are the same decides that they are equal.
+-- The equality test of two signatures is true if and only if they are equal.
 use Rattle.std.proofs.Common.{◌≡◌, refl, ap, sym}
 use Rattle.std.specs.Bool.{Decides}
 use Rattle.std.specs.Cmp.{IsEquivalence}
@@ -22,7 +22,7 @@ body_decides a b =
     Decides-like _ (body_code.inj a b) (λ e. ap body_code.code e)
     (tree_decides (body_code.code a) (body_code.code b))
 
--- so it is an equivalence
+-- so it is an equivalence relation
 pub same_bodies_equiv : IsEquivalence is_same_body
 same_bodies_equiv = record {
   refl = λ a. (body_decides a a).1 refl;

@@ -1,8 +1,8 @@
--- Methods that are alike but for their results and parameters (ECMA-335 II.23.2.1 to II.23.2.3).
+-- Methods that are equal, except for their results and parameters (ECMA-335 II.23.2.1 to II.23.2.3).
 use Rattle.std.specs.Prelude.{◌≡◌}
 use Rattle.signature_values.specs.declared.types.MethodSig.{MethodSig, out-MethodSig}
 
--- the kind, has-this, explicit-this, the number of generic parameters, and where SENTINEL stands
+-- equal calling convention, HASTHIS, EXPLICITTHIS, number of generic parameters, and index of SENTINEL
 pub record HaveOneHead (first second : MethodSig) : Type 0 where
   pub kind : (out-MethodSig first).kind ≡ (out-MethodSig second).kind
   pub this : (out-MethodSig first).this ≡ (out-MethodSig second).this

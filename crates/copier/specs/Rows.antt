@@ -1,4 +1,4 @@
--- What looking for rows makes of a part of a signature (ECMA-335 II.23.2.8): it stops at a type index without a row, and notes it.
+-- The effect of a part of a signature on the row checker (ECMA-335 II.23.2.8): it stops at a type index without a row.
 use Rattle.std.specs.Prelude.{if◌then◌else◌, Some, Result, Ok, Err}
 use Rattle.signature_values.specs.Parts.{byte, number, signed, index}
 use Rattle.signature_values.specs.Spells.{has_row}

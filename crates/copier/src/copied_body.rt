@@ -5,7 +5,7 @@ use crate::copied_types::{copy_content, copy_method, copy_ret, copy_slot, copy_s
 use signature_values::{FieldSig, InstanceSig, Local, LocalsSig, PropertySig, SigBody};
 use std::alloc::{AllocError, Global};
 
-/// A copy of a local variable (II.23.2.6).
+/// Copies a local variable (II.23.2.6).
 fn copy_local(alloc: Global, local: &Local) -> Result<Local, AllocError>
     ensures { IfOk result (λ copy. local_of copy ≡ local_of local.now) }
 {
@@ -14,7 +14,7 @@ fn copy_local(alloc: Global, local: &Local) -> Result<Local, AllocError>
     Ok(Local { prefix, kind })
 }
 
-/// Copies of local variables, in their order.
+/// Copies local variables, in order.
 fn copy_locals(alloc: Global, locals: &[Local]) -> Result<Vec<Local>, AllocError>
     ensures { IfOk result (λ copies. map local_of copies.items ≡ map local_of locals.now) }
 {
@@ -25,14 +25,14 @@ fn copy_locals(alloc: Global, locals: &[Local]) -> Result<Vec<Local>, AllocError
     Ok(copies)
 }
 
-/// A copy of a signature (II.23.2): a value of its own that says the same.
+/// Copies a signature (II.23.2). The copy is independent and has the same content.
 ///
-/// Each list in it is reserved once, at its length, and each box is one allocation. It goes as deep as types
-/// nest in the value, and so does the stack.
+/// Each list is reserved once, at its length, and each box is one allocation. The recursion, and so the stack,
+/// is as deep as the types in the value nest.
 ///
 /// # Errors
 ///
-/// Want of memory alone.
+/// Fails only if it is out of memory.
 pub fn copy_body(alloc: Global, body: &SigBody) -> Result<SigBody, AllocError>
     ensures { IfOk result (λ copy. body_of copy ≡ body_of body.now) }
 {

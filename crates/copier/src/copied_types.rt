@@ -4,7 +4,7 @@ ghost use Rattle.signature_values.specs.Views.{core_of, type_of, content_of, slo
 use signature_values::{Core, MethodSig, Ret, Shape, Slot, SlotKind, TypeSig};
 use std::alloc::{AllocError, Global};
 
-/// A copy of the shape of an array (II.23.2.13).
+/// Copies the shape of an array (II.23.2.13).
 fn copy_shape(alloc: Global, shape: &Shape) -> Result<Shape, AllocError>
     ensures { IfOk result (λ copy. shape_of copy ≡ shape_of shape.now) }
 {
@@ -15,7 +15,7 @@ fn copy_shape(alloc: Global, shape: &Shape) -> Result<Shape, AllocError>
     })
 }
 
-/// A copy of a type without modifiers before it (II.23.2.12).
+/// Copies a type without the modifiers before it (II.23.2.12).
 #[cycle(copies)]
 #[tactic(auto, using(signature_values::proofs::ViewLemmas::views))]
 fn copy_core(alloc: Global, core: &Core) -> Result<Core, AllocError>
@@ -61,7 +61,7 @@ fn copy_core(alloc: Global, core: &Core) -> Result<Core, AllocError>
     }
 }
 
-/// A copy of a type.
+/// Copies a type.
 #[cycle(copies)]
 fn copy_type(alloc: Global, of: &TypeSig) -> Result<TypeSig, AllocError>
     ensures { IfOk result (λ copy. type_of copy ≡ type_of of.now) }
@@ -71,7 +71,7 @@ fn copy_type(alloc: Global, of: &TypeSig) -> Result<TypeSig, AllocError>
     Ok(TypeSig { mods, core })
 }
 
-/// Copies of types, in their order.
+/// Copies types, in order.
 #[cycle(copies)]
 pub fn copy_types(alloc: Global, types: &[TypeSig]) -> Result<Vec<TypeSig>, AllocError>
     ensures { IfOk result (λ copies. map type_of copies.items ≡ map type_of types.now) }
@@ -83,7 +83,7 @@ pub fn copy_types(alloc: Global, types: &[TypeSig]) -> Result<Vec<TypeSig>, Allo
     Ok(copies)
 }
 
-/// A copy of what a parameter, a field, a local variable or a result holds (II.23.2.10).
+/// Copies the kind and type of a parameter, a field, a local variable or a result (II.23.2.10).
 #[cycle(copies)]
 #[tactic(auto, using(signature_values::proofs::ViewLemmas::view_typed_ref, signature_values::proofs::ViewLemmas::view_plain, signature_values::proofs::ViewLemmas::view_by_ref))]
 pub fn copy_content(alloc: Global, kind: &SlotKind) -> Result<SlotKind, AllocError>
@@ -99,7 +99,7 @@ pub fn copy_content(alloc: Global, kind: &SlotKind) -> Result<SlotKind, AllocErr
     }
 }
 
-/// A copy of a parameter, a field or a result.
+/// Copies a parameter, a field or a result.
 #[cycle(copies)]
 pub fn copy_slot(alloc: Global, slot: &Slot) -> Result<Slot, AllocError>
     ensures { IfOk result (λ copy. slot_of copy ≡ slot_of slot.now) }
@@ -109,7 +109,7 @@ pub fn copy_slot(alloc: Global, slot: &Slot) -> Result<Slot, AllocError>
     Ok(Slot { mods, kind })
 }
 
-/// Copies of parameters, in their order.
+/// Copies parameters, in order.
 #[cycle(copies)]
 pub fn copy_slots(alloc: Global, slots: &[Slot]) -> Result<Vec<Slot>, AllocError>
     ensures { IfOk result (λ copies. map slot_of copies.items ≡ map slot_of slots.now) }
@@ -121,7 +121,7 @@ pub fn copy_slots(alloc: Global, slots: &[Slot]) -> Result<Vec<Slot>, AllocError
     Ok(copies)
 }
 
-/// A copy of the result of a method (II.23.2.11).
+/// Copies the result of a method (II.23.2.11).
 #[cycle(copies)]
 #[tactic(auto, using(signature_values::proofs::ViewLemmas::view_some_ret, signature_values::proofs::ViewLemmas::view_void_ret))]
 pub fn copy_ret(alloc: Global, ret: &Ret) -> Result<Ret, AllocError>
@@ -133,7 +133,7 @@ pub fn copy_ret(alloc: Global, ret: &Ret) -> Result<Ret, AllocError>
     }
 }
 
-/// A copy of a method (II.23.2.1 to II.23.2.3).
+/// Copies a method (II.23.2.1 to II.23.2.3).
 #[cycle(copies)]
 pub fn copy_method(alloc: Global, method: &MethodSig) -> Result<MethodSig, AllocError>
     ensures { IfOk result (λ copy. method_of copy ≡ method_of method.now) }

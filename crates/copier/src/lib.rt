@@ -1,14 +1,14 @@
-//! Copies signatures (ECMA-335 II.23.2), compares them, and finds the first row that one names and
-//! that is not there.
+//! Copies signatures (ECMA-335 II.23.2), compares them, and finds the first type index whose row does
+//! not exist.
 //!
-//! A value of `signature_values` nests in boxes and vectors, so a copy has to ask for memory, and
-//! two values that say the same lie at different places. [`copy_body`] makes a value that says the
-//! same, [`is_same`] tells whether two values do, and [`first_bad`] goes over the type indexes in the
-//! order of their spelling. Each goes once over the value, as deep as its types nest.
+//! A value of `signature_values` contains boxes and vectors. So a copy must allocate, and two values with
+//! the same content lie at different addresses. [`copy_body`] makes a copy, and [`is_same`] compares the
+//! content of two values. [`first_bad`] checks the type indexes in encoded order. Each makes one pass over
+//! the value, with a recursion as deep as its types nest.
 //!
 //! ```text
-//! // 1F 09 12 05: the class that is row 1 of TypeRef, behind a modifier, row 2 of it
-//! first_bad(&body, &counts) // of one TypeRef: row 2; of two: None
+//! // 1F 09 12 05: the class that is row 1 of TypeRef, after a required modifier, row 2 of TypeRef
+//! first_bad(&body, &counts) // row 2 if TypeRef has one row; None if it has two
 //! ```
 #![tactic(auto)]
 

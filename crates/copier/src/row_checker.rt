@@ -6,12 +6,12 @@ use schema::Token;
 use signature_values::{SigBody, names_row};
 use walk::{PartSink, items_are_parts, visit_body};
 
-/// Looks for a type index that names no row, and stops at the first.
+/// Searches for a type index whose row does not exist, and stops at the first.
 #[derive(Drop)]
 struct RowChecker<'a> {
-    /// The number of rows of each table, under the table's number.
+    /// The number of rows of each table, by table number.
     counts: &'a [u32; 45],
-    /// The index that was found.
+    /// The type index that was found.
     bad: Option<Token>,
 }
 
@@ -50,12 +50,12 @@ impl<'a> PartSink for RowChecker<'a> {
     }
 }
 
-/// The first type index, in the order of the spelling, that names no row of its table (II.23.2.8);
-/// `None` where each names one.
+/// The first type index, in encoded order, whose row does not exist in its table (II.23.2.8); `None` if
+/// each row exists.
 ///
-/// `counts` has the number of rows of each table under the table's number; row 0 is never there. It
-/// stops at the first, takes no memory, and goes as deep as types nest in the value, and so does the
-/// stack.
+/// `counts` gives the number of rows of each table by table number. Row 0 never exists. The pass stops at
+/// the first such index and does not allocate. The recursion, and so the stack, is as deep as the types in
+/// the value nest.
 pub fn first_bad(body: &SigBody, counts: &[u32; 45]) -> Option<Token>
     ensures { result ≡ first_bad_of counts.now (tokens (body_of body.now)) }
 {

@@ -7,14 +7,14 @@ use crate::same_parts::same_prefixes;
 use crate::same_types::{same_content, same_method, same_ret, same_slot, same_slots, same_types};
 use signature_values::{Local, PropertySig, SigBody};
 
-/// Whether two local variables are the same (II.23.2.6).
+/// Whether two local variables are equal (II.23.2.6).
 fn same_local(local: &Local, other: &Local) -> bool
     ensures { IsTrue result ↔ (local_of local.now ≡ local_of other.now) }
 {
     same_prefixes(&local.prefix, &other.prefix) && same_content(&local.kind, &other.kind)
 }
 
-/// Whether two lists of local variables are the same.
+/// Whether two lists of local variables are equal.
 fn same_locals(locals: &[Local], others: &[Local]) -> bool
     ensures { IsTrue result ↔ (map local_of locals.now ≡ map local_of others.now) }
 {
@@ -29,7 +29,7 @@ fn same_locals(locals: &[Local], others: &[Local]) -> bool
     true
 }
 
-/// Whether two properties are the same (II.23.2.5).
+/// Whether two properties are equal (II.23.2.5).
 fn same_property(property: &PropertySig, other: &PropertySig) -> bool
     ensures { IsTrue result ↔ ((property.now.this ≡ other.now.this) × (slot_of property.now.of ≡ slot_of other.now.of)
         × (map slot_of property.now.params.items ≡ map slot_of other.now.params.items)) }
@@ -39,7 +39,7 @@ fn same_property(property: &PropertySig, other: &PropertySig) -> bool
         && same_slots(&property.params, &other.params)
 }
 
-/// Whether two signatures are the same.
+/// Whether two signatures are equal.
 fn same_bodies(body: &SigBody, other: &SigBody) -> bool
     ensures { IsTrue result ↔ (body_of body.now ≡ body_of other.now) }
 {
@@ -71,19 +71,19 @@ fn same_bodies(body: &SigBody, other: &SigBody) -> bool
     }
 }
 
-/// Whether two signatures are the same, wherever they lie in memory.
+/// Whether two signatures have the same content, whatever their addresses are.
 ///
-/// It goes over both at once, up to the first difference, without memory, as deep as their types nest,
-/// and so does the stack.
+/// One pass over both, up to the first difference. It does not allocate. The recursion, and so the stack,
+/// is as deep as their types nest.
 pub fn is_same(body: &SigBody, other: &SigBody) -> bool
     ensures same { IsTrue result ↔ (body_of body.now ≡ body_of other.now) }
-    // As a test, for comparisons that name one.
+    // The same as a boolean test, for comparisons that need a name for it.
     ensures test { result ≡ is_same_body (body_of body.now) (body_of other.now) }
 {
     same_bodies(body, other)
 }
 
-/// The test `is_same_body` tells of all signatures whether they are equal.
+/// The test `is_same_body` is true of two signatures if and only if they are equal.
 pub fn equality_is_tested()
     ensures { (first second : Body) → IsTrue (is_same_body first second) ↔ (first ≡ second) }
 {}

@@ -10,7 +10,7 @@ use crate::same_parts::{
 use schema::Token;
 use signature_values::{Core, MethodSig, Modifier, Ret, Shape, Slot, SlotKind, TypeSig};
 
-/// Whether two types without modifiers before them are the same (II.23.2.12).
+/// Whether two types without the modifiers before them are equal (II.23.2.12).
 #[cycle(same)]
 #[tactic(auto, using(signature_values::proofs::ViewLemmas::views))]
 fn same_core(core: &Core, other: &Core) -> bool
@@ -39,7 +39,7 @@ fn same_core(core: &Core, other: &Core) -> bool
     }
 }
 
-/// Whether a type is the pointer to a type behind modifiers.
+/// Whether the type is the pointer to this type with these modifiers.
 #[cycle(same)]
 #[tactic(auto, using(signature_values::proofs::ViewLemmas::view_pointer, signature_values::proofs::ViewLemmas::view_void_pointer))]
 fn is_pointer(mods: &[Modifier], to: &Core, core: &Core) -> bool
@@ -54,7 +54,7 @@ fn is_pointer(mods: &[Modifier], to: &Core, core: &Core) -> bool
     }
 }
 
-/// Whether a type is the array of a type and a shape.
+/// Whether the type is the array of this type with this shape.
 #[cycle(same)]
 #[tactic(auto, using(signature_values::proofs::ViewLemmas::view_array))]
 fn is_array(of: &TypeSig, shape: &Shape, core: &Core) -> bool
@@ -68,7 +68,7 @@ fn is_array(of: &TypeSig, shape: &Shape, core: &Core) -> bool
     }
 }
 
-/// Whether a type is the instance of a generic type with type arguments.
+/// Whether the type is the instance of this generic type with these type arguments.
 #[cycle(same)]
 #[tactic(auto, using(signature_values::proofs::ViewLemmas::view_instance, crate::proofs::SameLemmas::types_one))]
 fn is_instance(is_value: bool, of: Token, args: &[TypeSig], core: &Core) -> bool
@@ -84,7 +84,7 @@ fn is_instance(is_value: bool, of: Token, args: &[TypeSig], core: &Core) -> bool
     }
 }
 
-/// Whether two types are the same.
+/// Whether two types are equal.
 #[cycle(same)]
 #[tactic(auto, using(signature_values::proofs::ViewLemmas::view_type))]
 fn same_type(of: &TypeSig, other: &TypeSig) -> bool
@@ -93,7 +93,7 @@ fn same_type(of: &TypeSig, other: &TypeSig) -> bool
     same_modifiers(&of.mods, &other.mods) && same_core(&of.core, &other.core)
 }
 
-/// Whether two lists of types are the same.
+/// Whether two lists of types are equal.
 #[cycle(same)]
 pub fn same_types(types: &[TypeSig], others: &[TypeSig]) -> bool
     ensures { IsTrue result ↔ (map type_of types.now ≡ map type_of others.now) }
@@ -109,7 +109,7 @@ pub fn same_types(types: &[TypeSig], others: &[TypeSig]) -> bool
     true
 }
 
-/// Whether two parameters, fields, local variables or results hold the same (II.23.2.10).
+/// Whether the kind and type of two parameters, fields, local variables or results are equal (II.23.2.10).
 #[cycle(same)]
 #[tactic(auto, using(signature_values::proofs::ViewLemmas::view_typed_ref, signature_values::proofs::ViewLemmas::view_plain, signature_values::proofs::ViewLemmas::view_by_ref))]
 pub fn same_content(kind: &SlotKind, other: &SlotKind) -> bool
@@ -133,7 +133,7 @@ pub fn same_content(kind: &SlotKind, other: &SlotKind) -> bool
     }
 }
 
-/// Whether two parameters, fields or results are the same.
+/// Whether two parameters, fields or results are equal.
 #[cycle(same)]
 #[tactic(auto, using(signature_values::proofs::ViewLemmas::view_slot))]
 pub fn same_slot(slot: &Slot, other: &Slot) -> bool
@@ -142,7 +142,7 @@ pub fn same_slot(slot: &Slot, other: &Slot) -> bool
     same_modifiers(&slot.mods, &other.mods) && same_content(&slot.kind, &other.kind)
 }
 
-/// Whether two lists of parameters are the same.
+/// Whether two lists of parameters are equal.
 #[cycle(same)]
 pub fn same_slots(slots: &[Slot], others: &[Slot]) -> bool
     ensures { IsTrue result ↔ (map slot_of slots.now ≡ map slot_of others.now) }
@@ -158,7 +158,7 @@ pub fn same_slots(slots: &[Slot], others: &[Slot]) -> bool
     true
 }
 
-/// Whether the results of two methods are the same (II.23.2.11).
+/// Whether the results of two methods are equal (II.23.2.11).
 #[cycle(same)]
 #[tactic(auto, using(signature_values::proofs::ViewLemmas::view_some_ret, signature_values::proofs::ViewLemmas::view_void_ret))]
 pub fn same_ret(ret: &Ret, other: &Ret) -> bool
@@ -176,7 +176,7 @@ pub fn same_ret(ret: &Ret, other: &Ret) -> bool
     }
 }
 
-/// Whether two methods are the same but for their results and parameters.
+/// Whether two methods are equal, except for their results and parameters.
 fn same_head(method: &MethodSig, other: &MethodSig) -> bool
     ensures { IsTrue result ↔ HaveOneHead method.now other.now }
 {
@@ -187,7 +187,7 @@ fn same_head(method: &MethodSig, other: &MethodSig) -> bool
         && method.sentinel == other.sentinel
 }
 
-/// Whether two methods are the same (II.23.2.1 to II.23.2.3).
+/// Whether two methods are equal (II.23.2.1 to II.23.2.3).
 #[cycle(same)]
 #[tactic(auto, using(signature_values::proofs::ViewLemmas::view_method, crate::proofs::SameLemmas::slots_one))]
 pub fn same_method(method: &MethodSig, other: &MethodSig) -> bool

@@ -1,4 +1,4 @@
--- Cores and what is made of them: reading by the first byte, and the views of values in a `Box` and in a `Vec`.
+-- Cores and their parts: reading by the first byte, and the content of values in a `Box` and in a `Vec`.
 use Rattle.std.proofs.Common.{◌≡◌, ◌∙◌, ℕ, zero, suc, ◌-◌, ◌<◌, ◌≢◌, ◌⊎◌, inl, inr, Bool, eqb, Option, Some, None, List, [], ◌∷◌, Vec, Global, map, refl, ap, arith}
 use Rattle.std.proofs.lemmas.Bool.{ne_eqb}
 use Rattle.std.specs.Prelude.{option_map, option_and_then}
@@ -62,7 +62,7 @@ pub fails_then : {A B : Type 0} (e : SigError) (f : A → Option B) (o : Option 
 fails_then Bad f o h = rw h refl
 fails_then Memory f o h = tt
 
--- no byte is left
+-- no byte remains
 pub fails_end : {A : Type 0} (e : SigError) (r : Reader A) (b : List ℕ) → (e ≡ Bad) × (b ≡ []) → r [] ≡ None → Fails e (r b)
 fails_end e r b h none = rw (h.0, h.1) none
 

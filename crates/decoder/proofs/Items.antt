@@ -1,4 +1,4 @@
--- Values that are built one after another, with those before them.
+-- Values that are built one after another, with the values before them.
 use Rattle.std.proofs.Common.{◌≡◌, ℕ, suc, ◌+◌, ◌-◌, ◌<◌, ◌≤◌, Bool, false, Option, Some, None, Result, Ok, Err, List, [], ◌∷◌, ◌++◌, length, append_assoc, append-nil, refl, sym, ap, subst, arith, IfSome}
 use Rattle.std.specs.Prelude.{option_map}
 use Rattle.std.specs.Result.{IsErr, IsErrAnd}
@@ -10,17 +10,17 @@ use Rattle.decoder.specs.declared.error.SigError.{SigError}
 use Rattle.decoder.specs.declared.error.SigError.TheVariants.{Bad, Memory}
 use Rattle.decoder.specs.Gives.{Fails, Gives}
 
--- a value is not built where a value in it is not, for the same reason
+-- if a value in it is not built, the whole value is not built, for the same reason
 pub failed : {A B : Type 0} (view : A → B) (e : SigError) (read : Option B) (result : Result A SigError) → IsErr result × IsErrAnd result (λ reason. reason ≡ e) → Fails e read → Gives view result read
 failed view e read (Ok x) k h = absurd k.1
 failed view e read (Err reason) k h = subst (λ (it : SigError). Fails it read) (sym k.1) h
 
--- memory for a value in it was refused, whatever is read
+-- a value in it ran out of memory, whatever is read
 pub refused : {A B : Type 0} (view : A → B) (read : Option B) (result : Result A SigError) → IsErr result × IsErrAnd result (λ reason. reason ≡ Memory) → Gives view result read
 refused view read (Ok x) k = absurd k.1
 refused view read (Err reason) k = subst (λ (it : SigError). Fails it read) (sym k.1) tt
 
--- what is read, with values before it
+-- what is read, with the values before it
 abbrev pub with_front : {A : Type 0} → List A → Option (List A × List ℕ) → Option (List A × List ℕ)
 with_front front read = option_map (λ x. (front ++ x.0, x.1)) read
 
@@ -28,7 +28,7 @@ front_one : {A : Type 0} (xs : List A) (x : A) (o : Option (List A × List ℕ))
 front_one xs x None = refl
 front_one {A = A} xs x (Some y) = ap (λ (ys : List A). Some (ys, y.1)) (sym (append_assoc xs (x ∷ []) y.0))
 
--- ---- so many values
+-- ---- a given number of values
 
 pub next_of : (n k : ℕ) → k < n → n - k ≡ suc (n - (k + 1))
 next_of n k lt = omega arith
@@ -46,7 +46,7 @@ pub many_end : {A : Type 0} (r : Reader A) (n k : ℕ) (b : List ℕ) (xs : List
 unfolding many_at
 many_end {A = A} r n k b xs le = let none : n - k ≡ 0 = omega arith in rw none (ap (λ (ys : List A). Some (ys, b)) (append-nil xs))
 
--- ---- the values at the front
+-- ---- the values at the start
 
 module _ {A : Type 0} (r : Optional A) (starts : List ℕ → Bool) (steps : Stepping r starts) where
   front_next : (b c : List ℕ) (xs : List A) (x : A) → r b ≡ Some (Some x, c) → with_front xs (leading_at r b) ≡ with_front (xs ++ x ∷ []) (leading_at r c)

@@ -1,4 +1,4 @@
--- What a leaf answered, with `Bad` where it read nothing.
+-- The result of a leaf, with `Bad` if it read nothing.
 use Rattle.std.proofs.Common.{◌≡◌, Option, Some, None, Result, sym}
 use Rattle.std.specs.Prelude.{option_map}
 use Rattle.std.specs.Option.{ok_or}

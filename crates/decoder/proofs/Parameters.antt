@@ -1,4 +1,4 @@
--- Parameters that are built one after another, with those before them, and where SENTINEL stood.
+-- Parameters that are built one after another, with those before them, and the index of SENTINEL.
 use Rattle.std.proofs.Common.{◌≡◌, ◌∙◌, ℕ, zero, suc, ◌+◌, ◌-◌, ◌<◌, ◌≤◌, ◌&&◌, Bool, true, false, cond, Option, Some, None, List, [], ◌∷◌, ◌++◌, length, drop, refl, sym, ap, ap₂, append_assoc, append-nil, length-append, arith}
 use Rattle.std.specs.Prelude.{option_map, option_and_then, is_none}
 use Rattle.std.specs.Option.{option_or}
@@ -12,20 +12,20 @@ use Rattle.decoder.proofs.Items.{next_of}
 abbrev Read : Type 0
 Read = Option ((List Slot × Option ℕ) × List ℕ)
 
--- how many stand before SENTINEL, where so many were read before
+-- the number before SENTINEL, after a number of parameters that were read before
 abbrev before_with : Option ℕ → ℕ → Option ℕ → Option ℕ
 before_with (Some k) n s = Some k
 before_with None n s = option_map (λ j. n + j) s
 
--- what is read, with parameters before it
+-- what is read, with the parameters before it
 abbrev pub with_params : List Slot → Option ℕ → Read → Read
 with_params front before read = option_map (λ x. ((front ++ x.0.0, before_with before (length front) x.0.1), x.1)) read
 
--- SENTINEL may stand here, since it may at all and has not stood yet
+-- SENTINEL is allowed here: the method may have one, and none was read yet
 abbrev pub still : Bool → Option ℕ → Bool
 still allowed before = allowed && is_none before
 
--- the number of those before SENTINEL, once it stood or not
+-- the number of parameters before SENTINEL, once it was read, or not
 abbrev pub after_mark : Option ℕ → Bool → ℕ → Option ℕ
 after_mark before marked k = option_or before (cond marked (Some k) None)
 
@@ -52,7 +52,7 @@ module _ (nested : Reader Core) where
   abbrev plain_then : Bool → ℕ → Option (Slot × List ℕ) → Read
   plain_then allowed n o = option_and_then (λ x. option_map (λ y. ((x.0 ∷ y.0.0, option_map suc y.0.1), y.1)) (params_at nested allowed n x.1)) o
 
-  -- the parameters, from the first, where SENTINEL stands before it or not
+  -- the parameters, from the first, with SENTINEL before it or not
   params_is : (allowed : Bool) (n : ℕ) (b : List ℕ) → params_at nested allowed (suc n) b ≡ cond (allowed && head_is 0x41 b) (marked_then n (slot_at nested (drop 1 b))) (plain_then allowed n (slot_at nested b))
   unfolding params_at
   params_is allowed n b = refl
@@ -90,7 +90,7 @@ module _ (nested : Reader Core) where
       keeps None j = refl
       keeps (Some i) j = refl
 
-  -- ---- where no SENTINEL may stand
+  -- ---- if no SENTINEL is allowed
 
   abbrev unmarked : Read → Option (List Slot × List ℕ)
   unmarked read = option_map (λ x. (x.0.0, x.1)) read

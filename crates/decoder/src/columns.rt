@@ -15,7 +15,7 @@ use schema::SigKind;
 use signature_values::{FieldSig, InstanceSig, Local, LocalsSig, PropertySig, SigBody};
 use std::alloc::Global;
 
-/// A local variable (II.23.2.6).
+/// Builds a local variable (II.23.2.6).
 #[tactic(auto, unfolding(signature_values::specs::Columns::local_at, signature_values::specs::Reading::both))]
 fn local(alloc: Global, bytes: &[u8], depth: u8) -> Result<(Local, &[u8]), SigError>
     ensures { Gives (λ x. (local_of x.0, x.1.now)) result (local_at (core_at depth) bytes.now) }
@@ -25,7 +25,7 @@ fn local(alloc: Global, bytes: &[u8], depth: u8) -> Result<(Local, &[u8]), SigEr
     Ok((Local { prefix, kind }, rest))
 }
 
-/// So many local variables.
+/// Builds `count` local variables.
 fn variables(
     alloc: Global,
     bytes: &[u8],
@@ -44,7 +44,7 @@ fn variables(
     Ok((all, rest))
 }
 
-/// A field, behind its first byte (II.23.2.4).
+/// Builds a field, after its first byte (II.23.2.4).
 #[tactic(auto, using(crate::proofs::Cores::fails_change))]
 fn field(alloc: Global, bytes: &[u8], depth: u8) -> Result<(SigBody, &[u8]), SigError>
     ensures { Gives (λ x. (body_of x.0, x.1.now)) result (change sig.field (slot_at (core_at depth)) bytes.now) }
@@ -53,7 +53,7 @@ fn field(alloc: Global, bytes: &[u8], depth: u8) -> Result<(SigBody, &[u8]), Sig
     Ok((SigBody::Field(FieldSig(slot)), rest))
 }
 
-/// A method, which may have a SENTINEL of its own or not (II.23.2.1, II.23.2.2).
+/// Builds a method; `own` says whether it may have a SENTINEL (II.23.2.1, II.23.2.2).
 #[tactic(auto, using(crate::proofs::Cores::fails_change))]
 fn method_body(
     alloc: Global,
@@ -67,7 +67,7 @@ fn method_body(
     Ok((SigBody::Method(method), rest))
 }
 
-/// A property, behind its first byte, which has the bit 0x20 where it has a `this` (II.23.2.5).
+/// Builds a property, after its first byte, whose bit 0x20 is HASTHIS (II.23.2.5).
 #[tactic(auto, unfolding(signature_values::specs::Columns::headed_at, signature_values::specs::Reading::both))]
 fn property(
     alloc: Global,
@@ -88,7 +88,7 @@ fn property(
     }
 }
 
-/// The local variables of a method, behind their first byte (II.23.2.6).
+/// Builds the local variables of a method, after their first byte (II.23.2.6).
 #[tactic(auto, unfolding(signature_values::specs::Reading::counted_at))]
 fn locals(alloc: Global, bytes: &[u8], depth: u8) -> Result<(SigBody, &[u8]), SigError>
     ensures { Gives (λ x. (body_of x.0, x.1.now)) result (change sig.locals (counted_at (local_at (core_at depth))) bytes.now) }
@@ -98,7 +98,7 @@ fn locals(alloc: Global, bytes: &[u8], depth: u8) -> Result<(SigBody, &[u8]), Si
     Ok((SigBody::Locals(LocalsSig(all)), rest))
 }
 
-/// Type arguments, behind their first byte (II.23.2.15).
+/// Builds type arguments, after their first byte (II.23.2.15).
 #[tactic(auto, unfolding(signature_values::specs::Reading::counted_at))]
 fn arguments(alloc: Global, bytes: &[u8], depth: u8) -> Result<(SigBody, &[u8]), SigError>
     ensures { Gives (λ x. (body_of x.0, x.1.now)) result (change sig.instance_body (counted_at (typed_at (core_at depth))) bytes.now) }
@@ -108,7 +108,7 @@ fn arguments(alloc: Global, bytes: &[u8], depth: u8) -> Result<(SigBody, &[u8]),
     Ok((SigBody::Instance(InstanceSig(args)), rest))
 }
 
-/// A type (II.23.2.14).
+/// Builds a type (II.23.2.14).
 #[tactic(auto, using(crate::proofs::Cores::fails_change))]
 fn type_spec(alloc: Global, bytes: &[u8], depth: u8) -> Result<(SigBody, &[u8]), SigError>
     ensures { Gives (λ x. (body_of x.0, x.1.now)) result (change sig.type_spec (ret_at (core_at depth)) bytes.now) }
@@ -117,7 +117,7 @@ fn type_spec(alloc: Global, bytes: &[u8], depth: u8) -> Result<(SigBody, &[u8]),
     Ok((SigBody::TypeSpec(ret), rest))
 }
 
-/// The signature at the front, in a column of a kind.
+/// Builds the signature at the start, in a column of a kind.
 #[tactic(auto, unfolding(signature_values::specs::Columns::body_at))]
 pub fn body(
     alloc: Global,

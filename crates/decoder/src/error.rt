@@ -1,11 +1,11 @@
 use std::alloc::{AllocError, AllocFailed};
 
-/// Why no value was built.
+/// The reason why no value was built.
 #[derive(Clone, Copy, Debug, PartialEq, Eq)]
 pub enum SigError {
-    /// The bytes, all of them, spell no signature that a column of this kind holds.
+    /// All the bytes together encode no signature that a column of this kind holds.
     Bad,
-    /// They spell one, and memory for its value was refused.
+    /// The bytes encode a signature, but its value could not be allocated.
     Memory,
 }
 

@@ -7,14 +7,14 @@ use crate::error::SigError;
 use schema::Token;
 use std::alloc::{AllocError, Global};
 
-/// The first byte, and those behind it.
+/// The first byte, and the remaining bytes.
 pub fn byte(bytes: &[u8]) -> Result<(u8, &[u8]), SigError>
     ensures { MatchResult result (λ x. bytes.now ≡ x.0 ∷ x.1.now) (λ error. (error ≡ Bad) × (bytes.now ≡ [])) }
 {
     signature_leaves::byte(bytes).ok_or(SigError::Bad)
 }
 
-/// The packed number at the front.
+/// The packed number at the start, and the remaining bytes.
 #[tactic(auto, using(crate::proofs::Leaves::given))]
 pub fn number(bytes: &[u8]) -> Result<(u32, &[u8]), SigError>
     ensures { Gives (λ x. (x.0, x.1.now)) result (number_at bytes.now) }
@@ -22,7 +22,7 @@ pub fn number(bytes: &[u8]) -> Result<(u32, &[u8]), SigError>
     signature_leaves::number(bytes).ok_or(SigError::Bad)
 }
 
-/// The packed signed number at the front.
+/// The packed signed number at the start, and the remaining bytes.
 #[tactic(auto, using(crate::proofs::Leaves::given))]
 pub fn signed(bytes: &[u8]) -> Result<(i32, &[u8]), SigError>
     ensures { Gives (λ x. (x.0, x.1.now)) result (signed_at bytes.now) }
@@ -30,7 +30,7 @@ pub fn signed(bytes: &[u8]) -> Result<(i32, &[u8]), SigError>
     signature_leaves::signed(bytes).ok_or(SigError::Bad)
 }
 
-/// The type index at the front (II.23.2.8).
+/// The type index at the start (II.23.2.8), and the remaining bytes.
 #[tactic(auto, using(crate::proofs::Leaves::given))]
 pub fn index(bytes: &[u8]) -> Result<(Token, &[u8]), SigError>
     ensures { Gives (λ x. (x.0, x.1.now)) result (index_at bytes.now) }
@@ -38,8 +38,8 @@ pub fn index(bytes: &[u8]) -> Result<(Token, &[u8]), SigError>
     signature_leaves::index(bytes).ok_or(SigError::Bad)
 }
 
-/// An empty list with room for so many values, each of which is spelled by a byte at least: more than
-/// there are bytes are never reserved, whatever a count says.
+/// An empty list with capacity for `count` values. Each value has at least one byte, so the capacity is at
+/// most the number of bytes, whatever the count is.
 pub fn with_room<T>(alloc: Global, bytes: &[u8], count: u32) -> Result<Vec<T>, AllocError>
     ensures { IfOk result (λ all. all.items ≡ []) }
 {

@@ -8,7 +8,7 @@ use crate::error::SigError;
 use crate::front::{index, number};
 use signature_values::Core;
 
-/// A class, behind CLASS.
+/// Builds a class, after CLASS.
 #[tactic(auto, using(crate::proofs::Cores::fails_change, signature_values::proofs::ViewLemmas::view_class))]
 pub fn class(bytes: &[u8]) -> Result<(Core, &[u8]), SigError>
     ensures { Gives (λ x. (core_of x.0, x.1.now)) result (change sig.class index_at bytes.now) }
@@ -17,7 +17,7 @@ pub fn class(bytes: &[u8]) -> Result<(Core, &[u8]), SigError>
     Ok((Core::Class(of), rest))
 }
 
-/// A value type, behind VALUETYPE.
+/// Builds a value type, after VALUETYPE.
 #[tactic(auto, using(crate::proofs::Cores::fails_change, signature_values::proofs::ViewLemmas::view_value))]
 pub fn value_type(bytes: &[u8]) -> Result<(Core, &[u8]), SigError>
     ensures { Gives (λ x. (core_of x.0, x.1.now)) result (change sig.value index_at bytes.now) }
@@ -26,7 +26,7 @@ pub fn value_type(bytes: &[u8]) -> Result<(Core, &[u8]), SigError>
     Ok((Core::Value(of), rest))
 }
 
-/// A generic parameter of a type, behind VAR.
+/// Builds a generic parameter of a type, after VAR.
 #[tactic(auto, using(crate::proofs::Cores::fails_change, signature_values::proofs::ViewLemmas::view_var))]
 pub fn type_parameter(bytes: &[u8]) -> Result<(Core, &[u8]), SigError>
     ensures { Gives (λ x. (core_of x.0, x.1.now)) result (change sig.var number_at bytes.now) }
@@ -35,7 +35,7 @@ pub fn type_parameter(bytes: &[u8]) -> Result<(Core, &[u8]), SigError>
     Ok((Core::Var(number), rest))
 }
 
-/// A generic parameter of a method, behind MVAR.
+/// Builds a generic parameter of a method, after MVAR.
 #[tactic(auto, using(crate::proofs::Cores::fails_change, signature_values::proofs::ViewLemmas::view_mvar))]
 pub fn method_parameter(bytes: &[u8]) -> Result<(Core, &[u8]), SigError>
     ensures { Gives (λ x. (core_of x.0, x.1.now)) result (change sig.mvar number_at bytes.now) }

@@ -15,16 +15,16 @@ use signature_values::method_byte::{
 use signature_values::{Core, MethodSig, Slot};
 use std::alloc::Global;
 
-/// Whether a method of that first byte has a SENTINEL where one may stand: C and vararg have, and only
-/// where it may be the method's own.
+/// Whether SENTINEL is allowed in a method with this first byte: its calling convention is C or vararg, and
+/// `own` allows it.
 fn takes_sentinel(code: u8, own: bool) -> bool
     ensures { result ≡ (own && kind_takes_sentinel (code % 16)) }
 {
     own && may_have_sentinel(code)
 }
 
-/// How many generic parameters a method has, where its first byte says that the number stands
-/// there.
+/// The number of generic parameters of a method, if its first byte says that the method is generic, and the
+/// remaining bytes.
 #[tactic(auto, unfolding(signature_values::specs::Reading::generic_at))]
 fn generic(bytes: &[u8], code: u8) -> Result<(Option<u32>, &[u8]), SigError>
     ensures { Gives (λ x. (x.0, x.1.now)) result (generic_at (code / 16 % 2 == 1) bytes.now) }
@@ -36,7 +36,7 @@ fn generic(bytes: &[u8], code: u8) -> Result<(Option<u32>, &[u8]), SigError>
     Ok((Some(count), rest))
 }
 
-/// So many parameters, and how many of them stand before SENTINEL, where one may and does stand.
+/// Builds `count` parameters, and the number of them before SENTINEL, if it is allowed and present.
 #[cycle(build)]
 pub fn params(
     alloc: Global,
@@ -60,7 +60,7 @@ pub fn params(
     Ok((all, before, rest))
 }
 
-/// A method, which may have a SENTINEL of its own or not (II.23.2.1 to II.23.2.3).
+/// Builds a method; `own` says whether it may have a SENTINEL (II.23.2.1 to II.23.2.3).
 #[cycle(build)]
 #[tactic(auto, unfolding(signature_values::specs::Reading::method_at))]
 pub fn method(
@@ -99,7 +99,7 @@ pub fn method(
     }
 }
 
-/// A pointer to a method, behind FNPTR.
+/// Builds a pointer to a method, after FNPTR.
 #[cycle(build)]
 pub fn function(alloc: Global, bytes: &[u8], depth: u8) -> Result<(Core, &[u8]), SigError>
     ensures { Gives (λ x. (core_of x.0, x.1.now)) result (change sig.function (method_at true (core_at depth)) bytes.now) }

@@ -7,7 +7,7 @@ use signature_leaves::{has_modifier, has_prefix, modifier, prefix};
 use signature_values::{Modifier, Prefix};
 use std::alloc::Global;
 
-/// The modifiers at the front.
+/// Builds the modifiers at the start.
 pub fn modifiers(alloc: Global, bytes: &[u8]) -> Result<(Vec<Modifier>, &[u8]), SigError>
     ensures { Gives (λ x. (x.0.items, x.1.now)) result (modifiers_at bytes.now) }
 {
@@ -21,7 +21,7 @@ pub fn modifiers(alloc: Global, bytes: &[u8]) -> Result<(Vec<Modifier>, &[u8]), 
     Ok((all, rest))
 }
 
-/// The modifiers and PINNED at the front.
+/// Builds the modifiers and PINNED at the start.
 pub fn prefixes(alloc: Global, bytes: &[u8]) -> Result<(Vec<Prefix>, &[u8]), SigError>
     ensures { Gives (λ x. (x.0.items, x.1.now)) result (prefixes_at bytes.now) }
 {

@@ -8,7 +8,7 @@ use crate::front::{number, signed, with_room};
 use signature_values::Shape;
 use std::alloc::Global;
 
-/// So many numbers.
+/// Builds `count` numbers.
 fn numbers(alloc: Global, bytes: &[u8], count: u32) -> Result<(Vec<u32>, &[u8]), SigError>
     ensures { Gives (λ x. (x.0.items, x.1.now)) result (many_at number_at count bytes.now) }
 {
@@ -22,7 +22,7 @@ fn numbers(alloc: Global, bytes: &[u8], count: u32) -> Result<(Vec<u32>, &[u8]),
     Ok((all, rest))
 }
 
-/// So many signed numbers.
+/// Builds `count` signed numbers.
 fn signed_numbers(alloc: Global, bytes: &[u8], count: u32) -> Result<(Vec<i32>, &[u8]), SigError>
     ensures { Gives (λ x. (x.0.items, x.1.now)) result (many_at signed_at count bytes.now) }
 {
@@ -36,7 +36,7 @@ fn signed_numbers(alloc: Global, bytes: &[u8], count: u32) -> Result<(Vec<i32>, 
     Ok((all, rest))
 }
 
-/// The sizes of an array, at most so many, behind their count.
+/// Builds the sizes of an array, at most `most`, after their count.
 #[tactic(auto, unfolding(signature_values::specs::Reading::counted_within))]
 fn sizes(alloc: Global, bytes: &[u8], most: u32) -> Result<(Vec<u32>, &[u8]), SigError>
     ensures { Gives (λ x. (x.0.items, x.1.now)) result (counted_within number_at most bytes.now) }
@@ -48,7 +48,7 @@ fn sizes(alloc: Global, bytes: &[u8], most: u32) -> Result<(Vec<u32>, &[u8]), Si
     numbers(alloc, rest, count)
 }
 
-/// The low bounds of an array, at most so many, behind their count.
+/// Builds the lower bounds of an array, at most `most`, after their count.
 #[tactic(auto, unfolding(signature_values::specs::Reading::counted_within))]
 fn low_bounds(alloc: Global, bytes: &[u8], most: u32) -> Result<(Vec<i32>, &[u8]), SigError>
     ensures { Gives (λ x. (x.0.items, x.1.now)) result (counted_within signed_at most bytes.now) }
@@ -60,7 +60,7 @@ fn low_bounds(alloc: Global, bytes: &[u8], most: u32) -> Result<(Vec<i32>, &[u8]
     signed_numbers(alloc, rest, count)
 }
 
-/// The shape of an array (II.23.2.13).
+/// Builds the shape of an array (II.23.2.13).
 #[tactic(auto, unfolding(signature_values::specs::Reading::shape_at, signature_values::specs::Reading::both))]
 pub fn shape(alloc: Global, bytes: &[u8]) -> Result<(Shape, &[u8]), SigError>
     ensures { Gives (λ x. (shape_of x.0, x.1.now)) result (shape_at bytes.now) }

@@ -11,7 +11,7 @@ use signature_values::element_type::{BYREF, TYPEDBYREF, VOID};
 use signature_values::{Ret, Slot, SlotKind};
 use std::alloc::Global;
 
-/// What a parameter, a field or a local variable holds (II.23.2.10).
+/// Builds the kind and type of a parameter, a field or a local variable (II.23.2.10).
 #[cycle(build)]
 pub fn content(alloc: Global, bytes: &[u8], depth: u8) -> Result<(SlotKind, &[u8]), SigError>
     ensures { Gives (λ x. (content_of x.0, x.1.now)) result (content_at (core_at depth) bytes.now) }
@@ -31,7 +31,7 @@ pub fn content(alloc: Global, bytes: &[u8], depth: u8) -> Result<(SlotKind, &[u8
     }
 }
 
-/// A parameter or a field.
+/// Builds a parameter or a field.
 #[cycle(build)]
 pub fn slot(alloc: Global, bytes: &[u8], depth: u8) -> Result<(Slot, &[u8]), SigError>
     ensures { Gives (λ x. (slot_of x.0, x.1.now)) result (slot_at (core_at depth) bytes.now) }
@@ -41,7 +41,7 @@ pub fn slot(alloc: Global, bytes: &[u8], depth: u8) -> Result<(Slot, &[u8]), Sig
     Ok((Slot { mods, kind }, rest))
 }
 
-/// A result (II.23.2.11).
+/// Builds a result (II.23.2.11).
 #[cycle(build)]
 pub fn ret(alloc: Global, bytes: &[u8], depth: u8) -> Result<(Ret, &[u8]), SigError>
     ensures { Gives (λ x. (ret_of x.0, x.1.now)) result (ret_at (core_at depth) bytes.now) }

@@ -17,7 +17,7 @@ use signature_values::element_type::{
 use signature_values::{Core, Element, TypeSig};
 use std::alloc::Global;
 
-/// A core that is at most so deep (II.23.2.12).
+/// Builds a core of at most the given depth (II.23.2.12).
 #[cycle(build)]
 #[tactic(auto, using(crate::proofs::Cores::core_none))]
 pub fn core(alloc: Global, bytes: &[u8], depth: u8) -> Result<(Core, &[u8]), SigError>
@@ -33,7 +33,7 @@ pub fn core(alloc: Global, bytes: &[u8], depth: u8) -> Result<(Core, &[u8]), Sig
     }
 }
 
-/// A core behind its first byte, where the types inside it are at most so deep.
+/// Builds a core after its first byte. The types in it are at most `depth` deep.
 #[cycle(build)]
 #[tactic(auto, unfolding(signature_values::specs::Reading::core_by))]
 fn core_behind(alloc: Global, code: u8, bytes: &[u8], depth: u8) -> Result<(Core, &[u8]), SigError>
@@ -63,7 +63,7 @@ fn core_behind(alloc: Global, code: u8, bytes: &[u8], depth: u8) -> Result<(Core
     }
 }
 
-/// A type.
+/// Builds a type.
 #[cycle(build)]
 fn typed(alloc: Global, bytes: &[u8], depth: u8) -> Result<(TypeSig, &[u8]), SigError>
     ensures { Gives (λ x. (type_of x.0, x.1.now)) result (typed_at (core_at depth) bytes.now) }
@@ -73,7 +73,7 @@ fn typed(alloc: Global, bytes: &[u8], depth: u8) -> Result<(TypeSig, &[u8]), Sig
     Ok((TypeSig { mods, core }, rest))
 }
 
-/// So many types.
+/// Builds `count` types.
 #[cycle(build)]
 pub fn types(
     alloc: Global,
@@ -93,7 +93,7 @@ pub fn types(
     Ok((all, rest))
 }
 
-/// A pointer, behind PTR.
+/// Builds a pointer, after PTR.
 #[cycle(build)]
 fn pointer(alloc: Global, bytes: &[u8], depth: u8) -> Result<(Core, &[u8]), SigError>
     ensures { Gives (λ x. (core_of x.0, x.1.now)) result (change pointer_to (target_at (core_at depth)) bytes.now) }
@@ -107,7 +107,7 @@ fn pointer(alloc: Global, bytes: &[u8], depth: u8) -> Result<(Core, &[u8]), SigE
     Ok((Core::Pointer(mods, Some(Box::new(alloc, to)?)), rest))
 }
 
-/// An array of one dimension, behind SZARRAY.
+/// Builds an array of one dimension, after SZARRAY.
 #[cycle(build)]
 fn vector(alloc: Global, bytes: &[u8], depth: u8) -> Result<(Core, &[u8]), SigError>
     ensures { Gives (λ x. (core_of x.0, x.1.now)) result (change sig.vector (typed_at (core_at depth)) bytes.now) }
@@ -116,7 +116,7 @@ fn vector(alloc: Global, bytes: &[u8], depth: u8) -> Result<(Core, &[u8]), SigEr
     Ok((Core::Vector(Box::new(alloc, of)?), rest))
 }
 
-/// An array of a shape, behind ARRAY.
+/// Builds an array with a shape, after ARRAY.
 #[cycle(build)]
 fn array(alloc: Global, bytes: &[u8], depth: u8) -> Result<(Core, &[u8]), SigError>
     ensures { Gives (λ x. (core_of x.0, x.1.now)) result (change array_from (array_at (core_at depth)) bytes.now) }
@@ -127,7 +127,7 @@ fn array(alloc: Global, bytes: &[u8], depth: u8) -> Result<(Core, &[u8]), SigErr
     Ok((Core::Array(of, shape), rest))
 }
 
-/// An instance of a generic type, behind GENERICINST.
+/// Builds an instance of a generic type, after GENERICINST.
 #[cycle(build)]
 #[tactic(auto, unfolding(signature_values::specs::Reading::instance_at, signature_values::specs::Reading::both, signature_values::specs::Reading::named_at))]
 fn instance(alloc: Global, bytes: &[u8], depth: u8) -> Result<(Core, &[u8]), SigError>

@@ -11,24 +11,24 @@ use schema::SigKind;
 use signature_values::{SigBody, signatures_are_read};
 use std::alloc::Global;
 
-/// How deep types may nest.
+/// The greatest depth to which types may nest.
 const DEPTH: u8 = 128;
 
-/// The value of the signature that bytes, all of them, spell in a column of a kind (II.23.2).
+/// The value of the signature that all the bytes together encode, in a column of a kind (II.23.2).
 ///
-/// The bytes are recognised first, without memory, so that no count in them asks for more than they hold. A
-/// type index may name a row that is not there.
+/// The bytes are recognised first, without allocation, so that no count in them reserves more than they hold.
+/// The row of a type index need not exist.
 ///
 /// # Errors
 ///
-/// `Bad` exactly where the bytes spell nothing, even where no memory can be had; `Memory` only where they spell
-/// a signature and memory for its value was refused.
+/// `Bad` if and only if the bytes encode nothing, even when memory is exhausted. `Memory` only if they encode
+/// a signature and its value could not be allocated.
 pub fn decode_body(alloc: Global, bytes: &[u8], kind: SigKind) -> Result<SigBody, SigError>
-    // What is built is what the bytes spell.
+    // The bytes encode the value that is built.
     ensures found { IfOk result (λ body. Spells kind (body_of body) bytes.now) }
-    // They spell nothing else.
+    // They encode nothing else.
     ensures only { (signature : Body) → Spells kind signature bytes.now → IfOk result (λ body. body_of body ≡ signature) }
-    // Exactly where they spell nothing they are bad.
+    // The result is `Bad` if and only if they encode nothing.
     ensures bad { IsErrOf result Bad ↔ ¬ ((signature : Body) × Spells kind signature bytes.now) }
 {
     signatures_are_read();

@@ -1,4 +1,4 @@
--- What a writer with room for it appends is the shortest spelling.
+-- If the encoding fits, the writer appends the canonical encoding.
 use Rattle.std.proofs.Common.{◌≡◌, ◌∙◌, ℕ, ◌+◌, ◌-◌, ◌≤◌, Option, Some, None, Ok, List, [], ◌∷◌, ◌++◌, length, length-append, append_assoc, append-nil, refl, ap, arith}
 use Rattle.std.specs.Prelude.{flat_map}
 use Rattle.std.specs.List.{AllByRecursion}

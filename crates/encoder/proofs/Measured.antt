@@ -1,4 +1,4 @@
--- What is left of a room behind a value says whether the value has a spelling, and how long it is.
+-- The bytes that are left after a value say whether it has an encoding, and how long the encoding is.
 use Rattle.std.proofs.Common.{◌≡◌, ℕ, ℤ, ◌+◌, ◌-◌, ◌^◌, ◌<◌, ◌≤◌, ◌↔◌, Bool, true, false, cond, ltb, leb, Result, Ok, Err, List, [], ◌∷◌, length, length-append, refl, ap, sym, subst, arith}
 use Rattle.std.specs.Prelude.{flat_map}
 use Rattle.std.specs.List.{AllByRecursion}
@@ -44,7 +44,7 @@ spelled (index token) h =
     let row = h.1 in
     and_from _ _ tag (lt-ltb (index_number token) (2 ^ 29) (omega arith))
 
--- ---- one after another
+-- ---- one part after another
 
 abbrev Spelled : List Part → Type 0
 Spelled parts = AllByRecursion HasSpelling parts
@@ -80,12 +80,12 @@ measure [] room = (refl, (tt, omega arith))
 measure (broken ∷ xs) room = λ whole all. absurd (cc)
 measure (part p ∷ xs) room = part_by p xs room (has_short p) refl (λ r. measure xs r)
 
--- ---- all the room that a blob has
+-- ---- the whole length that a blob may have
 
 abbrev pub whole_room : Measurer
 whole_room = record { left = 2 ^ 29 - 1 }
 
--- the items of a signature are its parts, and broken where the grammar or the depth is
+-- the items of a signature are its parts, and they report a broken value if the grammar or the depth does not allow it
 pub record AreParts : Type 0 where
   pub parts : (s : Body) (depth : ℕ) → kept (body_items s depth) ≡ body_parts s
   pub allowed : (s : Body) (depth : ℕ) → (unbroken (body_items s depth) ≡ true) ↔ IsBodyWithin depth s

@@ -1,4 +1,4 @@
--- What writing makes of a part of a signature: the bytes so far, and how many more there is room for.
+-- The effect of a part of a signature on the writer: the bytes so far, and the number of bytes that still fit.
 use Rattle.std.specs.Prelude.{ℕ, ◌-◌, nat_le, if◌then◌else◌, Result, Ok, Err, List, ◌++◌, length}
 use Rattle.signature_values.specs.Parts.{short_part}
 use Rattle.walk.specs.Items.{Item, part, broken}

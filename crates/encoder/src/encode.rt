@@ -8,8 +8,8 @@ use signature_values::SigBody;
 use std::alloc::{AllocError, Global};
 use walk::{items_are_parts, visit_body};
 
-/// The bytes, and behind them the shortest spelling of a signature that has one (II.23.2), where there is
-/// room for it: no memory is asked for, and nothing can fail.
+/// Appends the canonical encoding of a signature (II.23.2) to the bytes. The signature has an encoding, and
+/// the vector has the capacity for it. So this does not allocate and cannot fail.
 pub fn spell_into(bytes: Vec<u8>, body: &SigBody) -> Vec<u8>
     requires spellable { IsSpellable (body_of body.now) }
     requires room { vec_len bytes + length (short (body_of body.now)) ≤ vec_capacity bytes }
@@ -22,12 +22,12 @@ pub fn spell_into(bytes: Vec<u8>, body: &SigBody) -> Vec<u8>
     writer.bytes
 }
 
-/// The shortest spelling of a signature that has one (II.23.2): each number and each index in its shortest
+/// The canonical encoding of a signature that has one (II.23.2): each number and each index in its shortest
 /// form. [`spelled_len`] says whether a signature has one.
 ///
 /// # Errors
 ///
-/// Want of memory alone, which is asked for once, as much as the spelling takes.
+/// Fails only if it is out of memory. There is one allocation, with the length of the encoding.
 pub fn encode_body(alloc: Global, body: &SigBody) -> Result<Vec<u8>, AllocError>
     requires { IsSpellable (body_of body.now) }
     ensures { IfOk result (λ bytes. bytes.items ≡ short (body_of body.now)) }

@@ -6,19 +6,19 @@ use crate::measurer::Measurer;
 use signature_values::SigBody;
 use walk::{items_are_parts, visit_body};
 
-/// How deep types may nest.
+/// The greatest depth to which types may nest.
 pub(crate) const DEPTH: u8 = 128;
 
-/// The most bytes that a blob may have.
+/// The largest number of bytes of a blob.
 const ROOM: usize = (1 << 29) - 1;
 
-/// How many bytes the shortest spelling of a signature has (II.23.2); `None` where no bytes spell it.
+/// The number of bytes of a signature's canonical encoding (II.23.2); `None` if no bytes encode it.
 ///
-/// No bytes do where types nest deeper than 128, the kind of a method, its SENTINEL or the shape of an
-/// array is none that the grammar knows, an unsigned number needs more than 29 bits or a low bound does,
-/// an index names another table than TypeDef, TypeRef and TypeSpec or a row of 2^27 or more, or the
-/// spelling has 2^29 bytes or more. One descent without memory, which goes no deeper than 128 types and
-/// stops where the room ends.
+/// A signature has an encoding if and only if all of this holds. The grammar knows the kind of each method, and
+/// allows each SENTINEL and each array shape. Types nest at most 128 deep. Unsigned numbers and lower bounds fit
+/// 29 bits. Each index names TypeDef, TypeRef or TypeSpec, and a row below 2^27. The canonical encoding has fewer
+/// than 2^29 bytes. This function makes one traversal, at most 128 types deep, and does not allocate. It stops
+/// when one of these conditions fails.
 pub fn spelled_len(body: &SigBody) -> Option<usize>
     ensures spellable { IsSome result ↔ IsSpellable (body_of body.now) }
     ensures length { IfSome result (λ count. count ≡ length (short (body_of body.now))) }

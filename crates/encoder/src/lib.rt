@@ -1,9 +1,9 @@
-//! Writes signatures (ECMA-335 II.23.2) in their shortest spelling, and says which have one.
+//! Writes the canonical encoding of signatures (ECMA-335 II.23.2), and says which signatures have one.
 //!
-//! [`spelled_len`] answers how many bytes the shortest spelling of a [`SigBody`] has, and `None`
-//! where no bytes spell it: one descent without memory, which ends where types nest deeper than 128
-//! or the spelling reaches 2^29 bytes. [`encode_body`] writes the spelling of a value that has one.
-//! What a spelling is, and which values have one, is said by the grammar of `signature_values`.
+//! [`spelled_len`] returns the number of bytes of the canonical encoding of a [`SigBody`], or `None` if
+//! no bytes encode it. It does not allocate, and stops if types nest deeper than 128 or the encoding reaches
+//! 2^29 bytes. [`encode_body`] writes the encoding of a value that has one. The grammar of
+//! `signature_values` says what an encoding is, and which values have one.
 //!
 //! ```text
 //! spelled_len(&field_of_int) == Some(2)

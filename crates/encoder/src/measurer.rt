@@ -7,10 +7,10 @@ use packed::unsigned_len;
 use schema::{Coded, Token, join};
 use walk::PartSink;
 
-/// The fewest numbers that are too great for a packed number.
+/// The least number that is too large for a packed number.
 const TOO_GREAT: usize = 1 << 29;
 
-/// A number, where it has a spelling: below 2^29.
+/// The number, if it can be encoded: if it is below 2^29.
 pub fn spelled_number(number: usize) -> Option<u32>
     ensures { result ≡ (if nat_lt number (2 ^ 29) then Some number else None) }
 {
@@ -20,7 +20,7 @@ pub fn spelled_number(number: usize) -> Option<u32>
     None
 }
 
-/// The number of an index of a row of TypeDef, TypeRef or TypeSpec (II.23.2.8), where it has a spelling.
+/// The number of a type index: a row of TypeDef, TypeRef or TypeSpec (II.23.2.8). `None` if it has no encoding.
 #[tactic(auto, using(crate::proofs::Indexes::code_some, crate::proofs::Indexes::code_great))]
 pub fn index_number(token: Token) -> Option<u32>
     ensures { result ≡ number_of token }
@@ -29,7 +29,7 @@ pub fn index_number(token: Token) -> Option<u32>
     spelled_number(number as usize)
 }
 
-/// How many bytes the shortest form of a signed number has (II.23.2.13).
+/// The number of bytes of a signed number in its shortest form (II.23.2.13).
 pub fn signed_len(number: i32) -> usize
     requires low { neg_ℤ (pos (2 ^ 28)) ≤ℤ number }
     requires high { number <ℤ pos (2 ^ 28) }
@@ -42,15 +42,15 @@ pub fn signed_len(number: i32) -> usize
     }
 }
 
-/// Measures a spelling: the room, in bytes, that is left behind it.
+/// Measures an encoding: it keeps the number of bytes that are left.
 #[derive(Drop)]
 pub struct Measurer {
-    /// The room that is left.
+    /// The number of bytes that are left.
     pub left: usize,
 }
 
 impl Measurer {
-    /// Takes the room of so many bytes.
+    /// Subtracts `count` bytes; `None` if fewer are left.
     #[tactic(auto, unfolding(crate::specs::Lengths::take_room))]
     fn take(&mut self, count: usize) -> Option<()>
         ensures { after result self.new ≡ take_room count self.old }

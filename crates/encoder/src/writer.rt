@@ -9,12 +9,12 @@ use schema::Token;
 use std::marker::Model;
 use walk::PartSink;
 
-/// Writes a spelling behind bytes, within the room that was reserved for it.
+/// Appends an encoding to bytes, within the capacity that was reserved for it.
 #[derive(Drop)]
 pub struct Writer {
-    /// The bytes written so far, and those before them.
+    /// The bytes before the encoding, and those written so far.
     pub bytes: Vec<u8>,
-    /// How many more bytes there is room for.
+    /// The number of bytes that still fit.
     pub left: usize,
 }
 
@@ -29,7 +29,7 @@ impl Model for Writer {
 }
 
 impl Writer {
-    /// Appends a number in its shortest form, where there is room for it.
+    /// Appends a number in its shortest form, if it fits.
     #[tactic(auto, unfolding(crate::specs::Written::put_short))]
     fn put(&mut self, number: u32) -> Option<()>
         requires { number < 2 ^ 29 }
@@ -39,7 +39,7 @@ impl Writer {
         put_unsigned(&mut self.bytes, number).ok()
     }
 
-    /// Appends a signed number in its shortest form, where there is room for it.
+    /// Appends a signed number in its shortest form, if it fits.
     #[tactic(auto, unfolding(crate::specs::Written::put_short))]
     fn put_signed(&mut self, number: i32) -> Option<()>
         requires low { neg_ℤ (pos (2 ^ 28)) ≤ℤ number }

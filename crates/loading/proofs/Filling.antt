@@ -11,7 +11,7 @@ use Rattle.cells.specs.Said.{said, all_said}
 use Rattle.tables.specs.Push.{with_row}
 use Rattle.loading.specs.Filled.{with_rows}
 
--- one cell more of a row
+-- one more cell of a row
 pub next_cell : (cells : List Owned) (cell : Owned) (row : List Cell) (k : ℕ) (d : Cell) → k < length row → all_said cells ≡ take k row → said cell ≡ get_or row k d
     → all_said (cells ++ cell ∷ []) ≡ take (k + 1) row
 next_cell cells cell row k d below before here =
@@ -20,7 +20,7 @@ next_cell cells cell row k d below before here =
     ∙ ap (λ (last : Cell). take k row ++ last ∷ []) here
     ∙ sym (take_more row k d below)
 
--- one row more of a table
+-- one more row of a table
 pub next_row : (model : Metadata) (table : TableId) (rows : List (List Cell)) (k : ℕ) → position_of table < length model.tables → k < length rows
     → with_row (with_rows model table (take k rows)) table (get_or rows k []) ≡ with_rows model table (take (k + 1) rows)
 next_row model table rows k within below =
@@ -33,7 +33,7 @@ next_row model table rows k within below =
     ∙ ap (λ (l : List (List Cell)). set model.tables i (l ++ back)) here
     ∙ ap (λ (l : List (List Cell)). set model.tables i l) (sym (take_more rows k [] below)))
 
--- tables of which the first are filled, and the next one
+-- the first tables are filled, and then the next one
 pub next_filled : {X : Type 0} (full empty : List X) (d : X) (j : ℕ) → j < length full → j < length empty
     → set (take j full ++ drop j empty) j (get_or full j d) ≡ take (suc j) full ++ drop (suc j) empty
 next_filled [] empty d j below left = absurd (omega arith)
@@ -41,7 +41,7 @@ next_filled (x ∷ full) [] d j below left = absurd (omega arith)
 next_filled (x ∷ full) (y ∷ empty) d zero below left = refl
 next_filled (x ∷ full) (y ∷ empty) d (suc j) below left = ap (λ l. x ∷ l) (next_filled full empty d j (omega arith) (omega arith))
 
--- the next one is as it was
+-- the next one is unchanged
 pub next_left : {X : Type 0} (full empty : List X) (d : X) (j : ℕ) → j < length full → j < length empty
     → get_or (take j full ++ drop j empty) j d ≡ get_or empty j d
 next_left [] empty d j below left = absurd (omega arith)
@@ -49,7 +49,7 @@ next_left (x ∷ full) [] d j below left = absurd (omega arith)
 next_left (x ∷ full) (y ∷ empty) d zero below left = refl
 next_left (x ∷ full) (y ∷ empty) d (suc j) below left = next_left full empty d j (omega arith) (omega arith)
 
--- there are as many of them
+-- their number is the same
 pub filled_length : {X : Type 0} (full empty : List X) (j : ℕ) → length full ≡ length empty → length (take j full ++ drop j empty) ≡ length empty
 filled_length full empty zero same = refl
 filled_length [] [] (suc j) same = refl
@@ -57,7 +57,7 @@ filled_length [] (y ∷ empty) (suc j) same = absurd (omega arith)
 filled_length (x ∷ full) [] (suc j) same = absurd (omega arith)
 filled_length (x ∷ full) (y ∷ empty) (suc j) same = ap suc (filled_length full empty j (omega arith))
 
--- all of them
+-- all of them are filled
 pub all_filled : {X : Type 0} (full empty : List X) → length full ≡ length empty → (j : ℕ) → length full ≡ j → take j full ++ drop j empty ≡ full
 all_filled [] [] same zero all = refl
 all_filled [] [] same (suc j) all = refl
@@ -66,7 +66,7 @@ all_filled (x ∷ full) [] same j all = absurd (omega arith)
 all_filled (x ∷ full) (y ∷ empty) same zero all = absurd (omega arith)
 all_filled (x ∷ full) (y ∷ empty) same (suc j) all = ap (λ l. x ∷ l) (all_filled full empty (omega arith) j (omega arith))
 
--- the positions of tables, in order
+-- the table indexes, in order
 abbrev count_up : ℕ → ℕ → List ℕ
 count_up from zero = []
 count_up from (suc n) = from ∷ count_up (suc from) n
@@ -80,13 +80,13 @@ positions : map position_of tables ≡ count_up 0 38
 unfolding tables
 positions = refl
 
--- a table is found by its position
+-- a table is found by its table index
 pub position_at : length tables ≡ 38 → (k : ℕ) → k < 38 → position_of (get_or tables k Module) ≡ k
 position_at count k below =
     sym (get_or-map position_of tables k Module 0 (omega (arith, count))) ∙ ap (λ (l : List ℕ). get_or l k 0) positions ∙ count_up_at 0 38 k below
     ∙ omega arith
 
--- one table more, of those that are filled in order
+-- one more table, of those that are filled in order
 pub next_table : (model before : Metadata) (table : TableId) (j : ℕ) → length model.tables ≡ 38 → length before.tables ≡ 38 → j < 38 → position_of table ≡ j
     → with_rows (record before { tables = take j model.tables ++ drop j before.tables }) table (rows_of model table)
     ≡ record before { tables = take (j + 1) model.tables ++ drop (j + 1) before.tables }

@@ -1,4 +1,4 @@
--- Why nothing is loaded.
+-- The reasons why nothing is loaded.
 use Rattle.std.proofs.Common.{◌≡◌, List, Result, Ok, Err, IfErr, sym, subst}
 use Rattle.std.specs.Result.{IsErrAnd}
 use Rattle.packed.specs.declared.fault.Fault.{Fault}
@@ -7,7 +7,7 @@ use Rattle.loading.specs.declared.error.LoadError.{LoadError}
 use Rattle.loading.specs.declared.error.LoadError.TheVariants as load
 use Rattle.loading.specs.Refused.{IsRefused}
 
--- the fault of the first demand that fails, where nothing fits
+-- the fault of the first broken rule, if there is no model
 pub fault_refused : {X : Type 0} (r : Result X LoadError) (demands : List (Demand Fault)) (fits : Type 0) (found : Fault)
     → IsErrAnd r (λ error. error ≡ load.Fault found) → FirstToFail demands found → (¬ fits) → IfErr r (IsRefused demands fits)
 fault_refused (Ok x) demands fits found is first none = tt
@@ -15,7 +15,7 @@ fault_refused (Err error) demands fits found is first none =
     let P : LoadError → Type 0 = λ e. IsRefused demands fits e in
     subst P (sym is) (first, none)
 
--- want of memory, where something fits
+-- out of memory, if there is a model
 pub memory_refused : {X : Type 0} (r : Result X LoadError) (demands : List (Demand Fault)) (fits : Type 0)
     → IsErrAnd r (λ error. error ≡ load.Memory) → fits → IfErr r (IsRefused demands fits)
 memory_refused (Ok x) demands fits is some = tt

@@ -1,9 +1,9 @@
--- Bytes that are filled.
+-- Bytes with padding.
 use Rattle.std.proofs.Common.{◌≡◌, ℕ, ◌+◌, ◌-◌, ◌%◌, List, ◌++◌, length, take, replicate, ap, ◌∙◌, arith}
 use Rattle.std.proofs.lemmas.List.{take_all}
 use Rattle.heaps.specs.Fill.{filled}
 
--- what has room for the fill holds the bytes and the fill
+-- bytes with capacity for the padding hold the bytes and the padding
 pub resized : (bytes : List ℕ) (n k : ℕ) → n ≡ length bytes + (4 - length bytes % 4) % 4 → k ≡ length bytes
     → take n bytes ++ replicate (n - k) 0 ≡ filled bytes
 resized bytes n k e f =

@@ -1,10 +1,10 @@
--- Tables of which one is filled (ECMA-335 II.22).
+-- Tables after one table was filled (ECMA-335 II.22).
 use Rattle.std.specs.Prelude.{List, slice_set}
 use Rattle.schema.specs.declared.table.TableId.{TableId}
 use Rattle.schema.specs.Tables.{position_of}
 use Rattle.metadata.specs.Cell.{Cell}
 use Rattle.metadata.specs.Metadata.{Metadata}
 
--- the same with these rows in a table
+-- the same model with these rows in a table
 abbrev pub with_rows : Metadata → TableId → List (List Cell) → Metadata
 with_rows model table rows = record model { tables = slice_set model.tables (position_of table) rows }

@@ -1,4 +1,4 @@
--- Why nothing is loaded.
+-- The reasons why nothing is loaded.
 use Rattle.std.specs.Prelude.{ℕ, List}
 use Rattle.packed.specs.declared.fault.Fault.{Fault}
 use Rattle.packed.specs.Demand.{Demand, FirstToFail}
@@ -8,11 +8,11 @@ use Rattle.metadata.specs.Model.{IsModelOfFile}
 use Rattle.loading.specs.declared.error.LoadError.{LoadError}
 use Rattle.loading.specs.declared.error.LoadError.TheVariants as load
 
--- a fault is that of the first of the demands that fails, and no model fits; memory is refused only where one fits
+-- a fault is the first broken rule, and there is no model; out of memory only if there is a model
 abbrev pub IsRefused : List (Demand Fault) → Type 0 → LoadError → Type 0
 IsRefused demands fits (load.Fault found) = FirstToFail demands found × (¬ fits)
 IsRefused demands fits load.Memory = fits
 
--- some CLI header and some model fit a file
+-- the file has some CLI header and some model
 abbrev pub HasHeaderAndModel : List ℕ → Type 0
 HasHeaderAndModel file = ∥ ((header : CliHeader) × (model : Metadata) × IsModelOfFile file header model) ∥₁

@@ -13,7 +13,7 @@ use schema::{column_of_cell, columns};
 use signatures::{SigError, decode};
 use std::alloc::{AllocError, Global};
 
-/// The signature that a blob spells in a column of signatures.
+/// Decodes the signature that a blob encodes in a column of signatures.
 fn own_signature(alloc: Global, blob: &[u8], kind: ColumnKind) -> Result<Cell, AllocError>
     requires { ∥ ((cell : Says) × ShowsSignature kind blob.now cell) ∥₁ }
     ensures { (cell : Says) → ShowsSignature kind blob.now cell → IfOk result (λ owned. said owned ≡ cell) }
@@ -28,7 +28,7 @@ fn own_signature(alloc: Global, blob: &[u8], kind: ColumnKind) -> Result<Cell, A
     }
 }
 
-/// The cell that a value in place shows, with a copy of its text or its bytes.
+/// Makes the cell that a value in place stands for, with a copy of its string or bytes.
 fn own_cell(alloc: Global, seen: CellRef, kind: ColumnKind) -> Result<Cell, AllocError>
     requires { ∥ ((cell : Says) × Shows kind seen cell) ∥₁ }
     ensures { (cell : Says) → Shows kind seen.entry cell → IfOk result (λ owned. said owned ≡ cell) }
@@ -44,7 +44,7 @@ fn own_cell(alloc: Global, seen: CellRef, kind: ColumnKind) -> Result<Cell, Allo
     }
 }
 
-/// A cell of a row, by its place among the cells of the row.
+/// Loads a cell of a row, by the index of the cell in the row.
 pub fn load_cell(
     alloc: Global,
     view: &View,
@@ -57,7 +57,7 @@ pub fn load_cell(
     requires column { column < cell_count table }
     ensures { (model : Metadata) → IsModel view.now model → IfOk result (λ cell. said cell ≡ cell_in model table row column) }
 {
-    // The root has a model.
+    // The metadata root has a model.
     let _root = view.root();
     let kind = columns(table)[column_of_cell(table, column)].kind;
     own_cell(alloc, view.cell(table, row, column), kind)

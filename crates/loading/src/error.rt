@@ -2,13 +2,13 @@ use packed::Fault;
 use std::alloc::AllocError;
 use thiserror::Error;
 
-/// Why no model was loaded.
+/// The reason why no model was loaded.
 #[derive(Clone, Copy, Debug, PartialEq, Eq, Error)]
 pub enum LoadError {
-    /// The first demand that the bytes do not meet: they have no model.
+    /// The first rule that the bytes break. They have no model.
     #[error("{0}")]
     Fault(Fault),
-    /// They have a model, and memory for it was refused.
+    /// The bytes have a model, but it could not be allocated.
     #[error("out of memory")]
     Memory,
 }

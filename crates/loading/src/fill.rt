@@ -3,7 +3,7 @@ ghost use Rattle.heaps.specs.Fill.{filled};
 
 use std::alloc::{AllocError, Global};
 
-/// A copy of the bytes, filled with zeros to a multiple of four (II.24.2.2).
+/// A copy of the bytes, padded with zeros to a multiple of four (II.24.2.2).
 pub fn copy_filled(alloc: Global, bytes: &[u8]) -> Result<Vec<u8>, AllocError>
     ensures { IfOk result (λ copy. copy.items ≡ filled bytes.now) }
 {

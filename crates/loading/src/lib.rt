@@ -1,8 +1,8 @@
-//! Models loaded from bytes (ECMA-335 II.22 to II.25): they own what they hold, and the bytes may go.
+//! Loads models from bytes (ECMA-335 II.22 to II.25). A model owns its content, so the bytes may be dropped.
 //!
-//! [`load_root`] and [`load_image`] answer the one model of a root or a file, exactly where it has one.
-//! Else they answer the fault that opening it answers; want of memory comes only where a model fits.
-//! [`ToModel`] makes the model of a view that is open already.
+//! [`load_root`] and [`load_image`] return the one model of a metadata root or a file, if it has one.
+//! Otherwise they return the fault that opening it returns. They are out of memory only if there is a model.
+//! [`ToModel`] makes the model of a view that is already open.
 //!
 //! ```text
 //! let (header, model) = load_image(alloc, &file)?;

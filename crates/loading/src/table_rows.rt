@@ -14,7 +14,7 @@ use schema::{TableId, cell_count, tables_stand};
 use std::alloc::{AllocError, Global};
 use tables::Tables;
 
-/// The cells of a row.
+/// Loads the cells of a row.
 fn load_row(alloc: Global, view: &View, table: TableId, row: u32) -> Result<Vec<Cell>, AllocError>
     requires first { 1 ≤ row }
     requires last { row ≤ row_count view.now table }
@@ -30,7 +30,7 @@ fn load_row(alloc: Global, view: &View, table: TableId, row: u32) -> Result<Vec<
     Ok(cells)
 }
 
-/// Adds the rows of a table to tables that have none there.
+/// Adds the rows of a table to tables in which it has no rows.
 fn load_rows(
     alloc: Global,
     view: &View,

@@ -10,7 +10,7 @@ use owned_model::Model;
 use std::alloc::{AllocError, Global};
 use tables::Tables;
 
-/// The tables of the one model of a view's root.
+/// The tables of the one model of a view's metadata root.
 fn tables_of(alloc: Global, view: &View) -> Result<Tables, AllocError>
     ensures { (model : Metadata) → IsModel view.now model → IfOk result (λ tables. tables ≡ model) }
 {
@@ -21,14 +21,14 @@ fn tables_of(alloc: Global, view: &View) -> Result<Tables, AllocError>
     Ok(tables)
 }
 
-/// What a model can be made of.
+/// A value that can be converted to a model.
 pub trait ToModel {
     ghost use Rattle.std.specs.Prelude.{◌≡◌, IfOk};
     ghost use Rattle.metadata.specs.Metadata.{Metadata};
 
     ghost has_model: { Self → Metadata → Type 0 };
 
-    /// The one model, which owns what it holds. An error is want of memory alone.
+    /// The one model, which owns its content. The only error is out of memory.
     fn model(&self, alloc: Global) -> Result<Model, AllocError>
         ensures { (model : Metadata) → has_model self.now model → IfOk result (λ loaded. loaded ≡ model) };
 }
@@ -38,9 +38,9 @@ impl ToModel for View<'_> {
 
     ghost has_model = { λ view model. IsModel view model };
 
-    /// The one model of the root, which owns what it holds. An error is want of memory alone.
+    /// The one model of the root, which owns its content. The only error is out of memory.
     ///
-    /// The cost is linear in what the root holds, and in what its texts and blobs hold by each cell.
+    /// The cost is linear in the size of the root, and in the sizes of the strings and blobs, once for each cell.
     fn model(&self, alloc: Global) -> Result<Model, AllocError>
         ensures model { (model : Metadata) → IsModel self.now model → IfOk result (λ loaded. loaded ≡ model) }
         ensures found { IfOk result (λ loaded. ∥ IsModel self.now loaded ∥₁) }

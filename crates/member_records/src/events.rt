@@ -55,7 +55,7 @@ pub struct Event<'m> {
     pub event_flags: u32,
     /// The event's name.
     pub name: &'m str,
-    /// The type of its handlers: a TypeDef, TypeRef or TypeSpec; null where it has none.
+    /// The type of its handlers: a TypeDef, TypeRef or TypeSpec; null if it has none.
     pub event_type: Option<Token>,
 }
 

@@ -54,10 +54,10 @@ impl<'m> Record<'m> for Field<'m> {
     }
 }
 
-/// Where a field lies in its type (II.22.16).
+/// The offset of a field in its type (II.22.16).
 #[derive(Clone, Copy, Debug, PartialEq, Eq)]
 pub struct FieldLayout {
-    /// Where it begins, in bytes from the start of the type.
+    /// The offset in bytes from the start of the type.
     pub offset: u32,
     /// The field, in Field.
     pub field: Option<Token>,
@@ -98,7 +98,7 @@ impl<'m> Record<'m> for FieldLayout {
 pub struct FieldMarshal<'m> {
     /// The Field or Param.
     pub parent: Option<Token>,
-    /// How it is passed to and from native code: a marshalling descriptor (II.23.4).
+    /// Its form in native code: a marshalling descriptor (II.23.4).
     pub native_type: &'m [u8],
 }
 
@@ -133,7 +133,7 @@ impl<'m> Record<'m> for FieldMarshal<'m> {
     }
 }
 
-/// Where the initial value of a field stands (II.22.18).
+/// The location of the initial value of a field (II.22.18).
 #[derive(Clone, Copy, Debug, PartialEq, Eq)]
 pub struct FieldRVA {
     /// The relative virtual address of the value.
@@ -175,7 +175,7 @@ impl<'m> Record<'m> for FieldRVA {
 /// A field or method of another module, or a call with variable arguments (II.22.25).
 #[derive(Clone, Copy, Debug, PartialEq, Eq)]
 pub struct MemberRef<'m, S = &'m Signature> {
-    /// What has the member: a TypeDef, TypeRef, TypeSpec or ModuleRef, or the MethodDef that is called.
+    /// The parent of the member: a TypeDef, TypeRef, TypeSpec or ModuleRef, or the MethodDef that is called.
     pub class: Option<Token>,
     /// The member's name.
     pub name: &'m str,

@@ -1,8 +1,8 @@
-//! The rows of tables as records (ECMA-335 II.22): those of the members of types, which are fields,
-//! methods, events and properties. The records of `records` are here too.
+//! The rows of tables as records (ECMA-335 II.22). This crate has the records of the members of types:
+//! fields, methods, events and properties. It also exports the records of `records`.
 //!
 //! ```text
-//! let record = MethodDef::from_cells(cells)?; // None where they are no row of MethodDef
+//! let record = MethodDef::from_cells(cells)?; // None if they are not a row of MethodDef
 //! record.name == ".ctor" && record.signature.body() == &constructor
 //! ```
 #![tactic(auto)]

@@ -13,7 +13,7 @@ use std::alloc::{AllocError, Global};
 /// A method of a type of this module (II.22.26).
 #[derive(Clone, Copy, Debug, PartialEq, Eq)]
 pub struct MethodDef<'m, S = &'m Signature> {
-    /// The relative virtual address of its body; 0 where it has none.
+    /// The relative virtual address of its body; 0 if it has none.
     pub rva: u32,
     /// MethodImplAttributes (II.23.1.11).
     pub impl_flags: u32,
@@ -21,7 +21,7 @@ pub struct MethodDef<'m, S = &'m Signature> {
     pub flags: u32,
     /// The method's name.
     pub name: &'m str,
-    /// What it takes and returns (II.23.2.1).
+    /// Its signature (II.23.2.1).
     pub signature: S,
     /// The first of its parameters, in Param.
     pub param_list: u32,
@@ -72,9 +72,9 @@ impl<'m> Record<'m> for MethodDef<'m> {
 pub struct Param<'m> {
     /// ParamAttributes (II.23.1.13).
     pub flags: u32,
-    /// Its place among the parameters, counted from 1; 0 is what the method returns.
+    /// Its index among the parameters, counted from 1; 0 is the return value.
     pub sequence: u32,
-    /// Its name; empty where it has none.
+    /// Its name; empty if it has none.
     pub name: &'m str,
 }
 
@@ -111,10 +111,10 @@ impl<'m> Record<'m> for Param<'m> {
     }
 }
 
-/// A method that implements one of another name (II.22.27).
+/// A method that implements a method with another name (II.22.27).
 #[derive(Clone, Copy, Debug, PartialEq, Eq)]
 pub struct MethodImpl {
-    /// The type that says so, in TypeDef.
+    /// The type that declares the implementation, in TypeDef.
     pub class: Option<Token>,
     /// The method that implements: a MethodDef or MemberRef.
     pub method_body: Option<Token>,
@@ -160,7 +160,7 @@ impl<'m> Record<'m> for MethodImpl {
 /// A method that belongs to an event or property (II.22.28).
 #[derive(Clone, Copy, Debug, PartialEq, Eq)]
 pub struct MethodSemantics {
-    /// MethodSemanticsAttributes (II.23.1.12): what the method does for it.
+    /// MethodSemanticsAttributes (II.23.1.12): the role of the method.
     pub semantics: u32,
     /// The method, in MethodDef.
     pub method: Option<Token>,
@@ -203,10 +203,10 @@ impl<'m> Record<'m> for MethodSemantics {
     }
 }
 
-/// A signature that no other row has (II.22.36).
+/// A signature that no other table refers to (II.22.36).
 #[derive(Clone, Copy, Debug, PartialEq, Eq)]
 pub struct StandAloneSig<S> {
-    /// The local variables of a method, or what a method takes and returns that is called by its address
+    /// The local variables of a method, or the signature of a method that is called by its address
     /// (II.23.2.3, II.23.2.6).
     pub signature: S,
 }

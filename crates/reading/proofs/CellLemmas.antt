@@ -1,4 +1,4 @@
--- Which cell a number stands for, by the kind of its column.
+-- The cell that a number stands for, by the kind of its column.
 use Rattle.std.proofs.Common.{◌≡◌, ℕ, ◌+◌, ◌<◌, ◌≤◌, Bool, List, sym, ◌∙◌, ap, subst, arith}
 use Rattle.schema.specs.declared.table.TableId.{TableId}
 use Rattle.schema.specs.declared.token.Token.{Token}

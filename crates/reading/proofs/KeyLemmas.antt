@@ -22,7 +22,7 @@ module _ (source : Source) (table : TableId) (column : ℕ) where
       let same : row + 1 + k ≡ row + suc k = omega arith in
       number_at (row + 1) left k d (omega arith) ∙ ap (λ r. number_of source table r column) same
 
-  -- there is one key a row
+  -- there is one key for each row
   pub keys_long : length (keys_in source table column) ≡ rows_in source table
   unfolding keys_in
   keys_long = numbers_long 1 (rows_in source table)
@@ -43,7 +43,7 @@ module _ (source : Source) (table : TableId) (column : ℕ) where
       let step = rw same at next in
       omega arith
 
-  -- keys that never fall, as a list
+  -- keys that never decrease, as a list
   pub keys_rise : IsInOrder source table column → IsNonDecreasing (keys_in source table column)
   keys_rise order = λ i j d low high.
       let long = keys_long in
@@ -57,7 +57,7 @@ module _ (source : Source) (table : TableId) (column : ℕ) where
       let second = rw (back j) at b in
       omega arith
 
-  -- the rows with a number in the column, by its list of numbers
+  -- the rows with a key number in the column, from its list of numbers
   pub rows_in_column : (number : ℕ) → rows_with (keys_in source table column) number 1 (length (keys_in source table column) + 1)
       ≡ rows_that (λ row. number_of source table row column == number) 1 (rows_in source table + 1 - 1)
   rows_in_column number =
@@ -66,7 +66,7 @@ module _ (source : Source) (table : TableId) (column : ℕ) where
       ∙ same_that (λ row. key_at (keys_in source table column) row == number) (λ row. number_of source table row column == number)
       1 (rows_in source table + 1 - 1) (λ row low high. ap (λ n. n == number) (key_is row 0 low (omega arith)))
 
--- the next row with a number, or the end of the rows
+-- the next row with a key number, or the end of the rows
 pub record IsNextWith (numbers : List ℕ) (number first past row : ℕ) : Type 0 where
   pub from : first ≤ row
   pub to : row ≤ past
@@ -80,7 +80,7 @@ module _ (numbers : List ℕ) (number : ℕ) where
   fails_of : (row : ℕ) → key_at numbers row ≢ number → (key_at numbers row == number) ≡ false
   fails_of row other = grind (arith, nat_tests)
 
-  -- none of these rows has the number
+  -- none of these rows has the key number
   pub with_none : (first past : ℕ) → ((row : ℕ) → first ≤ row → row < past → key_at numbers row ≢ number)
       → rows_with numbers number first past ≡ []
   with_none first past none = none_that (λ row. key_at numbers row == number) first (past - first)
@@ -96,7 +96,7 @@ module _ (numbers : List ℕ) (number : ℕ) where
       (λ row a b. fails_of row (none row a b)) (test_of found is)
       ∙ ap (λ n. found ∷ rows_that (λ row. key_at numbers row == number) (found + 1) n) rest
 
-  -- the rows with the number where these are a run
+  -- the rows with the key number if they are a run
   pub with_run : (count first past : ℕ) → 1 ≤ first → first ≤ past → past ≤ count + 1 → ((row : ℕ) → 1 ≤ row → row ≤ count
       → key_at numbers row ≡ number → (first ≤ row) × (row < past))
       → rows_with numbers number first past ≡ rows_with numbers number 1 (count + 1)

@@ -5,14 +5,14 @@ use Rattle.std.proofs.lemmas.Bool.{cases_eq, cases_lt}
 use Rattle.std.proofs.lemmas.List.{get_or-set_other}
 use Rattle.std.proofs.lemmas.Grind.{get_or-set_at}
 
--- a multiple below so many steps is of a lower number
+-- a multiple below a number of steps has an index below that number
 pub place_low : (step place row many : ℕ) → row ≡ step * (place + 1) → row < many * step → place < many
 place_low step place row many is below = elim (cases_lt place many) [
   | inl low ↦ low
   | inr high ↦ absurd (let h : step * many ≤ step * (place + 1) = mul-le-mul_left step (omega arith) in omega arith)
 ]
 
--- where one more start is kept, those from its owner on are known
+-- after one more start is kept, those from its owner on are known
 pub kept_more : (starts : List ℕ) (start : ℕ → ℕ) (step place row first last : ℕ) → 0 < step → place < length starts
     → row ≡ step * (place + 1) → first ≡ start row
     → ((k : ℕ) → row + 1 ≤ step * (k + 1) → step * (k + 1) ≤ last → slice_index starts k ≡ start (step * (k + 1)))

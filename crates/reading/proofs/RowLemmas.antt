@@ -24,7 +24,7 @@ module _ (test : ℕ → Bool) where
   none_that row (suc left) none = at_fail row left (none row (omega arith) (omega arith)) ∙ none_that (row + 1) left (λ r low high. none r (omega arith)
       (omega arith))
 
-  -- rows that do not pass may be left out in front
+  -- rows that do not pass may be left out at the start
   pub skip_that : (row left next : ℕ) → row ≤ next → next ≤ row + left → NoneBetween row next → rows_that test row left ≡ rows_that test next
       (row + left - next)
   skip_that row zero next low high none =
@@ -40,7 +40,7 @@ module _ (test : ℕ → Bool) where
             (λ r a b. none r (omega arith) (omega arith)) ∙ ap (λ n. rows_that test next n) rest
       ]
 
-  -- and behind
+  -- and at the end
   pub cut_that : (row left less : ℕ) → less ≤ left → NoneBetween (row + less) (row + left) → rows_that test row left ≡ rows_that test row less
   cut_that row left zero low none = none_that row left (λ r a b. none r (omega arith) b)
   cut_that row zero (suc less) low none = absurd (omega arith)
@@ -48,14 +48,14 @@ module _ (test : ℕ → Bool) where
       let rest = cut_that (row + 1) left less (omega arith) (λ r a b. none r (omega arith) (omega arith)) in
       ap (λ l. cond (test row) (row ∷ l) l) rest
 
-  -- the first that passes
+  -- the first row that passes
   pub first_that : (row left found : ℕ) → row ≤ found → found < row + left → NoneBetween row found → test found ≡ true
       → rows_that test row left ≡ found ∷ rows_that test (found + 1) (row + left - (found + 1))
   first_that row left found low high none passes =
       let more : row + left - found ≡ suc (row + left - (found + 1)) = omega arith in
       skip_that row left found low (omega arith) none ∙ ap (λ n. rows_that test found n) more ∙ at_pass found (row + left - (found + 1)) passes
 
-  -- ---- which rows these are
+  -- ---- these rows one by one
 
   abbrev pub Passes : ℕ → ℕ → ℕ → Type 0
   Passes first past row = (first ≤ row) × (row < past) × (test row ≡ true)
@@ -98,7 +98,7 @@ module _ (test : ℕ → Bool) where
         ])
   ]
 
-  -- the rows rise, the first of them from so low on
+  -- the rows rise, and the first is at least this row
   abbrev pub RisesFrom : ℕ → List ℕ → Type 0
   RisesFrom low [] = Unit {0}
   RisesFrom low (x ∷ xs) = (low ≤ x) × RisesFrom (x + 1) xs
@@ -126,7 +126,7 @@ module _ (test : ℕ → Bool) where
   pub that_rise : (row left : ℕ) → IsStrictlyIncreasing (rows_that test row left)
   that_rise row left = rises row (rows_that test row left) (rises_that row left)
 
--- two tests that agree on rows find the same of them
+-- two tests that agree on these rows find the same rows
 pub same_that : (f g : ℕ → Bool) (row left : ℕ) → ((r : ℕ) → row ≤ r → r < row + left → f r ≡ g r) → rows_that f row left ≡ rows_that g row left
 same_that f g row zero same = refl
 same_that f g row (suc left) same =

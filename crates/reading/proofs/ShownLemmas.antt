@@ -1,4 +1,4 @@
--- What a value in place shows, where the number of a column stands for a cell.
+-- The cell that a value in place stands for, if the number of its column stands for one.
 use Rattle.std.proofs.Common.{◌≡◌, ℕ, ◌≤◌, Bool, List, Option, Some, None, sym, ◌∙◌, ap, subst, inl, inr}
 use Rattle.schema.specs.declared.table.TableId.{TableId}
 use Rattle.schema.specs.declared.token.Token.{Token}
@@ -21,7 +21,7 @@ use Rattle.reading.proofs.CellLemmas.{text_cell, blob_cell, signature_cell, code
 abbrev pub Stands : Source → TableId → ℕ → ℕ → Type 0
 Stands source table row column = ¬ (¬ ((cell : Cell) × StandsIn source table row column cell))
 
--- a reference is null or a row, as its cell is
+-- a reference is null or a row, and so is its cell
 pub refers_shown : (source : Source) (nullable : Bool) (token : Token) (cell : Cell) (result : Option Token) → Refers source nullable token cell
     → (token.row ≡ 0 → result ≡ None) → (1 ≤ token.row → result ≡ Some token) → cell ≡ Ref result
 refers_shown source nullable token cell result (inl null) none there = null.2 ∙ ap Ref (sym (none null.0))

@@ -1,4 +1,4 @@
--- Where the run of an owner begins, from its own number and from the next owner on.
+-- The start of an owner's run, from its own number and from the next owner.
 use Rattle.std.proofs.Common.{◌≡◌, ◌≢◌, ℕ, zero, suc, ◌+◌, ◌-◌, ◌<◌, ◌≤◌, eqb, false, refl, arith}
 use Rattle.std.proofs.lemmas.Bool.Decides.{nat_tests}
 use Rattle.schema.specs.declared.table.TableId.{TableId}
@@ -24,14 +24,14 @@ module _ (source : Source) (owner : TableId) (row column : ℕ) (member : TableI
   start_here within other = from_here (λ r. number_of source owner r column) (rows_in source member + 1) row (rows_in source owner + 1 - row)
       (omega arith) other
 
-  -- a null takes the start of the next owner
+  -- the start of a null is that of the next owner
   pub start_next : row ≤ rows_in source owner → number_of source owner row column ≡ 0 → start_of source owner row column member ≡ start_of source owner
       (row + 1) column member
   unfolding start_of
   start_next within null = from_next (λ r. number_of source owner r column) (rows_in source member + 1) row (rows_in source owner + 1 - row)
       (rows_in source owner + 1 - (row + 1)) (omega arith) null
 
-  -- behind the last owner
+  -- after the last owner
   pub start_past : rows_in source owner < row → start_of source owner row column member ≡ rows_in source member + 1
   unfolding start_of
   start_past past = from_none (λ r. number_of source owner r column) (rows_in source member + 1) row (rows_in source owner + 1 - row) (omega arith)

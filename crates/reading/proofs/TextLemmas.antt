@@ -1,4 +1,4 @@
--- Texts that stand before the first NUL.
+-- Strings before the first NUL.
 use Rattle.std.proofs.Common.{◌≡◌, ◌≢◌, ℕ, Bool, true, false, not, ◌==◌, IsTrue, ◌↔◌, List, [], ◌∷◌, ◌++◌, Some, None, slice_get, refl, sym, ◌∙◌, ap, arith, inl, inr}
 use Rattle.std.specs.List.{list_any, AllByRecursion}
 use Rattle.std.proofs.lemmas.Bool.{cases_eq, eq-eqb}
@@ -9,7 +9,7 @@ use Rattle.heaps.specs.Entries.{HasNoNul}
 abbrev pub NoNul : List ℕ → Type 0
 NoNul bytes = AllByRecursion (λ byte. byte ≢ 0) bytes
 
--- two texts before the first NUL of the same bytes are one
+-- two strings before the first NUL of the same bytes are equal
 one_text : (a b c d : List ℕ) → a ++ 0 ∷ c ≡ b ++ 0 ∷ d → NoNul a → NoNul b → a ≡ b
 one_text [] [] c d e plain other = refl
 one_text [] (y ∷ b) c d e plain other = let head : y ≡ 0 = cc in absurd (other.0 head)
@@ -38,7 +38,7 @@ nul_none (x ∷ bytes) plain =
     let test : (x == 0) ≡ false = grind (arith, nat_tests) in
     rw test (nul_none bytes plain.1)
 
--- what stands first
+-- the first byte
 pub first_is : (rest : List ℕ) (end : ℕ) → Some end ≡ slice_get rest 0 → (more : List ℕ) × (rest ≡ end ∷ more)
 first_is [] end e = absurd cc
 first_is (x ∷ rest) end e = (rest, let same : end ≡ x = cc in ap (λ y. y ∷ rest) (sym same))
@@ -52,7 +52,7 @@ not_true true t = absurd cc
 not_true false t = refl
 
 module _ (bytes text after sought : List ℕ) (whole : bytes ≡ text ++ 0 ∷ after) (plain : HasNoNul text) where
-  -- no bytes stand behind these: then they are another text
+  -- if the bytes do not start with the sought string, the string is another one
   pub no_prefix : ((rest : List ℕ) → bytes ≢ sought ++ rest) → text ≢ sought
   no_prefix none same = none (0 ∷ after) (whole ∙ ap (λ l. l ++ 0 ∷ after) same)
 

@@ -1,4 +1,4 @@
--- Which rows have a key, by the number of the key.
+-- The rows with a key, from the number of the key.
 use Rattle.std.proofs.Common.{◌≡◌, ◌≢◌, ℕ, ◌+◌, ◌*◌, ◌^◌, ◌<◌, ◌≤◌, ◌↔◌, inl, inr, List, length, Option, Some, None, slice_get, sym, ◌∙◌, ap, subst, arith, add-one, IfSome, IfNone, ◌==◌, ◌-◌}
 use Rattle.std.proofs.Math.Nat.{mul-le-mul_right}
 use Rattle.std.specs.List.{Contains}
@@ -26,14 +26,14 @@ use Rattle.reading.proofs.CellLemmas.{row_cell, coded_cell}
 use Rattle.reading.proofs.ColumnLemmas.{key_cell}
 use Rattle.reading.proofs.RowLemmas.{that_passes, passes_that}
 
--- what is known of the tags of coded indexes
+-- the facts about the tags of coded indexes
 pub record AreTags : Type 0 where
   pub few : (coded : Coded) → length (tables_of coded) ≤ 2 ^ tag_bits coded
   pub wide : (coded : Coded) → 2 ^ tag_bits coded * 2 ^ 24 ≤ 2 ^ 32
   pub one : (coded : Coded) (a b : ℕ) (table : TableId) → slice_get (tables_of coded) a ≡ Some (Some table)
       → slice_get (tables_of coded) b ≡ Some (Some table) → a ≡ b
 
--- a higher row has a greater number
+-- a higher row has a larger number
 higher : (low high size tag other : ℕ) → low < high → tag < size → low * size + tag < high * size + other
 higher low high size tag other below small =
     let step : (low + 1) * size ≤ high * size = rw add-one (mul-le-mul_right size below) in
@@ -81,7 +81,7 @@ module _ (tags : AreTags) where
   one_number (kind.Signature column) a b token x y = absurd x
   one_number (kind.List member) a b token x y = absurd x
 
-  -- the number of a row that can exist fits
+  -- the number of a row that can exist fits the column
   names_fit : (kind : ColumnKind) (number : ℕ) (token : Token) → token.row ≤ 0xFFFFFF → Names kind number token → number < 2 ^ 32
   names_fit (kind.Row table) number token low x = let e = x.1 in omega arith
   names_fit (kind.Coded coded) number token low x =
@@ -128,7 +128,7 @@ module _ (tags : AreTags) where
               subst P (sym is) (subst Q e held.1)
         ]
 
-    -- the number of a cell that is a token names it
+    -- the number of a cell that is a token encodes that token
     pub names_of : IsReference (column_at table column) → cell ≡ Ref (Some token) → Names held_kind (number_of source table row column) token
     names_of (inl (other, is)) same = named_row other is same
     names_of (inr (coded, is)) same = named_coded coded is same
@@ -161,17 +161,17 @@ module _ (tags : AreTags) where
           | inr some ↦ some.1 ∙ ap (λ t. Ref (Some t)) same
         ]
 
-    -- a cell whose number names a token is that token
+    -- a cell whose number encodes a token is that token
     pub cell_named : IsReference (column_at table column) → 1 ≤ token.row → Names held_kind (number_of source table row column) token → cell ≡ Ref (Some token)
     cell_named (inl (other, is)) there names = cell_of_row other is there names
     cell_named (inr (coded, is)) there names = cell_of_coded coded is there names
 
--- a number tells which cells of a column are a token
+-- a cell of the column is the token if and only if its number is this one
 abbrev pub TellsKey : Source → TableId → ℕ → Token → ℕ → Type 0
 TellsKey source table column token number =
     (row : ℕ) (cell : Cell) → StandsIn source table row column cell → (cell ≡ Ref (Some token)) ↔ (number_of source table row column ≡ number)
 
--- no cell of a column is a token
+-- no cell of the column is the token
 abbrev pub HasNoKey : Source → TableId → ℕ → Token → Type 0
 HasNoKey source table column token = (row : ℕ) (cell : Cell) → StandsIn source table row column cell → cell ≢ Ref (Some token)
 
@@ -214,7 +214,7 @@ module _ (source : Source) (table : TableId) (row column : ℕ) (cell : Cell) (s
         | inr some ↦ (let e : held.0 ≡ token = let f = some.1 in cc in let P : Token → Type 0 = λ t. IsThere source t in subst P e some.0)
       ]
 
--- a token that names no row that exists is no key
+-- a token whose row does not exist is no key
 pub not_there : (source : Source) (table : TableId) (column : ℕ) → IsReference (column_at table column) → (token : Token) → ¬ IsThere source token
     → HasNoKey source table column token
 not_there source table column reference token none = λ row cell stands same. none (there_of source table row column cell stands token reference same)
@@ -228,7 +228,7 @@ module _ (source : Source) (model : Metadata) (read : IsReadFrom source model) (
       let same : column_of table place ≡ column = same_Some (column_of table place) column (sym key.key ∙ is_key) in
       subst P same (read.cells table row place first last key.within)
 
-  -- no row has a key that no cell is
+  -- if no cell is the token, no row has it as key
   pub none_has : HasNoKey source table column token → (row : ℕ) → ¬ (HasRow model table row × HasKey model table token row)
   none_has none row both =
       let count = read.count table in
@@ -236,7 +236,7 @@ module _ (source : Source) (model : Metadata) (read : IsReadFrom source model) (
       let last = both.0.1 in
       none row (cell_in model table row both.1.0) (key_stands row both.1.0 first (omega arith) both.1.1) both.1.2
 
-  -- the rows whose key has the number are those with the key
+  -- the rows with the key number are those with the key
   pub rows_are : (number : ℕ) → TellsKey source table column token number → (rows : List ℕ)
       → rows ≡ rows_with (keys_in source table column) number 1 (length (keys_in source table column) + 1)
       → (row : ℕ) → Contains rows row ↔ (HasRow model table row × HasKey model table token row)

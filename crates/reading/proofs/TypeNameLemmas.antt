@@ -1,4 +1,4 @@
--- The names of types, as the cells of a model.
+-- The names of types, as cells of a model.
 use Rattle.std.proofs.Common.{◌≡◌, ℕ, ◌≤◌, IsTrue, ◌↔◌, Bool, List, ◌∙◌, ap, lit<}
 use Rattle.heaps.specs.Entries.{IsText}
 use Rattle.schema.specs.declared.table.TableId.TheVariants.{TypeDef}
@@ -19,7 +19,7 @@ pub namespace_stands : (source : Source) (model : Metadata) (row : ℕ) → IsRe
 unfolding cell_columns
 namespace_stands source model row read first last = read.cells TypeDef row 2 first last (lit< tt)
 
--- whether the text of an index is the one that is sought
+-- the result says whether the string at an index equals the sought one
 abbrev pub TellsText : List ℕ → ℕ → List ℕ → Bool → Type 0
 TellsText heap index sought tells = (text : List ℕ) → IsText heap index text → IsTrue tells ↔ (text ≡ sought)
 
@@ -33,7 +33,7 @@ module _ (source : Source) (model : Metadata) (row : ℕ) (read : IsReadFrom sou
       let same : own.0 ≡ name = let e = own.2 in let f = names.0 in cc in
       false_told ((told own.0 (rw is_index (own.1))).1 same)
 
-  -- the name is the same, and the namespace decides
+  -- the name is the same, so the namespace decides
   pub same_name : (index other : ℕ) (tells tells_other : Bool) → index ≡ number_of source TypeDef row 1 → other ≡ number_of source TypeDef row 2
       → TellsText source.texts index name tells → TellsText source.texts other namespace tells_other
       → IsTrue tells → IsTrue tells_other ↔ HasNames model namespace name row

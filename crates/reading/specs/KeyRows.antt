@@ -8,40 +8,40 @@ use Rattle.schema.specs.CodedIndexes.{IsCoded}
 use Rattle.rows.specs.Keys.{key_at}
 use Rattle.metadata.specs.Source.{Source, rows_in, number_of}
 
--- the rows that are left, in their order, and how many keys were read to find them
+-- the rows that remain, in order, and the number of keys that were read to find them
 pub record RowsLeft : Type 0 where
   pub rows : List ℕ
   pub reads : ℕ
 
--- the rows that pass a test, from a row on, so many of them being left
+-- the rows that pass a test, from a row on; the second number counts the rows that are left
 abbrev pub rows_that : (ℕ → Bool) → ℕ → ℕ → List ℕ
 rows_that test row zero = []
 rows_that test row (suc left) = if test row then row ∷ rows_that test (row + 1) left else rows_that test (row + 1) left
 
--- the rows with a number, by the numbers of all rows
+-- the rows with a key number, from the numbers of all rows
 abbrev pub rows_with : List ℕ → ℕ → ℕ → ℕ → List ℕ
 rows_with numbers number first past = rows_that (λ row. key_at numbers row == number) first (past - first)
 
--- the numbers of a column, from a row on, so many of them being left
+-- the numbers of a column, from a row on; the last number counts the rows that are left
 abbrev pub numbers_from : Source → TableId → ℕ → ℕ → ℕ → List ℕ
 numbers_from source table column row zero = []
 numbers_from source table column row (suc left) = number_of source table row column ∷ numbers_from source table column (row + 1) left
 
--- the numbers of a column, row by row
+-- the numbers of a column, by row
 unfoldable pub keys_in : Source → TableId → ℕ → List ℕ
 keys_in source table column = numbers_from source table column 1 (rows_in source table)
 
--- a number names the row of a token, in a column of a kind
+-- the number encodes the row of the token, in a column of this kind
 abbrev pub Names : ColumnKind → ℕ → Token → Type 0
 Names (kind.Row table) number token = (token.table ≡ table) × (token.row ≡ number)
 Names (kind.Coded coded) number token = IsCoded coded number token.table token.row
 Names _ number token = ⊥
 
--- the rows with a number, from one to before another, that are left
+-- the rows with a key number that remain, from one row to before another
 abbrev pub left_of : List ℕ → ℕ → ℕ → ℕ → ℕ → RowsLeft
 left_of numbers number next past reads = record { rows = rows_with numbers number next past; reads = reads }
 
--- they lie in the table; and where they are a run, each has the number
+-- they are rows of the table, and if they are a run, each has the key number
 pub record AreLeft (numbers : List ℕ) (number next past : ℕ) (is_run : Bool) : Type 0 where
   pub first : 1 ≤ next
   pub within : next ≤ past

@@ -1,4 +1,4 @@
--- How the cells of a model are read from a root's numbers and heaps.
+-- How the cells of a model are read from the numbers and heaps of a metadata root.
 use Rattle.std.specs.Prelude.{◌≡◌, ℕ, ◌≤◌, ◌<◌, length}
 use Rattle.schema.specs.declared.table.TableId.{TableId}
 use Rattle.schema.specs.declared.column.ColumnKind.TheVariants as kind
@@ -8,17 +8,17 @@ use Rattle.metadata.specs.Source.{Source, rows_in}
 use Rattle.schema.specs.CellColumns.{cell_count, column_of}
 use Rattle.metadata.specs.Rows.{IsCell}
 
--- the cells of a source are those of a model
+-- the cells of the source are those of the model
 pub record IsReadFrom (source : Source) (model : Metadata) : Type 0 where
   pub count : (table : TableId) → count_in model table ≡ rows_in source table
   pub cells : (table : TableId) (row place : ℕ) → 1 ≤ row → row ≤ rows_in source table → place < cell_count table
       → IsCell source table row place (cell_in model table row place)
 
--- it is not so that no model has the cells of a source
+-- some model has the cells of the source (in the form of a double negation)
 abbrev pub IsReadable : Source → Type 0
 IsReadable source = ¬ (¬ ((model : Metadata) × IsReadFrom source model))
 
--- the column of a table lists members, and its cells stand at the same place in a row
+-- the column of the table lists members, and its cell has the same index in a row
 pub record IsMemberList (owner : TableId) (column : ℕ) (member : TableId) : Type 0 where
   pub within : column < length (columns_of owner)
   pub cell : column < cell_count owner

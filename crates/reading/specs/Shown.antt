@@ -1,4 +1,4 @@
--- The cell that a value in place shows.
+-- The cell that a value in place stands for.
 use Rattle.std.specs.Prelude.{◌≡◌, ℕ, List}
 use Rattle.schema.specs.declared.table.TableId.{TableId}
 use Rattle.schema.specs.declared.column.ColumnKind.{ColumnKind}
@@ -14,12 +14,12 @@ use Rattle.metadata.specs.Source.{Source}
 use Rattle.reading.specs.declared.cell_ref.CellRef.{CellRef}
 use Rattle.reading.specs.declared.cell_ref.CellRef.TheVariants as seen
 
--- the blob spells the signature of a cell, in a column of signatures
+-- the blob encodes the signature of the cell, in a column of signatures
 abbrev pub ShowsSignature : ColumnKind → List ℕ → Cell → Type 0
 ShowsSignature (kind.Signature column) blob cell = (signature : Body) × Spells column signature blob × (cell ≡ Sig signature)
 ShowsSignature _ blob cell = ⊥
 
--- the value shows the cell, in a column of a kind: a signature by its blob, and any other cell as it is
+-- the value stands for the cell, in a column of a kind: a signature by its blob, any other cell directly
 abbrev pub Shows : ColumnKind → CellRef → Cell → Type 0
 Shows column (seen.Number number) cell = cell ≡ Number number
 Shows column (seen.Text text) cell = cell ≡ Text text.now
@@ -29,11 +29,11 @@ Shows column (seen.Ref token) cell = cell ≡ Ref token
 Shows column (seen.Start start) cell = cell ≡ Start start
 Shows column (seen.Sig blob) cell = ShowsSignature column blob.now cell
 
--- the blob of a signature is that of a number
+-- the blob of a signature is the blob at the number's index
 abbrev pub ShowsBlob : Source → ℕ → CellRef → Type 0
 ShowsBlob source number (seen.Sig blob) = IsBlob source.blobs number blob.now
 ShowsBlob source number _ = Unit {0}
 
--- the value shows a cell of a table, by its place in its row
+-- the value stands for the cell of a table, given by its index in the row
 abbrev pub ShowsCell : TableId → ℕ → CellRef → Cell → Type 0
 ShowsCell table place value cell = Shows (column_at table (column_of table place)).kind value cell

@@ -19,7 +19,7 @@ source_seen source = record {
   place = source.place;
 }
 
--- its counts are those of the tables, under their numbers
+-- its counts are those of the tables, by table number
 pub record IsSource (source : Inside) : Type 0 where
   pub counts : (table : TableId) → slice_index source.counts (table_number table) ≡ rows_in (source_seen source).source table
   pub low : source.place + length source.rows.bytes ≤ 2 ^ 32

@@ -19,7 +19,7 @@ use crate::key_rows::KeyRows;
 use crate::source::Source;
 use schema::{ColumnKind, TableId, Token, columns_stand, join, tags_fit};
 
-/// The rows of a table whose key is a token, by whether the table is in order of its key column.
+/// The rows of a table whose key is a token. `in_order` says whether the table is sorted by its key column.
 pub fn rows_by_key<'v, 'a>(
     source: &'v Source<'a>,
     table: TableId,
@@ -51,7 +51,7 @@ pub fn rows_by_key<'v, 'a>(
     }
 }
 
-/// The number of a key that is a token, `None` where no row has such a key.
+/// The number of a key that is a token; `None` if no row has such a key.
 fn key_number(source: &Source, table: TableId, column: usize, token: Token) -> Option<u32>
     requires { key_of table ≡ Some column }
     ensures found { IfSome result (λ number. (row : ℕ) (cell : Cell) → StandsIn source.now.source table row column cell
@@ -66,7 +66,7 @@ fn key_number(source: &Source, table: TableId, column: usize, token: Token) -> O
     number_naming(column_at(table, column).kind, token)
 }
 
-/// The number by which a column names the row of a token, `None` where it cannot.
+/// The number that encodes the row of a token in a column of this kind; `None` if there is none.
 pub fn number_naming(kind: ColumnKind, token: Token) -> Option<u32>
     ensures found { IfSome result (λ number. Names kind number token) }
     ensures only { (number : ℕ) → number < 2 ^ 32 → Names kind number token → result ≡ Some number }

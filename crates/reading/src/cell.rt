@@ -19,7 +19,7 @@ use crate::source::Source;
 use heaps::{Strings, blob, guid};
 use schema::{Coded, ColumnKind, TableId, Token};
 
-/// The cell that the number of a column stands for, where it stands for one.
+/// The cell that the number of a column stands for, if there is one.
 pub fn cell_of<'a>(
     source: &Source<'a>,
     known: &KnownRuns,
@@ -52,7 +52,7 @@ pub fn cell_of<'a>(
     }
 }
 
-/// The text of an index that has one.
+/// The string at an index that has one.
 fn text_at<'a>(heap: &Strings<'a>, index: u32) -> &'a str
     requires { ¬ (¬ ((text : List ℕ) × IsText heap.now index text)) }
     ensures { (text : List ℕ) → IsText heap.now index text → result.now ≡ text }
@@ -63,7 +63,7 @@ fn text_at<'a>(heap: &Strings<'a>, index: u32) -> &'a str
     }
 }
 
-/// The blob of an index that has one.
+/// The blob at an index that has one.
 fn blob_at(heap: &[u8], index: u32) -> &[u8]
     requires { ¬ (¬ ((blob : List ℕ) × IsBlob heap.now index blob)) }
     ensures found { IsBlob heap.now index result.now }
@@ -75,7 +75,7 @@ fn blob_at(heap: &[u8], index: u32) -> &[u8]
     }
 }
 
-/// The GUID of an index that has one.
+/// The GUID at an index that has one.
 fn guid_at(heap: &[u8], index: u32) -> Option<[u8; 16]>
     requires { ¬ (¬ ((guid : Option (List ℕ)) × IsGuid heap.now index guid)) }
     ensures { (guid : Option (List ℕ)) → IsGuid heap.now index guid → result ≡ guid }
@@ -86,7 +86,7 @@ fn guid_at(heap: &[u8], index: u32) -> Option<[u8; 16]>
     }
 }
 
-/// The row of a reference, `None` where it is null.
+/// The row of a reference; `None` if the reference is null.
 fn reference(table: TableId, row: u32) -> Option<Token>
     ensures null { row ≡ 0 → result ≡ None }
     ensures there { 1 ≤ row → result ≡ Some (record { table = table; row = row }) }
@@ -98,7 +98,7 @@ fn reference(table: TableId, row: u32) -> Option<Token>
     }
 }
 
-/// The row of a coded index whose tag is used, `None` where it is null.
+/// The row of a coded index with a known tag; `None` if the index is null.
 fn coded_reference(coded: Coded, number: u32) -> Option<Token>
     requires { ¬ (¬ ((token : TheToken) × IsCoded coded number token.table token.row)) }
     ensures null { (token : TheToken) → IsCoded coded number token.table token.row → token.row ≡ 0 → result ≡ None }

@@ -1,20 +1,20 @@
 use schema::Token;
 
-/// A cell of a row, by parts of the bytes that were handed in (II.22).
+/// A cell of a row (II.22). It borrows from the caller's bytes.
 #[derive(Clone, Copy, Debug, PartialEq)]
 pub enum CellRef<'a> {
     /// A number.
     Number(u32),
-    /// A text of `#Strings`.
+    /// A string of `#Strings`.
     Text(&'a str),
     /// A blob of `#Blob`.
     Bytes(&'a [u8]),
-    /// A GUID of `#GUID`, or null.
+    /// A GUID of `#GUID`; `None` is null.
     Guid(Option<[u8; 16]>),
-    /// A row, or null.
+    /// A row; `None` is null.
     Ref(Option<Token>),
-    /// The first member of the owner's run, counted from 1: behind the last member where no owner from
-    /// this one on has members.
+    /// The row of the first member of the owner's run, counted from 1. If neither this owner nor a later one has
+    /// members, it is one more than the last member.
     Start(u32),
     /// The blob of a signature (II.23.2).
     Sig(&'a [u8]),

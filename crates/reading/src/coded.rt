@@ -4,8 +4,8 @@ ghost use Rattle.schema.specs.CodedIndexes.{IsCoded};
 
 use schema::{Coded, Token, split};
 
-/// The row that a number of a coded index names, of row 0 where it is null; `None` where its tag is not
-/// used (II.24.2.6).
+/// The row that a coded index names (II.24.2.6). Its row is 0 if the index is null. `None` if its tag is not
+/// used.
 pub fn named_by(coded: Coded, number: u32) -> Option<Token>
     ensures found { IfSome result (λ token. IsCoded coded number token.table token.row) }
     ensures only { (token : TheToken) → IsCoded coded number token.table token.row → result ≡ Some token }

@@ -3,7 +3,7 @@ ghost use Rattle.schema.specs.Columns.{columns_of, column_at};
 
 use schema::{Column, TableId, columns};
 
-/// The column of an index.
+/// The column with this index.
 pub fn column_at(table: TableId, index: usize) -> Column
     requires { index < length (columns_of table) }
     ensures { result ≡ column_at table index }

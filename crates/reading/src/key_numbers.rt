@@ -6,17 +6,17 @@ use crate::source::Source;
 use rows::Keys;
 use schema::TableId;
 
-/// What has the key numbers of the rows of a table.
+/// Gives the key numbers of the rows of a table.
 ///
-/// Rows count from 1. A value stands for one list of numbers, and reading changes nothing.
+/// Rows count from 1. A value stands for one list of numbers, and reading does not change it.
 pub trait KeyNumbers: Drop {
     ghost use Rattle.std.specs.Prelude.{◌≡◌, ℕ, ◌≤◌, List, length};
     ghost use Rattle.rows.specs.Keys.{key_at};
 
-    // The numbers, that of row 1 first.
+    // The numbers, from row 1 on.
     ghost numbers: { Self → List ℕ };
 
-    /// How many rows there are.
+    /// The number of rows.
     fn count(&self) -> u32
         ensures value { result ≡ length (numbers self.now) }
         ensures limit { result ≤ 0xFFFFFF };
@@ -31,7 +31,7 @@ pub trait KeyNumbers: Drop {
 /// The key numbers of a table of a source.
 #[derive(Drop)]
 pub struct SourceKeys<'v, 'a> {
-    /// What the numbers are read from.
+    /// The source of the numbers.
     pub source: &'v Source<'a>,
     /// The table.
     pub table: TableId,
@@ -52,12 +52,12 @@ impl<'v, 'a> KeyNumbers for SourceKeys<'v, 'a> {
     }
 }
 
-/// Key numbers whose readings are counted.
+/// Key numbers that count how often they are read.
 #[derive(Drop)]
 pub struct CountedKeys<'k, K: KeyNumbers> {
     /// The numbers.
     pub numbers: &'k K,
-    /// How many were read.
+    /// The number of reads so far.
     pub asked: u64,
 }
 

@@ -8,7 +8,7 @@ use crate::key_numbers::{CountedKeys, KeyNumbers};
 use rows::find_key;
 use std::marker::Model;
 
-/// The rows of a table with a key, from the lowest on. It takes no memory.
+/// The rows of a table with a key, in ascending order. It does not allocate.
 #[derive(Drop)]
 pub struct KeyRows<K: KeyNumbers> {
     keys: K,
@@ -45,7 +45,7 @@ impl<K: KeyNumbers> KeyRows<K> {
         }
     }
 
-    /// The rows with a number, each of which is looked at as the iterator goes.
+    /// The rows with a key number. Each row is tested as the iterator advances.
     pub fn walk(keys: K, number: u32) -> KeyRows<K>
         ensures rows { result.rows ≡ rows_with (K.numbers keys) number 1 (length (K.numbers keys) + 1) }
         ensures reads { result.reads ≡ 0 }
@@ -61,7 +61,7 @@ impl<K: KeyNumbers> KeyRows<K> {
         }
     }
 
-    /// The rows with a number, found by halving where the numbers never fall.
+    /// The rows with a key number. They are found by binary search if the numbers never fall.
     pub fn search(keys: K, number: u32) -> KeyRows<K>
         requires { IsNonDecreasing (K.numbers keys) }
         ensures rows { result.rows ≡ rows_with (K.numbers keys) number 1 (length (K.numbers keys) + 1) }
@@ -82,8 +82,8 @@ impl<K: KeyNumbers> KeyRows<K> {
         }
     }
 
-    /// How many keys were read to find the rows: by halving where the table is in order, else none, since
-    /// the rows are then looked at as the iterator goes.
+    /// The number of keys that were read to find the rows. It is 0 if the table is not in order, because then the
+    /// rows are tested as the iterator advances.
     pub fn reads(&self) -> u64
         ensures { result ≡ self.now.reads }
     {
@@ -113,7 +113,7 @@ impl<K: KeyNumbers> Iterator for KeyRows<K> {
     }
 }
 
-/// The first row from `first` on with a number, `past` where there is none before it.
+/// The first row from `first` on with a key number; `past` if there is none before it.
 fn next_with<K: KeyNumbers>(keys: &K, number: u32, first: u32, past: u32) -> u32
     requires first { 1 ≤ first }
     requires within { first ≤ past }

@@ -7,19 +7,19 @@ ghost use Rattle.metadata.specs.Starts.{start_of};
 
 use schema::TableId;
 
-/// How many starts of a column are kept at most.
+/// The greatest number of starts that are kept of a column.
 const KEPT: u32 = 256;
 
-/// Where the runs of some owners begin: of those whose row is a multiple of `step`.
+/// The starts of the runs of some owners: those whose row is a multiple of `step`.
 ///
-/// A null start is that of the next owner, so a look-up walks to the next that is not null. With these it
-/// walks over fewer than `step` owners, a 256th of all.
+/// A null start is that of the next owner, so a look-up moves on to the next start that is not null. With the
+/// kept starts it passes fewer than `step` owners, about a 256th of all.
 #[repr(C)]
 #[derive(Clone, Copy)]
 pub struct KnownStarts {
-    /// How far the owners are apart.
+    /// The distance between these owners, in rows.
     pub step: u32,
-    /// Their starts: that of row `step * (k + 1)` stands at `k`.
+    /// Their starts: that of row `step * (k + 1)` has index `k`.
     pub starts: [u32; 256],
     ghost moves: { 0 < step },
 }
@@ -27,7 +27,7 @@ pub struct KnownStarts {
 impl KnownStarts {
     ghost use Rattle.reading.specs.KnownStarts.{IsKnown};
 
-    /// Room for the starts of every 256th part of the owners, none of which is known.
+    /// Room for the starts of 256 owners. None of them is known.
     pub fn new(owners: u32) -> KnownStarts
         requires { owners ≤ 0xFFFFFF }
         ensures step { result.step ≡ owners / 256 + 1 }
@@ -40,7 +40,7 @@ impl KnownStarts {
         }
     }
 
-    /// Where the start of an owner is kept, `None` where it is not one of those.
+    /// The index of an owner's start; `None` if it is not kept.
     fn place(&self, row: u32) -> Option<usize>
         requires { 1 ≤ row }
         ensures kept { IfSome result (λ k. row ≡ self.now.step * (k + 1)) }
@@ -53,7 +53,7 @@ impl KnownStarts {
         }
     }
 
-    /// Keeps the start of an owner, if it is one of those.
+    /// Keeps the start of an owner, if it is one of these owners.
     pub fn keep(&mut self, row: u32, first: u32)
         requires first { 1 ≤ row }
         requires room { row < 256 * self.old.step }
@@ -80,15 +80,15 @@ impl KnownStarts {
 #[repr(C)]
 #[derive(Clone, Copy)]
 pub struct KnownRuns {
-    /// Of the fields of types.
+    /// The fields of types.
     pub fields: KnownStarts,
-    /// Of the methods of types.
+    /// The methods of types.
     pub methods: KnownStarts,
-    /// Of the parameters of methods.
+    /// The parameters of methods.
     pub params: KnownStarts,
-    /// Of the events of rows of EventMap.
+    /// The events of rows of EventMap.
     pub events: KnownStarts,
-    /// Of the properties of rows of PropertyMap.
+    /// The properties of rows of PropertyMap.
     pub properties: KnownStarts,
 }
 

@@ -1,7 +1,7 @@
 ghost use Rattle.schema.specs.declared.table.TableId.TheVariants.{TypeDef, MethodDef, Field, Param, EventMap, Event, PropertyMap, Property};
 ghost use Rattle.reading.specs.ReadFrom.{IsMemberList};
 
-/// Which columns list the members of the five runs (II.22.37, II.22.26, II.22.12 and II.22.35).
+/// The columns that list the members of the five runs (II.22.37, II.22.26, II.22.12 and II.22.35).
 pub fn members_are_listed()
     ensures fields { IsMemberList TypeDef 4 Field }
     ensures methods { IsMemberList TypeDef 5 MethodDef }

@@ -1,10 +1,10 @@
-//! Reads the tables of a root in place (ECMA-335 II.22).
+//! Reads the tables of a metadata root in place (ECMA-335 II.22).
 //!
-//! A [`Source`] is what cells are read from: the rows of a table stream, and the heaps. It answers numbers,
-//! whether or not they stand for cells, and [`cell_of`] the cell of a number that stands for one. Runs of
-//! members, types by name and rows by key are looked up here too: [`Starts`] gives all starts of a column in
-//! one walk, [`KnownRuns`] keeps some of them for single look-ups, and [`KeyRows`] are found by halving over
-//! whatever has [`KeyNumbers`]. Nothing here takes memory.
+//! A [`Source`] holds the rows of a table stream, and the heaps. It returns the numbers of columns, whether
+//! or not they stand for cells. [`cell_of`] returns the cell of a number that stands for one. This crate
+//! also looks up runs of members, types by name and rows by key. [`Starts`] returns all starts of a column in
+//! one pass, and [`KnownRuns`] keeps some of them for single look-ups. [`KeyRows`] finds rows by binary
+//! search over any [`KeyNumbers`]. Nothing here allocates.
 //!
 //! ```text
 //! let source = Source::new(rows, Strings::new(texts), blobs, guids, place);

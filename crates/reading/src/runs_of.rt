@@ -37,10 +37,10 @@ pub fn run(
     first..past
 }
 
-/// Where the run of an owner begins: at its list value, or where that is null with the run of the next
-/// owner; behind the last owner, behind the last member.
+/// The start of an owner's run: its list value, or the start of the next owner if the value is null. After the
+/// last owner, it is one more than the last member.
 ///
-/// Null values are walked over up to an owner whose start is known.
+/// Null values are passed up to an owner whose start is known.
 pub fn start(
     source: &Source,
     known: &KnownRuns,
@@ -67,7 +67,7 @@ pub fn start(
     source.count(member) + 1
 }
 
-/// Where the run of an owner begins, by its list value and where that of the next owner begins.
+/// The start of an owner's run, from its list value and the start of the next owner.
 pub fn start_before(
     source: &Source,
     owner: TableId,

@@ -4,7 +4,7 @@ use rows::Rows;
 use schema::{TableId, numbers_are_read};
 use std::marker::Model;
 
-/// What the cells of a root are read from, in the bytes that were handed in.
+/// The rows and heaps of a metadata root, in the caller's bytes.
 #[derive(Drop)]
 pub struct Source<'a> {
     rows: Rows<'a>,
@@ -40,9 +40,9 @@ impl<'a> Source<'a> {
     ghost use Rattle.metadata.specs.Placed.{cell_place};
     ghost use Rattle.reading.specs.Codes.{code_at};
 
-    /// What the cells of a root are read from, whose table stream begins at a place.
+    /// A source whose table stream starts at this offset.
     ///
-    /// No heap is looked at.
+    /// It does not read the heaps.
     pub fn new(
         rows: Rows<'a>,
         strings: Strings<'a>,
@@ -65,7 +65,7 @@ impl<'a> Source<'a> {
         }
     }
 
-    /// How many rows a table has.
+    /// The number of rows of a table.
     pub fn count(&self, table: TableId) -> u32
         ensures value { result ≡ rows_in self.now.source table }
         ensures limit { result ≤ 0xFFFFFF }
@@ -73,21 +73,21 @@ impl<'a> Source<'a> {
         self.rows.layout().count(table)
     }
 
-    /// How many rows each table has, under its number.
+    /// The number of rows of each table, by table number.
     pub fn counts(&self) -> &[u32; 45]
         ensures { (table : Table) → slice_index result.now (table_number table) ≡ rows_in self.now.source table }
     {
         &self.counts
     }
 
-    /// Whether a table is said to be in order of its key.
+    /// Whether the `Sorted` field says that the table is in order of its key (II.24.2.6).
     pub fn is_said_sorted(&self, table: TableId) -> bool
         ensures { result ≡ is_said_sorted self.now.source table }
     {
         self.rows.layout().sorted() >> table.number() & 1 == 1
     }
 
-    /// The number of a column, in a row counted from 1.
+    /// The number in a column of a row. Rows count from 1.
     #[tactic(auto, unfolding(metadata::specs::Source::number_of))]
     pub fn number(&self, table: TableId, row: u32, column: usize) -> u32
         requires first { 1 ≤ row }
@@ -100,7 +100,7 @@ impl<'a> Source<'a> {
         self.rows.number(table, row, column)
     }
 
-    /// The fault of a demand on a cell.
+    /// The fault of a rule for a cell.
     #[tactic(auto, unfolding(metadata::specs::Placed::cell_place))]
     pub fn fault(&self, code: FaultCode, table: TableId, row: u32, column: usize) -> Fault
         requires first { 1 ≤ row }
@@ -119,39 +119,39 @@ impl<'a> Source<'a> {
         1 <= row && row <= self.count(table)
     }
 
-    /// The heap of texts.
+    /// The bytes of `#Strings`.
     pub fn texts(&self) -> &'a [u8]
         ensures { result.now ≡ self.now.source.texts }
     {
         self.strings.heap()
     }
 
-    /// The heap of texts, looked at once as a whole.
+    /// The heap of strings, which was scanned once as a whole.
     pub fn strings(&self) -> &Strings<'a>
         ensures { result.now ≡ self.now.source.texts }
     {
         &self.strings
     }
 
-    /// The heap of blobs.
+    /// The bytes of `#Blob`.
     pub fn blobs(&self) -> &'a [u8]
         ensures { result.now ≡ self.now.source.blobs }
     {
         self.blobs
     }
 
-    /// The heap of GUIDs.
+    /// The bytes of `#GUID`.
     pub fn guids(&self) -> &'a [u8]
         ensures { result.now ≡ self.now.source.guids }
     {
         self.guids
     }
 
-    /// A text stands at an index of `#Strings` (II.24.2.3).
+    /// Checks that a string is at this index of `#Strings` (II.24.2.3).
     ///
     /// # Errors
     ///
-    /// The code of what the heap refuses the index for.
+    /// The code of the rule of the heap that the index breaks.
     pub fn check_text(&self, index: u32) -> Result<(), FaultCode>
         ensures { (place : ℕ) → Answers (demands_of_text self.now.source.texts index place) (code_at place result) }
     {
@@ -161,11 +161,11 @@ impl<'a> Source<'a> {
         }
     }
 
-    /// A blob stands at an index of `#Blob` (II.24.2.4).
+    /// Checks that a blob is at this index of `#Blob` (II.24.2.4).
     ///
     /// # Errors
     ///
-    /// The code of what the heap refuses the index for.
+    /// The code of the rule of the heap that the index breaks.
     pub fn check_blob(&self, index: u32) -> Result<(), FaultCode>
         ensures { (place : ℕ) → Answers (demands_of_blob self.now.source.blobs index place) (code_at place result) }
     {
@@ -175,11 +175,11 @@ impl<'a> Source<'a> {
         }
     }
 
-    /// A GUID has the number, or it is null (II.24.2.5).
+    /// Checks that a GUID has this number, or that the number is null (II.24.2.5).
     ///
     /// # Errors
     ///
-    /// The code of what the heap refuses the number for.
+    /// The code of the rule of the heap that the number breaks.
     pub fn check_guid(&self, index: u32) -> Result<(), FaultCode>
         ensures { (place : ℕ) → Answers (demands_of_guid self.now.source.guids index place) (code_at place result) }
     {

@@ -15,9 +15,9 @@ use crate::source::Source;
 use schema::{TableId, column_of_cell};
 use std::marker::Model;
 
-/// Where the runs of all owners begin by a column that lists members, from the last owner back to the first.
+/// The starts of the runs of all owners in a column that lists members, from the last owner to the first.
 ///
-/// Each list value is read once, since a null start is that of the next owner. It takes no memory.
+/// Each list value is read once, because a null start is that of the next owner. It does not allocate.
 #[derive(Drop)]
 pub struct Starts<'v, 'a> {
     source: &'v Source<'a>,
@@ -40,7 +40,7 @@ impl<'v, 'a> Model for Starts<'v, 'a> {
 }
 
 impl<'v, 'a> Starts<'v, 'a> {
-    /// The starts of all owners, by a column of theirs that lists rows of the member table.
+    /// The starts of all owners, in a column that lists rows of the member table.
     pub fn new(
         source: &'v Source<'a>,
         owner: TableId,
@@ -86,7 +86,7 @@ impl<'v, 'a> Iterator for Starts<'v, 'a> {
     }
 }
 
-/// The starts that the cells of a column have, by its place among the cells of a row (II.22).
+/// The starts in a column, by the index of its cell in the row (II.22).
 pub fn starts_of<'v, 'a>(
     source: &'v Source<'a>,
     table: TableId,

@@ -9,7 +9,7 @@ ghost use Rattle.reading.specs.ReadFrom.{IsReadFrom};
 use crate::source::Source;
 use schema::TableId;
 
-/// The first type of a namespace and a name.
+/// The first type with this namespace and this name.
 pub fn find_type(source: &Source, namespace: &str, name: &str) -> Option<u32>
     ensures found { (model : Metadata) → IsReadFrom source.now.source model → IfSome result (IsFirstType model namespace.now name.now) }
     ensures none { (model : Metadata) → IsReadFrom source.now.source model
@@ -23,7 +23,7 @@ pub fn find_type(source: &Source, namespace: &str, name: &str) -> Option<u32>
     None
 }
 
-/// Whether a type has a namespace and a name (II.22.37).
+/// Whether a type has this namespace and this name (II.22.37).
 fn has_names(source: &Source, row: u32, namespace: &str, name: &str) -> bool
     requires first { 1 ≤ row }
     requires last { row ≤ rows_in source.now.source TypeDef }
@@ -35,7 +35,7 @@ fn has_names(source: &Source, row: u32, namespace: &str, name: &str) -> bool
         && is_text(source.texts(), own_namespace, namespace.as_bytes())
 }
 
-/// Whether the text of an index is the one that is sought.
+/// Whether the string at this index equals `sought`.
 fn is_text(heap: &[u8], index: u32, sought: &[u8]) -> bool
     ensures { (text : List ℕ) → IsText heap.now index text → IsTrue result ↔ (text ≡ sought.now) }
 {
@@ -49,7 +49,7 @@ fn is_text(heap: &[u8], index: u32, sought: &[u8]) -> bool
     is_before_nul(rest, sought)
 }
 
-/// Whether these bytes stand before the first NUL.
+/// Whether the bytes before the first NUL equal `sought`.
 fn is_before_nul(bytes: &[u8], sought: &[u8]) -> bool
     ensures { (text after : List ℕ) → bytes.now ≡ text ++ 0 ∷ after → HasNoNul text → IsTrue result ↔ (text ≡ sought.now) }
 {

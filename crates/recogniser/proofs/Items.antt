@@ -1,4 +1,4 @@
--- Items at the front, one by one, as a walk passes them: modifiers, and modifiers and PINNED.
+-- Items at the start, one by one, as the pass skips them: modifiers, and modifiers with PINNED.
 use Rattle.std.proofs.Common.{◌≡◌, ℕ, ◌<◌, Bool, false, Option, Some, None, List, [], ◌∷◌, length, refl, ap, ◌∙◌, subst, IfSome}
 use Rattle.std.specs.Prelude.{option_map}
 use Rattle.schema.specs.declared.token.Token.{Token}
@@ -32,7 +32,7 @@ module _ {A : Type 0} (r : Optional A) (starts : List ℕ → Bool) (steps : Ste
         let front : leading_at r b ≡ Some ([], b) = leading_is r starts steps b ∙ rw s refl in
         ap (λ (o : Option (List A × List ℕ)). passed counts bad (list_parts parts) o) front ∙ ap (λ (t : Option Token). Some (b, t)) (noted-none counts bad)
 
--- ---- the loops over modifiers, and over modifiers and PINNED
+-- ---- the loops over modifiers, and over modifiers with PINNED
 
 pub modifier_shorter : (b c : List ℕ) (x : Modifier) → modifier_at b ≡ Some (Some x, c) → length c < length b
 modifier_shorter b c x e = item_shorter modifier_at starts_modifier modifier_steps b c x e
@@ -66,7 +66,7 @@ prefixes_end counts b bad h = items_end prefix_at starts_prefix prefix_steps pre
 
 -- ---- one index
 
--- the token of an index is noted
+-- the token of an index is checked
 pub index_passes : (counts b : List ℕ) (bad : Option Token) → skip_index counts (b, bad) ≡ passed counts bad index_parts (index_at b)
 unfolding skip_index
 index_passes counts b bad = refl

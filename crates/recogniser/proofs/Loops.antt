@@ -1,4 +1,4 @@
--- Skipping step by step, as loops and tests of depth meet it.
+-- Skipping step by step, as loops and depth tests do it.
 use Rattle.std.proofs.Common.{◌≡◌, ℕ, zero, suc, ◌+◌, ◌-◌, ◌<◌, ◌≤◌, ◌&&◌, Bool, not, cond, Option, Some, None, is_some, List, [], ◌∷◌, refl, arith}
 use Rattle.std.specs.Prelude.{option_and_then}
 use Rattle.schema.specs.declared.token.Token.{Token}
@@ -26,7 +26,7 @@ pub skip_params_end : (counts : List ℕ) (nested : Skip) (allowed : Bool) (n k 
 unfolding skip_params
 skip_params_end counts nested allowed n k here le = let none : n - k ≡ 0 = omega arith in rw none refl
 
--- a core that may be so deep
+-- a core at the depth that is left
 abbrev pub skip_next : List ℕ → ℕ → Skip
 skip_next counts d ([], bad) = None
 skip_next counts d (c ∷ b, bad) = cond (is_some (element_of c)) (Some (b, bad)) (skip_by counts d (skip_core counts d) c (b, bad))

@@ -1,4 +1,4 @@
--- Noting the first token that names no row, over several lists of tokens.
+-- The first token whose row does not exist, over several lists of tokens.
 use Rattle.std.proofs.Common.{◌≡◌, ℕ, Bool, true, false, cond, not, Option, Some, None, is_some, List, [], ◌∷◌, ◌++◌, refl, ap, ◌∙◌}
 use Rattle.std.specs.Prelude.{◌||◌, ℤ}
 use Rattle.std.specs.List.{flat_map}
@@ -40,7 +40,7 @@ pub noted_parts-append : (counts : List ℕ) (bad : Option Token) (ps qs : List 
 noted_parts-append counts bad ps qs =
     ap (λ (ts : List Token). noted counts bad ts) (flat_map-append part_tokens ps qs) ∙ noted-append counts bad (flat_map part_tokens ps) (flat_map part_tokens qs)
 
--- one token more
+-- one more token
 pub note_one : (counts : List ℕ) (bad : Option Token) (token : Token) (p : Bool) → p ≡ has_row counts token → cond (is_some bad || p) bad (Some token) ≡ noted counts bad (token ∷ [])
 note_one counts (Some t) token p e = refl
 note_one counts None token true e = rw (← e) refl

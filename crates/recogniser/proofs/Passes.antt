@@ -1,4 +1,4 @@
--- Skipping a value is reading it, with its tokens noted and the value forgotten.
+-- Skipping a value is reading it, then keeping its first bad token and dropping the value.
 use Rattle.std.proofs.Common.{◌≡◌, ℕ, zero, suc, ◌/◌, ◌%◌, ◌&&◌, Bool, true, false, not, cond, eqb, ltb, Option, Some, None, is_some, List, [], ◌∷◌, ◌++◌, length, drop, refl, sym, ap, ◌∙◌}
 use Rattle.std.specs.Prelude.{ℤ, option_map, option_and_then}
 use Rattle.std.specs.List.{flat_map}
@@ -21,7 +21,7 @@ use Rattle.recogniser.specs.Skips.{Left, Skip, noted, passed, with_bad, number_l
 use Rattle.recogniser.proofs.Noted.{number_parts, signed_parts, index_parts, noted-none, noted_parts, noted_parts-append}
 use Rattle.recogniser.proofs.Items.{index_passes}
 
--- the parts of VOID, or of something else
+-- the parts of VOID, or of another value
 abbrev void_parts : {A : Type 0} → (A → List Part) → Option A → List Part
 void_parts parts None = byte VOID ∷ []
 void_parts parts (Some x) = parts x
@@ -30,7 +30,7 @@ module _ (counts : List ℕ) where
   abbrev pub Passes : {A : Type 0} → Skip → Reader A → (A → List Part) → Type 0
   Passes skip r parts = (b : List ℕ) (bad : Option Token) → skip (b, bad) ≡ passed counts bad parts (r b)
 
-  -- the same tokens are noted
+  -- both have the same tokens
   abbrev Same : {A : Type 0} → (A → List Part) → (A → List Part) → Type 0
   Same {A = A} parts more = (x : A) (bad : Option Token) → noted_parts counts bad (more x) ≡ noted_parts counts bad (parts x)
 
@@ -92,7 +92,7 @@ module _ (counts : List ℕ) where
       of_option None = refl
       of_option (Some x) = nothing_noted (drop x.1 b) bad
 
-  -- what follows a number, by its value
+  -- what follows a number, depending on its value
   passed_after : {A : Type 0} (skip : ℕ → Skip) (r : ℕ → Reader A) (parts : A → List Part) → ((n : ℕ) → Passes (skip n) (r n) parts) → (bad : Option Token) (o : Option (ℕ × List ℕ)) → option_and_then (λ (x : ℕ × Left). skip x.0 x.1) (option_map (with_bad bad) o) ≡ passed counts bad parts (option_and_then (λ (x : ℕ × List ℕ). r x.0 x.1) o)
   passed_after skip r parts passes bad None = refl
   passed_after skip r parts passes bad (Some x) = passes x.0 x.1 bad
@@ -157,7 +157,7 @@ module _ (counts : List ℕ) where
       of_test false true = nothing_noted b bad
       of_test false false = refl
 
-  -- ---- a code, or something else
+  -- ---- a code, or another value
 
   void_passes : {A : Type 0} (other : Skip) (r : Reader A) (parts : A → List Part) → Passes other r parts → Passes (skip_void_or other) (void_or r) (void_parts parts)
   unfolding skip_void_or void_or
@@ -188,7 +188,7 @@ module _ (counts : List ℕ) where
   passes_deep zero inner r parts passes b bad = refl
   passes_deep (suc d) inner r parts passes b bad = passes b bad
 
-  -- ---- where cores pass
+  -- ---- if cores pass
 
   module _ (s : Skip) (nested : Reader Core) (cores : Passes s nested core_parts) where
     typed_passes : Passes (skip_typed counts s) (typed_at nested) typed_parts
@@ -270,7 +270,7 @@ module _ (counts : List ℕ) where
     abbrev params_parts : List Slot × Option ℕ → List Part
     params_parts p = slots_parts (slots_from p.0) p.1
 
-    -- SENTINEL is no token
+    -- SENTINEL adds no token
     tokens_any : (ss : Slots) (sentinel : Option ℕ) → flat_map part_tokens (slots_parts ss sentinel) ≡ flat_map part_tokens (slots_parts ss None)
     tokens_any no_slots None = refl
     tokens_any no_slots (Some k) = refl
@@ -279,7 +279,7 @@ module _ (counts : List ℕ) where
     tokens_any (slot_then x ss) (Some (suc k)) =
         flat_map-append part_tokens (slot_parts x) (slots_parts ss (Some k)) ∙ ap (λ (ts : List Token). flat_map part_tokens (slot_parts x) ++ ts) (tokens_any ss (Some k)) ∙ sym (flat_map-append part_tokens (slot_parts x) (slots_parts ss None))
 
-    -- a parameter, and those behind it
+    -- a parameter, and the parameters after it
     noted_params : (bad : Option Token) (x : Slot) (ss : Slots) (sentinel behind : Option ℕ) → noted_parts counts (noted_parts counts bad (slot_parts x)) (slots_parts ss behind) ≡ noted_parts counts bad (slots_parts (slot_then x ss) sentinel)
     noted_params bad x ss sentinel behind =
         ap (λ (ts : List Token). noted counts (noted_parts counts bad (slot_parts x)) ts) (tokens_any ss behind) ∙ sym (noted_parts-append counts bad (slot_parts x) (slots_parts ss None)) ∙ ap (λ (ts : List Token). noted counts bad ts) (sym (tokens_any (slot_then x ss) sentinel))

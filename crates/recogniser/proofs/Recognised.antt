@@ -1,4 +1,4 @@
--- Bytes that are skipped to their end are spelled by a signature, whose tokens were noted.
+-- If bytes are skipped to their end, they encode a signature, and its first bad token was kept.
 use Rattle.std.proofs.Common.{◌≡◌, ℕ, ◌<◌, ◌^◌, Bool, true, false, eqb, Option, Some, None, is_some, IfSome, List, [], ◌∷◌, length, get_or, refl, sym, ap, ◌∙◌}
 use Rattle.std.proofs.Math.Dec.{eqb-suc-zero}
 use Rattle.schema.specs.declared.token.Token.{Token}
@@ -11,27 +11,27 @@ use Rattle.signature_values.specs.Columns.{body_at}
 use Rattle.recogniser.specs.Skips.{Left, passed, skip_core, skip_body}
 use Rattle.recogniser.proofs.Passes.{core_passes, body_passes}
 
--- the whole signature that bytes begin with is skipped
+-- the result of skipping a whole signature at the start of the bytes
 abbrev pub skip_all : List ℕ → SigKind → List ℕ → Option Left
 skip_all counts kind b = skip_body counts kind (skip_core counts 128) (b, None)
 
 skipped_is : (counts : List ℕ) (kind : SigKind) (b : List ℕ) → skip_all counts kind b ≡ passed counts None body_parts (body_at kind (core_at 128) b)
 skipped_is counts kind b = body_passes counts (skip_core counts 128) (core_at 128) (core_passes counts 128) kind b None
 
--- what bytes spell is read from them
+-- what bytes encode is read from them
 abbrev pub IsRead : Type 0
 IsRead = (kind : SigKind) (signature : Body) (bytes : List ℕ) → Spells kind signature bytes → body_at kind (core_at 128) bytes ≡ Some (signature, [])
 
--- what is read from bytes to their end they spell
+-- bytes that are read to their end encode what is read
 abbrev pub IsSpelled : Type 0
 IsSpelled =
     (kind : SigKind) (signature : Body) (bytes : List ℕ) → ((k : ℕ) → get_or bytes k 0 < 2 ^ 8) → length bytes < 2 ^ 29 → body_at kind (core_at 128) bytes ≡ Some (signature, []) → Spells kind signature bytes
 
--- some signature is spelled by the bytes, and this is its first type index that names no row
+-- the bytes encode a signature, and this is its first type index whose row does not exist
 abbrev pub IsFirstBad : List ℕ → SigKind → List ℕ → Option Token → Type 0
 IsFirstBad counts kind bytes bad = (signature : Body) × Spells kind signature bytes × (bad ≡ first_bad counts (tokens signature))
 
--- ---- what is skipped to its end
+-- ---- bytes that are skipped to their end
 
 pub spelled_skipped : IsRead → (counts : List ℕ) (kind : SigKind) (b : List ℕ) (signature : Body) → Spells kind signature b → skip_all counts kind b ≡ Some ([], first_bad counts (tokens signature))
 spelled_skipped read counts kind b signature h =
@@ -56,7 +56,7 @@ pub walked : IsSpelled → (counts : List ℕ) (kind : SigKind) (b rest : List �
 walked spelled counts kind b rest bad each limit e empty =
     skipped_spelled spelled counts kind b bad each limit (ap (λ (t : List ℕ). Some (t, bad)) (sym (is_end rest empty)) ∙ e)
 
--- what is left behind a signature that is spelled
+-- the remainder after a signature that is encoded
 left_behind : IsRead → (counts : List ℕ) (kind : SigKind) (b rest : List ℕ) (bad : Option Token) (signature : Body) → Spells kind signature b → Some (rest, bad) ≡ skip_all counts kind b → ◌≡◌ {A = Left} (rest, bad) ([], first_bad counts (tokens signature))
 left_behind read counts kind b rest bad signature spells e = let f = e ∙ spelled_skipped read counts kind b signature spells in cc
 
@@ -73,7 +73,7 @@ not_at_end read counts kind b rest bad e some signature spells =
 pub refused : IsRead → (counts : List ℕ) (kind : SigKind) (b : List ℕ) → None ≡ skip_all counts kind b → (signature : Body) → Spells kind signature b → ⊥
 refused read counts kind b e signature spells = let f = e ∙ spelled_skipped read counts kind b signature spells in cc
 
--- ---- recognising, whatever the rows
+-- ---- recognition, for any rows
 
 pub recognised : (kind : SigKind) (b : List ℕ) (f : Body → Option Token) (r : Option (Option Token)) (p : Bool) → p ≡ is_some r → IfSome r (λ bad. (signature : Body) × Spells kind signature b × (bad ≡ f signature)) → ((signature : Body) → Spells kind signature b → r ≡ Some (f signature)) → (p ≡ true → (signature : Body) × Spells kind signature b) × (((signature : Body) × Spells kind signature b) → p ≡ true)
 recognised kind b f None p e found only = (λ h. absurd cc, λ s. absurd (let f = only s.0 s.1 in cc))

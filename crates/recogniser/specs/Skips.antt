@@ -1,4 +1,4 @@
--- What is left of a signature behind its parts, without their values: what private functions compute, in the shape of their code.
+-- The remainder of a signature after its parts, without their values. Private functions compute this in the same way.
 use Rattle.std.specs.Prelude.{ℕ, zero, suc, ◌==◌, ◌&&◌, ◌/◌, ◌%◌, nat_lt, Bool, true, false, not, if◌then◌else◌, Option, Some, None, option_map, option_and_then, is_some, List, [], ◌∷◌, drop}
 use Rattle.std.specs.Option.{option_or}
 use Rattle.schema.specs.declared.token.Token.{Token}
@@ -12,7 +12,7 @@ use Rattle.signature_values.specs.Reading.{number_at, index_at, modifiers_at, pr
 use Rattle.std.specs.List.{flat_map}
 use Rattle.recogniser.specs.declared.rest.Rest.{Rest}
 
--- the bytes that are left, and the first type index so far that names no row
+-- the remaining bytes, and the first type index so far whose row does not exist
 abbrev pub Left : Type 0
 Left = List ℕ × Option Token
 
@@ -22,11 +22,11 @@ left rest = (rest.bytes.now, rest.bad)
 abbrev pub Skip : Type 0
 Skip = Left → Option Left
 
--- the same after some tokens
+-- the first such index after some more tokens
 abbrev pub noted : List ℕ → Option Token → List Token → Option Token
 noted counts bad tokens = option_or bad (first_bad counts tokens)
 
--- the same after a value that was read, whose parts are these
+-- the remainder after a value that was read and has these parts
 abbrev pub passed : {A : Type 0} → List ℕ → Option Token → (A → List Part) → Option (A × List ℕ) → Option Left
 passed counts bad parts read = option_map (λ x. (x.1, noted counts bad (flat_map part_tokens (parts x.0)))) read
 
@@ -35,7 +35,7 @@ passed counts bad parts read = option_map (λ x. (x.1, noted counts bad (flat_ma
 abbrev pub with_bad : Option Token → ℕ × List ℕ → ℕ × Left
 with_bad bad x = (x.0, (x.1, bad))
 
--- the number at the front, and what is left behind it
+-- the number at the start, and the remainder after it
 unfoldable pub number_left : Left → Option (ℕ × Left)
 number_left here = option_map (with_bad here.1) (number_at here.0)
 
@@ -45,7 +45,7 @@ skip_number here = option_map (λ x. x.1) (number_left here)
 unfoldable pub skip_index : List ℕ → Skip
 skip_index counts here = option_map (λ x. (x.1, noted counts here.1 (x.0 ∷ []))) (index_at here.0)
 
--- the items at the front
+-- the items at the start
 unfoldable pub skip_modifiers : List ℕ → Skip
 skip_modifiers counts here = passed counts here.1 modifiers_parts (modifiers_at here.0)
 
@@ -54,20 +54,20 @@ skip_prefixes counts here = passed counts here.1 prefixes_parts (prefixes_at her
 
 -- ---- one after another
 
--- so many
+-- the given number of values
 unfoldable pub skip_many : Skip → ℕ → Skip
 skip_many each zero here = Some here
 skip_many each (suc n) here = option_and_then (skip_many each n) (each here)
 
--- as many as a number says
+-- a number, and that number of values
 unfoldable pub skip_counted : Skip → Skip
 skip_counted each here = option_and_then (λ x. skip_many each x.0 x.1) (number_left here)
 
--- a number, one, and as many further as the number says
+-- a number, one value, and that number of further values
 unfoldable pub skip_headed : Skip → Skip
 skip_headed each here = option_and_then (λ x. option_and_then (skip_many each x.0) (each x.1)) (number_left here)
 
--- as many numbers as a number says, which is at most so much
+-- a number, at most the limit, and that number of numbers
 unfoldable pub skip_bounds : ℕ → Skip
 skip_bounds most here =
     option_and_then (λ x. if nat_lt most x.0 then None else skip_many skip_number x.0 x.1) (number_left here)
@@ -111,14 +111,14 @@ skip_ret counts nested here = option_and_then (skip_void_or (skip_content counts
 
 -- ---- methods
 
--- SENTINEL stands at the front, and may stand there
+-- SENTINEL is at the start and is allowed there
 abbrev pub is_marked : Bool → Left → Bool
 is_marked allowed here = allowed && head_is SENTINEL here.0
 
 abbrev pub behind_mark : Bool → Left → Left
 behind_mark marked here = (if marked then drop 1 here.0 else here.0, here.1)
 
--- so many parameters, with SENTINEL before one of them where it may stand
+-- the given number of parameters, with SENTINEL before one of them if it is allowed
 unfoldable pub skip_params : List ℕ → Skip → Bool → ℕ → Skip
 skip_params counts nested allowed zero here = Some here
 skip_params counts nested allowed (suc n) here =
@@ -128,7 +128,7 @@ abbrev pub skip_generic : Bool → Skip
 skip_generic true here = skip_number here
 skip_generic false here = Some here
 
--- what follows the first byte of a method, and how many generic parameters it has
+-- the part of a method after its first byte and its number of generic parameters
 unfoldable pub skip_call : List ℕ → Skip → Bool → Skip
 skip_call counts nested allowed here =
     option_and_then (λ x. option_and_then (skip_params counts nested allowed x.0) (skip_ret counts nested x.1)) (number_left here)
@@ -144,7 +144,7 @@ abbrev pub skip_deep : ℕ → Skip → Skip
 skip_deep zero inner here = None
 skip_deep (suc d) inner here = inner here
 
--- a core behind its first byte, where the types inside it are at most so deep
+-- a core after its first byte; the types in it have at most the given depth
 unfoldable pub skip_by : List ℕ → ℕ → Skip → ℕ → Skip
 skip_by counts d nested c here =
     if c == PTR then skip_deep d (skip_target counts nested) here
@@ -158,7 +158,7 @@ skip_by counts d nested c here =
     else (if c == MVAR then skip_number here
     else None))))))))
 
--- a core that is at most so deep
+-- a core of at most the given depth
 unfoldable pub skip_core : List ℕ → ℕ → Skip
 skip_core counts zero here = None
 skip_core counts (suc d) ([], bad) = None
@@ -166,7 +166,7 @@ skip_core counts (suc d) (c ∷ b, bad) = if is_some (element_of c) then Some (b
 
 -- ---- whole signatures
 
--- behind that byte, or else what the other says
+-- the remainder after that byte, if it is the first, else the other result
 abbrev pub skip_behind : ℕ → Skip → Skip → Skip
 skip_behind n inner other ([], bad) = None
 skip_behind n inner other (c ∷ b, bad) = if c == n then inner (b, bad) else other (c ∷ b, bad)

@@ -6,7 +6,7 @@ use crate::rest::{Rest, byte, number};
 use crate::walk::{after_content, after_method, after_ret, after_slot, after_types};
 use schema::SigKind;
 
-/// What is left behind a local variable (II.23.2.6).
+/// The remainder after a local variable (II.23.2.6).
 #[tactic(auto, unfolding(crate::specs::Skips::skip_local))]
 fn after_local<'a>(rest: Rest<'a>, depth: u8, counts: &[u32; 45]) -> Option<Rest<'a>>
     ensures { option_map left result ≡ skip_local counts.now (skip_core counts.now depth) (left rest.entry) }
@@ -15,7 +15,7 @@ fn after_local<'a>(rest: Rest<'a>, depth: u8, counts: &[u32; 45]) -> Option<Rest
     after_content(rest, depth, counts)
 }
 
-/// What is left behind so many local variables.
+/// The remainder after `count` local variables.
 #[tactic(auto, using(crate::proofs::Loops::skip_many_next, crate::proofs::Loops::skip_many_end))]
 fn after_locals<'a>(rest: Rest<'a>, count: u32, depth: u8, counts: &[u32; 45]) -> Option<Rest<'a>>
     ensures { option_map left result ≡ skip_many (skip_local counts.now (skip_core counts.now depth)) count (left rest.entry) }
@@ -27,7 +27,7 @@ fn after_locals<'a>(rest: Rest<'a>, count: u32, depth: u8, counts: &[u32; 45]) -
     Some(rest)
 }
 
-/// What is left behind so many parameters of a property.
+/// The remainder after `count` parameters of a property.
 #[tactic(auto, using(crate::proofs::Loops::skip_many_next, crate::proofs::Loops::skip_many_end))]
 fn after_slots<'a>(rest: Rest<'a>, count: u32, depth: u8, counts: &[u32; 45]) -> Option<Rest<'a>>
     ensures { option_map left result ≡ skip_many (skip_slot counts.now (skip_core counts.now depth)) count (left rest.entry) }
@@ -39,7 +39,7 @@ fn after_slots<'a>(rest: Rest<'a>, count: u32, depth: u8, counts: &[u32; 45]) ->
     Some(rest)
 }
 
-/// What is left behind the local variables of a method, whose first byte was read (II.23.2.6).
+/// The remainder after the local variables of a method, whose first byte was read (II.23.2.6).
 #[tactic(auto, unfolding(crate::specs::Skips::skip_counted))]
 fn after_variables<'a>(rest: Rest<'a>, depth: u8, counts: &[u32; 45]) -> Option<Rest<'a>>
     ensures { option_map left result ≡ skip_counted (skip_local counts.now (skip_core counts.now depth)) (left rest.entry) }
@@ -48,7 +48,7 @@ fn after_variables<'a>(rest: Rest<'a>, depth: u8, counts: &[u32; 45]) -> Option<
     after_locals(rest, count, depth, counts)
 }
 
-/// What is left behind type arguments, whose first byte was read (II.23.2.15).
+/// The remainder after type arguments, whose first byte was read (II.23.2.15).
 #[tactic(auto, unfolding(crate::specs::Skips::skip_counted))]
 fn after_arguments<'a>(rest: Rest<'a>, depth: u8, counts: &[u32; 45]) -> Option<Rest<'a>>
     ensures { option_map left result ≡ skip_counted (skip_typed counts.now (skip_core counts.now depth)) (left rest.entry) }
@@ -57,7 +57,7 @@ fn after_arguments<'a>(rest: Rest<'a>, depth: u8, counts: &[u32; 45]) -> Option<
     after_types(rest, count, depth, counts)
 }
 
-/// What is left behind a property, whose first byte was read (II.23.2.5).
+/// The remainder after a property, whose first byte was read (II.23.2.5).
 #[tactic(auto, unfolding(crate::specs::Skips::skip_headed))]
 fn after_property<'a>(rest: Rest<'a>, depth: u8, counts: &[u32; 45]) -> Option<Rest<'a>>
     ensures { option_map left result ≡ skip_headed (skip_slot counts.now (skip_core counts.now depth)) (left rest.entry) }
@@ -67,7 +67,7 @@ fn after_property<'a>(rest: Rest<'a>, depth: u8, counts: &[u32; 45]) -> Option<R
     after_slots(rest, count, depth, counts)
 }
 
-/// What is left behind the signature at the front, in a column of a kind.
+/// The remainder after the signature at the start, in a column of a kind.
 #[tactic(auto, unfolding(crate::specs::Skips::skip_body))]
 pub fn after_body<'a>(
     rest: Rest<'a>,

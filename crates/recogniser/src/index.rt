@@ -9,7 +9,7 @@ use schema::Token;
 use signature_leaves::{has_modifier, has_prefix, index, modifier, prefix};
 use signature_values::{Prefix, names_row};
 
-/// The first token that names no row, where one more is met.
+/// The first token without a row, after one more token.
 fn first_bad(bad: Option<Token>, token: Token, counts: &[u32; 45]) -> Option<Token>
     ensures { result ≡ noted counts.now bad (token ∷ []) }
 {
@@ -19,7 +19,7 @@ fn first_bad(bad: Option<Token>, token: Token, counts: &[u32; 45]) -> Option<Tok
     Some(token)
 }
 
-/// The same, where a modifier or PINNED is met.
+/// The same, after one more modifier or PINNED.
 fn first_bad_with(bad: Option<Token>, prefix: Prefix, counts: &[u32; 45]) -> Option<Token>
     ensures { result ≡ noted counts.now bad (flat_map part_tokens (prefix_parts prefix)) }
 {
@@ -29,7 +29,7 @@ fn first_bad_with(bad: Option<Token>, prefix: Prefix, counts: &[u32; 45]) -> Opt
     }
 }
 
-/// What is left behind a type index (II.23.2.8).
+/// The remainder after a type index (II.23.2.8).
 #[tactic(auto, unfolding(crate::specs::Skips::skip_index))]
 pub fn after_index<'a>(rest: Rest<'a>, counts: &[u32; 45]) -> Option<Rest<'a>>
     ensures { option_map left result ≡ skip_index counts.now (left rest.entry) }
@@ -39,7 +39,7 @@ pub fn after_index<'a>(rest: Rest<'a>, counts: &[u32; 45]) -> Option<Rest<'a>>
     Some(Rest { bytes, bad })
 }
 
-/// What is left behind the modifiers at the front (II.23.2.7).
+/// The remainder after the modifiers at the start (II.23.2.7).
 pub fn after_modifiers<'a>(rest: Rest<'a>, counts: &[u32; 45]) -> Option<Rest<'a>>
     ensures { option_map left result ≡ skip_modifiers counts.now (left rest.entry) }
 {
@@ -52,7 +52,7 @@ pub fn after_modifiers<'a>(rest: Rest<'a>, counts: &[u32; 45]) -> Option<Rest<'a
     Some(rest)
 }
 
-/// What is left behind the modifiers and PINNED at the front (II.23.2.6).
+/// The remainder after the modifiers and PINNED at the start (II.23.2.6).
 pub fn after_prefixes<'a>(rest: Rest<'a>, counts: &[u32; 45]) -> Option<Rest<'a>>
     ensures { option_map left result ≡ skip_prefixes counts.now (left rest.entry) }
 {

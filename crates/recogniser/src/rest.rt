@@ -3,16 +3,16 @@ ghost use Rattle.recogniser.specs.Skips.{left, number_left, skip_number};
 
 use schema::Token;
 
-/// What is left of a signature behind the part that was walked over.
+/// The remainder of a signature after the part that was passed.
 #[derive(Clone, Copy)]
 pub struct Rest<'a> {
-    /// The bytes behind that part.
+    /// The bytes after that part.
     pub bytes: &'a [u8],
-    /// The first type index met so far that names no row.
+    /// The first type index so far whose row does not exist.
     pub bad: Option<Token>,
 }
 
-/// The first byte, and what is left behind it.
+/// The first byte, and the remainder after it.
 pub fn byte(rest: Rest<'_>) -> Option<(u8, Rest<'_>)>
     ensures { MatchOption result (rest.entry.bytes.now ≡ []) (λ x. (rest.entry.bytes.now ≡ x.0 ∷ x.1.bytes.now) × (x.1.bad ≡ rest.entry.bad)) }
 {
@@ -20,7 +20,7 @@ pub fn byte(rest: Rest<'_>) -> Option<(u8, Rest<'_>)>
     Some((byte, Rest { bytes, ..rest }))
 }
 
-/// The packed number at the front, and what is left behind it.
+/// The packed number at the start, and the remainder after it.
 #[tactic(auto, unfolding(crate::specs::Skips::number_left))]
 pub fn number(rest: Rest<'_>) -> Option<(u32, Rest<'_>)>
     ensures { option_map (λ x. (x.0, left x.1)) result ≡ number_left (left rest.entry) }
@@ -29,7 +29,7 @@ pub fn number(rest: Rest<'_>) -> Option<(u32, Rest<'_>)>
     Some((number, Rest { bytes, ..rest }))
 }
 
-/// What is left behind a packed number.
+/// The remainder after a packed number.
 #[tactic(auto, unfolding(crate::specs::Skips::skip_number))]
 pub fn after_number(rest: Rest<'_>) -> Option<Rest<'_>>
     ensures { option_map left result ≡ skip_number (left rest.entry) }

@@ -3,7 +3,7 @@ ghost use Rattle.recogniser.specs.Skips.{left, skip_many, skip_number, skip_boun
 
 use crate::rest::{Rest, after_number, number};
 
-/// What is left behind so many numbers.
+/// The remainder after `count` numbers.
 #[tactic(auto, using(crate::proofs::Loops::skip_many_next, crate::proofs::Loops::skip_many_end))]
 fn after_numbers(rest: Rest<'_>, count: u32) -> Option<Rest<'_>>
     ensures { option_map left result ≡ skip_many skip_number count (left rest.entry) }
@@ -15,8 +15,8 @@ fn after_numbers(rest: Rest<'_>, count: u32) -> Option<Rest<'_>>
     Some(rest)
 }
 
-/// What is left behind a count, which is at most so much, and as many numbers. A signed number has the
-/// bytes of an unsigned one, so this serves sizes and low bounds.
+/// The remainder after a count, at most `most`, and that number of values. A signed number has the same number
+/// of bytes as an unsigned one, so this serves both sizes and lower bounds.
 #[tactic(auto, unfolding(crate::specs::Skips::skip_bounds))]
 fn after_bounds(rest: Rest<'_>, most: u32) -> Option<Rest<'_>>
     ensures { option_map left result ≡ skip_bounds most (left rest.entry) }
@@ -28,7 +28,7 @@ fn after_bounds(rest: Rest<'_>, most: u32) -> Option<Rest<'_>>
     after_numbers(rest, count)
 }
 
-/// What is left behind the shape of an array (II.23.2.13).
+/// The remainder after the shape of an array (II.23.2.13).
 #[tactic(auto, unfolding(crate::specs::Skips::skip_shape))]
 pub fn after_shape(rest: Rest<'_>) -> Option<Rest<'_>>
     ensures { option_map left result ≡ skip_shape (left rest.entry) }

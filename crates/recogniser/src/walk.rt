@@ -11,7 +11,7 @@ use signature_values::element_type::{
 };
 use signature_values::method_byte::{begins_method, is_generic, may_have_sentinel};
 
-/// What is left behind a core that is at most so deep (II.23.2.12).
+/// The remainder after a core of at most the given depth (II.23.2.12).
 #[cycle(walk)]
 #[tactic(auto, using(crate::proofs::Loops::skip_core_next, crate::proofs::Loops::skip_core_none))]
 fn after_core<'a>(rest: Rest<'a>, depth: u8, counts: &[u32; 45]) -> Option<Rest<'a>>
@@ -27,7 +27,7 @@ fn after_core<'a>(rest: Rest<'a>, depth: u8, counts: &[u32; 45]) -> Option<Rest<
     after_code(code, rest, depth - 1, counts)
 }
 
-/// What is left behind a core whose first byte is given, where the types inside it are at most so deep.
+/// The remainder after a core with first byte `code`. The types in it are at most `depth` deep.
 #[cycle(walk)]
 #[tactic(auto, using(crate::proofs::Loops::skip_deep_some), unfolding(crate::specs::Skips::skip_by))]
 fn after_code<'a>(code: u8, rest: Rest<'a>, depth: u8, counts: &[u32; 45]) -> Option<Rest<'a>>
@@ -58,7 +58,7 @@ fn after_code<'a>(code: u8, rest: Rest<'a>, depth: u8, counts: &[u32; 45]) -> Op
     }
 }
 
-/// What is left behind a type.
+/// The remainder after a type.
 #[cycle(walk)]
 #[tactic(auto, unfolding(crate::specs::Skips::skip_typed))]
 fn after_typed<'a>(rest: Rest<'a>, depth: u8, counts: &[u32; 45]) -> Option<Rest<'a>>
@@ -68,7 +68,7 @@ fn after_typed<'a>(rest: Rest<'a>, depth: u8, counts: &[u32; 45]) -> Option<Rest
     after_core(rest, depth, counts)
 }
 
-/// What is left behind what a pointer points to.
+/// The remainder after the target of a pointer.
 #[cycle(walk)]
 #[tactic(auto, unfolding(crate::specs::Skips::skip_target, crate::specs::Skips::skip_void_or))]
 fn after_target<'a>(rest: Rest<'a>, depth: u8, counts: &[u32; 45]) -> Option<Rest<'a>>
@@ -81,7 +81,7 @@ fn after_target<'a>(rest: Rest<'a>, depth: u8, counts: &[u32; 45]) -> Option<Res
     }
 }
 
-/// What is left behind the name and the arguments of a generic type.
+/// The remainder after the type index and the arguments of a generic type.
 #[cycle(walk)]
 #[tactic(auto, unfolding(crate::specs::Skips::skip_instance, crate::specs::Skips::skip_named, crate::specs::Skips::skip_counted))]
 fn after_instance<'a>(rest: Rest<'a>, depth: u8, counts: &[u32; 45]) -> Option<Rest<'a>>
@@ -96,7 +96,7 @@ fn after_instance<'a>(rest: Rest<'a>, depth: u8, counts: &[u32; 45]) -> Option<R
     after_types(rest, count, depth, counts)
 }
 
-/// What is left behind so many types.
+/// The remainder after `count` types.
 #[cycle(walk)]
 #[tactic(auto, using(crate::proofs::Loops::skip_many_next, crate::proofs::Loops::skip_many_end))]
 pub fn after_types<'a>(
@@ -114,7 +114,7 @@ pub fn after_types<'a>(
     Some(rest)
 }
 
-/// What is left behind what a parameter, a field or a local variable holds (II.23.2.10).
+/// The remainder after the kind and type of a parameter, a field or a local variable (II.23.2.10).
 #[cycle(walk)]
 #[tactic(auto, unfolding(crate::specs::Skips::skip_content))]
 pub fn after_content<'a>(rest: Rest<'a>, depth: u8, counts: &[u32; 45]) -> Option<Rest<'a>>
@@ -127,7 +127,7 @@ pub fn after_content<'a>(rest: Rest<'a>, depth: u8, counts: &[u32; 45]) -> Optio
     }
 }
 
-/// What is left behind a parameter or a field.
+/// The remainder after a parameter or a field.
 #[cycle(walk)]
 #[tactic(auto, unfolding(crate::specs::Skips::skip_slot))]
 pub fn after_slot<'a>(rest: Rest<'a>, depth: u8, counts: &[u32; 45]) -> Option<Rest<'a>>
@@ -137,7 +137,7 @@ pub fn after_slot<'a>(rest: Rest<'a>, depth: u8, counts: &[u32; 45]) -> Option<R
     after_content(rest, depth, counts)
 }
 
-/// What is left behind a result (II.23.2.11).
+/// The remainder after a result (II.23.2.11).
 #[cycle(walk)]
 #[tactic(auto, unfolding(crate::specs::Skips::skip_ret, crate::specs::Skips::skip_void_or))]
 pub fn after_ret<'a>(rest: Rest<'a>, depth: u8, counts: &[u32; 45]) -> Option<Rest<'a>>
@@ -150,7 +150,7 @@ pub fn after_ret<'a>(rest: Rest<'a>, depth: u8, counts: &[u32; 45]) -> Option<Re
     }
 }
 
-/// What is left behind so many parameters, with SENTINEL before one of them where it may stand.
+/// The remainder after `count` parameters, with SENTINEL before one of them if it is allowed.
 #[cycle(walk)]
 #[tactic(auto, using(crate::proofs::Loops::skip_params_next, crate::proofs::Loops::skip_params_end))]
 fn after_params<'a>(
@@ -173,8 +173,8 @@ fn after_params<'a>(
     Some(rest)
 }
 
-/// What is left behind the number of generic parameters, where the first byte of a method says
-/// that one stands there.
+/// The remainder after the number of generic parameters, if the first byte of the method says that the
+/// method is generic.
 #[tactic(auto, unfolding(crate::specs::Skips::skip_generic))]
 fn after_generic(rest: Rest<'_>, code: u8) -> Option<Rest<'_>>
     ensures { option_map left result ≡ skip_generic (code / 16 % 2 == 1) (left rest.entry) }
@@ -185,7 +185,7 @@ fn after_generic(rest: Rest<'_>, code: u8) -> Option<Rest<'_>>
     Some(rest)
 }
 
-/// What is left behind a method, which may have a SENTINEL of its own or not (II.23.2.1 to II.23.2.3).
+/// The remainder after a method; `own` says whether it may have a SENTINEL (II.23.2.1 to II.23.2.3).
 #[cycle(walk)]
 #[tactic(auto, unfolding(crate::specs::Skips::skip_method, crate::specs::Skips::skip_call))]
 pub fn after_method<'a>(

@@ -1,4 +1,4 @@
--- The kinds of a table's cells are those of the columns that have a cell, and the rows of a valid model are of them.
+-- The kinds of a table's cells are those of its columns with a cell, and the rows of a valid model have these kinds.
 use Rattle.std.proofs.Common.{◌≡◌, ℕ, suc, ◌<◌, List, [], ◌∷◌, length, map, Some, option_map, get_or, slice_get, refl, sym, ◌∙◌, ap, subst, arith}
 use Rattle.std.proofs.lemmas.List.{length-map}
 use Rattle.std.proofs.lemmas.Option.{slice_get-map, slice_get-get_or, slice_get_within}
@@ -31,7 +31,7 @@ kind_stands table place below =
     ∙ slice_get-map kind_of (cell_columns table) place
     ∙ ap (option_map kind_of) (slice_get-get_or (cell_columns table) place 0 below)
 
--- as many cells as kinds, each of its kind
+-- the number of cells is the number of kinds, and each cell is of its kind
 of_kinds : (kinds : List ColumnKind) (cells : List Cell) → length cells ≡ length kinds
     → ((place : ℕ) (kind : ColumnKind) → slice_get kinds place ≡ Some kind → IsOfKind kind (get_or cells place (Number 0))) → AreOfKinds kinds cells
 of_kinds [] [] long each = tt

@@ -1,4 +1,4 @@
--- Owned cells of the kinds of columns hold what such columns hold, and what they say is their record.
+-- Owned cells of the kinds of columns have the shapes of these columns, and their contents are those of their record.
 use Rattle.std.proofs.Common.{◌≡◌, ℕ, zero, suc, ◌+◌, List, [], ◌∷◌, drop, Some, option_map, slice_get, sym, ◌∙◌, ap, refl, arith, add-one}
 use Rattle.std.proofs.lemmas.Grind.{common_steps}
 use Rattle.schema.specs.declared.column.ColumnKind.{ColumnKind}
@@ -11,21 +11,21 @@ use Rattle.cells.specs.Said.{said, all_said}
 use Rattle.records.specs.Kinds.{AreOfKinds}
 use Rattle.records.specs.Shapes.{shape_of, IsOfShape, AreHeld, AreSaid}
 
--- the first item from a place on stands there
+-- the first item from an index on is the item with this index
 get_at : (all : List Owned) (place : ℕ) (c : Owned) (rest : List Owned) → drop place all ≡ c ∷ rest → slice_get all place ≡ Some c
 get_at [] zero c rest h = absurd cc
 get_at [] (suc p) c rest h = absurd cc
 get_at (x ∷ xs) zero c rest h = grind (arith, common_steps, h)
 get_at (x ∷ xs) (suc p) c rest h = get_at xs p c rest h
 
--- the others stand from the next place on
+-- the other items follow from the next index on
 drop_next : (all : List Owned) (place : ℕ) (c : Owned) (rest : List Owned) → drop place all ≡ c ∷ rest → drop (place + 1) all ≡ rest
 drop_next [] zero c rest h = absurd cc
 drop_next [] (suc p) c rest h = absurd cc
 drop_next (x ∷ xs) zero c rest h = grind (arith, common_steps, h)
 drop_next (x ∷ xs) (suc p) c rest h = ap (λ n. drop n (x ∷ xs)) (add-one (suc p)) ∙ ap (λ n. drop n xs) (sym (add-one p)) ∙ drop_next xs p c rest h
 
--- a cell of a column's kind holds what the column's cells hold
+-- a cell of a column's kind has the shape of the column's cells
 kind_shape : (k : ColumnKind) (c : Owned) → IsOfKind k (said c) → IsOfShape (Some c) (shape_of k)
 kind_shape kind.U8 (cell.Number n) h = tt
 kind_shape kind.U16 (cell.Number n) h = tt
@@ -46,7 +46,7 @@ held_from all place (k ∷ ks) [] at are = absurd are
 held_from all place (k ∷ ks) (c ∷ cs) at are =
     (rw (get_at all place c cs at) (kind_shape k c are.0), held_from all (place + 1) ks cs (drop_next all place c cs at) are.1)
 
--- rows of a table's number and kinds can be read
+-- rows with the number and kinds of a table can be read
 pub cells_are_held : (all : List Owned) (kinds : List ColumnKind) → AreOfKinds kinds (all_said all) → AreHeld (λ p s. IsOfShape (slice_get all p) s) 0 kinds
 cells_are_held all kinds are = held_from all 0 kinds all refl are
 
@@ -64,7 +64,7 @@ said_from all place (k ∷ ks) (c ∷ cs) (x ∷ xs) at are say =
     ap (λ rest. x ∷ rest) (said_from all (place + 1) ks cs xs (drop_next all place c cs at) are.1 say.1)
     ∙ ap (λ first. first ∷ all_said cs) (said_one all place c x (get_at all place c cs at) say.0)
 
--- what is read of them is what they say
+-- the values that are read are the contents of the cells
 pub cells_are_said : (all : List Owned) (kinds : List ColumnKind) (cells : List Cell) → AreOfKinds kinds (all_said all)
     → AreSaid (λ p c. option_map said (slice_get all p) ≡ Some c) 0 kinds cells → cells ≡ all_said all
 cells_are_said all kinds cells are say = said_from all 0 kinds all cells refl are say

@@ -8,7 +8,7 @@ use Rattle.schema.specs.CellColumns.{is_padding}
 use Rattle.metadata.specs.Cell.{Cell}
 use Rattle.metadata.specs.Kinds.{IsOfKind}
 
--- the kinds of the columns that have a cell: padding has none
+-- the kinds of the columns that have a cell; a padding column has none
 abbrev pub kinds_in : List Column → List ColumnKind
 kinds_in [] = []
 kinds_in (column ∷ columns) = if is_padding column.kind then kinds_in columns else column.kind ∷ kinds_in columns
@@ -17,7 +17,7 @@ kinds_in (column ∷ columns) = if is_padding column.kind then kinds_in columns 
 abbrev pub kinds_of : TableId → List ColumnKind
 kinds_of table = kinds_in (columns_of table)
 
--- there is a cell for each kind, and of it
+-- there is one cell for each kind, and it is of this kind
 abbrev pub AreOfKinds : List ColumnKind → List Cell → Type 0
 AreOfKinds [] [] = ⊤
 AreOfKinds (kind ∷ kinds) (cell ∷ cells) = IsOfKind kind cell × AreOfKinds kinds cells

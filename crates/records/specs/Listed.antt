@@ -2,7 +2,7 @@
 use Rattle.std.specs.Prelude.{◌≡◌, ◌⊎◌, List, [], ◌∷◌, Option, Some, None}
 use Rattle.schema.specs.declared.table.TableId.{TableId}
 
--- one of the tables of some tags, of which not all are used
+-- the table is one of those with a tag; not all tags are used
 abbrev pub IsOneOf : List (Option TableId) → TableId → Type 0
 IsOneOf [] table = ⊥
 IsOneOf (None ∷ listed) table = IsOneOf listed table

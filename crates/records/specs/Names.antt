@@ -1,7 +1,7 @@
 -- The full names of types.
 use Rattle.std.specs.Prelude.{ℕ, List, [], ◌∷◌, ◌++◌, codes}
 
--- the namespace and a dot, unless it is empty, and the name
+-- the namespace and a dot, unless the namespace is empty, then the name
 abbrev pub full_name : List ℕ → List ℕ → List ℕ
 full_name [] name = name
 full_name (first ∷ rest) name = first ∷ rest ++ (codes "." ++ name)

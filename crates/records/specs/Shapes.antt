@@ -1,4 +1,4 @@
--- What the cells of a row hold, whatever they say, and that they say this (ECMA-335 II.22).
+-- The shapes of the cells of a row, and their contents (ECMA-335 II.22).
 use Rattle.std.specs.Prelude.{ℕ, ◌+◌, List, [], ◌∷◌, Option, Some, ⊤}
 use Rattle.schema.specs.declared.column.SigKind.{SigKind}
 use Rattle.schema.specs.declared.column.ColumnKind.{ColumnKind}
@@ -7,7 +7,7 @@ use Rattle.metadata.specs.Cell.{Cell}
 use Rattle.cells.specs.declared.cell.Cell.{Cell as Owned}
 use Rattle.cells.specs.declared.cell.Cell.TheVariants as cell
 
--- what a cell can hold; a signature is spelled in a column of some kind
+-- the shape of a cell; a signature is encoded in a column of some kind
 pub data Shape : Type 0 where
   number : Shape
   text : Shape
@@ -18,7 +18,7 @@ pub data Shape : Type 0 where
   signature : SigKind → Shape
   nothing : Shape
 
--- what the cells of a column hold; padding has none
+-- the shape of the cells of a column; a padding column has none
 abbrev pub shape_of : ColumnKind → Shape
 shape_of kind.U8 = number
 shape_of kind.U16 = number
@@ -32,7 +32,7 @@ shape_of (kind.Row table) = reference
 shape_of (kind.Coded coded) = reference
 shape_of (kind.List member) = start
 
--- there is an owned cell, which holds this
+-- there is an owned cell, and it has this shape
 abbrev pub IsOfShape : Option Owned → Shape → Type 0
 IsOfShape (Some (cell.Number n)) number = ⊤
 IsOfShape (Some (cell.Text t)) text = ⊤
@@ -43,12 +43,12 @@ IsOfShape (Some (cell.Start n)) start = ⊤
 IsOfShape (Some (cell.Sig s)) (signature column) = ⊤
 IsOfShape _ _ = ⊥
 
--- what is held at a place, at the next, and so on is what columns of these kinds hold
+-- the cells from an index on have the shapes of columns of these kinds
 abbrev pub AreHeld : (ℕ → Shape → Type 0) → ℕ → List ColumnKind → Type 0
 AreHeld Holds place [] = ⊤
 AreHeld Holds place (kind ∷ kinds) = Holds place (shape_of kind) × AreHeld Holds (place + 1) kinds
 
--- there is a cell for each kind, and what is said at a place, at the next, and so on is these cells
+-- there is one cell for each kind, and these are the contents of the cells from an index on
 abbrev pub AreSaid : (ℕ → Cell → Type 0) → ℕ → List ColumnKind → List Cell → Type 0
 AreSaid Says place [] [] = ⊤
 AreSaid Says place (kind ∷ kinds) (cell ∷ cells) = Says place cell × AreSaid Says (place + 1) kinds cells

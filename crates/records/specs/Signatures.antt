@@ -1,15 +1,15 @@
--- What a blob says in a column of signatures (ECMA-335 II.23.2).
+-- The content of a blob in a column of signatures (ECMA-335 II.23.2).
 use Rattle.std.specs.Prelude.{ℕ, List, [], Option, Some, None}
 use Rattle.schema.specs.declared.column.SigKind.{SigKind}
 use Rattle.signature_values.specs.Syntax.{Body, locals}
 use Rattle.signature_values.specs.Reading.{core_at}
 use Rattle.signature_values.specs.Columns.{body_at}
 
--- the signature that was read, without the bytes behind it; where none was, no local variables
+-- the signature that was read, without the remaining bytes; if none was read, no local variables
 abbrev pub read_or_none : Option (Body × List ℕ) → Body
 read_or_none None = locals []
 read_or_none (Some found) = found.0
 
--- the signature that a blob spells in a column of a kind
+-- the signature that a blob encodes in a column of a kind
 unfoldable pub spelled : SigKind → List ℕ → Body
 spelled column blob = read_or_none (body_at column (core_at 128) blob)

@@ -14,22 +14,22 @@ use crate::row::Row;
 use cells::Cell;
 use schema::{Coded, TableId};
 
-/// A row that a coded index can name, as a record of one of the tables that the index lists (II.24.2.6).
+/// A row that a coded index names, as a record of one of the tables that the index lists (II.24.2.6).
 pub trait CodedRow<'m, W: Row<'m>>: Sized {
     // the coded index
     ghost index: { Index };
 
-    // the table whose row it is
+    // the table of the row
     ghost table_of: { Self → Table };
 
-    // what its record stands for: the fields in the order of the columns
+    // the content of its record: the fields in the order of the columns
     ghost fields: { Self → List TheCell };
 
-    /// The coded index that can name the row.
+    /// The coded index.
     fn coded_id() -> Coded
         ensures { result ≡ index };
 
-    /// The record that stands for a row of a table that the index lists.
+    /// The record of a row of a table that the index lists.
     fn from_row_of(table: TableId, row: &W) -> Self
         requires listed { IsOneOf (tables_of index) table }
         requires held { AreHeld (W.holds row.now) 0 (kinds_of table) }
@@ -37,7 +37,7 @@ pub trait CodedRow<'m, W: Row<'m>>: Sized {
         ensures said { AreSaid (W.says row.now) 0 (kinds_of table) (fields result) };
 }
 
-/// Whether a list of tables has one.
+/// Whether the list contains the table.
 fn has(listed: &[Option<TableId>], table: TableId) -> bool
     ensures { IsTrue result ↔ Contains listed.now (Some table) }
 {
@@ -53,8 +53,8 @@ pub fn lists(coded: Coded, table: TableId) -> bool
     has(coded.tables(), table)
 }
 
-/// The record that stands for cells of a row of a table, `None` where the coded index does not list the
-/// table, or they are not of its number and kinds.
+/// The record of the cells of a row of a table. `None` if the coded index does not list the table, or the
+/// cells do not have the number and kinds of its rows.
 #[tactic(auto, using(crate::proofs::RowLemmas::cells_are_held))]
 pub fn coded_row_of<'m, R: CodedRow<'m, CellRow<'m>>>(
     table: TableId,

@@ -5,26 +5,26 @@ ghost use Rattle.records.specs.Values.{told};
 use cells::{Bytes, Cell, Signature, Text, Token};
 use std::alloc::{AllocError, Global};
 
-/// What a field of a record says, borrowed, by the kind of its column (II.22).
+/// The content of a record's field, borrowed, by the kind of its column (II.22).
 #[derive(Clone, Copy)]
 pub enum FieldValue<'m> {
-    /// A number, as it stands.
+    /// A number.
     Number(u32),
-    /// A text of `#Strings`.
+    /// A string of `#Strings`.
     Text(&'m str),
     /// The bytes of a blob.
     Bytes(&'m [u8]),
     /// A GUID; `None` is null.
     Guid(Option<[u8; 16]>),
-    /// The row that is named; `None` is null.
+    /// A row; `None` is null.
     Ref(Option<Token>),
-    /// The first row of a run of members.
+    /// The first row of a run of members, counted from 1.
     Start(u32),
     /// A signature.
     Sig(&'m Signature),
 }
 
-/// The cell that says the same.
+/// The cell with this content.
 fn owned_cell(alloc: Global, value: FieldValue<'_>) -> Result<Cell, AllocError>
     ensures { IfOk result (λ cell. said cell ≡ told value.entry) }
 {
@@ -39,11 +39,11 @@ fn owned_cell(alloc: Global, value: FieldValue<'_>) -> Result<Cell, AllocError>
     })
 }
 
-/// The cells that say what these fields say, in the same order. The memory of the row is taken at once.
+/// The cells with the contents of these fields, in the same order. The row is one allocation.
 ///
 /// # Errors
 ///
-/// Want of memory alone.
+/// Fails only if it is out of memory.
 pub fn owned_cells(alloc: Global, values: &[FieldValue<'_>]) -> Result<Vec<Cell>, AllocError>
     ensures { IfOk result (λ cells. all_said cells.items ≡ map told values.now) }
 {

@@ -15,11 +15,11 @@ use std::alloc::{AllocError, Global};
 /// A generic parameter of a type or method (II.22.20).
 #[derive(Clone, Copy, Debug, PartialEq, Eq)]
 pub struct GenericParam<'m> {
-    /// Its place among the parameters of its owner, counted from 0.
+    /// Its index among the parameters of its owner, counted from 0.
     pub number: u32,
     /// GenericParamAttributes (II.23.1.7).
     pub flags: u32,
-    /// What it is a parameter of: a TypeDef or MethodDef.
+    /// The TypeDef or MethodDef that it is a parameter of.
     pub owner: Option<Token>,
     /// Its name.
     pub name: &'m str,
@@ -65,7 +65,7 @@ impl<'m> Record<'m> for GenericParam<'m> {
 pub struct GenericParamConstraint {
     /// The parameter, in GenericParam.
     pub owner: Option<Token>,
-    /// What it has to derive from or implement: a TypeDef, TypeRef or TypeSpec.
+    /// The type that it must derive from or implement: a TypeDef, TypeRef or TypeSpec.
     pub constraint: Option<Token>,
 }
 

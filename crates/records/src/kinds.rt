@@ -5,7 +5,7 @@ ghost use Rattle.records.specs.Kinds.{kinds_in, kinds_of, AreOfKinds};
 use cells::Cell;
 use schema::{Column, ColumnKind, TableId, columns};
 
-/// Whether there is a cell of its kind for each column but padding, and no other.
+/// Whether there is a cell of the right kind for each column except padding, and no other cell.
 fn are_of_kinds(columns: &[Column], cells: &[Cell]) -> bool
     ensures { IsTrue result ↔ AreOfKinds (kinds_in columns.now) (all_said cells.now) }
 {
@@ -21,7 +21,7 @@ fn are_of_kinds(columns: &[Column], cells: &[Cell]) -> bool
     }
 }
 
-/// Whether cells are of the number and the kinds of a table's rows. It takes no memory.
+/// Whether the cells have the number and kinds of a table's rows. It does not allocate.
 pub fn is_row_of(table: TableId, cells: &[Cell]) -> bool
     ensures { IsTrue result ↔ AreOfKinds (kinds_of table) (all_said cells.now) }
 {

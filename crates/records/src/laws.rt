@@ -13,21 +13,21 @@ ghost use Rattle.records.specs.Signatures.{spelled};
 
 use signature_values::signatures_are_read;
 
-/// A blob that spells a signature in a column of a kind says this signature there (II.23.2).
+/// A blob that encodes a signature in a column of a kind has this signature as its content there (II.23.2).
 pub fn blobs_say_signatures()
     ensures { (column : Kind) (signature : Body) (blob : List ℕ) → Spells column signature blob → spelled column blob ≡ signature }
 {
     signatures_are_read();
 }
 
-/// The kinds of a table's cells are those of the columns that have a cell (II.22).
+/// The kinds of a table's cells are the kinds of the columns that have a cell (II.22).
 pub fn cells_have_kinds()
     ensures count { (table : Table) → length (kinds_of table) ≡ cell_count table }
     ensures kind { (table : Table) (place : ℕ) → place < cell_count table
         → slice_get (kinds_of table) place ≡ Some (column_at table (column_of table place)).kind }
 {}
 
-/// The rows of a valid model have the cells of their tables, of their number and kinds (II.22).
+/// The rows of a valid model have cells of the number and kinds of their tables (II.22).
 pub fn valid_rows_are_of_kinds()
     ensures { (model : Metadata) → IsValid model → (table : Table) (row : ℕ) → HasRow model table row
         → AreOfKinds (kinds_of table) (row_of model table row) }

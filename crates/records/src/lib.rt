@@ -1,13 +1,13 @@
-//! The rows of tables as records, whose fields have the names of the columns (ECMA-335 II.22): here
-//! those of the module, of types, and of what is generic.
+//! The rows of tables as records, whose fields have the names of the columns (ECMA-335 II.22). This crate
+//! has the records of the module, of types, and of generics.
 //!
-//! A record borrows from what it is read from. [`Record::from_cells`] reads it from owned cells, and
-//! [`Record::cells`] makes the cells again. [`FromRow`] is the same for a [`Row`] of any form, so that
-//! a record has one list of fields. A reference is null only where the text of its field says what
-//! null means; records of other references that are null are made all the same.
+//! A record borrows from its source. [`Record::from_cells`] reads it from owned cells, and
+//! [`Record::cells`] makes the cells again. [`FromRow`] reads it from any kind of [`Row`], so that a
+//! record has one list of fields. If the text of a field does not say what null means, null is invalid
+//! there; such a record can still be made.
 //!
 //! ```text
-//! let record = TypeDef::from_cells(cells)?; // None where they are no row of TypeDef
+//! let record = TypeDef::from_cells(cells)?; // None if they are not a row of TypeDef
 //! record.type_name == "Object" && record.extends.is_none()
 //! ```
 #![tactic(auto)]

@@ -12,19 +12,19 @@ use cells::Cell;
 use schema::TableId;
 use std::alloc::{AllocError, Global};
 
-/// A record that is read from a row of any form.
+/// A record that can be read from any kind of row.
 pub trait FromRow<'m, W: Row<'m>>: Sized {
-    // the table whose row the record is
+    // the table of the row
     ghost table: { Table };
 
-    // what the record stands for: its fields in the order of the columns
+    // the content of the record: its fields in the order of the columns
     ghost fields: { Self → List TheCell };
 
-    /// The table whose row the record is.
+    /// The table of the row.
     fn table_id() -> TableId
         ensures { result ≡ table };
 
-    /// The record that stands for a row.
+    /// The record of a row.
     fn from_row(row: &W) -> Self
         requires { AreHeld (W.holds row.now) 0 (kinds_of table) }
         ensures { AreSaid (W.says row.now) 0 (kinds_of table) (fields result) };
@@ -32,9 +32,9 @@ pub trait FromRow<'m, W: Row<'m>>: Sized {
 
 /// A row of a table as a record, whose fields have the names of the columns (II.22).
 pub trait Record<'m>: FromRow<'m, CellRow<'m>> {
-    /// The record that stands for cells, `None` where they are not of its table's number and kinds.
+    /// The record of these cells; `None` if they do not have the number and kinds of its table's rows.
     ///
-    /// It borrows from the cells, and takes no memory.
+    /// It borrows from the cells and does not allocate.
     final fn from_cells(cells: &'m [Cell]) -> Option<Self>
         ensures kinds { IsSome result ↔ AreOfKinds (kinds_of Self.table) (all_said cells.now) }
         ensures fields { IfSome result (λ it. Self.fields it ≡ all_said cells.now) }
@@ -42,13 +42,13 @@ pub trait Record<'m>: FromRow<'m, CellRow<'m>> {
         record_of(cells)
     }
 
-    /// The cells that the record stands for. An error is want of memory alone.
+    /// The cells of the record. The only error is out of memory.
     fn cells(&self, alloc: Global) -> Result<Vec<Cell>, AllocError>
         ensures { IfOk result (λ cells. all_said cells.items ≡ Self.fields self.now) };
 }
 
-/// The record that stands for cells which are known to be of its table's number and kinds, as those of a valid
-/// model's rows are: they are not looked at again.
+/// The record of cells that are known to have the number and kinds of its table's rows, such as the rows of a valid
+/// model. They are not checked again.
 #[tactic(auto, using(crate::proofs::RowLemmas::cells_are_held))]
 pub fn known_record_of<'m, R: FromRow<'m, CellRow<'m>>>(cells: &'m [Cell]) -> R
     requires { AreOfKinds (kinds_of R.table) (all_said cells.now) }
@@ -57,7 +57,7 @@ pub fn known_record_of<'m, R: FromRow<'m, CellRow<'m>>>(cells: &'m [Cell]) -> R
     R::from_row(&CellRow { cells })
 }
 
-/// The record that stands for cells, `None` where they are not of its table's number and kinds.
+/// The record of these cells; `None` if they do not have the number and kinds of its table's rows.
 pub fn record_of<'m, R: FromRow<'m, CellRow<'m>>>(cells: &'m [Cell]) -> Option<R>
     ensures kinds { IsSome result ↔ AreOfKinds (kinds_of R.table) (all_said cells.now) }
     ensures fields { IfSome result (λ it. R.fields it ≡ all_said cells.now) }

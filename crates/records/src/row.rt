@@ -6,15 +6,15 @@ ghost use Rattle.records.specs.Shapes as shape;
 use crate::signature::IsSignature;
 use schema::{SigKind, Token};
 
-/// A row of a table, which is read cell by cell. Places count from 0, as in `Cell`s: padding has none.
+/// A row of a table, which is read cell by cell. Cell indexes count from 0. A padding column has no cell.
 pub trait Row<'m> {
-    /// What a cell of a signature gives.
+    /// The type of the value of a signature cell.
     type Signature: IsSignature;
 
-    // the cell at a place holds this
+    // the cell with this index has this shape
     ghost holds: { Self → ℕ → Shape → Type 0 };
 
-    // the cell at a place says this
+    // the cell with this index has this content
     ghost says: { Self → ℕ → TheCell → Type 0 };
 
     /// A number.
@@ -22,32 +22,32 @@ pub trait Row<'m> {
         requires { holds self.now place shape.number }
         ensures { says self.now place (Number result) };
 
-    /// A text.
+    /// A string of `#Strings`.
     fn text(&self, place: usize) -> &'m str
         requires { holds self.now place shape.text }
         ensures { says self.now place (Text result.now) };
 
-    /// Bytes.
+    /// A blob of `#Blob`.
     fn bytes(&self, place: usize) -> &'m [u8]
         requires { holds self.now place shape.bytes }
         ensures { says self.now place (Bytes result.now) };
 
-    /// A GUID, or null.
+    /// A GUID; `None` is null.
     fn guid(&self, place: usize) -> Option<[u8; 16]>
         requires { holds self.now place shape.guid }
         ensures { says self.now place (Guid result) };
 
-    /// A row of a table, or null.
+    /// A row of a table; `None` is null.
     fn reference(&self, place: usize) -> Option<Token>
         requires { holds self.now place shape.reference }
         ensures { says self.now place (Ref result) };
 
-    /// The first row of an owner's run, in the table of its members.
+    /// The first row of an owner's run, in the member table, counted from 1.
     fn start(&self, place: usize) -> u32
         requires { holds self.now place shape.start }
         ensures { says self.now place (Start result) };
 
-    /// A signature, in a column of a kind.
+    /// A signature, in a column of this kind.
     fn signature(&self, place: usize, column: SigKind) -> Self::Signature
         requires { holds self.now place (shape.signature column) }
         ensures { says self.now place (Sig (Self.Signature.body column result)) };

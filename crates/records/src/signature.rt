@@ -4,9 +4,9 @@ ghost use Rattle.records.specs.Signatures.{spelled};
 
 use cells::Signature;
 
-/// A signature (II.23.2), or what tells one in a column of a kind.
+/// A signature (II.23.2), or a value that stands for one in a column of a kind.
 pub trait IsSignature: Copy + Drop {
-    // what it says in a column of a kind
+    // its content in a column of a kind
     ghost body: { Kind → Self → Body };
 }
 
@@ -14,7 +14,7 @@ impl IsSignature for &Signature {
     ghost body = { λ column signature. signature.now };
 }
 
-/// The blob of a signature, which says what it spells.
+/// The blob of a signature. Its content is the signature that it encodes.
 impl IsSignature for &[u8] {
     ghost body = { λ column blob. spelled column blob.now };
 }

@@ -14,14 +14,14 @@ use schema::{SigKind, TableId};
 use std::alloc::{AllocError, Global};
 use std::fmt;
 
-/// This module, which is the one row of its table (II.22.30).
+/// This module, the only row of its table (II.22.30).
 #[derive(Clone, Copy, Debug, PartialEq, Eq)]
 pub struct Module<'m> {
     /// Reserved: 0.
     pub generation: u32,
     /// The module's name, with its extension.
     pub name: &'m str,
-    /// What tells one version of the module from another.
+    /// A GUID that identifies this version of the module.
     pub mvid: Option<[u8; 16]>,
     /// Reserved: null.
     pub enc_id: Option<[u8; 16]>,
@@ -70,12 +70,12 @@ impl<'m> Record<'m> for Module<'m> {
 /// A type of another module or assembly (II.22.38).
 #[derive(Clone, Copy, Debug, PartialEq, Eq)]
 pub struct TypeRef<'m> {
-    /// Where the type is: this module, a ModuleRef, an AssemblyRef, or the TypeRef that encloses it; null where
-    /// ExportedType tells it.
+    /// The scope of the type: this module, a ModuleRef, an AssemblyRef, or the TypeRef that encloses it. If it is null,
+    /// a row of ExportedType gives the scope.
     pub resolution_scope: Option<Token>,
     /// The type's name.
     pub type_name: &'m str,
-    /// Its namespace; empty where it has none.
+    /// Its namespace; empty if it has none.
     pub type_namespace: &'m str,
 }
 
@@ -112,7 +112,7 @@ impl<'m> Record<'m> for TypeRef<'m> {
     }
 }
 
-/// The full name of the type: its namespace and a dot, unless that is empty, and its name.
+/// The full name of the type: the namespace and a dot, unless the namespace is empty, then the name.
 impl fmt::Display for TypeRef<'_> {
     ghost output = { λ r. Some (full_name r.type_namespace.now r.type_name.now) };
 
@@ -132,9 +132,9 @@ pub struct TypeDef<'m> {
     pub flags: u32,
     /// The type's name.
     pub type_name: &'m str,
-    /// Its namespace; empty where it has none.
+    /// Its namespace; empty if it has none.
     pub type_namespace: &'m str,
-    /// The type that it extends; null of `System.Object`, of an interface and of `<Module>`.
+    /// The type that it extends; null for `System.Object`, an interface and `<Module>`.
     pub extends: Option<Token>,
     /// The first of its fields, in Field.
     pub field_list: u32,
@@ -182,7 +182,7 @@ impl<'m> Record<'m> for TypeDef<'m> {
     }
 }
 
-/// The full name of the type: its namespace and a dot, unless that is empty, and its name.
+/// The full name of the type: the namespace and a dot, unless the namespace is empty, then the name.
 impl fmt::Display for TypeDef<'_> {
     ghost output = { λ r. Some (full_name r.type_namespace.now r.type_name.now) };
 
@@ -276,12 +276,12 @@ impl<'m> Record<'m> for NestedClass {
     }
 }
 
-/// How a type lies in memory (II.22.8).
+/// The layout of a type in memory (II.22.8).
 #[derive(Clone, Copy, Debug, PartialEq, Eq)]
 pub struct ClassLayout {
-    /// The alignment of its fields in bytes, a power of two up to 128; 0 where the runtime chooses.
+    /// The alignment of its fields in bytes, a power of two up to 128; 0 if the runtime chooses.
     pub packing_size: u32,
-    /// Its size in bytes; 0 where the runtime chooses.
+    /// Its size in bytes; 0 if the runtime chooses.
     pub class_size: u32,
     /// The type, in TypeDef.
     pub parent: Option<Token>,
@@ -322,7 +322,7 @@ impl<'m> Record<'m> for ClassLayout {
     }
 }
 
-/// A type that a signature spells (II.22.39).
+/// A type that is given by a signature (II.22.39).
 #[derive(Clone, Copy, Debug, PartialEq, Eq)]
 pub struct TypeSpec<S> {
     /// The type (II.23.2.14).

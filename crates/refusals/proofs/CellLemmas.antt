@@ -1,4 +1,4 @@
--- What the cells of a row say, one by one.
+-- The content of the cells of a row, one by one.
 use Rattle.std.proofs.Common.{◌≡◌, ℕ, ◌<◌, List, Option, Some, None, length, slice_index_or, unwrap_or, option_map, Bool, inl, inr, refl, ap, sym, ◌∙◌}
 use Rattle.std.proofs.Math.ListN.{get_or-map}
 use Rattle.std.proofs.lemmas.List as lists
@@ -25,7 +25,7 @@ said_or (Some cell) = refl
 said_at : (cells : List Cell) (place : ℕ) → slice_index_or (all_said cells) place (says.Number 0) ≡ said (slice_index_or cells place (Number 0))
 said_at cells place = get_or-map said cells place (Number 0)
 
--- a cell that is got, or none behind the last
+-- a cell that is read, or none after the last
 pub got_said : (cells : List Cell) (row : List says.Cell) (place : ℕ) (found : Option Cell) → all_said cells ≡ row
     → ((d : Cell) → unwrap_or found d ≡ slice_index_or cells place d) → unwrap_or (option_map said found) (says.Number 0) ≡ slice_index_or row place (says.Number 0)
 got_said cells row place found same got = rw (← same, said_at cells place, ← got (Number 0)) (sym (said_or found))
@@ -39,7 +39,7 @@ item_said cells row place cell same within is =
 pub all_length : (cells : List Cell) (row : List says.Cell) → all_said cells ≡ row → length row ≡ length cells
 all_length cells row same = rw (← same) (lists.length-map cells said)
 
--- a cell of its column whose reference is none
+-- a cell that fits its column, but refers to no row that it may refer to
 pub cell_index : (model : Metadata) (table : TableId) (row place : ℕ) (kind : ColumnKind) (nullable : Bool) (cell : says.Cell) (found : Refusal)
     → kind ≡ kind_at table place → nullable ≡ nullable_at table place → cell ≡ cell_in model table row place
     → IsOfKind kind cell × IsStorable cell → ¬ MayRefer model nullable cell

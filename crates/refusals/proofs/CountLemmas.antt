@@ -1,4 +1,4 @@
--- What is known of each table, by its number: one table after another.
+-- A fact about each table, by its number, one table after another.
 use Rattle.std.proofs.Common.{◌≡◌, ℕ, ◌+◌, ◌<◌, ◌≤◌, List, length, slice_index_or, slice_set, sym, ◌∙◌, ap, subst, inl, inr, arith}
 use Rattle.std.proofs.lemmas.Bool.{cases_eq, cases_lt}
 use Rattle.std.proofs.lemmas.List.{get_or-set_other}
@@ -12,7 +12,7 @@ use Rattle.metadata.specs.Refusals.{refusals_of_count}
 
 module _ (stand : (table : TableId) → slice_index_or tables (position_of table) Module ≡ table) (rise : (lower higher : TableId)
     → position_of lower < position_of higher → table_number lower < table_number higher) where
-  -- tables of one number are one
+  -- tables with the same number are equal
   one_number : (a b : TableId) → table_number a ≡ table_number b → a ≡ b
   one_number a b same =
       elim (cases_eq (position_of a) (position_of b)) [
@@ -23,7 +23,7 @@ module _ (stand : (table : TableId) → slice_index_or tables (position_of table
         ]
       ]
 
-  -- it is known of the next table too
+  -- the fact holds for the next table too
   pub known_more : {X : Type 0} (P : X → TableId → Type 0) (d : X) (values : List X) (position number : ℕ) (here : TableId) (value : X)
       → here ≡ slice_index_or tables position Module → number ≡ table_number here → number < length values → P value here
       → ((table : TableId) → position_of table < position → P (slice_index_or values (table_number table) d) table)
@@ -45,7 +45,7 @@ module _ (stand : (table : TableId) → slice_index_or tables (position_of table
             rw (get_or-set_other values number (table_number table) value d other) (before table place)
       ]
 
--- each table has few rows
+-- each table is within the limit of rows
 pub few_rows : ((table : TableId) → position_of table < 38) → ((table : TableId) → slice_index_or tables (position_of table) Module ≡ table)
     → (model : Metadata) (end : ℕ) → 38 ≤ end → HoldBefore (refusals_of_count model) 0 end → (table : TableId) → count_in model table ≤ 0xFFFFFF
 unfolding refusals_of_count

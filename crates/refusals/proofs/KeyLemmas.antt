@@ -1,4 +1,4 @@
--- Key numbers that never fall, one row after another.
+-- Key numbers that never decrease, one row after another.
 use Rattle.std.proofs.Common.{◌≡◌, ℕ, ◌+◌, ◌-◌, ◌<◌, ◌≤◌, List, [], length, slice_index_or, refl, sym, ◌∙◌, ap, inl, inr, arith}
 use Rattle.std.proofs.lemmas.Bool.{cases_eq}
 use Rattle.std.proofs.lemmas.List.{get_or_read}
@@ -9,7 +9,7 @@ use Rattle.metadata.specs.Metadata.{Metadata, rows_of}
 use Rattle.metadata.specs.KeyOrder.{key_number, key_in}
 use Rattle.metadata.specs.Valid.{kind_at}
 
--- the key number of a row that was met
+-- the key number of the current row
 pub key_here : (model : Metadata) (table : TableId) (place i : ℕ) (rows : List (List Cell)) (row : List Cell) (kind : ColumnKind) (number : ℕ)
     → rows ≡ rows_of model table → i < length rows → row ≡ slice_index_or rows i row → kind ≡ kind_at table place
     → number ≡ key_number kind (slice_index_or row place (Number 0)) → number ≡ key_in model table place (i + 1)

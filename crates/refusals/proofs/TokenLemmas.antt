@@ -1,4 +1,4 @@
--- The tokens of a signature that name rows.
+-- The tokens of a signature whose rows exist.
 use Rattle.std.proofs.Common.{◌≡◌, ◌↔◌, ◌⊎◌, ℕ, Bool, true, false, IsTrue, List, [], ◌∷◌, Option, Some, None, slice_index, is_some, not, refl, sym, ◌∙◌, ap, inl, inr, arith}
 use Rattle.std.specs.List.{AllByRecursion}
 use Rattle.std.proofs.lemmas.Bool.Decides.{nat_tests}
@@ -20,7 +20,7 @@ module _ (model : Metadata) (counts : List ℕ) (counted : (table : TableId) →
   has : (token : Token) → Names model token → has_row counts token ≡ true
   has token is = grind (arith, nat_tests, counted token.table)
 
-  -- each token has a row where none is the first without one
+  -- each token has a row if none is the first without one
   all_there : (tokens : List Token) → first_bad counts tokens ≡ None → AllByRecursion (Names model) tokens
   all_there [] e = tt
   all_there (token ∷ tokens) e = elim (cases (has_row counts token)) [

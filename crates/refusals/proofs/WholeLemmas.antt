@@ -1,4 +1,4 @@
--- An answer to all that is asked of tables.
+-- The result of checking all rules for tables.
 use Rattle.std.proofs.Common.{◌≡◌, ◌↔◌, length, Result, Ok, Err, IsOk}
 use Rattle.packed.specs.Demand.{AllHold, Answers}
 use Rattle.packed.proofs.DemandLemmas.{none_fails}

@@ -14,8 +14,8 @@ use metadata::Refusal;
 use packed::FaultCode;
 use schema::{ColumnKind, TableId, cell_count};
 
-/// Each row has the cells of its table, each of which is of its column (II.22), but for what
-/// signatures say.
+/// Checks that each row has the cells of its table, and that each cell fits its column (II.22). The content
+/// of signatures is checked later.
 #[tactic(auto, using(packed::proofs::DemandLemmas::before_none, packed::proofs::DemandLemmas::before_more, packed::proofs::DemandLemmas::before_all, packed::proofs::DemandLemmas::before_fails), unfolding(metadata::specs::Refusals::refusals_of_cells, metadata::specs::Refusals::refusals_of_table_at))]
 pub fn check_cells(counted: &Counted) -> Result<(), Refusal>
     ensures { Answers (refusals_of_cells counted.now) result }
@@ -27,7 +27,7 @@ pub fn check_cells(counted: &Counted) -> Result<(), Refusal>
     Ok(())
 }
 
-/// Each row of a table has its cells.
+/// Checks that each row of a table has its cells.
 #[tactic(auto, using(packed::proofs::DemandLemmas::before_none, packed::proofs::DemandLemmas::before_more, packed::proofs::DemandLemmas::before_all, packed::proofs::DemandLemmas::before_fails))]
 fn check_rows(counted: &Counted, table: TableId) -> Result<(), Refusal>
     ensures { Answers (demands_from (refusals_of_row counted.now table) 1 (count_in counted.now table)) result }
@@ -39,7 +39,7 @@ fn check_rows(counted: &Counted, table: TableId) -> Result<(), Refusal>
     Ok(())
 }
 
-/// A row has as many cells as its table, each of its column.
+/// Checks that a row has the right number of cells, and that each fits its column.
 #[tactic(auto, using(crate::proofs::CellLemmas::all_length), unfolding(metadata::specs::Refusals::refusals_of_row))]
 fn check_row(counted: &Counted, table: TableId, row: u32) -> Result<(), Refusal>
     requires first { 1 ≤ row }
@@ -53,7 +53,7 @@ fn check_row(counted: &Counted, table: TableId, row: u32) -> Result<(), Refusal>
     check_places(counted, table, row, cells)
 }
 
-/// Each cell of a row is of its column.
+/// Checks that each cell of a row fits its column.
 #[tactic(auto, using(packed::proofs::DemandLemmas::before_none, packed::proofs::DemandLemmas::before_more, packed::proofs::DemandLemmas::before_all, packed::proofs::DemandLemmas::before_fails, crate::proofs::CellLemmas::item_said))]
 fn check_places(counted: &Counted, table: TableId, row: u32, cells: &[Cell]) -> Result<(), Refusal>
     requires cells { all_said cells.now ≡ row_of counted.now table row }
@@ -66,7 +66,7 @@ fn check_places(counted: &Counted, table: TableId, row: u32, cells: &[Cell]) -> 
     Ok(())
 }
 
-/// The cell at a place of a row is of its column.
+/// Checks that the cell with this index in a row fits its column.
 #[tactic(auto, unfolding(metadata::specs::Refusals::refusals_of_cell))]
 fn check_cell(
     counted: &Counted,
@@ -100,7 +100,7 @@ fn is_of_column(kind: ColumnKind, cell: &Cell) -> bool
     cell.is_of_kind(kind) && cell.is_storable()
 }
 
-/// Whether a reference is to a row that exists, or null where it may be.
+/// Whether a reference names a row that exists, or is null if null is allowed.
 fn may_refer(counted: &Counted, nullable: bool, cell: &Cell) -> bool
     ensures { IsTrue result ↔ MayRefer counted.now nullable (said cell.now) }
 {
@@ -111,7 +111,7 @@ fn may_refer(counted: &Counted, nullable: bool, cell: &Cell) -> bool
     }
 }
 
-/// Whether a start is at most one past the last member.
+/// Whether a start is at most one more than the last member.
 fn is_within_members(counted: &Counted, kind: ColumnKind, cell: &Cell) -> bool
     ensures { IsTrue result ↔ IsWithinMembers counted.now kind (said cell.now) }
 {

@@ -4,7 +4,7 @@ ghost use Rattle.metadata.specs.Valid.{kind_at, nullable_at};
 
 use schema::{Column, TableId, column_of_cell, columns};
 
-/// The column of the cell at a place of a row.
+/// The column of the cell with this index in a row.
 pub fn column_at(table: TableId, place: usize) -> Column
     requires { place < cell_count table }
     ensures kind { result.kind ≡ kind_at table place }

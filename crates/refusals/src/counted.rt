@@ -11,10 +11,10 @@ use schema::{TableId, tables_stand};
 use std::marker::Model;
 use tables::Tables;
 
-/// A table has at most so many rows (II.22).
+/// The greatest number of rows of a table (II.22).
 const ROW_LIMIT: usize = 0xFF_FFFF;
 
-/// Tables of few rows, and how many each has, under its number.
+/// Tables within the limit of rows, with the number of rows of each, by table number.
 #[derive(Drop)]
 pub struct Counted<'a> {
     tables: &'a Tables,
@@ -47,7 +47,7 @@ impl<'a> Counted<'a> {
     ghost use Rattle.metadata.specs.Metadata.{row_of, count_in, cell_in};
     ghost use Rattle.metadata.specs.Refusals.{refusals_of_counts};
 
-    /// Tables, whose rows are counted: each has few.
+    /// Counts the rows of tables. Fails if a table has too many rows.
     #[tactic(auto, using(packed::proofs::DemandLemmas::before_none, packed::proofs::DemandLemmas::before_more, packed::proofs::DemandLemmas::before_all, packed::proofs::DemandLemmas::before_fails), unfolding(metadata::specs::Refusals::refusals_of_counts))]
     pub fn new(tables: &'a Tables) -> Result<Counted<'a>, Refusal>
         ensures answers { Answers (refusals_of_counts tables.now) result }
@@ -63,7 +63,7 @@ impl<'a> Counted<'a> {
         Ok(Counted { tables, counts })
     }
 
-    /// How many rows a table has.
+    /// The number of rows of a table.
     pub fn count(&self, table: TableId) -> u32
         ensures value { result ≡ count_in self.now table }
         ensures limit { result ≤ 0xFFFFFF }
@@ -71,14 +71,14 @@ impl<'a> Counted<'a> {
         self.counts[table.number() as usize]
     }
 
-    /// How many rows each table has, under its number.
+    /// The number of rows of each table, by table number.
     pub fn counts(&self) -> &[u32; 45]
         ensures { (table : Table) → slice_index result.now (table_number table) ≡ count_in self.now table }
     {
         &self.counts
     }
 
-    /// The cells of a row, counted from 1.
+    /// The cells of a row. Rows count from 1.
     pub fn cells(&self, table: TableId, row: u32) -> &'a [Cell]
         requires first { 1 ≤ row }
         requires last { row ≤ count_in self.now table }
@@ -87,7 +87,7 @@ impl<'a> Counted<'a> {
         self.tables.cells(table, row as usize)
     }
 
-    /// The cell at a place of a row, `None` behind the last.
+    /// The cell with this index in a row; `None` after the last cell.
     #[tactic(auto, using(crate::proofs::CellLemmas::got_said))]
     pub fn cell(&self, table: TableId, row: u32, place: usize) -> Option<&'a Cell>
         requires first { 1 ≤ row }
@@ -98,7 +98,7 @@ impl<'a> Counted<'a> {
     }
 }
 
-/// How many rows the table at a position has, where they are few.
+/// The number of rows of the table with this table index, if it is within the limit.
 #[tactic(auto, unfolding(metadata::specs::Refusals::refusals_of_count))]
 fn count_rows(tables: &Tables, position: usize) -> Result<u32, Refusal>
     requires { position < 38 }

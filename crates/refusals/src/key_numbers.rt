@@ -10,7 +10,7 @@ ghost use Rattle.metadata.specs.KeyOrder.{row_number, key_number};
 use cells::Cell;
 use schema::{Coded, ColumnKind, TableId, Token};
 
-/// The number of a reference in a column of a kind (II.24.2.6); null, any other cell and none are 0.
+/// The number of a reference in a column of a kind (II.24.2.6); 0 for null, any other cell or no cell.
 pub fn key_number(kind: ColumnKind, cell: Option<&Cell>) -> u64
     ensures { result ≡ key_number kind (unwrap_or (option_map said (option_copied cell.entry)) (NumberCell 0)) }
 {
@@ -20,7 +20,7 @@ pub fn key_number(kind: ColumnKind, cell: Option<&Cell>) -> u64
     }
 }
 
-/// The number of a row in a column of a kind: of a coded index, the tag of its table stands behind it.
+/// The number of a row in a column of a kind. In a coded index, the tag of its table is in the low bits.
 fn row_number(kind: ColumnKind, token: Token) -> u64
     ensures { result ≡ row_number kind token }
 {
@@ -31,7 +31,7 @@ fn row_number(kind: ColumnKind, token: Token) -> u64
     }
 }
 
-/// How many tags a coded index has place for.
+/// The number of tag values of a coded index.
 fn tag_count(coded: Coded) -> u64
     ensures value { result ≡ 2 ^ tag_bits coded }
     ensures limit { result ≤ 32 }
@@ -39,7 +39,7 @@ fn tag_count(coded: Coded) -> u64
     1 << coded.tag_bits()
 }
 
-/// The tag of a table in a coded index, or how many tables that lists where it is not among them.
+/// The tag of a table in a coded index; if the index does not list the table, the number of listed tables.
 #[tactic(auto, using(std::proofs::lemmas::List::Sums::position_or_len_is))]
 fn tag_of(coded: Coded, table: TableId) -> usize
     ensures value { result ≡ position_or_len (is_table table) (tables_of coded) }
@@ -54,7 +54,7 @@ fn tag_of(coded: Coded, table: TableId) -> usize
     listed.len()
 }
 
-/// Whether an entry of a coded index is a table.
+/// Whether an entry of a coded index is this table.
 fn is_table(table: TableId, listed: Option<TableId>) -> bool
     ensures { result ≡ is_table table listed }
 {

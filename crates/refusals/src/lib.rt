@@ -1,12 +1,12 @@
-//! Which tables a model can be made of (ECMA-335 II.22 and II.24.2): what is asked of them, in order.
+//! The rules that tables must obey to be a valid model (ECMA-335 II.22 and II.24.2), in order.
 //!
-//! [`check_tables`] answers the first demand that tables do not meet, with its code and its cell. There
-//! is none exactly where they are those of a valid model. [`find_order`] tells which tables with a key
-//! are in order of it, as none has to be. Both take no memory, and their cost is linear in what the
-//! cells hold.
+//! [`check_tables`] returns the first rule that the tables break, with its code and its cell. It succeeds
+//! if and only if the tables are those of a valid model. [`find_order`] says which tables are in order of
+//! their key; none has to be. Both do not allocate, and their cost is linear in the content of the
+//! cells.
 //!
 //! ```text
-//! check_tables(&tables) == Ok(()) // a model can be made of them
+//! check_tables(&tables) == Ok(()) // the tables are a valid model
 //! check_tables(&tables) == Err(Refusal { code: 509, table: 0x00, row: 1, column: 0 })
 //! ```
 #![tactic(auto)]

@@ -13,7 +13,7 @@ use metadata::Refusal;
 use packed::FaultCode;
 use schema::TableId;
 
-/// Each member of the five runs has one owner (II.22.37, II.22.26, II.22.12 and II.22.35).
+/// Checks that each member of the five runs has one owner (II.22.37, II.22.26, II.22.12 and II.22.35).
 #[tactic(auto, using(packed::proofs::DemandLemmas::fails_front, packed::proofs::DemandLemmas::fails_back, packed::proofs::DemandLemmas::all_append), unfolding(metadata::specs::Refusals::refusals_of_runs))]
 pub fn check_members(counted: &Counted) -> Result<(), Refusal>
     ensures { Answers (refusals_of_runs counted.now) result }
@@ -25,7 +25,7 @@ pub fn check_members(counted: &Counted) -> Result<(), Refusal>
     check_run(counted, TableId::PropertyMap, 1, TableId::Property)
 }
 
-/// Each member has one owner, by the starts at a place of the owners' rows.
+/// Checks that each member has one owner, by the starts in one cell of the owners' rows.
 #[tactic(auto, using(packed::proofs::DemandLemmas::none_from), unfolding(metadata::specs::Refusals::refusals_of_run))]
 fn check_run(
     counted: &Counted,
@@ -47,7 +47,7 @@ fn check_run(
     check_starts(counted, owner, place)
 }
 
-/// The starts at a place of the owners' rows never fall.
+/// Checks that the starts in one cell of the owners' rows never decrease.
 #[tactic(auto, using(packed::proofs::DemandLemmas::before_none, packed::proofs::DemandLemmas::before_more, packed::proofs::DemandLemmas::before_all, packed::proofs::DemandLemmas::before_fails))]
 fn check_starts(counted: &Counted, owner: TableId, place: usize) -> Result<(), Refusal>
     ensures { Answers (demands_from (refusals_of_start counted.now owner place) 2 (count_in counted.now owner - 1)) result }
@@ -58,7 +58,7 @@ fn check_starts(counted: &Counted, owner: TableId, place: usize) -> Result<(), R
     Ok(())
 }
 
-/// A start is no lower than that of the owner before.
+/// Checks that a start is not less than that of the owner before.
 #[tactic(auto, unfolding(metadata::specs::Refusals::refusals_of_start))]
 fn check_start(counted: &Counted, owner: TableId, place: usize, row: u32) -> Result<(), Refusal>
     requires first { 2 ≤ row }
@@ -73,7 +73,7 @@ fn check_start(counted: &Counted, owner: TableId, place: usize, row: u32) -> Res
     Ok(())
 }
 
-/// The number of a start; any other cell has none.
+/// The row of a start; 0 for any other cell.
 fn start_of(cell: Option<&Cell>) -> u32
     ensures { result ≡ start_in (unwrap_or (option_map said (option_copied cell.entry)) (NumberCell 0)) }
 {

@@ -14,12 +14,12 @@ use metadata::Refusal;
 use packed::FaultCode;
 use schema::TableId;
 
-/// The places of a nested type and of the type around it.
+/// The cells of a nested type and of its enclosing type.
 const NESTED: usize = 0;
 
 const ENCLOSING: usize = 1;
 
-/// Each type stands behind the one that it is nested in (II.22.32).
+/// Checks that each nested type follows its enclosing type (II.22.32).
 #[tactic(auto, using(packed::proofs::DemandLemmas::before_none, packed::proofs::DemandLemmas::before_more, packed::proofs::DemandLemmas::before_all, packed::proofs::DemandLemmas::before_fails), unfolding(metadata::specs::Refusals::refusals_of_nesting))]
 pub fn check_nesting(counted: &Counted) -> Result<(), Refusal>
     ensures { Answers (refusals_of_nesting counted.now) result }
@@ -31,7 +31,7 @@ pub fn check_nesting(counted: &Counted) -> Result<(), Refusal>
     Ok(())
 }
 
-/// The nested type of a row stands behind the one around it.
+/// Checks that the nested type of a row follows its enclosing type.
 #[tactic(auto, unfolding(metadata::specs::Refusals::refusals_of_nesting_in))]
 fn check_nested(counted: &Counted, row: u32) -> Result<(), Refusal>
     requires first { 1 ≤ row }
@@ -47,7 +47,7 @@ fn check_nested(counted: &Counted, row: u32) -> Result<(), Refusal>
     Err(Refusal::new(FaultCode::NestedOrder, table.number(), row, ENCLOSING))
 }
 
-/// The row of a reference; null and any other cell have none.
+/// The row of a reference; 0 for null and any other cell.
 fn row_of(cell: Option<&Cell>) -> u32
     ensures { result ≡ row_in (unwrap_or (option_map said (option_copied cell.entry)) (NumberCell 0)) }
 {

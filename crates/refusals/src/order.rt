@@ -11,8 +11,8 @@ use crate::key_numbers::key_number;
 use schema::{ColumnKind, TableId, cell_count, column_of_cell, key, tables_stand};
 use tables::{Row, Tables};
 
-/// Whether each table with a key is in order of it (II.22), under the tables' numbers; false of tables
-/// without a key. It takes no memory, and reads each key once.
+/// Whether each table with a key is in order of it (II.22), by table number; `false` for tables without a
+/// key. It does not allocate, and reads each key once.
 pub fn find_order(tables: &Tables) -> [bool; 45]
     ensures { TellsOrder tables.now result }
 {
@@ -36,7 +36,7 @@ fn is_in_order(tables: &Tables, table: TableId) -> bool
     }
 }
 
-/// Whether the key numbers of a table never fall, which stand in the cells of one column.
+/// Whether the key numbers of a table, in the cells of one column, never decrease.
 fn never_fall(tables: &Tables, table: TableId, key: usize) -> bool
     requires { key_of table ≡ Some key }
     ensures { IsTrue result ↔ IsKeyOrdered tables.now table }
@@ -49,7 +49,7 @@ fn never_fall(tables: &Tables, table: TableId, key: usize) -> bool
     true
 }
 
-/// Whether the key numbers at a place of a table's rows never fall.
+/// Whether the key numbers in one cell of a table's rows never decrease.
 fn never_falls(tables: &Tables, table: TableId, place: usize) -> bool
     requires { place < cell_count table }
     ensures { IsTrue result ↔ ((row : ℕ) → 2 ≤ row → row ≤ count_in tables.now table
@@ -67,7 +67,7 @@ fn never_falls(tables: &Tables, table: TableId, place: usize) -> bool
     true
 }
 
-/// The key number of a row, by the place of the key among the cells.
+/// The key number of a row, by the index of its key cell.
 #[tactic(auto, using(crate::proofs::CellLemmas::got_said))]
 fn key_at(kind: ColumnKind, row: &Row, place: usize) -> u64
     ensures { result ≡ key_number kind (slice_index_or row.now place (NumberCell 0)) }

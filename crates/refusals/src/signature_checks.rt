@@ -13,7 +13,7 @@ use metadata::Refusal;
 use packed::FaultCode;
 use schema::{TableId, cell_count};
 
-/// Each signature is one that its column holds, and its type indexes name rows that exist (II.23.2).
+/// Checks that each signature is one that its column holds, and that the rows of its type indexes exist (II.23.2).
 #[tactic(auto, using(packed::proofs::DemandLemmas::before_none, packed::proofs::DemandLemmas::before_more, packed::proofs::DemandLemmas::before_all, packed::proofs::DemandLemmas::before_fails), unfolding(metadata::specs::Refusals::refusals_of_signatures, metadata::specs::Refusals::refusals_of_signatures_at))]
 pub fn check_signatures(counted: &Counted) -> Result<(), Refusal>
     ensures { Answers (refusals_of_signatures counted.now) result }
@@ -25,7 +25,7 @@ pub fn check_signatures(counted: &Counted) -> Result<(), Refusal>
     Ok(())
 }
 
-/// The signatures of a table.
+/// Checks the signatures of a table.
 #[tactic(auto, using(packed::proofs::DemandLemmas::before_none, packed::proofs::DemandLemmas::before_more, packed::proofs::DemandLemmas::before_all, packed::proofs::DemandLemmas::before_fails))]
 fn check_table(counted: &Counted, table: TableId) -> Result<(), Refusal>
     ensures { Answers (demands_from (refusals_of_signatures_in counted.now table) 1 (count_in counted.now table)) result }
@@ -37,7 +37,7 @@ fn check_table(counted: &Counted, table: TableId) -> Result<(), Refusal>
     Ok(())
 }
 
-/// The signatures of a row.
+/// Checks the signatures of a row.
 #[tactic(auto, using(packed::proofs::DemandLemmas::before_none, packed::proofs::DemandLemmas::before_more, packed::proofs::DemandLemmas::before_all, packed::proofs::DemandLemmas::before_fails), unfolding(metadata::specs::Refusals::refusals_of_signatures_in))]
 fn check_row(counted: &Counted, table: TableId, row: u32) -> Result<(), Refusal>
     requires first { 1 ≤ row }
@@ -50,7 +50,7 @@ fn check_row(counted: &Counted, table: TableId, row: u32) -> Result<(), Refusal>
     Ok(())
 }
 
-/// The signature at a place of a row, if one stands there.
+/// Checks the signature in the cell with this index, if that cell is a signature.
 #[tactic(auto, unfolding(metadata::specs::Refusals::refusals_of_signature))]
 fn check_signature(counted: &Counted, table: TableId, row: u32, place: usize) -> Result<(), Refusal>
     requires first { 1 ≤ row }
@@ -71,7 +71,7 @@ fn check_signature(counted: &Counted, table: TableId, row: u32, place: usize) ->
     Err(Refusal::new(code, table.number(), row, place))
 }
 
-/// Whether each type index of a signature names a row that exists.
+/// Whether the row of each type index of a signature exists.
 fn names_types(counted: &Counted, cell: &Cell) -> bool
     ensures { IsTrue result ↔ NamesTypes counted.now (said cell.now) }
 {

@@ -13,12 +13,12 @@ use metadata::{Refusal, valid_models_are_not_refused};
 use packed::FaultCode;
 use tables::Tables;
 
-/// Checks what is asked of tables, in the order in which it is posed (II.22 and II.24.2). It takes no memory.
+/// Checks the rules for tables, in their order (II.22 and II.24.2). It does not allocate.
 ///
 /// # Errors
 ///
-/// The first demand that they do not meet, with its code and its cell; none exactly where a model can be made of
-/// them.
+/// The first rule that they break, with its code and its cell. There is an error if and only if the tables are not a
+/// valid model.
 pub fn check_tables(tables: &Tables) -> Result<(), Refusal>
     ensures answers { Answers (refusals_of tables.now) result }
     ensures valid { IsOk result ↔ IsValid tables.now }
@@ -27,7 +27,7 @@ pub fn check_tables(tables: &Tables) -> Result<(), Refusal>
     check_demands(tables)
 }
 
-/// The demands, from the first to the last.
+/// Checks the rules, from the first to the last.
 #[tactic(auto, using(packed::proofs::DemandLemmas::fails_front, packed::proofs::DemandLemmas::fails_back, packed::proofs::DemandLemmas::all_append), unfolding(metadata::specs::Refusals::refusals_of))]
 fn check_demands(tables: &Tables) -> Result<(), Refusal>
     ensures answers { Answers (refusals_of tables.now) result }

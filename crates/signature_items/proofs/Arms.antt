@@ -1,4 +1,4 @@
--- What is told at each place, by the first bytes there.
+-- The items at each position, by the first bytes there.
 use Rattle.std.proofs.Common.{◌≡◌, ◌≢◌, ◌∙◌, ℕ, zero, suc, ◌-◌, ◌<◌, ◌||◌, Bool, true, false, cond, eqb, Option, Some, None, List, [], ◌∷◌, ◌++◌, length, map, refl, sym, ap, arith}
 use Rattle.std.specs.Prelude.{flat_map}
 use Rattle.std.proofs.lemmas.Bool.{ne_eqb}
@@ -43,7 +43,7 @@ unfolding core_told code_told core_at
 core_other zero c b rest lt h k = absurd (omega arith)
 core_other (suc d) c b rest lt h k = let p : suc d - 1 ≡ d = omega arith in rw (h, ← k, p) refl
 
--- ---- a core, behind its first byte
+-- ---- a core, after its first byte
 
 pub code_pointer : (d c : ℕ) (b : List ℕ) → c ≡ 0x0F → 0 < d → code_told d c b ≡ item_then item.Pointer (place_at (place.Target d) b)
 unfolding code_told core_by place_at
@@ -67,7 +67,7 @@ pub code_function_none : (d c : ℕ) (b : List ℕ) → c ≡ 0x1B → d ≡ 0 �
 unfolding code_told core_by
 code_function_none d c b code e = rw (code, e) refl
 
--- what is told behind a pointer's code and behind a function's, however deep
+-- the items after the code of a pointer and after that of a function, at any depth
 pub pointer_told : (d c : ℕ) (b : List ℕ) (t : Told) → c ≡ 0x0F → (d ≡ 0 → t ≡ None) → (0 < d → t ≡ item_then item.Pointer (place_at (place.Target d) b)) → t ≡ code_told d c b
 pointer_told zero c b t code none told = none refl ∙ sym (code_pointer_none zero c b code refl)
 pointer_told (suc d) c b t code none told = told (omega arith) ∙ sym (code_pointer (suc d) c b code (omega arith))
@@ -175,7 +175,7 @@ instance_is d c n b b1 b2 b3 of h k e f =
     of_list None = refl
     of_list (Some x) = refl
 
--- ---- what a parameter holds
+-- ---- the kind of a parameter
 
 pub content_end : (d : ℕ) (b : List ℕ) → b ≡ [] → content_told d b ≡ None
 unfolding content_told content_at
@@ -200,7 +200,7 @@ content_other d c b rest h p q = rw (h, ne_eqb c 0x16 p, ne_eqb c 0x10 q) (fused
 
 pub ruleset content_arms = (content_end, content_typed_ref, content_by_ref, content_other)
 
--- ---- behind modifiers
+-- ---- after modifiers
 
 slot_led : (d : ℕ) (b : List ℕ) → place_at (place.Slot d) b ≡ led_at modifier_at item.Modifier content_items (content_at (core_at d)) b
 unfolding place_at slot_at modifiers_at
@@ -260,7 +260,7 @@ target_bare d b h = rw (target_led d b) (led_end modifier_at starts_modifier mod
 ret_bare : (d : ℕ) (b : List ℕ) → starts_modifier b ≡ false → place_at (place.Ret d) b ≡ change (void_items content_items) (void_or (content_at (core_at d))) b
 ret_bare d b h = rw (ret_led d b) (led_end modifier_at starts_modifier modifier_steps item.Modifier (void_items content_items) (void_or (content_at (core_at d))) b h)
 
--- ---- VOID, or something else
+-- ---- VOID, or another value
 
 module _ {A : Type 0} (items : A → List Item) (r : Reader A) where
   void_end : (b : List ℕ) → b ≡ [] → change (void_items items) (void_or r) b ≡ None

@@ -1,4 +1,4 @@
--- Values that are counted: how many are read, and the first of them with those behind it.
+-- Counted values: the number of values that are read, and the first value with those after it.
 use Rattle.std.proofs.Common.{◌≡◌, ◌∙◌, ℕ, zero, suc, ◌-◌, ◌<◌, ◌&&◌, Bool, true, false, cond, Option, Some, None, IfSome, List, [], ◌∷◌, ◌++◌, length, drop, append-nil, refl, sym, ap, arith}
 use Rattle.std.specs.Prelude.{option_map, option_and_then, flat_map}
 use Rattle.signature_values.specs.Grammar.{count_types, count_slots}
@@ -16,9 +16,9 @@ use Rattle.signature_items.specs.ItemsOf.{typed_items, types_items, slot_items, 
 use Rattle.signature_items.specs.Places.{Told, Teller, before_told, and_tell, joined, item_then, next_at, place_at, frame_at, types_told, params_items, params_told, locals_told}
 use Rattle.signature_items.proofs.Joins.{changed}
 
--- ---- how many are read
+-- ---- the number of values that are read
 
--- one value more
+-- one more value
 abbrev fronted : {A : Type 0} → A → Option (List A × List ℕ) → Option (List A × List ℕ)
 fronted x o = option_map (λ y. (x ∷ y.0, y.1)) o
 
@@ -38,7 +38,7 @@ many_count {A = A} r (suc n) b = of_first (r b) (λ c. many_count r n c)
     of_first None more = tt
     of_first (Some x) more = of_rest x.0 (many_at r n x.1) (more x.1)
 
--- a head with the count, and what is told of the values
+-- a head with the count, and the items of the values
 pub counted_item : {A : Type 0} (h : ℕ → Item) (f g : List A → List Item) (r : Reader A) → ((xs : List A) → (h (length xs) ∷ f xs) ≡ g xs) → (n : ℕ) (b : List ℕ) → item_then (h n) (change f (many_at r n) b) ≡ change g (many_at r n) b
 counted_item {A = A} h f g r e n b = of_option (many_at r n b) (many_count r n b)
   where
@@ -58,7 +58,7 @@ pub slots_from_items : (xs : List Slot) → slots_items (slots_from xs) None ≡
 slots_from_items [] = refl
 slots_from_items (x ∷ xs) = ap (λ (t : List Item). slot_items x ++ t) (slots_from_items xs)
 
--- ---- the first, and those behind it
+-- ---- the first value, and those after it
 
 pub many_joined : {A : Type 0} (items : A → List Item) (r : Reader A) (n : ℕ) (b : List ℕ) → joined (change items r) (change (flat_map items) (many_at r n)) b ≡ change (flat_map items) (many_at r (suc n)) b
 unfolding joined many_at
@@ -88,7 +88,7 @@ joined_nothing p b = of_first (p b)
     of_first None = refl
     of_first (Some x) = ap (λ (t : List Item). Some (t, x.1)) (sym (append-nil x.0))
 
--- a place, and what may follow it
+-- a position, and what may follow it
 pub next_joined : (f : Option Frame) (p : Place) (t : Teller) (b : List ℕ) → ((c : List ℕ) → next_at f None c ≡ t c) → next_at f (Some p) b ≡ joined (place_at p) t b
 next_joined None p t b same = joined_nothing (place_at p) b ∙ joined_same (place_at p) (λ c. Some ([], c)) t b same
 next_joined (Some f) p t b same = joined_same (place_at p) (frame_at f) t b same
@@ -135,7 +135,7 @@ params_more n d allowed b h = ap (λ (m : ℕ). params_told m allowed d b) (one_
 abbrev Params : Type 0
 Params = (List Slot × Option ℕ) × List ℕ
 
--- one parameter more, and what becomes of the place of SENTINEL
+-- one more parameter, and the new index of SENTINEL
 abbrev more_params : Slot → (Option ℕ → Option ℕ) → Option Params → Option Params
 more_params x m o = option_map (λ y. ((x ∷ y.0.0, m y.0.1), y.1)) o
 
@@ -238,7 +238,7 @@ unfolding place_at frame_at params_told params_at joined
 params_marked n d allowed [] h = absurd (no_head allowed h)
 params_marked n d allowed (c ∷ b) h = let code = both_hold allowed (head_is 0x41 (c ∷ b)) h in rw (h, code) (marked_first (core_at d) n (slot_at (core_at d) b))
 
--- parameters that may have no SENTINEL
+-- parameters without SENTINEL
 abbrev unmarked : Option (List Slot × List ℕ) → Option Params
 unmarked o = option_map (λ x. ((x.0, None), x.1)) o
 
@@ -263,7 +263,7 @@ params_plain n d b = ap (λ (o : Option Params). changed params_items o) (plain_
     of_list None = refl
     of_list (Some x) = ap (λ (t : List Item). Some (t, x.1)) (slots_from_items x.0)
 
--- ---- the first of what is counted, where what follows is told
+-- ---- the first of several values, if the items of the others are known
 
 pub types_opened : (f : Option Frame) (n d : ℕ) (b : List ℕ) → ((c : List ℕ) → next_at f None c ≡ types_told n d c) → next_at f (Some (place.Typed d)) b ≡ frame_at (frame.Types n d) b
 types_opened f n d b same = next_joined f (place.Typed d) (types_told n d) b same ∙ types_first n d b

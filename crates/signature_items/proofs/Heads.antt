@@ -1,4 +1,4 @@
--- What is told behind the head of a method, a property, local variables and type arguments, and of an array's shape.
+-- The items after the head of a method, a property, local variables and type arguments, and of an array's shape.
 use Rattle.std.proofs.Common.{◌≡◌, ◌≢◌, ◌∙◌, ℕ, ℤ, suc, ◌-◌, ◌<◌, ◌≤◌, ◌/◌, ◌%◌, ◌&&◌, Bool, true, false, eqb, ltb, Option, Some, None, IfSome, List, [], ◌∷◌, ◌++◌, length, map, refl, sym, ap, arith}
 use Rattle.std.specs.Prelude.{flat_map, option_map, option_and_then}
 use Rattle.std.proofs.lemmas.Bool.{ne_eqb}
@@ -177,7 +177,7 @@ arguments_bad c b rest h p = rw (h, ne_eqb c 0x0A p) refl
 
 -- ---- the shape of an array
 
--- a head with the count of what is read first
+-- a head with the number of values that are read first
 counted_both : {A B : Type 0} (h : ℕ → Item) (f g : List A × B → List Item) (r : Reader A) (q : Reader B) → ((x : List A × B) → (h (length x.0) ∷ f x) ≡ g x) → (n : ℕ) (b : List ℕ) → item_then (h n) (change f (both (many_at r n) q) b) ≡ change g (both (many_at r n) q) b
 unfolding both
 counted_both {A = A} {B = B} h f g r q e n b = of_first (many_at r n b) (many_count r n b)
@@ -212,7 +212,7 @@ pub shape_beyond : (n m : ℕ) (b b1 b2 : List ℕ) → number_at b ≡ Some (n,
 unfolding place_at shape_at both counted_within
 shape_beyond n m b b1 b2 e z f lt = rw (e, ne_eqb n 0 z, f, beyond_test m n lt) refl
 
--- sizes behind their count, and what follows
+-- sizes after their count, and what follows
 counted_is : (n m : ℕ) (b rest : List ℕ) → number_at b ≡ Some (m, rest) → m ≤ n → counted_within number_at n b ≡ many_at number_at m rest
 unfolding counted_within
 counted_is n m b rest e le = rw (e, within_test m n le) refl

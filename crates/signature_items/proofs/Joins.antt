@@ -1,11 +1,11 @@
--- Readers that tell items, one after another.
+-- Readers that return items, one after another.
 use Rattle.std.proofs.Common.{◌≡◌, ℕ, Option, Some, None, List, ◌∷◌, ◌++◌, refl, ap, append_assoc}
 use Rattle.std.specs.Prelude.{option_map, option_and_then}
 use Rattle.signature_values.specs.Reading.{Reader, change, both}
 use Rattle.signature_items.specs.declared.item.Item.{Item}
 use Rattle.signature_items.specs.Places.{Told, Teller, before_told, and_tell, joined, item_then}
 
--- the same reading, with its value changed
+-- the same reading, with a function applied to its value
 abbrev pub changed : {A B : Type 0} → (A → B) → Option (A × List ℕ) → Option (B × List ℕ)
 changed f o = option_map (λ x. (f x.0, x.1)) o
 
@@ -13,12 +13,12 @@ changed f o = option_map (λ x. (f x.0, x.1)) o
 abbrev pub paired : {A B : Type 0} → A → Option (B × List ℕ) → Option ((A × B) × List ℕ)
 paired x o = option_map (λ y. ((x, y.0), y.1)) o
 
--- what is told of a value that is made of another
+-- the items of a value that is made from another
 pub fused : {A B C : Type 0} (f : A → B) (g : B → C) (h : A → C) → ((x : A) → g (f x) ≡ h x) → (o : Option (A × List ℕ)) → changed g (changed f o) ≡ changed h o
 fused f g h e None = refl
 fused {C = C} f g h e (Some x) = ap (λ (t : C). Some (t, x.1)) (e x.0)
 
--- an item that is the first of what is told
+-- an item before the items that are read
 pub item_fused : {A B : Type 0} (i : Item) (f : A → List Item) (k : A → B) (g : B → List Item) → ((x : A) → (i ∷ f x) ≡ g (k x)) → (o : Option (A × List ℕ)) → item_then i (changed f o) ≡ changed g (changed k o)
 item_fused i f k g e None = refl
 item_fused i f k g e (Some x) = ap (λ (t : List Item). Some (t, x.1)) (e x.0)
@@ -59,7 +59,7 @@ joined_assoc p q r b = of_first (p b)
     of_first None = refl
     of_first (Some x) = and_twice q r x.0 (q x.1)
 
--- an item stays in front
+-- an item stays at the start
 pub item_and : (i : Item) (q : Teller) (o : Told) → and_tell q (item_then i o) ≡ item_then i (and_tell q o)
 item_and i q None = refl
 item_and i q (Some x) = of_rest (q x.1)

@@ -1,4 +1,4 @@
--- Modifiers at the front, and modifiers and PINNED, one by one.
+-- Modifiers at the start, and modifiers with PINNED, one by one.
 use Rattle.std.proofs.Common.{◌≡◌, ℕ, zero, suc, ◌<◌, ◌≤◌, ◌||◌, Bool, true, false, cond, eqb, ltb, Option, Some, None, List, [], ◌∷◌, ◌++◌, length, drop, map, length-drop, refl, ap, arith, IfSome}
 use Rattle.std.specs.Prelude.{option_map, option_and_then}
 use Rattle.packed.specs.Front as front
@@ -9,7 +9,7 @@ use Rattle.signature_values.specs.Reading.{Reader, Optional, change, both, numbe
 use Rattle.signature_items.specs.declared.item.Item.{Item}
 use Rattle.signature_items.specs.Places.{Teller, item_then}
 
--- ---- what is left is shorter
+-- ---- the remainder is shorter
 
 abbrev Takes : {A : Type 0} → List ℕ → A × List ℕ → Type 0
 Takes b x = length x.1 < length b
@@ -61,19 +61,19 @@ index_takes b = of_number (number_at b) (number_takes b)
     of_number None h = tt
     of_number (Some x) h = of_token x.1 (token_of x.0) h
 
--- ---- what stands at the front, one by one
+-- ---- the items at the start, one by one
 
 abbrev TakesOne : {A : Type 0} → List ℕ → Option A × List ℕ → Type 0
 TakesOne b (None, c) = Unit {0}
 TakesOne b (Some x, c) = length c < length b
 
--- where the test says that none stands at the front there is none, and one takes some bytes
+-- if the test says that there is no item at the start, none is read; an item has at least one byte
 pub record Stepping {A : Type 0} (r : Optional A) (starts : List ℕ → Bool) : Type 0 where
   shorter : (b : List ℕ) → IfSome (r b) (TakesOne b)
   stop : (b : List ℕ) → starts b ≡ false → r b ≡ Some (None, b)
   empty : starts [] ≡ false
 
--- what stands before a value, and the value
+-- the items before a value, and the value
 abbrev pub led_at : {M A : Type 0} → Optional M → (M → Item) → (A → List Item) → Reader A → Teller
 led_at r one items q = change (λ x. map one x.0 ++ items x.1) (both (leading_at r) q)
 
@@ -157,7 +157,7 @@ modifier_stop (c ∷ b) h = at_test (eqb c 0x1F) (eqb c 0x20) h
 pub modifier_steps : Stepping modifier_at starts_modifier
 modifier_steps = record { shorter = modifier_takes; stop = modifier_stop; empty = refl }
 
--- ---- modifiers and PINNED
+-- ---- modifiers with PINNED
 
 prefix_takes : (b : List ℕ) → IfSome (prefix_at b) (TakesOne b)
 unfolding prefix_at

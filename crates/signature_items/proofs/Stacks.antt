@@ -1,4 +1,4 @@
--- The frames of an iterator: what they tell with a place before them, and the room for them.
+-- The frames of an iterator: their items, with a position before them, and the room for them.
 use Rattle.std.proofs.Common.{◌≡◌, ◌∙◌, ℕ, suc, ◌+◌, ◌<◌, ◌≤◌, true, Option, Some, None, is_some, IfSome, List, [], ◌∷◌, ◌++◌, length, append-nil, length-append, refl, sym, ap, subst, arith}
 use Rattle.schema.specs.declared.column.SigKind.{SigKind}
 use Rattle.signature_values.specs.Syntax.{Body}
@@ -15,7 +15,7 @@ use Rattle.signature_items.specs.Steps.{told_by, IsWithin, framed, pushed, all_a
 use Rattle.signature_items.proofs.Joins.{joined_assoc, item_and}
 use Rattle.signature_items.proofs.Counts.{joined_same}
 
--- ---- what frames tell
+-- ---- the items of frames
 
 front_nothing : (o : Told) → before_told [] o ≡ o
 front_nothing None = refl
@@ -39,7 +39,7 @@ all_next (Some f) (Some p) fs b =
     joined_same (place_at p) (stack_at (fs ++ f ∷ [])) (joined (frame_at f) (stack_at fs)) b (λ c. stack_push fs f c)
     ∙ sym (joined_assoc (place_at p) (frame_at f) (stack_at fs) b)
 
--- the place that a frame begins with is told, and what follows it
+-- the items at the first position of a frame, and of what follows it
 pub resumed_told : (old fs : List Frame) (f : Frame) (g : Option Frame) (p : Place) (b : List ℕ) → old ≡ fs ++ f ∷ [] → next_at g (Some p) b ≡ frame_at f b → all_at (Some p) (pushed g fs) b ≡ all_at None old b
 resumed_told old fs f g p b e same =
     all_next g (Some p) fs b ∙ ap (λ (o : Told). and_tell (stack_at fs) o) same ∙ sym (all_next (Some f) None fs b)
@@ -107,7 +107,7 @@ advanced_roomy fs new s p stacked room is made =
       ended = λ none. absurd cc;
     })
 
--- ---- the items that are left
+-- ---- the items that remain
 
 left_then : (i : Item) (o t : Told) → o ≡ item_then i t → is_some o ≡ true → (items_in o ≡ i ∷ items_in t) × (is_some t ≡ true)
 left_then i o None e h = absurd (let f = ap is_some e in cc)
@@ -122,14 +122,14 @@ next_items p fs new q s b e rest some = left_then s.item (all_at (Some p) fs b) 
         all_next None (Some p) fs b ∙ ap (λ (o : Told). and_tell (stack_at fs) o) e
         ∙ item_and s.item (stack_at fs) (next_at s.frame s.place s.rest.now) ∙ ap (λ (o : Told). item_then s.item o) (sym rest)
 
--- a place that is not told is none
+-- if reading at a position fails, there are no items
 pub told_somewhere : (p : Place) (fs : List Frame) (b : List ℕ) → is_some (all_at (Some p) fs b) ≡ true → place_at p b ≡ None → ⊥
 told_somewhere p fs b some none =
     let e : all_at (Some p) fs b ≡ None = all_next None (Some p) fs b ∙ ap (λ (o : Told). and_tell (stack_at fs) o) none in
     let f = ap is_some e in
     cc
 
--- nothing is left where no place and no frame is
+-- without position and frames, nothing remains
 nothing_left : (b : List ℕ) → items_left None [] b ≡ []
 unfolding items_left all_at joined stack_at
 nothing_left b = refl
@@ -138,7 +138,7 @@ pub ended_items : (p : Option Place) (fs : List Frame) (b : List ℕ) → p ≡ 
 ended_items None fs b e roomy = let none = roomy.ended e in rw none (nothing_left b)
 ended_items (Some p) fs b e roomy = absurd cc
 
--- ---- the first place
+-- ---- the first position
 
 first_told : (kind : SigKind) (signature : Body) (b : List ℕ) → body_at kind (core_at 128) b ≡ Some (signature, []) → all_at (Some (place.Body kind)) [] b ≡ Some (items_of signature, [])
 unfolding all_at joined stack_at place_at

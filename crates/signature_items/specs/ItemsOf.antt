@@ -1,4 +1,4 @@
--- The items of a signature (ECMA-335 II.23.2), in the order of its spelling.
+-- The items of a signature (ECMA-335 II.23.2), in encoded order.
 use Rattle.std.specs.Prelude.{ℕ, zero, suc, Bool, Option, Some, None, List, [], ◌∷◌, ◌++◌, length, map, flat_map}
 use Rattle.signature_values.specs.declared.types.Modifier.{Modifier}
 use Rattle.signature_values.specs.declared.body.Prefix.{Prefix}
@@ -8,27 +8,27 @@ use Rattle.signature_values.specs.Syntax.{Core, simple, void_pointer, pointer, v
 use Rattle.signature_items.specs.declared.item.Item.{Item}
 use Rattle.signature_items.specs.declared.item.Item.TheVariants as item
 
--- II.23.2.7
+-- CustomMod (II.23.2.7)
 abbrev pub modifiers_items : List Modifier → List Item
 modifiers_items modifiers = map item.Modifier modifiers
 
--- II.23.2.9
+-- CustomMod or Constraint before a local variable (II.23.2.6, II.23.2.9)
 abbrev pub prefix_item : Prefix → Item
 prefix_item (Mod modifier) = item.Modifier modifier
 prefix_item Pinned = item.Pinned
 
--- II.23.2.13
+-- ArrayShape (II.23.2.13)
 abbrev pub shape_items : ArrayShape → List Item
 shape_items shape =
     item.Shape shape.rank (length shape.sizes) ∷ (map item.Size shape.sizes ++ item.LowBounds (length shape.low) ∷ map item.LowBound shape.low)
 
--- II.23.2.1 to II.23.2.3
+-- the head of a method (II.23.2.1 to II.23.2.3)
 abbrev pub method_head : ℕ → Bool → Bool → Option ℕ → ℕ → Item
 method_head kind this explicit generic params =
     item.Method (record { kind = kind; this = this; explicit = explicit; generic = generic; params = params })
 
 abbrev mutual
-  -- II.23.2.12
+  -- Type (II.23.2.12), without the modifiers before it
   pub core_items : Core → List Item
   core_items (simple element) = item.Simple element ∷ []
   core_items (void_pointer modifiers) = item.Pointer ∷ (modifiers_items modifiers ++ item.Void ∷ [])
@@ -49,7 +49,7 @@ abbrev mutual
   types_items no_types = []
   types_items (type_then t ts) = typed_items t ++ types_items ts
 
-  -- II.23.2.10
+  -- Param (II.23.2.10), without the modifiers before it
   pub content_items : Content → List Item
   content_items typed_ref = item.TypedRef ∷ []
   content_items (plain core) = core_items core
@@ -58,14 +58,14 @@ abbrev mutual
   pub slot_items : Slot → List Item
   slot_items (slot modifiers content) = modifiers_items modifiers ++ content_items content
 
-  -- the parameters, with SENTINEL before the one that so many stand before
+  -- the parameters, with SENTINEL after the given number of them
   pub slots_items : Slots → Option ℕ → List Item
   slots_items no_slots sentinel = []
   slots_items (slot_then s ss) None = slot_items s ++ slots_items ss None
   slots_items (slot_then s ss) (Some zero) = item.Sentinel ∷ (slot_items s ++ slots_items ss None)
   slots_items (slot_then s ss) (Some (suc before)) = slot_items s ++ slots_items ss (Some before)
 
-  -- II.23.2.11
+  -- RetType (II.23.2.11)
   pub ret_items : Ret → List Item
   ret_items (some_ret s) = slot_items s
   ret_items (void_ret modifiers) = modifiers_items modifiers ++ item.Void ∷ []
@@ -74,11 +74,11 @@ abbrev mutual
   method_items (method kind this explicit generic ret params sentinel) =
       method_head kind this explicit generic (count_slots params) ∷ (ret_items ret ++ slots_items params sentinel)
 
--- II.23.2.6
+-- one variable of LocalVarSig (II.23.2.6)
 abbrev pub local_items : LocalVariable → List Item
 local_items (local prefixes content) = map prefix_item prefixes ++ content_items content
 
--- II.23.2.4, II.23.2.1 to II.23.2.3, II.23.2.5, II.23.2.6, II.23.2.15 and II.23.2.14
+-- the sections, in order: II.23.2.4, II.23.2.1 to II.23.2.3, II.23.2.5, II.23.2.6, II.23.2.15 and II.23.2.14
 abbrev pub items_of : Body → List Item
 items_of (field s) = item.Field ∷ slot_items s
 items_of (method_body m) = method_items m

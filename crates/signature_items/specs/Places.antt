@@ -1,4 +1,4 @@
--- What is left of a signature behind some of its items, and the items that it gives: what private functions compute.
+-- The remainder of a signature after some of its items, and its own items. Private functions compute this.
 use Rattle.std.specs.Prelude.{ℕ, ℤ, suc, Bool, Option, Some, None, option_map, option_and_then, List, [], ◌∷◌, ◌++◌, map, flat_map, length, ⊤, true}
 use Rattle.signature_values.specs.declared.types.Modifier.{Modifier}
 use Rattle.signature_values.specs.Syntax.{Core, Slot, field, locals, instance_body}
@@ -14,30 +14,30 @@ use Rattle.signature_items.specs.declared.place.Place.TheVariants as place
 use Rattle.signature_items.specs.declared.place.Frame.{Frame}
 use Rattle.signature_items.specs.declared.place.Frame.TheVariants as frame
 
--- the items of what is read, and the bytes behind it
+-- the items of what is read, and the bytes after it
 abbrev pub Told : Type 0
 Told = Option (List Item × List ℕ)
 
 abbrev pub Teller : Type 0
 Teller = Reader (List Item)
 
--- nothing is left to read
+-- the reader that reads nothing
 abbrev pub nothing : Teller
 nothing b = Some ([], b)
 
--- items before what is told
+-- items before those that are read
 abbrev pub before_told : List Item → Told → Told
 before_told items told = option_map (λ x. (items ++ x.0, x.1)) told
 
--- what was told, and what is told behind it
+-- the items that were read, and those that the reader reads after them
 abbrev pub and_tell : Teller → Told → Told
 and_tell q told = option_and_then (λ x. before_told x.0 (q x.1)) told
 
--- one after the other
+-- one reader after the other
 unfoldable pub joined : Teller → Teller → Teller
 joined r q b = and_tell q (r b)
 
--- VOID, or something else
+-- VOID, or another target
 abbrev pub void_items : {A : Type 0} → (A → List Item) → Option A → List Item
 void_items items None = item.Void ∷ []
 void_items items (Some x) = items x
@@ -45,7 +45,7 @@ void_items items (Some x) = items x
 abbrev pub target_items : List Modifier × Option Core → List Item
 target_items x = modifiers_items x.0 ++ void_items core_items x.1
 
--- the lowest indexes of an array
+-- the lower bounds of an array
 abbrev pub low_items : List ℤ → List Item
 low_items low = item.LowBounds (length low) ∷ map item.LowBound low
 
@@ -70,7 +70,7 @@ params_told count allowed depth = change params_items (params_at (core_at depth)
 unfoldable pub locals_told : ℕ → ℕ → Teller
 locals_told count depth = change (flat_map local_items) (many_at (local_at (core_at depth)) count)
 
--- a core, and one behind its first byte
+-- a core, and a core after its first byte
 unfoldable pub core_told : ℕ → Teller
 core_told depth = change core_items (core_at depth)
 
@@ -86,7 +86,7 @@ content_told depth = change content_items (content_at (core_at depth))
 unfoldable pub method_told : Bool → ℕ → Teller
 method_told own depth = change method_items (method_at own (core_at depth))
 
--- whole signatures behind their first byte
+-- whole signatures after their first byte
 unfoldable pub field_told : Teller
 field_told = change items_of (change field (slot_at (core_at 128)))
 
@@ -99,7 +99,7 @@ variables_told = change items_of (change locals (counted_at (local_at (core_at 1
 unfoldable pub arguments_told : Teller
 arguments_told = change items_of (change instance_body (counted_at (typed_at (core_at 128))))
 
--- the items of a place, from the bytes
+-- the items at a position, read from the bytes
 unfoldable pub place_at : Place → Teller
 place_at (place.Body kind) = change items_of (body_at kind (core_at 128))
 place_at (place.Method depth) = method_told true depth
@@ -121,18 +121,18 @@ frame_at (frame.Params further allowed depth) = params_told (suc further) allowe
 frame_at (frame.Locals further depth) = locals_told (suc further) depth
 frame_at frame.Shape = change shape_items shape_at
 
--- the items of a place, where there is one, and of a frame behind it, where there is one
+-- the items at a position, if there is one, then those of a frame, if there is one
 abbrev pub next_at : Option Frame → Option Place → Teller
 next_at None None b = Some ([], b)
 next_at None (Some p) b = place_at p b
 next_at (Some f) None b = frame_at f b
 next_at (Some f) (Some p) b = joined (place_at p) (frame_at f) b
 
--- an item, and those of what follows
+-- an item, and the items that follow
 abbrev pub item_then : Item → Told → Told
 item_then i told = option_map (λ x. (i ∷ x.0, x.1)) told
 
--- modifiers may stand before it
+-- modifiers may precede what is at this position
 abbrev pub IsLed : Place → Type 0
 IsLed (place.Typed depth) = ⊤
 IsLed (place.Target depth) = ⊤
@@ -140,7 +140,7 @@ IsLed (place.Slot depth) = ⊤
 IsLed (place.Ret depth) = ⊤
 IsLed _ = ⊥
 
--- ---- how deep
+-- ---- depth
 
 abbrev pub place_depth : Place → ℕ
 place_depth (place.Body kind) = 129
@@ -159,7 +159,7 @@ frame_depth (frame.Params further allowed depth) = depth
 frame_depth (frame.Locals further depth) = depth
 frame_depth frame.Shape = 0
 
--- frames from the last to the first are told one after another
+-- the items of the frames, from the last frame to the first
 unfoldable pub stack_at : List Frame → Teller
 stack_at [] = nothing
 stack_at (f ∷ fs) = joined (stack_at fs) (frame_at f)

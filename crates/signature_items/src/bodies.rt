@@ -11,7 +11,7 @@ use crate::types::{ret, types, variables};
 use schema::SigKind;
 use signature_leaves::{byte, number};
 
-/// How deep types may nest.
+/// The greatest depth to which types may nest.
 pub const DEPTH: u8 = 128;
 
 /// The head of a field, whose first byte was read (II.23.2.4).

@@ -10,7 +10,7 @@ use crate::step::Step;
 use crate::types::{types, variables};
 use signature_leaves::sentinel;
 
-/// Adds a frame, where there is one.
+/// Pushes a frame, if there is one.
 fn push(frames: &mut Frames, frame: Option<Frame>)
     requires { IfSome frame (λ f. length frames.old + frame_depth f < 129) }
     ensures { frames.new ≡ pushed frame frames.old }
@@ -20,7 +20,7 @@ fn push(frames: &mut Frames, frame: Option<Frame>)
     }
 }
 
-/// The first of so many parameters, with SENTINEL before one of them where it may stand, and what follows it.
+/// The position of the first of several parameters, with SENTINEL if it is allowed, and the frame after it.
 fn first_param(bytes: &[u8], further: u32, allowed: bool, depth: u8) -> (Option<Frame>, Place)
     ensures told { next_at result.0 (Some result.1) bytes.now ≡ frame_at (frame.Params further allowed depth) bytes.now }
     ensures frame { IfSome result.0 (λ f. frame_depth f ≡ depth) }
@@ -33,7 +33,7 @@ fn first_param(bytes: &[u8], further: u32, allowed: bool, depth: u8) -> (Option<
     (params(further, allowed, depth), Place::Slot { depth })
 }
 
-/// The first place of a frame, and what follows it.
+/// The first position of a frame, and the frame after it.
 fn opened(frame: Frame, bytes: &[u8]) -> (Option<Frame>, Place)
     ensures told { next_at result.0 (Some result.1) bytes.now ≡ frame_at frame bytes.now }
     ensures frame { IfSome result.0 (λ f. frame_depth f ≤ frame_depth frame) }
@@ -51,7 +51,7 @@ fn opened(frame: Frame, bytes: &[u8]) -> (Option<Frame>, Place)
     }
 }
 
-/// The place that is reached where one is read to its end: the first of the last frame.
+/// The next position after the current one is read to its end: the first position of the last frame.
 fn resumed(frames: &mut Frames, bytes: &[u8]) -> Option<Place>
     requires { IsStacked 0 frames.old }
     ensures told { all_at result frames.new bytes.now ≡ all_at None frames.old bytes.now }
@@ -62,7 +62,7 @@ fn resumed(frames: &mut Frames, bytes: &[u8]) -> Option<Place>
     Some(place)
 }
 
-/// The place that is reached behind a step.
+/// The next position after a step.
 pub fn followed(frames: &mut Frames, step: Step<'_>) -> Option<Place>
     requires stacked { IsStacked 0 frames.old }
     requires room { HasRoom frames.old step }

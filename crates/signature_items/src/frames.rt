@@ -4,10 +4,10 @@ ghost use Rattle.signature_items.specs.declared.place.Frame.{Frame};
 use crate::place::Frame;
 use std::marker::Model;
 
-/// How many frames there may be: one for each level of types, and one for what is outermost.
+/// The greatest number of frames: one for each level of types, and one for the outermost level.
 pub const MOST: usize = 129;
 
-/// The frames of what follows, the innermost last. Contracts see the list of them.
+/// The stack of frames that are still to be read, the innermost last. Contracts see it as a list.
 #[derive(Drop)]
 pub struct Frames {
     frames: [Frame; MOST],
@@ -33,7 +33,7 @@ impl Frames {
         }
     }
 
-    /// Adds a frame behind the others.
+    /// Pushes a frame.
     pub fn push(&mut self, frame: Frame)
         requires { length self.old < 129 }
         ensures { self.new ≡ self.old ++ frame ∷ [] }
@@ -42,7 +42,7 @@ impl Frames {
         self.len += 1;
     }
 
-    /// Takes the last frame.
+    /// Pops the last frame.
     pub fn pop(&mut self) -> Option<Frame>
         ensures { MatchOption result ((self.old ≡ []) × (self.new ≡ [])) (λ frame. self.old ≡ self.new ++ frame ∷ []) }
     {

@@ -1,91 +1,91 @@
 use schema::Token;
 use signature_values::{Element, Modifier};
 
-/// The head of a method (II.23.2.1 to II.23.2.3): what stands before its result and its parameters.
+/// The head of a method (II.23.2.1 to II.23.2.3): what precedes its result and its parameters.
 #[derive(Clone, Copy, Debug, PartialEq, Eq)]
 pub struct MethodHead {
     /// The calling convention: 0 default, 1 C, 2 stdcall, 3 thiscall, 4 fastcall, 5 vararg,
     /// 9 unmanaged.
     pub kind: u8,
-    /// HASTHIS: it is called on an instance.
+    /// HASTHIS: the method is called on an instance.
     pub this: bool,
-    /// EXPLICITTHIS: the instance is the first of its parameters.
+    /// EXPLICITTHIS: the instance is the first parameter of the method.
     pub explicit: bool,
-    /// How many generic parameters it has, where it is generic.
+    /// The number of generic parameters; `None` if the method is not generic.
     pub generic: Option<u32>,
-    /// How many parameters follow the result.
+    /// The number of parameters that follow the result.
     pub params: u32,
 }
 
-/// An item of a signature (II.23.2): what a few of its bytes say. What belongs to it comes behind it, in the
-/// order of the spelling.
+/// An item of a signature (II.23.2): the content of a few of its bytes. Its parts follow as further items, in
+/// encoded order.
 #[derive(Clone, Copy, Debug, PartialEq, Eq)]
 pub enum Item {
-    /// The head of a field (II.23.2.4); its type follows.
+    /// A field (II.23.2.4). Its type follows.
     Field,
-    /// The head of a method; its result follows, and then its parameters.
+    /// The head of a method. Its result follows, then its parameters.
     Method(MethodHead),
-    /// The head of a property (II.23.2.5); its type follows, and then its parameters.
+    /// The head of a property (II.23.2.5). Its type follows, then its parameters.
     Property {
-        /// HASTHIS: it belongs to an instance.
+        /// HASTHIS: the property belongs to an instance.
         this: bool,
-        /// How many parameters follow the type.
+        /// The number of parameters that follow the type.
         params: u32,
     },
-    /// The head of so many local variables (II.23.2.6), which follow.
+    /// The number of local variables (II.23.2.6). They follow.
     Locals(u32),
-    /// The head of so many type arguments of a generic method (II.23.2.15), which follow.
+    /// The number of type arguments of a generic method (II.23.2.15). They follow.
     Arguments(u32),
     /// A modifier of the type that follows (II.23.2.7).
     Modifier(Modifier),
-    /// PINNED: the local variable that follows stays where it is (II.23.2.9).
+    /// PINNED: the target of the local variable that follows must not move (II.23.2.9).
     Pinned,
-    /// SENTINEL: the arguments that follow are the call's own (II.23.2.2, II.23.2.3).
+    /// SENTINEL: the variable arguments of the call follow (II.23.2.2, II.23.2.3).
     Sentinel,
-    /// VOID: no value, or what a pointer to anything points to.
+    /// VOID: no value, or the target of an untyped pointer.
     Void,
-    /// TYPEDBYREF: a reference together with its type.
+    /// TYPEDBYREF: a typed reference, which carries its type.
     TypedRef,
     /// BYREF: a managed reference to the type that follows.
     ByRef,
-    /// A type that one byte spells.
+    /// A type that is encoded as one byte.
     Simple(Element),
     /// PTR: an unmanaged pointer to the type that follows, or to VOID.
     Pointer,
-    /// SZARRAY: an array of one dimension, from 0 on, of the type that follows.
+    /// SZARRAY: an array of one dimension with lower bound 0, of the type that follows.
     Vector,
-    /// ARRAY: an array of the type that follows, behind which its shape stands.
+    /// ARRAY: an array of the type that follows. Its shape follows that type.
     Array,
     /// CLASS: a row of TypeDef, TypeRef or TypeSpec.
     Class(Token),
     /// VALUETYPE: a row of TypeDef, TypeRef or TypeSpec.
     Value(Token),
-    /// VAR: the generic parameter of a type, counted from 0.
+    /// VAR: a generic parameter of a type, counted from 0.
     Var(u32),
-    /// MVAR: the generic parameter of a method, counted from 0.
+    /// MVAR: a generic parameter of a method, counted from 0.
     MVar(u32),
-    /// GENERICINST: an instance of a generic type, whose type arguments follow.
+    /// GENERICINST: an instance of a generic type. Its type arguments follow.
     Instance {
-        /// Whether it is a value type: VALUETYPE, and else CLASS.
+        /// `true` for VALUETYPE, `false` for CLASS.
         value: bool,
         /// The generic type: a row of TypeDef, TypeRef or TypeSpec.
         of: Token,
-        /// How many type arguments follow.
+        /// The number of type arguments that follow.
         args: u32,
     },
     /// FNPTR: a pointer to the method whose head follows.
     Function,
-    /// The shape of an array (II.23.2.13), behind the type of its elements.
+    /// The shape of an array (II.23.2.13), after the type of its elements.
     Shape {
-        /// How many dimensions it has, at least one.
+        /// The number of dimensions, at least 1.
         rank: u32,
-        /// How many sizes follow, at most as many as there are dimensions.
+        /// The number of sizes that follow, at most `rank`.
         sizes: u32,
     },
     /// The size of the next dimension.
     Size(u32),
-    /// How many lowest indexes follow, at most as many as there are dimensions; it stands behind the sizes.
+    /// The number of lower bounds that follow, at most the rank. It follows the sizes.
     LowBounds(u32),
-    /// The lowest index of the next dimension.
+    /// The lower bound of the next dimension.
     LowBound(i32),
 }

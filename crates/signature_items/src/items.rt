@@ -19,7 +19,7 @@ use schema::SigKind;
 use signature_values::signatures_are_read;
 use std::marker::Model;
 
-/// The first item at a place.
+/// The first item at a position.
 #[tactic(auto, using(crate::proofs::Heads::place_method))]
 fn first_item(place: Place, bytes: &[u8]) -> Option<Step<'_>>
     ensures told { told result ≡ place_at place bytes.now }
@@ -41,9 +41,9 @@ fn first_item(place: Place, bytes: &[u8]) -> Option<Step<'_>>
     }
 }
 
-/// The items of a signature (II.23.2), in the order of its spelling, read from its bytes without memory.
+/// The items of a signature (II.23.2), in encoded order, read from its bytes. It does not allocate.
 ///
-/// Contracts see the list of those that are still to come.
+/// Contracts see the list of the items that remain.
 #[derive(Drop)]
 pub struct Items<'a> {
     bytes: &'a [u8],
@@ -64,8 +64,8 @@ impl<'a> Model for Items<'a> {
 }
 
 impl<'a> Items<'a> {
-    /// The items of the signature that bytes, all of them, spell in a column of this kind; `None` where they
-    /// spell none. A type index may name a row that is not there.
+    /// The items of the signature that all the bytes together encode, in a column of this kind; `None` if they
+    /// encode none. The row of a type index need not exist.
     pub fn of(bytes: &'a [u8], kind: SigKind) -> Option<Items<'a>>
         ensures found { IfSome result (λ items. (signature : Body) × Spells kind signature bytes.now × (items ≡ items_of signature)) }
         ensures only { (signature : Body) → Spells kind signature bytes.now → IsSomeAnd result (λ items. items ≡ items_of signature) }
@@ -91,7 +91,7 @@ impl<'a> Iterator for Items<'a> {
 
     ghost remaining = { item_count (λ s. s) };
 
-    /// The next item; `None` from the end on. It reads the bytes of that item alone.
+    /// The next item; `None` after the last. It reads only the bytes of that item.
     fn next(&mut self) -> Option<Item> {
         let step = first_item(self.place?, self.bytes)?;
         self.place = followed(&mut self.frames, step);

@@ -1,9 +1,9 @@
-//! The items of signatures (ECMA-335 II.23.2), one after another, without memory.
+//! Iterates over the items of signatures (ECMA-335 II.23.2). It does not allocate.
 //!
-//! [`Items`] goes over the bytes of a blob that spell a signature and gives an [`Item`] at a time, in the
-//! order of the spelling: heads with their counts, types, modifiers, shapes. Each step reads the bytes of
-//! one item and takes constant time beside that; what is still to come is kept in a fixed array, since
-//! types nest at most 128 deep. The grammar is that of `signature_values`.
+//! [`Items`] reads the bytes of a blob that encode a signature. It returns one [`Item`] at a time, in
+//! encoded order: heads with their counts, types, modifiers, shapes. Each step reads the bytes of one item
+//! and otherwise takes constant time. A fixed array holds what remains to be read, because types nest
+//! at most 128 deep. The grammar is that of `signature_values`.
 //!
 //! ```text
 //! // a field of a 4-byte integer

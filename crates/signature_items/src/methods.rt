@@ -11,7 +11,7 @@ use signature_values::method_byte::{
     begins_method, calling_convention, has_explicit_this, has_this, is_generic, may_have_sentinel,
 };
 
-/// So many parameters, with SENTINEL before one of them where it may stand.
+/// The frame of `count` parameters, with SENTINEL before one of them if it is allowed.
 #[tactic(auto, using(crate::proofs::Counts::params_zero, crate::proofs::Counts::params_more))]
 pub fn params(count: u32, allowed: bool, depth: u8) -> Option<Frame>
     ensures told { (b : List ℕ) → next_at result None b ≡ params_told count allowed depth b }
@@ -27,7 +27,7 @@ pub fn params(count: u32, allowed: bool, depth: u8) -> Option<Frame>
     })
 }
 
-/// How many generic parameters a method has, where its first byte says that the number stands there.
+/// The number of generic parameters, if the first byte of the method says that the method is generic.
 #[tactic(auto, unfolding(signature_values::specs::Reading::generic_at))]
 fn generic(bytes: &[u8], code: u8) -> Option<(Option<u32>, &[u8])>
     ensures { option_map (λ x. (x.0, x.1.now)) result ≡ generic_at (code / 16 % 2 == 1) bytes.now }
@@ -39,15 +39,15 @@ fn generic(bytes: &[u8], code: u8) -> Option<(Option<u32>, &[u8])>
     Some((Some(count), rest))
 }
 
-/// Whether a method of that first byte has a SENTINEL where one may stand: C and vararg have, and only
-/// where it may be the method's own.
+/// Whether SENTINEL is allowed in a method with this first byte: its calling convention is C or vararg, and
+/// `own` allows it.
 fn takes_sentinel(code: u8, own: bool) -> bool
     ensures { result ≡ (own && kind_takes_sentinel (code % 16)) }
 {
     own && may_have_sentinel(code)
 }
 
-/// The head of a method, which may have a SENTINEL of its own or not (II.23.2.1 to II.23.2.3).
+/// The head of a method; `own` says whether it may have a SENTINEL (II.23.2.1 to II.23.2.3).
 #[tactic(auto, using(crate::proofs::Heads::method_end, crate::proofs::Heads::method_bad, crate::proofs::Heads::method_no_generic, crate::proofs::Heads::method_no_count))]
 pub fn method(bytes: &[u8], own: bool, depth: u8) -> Option<Step<'_>>
     ensures told { told result ≡ method_told own depth bytes.now }

@@ -1,15 +1,15 @@
 use schema::SigKind;
 
-/// What stands at the front of what is left of a signature. Types in it nest at most `depth` deep.
+/// What the remainder of a signature starts with. The types in it nest at most `depth` deep.
 #[derive(Clone, Copy)]
 pub enum Place {
     /// The signature of a column of this kind.
     Body(SigKind),
-    /// A method, behind FNPTR.
+    /// A method, after FNPTR.
     Method { depth: u8 },
-    /// A type, or what is left of one behind some of its modifiers. The same holds of the four below.
+    /// A type, or its remainder after some of its modifiers. The same holds for the four positions below.
     Typed { depth: u8 },
-    /// What a pointer points to.
+    /// The target of a pointer.
     Target { depth: u8 },
     /// A parameter or a field.
     Slot { depth: u8 },
@@ -17,33 +17,33 @@ pub enum Place {
     Ret { depth: u8 },
     /// A local variable.
     Local { depth: u8 },
-    /// SENTINEL, and a parameter behind it.
+    /// SENTINEL, and the parameter after it.
     Marked { depth: u8 },
     /// The shape of an array.
     Shape,
-    /// A size of an array of this rank and so many further, and its lowest indexes.
+    /// `further + 1` sizes of an array of this rank, and then its lower bounds.
     Sizes { further: u32, rank: u32 },
-    /// The lowest indexes of an array of this rank.
+    /// The lower bounds of an array of this rank, with their count.
     LowCount { rank: u32 },
-    /// A lowest index and so many further.
+    /// `further + 1` lower bounds.
     LowBounds { further: u32 },
 }
 
-/// What follows, once something is read to its end.
+/// What follows after the current position is read to its end.
 #[derive(Clone, Copy)]
 pub enum Frame {
-    /// A type and so many further.
+    /// `further + 1` types.
     Types {
         further: u32,
         depth: u8,
     },
-    /// A parameter and so many further, with SENTINEL before one of them where it may stand.
+    /// `further + 1` parameters, with SENTINEL before one of them if it is allowed.
     Params {
         further: u32,
         allowed: bool,
         depth: u8,
     },
-    /// A local variable and so many further.
+    /// `further + 1` local variables.
     Locals {
         further: u32,
         depth: u8,

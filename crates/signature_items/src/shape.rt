@@ -8,7 +8,7 @@ use crate::place::Place;
 use crate::step::Step;
 use signature_leaves::{number, signed};
 
-/// So many sizes of an array, and its lowest indexes.
+/// The position of `count` sizes of an array, and then its lower bounds.
 #[tactic(auto, using(crate::proofs::Heads::sizes_zero, crate::proofs::Heads::sizes_more))]
 fn sizes_place(count: u32, rank: u32) -> Place
     ensures told { (b : List ℕ) → place_at result b ≡ sizes_at count rank b }
@@ -23,7 +23,7 @@ fn sizes_place(count: u32, rank: u32) -> Place
     }
 }
 
-/// So many lowest indexes of an array.
+/// The position of `count` lower bounds of an array; `None` if there are none.
 #[tactic(auto, using(crate::proofs::Heads::bounds_zero, crate::proofs::Heads::bounds_more))]
 fn bounds_place(count: u32) -> Option<Place>
     ensures told { (b : List ℕ) → next_at None result b ≡ bounds_at count b }
@@ -35,7 +35,7 @@ fn bounds_place(count: u32) -> Option<Place>
     Some(Place::LowBounds { further: count - 1 })
 }
 
-/// The shape of an array (II.23.2.13).
+/// Reads the shape of an array (II.23.2.13).
 #[tactic(auto, using(crate::proofs::Heads::shape_no_rank, crate::proofs::Heads::shape_zero, crate::proofs::Heads::shape_no_count, crate::proofs::Heads::shape_beyond, crate::proofs::Heads::shape_is))]
 pub fn shape(bytes: &[u8]) -> Option<Step<'_>>
     ensures told { told result ≡ place_at place.Shape bytes.now }
@@ -52,7 +52,7 @@ pub fn shape(bytes: &[u8]) -> Option<Step<'_>>
     Some(Step::before(Item::Shape { rank, sizes }, sizes_place(sizes, rank), rest))
 }
 
-/// A size, with so many further.
+/// Reads a size, with `further` sizes after it.
 #[tactic(auto, using(crate::proofs::Heads::size_none, crate::proofs::Heads::size_is))]
 pub fn size(bytes: &[u8], further: u32, rank: u32) -> Option<Step<'_>>
     ensures told { told result ≡ place_at (place.Sizes further rank) bytes.now }
@@ -62,7 +62,7 @@ pub fn size(bytes: &[u8], further: u32, rank: u32) -> Option<Step<'_>>
     Some(Step::before(Item::Size(size), sizes_place(further, rank), rest))
 }
 
-/// How many lowest indexes an array of this rank has.
+/// Reads the number of lower bounds of an array of this rank.
 #[tactic(auto, using(crate::proofs::Heads::low_none, crate::proofs::Heads::low_beyond, crate::proofs::Heads::low_is))]
 pub fn low_count(bytes: &[u8], rank: u32) -> Option<Step<'_>>
     ensures told { told result ≡ place_at (place.LowCount rank) bytes.now }
@@ -80,7 +80,7 @@ pub fn low_count(bytes: &[u8], rank: u32) -> Option<Step<'_>>
     })
 }
 
-/// A lowest index, with so many further.
+/// Reads a lower bound, with `further` lower bounds after it.
 #[tactic(auto, using(crate::proofs::Heads::bound_none, crate::proofs::Heads::bound_is))]
 pub fn low_bound(bytes: &[u8], further: u32) -> Option<Step<'_>>
     ensures told { told result ≡ place_at (place.LowBounds further) bytes.now }

@@ -5,21 +5,21 @@ ghost use Rattle.signature_items.specs.Steps.{told_by, IsWithin};
 use crate::item::Item;
 use crate::place::{Frame, Place};
 
-/// What is read at a place: an item, and what is left behind it.
+/// The result of reading at a position: an item, and what remains.
 #[derive(Clone, Copy)]
 pub struct Step<'a> {
     /// The item.
     pub item: Item,
-    /// What follows the place, where something new does.
+    /// The frame to push; `None` if there is nothing new to read later.
     pub frame: Option<Frame>,
-    /// The place that is reached; `None` where what began is read to its end.
+    /// The next position; `None` if the current part is read to its end.
     pub place: Option<Place>,
-    /// The bytes behind the item.
+    /// The bytes after the item.
     pub rest: &'a [u8],
 }
 
 impl<'a> Step<'a> {
-    /// An item with nothing behind it.
+    /// A step to an item without parts.
     pub fn leaf(item: Item, rest: &'a [u8]) -> Step<'a>
         ensures told { told_by result ≡ Some (item ∷ [], rest.now) }
         ensures within { (depth : ℕ) → IsWithin depth result }
@@ -32,7 +32,7 @@ impl<'a> Step<'a> {
         }
     }
 
-    /// An item before a place.
+    /// A step to an item that is followed by a position.
     pub fn before(item: Item, place: Place, rest: &'a [u8]) -> Step<'a>
         ensures told { told_by result ≡ item_then item (place_at place rest.now) }
         ensures within { (depth : ℕ) → place_depth place ≤ depth → IsWithin depth result }

@@ -15,7 +15,7 @@ use signature_values::element_type::{
 };
 use signature_values::{Element, Prefix};
 
-/// So many types.
+/// The frame of `count` types; `None` if there are none.
 #[tactic(auto, using(crate::proofs::Counts::types_zero, crate::proofs::Counts::types_more))]
 pub fn types(count: u32, depth: u8) -> Option<Frame>
     ensures told { (b : List ℕ) → next_at result None b ≡ types_told count depth b }
@@ -30,7 +30,7 @@ pub fn types(count: u32, depth: u8) -> Option<Frame>
     })
 }
 
-/// So many local variables.
+/// The frame of `count` local variables; `None` if there are none.
 #[tactic(auto, using(crate::proofs::Counts::locals_zero, crate::proofs::Counts::locals_more))]
 pub fn variables(count: u32, depth: u8) -> Option<Frame>
     ensures told { (b : List ℕ) → next_at result None b ≡ locals_told count depth b }
@@ -45,7 +45,7 @@ pub fn variables(count: u32, depth: u8) -> Option<Frame>
     })
 }
 
-/// An instance of a generic type (II.23.2.12), behind GENERICINST.
+/// Reads an instance of a generic type (II.23.2.12), after GENERICINST.
 #[tactic(auto, using(crate::proofs::Arms::instance_end, crate::proofs::Arms::instance_bad, crate::proofs::Arms::instance_no_index, crate::proofs::Arms::instance_no_count, crate::proofs::Arms::instance_is))]
 fn instance(bytes: &[u8], depth: u8) -> Option<Step<'_>>
     ensures told { told result ≡ instance_told depth bytes.now }
@@ -66,7 +66,7 @@ fn instance(bytes: &[u8], depth: u8) -> Option<Step<'_>>
     })
 }
 
-/// An item before a place that holds a type, where types may be at most so deep.
+/// A step to an item that is followed by a type; `None` if no level of types is left.
 fn deeper(item: Item, place: Place, rest: &[u8], depth: u8) -> Option<Step<'_>>
     ensures none { depth ≡ 0 → told result ≡ None }
     ensures told { 0 < depth → told result ≡ item_then item (place_at place rest.now) }
@@ -78,7 +78,7 @@ fn deeper(item: Item, place: Place, rest: &[u8], depth: u8) -> Option<Step<'_>>
     Some(Step::before(item, place, rest))
 }
 
-/// A core behind its first byte, where the types inside it are at most so deep.
+/// Reads a core after its first byte. The types in it are at most `depth` deep.
 #[tactic(auto, using(crate::proofs::Arms::code_bad))]
 fn core_behind(code: u8, rest: &[u8], depth: u8) -> Option<Step<'_>>
     ensures told { told result ≡ code_told depth code rest.now }
@@ -115,7 +115,7 @@ fn core_behind(code: u8, rest: &[u8], depth: u8) -> Option<Step<'_>>
     }
 }
 
-/// A core that is at most so deep (II.23.2.12).
+/// Reads a core of at most the given depth (II.23.2.12).
 #[tactic(auto, using(crate::proofs::Arms::core_arms))]
 fn core(bytes: &[u8], depth: u8) -> Option<Step<'_>>
     ensures told { told result ≡ core_told depth bytes.now }
@@ -131,7 +131,7 @@ fn core(bytes: &[u8], depth: u8) -> Option<Step<'_>>
     }
 }
 
-/// What a parameter, a field, a result or a local variable holds (II.23.2.10).
+/// Reads the kind and type of a parameter, a field, a result or a local variable (II.23.2.10).
 #[tactic(auto, using(crate::proofs::Arms::content_arms))]
 fn content(bytes: &[u8], depth: u8) -> Option<Step<'_>>
     ensures told { told result ≡ content_told depth bytes.now }
@@ -145,7 +145,7 @@ fn content(bytes: &[u8], depth: u8) -> Option<Step<'_>>
     }
 }
 
-/// The modifier at the front, before a place.
+/// Reads the modifier at the start, followed by a position.
 #[tactic(auto, using(crate::proofs::Arms::place_led, crate::proofs::Arms::place_led_none))]
 fn modified(bytes: &[u8], here: Place) -> Option<Step<'_>>
     requires starts { starts_modifier bytes.now ≡ true }
@@ -157,7 +157,7 @@ fn modified(bytes: &[u8], here: Place) -> Option<Step<'_>>
     Some(Step::before(Item::Modifier(modifier), here, rest))
 }
 
-/// A type.
+/// Reads a type.
 #[tactic(auto, using(crate::proofs::Arms::typed_bare))]
 pub fn typed(bytes: &[u8], depth: u8) -> Option<Step<'_>>
     ensures told { told result ≡ place_at (place.Typed depth) bytes.now }
@@ -169,7 +169,7 @@ pub fn typed(bytes: &[u8], depth: u8) -> Option<Step<'_>>
     core(bytes, depth)
 }
 
-/// What a pointer points to.
+/// Reads the target of a pointer.
 #[tactic(auto, using(crate::proofs::Arms::target_end, crate::proofs::Arms::target_void, crate::proofs::Arms::target_core))]
 pub fn target(bytes: &[u8], depth: u8) -> Option<Step<'_>>
     ensures told { told result ≡ place_at (place.Target depth) bytes.now }
@@ -184,7 +184,7 @@ pub fn target(bytes: &[u8], depth: u8) -> Option<Step<'_>>
     }
 }
 
-/// A parameter or a field.
+/// Reads a parameter or a field.
 #[tactic(auto, using(crate::proofs::Arms::slot_bare))]
 pub fn slot(bytes: &[u8], depth: u8) -> Option<Step<'_>>
     ensures told { told result ≡ place_at (place.Slot depth) bytes.now }
@@ -196,7 +196,7 @@ pub fn slot(bytes: &[u8], depth: u8) -> Option<Step<'_>>
     content(bytes, depth)
 }
 
-/// A result (II.23.2.11).
+/// Reads a result (II.23.2.11).
 #[tactic(auto, using(crate::proofs::Arms::ret_end, crate::proofs::Arms::ret_void, crate::proofs::Arms::ret_content))]
 pub fn ret(bytes: &[u8], depth: u8) -> Option<Step<'_>>
     ensures told { told result ≡ place_at (place.Ret depth) bytes.now }
@@ -211,7 +211,7 @@ pub fn ret(bytes: &[u8], depth: u8) -> Option<Step<'_>>
     }
 }
 
-/// The item that what stands before a local variable is.
+/// The item of a modifier or PINNED before a local variable.
 fn prefix_item(prefix: Prefix) -> Item
     ensures { result ≡ item_of_prefix prefix }
 {
@@ -221,7 +221,7 @@ fn prefix_item(prefix: Prefix) -> Item
     }
 }
 
-/// A local variable (II.23.2.6).
+/// Reads a local variable (II.23.2.6).
 #[tactic(auto, using(crate::proofs::Arms::local_next, crate::proofs::Arms::local_none, crate::proofs::Arms::local_bare))]
 pub fn local(bytes: &[u8], depth: u8) -> Option<Step<'_>>
     ensures told { told result ≡ place_at (place.Local depth) bytes.now }
@@ -234,7 +234,7 @@ pub fn local(bytes: &[u8], depth: u8) -> Option<Step<'_>>
     content(bytes, depth)
 }
 
-/// SENTINEL, and a parameter behind it (II.23.2.2, II.23.2.3).
+/// Reads SENTINEL, followed by a parameter (II.23.2.2, II.23.2.3).
 #[tactic(auto, using(crate::proofs::Arms::marked_end, crate::proofs::Arms::marked_first, crate::proofs::Arms::marked_bad))]
 pub fn marked(bytes: &[u8], depth: u8) -> Option<Step<'_>>
     ensures told { told result ≡ place_at (place.Marked depth) bytes.now }

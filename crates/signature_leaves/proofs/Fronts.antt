@@ -1,4 +1,4 @@
--- One modifier at the front, and one modifier or PINNED.
+-- One modifier at the start, and one modifier or PINNED.
 use Rattle.std.proofs.Common.{◌≡◌, ◌≢◌, ℕ, Bool, true, false, cond, eqb, ◌||◌, Some, None, List, ◌∷◌, refl, subst}
 use Rattle.std.specs.Prelude.{option_map}
 use Rattle.std.proofs.lemmas.Bool.{ne_eqb}

@@ -7,7 +7,7 @@ use schema::Token;
 use signature_values::element_type::SENTINEL;
 use signature_values::token_of_index;
 
-/// The first byte, and those behind it; `None` where there is none.
+/// The first byte, and the remaining bytes; `None` if the slice is empty.
 pub fn byte(bytes: &[u8]) -> Option<(u8, &[u8])>
     ensures { MatchOption result (bytes.now ≡ []) (λ x. bytes.now ≡ x.0 ∷ x.1.now) }
 {
@@ -15,8 +15,8 @@ pub fn byte(bytes: &[u8]) -> Option<(u8, &[u8])>
     Some((*byte, rest))
 }
 
-/// The packed number at the front (II.23.2), and what is behind it; `None` where the bytes end within
-/// it, and where the first of them is 0xE0 or more.
+/// The packed number at the start (II.23.2), and the remaining bytes. `None` if the bytes end within it,
+/// or if the first byte is 0xE0 or more.
 #[tactic(auto, unfolding(signature_values::specs::Reading::number_at))]
 pub fn number(bytes: &[u8]) -> Option<(u32, &[u8])>
     ensures { option_map (λ x. (x.0, x.1.now)) result ≡ number_at bytes.now }
@@ -26,7 +26,7 @@ pub fn number(bytes: &[u8]) -> Option<(u32, &[u8])>
     Some((number, rest))
 }
 
-/// The packed signed number at the front (II.23.2), and what is behind it; `None` as for [`number`].
+/// The packed signed number at the start (II.23.2), and the remaining bytes; `None` as for [`number`].
 #[tactic(auto, unfolding(signature_values::specs::Reading::signed_at))]
 pub fn signed(bytes: &[u8]) -> Option<(i32, &[u8])>
     ensures { option_map (λ x. (x.0, x.1.now)) result ≡ signed_at bytes.now }
@@ -36,8 +36,8 @@ pub fn signed(bytes: &[u8]) -> Option<(i32, &[u8])>
     Some((number, rest))
 }
 
-/// The token of the type index at the front (II.23.2.8), and what is behind it; `None` where no number
-/// is read, and where its tag names no table. The row may be one that is not there.
+/// The token of the type index at the start (II.23.2.8), and the remaining bytes. `None` if there is no
+/// number, or if its tag names no table. The token's row need not exist.
 #[tactic(auto, unfolding(signature_values::specs::Reading::index_at))]
 pub fn index(bytes: &[u8]) -> Option<(Token, &[u8])>
     ensures { option_map (λ x. (x.0, x.1.now)) result ≡ index_at bytes.now }
@@ -47,8 +47,8 @@ pub fn index(bytes: &[u8]) -> Option<(Token, &[u8])>
     Some((token, rest))
 }
 
-/// Whether SENTINEL stands at the front (II.23.2.2), where it may stand, and what is behind it; all
-/// bytes where it does not.
+/// Whether SENTINEL is at the start (II.23.2.2) and allowed, and the bytes after it. If it is not at the
+/// start or not allowed, all bytes remain.
 pub fn sentinel(bytes: &[u8], allowed: bool) -> (bool, &[u8])
     ensures marked { result.0 ≡ (allowed && head_is code.SENTINEL bytes.now) }
     ensures behind { result.1.now ≡ (if result.0 then drop 1 bytes.now else bytes.now) }

@@ -5,15 +5,15 @@ use crate::front::{byte, index};
 use signature_values::element_type::{CMOD_OPT, CMOD_REQD, PINNED};
 use signature_values::{Modifier, Prefix};
 
-/// Whether a modifier stands at the front (II.23.2.7).
+/// Whether the bytes start with a custom modifier (II.23.2.7).
 pub fn has_modifier(bytes: &[u8]) -> bool
     ensures { result ≡ starts_modifier bytes.now }
 {
     matches!(bytes.first(), Some(&(CMOD_REQD | CMOD_OPT)))
 }
 
-/// The modifier at the front (II.23.2.7), which [`has_modifier`] tells, and what is behind it; `None`
-/// where no index follows its code.
+/// The custom modifier at the start (II.23.2.7), and the remaining bytes. Call it after [`has_modifier`].
+/// `None` if no type index follows the modifier's code.
 #[tactic(auto, using(crate::proofs::Fronts::modifier_found, crate::proofs::Fronts::modifier_none))]
 pub fn modifier(bytes: &[u8]) -> Option<(Modifier, &[u8])>
     requires { starts_modifier bytes.now ≡ true }
@@ -25,15 +25,15 @@ pub fn modifier(bytes: &[u8]) -> Option<(Modifier, &[u8])>
     Some((Modifier { required, of }, rest))
 }
 
-/// Whether a modifier or PINNED stands at the front (II.23.2.6).
+/// Whether the bytes start with a custom modifier or PINNED (II.23.2.6).
 pub fn has_prefix(bytes: &[u8]) -> bool
     ensures { result ≡ starts_prefix bytes.now }
 {
     matches!(bytes.first(), Some(&(CMOD_REQD | CMOD_OPT | PINNED)))
 }
 
-/// The modifier or PINNED at the front (II.23.2.6), which [`has_prefix`] tells, and what is behind it;
-/// `None` where no index follows a modifier's code.
+/// The custom modifier or PINNED at the start (II.23.2.6), and the remaining bytes. Call it after
+/// [`has_prefix`]. `None` if no type index follows a modifier's code.
 #[tactic(auto, using(crate::proofs::Fronts::prefix_starts, crate::proofs::Fronts::prefix_none))]
 pub fn prefix(bytes: &[u8]) -> Option<(Prefix, &[u8])>
     requires { starts_prefix bytes.now ≡ true }

@@ -1,8 +1,8 @@
-//! Reads the leaves of signatures (ECMA-335 II.23.2) from the front of a slice, without memory.
+//! Reads the leaves of signatures (ECMA-335 II.23.2) from the start of a slice. It does not allocate.
 //!
-//! A leaf is what has no type inside it: a byte, a packed number, a type index, a modifier, PINNED and
-//! SENTINEL. Each call answers the leaf and the bytes behind it, or `None` where none is read; what reads
-//! it is a definition of `signature_values`. Recognising and building signatures stand on these alike.
+//! A leaf contains no type: it is a byte, a packed number, a type index, a modifier, PINNED or SENTINEL.
+//! Each call returns the leaf and the remaining bytes, or `None` if there is no such leaf. The definitions
+//! of `signature_values` say what is read. The recogniser and the decoder both use these calls.
 //!
 //! ```text
 //! index(&[0x05, 0x1C]) == Some((Token { table: TableId::TypeRef, row: 1 }, &[0x1C]))

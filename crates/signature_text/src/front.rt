@@ -1,21 +1,21 @@
 use schema::{TableId, Token};
 
-/// The first byte, and those behind it. Where bytes were recognised there is one.
+/// The first byte, and the remaining bytes. If the bytes were recognised, there is one.
 pub fn byte(bytes: &[u8]) -> (u8, &[u8]) {
     signature_leaves::byte(bytes).unwrap_or((0, bytes))
 }
 
-/// The packed number at the front, and the bytes behind it. Where bytes were recognised there is one.
+/// The packed number at the start, and the remaining bytes. If the bytes were recognised, there is one.
 pub fn number(bytes: &[u8]) -> (u32, &[u8]) {
     signature_leaves::number(bytes).unwrap_or((0, bytes))
 }
 
-/// The packed signed number at the front, and the bytes behind it. Where bytes were recognised there is one.
+/// The packed signed number at the start, and the remaining bytes. If the bytes were recognised, there is one.
 pub fn signed(bytes: &[u8]) -> (i32, &[u8]) {
     signature_leaves::signed(bytes).unwrap_or((0, bytes))
 }
 
-/// The type index at the front, and the bytes behind it. Where bytes were recognised there is one.
+/// The type index at the start, and the remaining bytes. If the bytes were recognised, there is one.
 pub fn index(bytes: &[u8]) -> (Token, &[u8]) {
     let none = Token {
         table: TableId::TypeDef,
@@ -24,7 +24,7 @@ pub fn index(bytes: &[u8]) -> (Token, &[u8]) {
     signature_leaves::index(bytes).unwrap_or((none, bytes))
 }
 
-/// Whether SENTINEL stands at the front, and what is behind it.
+/// Whether SENTINEL is at the start, and the bytes after it.
 pub fn sentinel(bytes: &[u8]) -> (bool, &[u8]) {
     signature_leaves::sentinel(bytes, true)
 }

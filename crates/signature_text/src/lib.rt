@@ -1,13 +1,13 @@
-//! The text of signatures in the notation of ILAsm (ECMA-335 II.7.1, II.15.3), without memory.
+//! The text of signatures in the notation of ILAsm (ECMA-335 II.7.1, II.15.3). It does not allocate.
 //!
-//! [`write_signature`] goes over the bytes of a blob and hands the text to a [`TextSink`], word by word; the
-//! sink writes the names of tokens, since only its owner knows them. [`NamedText`] is one that writes to any
-//! `fmt::Write`. The descent is as deep as types nest, at most 128, and nothing is allocated.
+//! [`write_signature`] reads the bytes of a blob and passes the text to a [`TextSink`], word by word. The sink
+//! writes the names of tokens, because only its owner knows them. [`NamedText`] is a sink that writes to any
+//! `fmt::Write`. The recursion is as deep as types nest, at most 128.
 //!
 //! ```text
-//! // 20 02 01 08 1D 0E: an instance method without result, of an integer and a vector of texts
+//! // 20 02 01 08 1D 0E: an instance method without result; its parameters are an integer and a vector of strings
 //! method instance void *(int32, string[])
-//! // 14 08 02 00 01 00: an array of two dimensions, the first from 0 on
+//! // 14 08 02 00 01 00: an array of two dimensions, the first with lower bound 0
 //! int32[0...,]
 //! ```
 #![tactic(auto)]

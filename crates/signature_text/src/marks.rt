@@ -5,7 +5,7 @@ use crate::sink::TextSink;
 use signature_leaves::{has_prefix, prefix};
 use signature_values::{Modifier, Prefix};
 
-/// The bytes behind a modifier or PINNED at the front; `None` where none stands there.
+/// The bytes after a modifier or PINNED at the start; `None` if there is none.
 fn behind_one(bytes: &[u8]) -> Option<&[u8]> {
     if !has_prefix(bytes) {
         return None;
@@ -14,7 +14,7 @@ fn behind_one(bytes: &[u8]) -> Option<&[u8]> {
     Some(rest)
 }
 
-/// How many modifiers and PINNED stand at the front, and the bytes behind them.
+/// The number of modifiers and PINNED at the start, and the bytes after them.
 pub fn behind_all(bytes: &[u8]) -> (usize, &[u8]) {
     let mut rest = bytes;
     for count in 0..bytes.len() {
@@ -26,7 +26,7 @@ pub fn behind_all(bytes: &[u8]) -> (usize, &[u8]) {
     (bytes.len(), rest)
 }
 
-/// The bytes behind so many modifiers and PINNED.
+/// The bytes after `count` modifiers and PINNED.
 fn behind(bytes: &[u8], count: usize) -> &[u8] {
     let mut rest = bytes;
     for done in 0..count {
@@ -35,7 +35,7 @@ fn behind(bytes: &[u8], count: usize) -> &[u8] {
     rest
 }
 
-/// A modifier (II.7.1.1), behind the type that it stands before in the bytes.
+/// Writes a modifier (II.7.1.1). In the text it follows the type that it precedes in the bytes.
 fn modifier<S: TextSink>(sink: &mut S, modifier: Modifier) -> Option<()>
     ensures { S.refused sink.new ≡ refused_after result (S.refused sink.old) }
 {
@@ -48,7 +48,7 @@ fn modifier<S: TextSink>(sink: &mut S, modifier: Modifier) -> Option<()>
     sink.text(")")
 }
 
-/// The modifier or PINNED at the front, where one stands there.
+/// Writes the modifier or PINNED at the start, if there is one.
 fn mark<S: TextSink>(sink: &mut S, bytes: &[u8]) -> Option<()>
     ensures { S.refused sink.new ≡ refused_after result (S.refused sink.old) }
 {
@@ -62,8 +62,8 @@ fn mark<S: TextSink>(sink: &mut S, bytes: &[u8]) -> Option<()>
     }
 }
 
-/// So many modifiers and PINNED at the front, the last of them first: each follows what it stands before.
-/// Halves of them are written one after the other, so that this is not as deep as there are many.
+/// Writes `count` modifiers and PINNED at the start, the last one first. Each follows what it precedes in the
+/// bytes. The list is split in halves, so that the recursion depth is logarithmic in `count`.
 pub fn marks<S: TextSink>(sink: &mut S, bytes: &[u8], count: usize) -> Option<()>
     ensures { S.refused sink.new ≡ refused_after result (S.refused sink.old) }
 {

@@ -5,29 +5,29 @@ use crate::sink::TextSink;
 use schema::Token;
 use std::fmt;
 
-/// What writes the names of rows.
+/// Writes the names of rows.
 pub trait TokenNames {
-    /// Writes the name of a row of TypeDef, TypeRef or TypeSpec, which may be one that is not there.
+    /// Writes the name of a row of TypeDef, TypeRef or TypeSpec. The row need not exist.
     ///
     /// # Errors
     ///
-    /// Where the writer refused a part of it.
+    /// The writer refused a part of the name.
     fn write_name<W: fmt::Write>(&self, token: Token, writer: &mut W) -> fmt::Result;
 }
 
-/// A sink that writes to a [`fmt::Write`], with the names that a [`TokenNames`] gives.
+/// A sink that writes to a [`fmt::Write`], with names from a [`TokenNames`].
 #[derive(Drop)]
 pub struct NamedText<W, N> {
-    /// What is written to.
+    /// The target of the text.
     pub writer: W,
-    /// What writes the names.
+    /// The source of the names.
     pub names: N,
     /// Whether the writer refused a word.
     pub refused: bool,
 }
 
 impl<W: fmt::Write, N: TokenNames> NamedText<W, N> {
-    /// A sink that has not refused a word yet.
+    /// A sink that has not yet refused a word.
     pub fn new(writer: W, names: N) -> NamedText<W, N>
         ensures { result ≡ record { writer = writer; names = names; refused = false } }
     {
@@ -39,7 +39,7 @@ impl<W: fmt::Write, N: TokenNames> NamedText<W, N> {
     }
 }
 
-/// What a sink answers, and whether it refused a word, now that its writer answered so.
+/// The result of a sink's call from the result of its writer. It records whether the word was refused.
 fn answer(refused: &mut bool, written: fmt::Result) -> Option<()>
     ensures { refused.new ≡ refused_after result refused.old }
 {

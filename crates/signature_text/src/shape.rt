@@ -4,7 +4,7 @@ ghost use Rattle.signature_text.specs.Refused.{refused_after};
 use crate::front::{number, signed};
 use crate::sink::TextSink;
 
-/// The bytes behind so many numbers, signed ones or not.
+/// The bytes after `count` numbers, signed or unsigned.
 fn behind_numbers(bytes: &[u8], count: u32) -> &[u8] {
     let mut rest = bytes;
     for done in 0..count {
@@ -13,7 +13,7 @@ fn behind_numbers(bytes: &[u8], count: u32) -> &[u8] {
     rest
 }
 
-/// A dimension (II.14.2): its lowest index and its size, where they are said.
+/// Writes a dimension (II.14.2): its lower bound and its size, if they are given.
 fn dimension<S: TextSink>(sink: &mut S, low: Option<i32>, size: Option<u32>) -> Option<()>
     ensures { S.refused sink.new ≡ refused_after result (S.refused sink.old) }
 {
@@ -32,8 +32,8 @@ fn dimension<S: TextSink>(sink: &mut S, low: Option<i32>, size: Option<u32>) -> 
     }
 }
 
-/// The dimensions of a shape: its rank, how many sizes stand at the front of the first bytes, and how many lowest
-/// indexes at the front of the second.
+/// Writes the dimensions of a shape. `rank` is their number. The sizes are at the start of the first bytes, and
+/// the lower bounds at the start of the second.
 fn dimensions<S: TextSink>(
     sink: &mut S,
     rank: u32,
@@ -59,8 +59,8 @@ fn dimensions<S: TextSink>(
     Some(())
 }
 
-/// The shape of an array (II.23.2.13), and the bytes behind it. One dimension of which nothing is said is
-/// marked, since a vector has none.
+/// Writes the shape of an array (II.23.2.13), and returns the bytes after it. A single dimension without bounds is
+/// marked, because a vector is written without one.
 pub fn shape<'a, S: TextSink>(sink: &mut S, bytes: &'a [u8]) -> Option<&'a [u8]>
     ensures { S.refused sink.new ≡ refused_after result (S.refused sink.old) }
 {

@@ -3,14 +3,14 @@ ghost use Rattle.signature_text.specs.Refused.{refused_after};
 
 use schema::Token;
 
-/// What takes the words of a text, one after another, until it refuses one.
+/// Takes the words of a text, one after another, until it refuses one.
 ///
-/// Each call answers `None` where it refuses; the sink itself keeps why.
+/// Each call returns `None` if the sink refuses the word. The sink itself keeps the reason.
 pub trait TextSink {
     /// Whether it refused a word.
     ghost refused: { Self → Bool };
 
-    /// A text as it stands.
+    /// A text, unchanged.
     fn text(&mut self, text: &str) -> Option<()>
         ensures { refused self.new ≡ refused_after result (refused self.old) };
 

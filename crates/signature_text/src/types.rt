@@ -11,7 +11,7 @@ use signature_values::element_type::{
 };
 use signature_values::method_byte::{calling_convention, has_explicit_this, has_this, is_generic};
 
-/// The name of a type that one byte spells (II.7.1).
+/// The name of a type that is encoded as one byte (II.7.1).
 fn element_name(element: Element) -> &'static str {
     match element {
         Element::Boolean => "bool",
@@ -33,7 +33,7 @@ fn element_name(element: Element) -> &'static str {
     }
 }
 
-/// A class or a value type, by its index, and the bytes behind it.
+/// Writes a class or a value type by its type index, and returns the remaining bytes.
 fn named<'a, S: TextSink>(sink: &mut S, code: u8, bytes: &'a [u8]) -> Option<&'a [u8]>
     ensures { S.refused sink.new ≡ refused_after result (S.refused sink.old) }
 {
@@ -47,7 +47,7 @@ fn named<'a, S: TextSink>(sink: &mut S, code: u8, bytes: &'a [u8]) -> Option<&'a
     Some(rest)
 }
 
-/// A generic parameter behind its mark, and the bytes behind it.
+/// Writes a generic parameter after its mark, and returns the remaining bytes.
 fn parameter<'a, S: TextSink>(sink: &mut S, mark: &str, bytes: &'a [u8]) -> Option<&'a [u8]>
     ensures { S.refused sink.new ≡ refused_after result (S.refused sink.old) }
 {
@@ -57,7 +57,7 @@ fn parameter<'a, S: TextSink>(sink: &mut S, mark: &str, bytes: &'a [u8]) -> Opti
     Some(rest)
 }
 
-/// A type, a parameter, a result or a local variable, with what stands before it, and the bytes behind it.
+/// Writes a type, a parameter, a result or a local variable with its modifiers, and returns the remaining bytes.
 #[cycle(text)]
 pub fn slot<'a, S: TextSink>(sink: &mut S, bytes: &'a [u8], depth: u8) -> Option<&'a [u8]>
     ensures { S.refused sink.new ≡ refused_after result (S.refused sink.old) }
@@ -68,7 +68,7 @@ pub fn slot<'a, S: TextSink>(sink: &mut S, bytes: &'a [u8], depth: u8) -> Option
     Some(rest)
 }
 
-/// What stands behind modifiers: a reference to a type behind modifiers of its own, or a type.
+/// Writes what follows modifiers: a type, or a reference to a type with its own modifiers.
 #[cycle(text)]
 fn content<'a, S: TextSink>(sink: &mut S, bytes: &'a [u8], depth: u8) -> Option<&'a [u8]>
     ensures { S.refused sink.new ≡ refused_after result (S.refused sink.old) }
@@ -85,7 +85,7 @@ fn content<'a, S: TextSink>(sink: &mut S, bytes: &'a [u8], depth: u8) -> Option<
     Some(behind)
 }
 
-/// A type behind its first byte, and the bytes behind it. Types in it are less deep than it is.
+/// Writes a type after its first byte, and returns the remaining bytes. The types in it have a smaller depth left.
 #[cycle(text)]
 fn core<'a, S: TextSink>(sink: &mut S, code: u8, bytes: &'a [u8], depth: u8) -> Option<&'a [u8]>
     ensures { S.refused sink.new ≡ refused_after result (S.refused sink.old) }
@@ -115,7 +115,7 @@ fn core<'a, S: TextSink>(sink: &mut S, code: u8, bytes: &'a [u8], depth: u8) -> 
     }
 }
 
-/// A pointer to a type, or an array of a type, and the bytes behind it.
+/// Writes a pointer to a type, or an array of a type, and returns the remaining bytes.
 #[cycle(text)]
 fn around<'a, S: TextSink>(sink: &mut S, code: u8, bytes: &'a [u8], depth: u8) -> Option<&'a [u8]>
     ensures { S.refused sink.new ≡ refused_after result (S.refused sink.old) }
@@ -135,7 +135,7 @@ fn around<'a, S: TextSink>(sink: &mut S, code: u8, bytes: &'a [u8], depth: u8) -
     }
 }
 
-/// So many types or parameters, with SENTINEL before the one that it stands before, and the bytes behind them.
+/// Writes `count` types or parameters, with SENTINEL if it is found, and returns the remaining bytes.
 #[cycle(text)]
 pub fn listed<'a, S: TextSink>(
     sink: &mut S,
@@ -159,7 +159,7 @@ pub fn listed<'a, S: TextSink>(
     Some(rest)
 }
 
-/// An instance of a generic type, and the bytes behind it.
+/// Writes an instance of a generic type, and returns the remaining bytes.
 #[cycle(text)]
 fn instance<'a, S: TextSink>(sink: &mut S, bytes: &'a [u8], depth: u8) -> Option<&'a [u8]>
     ensures { S.refused sink.new ≡ refused_after result (S.refused sink.old) }
@@ -173,7 +173,7 @@ fn instance<'a, S: TextSink>(sink: &mut S, bytes: &'a [u8], depth: u8) -> Option
     Some(rest)
 }
 
-/// The words of a calling convention (II.15.3), each with a space behind it.
+/// The words of a calling convention (II.15.3), each with a space after it.
 fn convention_name(code: u8) -> &'static str {
     match calling_convention(code) {
         1 => "unmanaged cdecl ",
@@ -186,7 +186,7 @@ fn convention_name(code: u8) -> &'static str {
     }
 }
 
-/// What the first byte of a method says (II.15.3).
+/// Writes the calling convention in the first byte of a method (II.15.3).
 fn convention<S: TextSink>(sink: &mut S, code: u8) -> Option<()>
     ensures { S.refused sink.new ≡ refused_after result (S.refused sink.old) }
 {
@@ -200,7 +200,7 @@ fn convention<S: TextSink>(sink: &mut S, code: u8) -> Option<()>
     sink.text(convention_name(code))
 }
 
-/// How many generic parameters a method has, where it is generic, and the bytes behind the number.
+/// The number of generic parameters, if the method is generic, and the remaining bytes.
 fn generic(code: u8, bytes: &[u8]) -> (Option<u32>, &[u8]) {
     if !is_generic(code) {
         return (None, bytes);
@@ -209,7 +209,7 @@ fn generic(code: u8, bytes: &[u8]) -> (Option<u32>, &[u8]) {
     (Some(count), rest)
 }
 
-/// The number of generic parameters, where a method is generic.
+/// Writes the number of generic parameters, if the method is generic.
 fn arity<S: TextSink>(sink: &mut S, generic: Option<u32>) -> Option<()>
     ensures { S.refused sink.new ≡ refused_after result (S.refused sink.old) }
 {
@@ -223,7 +223,7 @@ fn arity<S: TextSink>(sink: &mut S, generic: Option<u32>) -> Option<()>
     }
 }
 
-/// A method (II.15.3), and the bytes behind it.
+/// Writes a method (II.15.3), and returns the remaining bytes.
 #[cycle(text)]
 pub fn method<'a, S: TextSink>(sink: &mut S, bytes: &'a [u8], depth: u8) -> Option<&'a [u8]>
     ensures { S.refused sink.new ≡ refused_after result (S.refused sink.old) }

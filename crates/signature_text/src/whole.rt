@@ -9,10 +9,10 @@ use crate::types::{listed, method, slot};
 use recogniser::recognise;
 use schema::SigKind;
 
-/// How deep types may nest.
+/// The greatest depth to which types may nest.
 const DEPTH: u8 = 128;
 
-/// A property (II.17): `instance`, where it belongs to one, its type, and its parameters.
+/// Writes a property (II.17): `instance` if it belongs to one, its type, and its parameters.
 fn property<'a, S: TextSink>(sink: &mut S, code: u8, bytes: &'a [u8]) -> Option<&'a [u8]>
     ensures { S.refused sink.new ≡ refused_after result (S.refused sink.old) }
 {
@@ -25,7 +25,7 @@ fn property<'a, S: TextSink>(sink: &mut S, code: u8, bytes: &'a [u8]) -> Option<
     enclosed(sink, rest, count, "(", ")")
 }
 
-/// So many types between two marks, and the bytes behind them.
+/// Writes `count` types between two marks, and returns the remaining bytes.
 fn enclosed<'a, S: TextSink>(
     sink: &mut S,
     bytes: &'a [u8],
@@ -41,7 +41,7 @@ fn enclosed<'a, S: TextSink>(
     Some(rest)
 }
 
-/// A signature that its first byte tells, in a column of another kind than TypeSpec.
+/// Writes a signature by its first byte, in a column of another kind than TypeSpec.
 fn headed<'a, S: TextSink>(sink: &mut S, bytes: &'a [u8]) -> Option<&'a [u8]>
     ensures { S.refused sink.new ≡ refused_after result (S.refused sink.old) }
 {
@@ -61,17 +61,17 @@ fn headed<'a, S: TextSink>(sink: &mut S, bytes: &'a [u8]) -> Option<&'a [u8]>
     }
 }
 
-/// Writes the signature that bytes, all of them, spell in a column of this kind, in the notation of ILAsm
+/// Writes the signature that all the bytes together encode, in a column of this kind, in the notation of ILAsm
 /// (II.7.1, II.15.3).
 ///
-/// A field is its type; a method is written as a pointer to one, `method instance void *(int32, string)`; a
-/// property as `instance int32 (string)`; local variables as `(int32, string pinned)`, and type arguments as
-/// `<int32, string>`. Modifiers follow the type that they stand before, the innermost first. Where the bytes
-/// spell nothing, nothing is written.
+/// A field is written as its type. A method is written as a pointer to it: `method instance void *(int32, string)`.
+/// A property is `instance int32 (string)`, local variables are `(int32, string pinned)`, and type arguments are
+/// `<int32, string>`. Modifiers follow the type that they precede in the bytes, the innermost first. If the bytes
+/// encode nothing, nothing is written.
 ///
 /// # Errors
 ///
-/// `None` exactly where the sink refused a word.
+/// `None` if and only if the sink refused a word.
 pub fn write_signature<S: TextSink>(sink: &mut S, bytes: &[u8], kind: SigKind) -> Option<()>
     ensures words { S.refused sink.new ≡ refused_after result (S.refused sink.old) }
     ensures nothing { ¬ ((signature : Body) × Spells kind signature bytes.now) → sink.new ≡ sink.old }

@@ -1,4 +1,4 @@
--- Whole signatures are read as they are spelled, in each kind of column.
+-- Whole signatures are read as they are encoded, in each kind of column.
 use Rattle.std.proofs.Common.{◌≡◌, ◌≢◌, ◌⊎◌, inl, inr, ℕ, ◌%◌, ◌≤◌, Bool, true, false, eqb, Option, Some, None, is_some, List, [], ◌∷◌, ◌++◌, length, refl, sym, ◌∙◌, subst, arith, IfSome}
 use Rattle.std.specs.Prelude.{option_map}
 use Rattle.std.specs.List.{AllByRecursion}
@@ -25,7 +25,7 @@ weaken : {X : Type 0} (P Q : X → Type 0) (o : Option X) → IfSome o P → ((x
 weaken P Q None h k = tt
 weaken P Q (Some x) h k = k x h
 
--- ---- a count, a value, and that many further values
+-- ---- a count n, one value, and n further values
 
 module _ (known : NumbersAreRead) {A : Type 0} (r : Reader A) (parts : A → List Part) (Good : A → Type 0) (each : Reads r parts Good) where
   abbrev pub headed_parts : A × List A → List Part
@@ -59,7 +59,7 @@ module _ (known : NumbersAreRead) {A : Type 0} (r : Reader A) (parts : A → Lis
         rw (e, g, k) refl;
   }
 
--- ---- a form behind its byte, or another
+-- ---- a form after its byte, or another form
 
 module _ {A : Type 0} (n : ℕ) (f : A → Body) (r : Reader A) (inner : A → List Part) (Inner : A → Type 0) (reads : Reads r inner Inner)
     (other : Reader Body) (Fine : Body → Type 0) (rest_reads : Reads other body_parts Fine) (Good : Body → Type 0)
@@ -102,7 +102,7 @@ Nothing v = ⊥
 fail_reads : Reads fail body_parts Nothing
 fail_reads = record { found = λ b h. tt; only = λ b rest v good f. absurd good }
 
--- ---- no method begins like another form
+-- ---- no method starts with the byte of another form
 
 other_byte : (n c : ℕ) → c ≢ n → no n c ≡ true
 other_byte n c h = let e = ne_eqb c n h in rw e refl

@@ -1,4 +1,4 @@
--- Which byte each value begins with.
+-- The first byte of each value.
 use Rattle.std.proofs.Common.{◌≡◌, ℕ, Bool, true, false, cond, eqb, not, Option, Some, None, List, [], ◌∷◌, refl, sym, ◌∙◌, IfSome}
 use Rattle.std.proofs.lemmas.Bool.{eqb-true}
 use Rattle.signature_values.specs.declared.element.Element.{Element}
@@ -26,7 +26,7 @@ unfolding element_of
 element_again Boolean = refl
 element_again _ = refl
 
--- every byte but this one
+-- every byte except this one
 abbrev pub no : ℕ → ℕ → Bool
 no n c = not (eqb c n)
 
@@ -103,7 +103,7 @@ slot_no_sentinel (slot [] (plain c)) = core_no_sentinel c
 slot_no_sentinel (slot [] (by_ref modifiers c)) = refl
 slot_no_sentinel (slot (m ∷ ms) content) = modifier_no_sentinel m.required
 
--- the second reader, where another byte stands
+-- the second reader, if the first byte is another one
 pub behind_other : {A : Type 0} (n : ℕ) (r other : Reader A) (b : List ℕ) → begins (no n) b ≡ true → behind n r other b ≡ other b
 behind_other n r other [] h = absurd cc
 behind_other n r other (c ∷ b) h = at_test (eqb c n) (r b) (other (c ∷ b)) h

@@ -1,4 +1,4 @@
--- Types, parameters and results are read as they are spelled, where cores are.
+-- If cores are read as they are encoded, so are types, parameters and results.
 use Rattle.std.proofs.Common.{◌≡◌, ℕ, ◌≤◌, true, eqb, Option, Some, None, List, [], ◌∷◌, ◌++◌, refl, ap, ◌∙◌, IfSome}
 use Rattle.std.specs.Prelude.{⊤}
 use Rattle.std.proofs.lemmas.Bool.{eqb-true}

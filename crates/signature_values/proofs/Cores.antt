@@ -1,4 +1,4 @@
--- A core of any depth is read as it is spelled.
+-- A core of any depth is read as it is encoded.
 use Rattle.std.proofs.Common.{◌≡◌, ◌≢◌, ℕ, zero, suc, ◌≤◌, Bool, true, false, cond, eqb, Option, Some, None, List, [], ◌∷◌, ◌++◌, length, refl, sym, ap, ap₂, ◌∙◌, subst, arith, IfSome}
 use Rattle.std.specs.Prelude.{ℤ}
 use Rattle.std.specs.List.{AllByRecursion}
@@ -118,7 +118,7 @@ deep_only : {A : Type 0} (d : ℕ) (r : Reader A) (b : List ℕ) → 1 ≤ d →
 deep_only zero r b h = absurd (omega arith)
 deep_only (suc d) r b h = refl
 
--- each type has a depth
+-- the depth of each type is at least 1
 core_some : (c : Core) → 1 ≤ core_depth c
 core_some (pointer modifiers to) = omega arith
 core_some (vector of) = omega arith
@@ -144,7 +144,7 @@ module _ (known : NumbersAreRead) (d : ℕ) (nested : Reader Core) (cores : Read
   abbrev TakesCore : List ℕ → Core × List ℕ → Type 0
   TakesCore b = Takes core_parts (IsCoreWithin (suc d)) b
 
-  -- what a reader takes behind a byte, as a core
+  -- what a reader reads after a byte, as a core
   made : {A : Type 0} (f : A → Core) (r : Reader A) (parts : A → List Part) (Good : A → Type 0) (reads : Reads r parts Good) (n : ℕ) → ((u : A) → Good u → IsCoreWithin (suc d) (f u)) → ((u : A) → core_parts (f u) ≡ byte n ∷ parts u) → (c : ℕ) (b : List ℕ) → IsBytes b → c ≡ n → IfSome (change f r b) (TakesCore (c ∷ b))
   made f r parts Good reads n good same c b h e =
       IfSome-map (Takes parts Good b) (TakesCore (c ∷ b)) (λ x. (f x.0, x.1)) (r b) (reads.found b h)

@@ -1,4 +1,4 @@
--- The first type index without a row, against all of them.
+-- The first type index without a row, compared with the property of all indexes.
 use Rattle.std.proofs.Common.{◌≡◌, ℕ, ◌↔◌, true, false, ltb, leb, Some, None, List, [], ◌∷◌, ◌++◌, refl, ap, inl, inr}
 use Rattle.std.specs.Prelude.{slice_index}
 use Rattle.std.specs.List.{AllByRecursion}

@@ -1,4 +1,4 @@
--- Types and parameters that are made from lists: how many they are, their parts, and where the grammar and the depth allow them.
+-- Types and parameters made from lists: their number, their parts, and when the grammar and the depth allow them.
 use Rattle.std.proofs.Common.{◌≡◌, ℕ, suc, ◌≤◌, None, List, [], ◌∷◌, ◌++◌, length, refl, ap, arith}
 use Rattle.std.specs.List.{AllByRecursion}
 use Rattle.signature_values.specs.Parts.{Part}

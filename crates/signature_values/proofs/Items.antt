@@ -1,4 +1,4 @@
--- Items at the front, one by one: modifiers, and modifiers and PINNED.
+-- Items at the start, one by one: modifiers, and modifiers with PINNED.
 use Rattle.std.proofs.Common.{◌≡◌, ℕ, zero, suc, ◌<◌, ◌≤◌, ◌||◌, Bool, true, false, cond, eqb, ltb, Option, Some, None, List, [], ◌∷◌, length, drop, length-drop, refl, ap, arith, IfSome}
 use Rattle.std.specs.Prelude.{⊤, option_map, option_and_then}
 use Rattle.packed.specs.Front as front
@@ -8,7 +8,7 @@ use Rattle.signature_values.specs.declared.body.Prefix.TheVariants.{Pinned}
 use Rattle.signature_values.specs.Reading.{Optional, number_at, token_of, index_at, items_then, leading_within, leading_at, modifier_at, modifier_after, prefix_of, prefix_at, starts_modifier, starts_prefix}
 use Rattle.signature_values.proofs.Readers.{IfSome-bind, IfSome-map, IfSome-cond}
 
--- ---- what follows is shorter
+-- ---- the remainder is shorter
 
 abbrev pub Shorter : {A : Type 0} → List ℕ → A × List ℕ → Type 0
 Shorter b x = length x.1 < length b
@@ -60,7 +60,7 @@ abbrev pub IsItem : {A : Type 0} → Option A × List ℕ → Type 0
 IsItem (None, c) = ⊥
 IsItem (Some x, c) = ⊤
 
--- an item stands where the test says so, and takes some bytes
+-- if the test holds, what is read is an item; otherwise there is none; an item has at least one byte
 pub record Stepping {A : Type 0} (r : Optional A) (starts : List ℕ → Bool) : Type 0 where
   pub shorter : (b : List ℕ) → IfSome (r b) (ShorterItem b)
   pub item : (b : List ℕ) → starts b ≡ true → IfSome (r b) IsItem
@@ -82,7 +82,7 @@ module _ {A : Type 0} (r : Optional A) (starts : List ℕ → Bool) (steps : Ste
       by_item k m b (Some (None, c)) h same = refl
       by_item k m b (Some (Some x, c)) h same = ap (λ (t : Option (List A × List ℕ)). option_map (λ y. (x ∷ y.0, y.1)) t) (same c h)
 
-  -- the items, from what stands at the front
+  -- the list of items, from the first item
   pub leading_is : (b : List ℕ) → leading_at r b ≡ option_and_then (items_then (leading_at r)) (r b)
   unfolding leading_at leading_within
   leading_is [] = let e = steps.stop [] steps.empty in rw e refl
@@ -130,7 +130,7 @@ modifier_stop (c ∷ b) h = at_test (eqb c 0x1F) (eqb c 0x20) h
 pub modifier_steps : Stepping modifier_at starts_modifier
 modifier_steps = record { shorter = modifier_shorter; item = modifier_item; stop = modifier_stop; empty = refl }
 
--- ---- modifiers and PINNED
+-- ---- modifiers with PINNED
 
 prefix_of_shorter : (b : List ℕ) (p : Option Modifier × List ℕ) → ShorterItem b p → ShorterItem b (prefix_of p)
 prefix_of_shorter b (None, c) h = tt

@@ -1,4 +1,4 @@
--- Modifiers, and what else may stand before a type.
+-- Modifiers, and what else may precede a type.
 use Rattle.std.proofs.Common.{◌≡◌, ℕ, zero, suc, ◌<◌, ◌≤◌, Bool, true, false, cond, eqb, not, ◌||◌, ◌&&◌, Option, Some, None, List, [], ◌∷◌, ◌++◌, length, refl, ap, subst, arith, IfSome, length-append}
 use Rattle.std.specs.Prelude.{option_map}
 use Rattle.std.proofs.lemmas.Bool.{eqb-true}
@@ -28,7 +28,7 @@ begins-heads p (number n ∷ ps) b rest h f = absurd cc
 begins-heads p (signed z ∷ ps) b rest h f = absurd cc
 begins-heads p (index t ∷ ps) b rest h f = absurd cc
 
--- an item was taken from b, or nothing was
+-- an item was read from b, or nothing was
 abbrev pub TakesItem : {A : Type 0} → (A → List Part) → List ℕ → Option A × List ℕ → Type 0
 TakesItem parts b (None, c) = IsBytes c × (b ≡ c)
 TakesItem parts b (Some x, c) = Takes parts (λ x. Any x) b (x, c)
@@ -80,7 +80,7 @@ module _ {A : Type 0} (r : Optional A) (parts : A → List Part) (stops : ℕ �
   unfolding leading_at
   leading_only xs b rest stop f = within_only xs (length b) b rest (all_length xs b rest f) stop f
 
-  -- before what does not begin like an item
+  -- ---- items before a value that does not start like an item
   module _ {B : Type 0} (q : Reader B) (more : B → List Part) (Good : B → Type 0) (second : Reads q more Good)
       (free : (v : B) → Good v → heads stops (more v) ≡ true) where
     abbrev pub led_parts : List A × B → List Part
@@ -110,7 +110,7 @@ module _ {A : Type 0} (r : Optional A) (parts : A → List Part) (stops : ℕ �
 
 -- ---- modifiers
 
--- no modifier begins so
+-- no modifier starts with this byte
 abbrev pub no_modifier : ℕ → Bool
 no_modifier c = not (eqb c 0x1F || eqb c 0x20)
 
@@ -170,7 +170,7 @@ modifier_leads known = record {
       omega (arith, ap length s.1, index_falls m.of s.0 rest s.2);
 }
 
--- ---- modifiers and PINNED
+-- ---- modifiers with PINNED
 
 abbrev pub no_prefix : ℕ → Bool
 no_prefix c = not (eqb c 0x45) && no_modifier c

@@ -1,4 +1,4 @@
--- Readers one after another, and lists behind their count.
+-- Readers one after another, and lists after their count.
 use Rattle.std.proofs.Common.{◌≡◌, ℕ, zero, suc, ◌≤◌, cond, ltb, Option, Some, None, List, [], ◌∷◌, ◌++◌, length, refl, ap, IfSome}
 use Rattle.std.specs.Prelude.{option_map}
 use Rattle.std.specs.List.{AllByRecursion}

@@ -1,4 +1,4 @@
--- Methods are read as they are spelled, where cores are.
+-- If cores are read as they are encoded, so are methods.
 use Rattle.std.proofs.Common.{◌≡◌, ℕ, zero, suc, ◌+◌, ◌*◌, ◌/◌, ◌%◌, ◌<◌, ◌≤◌, Bool, true, false, eqb, ltb, ◌&&◌, ◌||◌, Option, Some, None, is_some, List, [], ◌∷◌, ◌++◌, length, drop, refl, sym, ap, ◌∙◌, subst, arith, IfSome, ◌⊎◌, inl, inr, ⊎_elim}
 use Rattle.std.specs.Prelude.{⊤, option_map, option_and_then}
 use Rattle.std.specs.List.{AllByRecursion}
@@ -118,7 +118,7 @@ module _ (known : NumbersAreRead) (d : ℕ) (nested : Reader Core) (cores : Read
   abbrev params_parts : List Slot × Option ℕ → List Part
   params_parts p = slots_parts (slots_from p.0) p.1
 
-  -- SENTINEL stands before a parameter, and only where it may stand
+  -- SENTINEL precedes a parameter, and only if the method may have one
   abbrev MayStand : Bool → ℕ → ℕ → Type 0
   MayStand may n k = (k < n) × (may ≡ true)
 

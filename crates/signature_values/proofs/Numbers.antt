@@ -1,4 +1,4 @@
--- Packed numbers and type indexes are read as they are spelled.
+-- Packed numbers and type indexes are read as they are encoded.
 use Rattle.std.proofs.Common.{◌≡◌, ℕ, ◌/◌, ◌%◌, ◌<◌, ◌≤◌, Option, Some, None, List, [], ◌∷◌, ◌++◌, length, take, drop, get_or, ◌^◌, refl, sym, ap, ◌∙◌, subst, arith, IfSome}
 use Rattle.std.specs.Prelude.{⊤, ℤ, option_map, option_and_then, slice_get}
 use Rattle.std.proofs.lemmas.List.{take-append-drop}
@@ -23,11 +23,11 @@ number_parts n = number n ∷ []
 abbrev pub signed_parts : ℤ → List Part
 signed_parts z = signed z ∷ []
 
--- what spells the value at the front, and how many bytes do
+-- the first bytes encode the value, and the reader returns their number
 abbrev pub IsAtFront : {A : Type 0} → (A → List ℕ → Type 0) → List ℕ → A × ℕ → Type 0
 IsAtFront spells b read = (read.1 ≤ length b) × spells read.0 (take read.1 b)
 
--- the numbers at the front are read as they are spelled
+-- numbers at the start are read as they are encoded
 pub record NumbersAreRead : Type 0 where
   pub unsigned_found : (b : List ℕ) → ((k : ℕ) → get_or b k 0 < 2 ^ 8) → IfSome (front.unsigned_at b) (IsAtFront IsPacked b)
   pub unsigned_again : (n : ℕ) (s rest : List ℕ) → IsPacked n s → front.unsigned_at (s ++ rest) ≡ Some (n, length s)
@@ -65,7 +65,7 @@ signed_reads known = record {
 abbrev pub index_parts : Token → List Part
 index_parts t = index t ∷ []
 
--- the number names the token
+-- the number encodes the token
 abbrev pub Names : ℕ → Token → Type 0
 Names n t = IsCoded TypeDefOrRef n t.table t.row
 

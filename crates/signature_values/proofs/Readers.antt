@@ -1,4 +1,4 @@
--- What a reader owes: what it takes is spelled so, and what is spelled so it takes.
+-- What each reader must satisfy: it reads what is encoded, and what it reads is encoded so.
 use Rattle.std.proofs.Common.{◌≡◌, ℕ, zero, suc, ◌<◌, Bool, true, false, cond, Option, Some, None, List, [], ◌∷◌, ◌++◌, get_or, ◌^◌, refl, sym, ap, subst, arith, IfSome}
 use Rattle.std.specs.Prelude.{⊤, option_map, option_and_then}
 use Rattle.signature_values.specs.Parts.{Part, byte, SpellsPart, SpellsParts}
@@ -8,7 +8,7 @@ abbrev pub IsBytes : List ℕ → Type 0
 IsBytes [] = ⊤
 IsBytes (b ∷ bs) = (b < 256) × IsBytes bs
 
--- each of bytes is below 2^8, and such are bytes
+-- each element of a byte list is below 2^8, and a list of such elements is a byte list
 pub IsBytes-each : (b : List ℕ) → IsBytes b → (k : ℕ) → get_or b k 0 < 2 ^ 8
 IsBytes-each [] h k = omega arith
 IsBytes-each (x ∷ b) h zero = h.0
@@ -22,7 +22,7 @@ pub IsBytes-rest : (a b : List ℕ) → IsBytes (a ++ b) → IsBytes b
 IsBytes-rest [] b h = h
 IsBytes-rest (x ∷ a) b h = IsBytes-rest a b h.1
 
--- b begins with spellings of the parts, and rest follows them
+-- b starts with encodings of the parts, and rest is the remainder
 abbrev pub Front : List Part → List ℕ → List ℕ → Type 0
 Front [] b rest = b ≡ rest
 Front (p ∷ ps) b rest = (x mid : List ℕ) × (b ≡ x ++ mid) × SpellsPart p x × Front ps mid rest
@@ -45,7 +45,7 @@ pub Front-from_whole : (ps : List Part) (b : List ℕ) → SpellsParts ps b → 
 Front-from_whole [] b e = e
 Front-from_whole (p ∷ ps) b f = (f.0, f.1, f.2, f.3, Front-from_whole ps f.1 f.4)
 
--- x, a value and the bytes after it, was rightly taken from b
+-- x, a value and the bytes after it, is a correct reading of b
 pub record Takes {A : Type 0} (parts : A → List Part) (Good : A → Type 0) (b : List ℕ) (x : A × List ℕ) : Type 0 where
   pub good : Good x.0
   pub bytes : IsBytes x.1
@@ -55,7 +55,7 @@ pub record Reads {A : Type 0} (r : Reader A) (parts : A → List Part) (Good : A
   pub found : (b : List ℕ) → IsBytes b → IfSome (r b) (Takes parts Good b)
   pub only : (b rest : List ℕ) (v : A) → Good v → Front (parts v) b rest → r b ≡ Some (v, rest)
 
--- ---- a fact of the value in an option, step by step
+-- ---- a fact about the value in an option, step by step
 
 pub IfSome-bind : {A B : Type 0} (P : A → Type 0) (Q : B → Type 0) (f : A → Option B) (o : Option A) → IfSome o P → ((x : A) → P x → IfSome (f x) Q) → IfSome (option_and_then f o) Q
 IfSome-bind P Q f None h k = tt
@@ -69,11 +69,11 @@ pub IfSome-cond : {A : Type 0} (Q : A → Type 0) (b : Bool) (x y : Option A) �
 IfSome-cond Q true x y h k = h refl
 IfSome-cond Q false x y h k = k refl
 
--- the byte that stands first, and what is behind it
+-- the first byte, and the bytes after it
 pub front_byte : (c : ℕ) (ps : List Part) (b rest : List ℕ) → Front (byte c ∷ ps) b rest → (tail : List ℕ) × (b ≡ c ∷ tail) × Front ps tail rest
 front_byte c ps b rest f = (f.1, rw (f.2, f.3) refl, f.4)
 
--- a byte in front of what was taken
+-- a byte before bytes that were read
 pub behind_byte : (c n : ℕ) (ps : List Part) (b rest : List ℕ) → c ≡ n → Front ps b rest → Front (byte n ∷ ps) (c ∷ b) rest
 behind_byte c n ps b rest e f = (c ∷ [], b, refl, ap (λ (m : ℕ). m ∷ []) e, f)
 

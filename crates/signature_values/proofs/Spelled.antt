@@ -1,4 +1,4 @@
--- What some bytes spell has a spelling, of which the shortest is no longer than they are.
+-- If bytes encode a value, it has a canonical encoding, which is no longer than those bytes.
 use Rattle.std.proofs.Common.{◌≡◌, ℕ, zero, suc, ◌+◌, ◌-◌, ◌*◌, ◌^◌, ◌<◌, ◌≤◌, Bool, true, false, cond, ltb, Option, Some, None, is_some, List, [], ◌∷◌, ◌++◌, length, refl, sym, ap, subst, arith, ◌⊎◌, inl, inr, rules, length-append}
 use Rattle.std.specs.Prelude.{⊤, ℤ, pos, negsuc, flat_map, slice_get}
 use Rattle.std.specs.List.{AllByRecursion, position_or_len}
@@ -24,7 +24,7 @@ use Rattle.signature_values.specs.Limits.{IsMethodKind, IsCore, IsTyped, AreType
 use Rattle.signature_values.specs.Spells.{Spells, IsSpellable, tokens}
 use Rattle.signature_values.proofs.Methods.{kind_lt}
 
--- ---- the bytes that the grammar places are bytes
+-- ---- each byte part of the grammar is a byte
 
 abbrev IsSmall : Part → Type 0
 IsSmall (byte c) = c < 256
@@ -161,14 +161,14 @@ body_small (locals variables) h = (omega arith, (tt, list_small (IsLocalWithin 1
 body_small (instance_body args) h = (omega arith, (tt, list_small (IsTypedWithin 128) typed_parts (λ t k. typed_small t k.1) args h))
 body_small (type_spec ret) h = ret_small ret h.1
 
--- ---- a number that has a form, and its shortest one
+-- ---- a number that has a form, and its shortest form
 
 packed_below : (n : ℕ) (s : List ℕ) → IsPacked n s → n < 2 ^ 29
 packed_below n s (inl h) = let lt = h.0 in omega arith
 packed_below n s (inr (inl h)) = let lt = h.0 in omega arith
 packed_below n s (inr (inr h)) = h.0
 
--- of three forms the first that may stand
+-- of three forms, the first that fits
 by_forms : (p q : Bool) (one two four : List ℕ) (count : ℕ) → length one ≡ 1 → length two ≡ 2 → length four ≡ 4 → 1 ≤ count → (p ≡ false → 2 ≤ count) → (p ≡ false → q ≡ false → 4 ≤ count) → length (cond p one (cond q two four)) ≤ count
 by_forms true q one two four count e f g h k l = omega arith
 by_forms false true one two four count e f g h k l = let more = k refl in omega arith
@@ -203,7 +203,7 @@ short_signed_least z s (inr (inr h)) =
 
 -- ---- a type index
 
--- the tag of a table is where it stands among those that an index can name
+-- the tag of a table is its index among the tables that an index can name
 tag_is : (t : Token) (n : ℕ) → IsCoded TypeDefOrRef n t.table t.row → index_number t ≡ n
 tag_is t n is = by_tag is.tag is.listed is.equal
   where
@@ -259,7 +259,7 @@ spelled_spellable kind s b h = record {
   limit = (let least = parts_least (body_parts s) b h.parts in let few = h.limit in omega arith);
 }
 
--- ---- the type indexes of what has a spelling
+-- ---- the type indexes of an encodable value
 
 abbrev pub HasTypeTable : Token → Type 0
 HasTypeTable t = (t.table ≡ TypeDef) ⊎ ((t.table ≡ TypeRef) ⊎ (t.table ≡ TypeSpec))

@@ -1,4 +1,4 @@
--- The token that a number names, where tokens are read as numbers name them.
+-- The token that a number encodes, if tokens are read as numbers encode them.
 use Rattle.std.proofs.Common.{◌≡◌, ℕ, Option, Some, None, refl, sym, IfSome}
 use Rattle.schema.specs.declared.token.Token.{Token}
 use Rattle.schema.specs.declared.table.TableId.{TableId}

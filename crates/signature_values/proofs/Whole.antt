@@ -1,4 +1,4 @@
--- What the law of a reader says of whole byte lists.
+-- What the reader's law says about whole byte lists.
 use Rattle.std.proofs.Common.{◌≡◌, ℕ, ◌-◌, ◌^◌, ◌<◌, Bool, true, false, cond, ltb, Option, Some, None, List, [], ◌∷◌, length, refl, sym, ap, ◌∙◌, subst, arith, inl, inr, not, rules, IfSome}
 use Rattle.std.specs.Prelude.{ℤ, pos, negsuc, neg_ℤ, int_lt, flat_map}
 use Rattle.std.specs.List.{AllByRecursion}
@@ -22,7 +22,7 @@ use Rattle.signature_values.proofs.Cores.{core_reads}
 use Rattle.schema.specs.declared.column.SigKind.{SigKind}
 use Rattle.signature_values.proofs.Bodies.{body_reads, IsHeld}
 
--- ---- every part's shortest spelling is a spelling
+-- ---- the canonical encoding of each part is an encoding
 
 pub short_unsigned_spells : (n : ℕ) → n < 2 ^ 29 → IsPacked n (short_unsigned n)
 short_unsigned_spells n lt = by_test (ltb n (2 ^ 7)) (ltb n (2 ^ 14)) (λ e. ltb-true n (2 ^ 7) e) (λ e. ltb-true n (2 ^ 14) e)
@@ -71,17 +71,17 @@ pub short_spells : (ps : List Part) → AllByRecursion HasSpelling ps → Spells
 short_spells [] h = refl
 short_spells (p ∷ ps) h = (short_part p, flat_map short_part ps, refl, short_part_spells p h.0, short_spells ps h.1)
 
--- ---- at most one value, and the one that is read
+-- ---- at most one value is encoded, and it is the one that is read
 
 module _ {A : Type 0} (r : Reader A) (parts : A → List Part) (Good : A → Type 0) (reads : Reads r parts Good) where
   pub read_whole : (v : A) (b : List ℕ) → Good v → SpellsParts (parts v) b → r b ≡ Some (v, [])
   read_whole v b good s = reads.only b [] v good (Front-from_whole (parts v) b s)
 
-  -- no bytes spell two values
+  -- no bytes encode two values
   pub one_value : (u v : A) (b : List ℕ) → Good u → Good v → SpellsParts (parts u) b → SpellsParts (parts v) b → u ≡ v
   one_value u v b gu gv su sv = let e = read_whole u b gu su in let f = read_whole v b gv sv in ap (λ (p : A × List ℕ). p.0) (same_Some (u, []) (v, []) (sym e ∙ f))
 
-  -- what is read is spelled so
+  -- what is read is encoded so
   pub found_whole : (v : A) (b : List ℕ) → IsBytes b → r b ≡ Some (v, []) → Good v × SpellsParts (parts v) b
   found_whole v b h e = of_option (r b) (reads.found b h) e
     where
@@ -92,36 +92,36 @@ module _ {A : Type 0} (r : Reader A) (parts : A → List Part) (Good : A → Typ
           let u = subst (λ (y : A × List ℕ). Takes parts Good b y) same t in
           (u.good, Front-whole (parts v) b u.front)
 
-  -- what is written is read again
+  -- a value that is written can be read again
   pub written_again : (v : A) → Good v → AllByRecursion HasSpelling (parts v) → r (flat_map short_part (parts v)) ≡ Some (v, [])
   written_again v good all = read_whole v (flat_map short_part (parts v)) good (short_spells (parts v) all)
 
 -- ---- whole signatures
 
--- what a column takes within the limits, as reading takes it
+-- what a column holds within the limits, as the reader reads it
 good_of : (kind : SigKind) (s : Body) (b : List ℕ) → Spells kind s b → IsHeld 128 kind s
 good_of kind s b h = (h.column, h.body)
 
 column_reads : NumbersAreRead → (kind : SigKind) → Reads (body_at kind (core_at 128)) body_parts (IsHeld 128 kind)
 column_reads known kind = body_reads known 128 (core_at 128) (core_reads known 128) (omega arith) kind
 
--- no bytes spell two signatures in one column
+-- no bytes encode two signatures in one column
 pub one_signature : NumbersAreRead → (kind : SigKind) (u v : Body) (b : List ℕ) → Spells kind u b → Spells kind v b → u ≡ v
 one_signature known kind u v b h k =
     one_value (body_at kind (core_at 128)) body_parts (IsHeld 128 kind) (column_reads known kind) u v b (good_of kind u b h) (good_of kind v b k) h.parts k.parts
 
--- what is spelled so is read
+-- what bytes encode is read from them
 pub spelled_read : NumbersAreRead → (kind : SigKind) (s : Body) (b : List ℕ) → Spells kind s b → body_at kind (core_at 128) b ≡ Some (s, [])
 spelled_read known kind s b h =
     read_whole (body_at kind (core_at 128)) body_parts (IsHeld 128 kind) (column_reads known kind) s b (good_of kind s b h) h.parts
 
--- what is read to the end is spelled so
+-- what is read to the end is encoded so
 pub read_spelled : NumbersAreRead → (kind : SigKind) (s : Body) (b : List ℕ) → IsBytes b → length b < 2 ^ 29 → body_at kind (core_at 128) b ≡ Some (s, []) → Spells kind s b
 read_spelled known kind s b bytes limit e =
     let t = found_whole (body_at kind (core_at 128)) body_parts (IsHeld 128 kind) (column_reads known kind) s b bytes e in
     record { column = t.0.0; body = t.0.1; parts = t.1; limit = limit }
 
--- the shortest spelling is a spelling
+-- the canonical encoding is an encoding
 pub short_is_spelling : (kind : SigKind) (s : Body) → Holds kind s → IsSpellable s → Spells kind s (short s)
 short_is_spelling kind s column h = record {
   column = column;
@@ -130,6 +130,6 @@ short_is_spelling kind s column h = record {
   limit = h.limit;
 }
 
--- and it is read again
+-- and it can be read again
 pub short_read : NumbersAreRead → (kind : SigKind) (s : Body) → Holds kind s → IsSpellable s → body_at kind (core_at 128) (short s) ≡ Some (s, [])
 short_read known kind s column h = spelled_read known kind s (short s) (short_is_spelling kind s column h)

@@ -1,5 +1,5 @@
--- How the logic stores a signature that a struct has as the value of its `Model`: as a tree of numbers. There is nothing to believe
--- here: a code is any map to trees that sends no two values to one, which is proved below, and no clause says more of it.
+-- How the logic stores a signature in a struct's `Model`: as a tree of numbers. There is nothing to believe here.
+-- Any map to trees serves that maps different values to different trees. This is proved below; no clause uses more.
 use Rattle.std.specs.Prelude.{◌≡◌, ℕ, ℤ, List, refl}
 use Rattle.std.specs.Coded.{Coded, code_by, coded×, coded_ℕ, coded_ℤ, coded_bool, coded_list, coded_option}
 use Rattle.std.proofs.Common.{ap}
@@ -12,7 +12,7 @@ use Rattle.signature_values.specs.declared.types.Modifier.{Modifier}
 use Rattle.signature_values.specs.declared.body.Prefix.{Prefix}
 use Rattle.signature_values.specs.Syntax.{Core, simple, void_pointer, pointer, vector, array, class, value, var, mvar, instance, function, Typed, typed, Types, no_types, type_then, Content, typed_ref, plain, by_ref, Slot, slot, Slots, no_slots, slot_then, Ret, some_ret, void_ret, Method, method, ArrayShape, LocalVariable, local, Body, field, method_body, property, locals, instance_body, type_spec}
 
--- ---- the tree of each value: the number of its case, and behind it what it is made of
+-- ---- the tree of each value: the number of its constructor, then the trees of its fields
 
 abbrev modifiers_code : Coded (List Modifier)
 modifiers_code = coded_list modifier.the_row.coded
@@ -79,7 +79,7 @@ body_tree (locals variables) = gcons (gnum 3) (code_l local_tree variables)
 body_tree (instance_body args) = gcons (gnum 4) (code_l typed_tree args)
 body_tree (type_spec ret) = gcons (gnum 5) (ret_tree ret)
 
--- ---- no two values have one tree
+-- ---- different values have different trees
 
 abbrev head : Gv → Gv
 head (gcons a b) = a
@@ -159,6 +159,6 @@ body_one (instance_body ts) (instance_body us) p = ap instance_body (inj_l (reco
 body_one (type_spec r) (type_spec q) p = ap type_spec (ret_one r q (ap tail p))
 body_one _ _ p = absurd cc
 
--- the code of a whole signature, whatever it is
+-- the code of a whole signature of any kind
 abbrev pub body_code : Coded Body
 body_code = record { code = body_tree; inj = body_one }

@@ -1,4 +1,4 @@
--- Reading a whole signature, by the kind of its column (ECMA-335 II.23.2 and II.22).
+-- Reads a whole signature, by the kind of its column (ECMA-335 II.23.2 and II.22).
 use Rattle.std.specs.Prelude.{ℕ, Bool, true, false, option_and_then, List}
 use Rattle.signature_values.specs.declared.body.Prefix.{Prefix}
 use Rattle.schema.specs.declared.column.SigKind.{SigKind}
@@ -12,7 +12,7 @@ local_from x = local x.0 x.1
 unfoldable pub local_at : Reader Core → Reader LocalVariable
 local_at nested = change local_from (both prefixes_at (content_at nested))
 
--- a count, a value, and that many further values
+-- a count n, one value, and n further values
 unfoldable pub headed_at : {A : Type 0} → Reader A → Reader (A × List A)
 headed_at r b = option_and_then (λ n. both r (many_at r n.0) n.1) (number_at b)
 

@@ -1,9 +1,9 @@
--- The bytes of element types (ECMA-335 II.23.1.16), by their names there.
+-- The codes of element types (ECMA-335 II.23.1.16), under the names of the standard.
 use Rattle.std.specs.Prelude.{ℕ}
 use Rattle.signature_values.specs.declared.element.Element.{Element}
 use Rattle.signature_values.specs.declared.element.Element.TheVariants.{Boolean, Char, I1, U1, I2, U2, I4, U4, I8, U8, R4, R8, String, I, U, Object}
 
--- those that stand alone
+-- types that are encoded as one byte
 abbrev pub element_code : Element → ℕ
 element_code Boolean = 0x02
 element_code Char = 0x03
@@ -22,7 +22,7 @@ element_code I = 0x18
 element_code U = 0x19
 element_code Object = 0x1C
 
--- the others
+-- the other codes
 abbrev pub VOID : ℕ
 VOID = 0x01
 

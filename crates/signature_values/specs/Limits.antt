@@ -1,10 +1,10 @@
--- What the grammar asks of values beside their spelling (ECMA-335 II.23.2), and how deep types nest.
+-- Conditions of the grammar that the parts do not express (ECMA-335 II.23.2), and the nesting depth of types.
 use Rattle.std.specs.Prelude.{◌≡◌, ℕ, suc, ◌<◌, ◌≤◌, ◌⊎◌, max, Bool, true, false, None, length, ⊤, IfSome}
 use Rattle.std.specs.List.{AllByRecursion}
 use Rattle.signature_values.specs.Grammar.{count_slots}
 use Rattle.signature_values.specs.Syntax.{Core, void_pointer, pointer, vector, array, instance, function, Typed, typed, Types, no_types, type_then, Content, typed_ref, plain, by_ref, Slot, slot, Slots, no_slots, slot_then, Ret, some_ret, void_ret, Method, method, ArrayShape, LocalVariable, local, Body, field, method_body, property, locals, instance_body, type_spec}
 
--- a type is one deeper than the deepest type directly inside it; modifiers, BYREF and the index after GENERICINST add nothing
+-- a type is one deeper than the deepest type directly in it; modifiers, BYREF and the index of GENERICINST add nothing
 abbrev mutual
   pub core_depth : Core → ℕ
   core_depth (void_pointer modifiers) = 2
@@ -41,24 +41,24 @@ abbrev mutual
   pub method_depth : Method → ℕ
   method_depth (method kind this explicit generic ret params sentinel) = max (ret_depth ret) (slots_depth params)
 
--- the calling conventions (II.23.2.1 to II.23.2.3): default, C, stdcall, thiscall, fastcall and vararg, and unmanaged
+-- calling conventions (II.23.2.1, II.23.2.3): 0 default, 1 C, 2 stdcall, 3 thiscall, 4 fastcall, 5 vararg, 9 unmanaged
 abbrev pub IsMethodKind : ℕ → Type 0
 IsMethodKind kind = (kind < 6) ⊎ (kind ≡ 9)
 
--- SENTINEL stands before one of the parameters, of a C or vararg method (II.23.2.2, II.23.2.3)
+-- SENTINEL precedes one of the parameters of a C or vararg method (II.23.2.2, II.23.2.3)
 abbrev pub IsSentinel : ℕ → ℕ → ℕ → Type 0
 IsSentinel kind count before = (before < count) × ((kind ≡ 1) ⊎ (kind ≡ 5))
 
--- the method has a SENTINEL of its own only where it may
+-- the method itself has a SENTINEL only if the flag allows it
 abbrev pub HasOwnSentinel : Bool → Method → Type 0
 HasOwnSentinel true m = ⊤
 HasOwnSentinel false (method kind this explicit generic ret params sentinel) = sentinel ≡ None
 
--- II.23.2.13: an array has a dimension, and no more sizes and low bounds than dimensions
+-- an array has at least one dimension, and no more sizes or lower bounds than dimensions (II.23.2.13)
 abbrev pub IsArrayShape : ArrayShape → Type 0
 IsArrayShape shape = (1 ≤ shape.rank) × (length shape.sizes ≤ shape.rank) × (length shape.low ≤ shape.rank)
 
--- kinds, shapes and sentinels are as the grammar allows
+-- the grammar allows each calling convention, array shape and SENTINEL in the value
 abbrev mutual
   pub IsCore : Core → Type 0
   IsCore (pointer modifiers to) = IsCore to
@@ -95,7 +95,7 @@ abbrev mutual
   IsMethod (method kind this explicit generic ret params sentinel) =
       IsMethodKind kind × IfSome sentinel (IsSentinel kind (count_slots params)) × IsRet ret × AreSlots params
 
--- the grammar allows it, and no type in it is deeper than so much
+-- the grammar allows the core, and its depth is at most the limit
 abbrev pub IsCoreWithin : ℕ → Core → Type 0
 IsCoreWithin depth core = (core_depth core ≤ depth) × IsCore core
 

@@ -1,4 +1,4 @@
--- What a spelling is made of, and what spells each of these parts (ECMA-335 II.23.2).
+-- The parts of an encoding, and the bytes that encode each part (ECMA-335 II.23.2).
 use Rattle.std.specs.Prelude.{◌≡◌, ℕ, ℤ, ◌+◌, ◌*◌, ◌^◌, ◌<◌, ◌==◌, Bool, false, Option, Some, None, List, [], ◌∷◌, ◌++◌}
 use Rattle.std.specs.List.{position_or_len}
 use Rattle.packed.specs.Packed.{IsPacked, IsPackedSigned, FitsBits, short_unsigned, short_signed}
@@ -8,39 +8,39 @@ use Rattle.schema.specs.declared.coded.Coded.TheVariants.{TypeDefOrRef}
 use Rattle.schema.specs.Tables.{table_number}
 use Rattle.schema.specs.CodedIndexes.{tables_of, IsCoded}
 
--- a byte as it stands, a packed number, a packed signed number, or the index of a row of TypeDef, TypeRef or TypeSpec
+-- a byte, a packed number, a packed signed number, or the index of a row of TypeDef, TypeRef or TypeSpec
 pub data Part : Type 0 where
   byte : ℕ → Part
   number : ℕ → Part
   signed : ℤ → Part
   index : Token → Part
 
--- an index is a packed number, coded as TypeDefOrRef is (II.23.2.8)
+-- TypeDefOrRefOrSpecEncoded (II.23.2.8): a packed number whose value is a TypeDefOrRef coded index
 pub record IsIndex (token : Token) (bytes : List ℕ) : Type 0 where
   pub number : ℕ
   pub coded : IsCoded TypeDefOrRef number token.table token.row
   pub packed : IsPacked number bytes
 
--- the bytes spell the part
+-- the bytes encode the part
 abbrev pub SpellsPart : Part → List ℕ → Type 0
 SpellsPart (byte c) bytes = bytes ≡ c ∷ []
 SpellsPart (number n) bytes = IsPacked n bytes
 SpellsPart (signed z) bytes = IsPackedSigned z bytes
 SpellsPart (index token) bytes = IsIndex token bytes
 
--- the bytes spell the parts, one after another
+-- the bytes encode the parts, one after another
 abbrev pub SpellsParts : List Part → List ℕ → Type 0
 SpellsParts [] bytes = bytes ≡ []
 SpellsParts (part ∷ parts) bytes =
     (front rest : List ℕ) × (bytes ≡ front ++ rest) × SpellsPart part front × SpellsParts parts rest
 
--- ---- the shortest spelling
+-- ---- the canonical encoding
 
 abbrev pub is_table : TableId → Option TableId → Bool
 is_table table None = false
 is_table table (Some listed) = table_number table == table_number listed
 
--- the number of an index: the row, and behind it the tag of the table
+-- the number of an index: the row, shifted left by the two bits of the table's tag
 abbrev pub index_number : Token → ℕ
 index_number token = token.row * 4 + position_or_len (is_table token.table) (tables_of TypeDefOrRef)
 
@@ -50,7 +50,7 @@ short_part (number n) = short_unsigned n
 short_part (signed z) = short_signed z
 short_part (index token) = short_unsigned (index_number token)
 
--- the part has a spelling: numbers have 29 bits, and an index names a row of a table that it can name
+-- the part has an encoding: numbers have at most 29 bits, and an index names TypeDef, TypeRef or TypeSpec
 abbrev pub HasSpelling : Part → Type 0
 HasSpelling (byte c) = c < 256
 HasSpelling (number n) = n < 2 ^ 29

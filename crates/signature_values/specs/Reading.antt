@@ -1,5 +1,5 @@
--- Reading as a function on lists: the value at the front, and the bytes after it. What stands here is what private functions compute;
--- that it reads what the grammar spells, and nothing else, is proved of it.
+-- Readers as functions on lists: each returns the first value and the remaining bytes. Private functions compute them.
+-- It is proved that they read what the grammar encodes, and nothing else.
 use Rattle.std.specs.Prelude.{ℕ, ℤ, zero, suc, ◌/◌, ◌%◌, nat_lt, ◌==◌, ◌&&◌, ◌||◌, Bool, true, false, if◌then◌else◌, Option, Some, None, option_map, option_and_then, slice_get, drop, List, [], ◌∷◌, length}
 use Rattle.packed.specs.Front as front
 use Rattle.schema.specs.declared.token.Token.{Token}
@@ -18,11 +18,11 @@ use Rattle.signature_values.specs.Views.{types_from, slots_from}
 abbrev pub Reader : Type 0 → Type 0
 Reader A = List ℕ → Option (A × List ℕ)
 
--- the same reader, with its value changed
+-- the same reader, with a function applied to its value
 abbrev pub change : {A B : Type 0} → (A → B) → Reader A → Reader B
 change f r b = option_map (λ x. (f x.0, x.1)) (r b)
 
--- the value at the front, where so many bytes spell it
+-- the value at the start and the remaining bytes, from the value and the number of its bytes
 abbrev pub split : {A : Type 0} → List ℕ → Option (A × ℕ) → Option (A × List ℕ)
 split b read = option_map (λ x. (x.0, drop x.1 b)) read
 
@@ -35,7 +35,7 @@ signed_at b = split b (front.signed_at b)
 abbrev pub token_in : ℕ → Option TableId → Option Token
 token_in n listed = option_map (λ table. record { table = table; row = n / 4 }) listed
 
--- the token of an index
+-- the token of a type index
 unfoldable pub token_of : ℕ → Option Token
 token_of n = option_and_then (token_in n) (slice_get (tables_of TypeDefOrRef) (n % 4))
 
@@ -47,11 +47,11 @@ unfoldable pub many_at : {A : Type 0} → Reader A → ℕ → Reader (List A)
 many_at r zero b = Some ([], b)
 many_at r (suc n) b = option_and_then (λ x. option_map (λ y. (x.0 ∷ y.0, y.1)) (many_at r n x.1)) (r b)
 
--- a number, and that many values
+-- a count, then that number of values
 unfoldable pub counted_at : {A : Type 0} → Reader A → Reader (List A)
 counted_at r b = option_and_then (λ x. many_at r x.0 x.1) (number_at b)
 
--- an item, where one stands at the front
+-- a reader of an item that may be absent at the start
 abbrev pub Optional : Type 0 → Type 0
 Optional A = List ℕ → Option (Option A × List ℕ)
 
@@ -59,12 +59,12 @@ abbrev pub items_then : {A : Type 0} → Reader (List A) → Option A × List �
 items_then more (None, b) = Some ([], b)
 items_then more (Some x, b) = option_map (λ y. (x ∷ y.0, y.1)) (more b)
 
--- the items at the front, at most so many
+-- the items at the start, at most the given number
 unfoldable pub leading_within : {A : Type 0} → Optional A → ℕ → Reader (List A)
 leading_within r zero b = Some ([], b)
 leading_within r (suc k) b = option_and_then (items_then (leading_within r k)) (r b)
 
--- all items at the front
+-- all items at the start
 unfoldable pub leading_at : {A : Type 0} → Optional A → Reader (List A)
 leading_at r b = leading_within r (length b) b
 
@@ -89,11 +89,11 @@ modifiers_at = leading_at modifier_at
 unfoldable pub prefixes_at : Reader (List Prefix)
 prefixes_at = leading_at prefix_at
 
--- one value after another
+-- two values, one after the other
 unfoldable pub both : {A B : Type 0} → Reader A → Reader B → Reader (A × B)
 both r q b = option_and_then (λ x. option_map (λ y. ((x.0, y.0), y.1)) (q x.1)) (r b)
 
--- this value at that code, else what the other says
+-- this value if the codes are equal, else the other result
 abbrev pub pick : {A : Type 0} → ℕ → ℕ → A → Option A → Option A
 pick c n x other = if c == n then Some x else other
 
@@ -105,24 +105,24 @@ element_of c =
     (pick c 0x0D R8 (pick c 0x0E String (pick c 0x18 I (pick c 0x19 U
     (pick c 0x1C Object None)))))))))))))))
 
--- this reader at that code, else the other
+-- this reader if the codes are equal, else the other reader
 abbrev pub choose : {A : Type 0} → ℕ → ℕ → Reader A → Reader A → Reader A
 choose c n r other b = if c == n then r b else other b
 
 abbrev pub fail : {A : Type 0} → Reader A
 fail b = None
 
--- the first byte
+-- the first byte is the given one
 abbrev pub head_is : ℕ → List ℕ → Bool
 head_is n [] = false
 head_is n (c ∷ b) = c == n
 
--- the value, at that code alone
+-- the value, if the first byte is the code
 abbrev pub code_at : {A : Type 0} → ℕ → A → Reader A
 code_at n x [] = None
 code_at n x (c ∷ b) = if c == n then Some (x, b) else None
 
--- the value behind that code
+-- the value after the code, if the first byte is the code, else the other reader
 abbrev pub behind : {A : Type 0} → ℕ → Reader A → Reader A → Reader A
 behind n r other [] = None
 behind n r other (c ∷ b) = if c == n then r b else other (c ∷ b)
@@ -130,7 +130,7 @@ behind n r other (c ∷ b) = if c == n then r b else other (c ∷ b)
 unfoldable pub typed_at : Reader Core → Reader Typed
 typed_at nested = change (λ x. typed x.0 x.1) (both modifiers_at nested)
 
--- VOID or a core
+-- VOID, or a core
 unfoldable pub void_or : {A : Type 0} → Reader A → Reader (Option A)
 void_or r = behind VOID (λ b. Some (None, b)) (change (λ x. Some x) r)
 
@@ -151,7 +151,7 @@ instance_from x = instance x.0.0 x.0.1 (types_from x.1)
 unfoldable pub instance_at : Reader Core → Reader ((Bool × Token) × List Typed)
 instance_at nested = both (both named_at index_at) (counted_at (typed_at nested))
 
--- at most so many values, behind their count
+-- a count, at most the limit, then that number of values
 unfoldable pub counted_within : {A : Type 0} → Reader A → ℕ → Reader (List A)
 counted_within r most b =
     option_and_then (λ x. if nat_lt most x.0 then None else many_at r x.0 x.1) (number_at b)
@@ -186,7 +186,7 @@ ret_from (modifiers, Some p) = some_ret (slot modifiers p)
 unfoldable pub ret_at : Reader Core → Reader Ret
 ret_at nested = change ret_from (both modifiers_at (void_or (content_at nested)))
 
--- n parameters, and how many stand before SENTINEL, where one may and does stand
+-- n parameters, and the number of those before SENTINEL, if it is allowed and present
 unfoldable pub params_at : Reader Core → Bool → ℕ → Reader (List Slot × Option ℕ)
 params_at nested allowed zero b = Some (([], None), b)
 params_at nested allowed (suc n) b =
@@ -194,7 +194,7 @@ params_at nested allowed (suc n) b =
     then option_and_then (λ x. option_map (λ y. ((x.0 ∷ y.0.0, Some 0), y.1)) (params_at nested false n x.1)) (slot_at nested (drop 1 b))
     else option_and_then (λ x. option_map (λ y. ((x.0 ∷ y.0.0, option_map suc y.0.1), y.1)) (params_at nested allowed n x.1)) (slot_at nested b)
 
--- a number of generic parameters, where the method has some
+-- the number of generic parameters, if the method is generic
 unfoldable pub generic_at : Bool → Reader (Option ℕ)
 generic_at true = change (λ n. Some n) number_at
 generic_at false = λ b. Some (None, b)
@@ -205,7 +205,7 @@ takes_sentinel kind = kind == 1 || kind == 5
 abbrev pub is_method_code : ℕ → Bool
 is_method_code c = nat_lt c 0x80 && (nat_lt (c % 16) 6 || c % 16 == 9)
 
--- what follows the first byte of a method
+-- the part of a method after its first byte
 unfoldable pub method_from : Bool → Reader Core → ℕ → Reader Method
 method_from own nested c b =
     option_and_then (λ g. option_and_then (λ n. option_and_then (λ r. option_map
@@ -213,12 +213,12 @@ method_from own nested c b =
     (params_at nested (own && takes_sentinel (c % 16)) n.0 r.1)) (ret_at nested n.1))
     (number_at g.1)) (generic_at (c / 16 % 2 == 1) b)
 
--- a method, which may have a SENTINEL of its own or not
+-- a method; the flag says whether it may have a SENTINEL of its own
 unfoldable pub method_at : Bool → Reader Core → Reader Method
 method_at own nested [] = None
 method_at own nested (c ∷ b) = if is_method_code c then method_from own nested c b else None
 
--- nothing where no type fits
+-- the reader at a depth; at depth 0 it reads nothing
 abbrev pub deep : {A : Type 0} → ℕ → Reader A → Reader A
 deep zero r b = None
 deep (suc d) r b = r b
@@ -239,18 +239,18 @@ abbrev pub core_or : ℕ → Reader Core → ℕ → Option Element → Reader C
 core_or d nested c (Some e) b = Some (simple e, b)
 core_or d nested c None b = core_by d nested c b
 
--- a core that is at most so deep
+-- a core of at most the given depth
 unfoldable pub core_at : ℕ → Reader Core
 core_at zero b = None
 core_at (suc d) [] = None
 core_at (suc d) (c ∷ b) = core_or d (core_at d) c (element_of c) b
 
--- a modifier stands at the front
+-- the bytes start with a modifier
 abbrev pub starts_modifier : List ℕ → Bool
 starts_modifier [] = false
 starts_modifier (c ∷ b) = c == CMOD_REQD || c == CMOD_OPT
 
--- a modifier or PINNED stands at the front
+-- the bytes start with a modifier or PINNED
 abbrev pub starts_prefix : List ℕ → Bool
 starts_prefix [] = false
 starts_prefix (c ∷ b) = c == PINNED || (c == CMOD_REQD || c == CMOD_OPT)

@@ -1,4 +1,4 @@
--- Which bytes spell which signature, in which kind of column (ECMA-335 II.23.2 and II.22).
+-- Which bytes encode which signature, in which kind of column (ECMA-335 II.23.2 and II.22).
 use Rattle.std.specs.Prelude.{ℕ, ◌^◌, ◌<◌, ◌≤◌, ◌&&◌, Bool, false, not, nat_lt, nat_le, Option, List, length, flat_map, slice_index, ⊤}
 use Rattle.std.specs.List.{AllByRecursion, find}
 use Rattle.schema.specs.declared.token.Token.{Token}
@@ -10,7 +10,7 @@ use Rattle.signature_values.specs.Parts.{SpellsParts, HasSpelling, short_part, p
 use Rattle.signature_values.specs.Grammar.{body_parts}
 use Rattle.signature_values.specs.Limits.{HasOwnSentinel, IsBodyWithin}
 
--- which signatures a column of a kind holds
+-- the kind of column holds this form of signature
 abbrev pub Holds : SigKind → Body → Type 0
 Holds column.Field (field s) = ⊤
 Holds column.MethodDef (method_body m) = HasOwnSentinel false m
@@ -24,35 +24,35 @@ Holds column.TypeSpec (type_spec ret) = ⊤
 Holds column.Instance (instance_body args) = ⊤
 Holds _ _ = ⊥
 
--- the bytes, all of them, spell the signature in a column of a kind
+-- all the bytes together encode the signature, in a column of the kind
 pub record Spells (kind : SigKind) (signature : Body) (bytes : List ℕ) : Type 0 where
   pub column : Holds kind signature
   pub body : IsBodyWithin 128 signature
   pub parts : SpellsParts (body_parts signature) bytes
   pub limit : length bytes < 2 ^ 29
 
--- the spelling whose numbers and indexes are all shortest
+-- the canonical encoding: each number and index has its shortest form
 abbrev pub short : Body → List ℕ
 short signature = flat_map short_part (body_parts signature)
 
--- some bytes spell the signature
+-- the signature has an encoding: its types nest at most 128 deep, its parts have encodings, and it fits a blob
 pub record IsSpellable (signature : Body) : Type 0 where
   pub body : IsBodyWithin 128 signature
   pub parts : AllByRecursion HasSpelling (body_parts signature)
   pub limit : length (short signature) < 2 ^ 29
 
--- the type indexes of a signature, in the order of their spelling (II.23.2.8)
+-- the type indexes of a signature, in encoded order (II.23.2.8)
 abbrev pub tokens : Body → List Token
 tokens signature = flat_map part_tokens (body_parts signature)
 
--- the token names one of the rows of its table, where each table has as many as stand under its number
+-- the token's row exists; the list gives the number of rows of each table, by table number
 abbrev pub HasRow : List ℕ → Token → Type 0
 HasRow counts token = (0 < token.row) × (token.row ≤ slice_index counts (table_number token.table))
 
--- the same as a test
+-- the same as a boolean test
 abbrev pub has_row : List ℕ → Token → Bool
 has_row counts token = nat_lt 0 token.row && nat_le token.row (slice_index counts (table_number token.table))
 
--- the first type index that names no row
+-- the first type index whose row does not exist
 abbrev pub first_bad : List ℕ → List Token → Option Token
 first_bad counts tokens = find (λ token. not (has_row counts token)) tokens

@@ -1,4 +1,4 @@
--- Signatures as clauses see them: what a value says, without where it lies in memory (ECMA-335 II.23.2).
+-- Signatures as the contracts see them: their content, independent of memory layout (ECMA-335 II.23.2).
 use Rattle.std.specs.Prelude.{ℕ, ℤ, Bool, Option, List}
 use Rattle.schema.specs.declared.token.Token.{Token}
 use Rattle.signature_values.specs.declared.element.Element.{Element}
@@ -12,7 +12,7 @@ pub record ArrayShape : Type 0 where
   pub low : List ℤ
 
 mutual
-  -- a type without modifiers before it (II.23.2.12)
+  -- a type without the modifiers before it (II.23.2.12)
   pub data Core : Type 0 where
     simple : Element → Core
     void_pointer : List Modifier → Core
@@ -26,7 +26,7 @@ mutual
     instance : Bool → Token → Types → Core
     function : Method → Core
 
-  -- modifiers, and the type that they stand before
+  -- modifiers, and the type that they qualify
   pub data Typed : Type 0 where
     typed : List Modifier → Core → Typed
 
@@ -34,7 +34,7 @@ mutual
     no_types : Types
     type_then : Typed → Types → Types
 
-  -- what a parameter, a field or a result holds (II.23.2.10)
+  -- the kind and type of a parameter, a field or a result (II.23.2.10)
   pub data Content : Type 0 where
     typed_ref : Content
     plain : Core → Content
@@ -52,7 +52,7 @@ mutual
     some_ret : Slot → Ret
     void_ret : List Modifier → Ret
 
-  -- the kind, has-this, explicit-this, the generic parameters, the result, the parameters, and how many of them stand before SENTINEL
+  -- calling convention, HASTHIS, EXPLICITTHIS, number of generic parameters, result, parameters, number before SENTINEL
   pub data Method : Type 0 where
     method : ℕ → Bool → Bool → Option ℕ → Ret → Slots → Option ℕ → Method
 

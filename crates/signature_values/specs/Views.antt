@@ -1,4 +1,4 @@
--- What clauses see of a value of Rust's types: the same, without where its parts lie in memory.
+-- The content of a value of the Rust types, independent of memory layout.
 use Rattle.std.specs.Prelude.{Some, None, List, [], ◌∷◌, map}
 use Rattle.signature_values.specs.Syntax as sig
 use Rattle.signature_values.specs.declared.types.Shape.{Shape}
@@ -24,7 +24,7 @@ slots_from (s ∷ ss) = sig.slot_then s (slots_from ss)
 abbrev pub shape_of : Shape → sig.ArrayShape
 shape_of s = record { rank = s.rank; sizes = s.sizes.items; low = s.low.items }
 
--- Each case is one layer of the value, with what is seen of the parts in their place.
+-- Each case is one layer of the value, with the content of its parts already computed.
 abbrev pub core_layer : Core-F sig.Core sig.Ret sig.Content sig.Method sig.Slot sig.Typed → sig.Core
 core_layer (Simple e) = sig.simple e
 core_layer (Pointer modifiers None) = sig.void_pointer modifiers.items
@@ -77,7 +77,7 @@ type_of = fold-TypeSig sig.Core sig.Ret sig.Content sig.Method sig.Slot sig.Type
 abbrev pub local_of : Local → sig.LocalVariable
 local_of l = sig.local l.prefix.items (content_of l.kind)
 
--- what clauses see of a whole signature
+-- the content of a whole signature
 abbrev pub body_of : rust.SigBody → sig.Body
 body_of (body.Field f) = sig.field (slot_of f.0)
 body_of (body.Method m) = sig.method_body (method_of m)

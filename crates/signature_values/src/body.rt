@@ -1,20 +1,20 @@
 use crate::types::{MethodSig, Modifier, Ret, Slot, SlotKind, TypeSig};
 
-/// What may stand before the type of a local variable (II.23.2.6, II.23.2.9).
+/// What may precede the type of a local variable (II.23.2.6, II.23.2.9).
 #[derive(Clone, Copy, Debug, PartialEq, Eq)]
 pub enum Prefix {
-    /// A modifier.
+    /// A custom modifier.
     Mod(Modifier),
-    /// PINNED: what the variable refers to stays where it is.
+    /// PINNED: the garbage collector must not move what the variable refers to.
     Pinned,
 }
 
 /// A local variable (II.23.2.6).
 #[derive(Debug, Drop)]
 pub struct Local {
-    /// What stands before its type, in order.
+    /// The modifiers and PINNED before its type, in order.
     pub prefix: Vec<Prefix>,
-    /// What it holds.
+    /// The kind and type of its value.
     pub kind: SlotKind,
 }
 
@@ -25,35 +25,35 @@ pub struct FieldSig(pub Slot);
 /// The signature of a property (II.23.2.5).
 #[derive(Debug, Drop)]
 pub struct PropertySig {
-    /// HASTHIS: it belongs to an instance.
+    /// HASTHIS: the property belongs to an instance.
     pub this: bool,
     /// Its type.
     pub of: Slot,
-    /// The parameters of its accessors, in their order.
+    /// The parameters of its accessors, in order.
     pub params: Vec<Slot>,
 }
 
-/// The type arguments of a generic method (II.23.2.15), in their order.
+/// The type arguments of a generic method (II.23.2.15), in order.
 #[derive(Debug, Drop)]
 pub struct InstanceSig(pub Vec<TypeSig>);
 
-/// The local variables of a method (II.23.2.6), in their order.
+/// The local variables of a method (II.23.2.6), in order.
 #[derive(Debug, Drop)]
 pub struct LocalsSig(pub Vec<Local>);
 
 /// A whole signature (II.23.2).
 #[derive(Debug, Drop)]
 pub enum SigBody {
-    /// Of a field.
+    /// A field (II.23.2.4).
     Field(FieldSig),
-    /// Of a method.
+    /// A method (II.23.2.1, II.23.2.2).
     Method(MethodSig),
-    /// Of a property.
+    /// A property (II.23.2.5).
     Property(PropertySig),
-    /// Of local variables.
+    /// Local variables (II.23.2.6).
     Locals(LocalsSig),
-    /// Of the type arguments of a generic method.
+    /// The type arguments of a generic method (II.23.2.15).
     Instance(InstanceSig),
-    /// Of a type (II.23.2.14).
+    /// A type (II.23.2.14).
     TypeSpec(Ret),
 }

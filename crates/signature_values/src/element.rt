@@ -1,37 +1,37 @@
-/// A type that one byte spells (II.23.1.16).
+/// A type that is encoded as one byte (II.23.1.16).
 #[derive(Clone, Copy, Debug, PartialEq, Eq)]
 pub enum Element {
-    /// BOOLEAN, a truth value of one byte.
+    /// BOOLEAN: a truth value of one byte.
     Boolean,
-    /// CHAR, a unit of UTF-16.
+    /// CHAR: a UTF-16 code unit.
     Char,
-    /// I1, a signed integer of one byte.
+    /// I1: a signed integer of one byte.
     I1,
-    /// U1, an unsigned integer of one byte.
+    /// U1: an unsigned integer of one byte.
     U1,
-    /// I2, a signed integer of two bytes.
+    /// I2: a signed integer of two bytes.
     I2,
-    /// U2, an unsigned integer of two bytes.
+    /// U2: an unsigned integer of two bytes.
     U2,
-    /// I4, a signed integer of four bytes.
+    /// I4: a signed integer of four bytes.
     I4,
-    /// U4, an unsigned integer of four bytes.
+    /// U4: an unsigned integer of four bytes.
     U4,
-    /// I8, a signed integer of eight bytes.
+    /// I8: a signed integer of eight bytes.
     I8,
-    /// U8, an unsigned integer of eight bytes.
+    /// U8: an unsigned integer of eight bytes.
     U8,
-    /// R4, a float of four bytes.
+    /// R4: a floating-point number of four bytes.
     R4,
-    /// R8, a float of eight bytes.
+    /// R8: a floating-point number of eight bytes.
     R8,
-    /// STRING, `System.String`.
+    /// STRING: `System.String`.
     String,
-    /// I, a signed integer of the machine's size.
+    /// I: a signed integer of the machine's pointer size.
     I,
-    /// U, an unsigned integer of the machine's size.
+    /// U: an unsigned integer of the machine's pointer size.
     U,
-    /// OBJECT, `System.Object`.
+    /// OBJECT: `System.Object`.
     Object,
 }
 
@@ -40,7 +40,7 @@ impl Element {
     ghost use Rattle.signature_values.specs.ElementTypes.{element_code};
     ghost use Rattle.signature_values.specs.Reading.{element_of};
 
-    /// The byte that spells the type (II.23.1.16).
+    /// The byte that encodes the type (II.23.1.16).
     pub fn byte(self) -> u8
         ensures { result ≡ element_code self }
     {
@@ -64,7 +64,7 @@ impl Element {
         }
     }
 
-    /// The type that a byte spells alone (II.23.1.16).
+    /// The type that this byte alone encodes (II.23.1.16); `None` if it encodes none.
     #[tactic(auto, unfolding(crate::specs::Reading::element_of))]
     pub fn from_byte(code: u8) -> Option<Element>
         ensures { result ≡ element_of code }

@@ -1,9 +1,9 @@
-//! The bytes of element types (II.23.1.16), by their names there.
+//! The codes of element types (II.23.1.16), under the names of the standard.
 
 ghost use Rattle.std.specs.Prelude.{◌≡◌};
 ghost use Rattle.signature_values.specs.ElementTypes as byte;
 
-/// No value.
+/// VOID: no value.
 pub const VOID: u8 = 0x01;
 
 /// An unmanaged pointer.
@@ -12,46 +12,46 @@ pub const PTR: u8 = 0x0F;
 /// A managed reference.
 pub const BYREF: u8 = 0x10;
 
-/// A value type, by its index.
+/// A value type; its type index follows.
 pub const VALUETYPE: u8 = 0x11;
 
-/// A class, by its index.
+/// A class; its type index follows.
 pub const CLASS: u8 = 0x12;
 
-/// A generic parameter of a type, by its number.
+/// A generic parameter of a type; its number follows.
 pub const VAR: u8 = 0x13;
 
-/// An array of a shape.
+/// An array with a shape (II.23.2.13).
 pub const ARRAY: u8 = 0x14;
 
 /// An instance of a generic type.
 pub const GENERICINST: u8 = 0x15;
 
-/// A reference together with its type.
+/// A typed reference: a reference together with its type.
 pub const TYPEDBYREF: u8 = 0x16;
 
 /// A pointer to a method.
 pub const FNPTR: u8 = 0x1B;
 
-/// An array of one dimension, from 0 on.
+/// An array of one dimension with lower bound 0.
 pub const SZARRAY: u8 = 0x1D;
 
-/// A generic parameter of a method, by its number.
+/// A generic parameter of a method; its number follows.
 pub const MVAR: u8 = 0x1E;
 
-/// A modifier that must be understood.
+/// A required custom modifier.
 pub const CMOD_REQD: u8 = 0x1F;
 
-/// A modifier that may be passed over.
+/// An optional custom modifier.
 pub const CMOD_OPT: u8 = 0x20;
 
-/// Where the arguments begin that are the call's own.
+/// The variable arguments of a vararg call follow.
 pub const SENTINEL: u8 = 0x41;
 
-/// A local variable that stays where it is.
+/// A pinned local variable.
 pub const PINNED: u8 = 0x45;
 
-/// The bytes are those that the grammar says.
+/// Each constant equals the byte of the grammar.
 pub fn element_types_are_told()
     ensures void { VOID ≡ byte.VOID }
     ensures ptr { PTR ≡ byte.PTR }

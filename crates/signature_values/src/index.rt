@@ -5,7 +5,7 @@ ghost use Rattle.signature_values.specs.Spells.{has_row};
 use crate::laws::indexes_are_read;
 use schema::{Coded, Token, split};
 
-/// The token that the number of a type index names (II.23.2.8): a row of TypeDef, TypeRef or TypeSpec.
+/// The token that a type index encodes (II.23.2.8): a row of TypeDef, TypeRef or TypeSpec. `None` if its tag is 3.
 pub fn token_of_index(number: u32) -> Option<Token>
     ensures { result ≡ token_of number }
 {
@@ -14,9 +14,9 @@ pub fn token_of_index(number: u32) -> Option<Token>
     Some(Token { table, row })
 }
 
-/// Whether a token names a row of its table.
+/// Whether the row of the token exists in its table.
 ///
-/// `counts` has the number of rows of each table under the table's number; row 0 is never there.
+/// `counts` gives the number of rows of each table by table number. Row 0 never exists.
 pub fn names_row(token: Token, counts: &[u32; 45]) -> bool
     ensures { result ≡ has_row counts.now token }
 {

@@ -12,8 +12,8 @@ ghost use Rattle.signature_values.specs.Columns.{body_at};
 
 use packed::numbers_are_read;
 
-/// What bytes spell is read from them, and what is read from them to their end they spell. So no bytes
-/// spell two signatures in a column of one kind.
+/// A signature that bytes encode is read from them. If fewer than 2^29 bytes are read to their end, they
+/// encode what is read. So no bytes encode two signatures in a column of one kind.
 pub fn signatures_are_read()
     ensures read { (kind : SigKind) (signature : Body) (bytes : List ℕ) → Spells kind signature bytes
         → body_at kind (core_at 128) bytes ≡ Some (signature, []) }
@@ -25,35 +25,35 @@ pub fn signatures_are_read()
     numbers_are_read();
 }
 
-/// The shortest spelling of a signature that has one spells it, in each kind of column that holds it.
+/// If a signature has an encoding, its canonical encoding encodes it, in each kind of column that holds it.
 pub fn shortest_spells()
     ensures { (kind : SigKind) (signature : Body) → Holds kind signature → IsSpellable signature
         → Spells kind signature (short signature) }
 {}
 
-/// What bytes spell, in a column of any kind, has a spelling: so has each part of it, and the shortest
-/// is no longer than the bytes.
+/// If bytes encode a signature, in a column of any kind, then the signature has a canonical encoding. Each of its
+/// parts has an encoding, and the canonical encoding has fewer than 2^29 bytes.
 pub fn spelled_is_spellable()
     ensures { (kind : SigKind) (signature : Body) (bytes : List ℕ) → Spells kind signature bytes → IsSpellable signature }
 {}
 
-/// Each type index of a signature that has a spelling is of TypeDef, TypeRef or TypeSpec (II.23.2.8),
-/// and its row, which may be 0, has 27 bits.
+/// Each type index of an encodable signature names TypeDef, TypeRef or TypeSpec (II.23.2.8).
+/// Its row number has at most 27 bits and may be 0.
 pub fn indexes_name_types()
     ensures rows { (signature : Body) → IsSpellable signature → AllByRecursion (λ token. token.row < 2 ^ 27) (tokens signature) }
     ensures tables { (signature : Body) → IsSpellable signature
         → AllByRecursion (λ token. (token.table ≡ TypeDef) ⊎ ((token.table ≡ TypeRef) ⊎ (token.table ≡ TypeSpec))) (tokens signature) }
 {}
 
-/// The first type index without a row is the first: there is none exactly where each index has its row,
-/// and else those before it have theirs and it has not.
+/// The first type index without a row is `None` if and only if each index has its row.
+/// Otherwise all indexes before it have their rows, and it has none.
 pub fn first_bad_is_first()
     ensures none { (counts : List ℕ) (tokens : List Token) → (first_bad counts tokens ≡ None) ↔ AllByRecursion (HasRow counts) tokens }
     ensures some { (counts : List ℕ) (tokens : List Token) (bad : Token) → first_bad counts tokens ≡ Some bad
         → (before behind : List Token) × (tokens ≡ before ++ bad ∷ behind) × AllByRecursion (HasRow counts) before × ¬ HasRow counts bad }
 {}
 
-/// The token that is read from the number of a type index is the one that the number names.
+/// The token that is read from a type index is the token that the index encodes.
 pub fn indexes_are_read()
     ensures found { (number : ℕ) → IfSome (token_of number) (λ token. IsCoded TypeDefOrRef number token.table token.row) }
     ensures only { (number : ℕ) (token : Token) → IsCoded TypeDefOrRef number token.table token.row → token_of number ≡ Some token }

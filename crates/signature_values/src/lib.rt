@@ -1,12 +1,12 @@
-//! The values of signatures (ECMA-335 II.23.2): what a blob of a signature column says, as Rust types.
+//! The values of signatures (ECMA-335 II.23.2): the content of a signature blob, as Rust types.
 //!
-//! A [`SigBody`] is a whole signature: of a field, a method, a property, local variables, the
-//! arguments of a generic method, or a type. The definitions in `specs/` say which bytes spell
-//! which value in which kind of column, what its shortest spelling is, and which rows of type
-//! tables it names, in the order of the spelling. Reading, checking and writing stand above this
-//! crate, over that one grammar. What they share stands here: [`element_type`] and [`Element`] have the
-//! bytes of element types, [`method_byte`] the first byte of a method, [`token_of_index`] the row that an
-//! index names, and [`names_row`] says whether there is one.
+//! A [`SigBody`] is a whole signature: a field, a method, a property, local variables, the type
+//! arguments of a generic method, or a type. The definitions in `specs/` are the grammar. They say which
+//! bytes encode which value in which kind of column, and what its canonical encoding is. They also list
+//! the type indexes of a value, in encoded order. The crates that read, check and write signatures
+//! share this grammar. They also share [`element_type`] and [`Element`], which hold the codes of element
+//! types, and [`method_byte`], the first byte of a method. [`token_of_index`] gives the token of a type
+//! index, and [`names_row`] says whether its row exists.
 //!
 //! ```text
 //! // 06 08: a field of a 4-byte integer

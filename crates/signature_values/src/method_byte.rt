@@ -1,5 +1,5 @@
-//! The first byte of a method (II.23.2.1 to II.23.2.3): its calling convention, and a bit each for generic,
-//! has-this and explicit-this.
+//! The first byte of a method (II.23.2.1 to II.23.2.3): its calling convention, and one bit each for GENERIC,
+//! HASTHIS and EXPLICITTHIS.
 
 ghost use Rattle.std.specs.Prelude.{◌≡◌, ◌/◌, ◌%◌, ◌==◌};
 ghost use Rattle.signature_values.specs.Reading.{is_method_code, takes_sentinel};
@@ -7,19 +7,19 @@ ghost use Rattle.signature_values.specs.Reading.{is_method_code, takes_sentinel}
 /// The bits of the calling convention.
 pub const CALLING_CONVENTION: u8 = 0x0F;
 
-/// GENERIC: a number of generic parameters follows.
+/// GENERIC: the number of generic parameters follows.
 pub const GENERIC: u8 = 0x10;
 
 /// HASTHIS: the method is called on an instance.
 pub const HASTHIS: u8 = 0x20;
 
-/// EXPLICITTHIS: the instance is the first of its parameters.
+/// EXPLICITTHIS: the instance is the first parameter of the method.
 pub const EXPLICITTHIS: u8 = 0x40;
 
-/// The bit that no first byte has set.
+/// The bit that is clear in each first byte.
 const RESERVED: u8 = 0x80;
 
-/// The calling convention that a first byte tells.
+/// The calling convention in a first byte.
 #[tactic(auto, using(std::proofs::lemmas::Nat::and_mask))]
 pub fn calling_convention(code: u8) -> u8
     ensures { result ≡ code % 16 }
@@ -27,7 +27,7 @@ pub fn calling_convention(code: u8) -> u8
     code & CALLING_CONVENTION
 }
 
-/// Whether a first byte is that of a generic method.
+/// Whether a first byte has GENERIC set.
 #[tactic(auto, using(crate::proofs::Masks::masks))]
 pub fn is_generic(code: u8) -> bool
     ensures { result ≡ (code / 16 % 2 == 1) }
@@ -35,7 +35,7 @@ pub fn is_generic(code: u8) -> bool
     code & GENERIC != 0
 }
 
-/// Whether a first byte is that of a method that is called on an instance.
+/// Whether a first byte has HASTHIS set: the method is called on an instance.
 #[tactic(auto, using(crate::proofs::Masks::masks))]
 pub fn has_this(code: u8) -> bool
     ensures { result ≡ (code / 32 % 2 == 1) }
@@ -43,7 +43,7 @@ pub fn has_this(code: u8) -> bool
     code & HASTHIS != 0
 }
 
-/// Whether a first byte is that of a method whose first parameter is the instance.
+/// Whether a first byte has EXPLICITTHIS set: the first parameter is the instance.
 #[tactic(auto, using(crate::proofs::Masks::masks))]
 pub fn has_explicit_this(code: u8) -> bool
     ensures { result ≡ (code / 64 % 2 == 1) }
@@ -51,8 +51,8 @@ pub fn has_explicit_this(code: u8) -> bool
     code & EXPLICITTHIS != 0
 }
 
-/// Whether a byte begins a method: its calling convention is one that there is, and its highest bit is
-/// not set.
+/// Whether the byte can be the first byte of a method: its calling convention exists, and its highest bit
+/// is clear.
 #[tactic(auto, using(crate::proofs::Masks::masks))]
 pub fn begins_method(code: u8) -> bool
     ensures { result ≡ is_method_code code }
@@ -60,7 +60,7 @@ pub fn begins_method(code: u8) -> bool
     code & RESERVED == 0 && matches!(calling_convention(code), 0..=5 | 9)
 }
 
-/// Whether a method of that first byte may have a SENTINEL: C and vararg may.
+/// Whether a method with this first byte may have a SENTINEL: its calling convention is C or vararg.
 pub fn may_have_sentinel(code: u8) -> bool
     ensures { result ≡ takes_sentinel (code % 16) }
 {

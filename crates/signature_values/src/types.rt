@@ -1,52 +1,52 @@
 use crate::element::Element;
 use schema::Token;
 
-/// A custom modifier (II.23.2.7): a type that says how another one is used.
+/// A custom modifier (II.23.2.7): a type that qualifies the type after it.
 #[derive(Clone, Copy, Debug, PartialEq, Eq)]
 pub struct Modifier {
-    /// Whether it must be understood: CMOD_REQD, and else CMOD_OPT.
+    /// `true` for CMOD_REQD (required), `false` for CMOD_OPT (optional).
     pub required: bool,
-    /// The modifier: a row of TypeDef, TypeRef or TypeSpec.
+    /// The modifier's type: a row of TypeDef, TypeRef or TypeSpec.
     pub of: Token,
 }
 
-/// A type (II.23.2.12), with the modifiers before it.
+/// A type (II.23.2.12) with the custom modifiers before it.
 #[derive(Debug, Drop)]
 #[cycle(types)]
 pub struct TypeSig {
-    /// The modifiers, in their order.
+    /// The modifiers, in order.
     pub mods: Vec<Modifier>,
-    /// What they stand before.
+    /// The type that they qualify.
     pub core: Core,
 }
 
-/// A type without modifiers before it (II.23.2.12).
+/// A type without the modifiers before it (II.23.2.12).
 #[derive(Debug, Drop)]
 #[cycle(types)]
 pub enum Core {
-    /// A type that one byte spells.
+    /// A type that is encoded as one byte.
     Simple(Element),
-    /// PTR: an unmanaged pointer to a type behind modifiers, or to VOID, which `None` is.
+    /// PTR: an unmanaged pointer to a type with modifiers. `None` is VOID.
     Pointer(Vec<Modifier>, Option<Box<Core>>),
-    /// SZARRAY: an array of one dimension, whose lowest index is 0.
+    /// SZARRAY: an array of one dimension with lower bound 0.
     Vector(Box<TypeSig>),
-    /// ARRAY: an array of elements of a type, of a shape.
+    /// ARRAY: an array of an element type, with a shape.
     Array(Box<TypeSig>, Shape),
     /// CLASS: a row of TypeDef, TypeRef or TypeSpec.
     Class(Token),
     /// VALUETYPE: a row of TypeDef, TypeRef or TypeSpec.
     Value(Token),
-    /// VAR: the generic parameter of a type, counted from 0.
+    /// VAR: a generic parameter of a type, counted from 0.
     Var(u32),
-    /// MVAR: the generic parameter of a method, counted from 0.
+    /// MVAR: a generic parameter of a method, counted from 0.
     MVar(u32),
     /// GENERICINST: an instance of a generic type.
     Instance {
-        /// Whether it is a value type: VALUETYPE, and else CLASS.
+        /// `true` for VALUETYPE, `false` for CLASS.
         value: bool,
         /// The generic type: a row of TypeDef, TypeRef or TypeSpec.
         of: Token,
-        /// The type arguments, in their order.
+        /// The type arguments, in order.
         args: Vec<TypeSig>,
     },
     /// FNPTR: a pointer to a method.
@@ -56,33 +56,33 @@ pub enum Core {
 /// The shape of an array (II.23.2.13).
 #[derive(Debug, PartialEq, Eq, Drop)]
 pub struct Shape {
-    /// How many dimensions it has, at least one.
+    /// The number of dimensions, at least 1.
     pub rank: u32,
-    /// The sizes of the first dimensions, at most as many as there are dimensions.
+    /// The sizes of the first dimensions. There are at most `rank` of them.
     pub sizes: Vec<u32>,
-    /// The lowest indexes of the first dimensions, at most as many as there are dimensions.
+    /// The lower bounds of the first dimensions. There are at most `rank` of them.
     pub low: Vec<i32>,
 }
 
-/// A parameter, a field or a result (II.23.2.10, II.23.2.11), with the modifiers before it.
+/// A parameter, a field or a result (II.23.2.10, II.23.2.11), with its custom modifiers.
 #[derive(Debug, Drop)]
 #[cycle(types)]
 pub struct Slot {
-    /// The modifiers, in their order.
+    /// The modifiers, in order.
     pub mods: Vec<Modifier>,
-    /// What they stand before.
+    /// The kind and type of its value.
     pub kind: SlotKind,
 }
 
-/// What a parameter, a field, a local variable or a result holds (II.23.2.10).
+/// The kind and type of a parameter, a field, a local variable or a result (II.23.2.10).
 #[derive(Debug, Drop)]
 #[cycle(types)]
 pub enum SlotKind {
-    /// TYPEDBYREF: a reference together with its type.
+    /// TYPEDBYREF: a typed reference, which carries its type.
     TypedRef,
     /// A value of a type.
     Plain(Core),
-    /// BYREF: a managed reference to a type behind modifiers.
+    /// BYREF: a managed reference to a type with modifiers.
     ByRef(Vec<Modifier>, Core),
 }
 
@@ -92,7 +92,7 @@ pub enum SlotKind {
 pub enum Ret {
     /// A value.
     Slot(Slot),
-    /// VOID, with the modifiers before it: no value.
+    /// VOID with the modifiers before it: no value.
     Void(Vec<Modifier>),
 }
 
@@ -103,17 +103,17 @@ pub struct MethodSig {
     /// The calling convention: 0 default, 1 C, 2 stdcall, 3 thiscall, 4 fastcall, 5 vararg,
     /// 9 unmanaged.
     pub kind: u8,
-    /// HASTHIS: it is called on an instance.
+    /// HASTHIS: the method is called on an instance.
     pub this: bool,
-    /// EXPLICITTHIS: the instance is the first of its parameters.
+    /// EXPLICITTHIS: the instance is the first parameter of the method.
     pub explicit: bool,
-    /// How many generic parameters it has, where it is generic.
+    /// The number of generic parameters; `None` if the method is not generic.
     pub generic: Option<u32>,
     /// The result.
     pub ret: Ret,
-    /// The parameters, in their order.
+    /// The parameters, in order.
     pub params: Vec<Slot>,
-    /// How many parameters stand before SENTINEL, where one stands: fewer than there are. It marks
-    /// where the arguments begin that are the call's own, and only the kinds 1 and 5 have one.
+    /// The number of parameters before SENTINEL, if there is one. It is less than the number of parameters.
+    /// The parameters after SENTINEL are the call's variable arguments. Only the kinds 1 and 5 may have one.
     pub sentinel: Option<u32>,
 }

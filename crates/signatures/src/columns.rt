@@ -6,7 +6,7 @@ ghost use Rattle.signature_values.specs.Views.{body_of, method_of};
 use schema::SigKind;
 use signature_values::{MethodSig, SigBody};
 
-/// Whether a method has no SENTINEL of its own (II.23.2.1).
+/// Whether the method has no SENTINEL of its own (II.23.2.1).
 #[tactic(auto, using(signature_values::proofs::ViewLemmas::view_method))]
 fn has_no_sentinel(method: &MethodSig) -> bool
     ensures { IsTrue result ↔ HasOwnSentinel false (method_of method.now) }
@@ -14,7 +14,7 @@ fn has_no_sentinel(method: &MethodSig) -> bool
     method.sentinel.is_none()
 }
 
-/// Whether a column of a kind holds a signature (II.22).
+/// Whether a column of this kind can hold the signature (II.22).
 pub fn holds(kind: SigKind, body: &SigBody) -> bool
     ensures { IsTrue result ↔ Holds kind (body_of body.now) }
 {

@@ -6,8 +6,8 @@ ghost use Rattle.signature_values.specs.Spells.{Holds, Spells, IsSpellable, shor
 use crate::signature::Signature;
 use signature_values::{shortest_spells, signatures_are_read};
 
-/// What [`encode`](crate::encode) writes is decoded as the signature that it was written of: in each
-/// kind of column that holds the signature, the shortest spelling spells it and no other.
+/// The bytes that [`encode`](crate::encode) writes decode to the same signature. In each kind of column that
+/// holds the signature, its canonical encoding encodes it and no other.
 pub fn encoded_is_decoded()
     ensures spelled { (kind : SigKind) (signature : Body) → Holds kind signature → IsSpellable signature
         → Spells kind signature (short signature) }
@@ -18,7 +18,7 @@ pub fn encoded_is_decoded()
     signatures_are_read();
 }
 
-/// `==` tells of all signatures whether they are equal: whether they say the same.
+/// `==` is true of two signatures if and only if they are equal: if their content is the same.
 pub fn equality_is_tested()
     ensures { (first second : Body) → IsTrue (⟦<Signature as PartialEq>⟧.eq first second) ↔ (first ≡ second) }
 {

@@ -1,11 +1,11 @@
-//! Signatures (ECMA-335 II.23.2): values that some bytes spell, read from bytes and written to them.
+//! Signatures (ECMA-335 II.23.2): values that have an encoding. They are decoded from bytes and encoded to bytes.
 //!
-//! A [`Signature`] holds a [`SigBody`] that has a spelling, and nothing else makes one: [`Signature::new`]
-//! tests a body, and [`decode`] builds it from the bytes of a blob. [`encode`] writes its shortest
-//! spelling, which fails for want of memory alone; what it writes is decoded as the same signature.
-//! [`shortest_spelling`] goes from bytes to the shortest bytes that spell the same.
-//! [`recognise`] and [`index_of_first_bad`] go over bytes without memory. A clause sees a signature as
-//! what it says, so `==` compares that, and not where it lies in memory.
+//! A [`Signature`] holds a [`SigBody`] that has an encoding. There are two ways to make one: [`Signature::new`]
+//! tests a body, and [`decode`] builds it from the bytes of a blob. [`encode`] writes its canonical encoding
+//! and fails only if it is out of memory. What it writes decodes to the same signature.
+//! [`shortest_spelling`] converts bytes to the shortest bytes that encode the same signature.
+//! [`recognise`] and [`index_of_first_bad`] read bytes without allocation. Contracts see only the content of
+//! a signature. So `==` compares content, not addresses.
 //!
 //! ```text
 //! let field = decode(alloc, &[0x06, 0x08], SigKind::Field)?; // a field of a 4-byte integer

@@ -16,9 +16,9 @@ use signature_values::{SigBody, spelled_is_spellable};
 use std::alloc::{AllocError, Global};
 use std::marker::Model;
 
-/// A signature that has a spelling (II.23.2).
+/// A signature that has an encoding (II.23.2).
 ///
-/// Equal signatures say the same, wherever they lie in memory.
+/// Two signatures are equal if their content is equal, whatever their addresses are.
 #[derive(Debug, Drop)]
 pub struct Signature {
     body: SigBody,
@@ -55,12 +55,12 @@ impl Eq for Signature {
 }
 
 impl Signature {
-    /// The signature of a body (II.23.2). It takes no memory, and goes as deep as types nest, up to 128.
+    /// Makes a signature from a body (II.23.2). It does not allocate. It recurses as deep as types nest, up to 128.
     ///
     /// # Errors
     ///
-    /// The body is handed back where no bytes spell it: it breaks the grammar, its types nest deeper than 128, it
-    /// has a number or a row that is too great, or its shortest spelling has 2^29 bytes or more.
+    /// Returns the body if no bytes encode it. Either it breaks the grammar, or its types nest deeper than 128. Or a
+    /// number or a row in it is too large, or its canonical encoding has 2^29 bytes or more.
     pub fn new(body: SigBody) -> Result<Signature, SigBody>
         ensures spellable { IsOk result ↔ IsSpellable (body_of body) }
         ensures same { MatchResult result (λ signature. signature ≡ body_of body) (λ refused. body_of refused ≡ body_of body) }
@@ -71,7 +71,7 @@ impl Signature {
         Ok(Signature { body })
     }
 
-    /// What the signature says.
+    /// The content of the signature.
     pub fn body(&self) -> &SigBody
         ensures body { body_of result.now ≡ self.now }
         ensures spellable { IsSpellable self.now }
@@ -79,11 +79,11 @@ impl Signature {
         &self.body
     }
 
-    /// A copy that says the same.
+    /// Copies the signature. The copy has the same content.
     ///
     /// # Errors
     ///
-    /// Want of memory alone.
+    /// Fails only if it is out of memory.
     pub fn copy(&self, alloc: Global) -> Result<Signature, AllocError>
         ensures { IfOk result (λ copy. copy ≡ self.now) }
     {
@@ -91,18 +91,18 @@ impl Signature {
         Ok(Signature { body })
     }
 
-    /// The first type index, in the order of the spelling, that names no row of its table (II.23.2.8);
-    /// `None` where each names one.
+    /// The first type index, in encoded order, whose row does not exist in its table (II.23.2.8); `None` if
+    /// each row exists.
     ///
-    /// `counts` has the number of rows of each table under the table's number; row 0 is never there.
-    /// It takes no memory.
+    /// `counts` gives the number of rows of each table by table number. Row 0 never exists.
+    /// It does not allocate.
     pub fn first_bad(&self, counts: &[u32; 45]) -> Option<Token>
         ensures { result ≡ first_bad_of counts.now (tokens self.now) }
     {
         first_bad(&self.body, counts)
     }
 
-    /// Whether a column of a kind holds the signature: then its spelling is decoded there (II.22).
+    /// Whether a column of this kind can hold the signature. If so, its encoding can be decoded there (II.22).
     pub fn is_held_by(&self, kind: SigKind) -> bool
         ensures held { IsTrue result ↔ Holds kind self.now }
         ensures spellable { IsSpellable self.now }
@@ -111,31 +111,31 @@ impl Signature {
     }
 }
 
-/// The shortest spelling of a signature (II.23.2).
+/// The canonical encoding of a signature (II.23.2).
 ///
 /// # Errors
 ///
-/// Want of memory alone.
+/// Fails only if it is out of memory.
 pub fn encode(alloc: Global, signature: &Signature) -> Result<Vec<u8>, AllocError>
     ensures { IfOk result (λ bytes. bytes.items ≡ short signature.now) }
 {
     encode_body(alloc, &signature.body)
 }
 
-/// The signature that bytes, all of them, spell in a column of a kind (II.23.2).
+/// Decodes the signature that all the bytes together encode, in a column of this kind (II.23.2).
 ///
-/// Numbers and indexes may stand in longer forms than they need. A type index may name a row that is not there.
+/// Numbers and indexes may be longer than necessary. The row of a type index need not exist.
 ///
 /// # Errors
 ///
-/// `Bad` exactly where the bytes spell nothing, even where no memory can be had; `Memory` only where they spell
-/// a signature and memory for its value was refused.
+/// `Bad` if and only if the bytes encode nothing, even when memory is exhausted. `Memory` only if they encode
+/// a signature and its value could not be allocated.
 pub fn decode(alloc: Global, bytes: &[u8], kind: SigKind) -> Result<Signature, SigError>
-    // What is built is what the bytes spell.
+    // The bytes encode the signature that is built.
     ensures found { IfOk result (λ signature. Spells kind signature bytes.now) }
-    // They spell nothing else.
+    // They encode nothing else.
     ensures only { (signature : Body) → Spells kind signature bytes.now → IfOk result (λ found. found ≡ signature) }
-    // Exactly where they spell nothing they are bad.
+    // The result is `Bad` if and only if they encode nothing.
     ensures bad { IsErrOf result Bad ↔ ¬ ((signature : Body) × Spells kind signature bytes.now) }
 {
     spelled_is_spellable();
@@ -143,16 +143,16 @@ pub fn decode(alloc: Global, bytes: &[u8], kind: SigKind) -> Result<Signature, S
     Ok(Signature { body })
 }
 
-/// The shortest spelling of the signature that bytes, all of them, spell in a column of a kind (II.23.2).
+/// The canonical encoding of the signature that all the bytes together encode, in a column of this kind (II.23.2).
 ///
 /// # Errors
 ///
-/// `Bad` as [`decode`] has it; `Memory` only where the bytes spell a signature and memory for its value or for the
-/// spelling was refused.
+/// `Bad` as for [`decode`]. `Memory` only if the bytes encode a signature, and its value or its encoding could not
+/// be allocated.
 pub fn shortest_spelling(alloc: Global, bytes: &[u8], kind: SigKind) -> Result<Vec<u8>, SigError>
     ensures shortest { (signature : Body) → Spells kind signature bytes.now → IfOk result (λ spelling. spelling.items ≡ short signature) }
     ensures limit { IfOk result (λ spelling. length spelling.items < 2 ^ 29) }
-    // Exactly where they spell nothing they are bad.
+    // The result is `Bad` if and only if they encode nothing.
     ensures bad { IsErrOf result Bad ↔ ¬ ((signature : Body) × Spells kind signature bytes.now) }
 {
     spelled_is_spellable();

@@ -1,4 +1,4 @@
--- What cells say tells them apart.
+-- The content of cells determines them.
 use Rattle.std.proofs.Common.{◌≡◌, ℕ, List, [], ◌∷◌, map, refl, ap, sym, ◌∙◌}
 use Rattle.std.specs.Bool.{Decides}
 use Rattle.std.specs.Cmp.Lexicographic.{pointwise, pointwise_decides}
@@ -26,11 +26,11 @@ all_saying : (cells : List Cell) → map saying (all_said cells) ≡ cells
 all_saying [] = refl
 all_saying (cell ∷ cells) = rw (saying_said cell, all_saying cells) refl
 
--- cells that say the same are the same
+-- cells with the same content are equal
 pub said_once : (cells others : List Cell) → all_said cells ≡ all_said others → cells ≡ others
 said_once cells others same = sym (all_saying cells) ∙ ap (map saying) same ∙ all_saying others
 
--- rows are equal where their cells are
+-- rows are equal if their cells are
 pub same_rows : (cells others : List Cell) → pointwise is_same_cell (all_said cells) (all_said others) ≡ pointwise eq-value.it cells others
 same_rows [] [] = refl
 same_rows [] (other ∷ others) = refl

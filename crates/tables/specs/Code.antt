@@ -1,5 +1,5 @@
--- How the logic stores what a row, tables or a model say. There is nothing to believe here: a code is any map that sends no two
--- values to one, which is proved below, and no clause says more of it.
+-- How the logic stores the content of a row, of tables or of a model. There is nothing to believe here.
+-- Any map serves that maps different values to different codes. This is proved below, and no clause uses more.
 use Rattle.std.specs.Prelude.{◌≡◌, ℕ, List, refl}
 use Rattle.std.specs.Coded.{Coded, code_by, coded×, coded_ℕ, coded_list}
 use Rattle.metadata.specs.Cell.{Cell}
@@ -10,7 +10,7 @@ use Rattle.cells.specs.declared.cell.Cell.{Cell as Owned}
 use Rattle.cells.specs.declared.cell.Cell.TheVariants.{Number, Text, Bytes, Guid, Ref, Start, Sig}
 use Rattle.cells.specs.Said.{said}
 
--- the cell that says it
+-- the cell with this content
 abbrev pub saying : Cell → Owned
 saying (says.Number number) = Number number
 saying (says.Text text) = Text text

@@ -1,4 +1,4 @@
--- Whether rows say the same.
+-- Whether rows have the same content.
 use Rattle.std.specs.Prelude.{Bool}
 use Rattle.std.specs.Ordering.{on}
 use Rattle.std.specs.Cmp.{IsEquivalence}
@@ -9,7 +9,7 @@ use Rattle.cells.specs.contracts.cell.CellEq.TheImpl.Laws.{laws-law}
 use Rattle.metadata.specs.Cell.{Cell}
 use Rattle.tables.specs.Code.{saying}
 
--- whether cells that say the one and the other are equal
+-- whether cells with these contents are equal
 abbrev pub is_same_cell : Cell → Cell → Bool
 is_same_cell = on saying eq-value.it
 

@@ -7,14 +7,14 @@ ghost use Rattle.tables.specs.Push.{with_row};
 use crate::tables::Tables;
 use schema::tables_stand;
 
-/// `==` tells of all tables whether they are equal: whether their versions, user bytes and cells are.
+/// `==` is true of two tables if and only if their versions, user bytes and cells are equal.
 pub fn equality_is_tested()
     ensures { (first second : Metadata) → IsTrue (⟦<Tables as PartialEq>⟧.eq first second) ↔ (first ≡ second) }
 {
     cells::equality_is_tested();
 }
 
-/// A row that is added stands behind those of its table, and no other table changes.
+/// A row that is added follows the other rows of its table, and no other table changes.
 pub fn rows_are_added()
     ensures table { (model : Metadata) (table : Table) (row : List Cell) → length model.tables ≡ 38
         → rows_of (with_row model table row) table ≡ rows_of model table ++ row ∷ [] }

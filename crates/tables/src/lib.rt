@@ -1,9 +1,9 @@
-//! The tables of a model, as a client fills them: a version, user bytes, and rows of cells (ECMA-335
+//! The tables of a model, while the caller fills them: a version, user bytes, and rows of cells (ECMA-335
 //! II.22 and II.24.2).
 //!
-//! [`Tables`] own what they hold, and take any cells in any order: whether a model can be made of them
-//! is asked elsewhere. A clause sees tables as what they say, without where it lies in memory, so `==`
-//! compares that: versions, user bytes and cells.
+//! [`Tables`] own their content, and take any cells in any order. Other crates check whether they are a
+//! valid model. Contracts see only the content of tables, not its address. So `==` compares the versions,
+//! user bytes and cells.
 //!
 //! ```text
 //! let mut tables = Tables::new(alloc, "v4.0.30319")?;

@@ -8,7 +8,7 @@ use cells::Cell;
 use std::alloc::{AllocError, Global};
 use std::marker::Model;
 
-/// The cells of a row (II.22), which a clause sees as the list of what they say.
+/// The cells of a row (II.22). Contracts see it as the list of their content.
 #[derive(Debug, Drop)]
 pub struct Row {
     inner: Vec<Cell>,
@@ -51,14 +51,14 @@ impl From<Vec<Cell>> for Row {
 }
 
 impl Row {
-    /// The cells, where they lie.
+    /// Borrows the cells.
     pub fn as_slice(&self) -> &[Cell]
         ensures { all_said result.now ≡ self.now }
     {
         self.inner.as_slice()
     }
 
-    /// The vector that the row was made of; it takes no memory.
+    /// Returns the vector of the cells. It does not allocate.
     pub fn into_vec(self) -> Vec<Cell>
         ensures { all_said result.items ≡ self }
     {
@@ -67,7 +67,7 @@ impl Row {
     }
 }
 
-/// The rows of a table, which a clause sees as the list of their lists.
+/// The rows of a table. Contracts see it as the list of its rows.
 #[derive(Debug, Drop)]
 pub struct Rows {
     inner: Vec<Row>,
@@ -100,7 +100,7 @@ impl Eq for Rows {
 }
 
 impl Rows {
-    /// A table without rows; it takes no memory.
+    /// A table without rows. It does not allocate.
     pub fn new(alloc: Global) -> Rows
         ensures { result ≡ [] }
     {
@@ -109,14 +109,14 @@ impl Rows {
         }
     }
 
-    /// The rows, where they lie.
+    /// Borrows the rows.
     pub fn as_slice(&self) -> &[Row]
         ensures { result.now ≡ self.now }
     {
         self.inner.as_slice()
     }
 
-    /// Adds a row at the end, or hands it back where memory is refused.
+    /// Adds a row at the end. If it is out of memory, it returns the row.
     pub fn push(&mut self, row: Row) -> Result<(), Row>
         ensures ok { OnOk result (self.new ≡ self.old ++ row ∷ []) }
         ensures err { OnErr result (self.new ≡ self.old) }
@@ -125,7 +125,7 @@ impl Rows {
         self.inner.push(row).map_err(|refused| refused.value)
     }
 
-    /// Takes memory for some more rows at once.
+    /// Reserves memory for `more` rows at once.
     pub fn reserve(&mut self, more: usize) -> Result<(), AllocError>
         ensures { self.new ≡ self.old }
     {

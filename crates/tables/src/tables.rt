@@ -11,14 +11,14 @@ use std::alloc::{AllocError, Global};
 use std::array;
 use std::marker::Model;
 
-/// A version, user bytes, and the rows of 38 tables (II.22), of which anything may be wrong.
+/// A version, user bytes, and the rows of 38 tables (II.22). They need not be valid.
 ///
-/// A clause sees tables as what they say, wherever they lie in memory, and so does `==`.
+/// Contracts and `==` see only their content, not its address.
 #[derive(Debug, PartialEq, Eq, Drop)]
 pub struct Tables {
     version: Text,
     user: Bytes,
-    // In the order of the tables' numbers.
+    // In the order of table numbers.
     tables: [Rows; 38],
 }
 
@@ -39,11 +39,11 @@ impl Model for Tables {
 }
 
 impl Tables {
-    /// Tables of a version, without user bytes and without rows.
+    /// Tables with this version, without user bytes and without rows.
     ///
     /// # Errors
     ///
-    /// Want of memory for the version alone.
+    /// Fails only if it is out of memory for the version.
     pub fn new(alloc: Global, version: &str) -> Result<Tables, AllocError>
         ensures version { IfOk result (λ t. t.version ≡ version.now) }
         ensures user { IfOk result (λ t. t.user ≡ []) }
@@ -62,7 +62,7 @@ impl Tables {
     ///
     /// # Errors
     ///
-    /// The row is handed back where memory is refused, and the tables stay as they were.
+    /// If it is out of memory, it returns the row, and the tables are unchanged.
     #[tactic(auto, using(crate::proofs::SaidLemmas::said_once))]
     pub fn push(&mut self, table: TableId, row: Vec<Cell>) -> Result<(), Vec<Cell>>
         ensures ok { OnOk result (self.new ≡ with_row self.old table (all_said row.items)) }
@@ -73,12 +73,12 @@ impl Tables {
         rows.push(Row::from(row)).map_err(|row| row.into_vec())
     }
 
-    /// Takes memory for some more rows of a table at once, so that so many can be added to it without
-    /// moving those that are there.
+    /// Reserves memory for `more` rows of a table at once. They can then be added to it without
+    /// moving the rows before them.
     ///
     /// # Errors
     ///
-    /// Want of memory alone; the tables stay as they were.
+    /// Fails only if it is out of memory. Then the tables are unchanged.
     pub fn reserve(&mut self, table: TableId, more: usize) -> Result<(), AllocError>
         ensures { self.new ≡ self.old }
     {
@@ -86,7 +86,7 @@ impl Tables {
         rows.reserve(more)
     }
 
-    /// Puts user bytes in place of those that there were.
+    /// Replaces the user bytes.
     pub fn set_user(&mut self, user: Vec<u8>)
         ensures { self.new ≡ record self.old { user = user.items } }
     {
@@ -116,14 +116,14 @@ impl Tables {
         self.tables[table.position()].as_slice()
     }
 
-    /// How many rows a table has.
+    /// The number of rows of a table.
     pub fn count(&self, table: TableId) -> usize
         ensures { result ≡ count_in self.now table }
     {
         self.rows(table).len()
     }
 
-    /// The cells of a row, counted from 1.
+    /// The cells of a row. Rows count from 1.
     pub fn cells(&self, table: TableId, row: usize) -> &[Cell]
         requires first { 1 ≤ row }
         requires last { row ≤ count_in self.now table }

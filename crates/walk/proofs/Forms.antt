@@ -1,4 +1,4 @@
--- What a sink makes of each form of a value, by what it makes of its parts.
+-- The effect of each form of a value on a sink, from the effect of its parts.
 use Rattle.std.proofs.Common.{◌≡◌, ◌∙◌, ℕ, Bool, Some, None, Result, Ok, Err, Vec, Global, List, [], ◌∷◌, ◌++◌, length, map, ap, sym, refl}
 use Rattle.std.specs.declared.boxed.Box.{Box}
 use Rattle.schema.specs.declared.token.Token.{Token}
@@ -23,7 +23,7 @@ use Rattle.walk.proofs.Loops.{slots_count}
 use Rattle.signature_values.proofs.ViewLemmas.{view_simple, view_void_pointer, view_pointer, view_vector, view_array, view_class, view_value, view_var, view_mvar, view_instance, view_function, view_type, view_typed_ref, view_plain, view_by_ref, view_slot, view_some_ret, view_void_ret, view_method}
 
 module _ {S : Type 0} (step : Item → S → Result S S) where
-  -- both lists, behind what may have stopped
+  -- both lists, after a step that may have stopped
   pub then_both : (ps qs : List Item) (o : Result S S) → then (run step (ps ++ qs)) o ≡ then (run step qs) (then (run step ps) o)
   then_both ps qs (Ok s) = run_both step ps qs s
   then_both ps qs (Err s) = refl
@@ -110,7 +110,7 @@ module _ {S : Type 0} (step : Item → S → Result S S) where
     run_void_ret mods = ap (λ (r : sig.Ret). run step (ret_items r d) s) (view_void_ret mods) ∙ run_both step (parts_items (modifiers_parts mods.items)) (leaf_items VOID d) s
 
 module _ {S : Type 0} (step : Item → S → Result S S) (d : ℕ) (s : S) (m : MethodSig) where
-  -- what is told of a method, of the first byte and the number of parameters that are told
+  -- the items of a method, with its first byte and its number of parameters
   pub method_told : (first last : List Slot) (holds : Bool) (code count : ℕ)
       → first ≡ (out-MethodSig m).params.items
       → holds ≡ is_call (out-MethodSig m).kind (count_slots (slots_from (map slot_of first))) (out-MethodSig m).sentinel

@@ -1,4 +1,4 @@
--- One value of a list, and those behind it, as loops meet them.
+-- One value of a list, and the values after it, as loops read them.
 use Rattle.std.proofs.Common.{◌≡◌, ◌∙◌, ℕ, zero, suc, ◌+◌, ◌-◌, ◌<◌, ◌≤◌, Bool, Option, Some, None, Result, Ok, Err, List, [], ◌∷◌, ◌++◌, length, get_or, drop, map, refl, sym, ap, arith, add-one, drop-cons, ⊎_elim}
 use Rattle.signature_values.specs.Parts.{Part}
 use Rattle.std.proofs.lemmas.Bool.{eq-eqb, ne_eqb, lt-ltb, le-ltb, cases_order}
@@ -12,14 +12,14 @@ use Rattle.walk.specs.Run.{after, then, run}
 use Rattle.walk.specs.Items.{Item, parts_items, typed_items, types_items, slots_items, param_items, stands_at, behind, local_items, locals_items}
 use Rattle.walk.proofs.Steps.{run_both, items_both, run_none}
 
--- behind the last of a list there is nothing
+-- nothing follows the last value of a list
 pub drop_end : {A : Type 0} (xs : List A) (i : ℕ) → length xs ≤ i → drop i xs ≡ []
 drop_end [] zero le = refl
 drop_end [] (suc i) le = refl
 drop_end (y ∷ xs) zero le = absurd (omega arith)
 drop_end (y ∷ xs) (suc i) le = drop_end xs i (omega arith)
 
--- the value there, and those behind it
+-- the value at the index, and the values after it
 pub drop_next : {A : Type 0} (xs : List A) (i : ℕ) (x : A) → i < length xs → x ≡ get_or xs i x → drop i xs ≡ x ∷ drop (i + 1) xs
 drop_next {A} xs i x lt e = rw add-one (drop-cons xs i x lt ∙ ap (λ (y : A). y ∷ drop (suc i) xs) (sym e))
 
@@ -37,7 +37,7 @@ list_end step parts xs i sink le = rw (drop_end xs i le) (run_none step sink)
 
 pub ruleset list_steps = (list_next, list_end)
 
--- ---- a step of a loop: it goes on, or it stops
+-- ---- a step of a loop: it continues, or it stops
 
 pub goes_by : {S : Type 0} (more : S → Result S S) (first : Result S S) (new : S) (here all : Result S S)
     → Ok new ≡ first → here ≡ then more first → here ≡ all → more new ≡ all

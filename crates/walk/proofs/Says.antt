@@ -1,4 +1,4 @@
--- The items of a value say two things: its parts, and whether the grammar and the depth allow it.
+-- The items of a value give its parts, and whether the grammar and the depth allow it.
 use Rattle.std.proofs.Common.{◌≡◌, ◌∙◌, ℕ, zero, suc, ◌-◌, ◌<◌, ◌≤◌, inl, inr, ⊎_elim, Bool, true, false, eqb, ltb, Option, Some, None, List, [], ◌∷◌, ◌++◌, length, refl, ap, sym, arith, lit<}
 use Rattle.std.specs.Prelude.{⊤, IfSome, ◌||◌, ◌&&◌}
 use Rattle.std.specs.List.{AllByRecursion}

@@ -1,4 +1,4 @@
--- One thing after another.
+-- One item after another.
 use Rattle.std.proofs.Common.{◌≡◌, ◌∙◌, Bool, true, false, Option, None, refl, ap, sym, Result, Ok, Err, List, [], ◌∷◌, ◌++◌}
 use Rattle.signature_values.specs.Parts.{Part}
 use Rattle.walk.specs.Run.{after, then, run}
@@ -31,7 +31,7 @@ module _ {A P : Type 0} (step : P → A → Result A A) where
   run_both [] qs s = refl
   run_both (p ∷ ps) qs s = behind ps qs (λ x. run_both ps qs x) (step p s)
 
-  -- ---- behind the first of what follows: it goes on, or it stops
+  -- ---- after the first item: the sink continues, or it stops
 
   pub on_both : (ps qs : List P) (s new : A) (all : Result A A) → Ok new ≡ run step ps s → run step (ps ++ qs) s ≡ all → run step qs new ≡ all
   on_both ps qs s new all e so = ap (then (run step qs)) e ∙ sym (run_both ps qs s) ∙ so
@@ -47,7 +47,7 @@ module _ {A P : Type 0} (step : P → A → Result A A) where
     off_one p qs s new all none e so = rw none (ap (then (run step qs)) e ∙ sym (run_one p qs s) ∙ so)
 
 module _ {A : Type 0} (step : Item → A → Result A A) where
-  -- nothing is told where it is as it must be
+  -- nothing is reported if the condition holds
   pub as_it_must : (holds : Bool) (s : A) → holds ≡ true → Ok s ≡ run step (demand holds) s
   unfolding run demand
   as_it_must true s e = refl

@@ -11,7 +11,7 @@ use crate::types::{
 use signature_values::method_byte::HASTHIS;
 use signature_values::{Local, SigBody};
 
-/// A local variable (II.23.2.6).
+/// Visits a local variable (II.23.2.6).
 #[tactic(auto, using(crate::proofs::Steps::steps))]
 fn visit_local<S: PartSink>(sink: &mut S, local: &Local, depth: u8) -> Option<()>
     ensures { after result sink.new ≡ run S.step (local_items (local_of local.now) depth) sink.old }
@@ -20,7 +20,7 @@ fn visit_local<S: PartSink>(sink: &mut S, local: &Local, depth: u8) -> Option<()
     visit_content(sink, &local.kind, depth)
 }
 
-/// Local variables, one after another.
+/// Visits local variables, one after another.
 #[tactic(auto, using(crate::proofs::Steps::steps, crate::proofs::Loops::locals_end))]
 fn visit_locals<S: PartSink>(sink: &mut S, locals: &[Local], depth: u8) -> Option<()>
     ensures { after result sink.new ≡ run S.step (locals_items (map local_of locals.now) depth) sink.old }
@@ -31,10 +31,10 @@ fn visit_locals<S: PartSink>(sink: &mut S, locals: &[Local], depth: u8) -> Optio
     Some(())
 }
 
-/// Hands a signature to a sink, part by part in the order of the spelling (II.23.2), until it stops.
+/// Passes the parts of a signature to a sink, in encoded order (II.23.2), until the sink stops.
 ///
-/// Where types nest deeper than so much, and where the grammar is broken, it tells so, and goes on unless
-/// the sink stops there.
+/// If types nest deeper than `depth`, or the value breaks the grammar, it reports this to the sink. It
+/// continues unless the sink stops.
 #[tactic(auto, using(crate::proofs::Steps::steps, crate::proofs::Loops::counts))]
 pub fn visit_body<S: PartSink>(sink: &mut S, body: &SigBody, depth: u8) -> Option<()>
     ensures { after result sink.new ≡ run S.step (body_items (body_of body.now) depth) sink.old }

@@ -8,7 +8,7 @@ use crate::sink::PartSink;
 use signature_values::element_type::{CMOD_OPT, CMOD_REQD, PINNED};
 use signature_values::{Modifier, Prefix, Shape};
 
-/// Tells where something is not as it must be.
+/// Reports to the sink that the value is broken, if the condition does not hold.
 pub fn visit_demand<S: PartSink>(sink: &mut S, holds: bool) -> Option<()>
     ensures { after result sink.new ≡ run S.step (demand holds) sink.old }
 {
@@ -18,7 +18,7 @@ pub fn visit_demand<S: PartSink>(sink: &mut S, holds: bool) -> Option<()>
     sink.broken()
 }
 
-/// A modifier (II.23.2.7).
+/// Visits a modifier (II.23.2.7).
 #[tactic(auto, using(crate::proofs::Steps::steps))]
 fn visit_modifier<S: PartSink>(sink: &mut S, modifier: &Modifier) -> Option<()>
     ensures { after result sink.new ≡ run S.step (parts_items (modifier_parts modifier.now)) sink.old }
@@ -31,7 +31,7 @@ fn visit_modifier<S: PartSink>(sink: &mut S, modifier: &Modifier) -> Option<()>
     sink.index(modifier.of)
 }
 
-/// Modifiers, one after another.
+/// Visits modifiers, one after another.
 #[tactic(auto, using(crate::proofs::Steps::steps, crate::proofs::Loops::list_steps))]
 pub fn visit_modifiers<S: PartSink>(sink: &mut S, modifiers: &[Modifier]) -> Option<()>
     ensures { after result sink.new ≡ run S.step (parts_items (modifiers_parts modifiers.now)) sink.old }
@@ -42,7 +42,7 @@ pub fn visit_modifiers<S: PartSink>(sink: &mut S, modifiers: &[Modifier]) -> Opt
     Some(())
 }
 
-/// What may stand before the type of a local variable (II.23.2.6).
+/// Visits a modifier or PINNED before the type of a local variable (II.23.2.6).
 #[tactic(auto, using(crate::proofs::Steps::steps))]
 fn visit_prefix<S: PartSink>(sink: &mut S, prefix: &Prefix) -> Option<()>
     ensures { after result sink.new ≡ run S.step (parts_items (prefix_parts prefix.now)) sink.old }
@@ -53,7 +53,7 @@ fn visit_prefix<S: PartSink>(sink: &mut S, prefix: &Prefix) -> Option<()>
     }
 }
 
-/// All that stands before the type of a local variable.
+/// Visits all modifiers and PINNED before the type of a local variable.
 #[tactic(auto, using(crate::proofs::Steps::steps, crate::proofs::Loops::list_steps))]
 pub fn visit_prefixes<S: PartSink>(sink: &mut S, prefixes: &[Prefix]) -> Option<()>
     ensures { after result sink.new ≡ run S.step (parts_items (prefixes_parts prefixes.now)) sink.old }
@@ -64,7 +64,7 @@ pub fn visit_prefixes<S: PartSink>(sink: &mut S, prefixes: &[Prefix]) -> Option<
     Some(())
 }
 
-/// The sizes of dimensions.
+/// Visits the sizes of dimensions.
 #[tactic(auto, using(crate::proofs::Steps::steps, crate::proofs::Loops::list_steps))]
 fn visit_sizes<S: PartSink>(sink: &mut S, sizes: &[u32]) -> Option<()>
     ensures { after result sink.new ≡ run S.step (parts_items (numbers_parts sizes.now)) sink.old }
@@ -75,7 +75,7 @@ fn visit_sizes<S: PartSink>(sink: &mut S, sizes: &[u32]) -> Option<()>
     Some(())
 }
 
-/// The low bounds of dimensions.
+/// Visits the lower bounds of dimensions.
 #[tactic(auto, using(crate::proofs::Steps::steps, crate::proofs::Loops::list_steps))]
 fn visit_bounds<S: PartSink>(sink: &mut S, low: &[i32]) -> Option<()>
     ensures { after result sink.new ≡ run S.step (parts_items (bounds_parts low.now)) sink.old }
@@ -86,7 +86,7 @@ fn visit_bounds<S: PartSink>(sink: &mut S, low: &[i32]) -> Option<()>
     Some(())
 }
 
-/// Whether an array may have the shape (II.23.2.13).
+/// Whether an array may have this shape (II.23.2.13).
 fn can_be(shape: &Shape) -> bool
     ensures { result ≡ is_shape (shape_of shape.now) }
 {
@@ -95,7 +95,7 @@ fn can_be(shape: &Shape) -> bool
         && shape.low.len() <= shape.rank as usize
 }
 
-/// The shape of an array (II.23.2.13).
+/// Visits the shape of an array (II.23.2.13).
 #[tactic(auto, using(crate::proofs::Steps::steps, crate::proofs::Steps::items_both))]
 pub fn visit_shape<S: PartSink>(sink: &mut S, shape: &Shape) -> Option<()>
     ensures { after result sink.new ≡ run S.step (shape_items (shape_of shape.now)) sink.old }

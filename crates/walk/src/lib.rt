@@ -1,9 +1,9 @@
-//! One descent of a signature's value (ECMA-335 II.23.2), which hands its parts to a sink.
+//! Traverses a signature's value (ECMA-335 II.23.2) and passes its parts to a sink.
 //!
-//! [`visit_body`] tells a [`PartSink`] the parts of the grammar of `signature_values`, in the order of
-//! their spelling: bytes, packed numbers, packed signed numbers and type indexes. It also tells where the
-//! value breaks the grammar, or nests deeper than it may. What is made of a part is the sink's matter: to
-//! measure the spelling, to write it, or to look up the rows of its indexes.
+//! [`visit_body`] passes the parts of the grammar of `signature_values` to a [`PartSink`], in encoded order:
+//! bytes, packed numbers, packed signed numbers and type indexes. It also reports each part of the value that
+//! breaks the grammar, or nests deeper than is allowed. The sink decides what to do with a part: it measures
+//! the encoding, writes it, or looks up the rows of type indexes.
 //!
 //! ```text
 //! // a field of a 4-byte integer

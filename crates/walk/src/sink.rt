@@ -5,15 +5,15 @@ ghost use Rattle.walk.specs.Items.{Item, part, broken};
 
 use schema::Token;
 
-/// What takes the parts of a signature, one after another, until it stops.
+/// Takes the parts of a signature, one after another, until it stops.
 ///
-/// Each call answers `None` where it stops; the sink itself keeps why.
+/// Each call returns `None` if the sink stops. The sink itself keeps the reason.
 pub trait PartSink {
-    /// The sink behind a part, or as it stopped there.
+    /// The sink after a part, or its state when it stopped there.
     ghost step: { Item → Self → Result Self Self };
 
-    /// A byte as it stands. Of a method of a kind that the grammar does not know it may be greater than a
-    /// byte.
+    /// A byte. If the grammar does not know the calling convention of a method, its first byte may exceed
+    /// one byte.
     fn byte(&mut self, code: u16) -> Option<()>
         ensures { after result self.new ≡ step (part (byte code)) self.old };
 
@@ -29,7 +29,7 @@ pub trait PartSink {
     fn index(&mut self, token: Token) -> Option<()>
         ensures { after result self.new ≡ step (part (index token)) self.old };
 
-    /// Here the value breaks the grammar, or is too deep.
+    /// The value breaks the grammar here, or nests too deep.
     fn broken(&mut self) -> Option<()>
         ensures { after result self.new ≡ step broken self.old };
 }

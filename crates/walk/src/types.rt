@@ -13,14 +13,14 @@ use signature_values::element_type::{
 use signature_values::method_byte::{EXPLICITTHIS, GENERIC, HASTHIS};
 use signature_values::{Core, MethodSig, Ret, Slot, SlotKind, TypeSig};
 
-/// The byte that says whether a generic type is a value type.
+/// The byte that says whether a generic type is a value type or a class.
 fn named_byte(value: bool) -> u16
     ensures { result ≡ named_code value }
 {
     u16::from(if value { VALUETYPE } else { CLASS })
 }
 
-/// VOID or TYPEDBYREF, types of depth 1.
+/// Visits VOID or TYPEDBYREF, which are types of depth 1.
 #[tactic(auto, using(crate::proofs::Steps::steps))]
 fn visit_leaf<S: PartSink>(sink: &mut S, code: u8, depth: u8) -> Option<()>
     ensures { after result sink.new ≡ run S.step (leaf_items code depth) sink.old }
@@ -29,7 +29,7 @@ fn visit_leaf<S: PartSink>(sink: &mut S, code: u8, depth: u8) -> Option<()>
     sink.byte(u16::from(code))
 }
 
-/// A core (II.23.2.12), where so many levels of types are left.
+/// Visits a core (II.23.2.12), with `depth` levels of types left.
 #[cycle(walk)]
 #[tactic(auto, using(crate::proofs::Steps::steps))]
 fn visit_core<S: PartSink>(sink: &mut S, core: &Core, depth: u8) -> Option<()>
@@ -39,7 +39,7 @@ fn visit_core<S: PartSink>(sink: &mut S, core: &Core, depth: u8) -> Option<()>
     visit_first(sink, core, depth.saturating_sub(1))
 }
 
-/// A core of which the level is told.
+/// Visits a core whose level was already counted.
 #[cycle(walk)]
 #[tactic(auto, using(crate::proofs::Steps::steps, crate::proofs::Forms::cores_run, crate::proofs::Loops::types_count))]
 fn visit_first<S: PartSink>(sink: &mut S, core: &Core, depth: u8) -> Option<()>
@@ -94,7 +94,7 @@ fn visit_first<S: PartSink>(sink: &mut S, core: &Core, depth: u8) -> Option<()>
     }
 }
 
-/// A type.
+/// Visits a type.
 #[cycle(walk)]
 #[tactic(auto, using(crate::proofs::Steps::steps, crate::proofs::Forms::run_type))]
 pub fn visit_typed<S: PartSink>(sink: &mut S, of: &TypeSig, depth: u8) -> Option<()>
@@ -104,7 +104,7 @@ pub fn visit_typed<S: PartSink>(sink: &mut S, of: &TypeSig, depth: u8) -> Option
     visit_core(sink, &of.core, depth)
 }
 
-/// Types, one after another.
+/// Visits types, one after another.
 #[cycle(walk)]
 #[tactic(auto, using(crate::proofs::Steps::steps, crate::proofs::Loops::each_type))]
 pub fn visit_types<S: PartSink>(sink: &mut S, types: &[TypeSig], depth: u8) -> Option<()>
@@ -116,7 +116,7 @@ pub fn visit_types<S: PartSink>(sink: &mut S, types: &[TypeSig], depth: u8) -> O
     Some(())
 }
 
-/// What a parameter, a field or a local variable holds (II.23.2.10).
+/// Visits the kind and type of a parameter, a field or a local variable (II.23.2.10).
 #[cycle(walk)]
 #[tactic(auto, using(crate::proofs::Steps::steps, crate::proofs::Forms::run_typed_ref, crate::proofs::Forms::run_plain, crate::proofs::Forms::run_by_ref))]
 pub fn visit_content<S: PartSink>(sink: &mut S, content: &SlotKind, depth: u8) -> Option<()>
@@ -133,7 +133,7 @@ pub fn visit_content<S: PartSink>(sink: &mut S, content: &SlotKind, depth: u8) -
     }
 }
 
-/// A parameter or a field.
+/// Visits a parameter or a field.
 #[cycle(walk)]
 #[tactic(auto, using(crate::proofs::Steps::steps, crate::proofs::Forms::run_slot))]
 pub fn visit_slot<S: PartSink>(sink: &mut S, slot: &Slot, depth: u8) -> Option<()>
@@ -143,7 +143,7 @@ pub fn visit_slot<S: PartSink>(sink: &mut S, slot: &Slot, depth: u8) -> Option<(
     visit_content(sink, &slot.kind, depth)
 }
 
-/// A parameter, with SENTINEL before it or not.
+/// Visits a parameter, with SENTINEL before it or not.
 #[cycle(walk)]
 #[tactic(auto, using(crate::proofs::Steps::steps))]
 fn visit_param<S: PartSink>(sink: &mut S, slot: &Slot, marked: bool, depth: u8) -> Option<()>
@@ -156,7 +156,7 @@ fn visit_param<S: PartSink>(sink: &mut S, slot: &Slot, marked: bool, depth: u8) 
     visit_slot(sink, slot, depth)
 }
 
-/// Whether SENTINEL stands before the parameter at a place.
+/// Whether SENTINEL precedes the parameter with this index.
 fn stands_before(sentinel: Option<u32>, place: usize) -> bool
     ensures { result ≡ stands_at sentinel place }
 {
@@ -166,7 +166,7 @@ fn stands_before(sentinel: Option<u32>, place: usize) -> bool
     }
 }
 
-/// Parameters, with SENTINEL before one of them where it stands (II.23.2.2, II.23.2.3).
+/// Visits parameters, with SENTINEL before one of them if there is one (II.23.2.2, II.23.2.3).
 #[cycle(walk)]
 #[tactic(auto, using(crate::proofs::Steps::steps, crate::proofs::Loops::each_param))]
 pub fn visit_params<S: PartSink>(
@@ -183,7 +183,7 @@ pub fn visit_params<S: PartSink>(
     Some(())
 }
 
-/// A result (II.23.2.11).
+/// Visits a result (II.23.2.11).
 #[cycle(walk)]
 #[tactic(auto, using(crate::proofs::Steps::steps, crate::proofs::Forms::run_some_ret, crate::proofs::Forms::run_void_ret))]
 pub fn visit_ret<S: PartSink>(sink: &mut S, ret: &Ret, depth: u8) -> Option<()>
@@ -198,7 +198,7 @@ pub fn visit_ret<S: PartSink>(sink: &mut S, ret: &Ret, depth: u8) -> Option<()>
     }
 }
 
-/// Whether SENTINEL may stand behind so many of the parameters of a method of this kind.
+/// Whether a method of this kind, with this number of parameters, may have this SENTINEL.
 fn may_have(kind: u8, count: usize, sentinel: Option<u32>) -> bool
     ensures { result ≡ may_stand kind count sentinel }
 {
@@ -208,7 +208,7 @@ fn may_have(kind: u8, count: usize, sentinel: Option<u32>) -> bool
     }
 }
 
-/// Whether a method may be of this kind, and SENTINEL, where it stands, may stand among its parameters.
+/// Whether a method may be of this kind, and SENTINEL, if present, may be at its index among the parameters.
 #[tactic(auto, using(crate::proofs::Loops::slots_count))]
 fn can_be(kind: u8, params: &[Slot], sentinel: Option<u32>) -> bool
     ensures { result ≡ is_call kind (count_slots (slots_from (map slot_of params.now))) sentinel }
@@ -216,7 +216,7 @@ fn can_be(kind: u8, params: &[Slot], sentinel: Option<u32>) -> bool
     (kind < 6 || kind == 9) && may_have(kind, params.len(), sentinel)
 }
 
-/// A bit of the first byte of a method, where it is set.
+/// A bit of the first byte of a method: the mask if it is set, else 0.
 pub fn bit(set: bool, mask: u8) -> u16
     ensures { result ≡ flag set mask }
 {
@@ -233,7 +233,7 @@ fn first_byte(kind: u8, this: bool, explicit: bool, generic: Option<u32>) -> u16
         + bit(explicit, EXPLICITTHIS)
 }
 
-/// The number of generic parameters, where a method is generic.
+/// Visits the number of generic parameters, if the method is generic.
 #[tactic(auto, using(crate::proofs::Steps::steps))]
 fn visit_generic<S: PartSink>(sink: &mut S, generic: Option<u32>) -> Option<()>
     ensures { after result sink.new ≡ run S.step (parts_items (generic_parts generic)) sink.old }
@@ -244,7 +244,7 @@ fn visit_generic<S: PartSink>(sink: &mut S, generic: Option<u32>) -> Option<()>
     }
 }
 
-/// A method (II.23.2.1 to II.23.2.3).
+/// Visits a method (II.23.2.1 to II.23.2.3).
 #[cycle(walk)]
 pub fn visit_method<S: PartSink>(sink: &mut S, method: &MethodSig, depth: u8) -> Option<()>
     ensures { after result sink.new ≡ run S.step (method_items (method_of method.now) depth) sink.old }

@@ -4,7 +4,7 @@ use Rattle.metadata.specs.Model.{IsModel}
 use Rattle.loading.specs.Filled.{with_rows}
 use Rattle.loading.proofs.table_rows.load_rows.Given as goal
 
--- the rows so far are the first of the table
+-- the rows so far are the first rows of the table
 abbrev pub invariant-loop-row : goal.invariant-loop-row
 invariant-loop-row l =
     (model : Metadata) → IsModel l.view model → length l.fn.tables.tables ≡ 38 → rows_of l.fn.tables l.table ≡ []

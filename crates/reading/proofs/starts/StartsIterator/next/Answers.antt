@@ -7,7 +7,7 @@ one_down : (value : ℕ → ℕ) (n : ℕ) → n ≢ 0 → down_from value n ≡
 one_down value zero other = absurd (other refl)
 one_down value (suc n) other = let same : n ≡ suc n - 1 = omega arith in ap (λ m. value (suc n) ∷ down_from value m) same
 
--- what is left begins with the start of this owner
+-- what remains starts with the start of this owner
 step : (c : goal.After-self-2-1) → c.args.self.now
     ≡ c.start_before-start.result ∷ down_from (λ row. start_of c.self.inside.source.now.source c.self.inside.owner row c.self.inside.column c.self.inside.member)
     (c.self.inside.row - 1)
