@@ -1,4 +1,4 @@
-//! Demands on cells, and on what the heaps hold.
+//! Rules for cells and for the values in heaps.
 use crate::explained::Explanation;
 use packed::FaultCode;
 

@@ -1,4 +1,4 @@
-//! Demands on the headers of a PE file and on its CLI header.
+//! Rules for the headers of a PE file and for its CLI header.
 use crate::explained::Explanation;
 use packed::FaultCode;
 

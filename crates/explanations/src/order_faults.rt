@@ -1,4 +1,4 @@
-//! Demands on the order of rows.
+//! Rules for the order of rows.
 use crate::explained::Explanation;
 use packed::FaultCode;
 

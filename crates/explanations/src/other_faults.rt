@@ -1,4 +1,4 @@
-//! Demands on signatures and the entry point, and on what is written.
+//! Rules for signatures, for the entry point and for the output.
 use crate::explained::Explanation;
 use packed::FaultCode;
 

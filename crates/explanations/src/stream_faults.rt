@@ -1,4 +1,4 @@
-//! Demands on the front of a metadata root and on its stream headers.
+//! Rules for the header of a metadata root and for its stream headers.
 use crate::explained::Explanation;
 use packed::FaultCode;
 

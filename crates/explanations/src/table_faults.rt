@@ -1,4 +1,4 @@
-//! Demands on the table stream.
+//! Rules for the table stream.
 use crate::explained::Explanation;
 use packed::FaultCode;
 
