@@ -1,4 +1,4 @@
-//! `clim check`: whether a file keeps the rules of the standard.
+//! `clim check`: checks a file against the rules of the standard.
 ghost use Rattle.std.specs.Prelude.{◌≡◌, IfOk, false};
 ghost use Rattle.clap.specs.Words.{app_of, rule_of};
 ghost use Rattle.clap.specs.declared.Command.TheViews.{out-Command as fields_of};
@@ -8,7 +8,7 @@ use crate::subcommands::reader;
 use clap::{Arg, ArgAction, Command, value_parser};
 use std::alloc::{AllocError, Global};
 
-/// The words of the subcommand and its help.
+/// The arguments of the subcommand and its help.
 pub(crate) fn command<'a>(alloc: Global) -> Result<Command<'a>, AllocError>
     ensures app { IfOk result (λ command. app_of command ≡ line.check) }
     ensures local { IfOk result (λ command. (fields_of command).has_globals ≡ false) }
@@ -22,7 +22,7 @@ pub(crate) fn command<'a>(alloc: Global) -> Result<Command<'a>, AllocError>
     .arg(budget(alloc))
 }
 
-/// `--budget N`, how many bytes of signature blobs may be walked at most.
+/// `--budget N`, the largest number of signature blob bytes to check.
 fn budget<'a>(alloc: Global) -> Arg<'a>
     ensures rule { rule_of result ≡ line.budget }
     ensures local { result.global ≡ false }

@@ -7,7 +7,7 @@ ghost use Rattle.command_line.specs.CommandLine as line;
 use clap::{Arg, ArgAction, Command};
 use std::alloc::{AllocError, Global};
 
-/// The words of the subcommand and its help.
+/// The arguments of the subcommand and its help.
 pub(crate) fn command<'a>(alloc: Global) -> Result<Command<'a>, AllocError>
     ensures app { IfOk result (λ command. app_of command ≡ line.explain) }
     ensures local { IfOk result (λ command. (fields_of command).has_globals ≡ false) }
@@ -18,7 +18,7 @@ pub(crate) fn command<'a>(alloc: Global) -> Result<Command<'a>, AllocError>
         .arg(code(alloc))
 }
 
-/// `CODE`, the number of the fault, which may be left out.
+/// `CODE`, the number of the fault; optional.
 fn code<'a>(alloc: Global) -> Arg<'a>
     ensures rule { rule_of result ≡ line.code }
     ensures local { result.global ≡ false }

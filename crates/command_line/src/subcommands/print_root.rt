@@ -1,4 +1,4 @@
-//! `clim root`: the CLI header of a PE file, and the version and the directory of streams of its metadata root.
+//! `clim root`: the CLI header of a PE file, and the version and the stream headers of its metadata root.
 ghost use Rattle.std.specs.Prelude.{◌≡◌, IfOk, false};
 ghost use Rattle.clap.specs.Words.{app_of};
 ghost use Rattle.clap.specs.declared.Command.TheViews.{out-Command as fields_of};
@@ -8,7 +8,7 @@ use crate::subcommands::reader;
 use clap::Command;
 use std::alloc::{AllocError, Global};
 
-/// The words of the subcommand and its help.
+/// The arguments of the subcommand and its help.
 pub(crate) fn command<'a>(alloc: Global) -> Result<Command<'a>, AllocError>
     ensures app { IfOk result (λ command. app_of command ≡ line.root) }
     ensures local { IfOk result (λ command. (fields_of command).has_globals ≡ false) }

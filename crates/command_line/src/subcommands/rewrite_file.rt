@@ -8,7 +8,7 @@ use crate::subcommands::{reader, second};
 use clap::Command;
 use std::alloc::{AllocError, Global};
 
-/// The words of the subcommand and its help.
+/// The arguments of the subcommand and its help.
 pub(crate) fn command<'a>(alloc: Global) -> Result<Command<'a>, AllocError>
     ensures app { IfOk result (λ command. app_of command ≡ line.rewrite) }
     ensures local { IfOk result (λ command. (fields_of command).has_globals ≡ false) }
