@@ -42,7 +42,7 @@ fn command<'a>(alloc: Global) -> Result<Command<'a>, AllocError>
 {
     let program = Command::new(alloc, "clim")
         .about(
-            "Reads, checks and rewrites the metadata of .NET assemblies (ECMA-335, Partition II)",
+            "Read, check and rewrite the metadata of .NET assemblies (ECMA-335, Partition II)",
         )
         .version("0.1.0")
         .after_help(STATUSES)
@@ -70,11 +70,11 @@ fn with<'a>(
 }
 
 const STATUSES: &str = "\
-'clim <COMMAND> --help' has an example of each command, and 'clim explain CODE' tells what a fault means.
+'clim <COMMAND> --help' has examples of each command. 'clim explain CODE' explains a fault.
 
 Exit status:
-  0  done
-  1  FILE breaks a rule of the standard, told as 'fault LAYER CODE at OFFSET: NAME', or lacks what HEX
-     names, or its canonical root has more than 2^30 bytes
-  2  the words ask for nothing that clim does; FILE was not read
-  3  a file or the output could not be read or written, memory ran out, or the budget was spent";
+  0  success
+  1  FILE breaks a rule of the standard, printed as 'fault LAYER CODE at OFFSET: NAME';
+     or FILE has nothing that HEX names; or its canonical root has more than 2^30 bytes
+  2  usage error; FILE was not read
+  3  I/O error, out of memory, or budget spent";

@@ -51,7 +51,7 @@ fn bare<'a>(alloc: Global) -> Arg<'a>
     Arg::new(alloc, "bare")
         .long("bare")
         .action(ArgAction::SetTrue)
-        .help("FILE is a metadata root and no PE file")
+        .help("FILE is a metadata root, not a PE file")
 }
 
 /// The value after the file; help shows it with this name.

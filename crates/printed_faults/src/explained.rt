@@ -37,7 +37,7 @@ pub fn print_explanation<W: Write>(code: FaultCode, out: &mut W) -> io::Result<(
     let told = explain(code);
     print_heading(code, out)?;
     writeln!(out)?;
-    print_item("Demand:", told.demand, out)?;
+    print_item("Rule:", told.demand, out)?;
     if let Some(section) = told.section {
         print_item("Section:", section, out)?;
     }
