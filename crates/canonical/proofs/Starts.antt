@@ -63,8 +63,7 @@ rises_from (a ∷ b ∷ numbers) each =
     let up = each (suc i) (omega arith) in
     rw next at up))
 
--- the width of the column depends on the number of members, so its low bytes are the start, or 0 for the start after
--- the last member
+-- the low bytes in a column of the width for this count are the start, or 0 for the start after the last member
 pub low_start : (count start : ℕ) → start ≤ count + 1 → count ≤ 0xFFFFFF
     → (start % 256 ^ narrow_or_wide (ltb count (2 ^ 16)) ≡ start) ⊎ ((start % 256 ^ narrow_or_wide (ltb count (2 ^ 16)) ≡ 0) × (start ≡ count + 1))
 low_start count start low small = ⊎_elim

@@ -41,9 +41,7 @@ fn command<'a>(alloc: Global) -> Result<Command<'a>, AllocError>
     ensures { IfOk result (λ command. app_of command ≡ clim) }
 {
     let program = Command::new(alloc, "clim")
-        .about(
-            "Read, check and rewrite the metadata of .NET assemblies (ECMA-335, Partition II)",
-        )
+        .about("Read, check and rewrite the metadata of .NET assemblies (ECMA-335, Partition II)")
         .version("0.1.0")
         .after_help(STATUSES)
         .subcommand_required(true);

@@ -60,8 +60,8 @@ impl<'a> Failure<'a> {
         }
     }
 
-    /// The failure for an error on writing the output: out of memory if the error is of that kind, for example because
-    /// a buffer could not be allocated, else that the output cannot be written.
+    /// The failure for an error on writing the output: out of memory if the error is of that kind, else that the output
+    /// cannot be written. A buffer that cannot be allocated is out of memory.
     pub fn of_printing(error: &io::Error) -> Failure<'a>
         ensures told { IsOutput result }
         ensures kind { TellsKind (error_kind error.now) result }

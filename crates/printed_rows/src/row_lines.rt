@@ -90,8 +90,8 @@ fn print_cell<W: Write>(
     }
 }
 
-/// Prints the value of a cell: a text in quotes, bytes between `<` and `>`, a GUID in braces, a reference as the eight
-/// digits of its token, and a start after a plus sign.
+/// Prints the value of a cell: a text in quotes, bytes between `<` and `>`, a GUID in braces. A reference is the eight
+/// digits of its token, and a start follows a plus sign.
 fn print_value<W: Write>(alloc: Global, cell: CellRef<'_>, out: &mut W) -> io::Result<()> {
     match cell {
         CellRef::Number(number) => write!(out, "{number}"),

@@ -14,8 +14,8 @@ use std::alloc::Global;
 /// of `writer` makes of that model, but no model is made here.
 ///
 /// No cell is copied. The memory of the root is allocated once, when its length is known, and each byte is written
-/// once. During the call there are also the heaps, which have each text, blob and GUID once, and a number of four bytes
-/// for each column of each row. The cost is that of reading each cell.
+/// once. During the call there are also the heaps, with each text, blob and GUID once. There is also a number of four
+/// bytes for each column of each row. The cost is that of reading each cell.
 ///
 /// # Errors
 ///

@@ -23,9 +23,9 @@ fn code<'a>(alloc: Global) -> Arg<'a>
     ensures rule { rule_of result ≡ line.code }
     ensures local { result.global ≡ false }
 {
-    Arg::new(alloc, "CODE").action(ArgAction::Set).help(
-        "The number of the fault; without it, list all faults",
-    )
+    Arg::new(alloc, "CODE")
+        .action(ArgAction::Set)
+        .help("The number of the fault; without it, list all faults")
 }
 
 const OUTPUT: &str = "\
