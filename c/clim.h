@@ -1,4 +1,4 @@
-/* clim, for C: checks, opens and shows the metadata of a .NET assembly (ECMA-335 II.22 to II.25), in place.
+/* clim for C: checks, opens and reads the metadata of a .NET assembly in place (ECMA-335 II.22 to II.25).
  *
  *     clim_view view = CLIM_CLOSED;
  *     clim_fault fault = CLIM_NO_FAULT;
@@ -8,24 +8,23 @@
  *             if (clim_cell_at(&view, CLIM_TYPE_DEF, row, 1, &cell))
  *                 printf("%.*s\n", (int)cell.bytes.len, (const char *)cell.bytes.at);
  *
- * Each function is proved, on any bytes and any numbers, to return, to write only what is said below, and to
- * answer what its contract in crates/clim_c says. It takes no memory and keeps nothing between calls, so that
- * threads may call at once. Rows count from 1, and columns, which are cells of a row, from 0.
+ * Each function is proved for any bytes and any numbers. It returns, it writes only what is stated below, and its
+ * result is what its contract in crates/clim_c says. No function allocates or keeps state between calls, so threads
+ * may call them at the same time. Rows count from 1. Columns, which are the cells of a row, count from 0.
  *
- * A call on a view reads the directory of the root and the counts of its rows again, and looks over no heap: from some
- * 3 microseconds on, of a small file as of one of 5 MB. But clim_find_type walks over a table, 6 nanoseconds a type. A
- * cell that clim_cells answers among those of its column takes some 20 nanoseconds: so ask for columns where many cells
- * are wanted.
+ * A call on a view reads the directory of the root and the row counts again, but no heap. It takes about 3
+ * microseconds, for a small file and for one of 5 MB alike. clim_find_type also scans a table, at 6 nanoseconds per
+ * type. In a call of clim_cells a cell takes about 20 nanoseconds. So read whole columns if you need many cells.
  *
- * What a caller owes, which nothing checks:
- *   - No pointer is null, also where the length beside it is 0: "" will do.
- *   - A pointer and a length name that many bytes or items, which nobody writes during the call.
- *   - What a call writes through a pointer lies apart from all else that the call is handed, and has a value
- *     before it: a clim_view, a clim_cell, a clim_bytes, a clim_fault and a clim_header begin as CLIM_CLOSED,
+ * A caller must ensure the following. Nothing checks it:
+ *   - No pointer is null, even if the length after it is 0. Use "" then.
+ *   - A pointer and a length describe that number of bytes or items. Nobody writes them during the call.
+ *   - What a call writes through a pointer does not overlap its other arguments. It has a value before the call:
+ *     initialise a clim_view, a clim_cell, a clim_bytes, a clim_fault and a clim_header with CLIM_CLOSED,
  *     CLIM_NO_CELL, CLIM_NO_BYTES, CLIM_NO_FAULT and CLIM_NO_HEADER.
- *   - A clim_view is copied as a whole, and no field of it is written but by a call.
- *   - The bytes that were opened stay as they are and where they are, as long as a view of them, or a text or a
- *     blob that it showed, is used.
+ *   - A clim_view is copied as a whole. Only calls write its fields.
+ *   - The bytes that were opened do not change and do not move, while a view of them, or a text or a blob from
+ *     that view, is in use.
  */
 #ifndef CLIM_H
 #define CLIM_H
@@ -38,27 +37,27 @@
 extern "C" {
 #endif
 
-/* Bytes that another owns; no NUL stands behind them. */
+/* Bytes that belong to someone else. No NUL follows them. */
 typedef struct clim_bytes {
     const uint8_t *at;
     size_t len;
 } clim_bytes;
 
-/* The first demand that some bytes do not meet: its number, the layer that poses it (the hundreds of the number),
- * and where it fails, counted in the bytes that were handed in. */
+/* The first rule that some bytes break: its number, its layer (the hundreds of the number), and the offset in the
+ * caller's bytes. */
 typedef struct clim_fault {
     uint64_t offset;
     uint16_t code;
     uint8_t layer;
 } clim_fault;
 
-/* An address in the image and a number of bytes there (II.25.2.3.3); 0 and 0 where there is nothing. */
+/* An address in the image and the number of bytes there (II.25.2.3.3); 0 and 0 if there is nothing. */
 typedef struct clim_directory {
     uint32_t rva;
     uint32_t size;
 } clim_directory;
 
-/* The CLI header (II.25.3.3), where it begins in the file, and where the metadata root begins and ends there. */
+/* The CLI header (II.25.3.3), its offset in the file, and the offsets where the metadata root begins and ends. */
 typedef struct clim_header {
     size_t place;
     size_t root_start;
@@ -77,7 +76,7 @@ typedef struct clim_header {
     clim_directory managed_native_header;
 } clim_header;
 
-/* Where the runs of every step-th owner begin. */
+/* The first members of the runs of every step-th owner. */
 typedef struct clim_starts {
     uint32_t step;
     uint32_t starts[256];
@@ -94,24 +93,24 @@ typedef struct clim_found {
     bool utf8_texts;
 } clim_found;
 
-/* An opened root, or none. No call is needed to let it go. Only is_open is for callers to read. */
+/* An opened root, or none. No call is needed to free it. Callers may read only is_open. */
 typedef struct clim_view {
     clim_bytes root;
     clim_found found;
     bool is_open;
 } clim_view;
 
-/* What a cell is, and the fields of clim_cell that tell it. The other fields are 0 or no bytes. */
+/* The kind of a cell, and the fields of clim_cell that belong to it. The other fields are 0 or no bytes. */
 enum clim_kind {
-    CLIM_NO_KIND = 0,   /* no cell: what CLIM_NO_CELL has */
+    CLIM_NO_KIND = 0,   /* no cell: the kind in CLIM_NO_CELL */
     CLIM_NUMBER = 1,    /* number */
-    CLIM_TEXT = 2,      /* bytes, which are UTF-8 */
+    CLIM_TEXT = 2,      /* bytes, in UTF-8 */
     CLIM_BLOB = 3,      /* bytes */
     CLIM_NULL_GUID = 4,
-    CLIM_GUID = 5,      /* guid, as its bytes stand in the file */
+    CLIM_GUID = 5,      /* guid, in the byte order of the file */
     CLIM_NULL_ROW = 6,
     CLIM_ROW = 7,       /* table, and the row in number */
-    CLIM_START = 8,     /* number: the first row of a run, which clim_members answers whole */
+    CLIM_START = 8,     /* number: the first row of a run; clim_members returns the whole run */
     CLIM_SIGNATURE = 9  /* bytes: the blob of a signature (II.23.2) */
 };
 
@@ -174,73 +173,74 @@ enum clim_table {
 #define CLIM_NO_HEADER \
     {0, 0, 0, 0, 0, 0, {0, 0}, 0, 0, {0, 0}, {0, 0}, {0, 0}, {0, 0}, {0, 0}, {0, 0}}
 
-/* Whether a file meets all that II.22 to II.25 demand; else writes *fault, the first demand that it does not meet.
+/* Whether a file meets all rules of II.22 to II.25. Otherwise writes *fault, the first rule that it breaks.
  * Reads the len bytes at file. */
 bool clim_check(const uint8_t *file, size_t len, clim_fault *fault);
 
-/* The same of a bare metadata root, which a CLI header names (II.24.2.1). */
+/* The same for a bare metadata root, without the file around it (II.24.2.1). */
 bool clim_check_root(const uint8_t *root, size_t len, clim_fault *fault);
 
-/* True where the file's headers and the directory of its root meet what is demanded of them: *header is then its CLI
- * header. Else writes *fault, and *header stays. Tables are not looked at. Reads the len bytes at file. */
+/* True if the file's headers and the directory of its root meet their rules; *header is then the file's CLI header.
+ * Otherwise writes *fault, and *header is unchanged. Does not check tables. Reads the len bytes at file. */
 bool clim_read_header(const uint8_t *file, size_t len, clim_header *header, clim_fault *fault);
 
-/* Answers as clim_check does, and where that is true writes *view, the view of the file's root; else *view stays. The
- * view and what it shows point into the bytes at file, which have to stay. */
+/* Returns what clim_check returns. If that is true, writes *view, the view of the file's root; otherwise *view is
+ * unchanged. The view, and the texts and blobs from it, point into the bytes at file, which must not change. */
 bool clim_open(const uint8_t *file, size_t len, clim_view *view, clim_fault *fault);
 
-/* The same of a bare metadata root. */
+/* The same for a bare metadata root. */
 bool clim_open_root(const uint8_t *root, size_t len, clim_view *view, clim_fault *fault);
 
-/* Writes the name of a demand by its number, as "BadIndex"; no bytes where no demand has the number. The bytes are
- * the library's. */
+/* Writes the name of the rule with this number, for example "BadIndex"; no bytes if no rule has it. The bytes belong
+ * to the library. */
 void clim_fault_name(uint16_t code, clim_bytes *name);
 
-/* Writes the name of a table, as "TypeDef"; no bytes where no table has the number. The bytes are the library's. */
+/* Writes the name of a table, for example "TypeDef"; no bytes if no table has the number. The bytes belong to the
+ * library. */
 void clim_table_name(uint8_t table, clim_bytes *name);
 
-/* How many cells a row of a table has; 0 where no table has the number. */
+/* The number of cells in a row of a table; 0 if no table has the number. */
 size_t clim_cell_count(uint8_t table);
 
-/* Writes the name of a column of cells, as "TypeName"; no bytes where the table has no such column. The bytes are the
- * library's. */
+/* Writes the name of a column, for example "TypeName"; no bytes if the table has no such column. The bytes belong to
+ * the library. */
 void clim_column_name(uint8_t table, size_t column, clim_bytes *name);
 
-/* Writes the version that the root names, which is UTF-8; no bytes of a view that is not open. Reads *view. */
+/* Writes the version string of the root, in UTF-8; no bytes if the view is not open. Reads *view. */
 void clim_version(const clim_view *view, clim_bytes *version);
 
-/* Writes the bytes of #US, as they stand in the root (II.24.2.4); no bytes of a view that is not open. Reads *view. */
+/* Writes the bytes of #US, as they are in the root (II.24.2.4); no bytes if the view is not open. Reads *view. */
 void clim_user(const clim_view *view, clim_bytes *user);
 
-/* How many rows a table has; 0 where no table has the number, and of a view that is not open. Reads *view. */
+/* The number of rows in a table; 0 if no table has the number, or the view is not open. Reads *view. */
 uint32_t clim_count(const clim_view *view, uint8_t table);
 
-/* Writes *cell, a cell of a row. False where the view is not open, or has no such table, row or column: *cell stays.
- * Reads *view and the root. A start that is null in the file is looked for in the rows behind it, over a 256th of the
- * table at most. */
+/* Writes *cell, a cell of a row. False if the view is not open, or has no such table, row or column; then *cell is
+ * unchanged. Reads *view and the root. For a start that is null in the file it scans the rows that follow, at most
+ * 1/256 of the table. */
 bool clim_cell_at(const clim_view *view, uint8_t table, uint32_t row, size_t column, clim_cell *cell);
 
-/* Writes the cells of a column from the row first on into cells[0] to cells[room - 1], as many as there are and as
- * there is room for, and answers how many it wrote; the others stay. 0 where the view is not open, or has no such
- * table, row or column. Reads *view and the root. Much faster than clim_cell_at, cell by cell. */
+/* Writes the cells of a column, from the row first on, into cells[0] to cells[room - 1]. Returns the number of cells
+ * that it wrote; the other elements are unchanged. 0 if the view is not open, or has no such table, row or column.
+ * Reads *view and the root. Much faster than a call of clim_cell_at for each cell. */
 size_t clim_cells(const clim_view *view, uint8_t table, uint32_t first, size_t column, clim_cell *cells, size_t room);
 
 /* Writes the rows of the table member that a row of the table owner owns: from *first to before *past. Types own
  * fields and methods, methods own parameters, and the rows of EventMap and PropertyMap own events and properties.
- * False where the view is not open, has no such row, or the one table owns none of the other: both stay. Reads *view
- * and the root. */
+ * False if the view is not open, has no such row, or the owner table does not own rows of the member table; then both
+ * are unchanged. Reads *view and the root. */
 bool clim_members(const clim_view *view, uint8_t owner, uint32_t row, uint8_t member, uint32_t *first,
                   uint32_t *past);
 
-/* The first row of TypeDef with a namespace and a name; 0 where there is none, and of a view that is not open. Reads
- * *view, the root and both names. It looks at the types one after another. */
+/* The first row of TypeDef with a namespace and a name; 0 if there is none, or the view is not open. Reads *view, the
+ * root and both names. It scans the types in order. */
 uint32_t clim_find_type(const clim_view *view, const uint8_t *name_space, size_t name_space_len, const uint8_t *name,
                         size_t name_len);
 
-/* Writes the rows of a table whose key is the row key_row of the table key_table (II.22), from the lowest on, into
- * rows[0] to rows[room - 1], as many as there are and as there is room for, and answers how many it wrote; the others
- * stay. 0 where the view is not open, no table has one of the numbers, or the table has no key. Where the table is in
- * order of its key, as tables are, they are found by halving. Reads *view and the root.
+/* Writes the rows of a table whose key is the row key_row of the table key_table (II.22), in ascending order, into
+ * rows[0] to rows[room - 1]. Returns the number of rows that it wrote; the other elements are unchanged. 0 if the view
+ * is not open, no table has one of the numbers, or the table has no key. It uses binary search if the table is in order
+ * of its key, as tables usually are. Reads *view and the root.
  *
  *     uint32_t rows[16];
  *     size_t many = clim_rows_by_key(&view, CLIM_CUSTOM_ATTRIBUTE, CLIM_TYPE_DEF, row, rows, 16);

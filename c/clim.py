@@ -1,19 +1,19 @@
-"""Reads the metadata of .NET assemblies (ECMA-335 II.22 to II.25), by the shared library that c/run builds.
+"""Reads the metadata of .NET assemblies (ECMA-335 II.22 to II.25) with the shared library that c/run builds.
 
     import clim
 
     with open("one_module.dll", "rb") as file:
         assembly = clim.open(file.read())       # or raises clim.Fault
-    for table in assembly:                      # the tables that have rows
+    for table in assembly:                      # each table that has rows
         for row in table:
             print(table.name, row.number, row.cells())
     for row in assembly["TypeDef"]:
         print(row.TypeNamespace, row.TypeName, row.members("MethodDef"))
 
-A file is opened exactly where it meets all demands, and then each cell is proved to be the one of its model. Rows
-count from 1. A number is an int, a text a str, a blob bytes, a signature's blob a Signature, a GUID a uuid.UUID, a row
-of a table a Token, the first row of a run a Start, and null is None. The library is what the environment names by
-CLIM_LIBRARY, or else libclim.so beside this file or in out/ there.
+A file is opened if and only if it meets all rules. Then each cell is proved to be that of its model. Rows count from
+1. A number is an int, a text is a str, a blob is bytes, and a signature blob is a Signature. A GUID is a uuid.UUID, a
+row of a table is a Token, the first row of a run is a Start, and null is None. The library is the file that the
+environment variable CLIM_LIBRARY names, or else libclim.so next to this file or in out/ there.
 """
 import collections
 import ctypes
@@ -23,13 +23,13 @@ import uuid
 from ctypes import POINTER, byref, c_bool, c_size_t, c_uint8, c_uint16, c_uint32, c_uint64, c_void_p
 
 Token = collections.namedtuple("Token", "table row")
-Token.__doc__ = "A row of a table: the table's number, and the row's, counted from 1."
+Token.__doc__ = "A row of a table: the number of the table, and that of the row, counted from 1."
 
 Directory = collections.namedtuple("Directory", "rva size")
 
 
 class Start(int):
-    """The first row of the run that a row owns; behind the last row where no later row owns one."""
+    """The first row of the run that a row owns; one after the last row if no member follows."""
 
 
 class Signature(bytes):
@@ -37,7 +37,7 @@ class Signature(bytes):
 
 
 class Fault(Exception):
-    """The first demand that some bytes do not meet: its layer, its code, its name, and where it fails."""
+    """The first rule that some bytes break: its layer, its code, its name, and its offset in the bytes."""
 
     def __init__(self, layer, code, offset, name):
         super().__init__(f"fault {layer} {code} at {offset}: {name}")
@@ -88,17 +88,17 @@ class _View(ctypes.Structure):
     _fields_ = [("root", _Bytes), ("found", _Found), ("is_open", c_bool)]
 
 
-# A clim_cell: where its bytes begin and how many they are, its number, its kind, its table and its GUID.
+# A clim_cell: the address and the number of its bytes, its number, its kind, its table and its GUID.
 _CELL = struct.Struct("@PNIBB16s2x")
 
 Header = collections.namedtuple("Header", [name for name, _ in _Header._fields_])
-Header.__doc__ = "The CLI header of a file (II.25.3.3), and where the header and the metadata root lie in the file."
+Header.__doc__ = "The CLI header of a file (II.25.3.3), and the offsets of the header and of the metadata root."
 
 _EMPTY = ctypes.create_string_buffer(1)
 _EMPTY_AT = ctypes.addressof(_EMPTY)
 _NO_CELL = _CELL.pack(_EMPTY_AT, 0, 0, 0, 0, bytes(16))
 
-# How many cells are read at a time.
+# The number of cells to read at a time.
 _ROOM = 1 << 14
 
 
@@ -139,7 +139,7 @@ _library = _load()
 
 
 def _address(data):
-    """Where bytes lie; the caller keeps them."""
+    """The address of bytes; the caller keeps them alive."""
     return ctypes.cast(ctypes.c_char_p(data), c_void_p).value
 
 
@@ -155,14 +155,14 @@ def _fault(told):
 
 
 def check(data, bare=False):
-    """None where a file, or a bare metadata root, meets all demands; else the Fault of the first that it does not."""
+    """None if a file, or a bare metadata root, meets all rules; else the Fault of the first rule that it breaks."""
     data, fault = bytes(data), _Fault()
     call = _library.clim_check_root if bare else _library.clim_check
     return None if call(_address(data), len(data), byref(fault)) else _fault(fault)
 
 
 def read_header(data):
-    """The CLI header of a file, whose tables are not looked at; or raises a Fault."""
+    """The CLI header of a file; or raises a Fault. The tables are not checked."""
     data, fault, header = bytes(data), _Fault(), _Header()
     if not _library.clim_read_header(_address(data), len(data), byref(header), byref(fault)):
         raise _fault(fault)
@@ -171,7 +171,7 @@ def read_header(data):
 
 
 def open(data, bare=False):
-    """Opens a file, or a bare metadata root; or raises the Fault of the first demand that it does not meet."""
+    """Opens a file, or a bare metadata root; or raises the Fault of the first rule that it breaks."""
     return Assembly(data, bare)
 
 
@@ -195,7 +195,7 @@ def _number(table):
 
 
 class Assembly:
-    """The one model of a file or a root. It keeps the bytes, to which it points."""
+    """The one model of a file or a root. It points to the bytes and keeps them alive."""
 
     def __init__(self, data, bare=False):
         self._data = bytes(data)
@@ -219,12 +219,12 @@ class Assembly:
 
     @property
     def version(self):
-        """The version that the root names (II.24.2.1)."""
+        """The version string of the root (II.24.2.1)."""
         return _told(_library.clim_version, byref(self._view)).decode()
 
     @property
     def user(self):
-        """The bytes of #US, as they stand in the root (II.24.2.4)."""
+        """The bytes of #US, as they are in the root (II.24.2.4)."""
         return _told(_library.clim_user, byref(self._view))
 
     def row(self, token):
@@ -232,7 +232,7 @@ class Assembly:
         return self[token.table].row(token.row)
 
     def find_type(self, namespace, name):
-        """The first type with a namespace and a name, as a row of TypeDef; None where there is none."""
+        """The first type with a namespace and a name, as a row of TypeDef; None if there is none."""
         namespace, name = namespace.encode(), name.encode()
         row = _library.clim_find_type(byref(self._view), _address(namespace), len(namespace), _address(name), len(name))
         return self["TypeDef"].row(row) if row else None
@@ -287,7 +287,7 @@ class Table:
         return Row(self, number)
 
     def column(self, name):
-        """The cells of a column, by its name, that of row 1 first."""
+        """The cells of the column with a name, from row 1 on."""
         if name not in self._cells:
             if name not in self.columns:
                 raise KeyError(name)
@@ -295,7 +295,7 @@ class Table:
         return self._cells[name]
 
     def by_key(self, token):
-        """The rows whose key is the row that a Token names, from the lowest on; none where the table has no key."""
+        """The rows whose key is the row that a Token names, in ascending order; none if the table has no key."""
         view, room = byref(self.assembly._view), 16
         while True:
             rows = (c_uint32 * room)()
@@ -306,9 +306,9 @@ class Table:
 
 
 class Row:
-    """A row of a table. A cell is an attribute, and an item, by the name of its column.
+    """A row of a table. A cell is an attribute, and an item, with the name of its column.
 
-    The first cell asked of a column reads the whole column, which the table keeps.
+    The first access to a cell of a column reads the whole column, and the table keeps it.
     """
 
     __slots__ = ("table", "number")
@@ -333,11 +333,11 @@ class Row:
         return Token(self.table.number, self.number)
 
     def cells(self):
-        """The cells, by the names of their columns."""
+        """The cells, by the names of their columns, as a dict."""
         return {name: self[name] for name in self.table.columns}
 
     def members(self, table):
-        """The rows of a table that the row owns: of Field or MethodDef for a type, and so on (II.22)."""
+        """The rows of a table that the row owns, for example those of Field for a type (II.22)."""
         first, past, number = c_uint32(), c_uint32(), _number(table)
         view = byref(self.table.assembly._view)
         if not _library.clim_members(view, self.table.number, self.number, number, byref(first), byref(past)):

@@ -1,14 +1,14 @@
 /* Tests of clim from C.
  *
  *     test show FILE [bare]      prints the tables as clim show does, each signature as its blob
- *     test vary FILE [bare]      checks each front of the file, and the file with each of its bytes 00 and FF, and prints
- *                                what clim check prints of it, a line each
- *     test write FILE FOLDER     writes these inputs into files of a folder, which are in the same order
- *     test calls FILE [bare]     compares calls with one another, and makes calls that are to be refused; the last line
+ *     test vary FILE [bare]      checks each prefix of the file, and the file with one byte set to 00 or FF, and
+ *                                prints what clim check prints, one line each
+ *     test write FILE FOLDER     writes these inputs into files of a folder, in the same order
+ *     test calls FILE [bare]     compares calls with one another, and makes calls that must be rejected; the last line
  *                                is 'N passed, M failed'
  *     test times FILE [bare]     prints how long calls take
  *
- * Each input ends where a page does behind which nothing may be read.
+ * Each input ends at the end of a page, and the next page may not be read.
  */
 #define _DEFAULT_SOURCE
 #include "clim.h"
@@ -49,7 +49,7 @@ static void stop(const char *text) {
     exit(3);
 }
 
-/* Bytes that end where a page does, behind which nothing may be read. */
+/* Bytes that end at the end of a page; the next page may not be read. */
 typedef struct guarded {
     uint8_t *at;
     size_t len;
@@ -76,12 +76,12 @@ static guarded read_file(const char *path) {
     return read;
 }
 
-/* Whether two views are alike, but for what lies behind their last field. */
+/* Whether two views are equal, except for the bytes after their last field. */
 static bool same_view(const clim_view *a, const clim_view *b) {
     return memcmp(a, b, offsetof(clim_view, is_open) + 1) == 0;
 }
 
-/* ---- inputs made of a file */
+/* ---- inputs made from a file */
 
 typedef void what_is_done(const uint8_t *bytes, size_t len, void *with);
 
@@ -111,7 +111,7 @@ static void print_fault(clim_fault fault) {
            (const char *)name.at);
 }
 
-/* Checks and opens: both answer alike, and what a call does not write stays. */
+/* Checks and opens: both return the same, and what a call does not write is unchanged. */
 static void answer(const uint8_t *bytes, size_t len, void *with) {
     bool bare = *(bool *)with;
     clim_fault fault = {7, 7, 7}, same = {7, 7, 7};
@@ -220,7 +220,7 @@ static bool same_cell(const clim_cell *a, const clim_cell *b) {
            same_bytes(a->bytes, b->bytes);
 }
 
-/* Cells one by one are those of their column; outside of the table there are none, and nothing is written. */
+/* Single cells are those of their column. Outside the table there are none, and nothing is written. */
 static void compare_cells(const clim_view *view, uint8_t table) {
     size_t rows = clim_count(view, table), columns = clim_cell_count(table);
     clim_cell *cells = read_cells(view, table), cell = NO_CELL, two[2] = {NO_CELL, NO_CELL};
@@ -243,7 +243,7 @@ static void compare_cells(const clim_view *view, uint8_t table) {
     free(cells);
 }
 
-/* The runs of all owners are the rows of the members, one run behind the other, and begin where the cells say. */
+/* The runs of all owners follow one another, cover all members, and begin where the cells say. */
 static void compare_runs(const clim_view *view, uint8_t owner, size_t column, uint8_t member) {
     uint32_t next = 1, first = 7, past = 7, rows = clim_count(view, owner);
     bool joined = true, begins = true;
@@ -262,7 +262,7 @@ static void compare_runs(const clim_view *view, uint8_t owner, size_t column, ui
     CHECK(first == 7 && past == 7);
 }
 
-/* Each type is found by its names, or one before it with the same names. */
+/* Each type is found by its names, unless an earlier type has the same names. */
 static void compare_types(const clim_view *view) {
     bool found = true;
     clim_cell name = NO_CELL, space = NO_CELL, its_name = NO_CELL, its_space = NO_CELL;
@@ -282,7 +282,7 @@ static void compare_types(const clim_view *view) {
     CHECK(clim_find_type(view, none, 0, (const uint8_t *)"no such type", 12) == 0);
 }
 
-/* The rows with the key of a row ascend, have that key, and the row is one of them. */
+/* The rows with the key of a row are in ascending order and have that key. The row is one of them. */
 static void compare_keys(const clim_view *view, uint8_t table, size_t column) {
     uint32_t rows = clim_count(view, table), step = rows / 200 + 1;
     uint32_t *told = malloc((rows + 1) * sizeof *told);
@@ -311,7 +311,7 @@ static void compare_keys(const clim_view *view, uint8_t table, size_t column) {
     free(told);
 }
 
-/* A view that is not open answers nothing, and nothing is written. */
+/* A view that is not open returns nothing, and nothing is written. */
 static void ask_closed(void) {
     clim_view view = CLOSED;
     clim_cell cell = NO_CELL;
@@ -331,7 +331,7 @@ static void ask_closed(void) {
     CHECK(text.len == 0);
 }
 
-/* The names of tables and columns: a table has a name, and names for its cells and no more. */
+/* The names of tables and columns: a table has a name, and exactly one name for each cell. */
 static void ask_names(void) {
     unsigned tables = 0;
     for (unsigned table = 0; table < 256; table++) {
@@ -350,7 +350,7 @@ static void ask_names(void) {
     CHECK(tables == 38);
 }
 
-/* The header names the root that a view has. */
+/* The header names the root of the view. */
 static void ask_header(guarded file, const clim_view *view) {
     clim_header header = CLIM_NO_HEADER;
     clim_fault fault = {7, 7, 7};
@@ -383,7 +383,7 @@ static void calls(guarded file, clim_view *view, bool bare) {
     CHECK(clim_rows_by_key(view, CLIM_MODULE, CLIM_TYPE_DEF, 1, &row, 1) == 0 && row == 7);
     clim_view copy = *view;
     CHECK(clim_count(&copy, CLIM_MODULE) == clim_count(view, CLIM_MODULE));
-    /* A fault leaves a view that is open as it is. */
+    /* A fault does not change an open view. */
     clim_fault fault = CLIM_NO_FAULT;
     CHECK(!clim_open(file.at, 0, &copy, &fault) && fault.code == 102 && same_view(&copy, view));
     CHECK(!clim_open_root(file.at, 0, &copy, &fault) && same_view(&copy, view));
@@ -397,7 +397,7 @@ static double now(void) {
     return (double)time.tv_sec * 1e6 + (double)time.tv_nsec * 1e-3;
 }
 
-/* How long a call takes, over many of them. */
+/* The average time of a call, over many calls. */
 #define TIME(name, call)                                                            \
     do {                                                                            \
         double at = now();                                                          \

@@ -1,7 +1,7 @@
-"""Tests of clim.py, as test.c tests the calls below it.
+"""Tests of clim.py. They match those of test.c.
 
-    test.py vary FILE [bare]      prints what clim check prints of each front of the file, and of the file with each of its
-                                  bytes 00 and FF, a line each
+    test.py vary FILE [bare]      prints what clim check prints for each prefix of the file, and for the file with one
+                                  byte set to 00 or FF, one line each
     test.py show FILE [bare]      prints the tables as clim show does, each signature as its blob
     test.py calls FILE [bare]     compares calls with one another; the last line is 'N passed, M failed'
     test.py times FILE [bare]     prints how long calls take

@@ -1,10 +1,10 @@
-/* Prints the types of an assembly, each with its row and how many fields and methods it has: types FILE */
+/* Prints the types of an assembly, each with its row and the number of its fields and methods: types FILE */
 #include "../clim.h"
 
 #include <stdio.h>
 #include <stdlib.h>
 
-/* The bytes of a file, which the caller frees; NULL where it cannot be read. */
+/* The bytes of a file, which the caller frees; NULL if it cannot be read. */
 static uint8_t *read_file(const char *path, size_t *len) {
     FILE *file = fopen(path, "rb");
     if (file == NULL) return NULL;
@@ -23,7 +23,7 @@ static uint8_t *read_file(const char *path, size_t *len) {
     return bytes;
 }
 
-/* How many rows of a table a type owns. */
+/* The number of rows of a table that a type owns. */
 static uint32_t owned(const clim_view *view, uint32_t row, uint8_t member) {
     uint32_t first = 0, past = 0;
     return clim_members(view, CLIM_TYPE_DEF, row, member, &first, &past) ? past - first : 0;

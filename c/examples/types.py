@@ -1,4 +1,4 @@
-"""Prints the types of an assembly, each with its row and how many fields and methods it has: types.py FILE"""
+"""Prints the types of an assembly, each with its row and the number of its fields and methods: types.py FILE"""
 import os
 import sys
 

@@ -1,4 +1,4 @@
--- What the laws of the crates below say, as one record.
+-- The laws of the crates below, as one record.
 use Rattle.std.proofs.Common.{◌≡◌, ℕ, ◌+◌, ◌-◌, ◌*◌, ◌^◌, ◌<◌, ◌≤◌, Bool, true, List, [], ◌∷◌, ◌++◌, zero, suc, length, get_or, map, All, Contains, IsUtf8, refl, sym, ap, ◌∙◌, ◌⊎◌, Some, arith}
 use Rattle.std.proofs.lemmas.List.{get_or-map}
 use Rattle.packed.specs.Number.{IsNumber}
@@ -42,7 +42,7 @@ pub record Facts : Type 0 where
   pub set : (test : TableId → Bool) (table : TableId) → has_bit (bits_of test tables) table ≡ test table
   pub low : (test : TableId → Bool) → bits_of test tables < 2 ^ 64
 
--- the positions of tables, in order
+-- the indexes of tables, in order
 abbrev pub count_up : ℕ → ℕ → List ℕ
 count_up from zero = []
 count_up from (suc n) = from ∷ count_up (suc from) n
@@ -56,7 +56,7 @@ positions : map position_of tables ≡ count_up 0 38
 unfolding tables
 positions = refl
 
--- a table is found by its position
+-- a table is found by its index
 pub position_at : length tables ≡ 38 → (k : ℕ) → k < 38 → position_of (get_or tables k Module) ≡ k
 position_at count k below =
     sym (get_or-map position_of tables k Module 0 (omega (arith, count))) ∙ ap (λ (l : List ℕ). get_or l k 0) positions ∙ count_up_at 0 38 k below

@@ -1,4 +1,4 @@
--- The cells of a valid model by the kinds of their columns, as the laws of writing take them.
+-- The cells of a valid model by the kinds of their columns, in the form that the laws of writing need.
 use Rattle.std.proofs.Common.{◌≡◌, ℕ, zero, suc, ◌-◌, ◌+◌, ◌^◌, ◌<◌, ◌≤◌, ◌⊎◌, Bool, true, List, [], ◌∷◌, length, get_or, Option, Some, None, IfSome, IsUtf8, Contains, refl, subst, inl, inr, ◌∙◌, arith}
 use Rattle.std.specs.List.{AllByRecursion}
 use Rattle.std.proofs.lemmas.List.Elements.{All-from_get_or, recursion_from_All}
@@ -32,12 +32,12 @@ HasRow model token = (1 ≤ token.row) × (token.row ≤ count_in model token.ta
 abbrev pub IsNumberBelow : ℕ → Cell → Type 0
 IsNumberBelow limit cell = (number : ℕ) × (number < limit) × (cell ≡ Number number)
 
--- the cell is a row that exists, of a table that the column lists, or null where the column may be
+-- the cell refers to an existing row of a table that the column lists, or is null if the column may be null
 abbrev pub MayRefer : Metadata → Bool → (TableId → Type 0) → Cell → Type 0
 MayRefer model nullable IsListed cell =
     ((nullable ≡ true) × (cell ≡ Ref None)) ⊎ ((token : Token) × IsListed token.table × HasRow model token × (cell ≡ Ref (Some token)))
 
--- a column of a kind can hold the cell; padding holds none
+-- a column of this kind can have the cell; padding has no cell
 abbrev pub IsValidCell : Metadata → ColumnKind → Bool → Cell → Type 0
 IsValidCell model kind.U8 nullable cell = IsNumberBelow (2 ^ 8) cell
 IsValidCell model kind.U16 nullable cell = IsNumberBelow (2 ^ 16) cell
@@ -52,20 +52,20 @@ IsValidCell model (kind.Row table) nullable cell = MayRefer model nullable (λ o
 IsValidCell model (kind.Coded coded) nullable cell = MayRefer model nullable (λ table. Contains (tables_of coded) (Some table)) cell
 IsValidCell model (kind.List member) nullable cell = (start : ℕ) × (start ≤ count_in model member + 1) × (cell ≡ Start start)
 
--- the cell can stand at a place of a row
+-- the cell can be at this index of a row
 abbrev pub IsValidAt : Metadata → TableId → ℕ → Cell → Type 0
 IsValidAt model table place cell =
     IsValidCell model (column_at table (column_of table place)).kind (column_at table (column_of table place)).nullable cell
 
--- as many cells as the table's rows have, each of its column
+-- the row has the number of cells of its table, each fit for its column
 unfoldable pub IsValidRow : Metadata → TableId → List Cell → Type 0
 IsValidRow model table cells = AreFrom (IsValidAt model table) 0 (cell_count table) cells
 
--- the rows of the table at a position
+-- the rows of the table at this index are valid
 abbrev pub AreValidRows : Metadata → ℕ → List (List Cell) → Type 0
 AreValidRows model position rows = AllByRecursion (IsValidRow model (table_at position)) rows
 
--- ---- the cells of a valid model are so
+-- ---- the cells of a valid model are valid
 
 listed_one : (table other : TableId) → Contains (Some table ∷ []) (Some other) → other ≡ table
 listed_one table other (zero, below, e) = cc

@@ -1,4 +1,4 @@
--- Items of lists: those that stand in them, and those that are so from a place on.
+-- Items of lists: membership, and properties of all items from an index on.
 use Rattle.std.proofs.Common.{◌≡◌, ℕ, zero, suc, ◌+◌, ◌<◌, ◌≤◌, Bool, true, false, cond, List, [], ◌∷◌, ◌++◌, length, get_or, filter, Contains, refl, sym, ap, subst, ◌∙◌, ◌⊎◌, inl, inr, ⊎_elim, arith}
 use Rattle.std.specs.List.{flat_map, AllByRecursion}
 use Rattle.std.proofs.lemmas.Bool.{cases_Bool}
@@ -71,7 +71,7 @@ all_at P [] k d below all = absurd (omega arith)
 all_at P (x ∷ xs) zero d below all = all.0
 all_at P (x ∷ xs) (suc k) d below all = all_at P xs k d (omega arith) all.1
 
--- ---- items from a place on
+-- ---- items from an index on
 
 pub from_length : {X : Type 0} (P : ℕ → X → Type 0) (i n : ℕ) (xs : List X) → AreFrom P i n xs → length xs ≡ n
 from_length P i zero [] are = refl

@@ -1,4 +1,4 @@
--- The tables whose bit is set are in order of their keys, and nested types stand behind those that they are nested in.
+-- The tables whose Sorted bit is set are in order of their keys, and nested types follow their enclosing types.
 use Rattle.std.proofs.Common.{◌≡◌, ℕ, ◌+◌, ◌-◌, ◌%◌, ◌^◌, ◌<◌, ◌≤◌, Bool, true, false, lit<, List, [], map, length, get_or, Contains, refl, sym, ap, subst, ◌∙◌, inl, inr, Option, Some, None, arith}
 use Rattle.std.specs.Prelude.{slice_index}
 use Rattle.std.specs.List.{position_or_len}
@@ -35,7 +35,7 @@ use Rattle.canonical.proofs.Starts.{rises_at, rises_from}
 use Rattle.canonical.proofs.Rows.{cells_of, placed, has_place}
 use Rattle.canonical.proofs.Tables.{source_of, number_at}
 
--- ---- the number of a reference fits its field
+-- ---- the number of a reference fits its column
 
 module _ (facts : Facts) (model : Metadata) (within : IsWithin model) where
   few : (table : TableId) → count_of (sizes_of model) table ≤ 0xFFFFFF
@@ -74,7 +74,7 @@ not_padding column (inr coded) = ap is_padding coded.1
 
 -- ---- keys
 
--- a reference has one number, in whatever pools
+-- a reference has the same number whatever the pools are
 key_same : (pools : Pools) (model : Metadata) (nullable : Bool) (k : ColumnKind) (P : TableId → Type 0) (cell : Cell) → MayRefer model nullable P cell
     → cell_number pools k cell ≡ key_number k cell
 key_same pools model nullable k P cell (inl null) = rw (null.1) refl
@@ -122,7 +122,7 @@ module _ (facts : Facts) (model : Metadata) (valid : IsValid model) where
       let place = has_place (columns_of table) 0 key key (col kind.U8) (facts.key table key is) (not_padding (column_at table key) reference) (omega arith) in
       (place.place, record { within = place.below; key = is ∙ ap (λ (c : ℕ). Some c) (sym place.at) })
 
-  -- the Sorted bit of a table tells whether its keys are in order
+  -- the Sorted bit of a table is set if and only if its keys are in order
   pub order_told : (table : TableId) (key : ℕ) → key_of table ≡ Some key → is_sorted model table ≡ true → IsKeyOrdered model table
   order_told table key is sorted = λ place row at second last.
       let up = rises_at (keys_of model table key) (row - 1 - 1) (sym (ap (is_by_key (table_keys model table)) is) ∙ sorted)
@@ -149,7 +149,7 @@ module _ (facts : Facts) (model : Metadata) (valid : IsValid model) where
       rw (low, high) up)
 
 module _ (facts : Facts) (model : Metadata) (valid : IsValid model) (within : IsWithin model) where
-  -- the number of a key is the one by which the rows are compared
+  -- the number of a key is the one by which rows are compared
   key_value : (table : TableId) (key row : ℕ) → key_of table ≡ Some key → 1 ≤ row → row ≤ count_in model table
       → number_of (source_of model) table row key ≡ get_or (keys_of model table key) (row - 1) 0
   unfolding cell_columns number_of

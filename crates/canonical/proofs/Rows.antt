@@ -1,4 +1,4 @@
--- The numbers of a row: as many as columns, one for each cell, and each in its field by its low bytes.
+-- The numbers of a row: one per column, one for each cell, each truncated to the width of its column.
 use Rattle.std.proofs.Common.{◌≡◌, ℕ, zero, suc, ◌+◌, ◌-◌, ◌*◌, ◌/◌, ◌%◌, ◌^◌, ◌<◌, ◌≤◌, Bool, true, false, cond, List, [], ◌∷◌, ◌++◌, map, length, get_or, refl, sym, ap, subst, ◌∙◌, arith, mul_assoc}
 use Rattle.std.proofs.lemmas.List.{length-map, get_or-map}
 use Rattle.std.proofs.lemmas.Nat.{div-add-mod', div-mul-add, mod-mul-add, mod_below}
@@ -19,7 +19,7 @@ use Rattle.canonical.specs.Numbers.{cell_number, with_next, numbers_by, numbers_
 use Rattle.canonical.specs.TableStream.{sizes_of}
 use Rattle.canonical.proofs.Facts.{Facts}
 
--- ---- one number a column
+-- ---- one number per column
 
 length-with_next : (b : Bool) (number : Cell → ℕ) (rest : List Cell → List ℕ) (n : ℕ) → ((cells : List Cell) → length (rest cells) ≡ n) → (cells : List Cell)
     → length (with_next b number rest cells) ≡ suc n
@@ -46,7 +46,7 @@ table_fields model table = map (fields_of (sizes_of model) (columns_of table)) (
 unfoldable pub fields : Metadata → List (List (List ℕ))
 fields model = map (table_fields model) tables
 
--- the low bytes are the lowest, and the low ones of the rest
+-- the low bytes of a number are its lowest byte and the low bytes of the remainder
 low_split : (width number : ℕ) → number % 256 ^ suc width ≡ number / 256 % 256 ^ width * 256 + number % 256
 low_split width number =
     let p = 256 ^ width in
@@ -133,7 +133,7 @@ pub counts_are : (model : Metadata) → (sizes_of model).counts ≡ map length (
 unfolding fields sizes_of
 counts_are model = count_all model tables
 
--- ---- the number at a row and a column
+-- ---- the number of a row and a column
 
 field_at : (sizes : Sizes) (columns : List Column) (row : List ℕ) (i : ℕ) (none : Column) → length row ≡ length columns → i < length columns
     → get_or (fields_of sizes columns row) i 0 ≡ get_or row i 0 % 256 ^ width_of sizes (get_or columns i none)
@@ -170,7 +170,7 @@ number_is facts model table row column none first last below =
 
 -- ---- the number of each cell
 
--- the number of the cell at a place stands at the column of that place
+-- the number of the cell at an index is in the column of that cell
 pub record IsPlaced (value : ColumnKind → Cell → ℕ) (row indexes : List ℕ) (columns : List Column) (cells : List Cell) (from place : ℕ) (none : Column)
     (no_cell : Cell) : Type 0 where
   pub index : ℕ

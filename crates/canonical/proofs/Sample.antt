@@ -1,4 +1,4 @@
--- The canonical roots of small models, by computing.
+-- The canonical roots of small models, by computation.
 use Rattle.std.proofs.Common.{◌≡◌, ℕ, length, ◌++◌, List, [], ◌∷◌, refl, Some, None, false, codes}
 use Rattle.std.specs.Prelude.{replicate}
 use Rattle.root.specs.declared.kind.Kind.TheVariants.{Strings}
@@ -25,7 +25,7 @@ use Rattle.canonical.specs.Canonical.{stream, streams_of, root_of, canonical}
 abbrev pub runtime : List ℕ
 runtime = codes "v4.0.30319"
 
--- no rows, and no version
+-- no rows, and an empty version
 abbrev pub empty : Metadata
 empty = record { version = []; user = []; tables = replicate 38 [] }
 
@@ -64,7 +64,7 @@ methods = (Number 0 ∷ Number 0 ∷ Number 6 ∷ Text (codes "M") ∷ Sig a_met
 abbrev pub one_class : Metadata
 one_class = record { version = runtime; user = []; tables = [] ∷ [] ∷ types ∷ fields ∷ methods ∷ replicate 33 [] }
 
--- a reference to a type, whose namespace is the end of its name
+-- a reference to a type whose namespace is the tail of its name
 abbrev pub one_reference : Metadata
 one_reference = record {
   version = [];
@@ -72,11 +72,11 @@ one_reference = record {
   tables = [] ∷ ((Ref None ∷ Text (codes "Name") ∷ Text (codes "me") ∷ []) ∷ []) ∷ replicate 36 [];
 }
 
--- user bytes alone
+-- user strings only
 abbrev only_user : Metadata
 only_user = record { version = []; user = 0 ∷ 3 ∷ 0x41 ∷ 0 ∷ 0 ∷ 0 ∷ 0 ∷ 0 ∷ []; tables = replicate 38 [] }
 
--- a module and a file of one name, with a GUID, a blob and user bytes: all five streams
+-- a module and a file of the same name, with a GUID, a blob and user strings: all five streams
 abbrev pub five_streams : Metadata
 five_streams = record {
   version = [];
@@ -180,12 +180,12 @@ pub five_streams_are :
 unfolding tables bits_of used numbers sizes_of header_bytes table_stream streams_of root_of ends_with is_holder counted
 five_streams_are = refl
 
--- a text that ends another has no entry of its own
+-- a text that is the tail of another has no entry of its own
 pub one_entry : stream one_reference Strings ≡ 0x00 ∷ 0x4E ∷ 0x61 ∷ 0x6D ∷ 0x65 ∷ 0x00 ∷ 0x00 ∷ 0x00 ∷ []
 unfolding used ends_with is_holder
 one_entry = refl
 
--- the bit of CustomAttribute is set exactly where its parents are in order; no other bit depends on it
+-- the bit of CustomAttribute is set if and only if its parents are in order; the other bits do not depend on it
 pub out_of_order : (sizes_of (with_attributes (attribute of_assembly ∷ attribute of_assembly ∷ attribute of_module ∷ []))).sorted ≡ 0x16003301EA00
 unfolding tables bits_of used sizes_of ends_with is_holder counted
 out_of_order = refl
@@ -194,7 +194,7 @@ pub in_order : (sizes_of (with_attributes (attribute of_module ∷ attribute of_
 unfolding tables bits_of used sizes_of ends_with is_holder counted
 in_order = refl
 
--- where each table has 65535 rows, a start has two bytes, and that behind the last member is 0
+-- if each table has 65535 rows, a start has two bytes, and the start after the last member is 0
 abbrev full : Sizes
 full = record { counts = replicate 38 65535; heap_sizes = 0; sorted = 0; body = 176 }
 
@@ -206,15 +206,15 @@ pub last_start : row_bytes full (columns_of PropertyMap)
     ≡ 0x01 ∷ 0x00 ∷ 0x00 ∷ 0x00 ∷ []
 last_start = refl
 
--- a row of Constant: the padding is 0, and row 3 of Field is 12 among those that have constants
+-- a row of Constant: its padding is 0, and row 3 of Field is 12 as a HasConstant index
 pub constant_row : numbers_of none (columns_of Constant) (Number 8 ∷ Ref (Some (record { table = Field; row = 3 })) ∷ Bytes [] ∷ []) ≡ 8 ∷ 0 ∷ 12 ∷ 0 ∷ []
 constant_row = refl
 
--- row 2 of TypeRef has the tag 1 among types
+-- row 2 of TypeRef has the tag 1 in TypeDefOrRef
 pub coded_reference : cell_number none (kind.Coded TypeDefOrRef) (Ref (Some (record { table = TypeRef; row = 2 }))) ≡ 9
 coded_reference = refl
 
--- indexes are wide from 65536 bytes on
+-- indexes have four bytes if the heap has 65536 bytes or more
 pub last_narrow : (heap : List ℕ) → length heap ≡ 65535 → wide_bit heap 4 ≡ 0
 last_narrow heap long = rw long refl
 

@@ -1,4 +1,4 @@
--- The number of a cell stands for the cell, kind by kind.
+-- The number of a cell encodes the cell, kind by kind.
 use Rattle.std.proofs.Common.{◌≡◌, ℕ, ◌+◌, ◌*◌, ◌%◌, ◌^◌, ◌<◌, ◌≤◌, Bool, true, false, ltb, List, [], ◌∷◌, length, Contains, All, IsUtf8, refl, sym, ap, subst, ◌∙◌, ◌⊎◌, inl, inr, ⊎_elim, Option, Some, None, IfSome, arith}
 use Rattle.std.specs.Prelude.{slice_get}
 use Rattle.std.specs.List.{position_or_len}
@@ -32,7 +32,7 @@ use Rattle.canonical.proofs.Lists.{IsIn, contains_from_in, all_weaker}
 use Rattle.canonical.proofs.Facts.{Facts}
 use Rattle.canonical.proofs.Widths.{text_within, blob_within, guid_within, index_fits, texts_width, guids_width, blobs_width, count_is, row_fits, coded_fits, tag_found}
 
--- what the cells of the canonical root are read from
+-- the source from which the cells of the canonical root are read
 abbrev pub source_with : Metadata → List (List (List ℕ)) → Source
 source_with model numbers =
     record { sizes = sizes_of model; numbers = numbers; texts = texts_stream model; blobs = blobs_stream model; guids = guids_stream model }
@@ -43,7 +43,7 @@ pub record IsUsed (model : Metadata) (cell : Cell) : Type 0 where
   pub blobs : (value : List ℕ) → IsIn value (blobs_of cell) → IsIn value (used blobs_of model)
   pub guids : (value : List ℕ) → IsIn value (guids_of cell) → IsIn value (used guids_of model)
 
--- the model keeps the limits by which widths are enough
+-- the model is within the limits that make the column widths sufficient
 pub record IsWithin (model : Metadata) : Type 0 where
   pub texts : length (texts_stream model) ≤ 2 ^ 30
   pub blobs : length (blobs_stream model) ≤ 2 ^ 30
@@ -51,7 +51,7 @@ pub record IsWithin (model : Metadata) : Type 0 where
   pub counts : (table : TableId) → count_in model table ≤ 0xFFFFFF
   pub sixteen : All (λ guid. length guid ≡ 16) (distinct (used guids_of model))
 
--- the kind has a number for null: 0, whose tag is used
+-- the kind has a number for null: 0, whose tag is in use
 abbrev pub HasNull : ColumnKind → Type 0
 HasNull k = (coded : Coded) × (first : TableId) × (k ≡ kind.Coded coded) × (slice_get (tables_of coded) 0 ≡ Some (Some first))
 
@@ -152,7 +152,7 @@ low_start count start low = ⊎_elim
 number_stands : (limit : ℕ) (number : ℕ) (cell : Cell) → number < limit → cell ≡ Number number → cell ≡ Number (number % limit)
 number_stands limit number cell fits e = e ∙ ap Number (sym (mod-eq_of_lt fits))
 
--- the number of a valid cell stands for it
+-- the number of a valid cell encodes the cell
 pub stands : Facts → (model : Metadata) → IsWithin model
     → (numbers : List (List (List ℕ))) (k : ColumnKind) (nullable : Bool) (start : TableId → ℕ) (cell : Cell)
     → IsUsed model cell → (nullable ≡ true → HasNull k) → ((member : TableId) → k ≡ kind.List member → start member ≡ cell_number (pools_of model) k cell)

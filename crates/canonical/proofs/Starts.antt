@@ -1,4 +1,4 @@
--- The start of an owner's run is found again from the numbers of the column.
+-- The start of an owner's run can be read back from the numbers of the column.
 use Rattle.std.proofs.Common.{◌≡◌, ℕ, zero, suc, ◌+◌, ◌%◌, ◌^◌, ◌<◌, ◌≤◌, Bool, true, false, ◌&&◌, cond, eqb, ltb, leb, List, [], ◌∷◌, length, get_or, refl, sym, ap, subst, ◌∙◌, ◌⊎◌, inl, inr, ⊎_elim, arith}
 use Rattle.std.proofs.lemmas.Bool.{cases_Bool, cases_lt}
 use Rattle.std.proofs.lemmas.Bool.Decides.{nat_tests}
@@ -8,7 +8,7 @@ use Rattle.metadata.specs.Starts.{start_from}
 use Rattle.canonical.specs.TableStream.{rises}
 use Rattle.canonical.proofs.Widths.{both_true}
 
--- the number of a start is the start, or 0 at the start behind the last member
+-- the number of a start is the start; it may be 0 for the start after the last member
 pub record AreNumbered (value start : ℕ → ℕ) (end row n : ℕ) : Type 0 where
   pub is : (r : ℕ) → row ≤ r → r < row + n → (value r ≡ start r) ⊎ ((value r ≡ 0) × (start r ≡ end))
   pub low : (r : ℕ) → row ≤ r → r < row + n → 1 ≤ start r
@@ -63,7 +63,7 @@ rises_from (a ∷ b ∷ numbers) each =
     let up = each (suc i) (omega arith) in
     rw next at up))
 
--- a start in a column whose width follows the members: its low bytes are the start, or 0 at the start behind the last
+-- the low bytes in a column of the width for this count are the start, or 0 for the start after the last member
 pub low_start : (count start : ℕ) → start ≤ count + 1 → count ≤ 0xFFFFFF
     → (start % 256 ^ narrow_or_wide (ltb count (2 ^ 16)) ≡ start) ⊎ ((start % 256 ^ narrow_or_wide (ltb count (2 ^ 16)) ≡ 0) × (start ≡ count + 1))
 low_start count start low small = ⊎_elim

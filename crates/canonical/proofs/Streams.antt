@@ -1,4 +1,4 @@
--- Streams that stand one behind the other: their headers, and each found again.
+-- Streams in sequence: their headers, and how each is found again.
 use Rattle.std.proofs.Common.{◌≡◌, ◌≢◌, ℕ, suc, ◌+◌, ◌-◌, ◌%◌, ◌^◌, ◌<◌, ◌≤◌, Bool, true, false, not, ◌&&◌, ◌||◌, cond, List, [], ◌∷◌, ◌++◌, take, drop, length, filter, refl, sym, ap, subst, ◌∙◌, ◌⊎◌, inl, inr, ⊎_elim, true≢false, arith, length-append, All, Option, Some, None, lit≤, rules, codes, replicate}
 use Rattle.std.specs.Prelude.{bytes_eq, IsAscii, IsSome, unwrap_or}
 use Rattle.std.specs.List.{list_any, flat_map}
@@ -19,7 +19,7 @@ use Rattle.canonical.proofs.Lists.{IsIn, from_filter}
 use Rattle.canonical.proofs.Facts.{Facts}
 use Rattle.canonical.proofs.Widths.{both_true}
 
--- ---- fill
+-- ---- padding
 
 fill_few : (n : ℕ) → (4 - n % 4) % 4 < 4
 fill_few n = omega arith
@@ -33,7 +33,7 @@ length_zeros n = length-replicate {A = ℕ} n 0
 pub length-filled : (bytes : List ℕ) → length (filled bytes) % 4 ≡ 0
 length-filled bytes = rw (length-append bytes (replicate ((4 - length bytes % 4) % 4) 0), length_zeros ((4 - length bytes % 4) % 4)) (fill_is (length bytes))
 
--- the zeros behind the NUL of a text
+-- the zeros after the NUL of a text
 abbrev pub fill_of : List ℕ → List ℕ
 fill_of text = replicate ((4 - length (text ++ 0 ∷ []) % 4) % 4) 0
 
@@ -104,7 +104,7 @@ not_uncompressed Blobs = refl
 compressed : (kind : Kind) → stream_name kind ≢ codes "#-"
 compressed kind = λ e. true≢false (sym (name_itself kind) ∙ ap (bytes_eq (stream_name kind)) e ∙ not_uncompressed kind)
 
--- ---- kinds that stand apart
+-- ---- kinds have different names
 
 abbrev pub AreApart : List Kind → Type 0
 AreApart [] = Unit {0}
@@ -271,7 +271,7 @@ module _ (facts : Facts) (streams : Kind → List ℕ) where
             (λ other h. named_push (stream_name other) earlier header (fresh other (inr h)) (apart.0 other h)) (omega (arith, long)),
       )
 
-  -- ---- how long the directory is, wherever the streams stand
+  -- ---- the length of the directory does not depend on the stream offsets
 
   header_long : (a b : ℕ) (kind : Kind) → length (stream_header streams a kind) ≡ length (stream_header streams b kind)
   header_long a b kind = omega (

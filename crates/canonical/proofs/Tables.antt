@@ -1,4 +1,4 @@
--- The numbers of the canonical table stream stand for the cells of the model.
+-- The numbers of the canonical table stream encode the cells of the model.
 use Rattle.std.proofs.Common.{◌≡◌, ◌||◌, lit<, true≢false, ℕ, zero, suc, ◌+◌, ◌-◌, ◌%◌, ◌^◌, ◌<◌, ◌≤◌, Bool, true, false, ltb, List, [], ◌∷◌, length, get_or, refl, sym, ap, subst, ◌∙◌, ◌⊎◌, inl, inr, arith}
 use Rattle.std.specs.List.{list_any}
 use Rattle.schema.specs.declared.table.TableId.{TableId}
@@ -30,7 +30,7 @@ use Rattle.canonical.proofs.Stands.{source_with, IsUsed, IsWithin, HasNull, stan
 use Rattle.canonical.proofs.Rows.{fields, cells_of, number_is, placed}
 use Rattle.canonical.proofs.Starts.{AreNumbered, start_found, low_start}
 
--- what the cells of the canonical root are read from
+-- the source from which the cells of the canonical root are read
 abbrev pub source_of : Metadata → Source
 source_of model = source_with model (fields model)
 
@@ -115,7 +115,7 @@ module _ (facts : Facts) (model : Metadata) (valid : IsValid model) (within : Is
       number_at facts model valid table row place first last below
       ∙ ap (λ n. n % 256 ^ width_of (sizes_of model) (column_at table (column_of table place))) number ∙ ap (λ w. start row % 256 ^ w) width
 
-  -- no start is 0, as the first is 1 and none is lower than the one before
+  -- no start is 0, because the first is 1 and none is lower than the one before
   start_low : (n : ℕ) → n < count_in model table → 1 ≤ start (n + 1)
   start_low zero below = omega (arith, owners.first (λ e. absurd (omega arith)))
   start_low (suc n) below =
@@ -144,7 +144,7 @@ module _ (facts : Facts) (model : Metadata) (valid : IsValid model) (within : Is
         omega arith in subst (λ k. start k ≤ start (r + 1)) back up;
   }
 
-  -- the start of a run is that of the owner's cell
+  -- the start of a run is the value of the owner's cell
   pub start_stands : (row : ℕ) → 1 ≤ row → row ≤ count_in model table → start_of (source_of model) table row (column_of table place) member ≡ start row
   unfolding start_of
   start_stands row first last =
@@ -218,7 +218,7 @@ owners_of model valid EventMap place = events_own model valid place
 owners_of model valid PropertyMap place = properties_own model valid place
 owners_of model valid table place = λ member e. absurd (no_list (columns_of table) (column_of table place) member refl e)
 
--- ---- the rows of the tables stand for those of the model
+-- ---- the rows of the tables encode those of the model
 
 has_null : (column : Column) → MayBeNull column → HasNull column.kind
 has_null column may = (may.coded, may.first, may.is, may.used)

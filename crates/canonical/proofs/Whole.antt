@@ -1,4 +1,4 @@
--- The canonical root of a valid model is a root whose model it is.
+-- The canonical root of a valid model is a root with that model.
 use Rattle.std.proofs.Common.{◌≡◌, ℕ, ◌+◌, ◌-◌, ◌%◌, ◌^◌, ◌<◌, ◌≤◌, Bool, true, false, cond, ltb, List, [], ◌∷◌, ◌++◌, length, refl, sym, ap, subst, ◌∙◌, ◌⊎◌, inl, inr, ⊎_elim, arith, length-append, All, Option, Some, None, IfSome, replicate}
 use Rattle.std.specs.List.{AllByRecursion, flat_map, count_by}
 use Rattle.std.proofs.lemmas.Bool.{cases_Bool}
@@ -43,7 +43,7 @@ use Rattle.canonical.proofs.Tables.{source_of, tables_stand, are_owned}
 use Rattle.canonical.proofs.Orders.{are_by_key, are_nested}
 use Rattle.canonical.proofs.Streams.{length_zeros, length-filled, fill_of, ended_is, AreApart, all_kinds, filter_apart, in_all, headers_of, contents, are_headers, length-headers_of, stream_found, is_named, all_meet, directory_long, within}
 
--- ---- every GUID of a valid model has sixteen bytes
+-- ---- each GUID of a valid model has 16 bytes
 
 abbrev IsLong : List ℕ → Type 0
 IsLong guid = length guid ≡ 16

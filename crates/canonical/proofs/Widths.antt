@@ -48,7 +48,7 @@ guid_within heap index (Some guid) is =
     let entry = is.1 in
     inr (omega (arith, is.0, ap length entry.whole, length-append entry.before (guid ++ entry.after), length-append guid entry.after, entry.at, entry.long))
 
--- ---- the width of a heap's indexes follows the stream's length
+-- ---- the width of a heap's indexes depends on the length of its stream
 
 heap_bits : (a b c : Bool) → ((eqb ((cond a 1 0 + cond b 2 0 + cond c 4 0) / 1 % 2) 0 ≡ not a)
     × (eqb ((cond a 1 0 + cond b 2 0 + cond c 4 0) / 2 % 2) 0 ≡ not b)) × (eqb ((cond a 1 0 + cond b 2 0 + cond c 4 0) / 4 % 2) 0 ≡ not c)
@@ -71,7 +71,7 @@ heap_sizes_below false true false = omega arith
 heap_sizes_below false false true = omega arith
 heap_sizes_below false false false = omega arith
 
--- an index has two or four bytes by the stream that it lies in
+-- an index has two or four bytes, depending on the length of its stream
 abbrev pub index_width : List ℕ → ℕ
 index_width stream = narrow_or_wide (not (leb (2 ^ 16) (length stream)))
 
@@ -182,7 +182,7 @@ coded_fits facts sizes coded table row tag is low there small = ⊎_elim
     narrow : Bool
     narrow = list_all (is_below sizes (2 ^ (16 - tag_bits coded))) (tables_of coded)
 
--- the first place of a table in a list
+-- the first index of a table in a list
 abbrev IsTag : List (Option TableId) → TableId → ℕ → Type 0
 IsTag listed table tag = (slice_get listed tag ≡ Some (Some table)) × (tag < length listed)
 

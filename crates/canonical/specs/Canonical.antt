@@ -1,4 +1,4 @@
--- The canonical root of a model, its one spelling (ECMA-335 II.24.2.1 and II.24.2.2).
+-- The canonical root of a model: its one encoding (ECMA-335 II.24.2.1 and II.24.2.2).
 use Rattle.std.specs.Prelude.{ℕ, ◌+◌, nat_lt, List, [], ◌∷◌, ◌++◌, length, filter, flat_map}
 use Rattle.root.specs.declared.kind.Kind.{Kind}
 use Rattle.root.specs.declared.kind.Kind.TheVariants.{Tables, Strings, UserStrings, Guids, Blobs}
@@ -10,7 +10,7 @@ use Rattle.metadata.specs.Metadata.{Metadata}
 use Rattle.canonical.specs.Pools.{texts_stream, blobs_stream, guids_stream}
 use Rattle.canonical.specs.TableStream.{table_stream}
 
--- what each stream holds
+-- the bytes of each stream (II.24.2.2)
 abbrev pub stream : Metadata → Kind → List ℕ
 stream model Tables = table_stream model
 stream model Strings = texts_stream model
@@ -18,37 +18,38 @@ stream model UserStrings = model.user
 stream model Guids = guids_stream model
 stream model Blobs = blobs_stream model
 
--- the streams in their order, without those that hold nothing
+-- the kinds of the streams in order; a stream without bytes is left out
 unfoldable pub streams_of : Metadata → List Kind
 streams_of model = filter (λ kind. nat_lt 0 (length (stream model kind))) (Tables ∷ Strings ∷ UserStrings ∷ Guids ∷ Blobs ∷ [])
 
--- a text with the NUL that ends it, filled with zeros to a multiple of four
+-- a text with its terminating NUL, padded with zeros to a multiple of four
 abbrev pub ended : List ℕ → List ℕ
 ended text = filled (text ++ 0 ∷ [])
 
--- the header of a stream that begins at an offset
+-- the header of a stream at an offset: Offset, Size, Name (II.24.2.2)
 abbrev pub stream_header : (Kind → List ℕ) → ℕ → Kind → List ℕ
 stream_header streams offset kind = number_bytes 4 offset ++ number_bytes 4 (length (streams kind)) ++ ended (stream_name kind)
 
--- the headers of streams that stand one behind the other, the first of them at an offset
+-- the headers of consecutive streams, the first of them at an offset
 abbrev pub directory : (Kind → List ℕ) → ℕ → List Kind → List ℕ
 directory streams offset [] = []
 directory streams offset (kind ∷ kinds) = stream_header streams offset kind ++ directory streams (offset + length (streams kind)) kinds
 
--- the signature, MajorVersion 1, MinorVersion 1, Reserved 0, Length, Version, Flags 0 and the number of streams
+-- the root header: Signature, MajorVersion 1, MinorVersion 1, Reserved 0, Length, Version, Flags 0 and Streams
+-- (II.24.2.1)
 abbrev pub front : List ℕ → ℕ → List ℕ
 front version count =
     signature ++ (1 ∷ 0 ∷ 1 ∷ 0 ∷ 0 ∷ 0 ∷ 0 ∷ 0 ∷ []) ++ number_bytes 4 (length (ended version)) ++ ended version ++ (0 ∷ 0 ∷ []) ++ number_bytes 2 count
 
--- where the first stream begins: behind the front and all stream headers, which are as long wherever the streams begin
+-- the offset of the first stream, after the root header and all stream headers; their length does not depend on offsets
 abbrev pub first_offset : List ℕ → (Kind → List ℕ) → List Kind → ℕ
 first_offset version streams kinds = length (front version (length kinds)) + length (directory streams 0 kinds)
 
--- the front, the stream headers, and what the streams hold, without gaps
+-- the root header, the stream headers and the bytes of the streams, without gaps
 unfoldable pub root_of : List ℕ → (Kind → List ℕ) → List Kind → List ℕ
 root_of version streams kinds =
     front version (length kinds) ++ directory streams (first_offset version streams kinds) kinds ++ flat_map streams kinds
 
--- the canonical root
+-- the canonical root of a model
 abbrev pub canonical : Metadata → List ℕ
 canonical model = root_of model.version (stream model) (streams_of model)

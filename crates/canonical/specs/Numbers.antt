@@ -1,4 +1,4 @@
--- The numbers that stand for the cells of a model (ECMA-335 II.22 and II.24.2.6).
+-- The numbers that encode the cells of a model (ECMA-335 II.22 and II.24.2.6).
 use Rattle.std.specs.Prelude.{ℕ, Bool, true, false, List, [], ◌∷◌, map, Some, None}
 use Rattle.schema.specs.declared.table.TableId.{TableId}
 use Rattle.schema.specs.declared.column.Column.{Column}
@@ -16,7 +16,7 @@ use Rattle.metadata.specs.KeyOrder.{row_number}
 use Rattle.schema.specs.CellColumns.{is_padding}
 use Rattle.canonical.specs.Pools.{Pools, pools_of}
 
--- the number of a cell: an index into a heap; null is 0; and a start is its number
+-- the number of a cell: the index of a heap value, the number of a row, or the start itself; a null reference is 0
 abbrev pub cell_number : Pools → ColumnKind → Cell → ℕ
 cell_number pools kind (Number number) = number
 cell_number pools kind (Text text) = text_index pools.texts text
@@ -27,25 +27,25 @@ cell_number pools kind (Ref (Some token)) = row_number kind token
 cell_number pools kind (Start start) = start
 cell_number pools kind (Sig signature) = blob_index pools.blobs (short signature)
 
--- the number of the next cell, and the numbers of the rest; padding has no cell, and is 0
+-- the number of the next cell, and the numbers of the following ones; padding has no cell, and its number is 0
 abbrev pub with_next : Bool → (Cell → ℕ) → (List Cell → List ℕ) → List Cell → List ℕ
 with_next true number rest cells = 0 ∷ rest cells
 with_next false number rest [] = 0 ∷ rest []
 with_next false number rest (cell ∷ cells) = number cell ∷ rest cells
 
--- the numbers of a row, one a column, by what number a cell has in a column of a kind
+-- the numbers of a row, one per column; `number` gives the number of a cell in a column of a kind
 abbrev pub numbers_by : (ColumnKind → Cell → ℕ) → List Column → List Cell → List ℕ
 numbers_by number [] cells = []
 numbers_by number (column ∷ columns) cells = with_next (is_padding column.kind) (number column.kind) (numbers_by number columns) cells
 
--- those that are written
+-- the numbers of a row that are written
 abbrev pub numbers_of : Pools → List Column → List Cell → List ℕ
 numbers_of pools columns cells = numbers_by (cell_number pools) columns cells
 
--- those of a table, by row and column
+-- the numbers of a table, by row and column
 abbrev pub table_numbers : Metadata → TableId → List (List ℕ)
 table_numbers model table = map (numbers_of (pools_of model) (columns_of table)) (rows_of model table)
 
--- those of all tables
+-- the numbers of all tables, in order of table number
 unfoldable pub numbers : Metadata → List (List (List ℕ))
 numbers model = map (table_numbers model) tables

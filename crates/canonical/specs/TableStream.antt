@@ -11,34 +11,34 @@ use Rattle.metadata.specs.KeyOrder.{key_number}
 use Rattle.canonical.specs.Pools.{texts_stream, blobs_stream, guids_stream}
 use Rattle.canonical.specs.Numbers.{numbers_by, numbers}
 
--- a table has rows
+-- the table has at least one row
 abbrev pub has_rows : Metadata → TableId → Bool
 has_rows model table = nat_lt 0 (count_in model table)
 
--- the bit of a heap in HeapSizes, set where its stream has 65536 bytes or more: then its indexes have four
+-- the bit of a heap in HeapSizes: set if its stream has 65536 bytes or more, and then its indexes have four bytes
 abbrev pub wide_bit : List ℕ → ℕ → ℕ
 wide_bit stream bit = if nat_le (2 ^ 16) (length stream) then bit else 0
 
--- numbers never fall
+-- the numbers never decrease
 abbrev pub rises : List ℕ → Bool
 rises [] = true
 rises (first ∷ []) = true
 rises (first ∷ second ∷ rest) = nat_le first second && rises (second ∷ rest)
 
--- rows are in order of a key, if there is one
+-- the rows are in order of the key in this column, if there is a key
 abbrev pub is_by_key : List (List ℕ) → Option ℕ → Bool
 is_by_key rows None = false
 is_by_key rows (Some key) = rises (map (λ row. slice_index row key) rows)
 
--- the key numbers of the rows of a table, each at the column of its key
+-- the rows of a table as key numbers, each in the column of its cell (II.22)
 abbrev pub table_keys : Metadata → TableId → List (List ℕ)
 table_keys model table = map (numbers_by key_number (columns_of table)) (rows_of model table)
 
--- the table has a key, and its rows are in order of it (II.22)
+-- the table has a key, and its rows are in order of the key (II.22)
 abbrev pub is_sorted : Metadata → TableId → Bool
 is_sorted model table = is_by_key (table_keys model table) (key_of table)
 
--- the counts of the tables, HeapSizes, Sorted, and where the first table begins, behind the counts of those that have rows
+-- the row counts, HeapSizes, Sorted, and the offset of the first table, after the counts of the tables that have rows
 unfoldable pub sizes_of : Metadata → Sizes
 sizes_of model = record {
   counts = map (count_in model) tables;
@@ -47,12 +47,12 @@ sizes_of model = record {
   body = header_size (count_by (has_rows model) tables);
 }
 
--- four reserved bytes, version 2 and 0, HeapSizes, a reserved byte, Valid, Sorted and the counts
+-- Reserved 0, MajorVersion 2, MinorVersion 0, HeapSizes, Reserved 1, Valid, Sorted and Rows
 unfoldable pub header_bytes : Metadata → List ℕ
 header_bytes model =
     (0 ∷ 0 ∷ 0 ∷ 0 ∷ []) ++ (2 ∷ 0 ∷ (sizes_of model).heap_sizes ∷ 1 ∷ []) ++ number_bytes 8 (bits_of (has_rows model) tables)
     ++ number_bytes 8 (sizes_of model).sorted ++ counts_bytes (has_rows model) (sizes_of model) tables
 
--- the header and the rows of all tables; a number that is too great for its field stands there by its low bytes
+-- the header and the rows of all tables; a number that is too great for its column is truncated to its low bytes
 unfoldable pub table_stream : Metadata → List ℕ
 table_stream model = filled (header_bytes model ++ tables_bytes (sizes_of model) tables (numbers model))

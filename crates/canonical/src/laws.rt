@@ -13,9 +13,9 @@ use metadata::roots_have_models;
 use schema::{bits_are_known, columns_stand, numbers_are_spelled, tables_stand, tags_fit};
 use signature_values::shortest_spells;
 
-/// The canonical root of a valid model has this model.
+/// The canonical root of a valid model has this model, if the root has at most 2^30 bytes.
 ///
-/// A root of more than 2^30 bytes has none.
+/// A longer root has no model.
 pub fn canonical_root_has_its_model()
     ensures { (model : Metadata) → IsValid model → length (canonical model) ≤ 2 ^ 30 → IsModel (canonical model) model }
 {
@@ -31,8 +31,8 @@ pub fn canonical_root_has_its_model()
     shortest_spells();
 }
 
-/// A valid model is the only one of its canonical root: every model of that root equals it, and two
-/// valid models with one canonical root are one.
+/// A valid model is the only model of its canonical root: every model of that root equals it. Two valid models with the
+/// same canonical root are equal.
 pub fn canonical_root_is_one()
     ensures only { (model other : Metadata) → IsValid model → length (canonical model) ≤ 2 ^ 30 → IsModel (canonical model) other → model ≡ other }
     ensures apart { (model other : Metadata) → IsValid model → IsValid other → length (canonical model) ≤ 2 ^ 30
@@ -42,7 +42,7 @@ pub fn canonical_root_is_one()
     roots_have_models();
 }
 
-/// The Sorted bit of a keyed table of a valid model is set exactly where the table's keys are in order.
+/// The Sorted bit of a keyed table of a valid model is set if and only if the table's keys are in order.
 pub fn sorted_bits_tell_order()
     ensures { (model : Metadata) → IsValid model → (table : Table) (key : ℕ) → key_of table ≡ Some key
         → (is_sorted model table ≡ true) ↔ IsKeyOrdered model table }

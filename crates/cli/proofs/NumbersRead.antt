@@ -1,4 +1,4 @@
--- What digits write, where a word begins with no plus.
+-- The number that digits denote, for an argument without a leading plus sign.
 use Rattle.std.proofs.Common.{◌≡◌, ◌==◌, ℕ, ◌^◌, ◌<◌, ◌≤◌, Bool, true, false, cond, List, drop, length, Result, Ok, Err, Option, arith, refl, subst}
 use Rattle.std.specs.Prelude.{slice_index}
 use Rattle.std.specs.Option.{SomeIff}
@@ -12,7 +12,7 @@ plus_free : (led : Bool) (word : List ℕ) → led ≡ false → drop (cond led 
 plus_free true word none = cc
 plus_free false word none = refl
 
--- a word of at most eight bytes that does not begin with a plus is read as a number exactly where it is one
+-- an argument of at most eight bytes without a leading plus is read as a number if and only if it is hexadecimal digits
 pub token_read : {E : Type 0} (word : List ℕ) (read : Result ℕ E) (answer : Option ℕ) → length word ≤ 8 → (slice_index word 0 == 43) ≡ false
     → ParsesUnsigned 32 16 word read → answer ≡ result_ok read → SomeIff answer (IsHexNumber word) (digits_value 16 word)
 token_read word (Ok number) answer short none parses is =
@@ -24,7 +24,7 @@ token_read word (Err error) answer short none parses is =
     let refused = subst P (plus_free (slice_index word 0 == 43) word none) parses in
     rw is (λ hex. refused (hex.0, omega (arith, digits_value-lt 16 word hex.0.1, pow-le-pow_right {n = 16} (omega arith) short)))
 
--- a word of three bytes that does not begin with a plus is read as a decimal number exactly where it is one
+-- an argument of three bytes without a leading plus is read as a number if and only if it is decimal digits
 pub code_read : {E : Type 0} (word : List ℕ) (read : Result ℕ E) (answer : Option ℕ) → length word ≡ 3 → (slice_index word 0 == 43) ≡ false
     → ParsesUnsigned 16 10 word read → answer ≡ result_ok read → SomeIff answer (IsCodeNumber word) (digits_value 10 word)
 code_read word (Ok number) answer three none parses is =

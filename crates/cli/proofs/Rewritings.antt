@@ -1,4 +1,4 @@
--- What is written of a file, and what is told where its canonical root is too long.
+-- What is written for a file, and what is reported if its canonical root is too long.
 use Rattle.std.proofs.Common.{◌≡◌, ◌<◌, ◌^◌, ℕ, Bool, List, length, subst}
 use Rattle.std.specs.Prelude.{⊤}
 use Rattle.std.proofs.Math.Logic.{∥∥₁_map}

@@ -1,4 +1,4 @@
--- What is printed or written is of a file, which the words name.
+-- Each task except an explanation has a file, which the arguments name.
 use Rattle.std.proofs.Common.{◌≡◌, ℕ, List, Result, Ok, Err, Option, Some, None, ap, sym, subst}
 use Rattle.std.specs.Prelude.{IsSome}
 use Rattle.std.specs.Borrow.{Bor}
@@ -19,7 +19,7 @@ abbrev IsExplanation : Task → Type 0
 IsExplanation (task.Explain code) = Unit {0}
 IsExplanation _ = ⊥
 
--- `explain` asks for nothing else
+-- `explain` has no other task
 explained : (ask : Ask) (made : Task) → IsTask word.Explain ask (Ok made) → IsExplanation made
 explained ask made is = go ask.code is
   where
@@ -27,7 +27,7 @@ explained ask made is = go ask.code is
     go None same = subst IsExplanation (ap (λ r. result_or r made) (sym same)) tt
     go (Some given) told = subst IsExplanation (sym told.2) tt
 
--- what is not explained is of a file
+-- a task that is not an explanation has a file
 pub file_there : (ask : Ask) (made : Task) → ¬ IsExplanation made → HasFile ask → IsTask ask.subcommand ask (Ok made) → IsSome ask.file
 file_there ask made other has is = has (λ same. other (explained ask made (subst (λ (s : Subcommand). IsTask s ask (Ok made)) same is)))
 

@@ -1,4 +1,4 @@
--- The words that stand for a token and for the number of a fault.
+-- The arguments that are a token or the number of a fault.
 use Rattle.std.specs.Prelude.{◌≡◌, ℕ, ◌≤◌, List, length}
 use Rattle.std.specs.Str.Parse.{IsNumeral, digits_value}
 use Rattle.packed.specs.declared.code.FaultCode.{FaultCode}
@@ -12,6 +12,6 @@ IsHexNumber word = IsNumeral 16 word × (length word ≤ 8)
 abbrev pub IsCodeNumber : List ℕ → Type 0
 IsCodeNumber word = IsNumeral 10 word × (length word ≡ 3)
 
--- the word is the number of a demand
+-- the argument is the number of a rule
 abbrev pub NamesCode : List ℕ → FaultCode → Type 0
 NamesCode word code = IsCodeNumber word × (digits_value 10 word ≡ number_of_code code)

@@ -1,4 +1,4 @@
--- The canonical root that is written of a file.
+-- The canonical root that is written for a file (ECMA-335 II.24.2).
 use Rattle.std.specs.Prelude.{◌≡◌, ◌<◌, ◌^◌, ◌⊎◌, ℕ, Bool, List, length}
 use Rattle.packed.specs.declared.code.FaultCode.TheVariants.{TooLarge}
 use Rattle.packed.specs.Demand.{FirstToFail, fault}
@@ -9,7 +9,7 @@ use Rattle.printed_faults.specs.declared.failure.Failure.{Failure}
 use Rattle.printed_faults.specs.declared.failure.Failure.TheVariants as failed
 use Rattle.reports.specs.Checked.{IsOpened, IsWhole, demands_of}
 
--- the bytes have a model of which something holds
+-- the bytes have a model with this property
 abbrev HasModelWith : Bool → List ℕ → (Metadata → Type 0) → Type 0
 HasModelWith bare bytes P = ∥ ((root : List ℕ) × (model : Metadata) × IsOpened bare bytes root × IsModel root model × P model) ∥₁
 
@@ -17,12 +17,12 @@ HasModelWith bare bytes P = ∥ ((root : List ℕ) × (model : Metadata) × IsOp
 abbrev pub IsRewritten : Bool → List ℕ → List ℕ → Type 0
 IsRewritten bare bytes written = HasModelWith bare bytes (λ model. written ≡ canonical model)
 
--- the canonical root of the bytes' model is too long
+-- the canonical root of the bytes' model exceeds 2^30 bytes
 abbrev pub IsTooLong : Bool → List ℕ → Type 0
 IsTooLong bare bytes = HasModelWith bare bytes (λ model. 2 ^ 30 < length (canonical model))
 
--- a failure is the fault of the first demand that fails, or that the root is too long; or memory was refused, of whole
--- bytes
+-- a fault is that of the first rule that fails, or says that the root is too long; if memory runs out, the bytes have a
+-- model; there is no other failure
 abbrev pub TellsUnwritten : Bool → List ℕ → Failure → Type 0
 TellsUnwritten bare bytes (failed.Fault found) = FirstToFail (demands_of bare bytes) found ⊎ ((found ≡ fault TooLarge 0) × IsTooLong bare bytes)
 TellsUnwritten bare bytes failed.OutOfMemory = IsWhole bare bytes

@@ -1,4 +1,4 @@
-//! The file that is asked about.
+//! Reads the file to work on.
 ghost use Rattle.std.specs.Prelude.{IfErr};
 ghost use Rattle.printed_faults.specs.Status.{IsUnread};
 
@@ -8,11 +8,11 @@ use std::io::Read;
 use std::rt::Files;
 use std::{fs, io};
 
-/// The most bytes that are read of a file: one more than it may have, so that a longer one is refused for
-/// its length, and one without an end as soon.
+/// The largest number of bytes that is read from a file: one more than it may have. So a longer file is refused for its
+/// length, and reading an endless one stops too.
 const MOST: u64 = (1 << 30) + 1;
 
-/// The bytes of a file, or its first 2^30 + 1 where it has more.
+/// The bytes of a file, or the first 2^30 + 1 if it has more.
 pub(crate) fn read_file<'a, R: Files + AllocGlobal>(
     rt: &R,
     file: &'a str,
@@ -24,7 +24,7 @@ pub(crate) fn read_file<'a, R: Files + AllocGlobal>(
 
 fn read_front<R: Files + AllocGlobal>(rt: &R, path: &str) -> io::Result<Vec<u8>> {
     let file = fs::open(rt, path)?;
-    // Room for the size that is told, and to meet the end; there are files that tell 0, and others grow.
+    // Room for the reported size and one byte more, to see the end. Some files report 0, and others grow.
     let told = file.metadata().map_or(0, |metadata| metadata.len());
     let mut bytes = Vec::with_capacity(rt.alloc(), told.min(MOST) as usize + 1)?;
     file.take(MOST).read_to_end(&mut bytes)?;

@@ -1,9 +1,8 @@
-//! The program `clim`, but for collecting its words.
+//! The program `clim`, without the collection of its arguments.
 //!
-//! [`ask`] reads the words of a command line; its contract says that the subcommand,
-//! flags and values are those that `clap` gives for them. [`go`] is the whole run: it reads the
-//! words and the file, prints, and answers the status that the process is to end with. What it
-//! prints is shown by tests and not proved.
+//! [`ask`] parses the arguments. Its contract says that the subcommand, flags and values are those that `clap` gives
+//! for them. [`go`] is the whole run: it parses the arguments, reads the file, prints, and returns the exit code. What
+//! it prints is tested, not proved.
 //!
 //! ```text
 //! let status = go(&rt, &["clim", "root", "--bare", "one_module.root"], &mut out, &mut err);

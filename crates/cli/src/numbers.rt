@@ -1,4 +1,4 @@
-//! The numbers that words write.
+//! Parses the numbers in arguments.
 ghost use Rattle.std.specs.Prelude.{◌≡◌, IfSome, Some};
 ghost use Rattle.std.specs.Option.{SomeIff};
 ghost use Rattle.std.specs.Str.Parse.{digits_value};
@@ -8,7 +8,7 @@ ghost use Rattle.cli.specs.Numbers.{IsHexNumber, IsCodeNumber, NamesCode};
 use explanations::code_of_number;
 use packed::FaultCode;
 
-/// The number that one to eight hexadecimal digits write, in either case; `None` for any other word.
+/// The number with these one to eight hexadecimal digits, in either case; `None` for any other argument.
 pub(crate) fn token_of(word: &str) -> Option<u32>
     ensures { SomeIff result (IsHexNumber word.now) (digits_value 16 word.now) }
 {
@@ -18,7 +18,7 @@ pub(crate) fn token_of(word: &str) -> Option<u32>
     u32::from_str_radix(word, 16).ok()
 }
 
-/// The number that three decimal digits write; `None` for any other word.
+/// The number with these three decimal digits; `None` for any other argument.
 fn code_number_of(word: &str) -> Option<u16>
     ensures { SomeIff result (IsCodeNumber word.now) (digits_value 10 word.now) }
 {
@@ -28,7 +28,7 @@ fn code_number_of(word: &str) -> Option<u16>
     u16::from_str_radix(word, 10).ok()
 }
 
-/// The demand whose number the word writes, in three decimal digits; `None` for any other word.
+/// The rule whose number the argument has, in three decimal digits; `None` for any other argument.
 pub(crate) fn code_of(word: &str) -> Option<FaultCode>
     ensures found { IfSome result (λ code. NamesCode word.now code) }
     ensures only { (code : Demanded) → NamesCode word.now code → result ≡ Some code }

@@ -16,17 +16,17 @@ use std::io;
 use std::io::{BufWriter, Write};
 use std::rt::Files;
 
-/// Runs the program on its words, its name first, and answers the status to end with:
+/// Runs the program on its arguments, the program name first, and returns the exit code:
 ///
-/// - 0: it did what was asked, or printed its help or version;
-/// - 1: the file breaks a rule of the standard, told as `fault LAYER CODE at OFFSET: NAME`, or lacks
-///   what the token names, or its canonical root is too long;
-/// - 2: the words ask for nothing that the program does; no file was read;
-/// - 3: the file could not be read, `out` or the file to write could not be written, memory was refused, or
-///   the budget was spent.
+/// - 0: success, or help or the version was printed;
+/// - 1: the file breaks a rule of the standard, reported as `fault LAYER CODE at OFFSET: NAME`; or it has nothing that
+///   the
+/// token names; or its canonical root is too long;
+/// - 2: usage error; no file was read;
+/// - 3: I/O error, out of memory, or budget spent.
 ///
-/// Results go to `out`, and only once all of the file was read; what went wrong goes to `err`. An
-/// `err` that can't be written changes nothing.
+/// Results go to `out`, but only after the whole file was read. Errors go to `err`. If `err` cannot be written, nothing
+/// else changes.
 pub fn go<R: Files + AllocGlobal, W: Write, E: Write>(
     rt: &R,
     words: &[&str],
@@ -41,8 +41,8 @@ pub fn go<R: Files + AllocGlobal, W: Write, E: Write>(
     }
 }
 
-/// Tells why the words of the command line could not be collected, and answers the status to end
-/// with: 2 where a word is not UTF-8, so that it names nothing, and 3 where memory was refused.
+/// Reports why the arguments could not be collected, and returns the exit code: 2 if one is not UTF-8, 3 if out of
+/// memory.
 pub fn refuse_words<E: Write>(error: &io::Error, err: &mut E) -> u8
     ensures memory { error_kind error.now ≡ cause.OutOfMemory → result ≡ 3 }
     ensures words { error_kind error.now ≢ cause.OutOfMemory → result ≡ 2 }
@@ -54,7 +54,7 @@ pub fn refuse_words<E: Write>(error: &io::Error, err: &mut E) -> u8
     2
 }
 
-/// The status of an outcome, told first where the program stopped.
+/// The exit code of a run. If the program stopped early, it reports that first.
 fn status<E: Write>(outcome: Result<(), Stop<'_>>, err: &mut E) -> u8
     ensures done { IfOk outcome.entry (λ _. result ≡ 0) }
     ensures stopped { IfErr outcome.entry (λ stop. result ≡ status_of_stop stop) }
@@ -68,7 +68,7 @@ fn status<E: Write>(outcome: Result<(), Stop<'_>>, err: &mut E) -> u8
     }
 }
 
-/// Tells what `clap` answered in place of matches: a usage fault, or help or the version.
+/// Reports what `clap` returned instead of matches: a usage error, or help or the version.
 fn tell<W: Write, E: Write>(alloc: Global, told: &clap::Error, out: &mut W, err: &mut E) -> u8
     ensures { result ≤ 3 }
 {
@@ -82,7 +82,7 @@ fn tell<W: Write, E: Write>(alloc: Global, told: &clap::Error, out: &mut W, err:
     status(print_told(alloc, told, out), err)
 }
 
-/// Does what the words ask for. They are judged whole before the file is read.
+/// Runs the task of the arguments. All arguments are checked before the file is read.
 fn run<'a, R: Files + AllocGlobal, W: Write>(
     rt: &R,
     ask: Ask<'a>,
@@ -100,7 +100,7 @@ fn run<'a, R: Files + AllocGlobal, W: Write>(
     }
 }
 
-/// Prints something of a file.
+/// Prints a report on a file.
 fn print_file<'a, R: Files + AllocGlobal, W: Write>(
     rt: &R,
     report: Report,
@@ -112,7 +112,7 @@ fn print_file<'a, R: Files + AllocGlobal, W: Write>(
     Ok(print_report(rt.alloc(), report, bare, &bytes, out)?)
 }
 
-/// Tells whether a file breaks a rule, within a budget.
+/// Checks a file against the rules, within a budget.
 fn check_file<'a, R: Files + AllocGlobal, W: Write>(
     rt: &R,
     budget: u64,

@@ -14,10 +14,10 @@ use std::rt::Files;
 use std::{fs, io};
 use view_writer::prepare_view;
 
-/// The most bytes of a root that is written.
+/// The largest length of a root that is written, in bytes.
 const LIMIT: u32 = 1 << 30;
 
-/// Writes the canonical root to the file of a path, and prints how many bytes it has.
+/// Writes the canonical root to a file, and prints its length in bytes.
 pub(crate) fn rewrite<'a, R: Files + AllocGlobal, W: Write>(
     rt: &R,
     bytes: &[u8],
@@ -43,7 +43,7 @@ fn canonical_root(alloc: Global, bytes: &[u8], bare: bool) -> Result<Prepared, F
     }
 }
 
-/// Writes a root to the file of a path, which is made or emptied first.
+/// Writes a root to a file, which is created or truncated first.
 fn write_file<'a, R: Files>(rt: &R, root: &Prepared, path: &'a str) -> Result<(), Failure<'a>>
     ensures { IfErr result (IsUnwritten path.now) }
 {

@@ -1,4 +1,4 @@
-//! What is to be done, by the words.
+//! What the arguments ask the program to do.
 ghost use Rattle.command_line.specs.Asked.{HasSecond};
 ghost use Rattle.cli.specs.Tasks.{IsTask, IsExplainTask};
 
@@ -8,20 +8,20 @@ use packed::FaultCode;
 use printed_faults::Failure;
 use reports::Report;
 
-/// What is to be done.
+/// What to do.
 #[derive(Clone, Copy, Debug, PartialEq, Eq)]
 pub(crate) enum Task<'a> {
     /// Print something of a file.
     Print(Report),
-    /// Tell whether a file breaks a rule, where so many bytes of signature blobs may be walked at most.
+    /// Check a file against the rules. At most this number of signature blob bytes is checked.
     CheckWithin(u64),
-    /// Write the canonical root of a file to the path that a word names.
+    /// Write the canonical root of a file to this path.
     Rewrite(&'a str),
     /// Explain a fault, or list all.
     Explain(Option<FaultCode>),
 }
 
-/// What the words ask for, before the file is read.
+/// The task of the arguments. It is known before the file is read.
 pub(crate) fn task_of<'a>(ask: Ask<'a>) -> Result<Task<'a>, Failure<'a>>
     requires { HasSecond ask }
     ensures { IsTask ask.entry.subcommand ask.entry result }
@@ -44,7 +44,7 @@ pub(crate) fn task_of<'a>(ask: Ask<'a>) -> Result<Task<'a>, Failure<'a>>
     })
 }
 
-/// What `explain` is to do: explain the fault whose number a word writes, or list all where there is no word.
+/// The task of `explain`: explain the fault with this number, or list all if there is no argument.
 fn explanation_of<'a>(code: Option<&'a str>) -> Result<Task<'a>, Failure<'a>>
     ensures { IsExplainTask code.entry result }
 {

@@ -1,5 +1,5 @@
-//! The program `clim`: reads, checks and writes .NET metadata. All of it but the collecting of its
-//! words is [`cli::go`].
+//! The program `clim`: reads, checks and writes .NET metadata. It collects the arguments; [`cli::go`] does everything
+//! else.
 #![tactic(auto)]
 
 use cli::{go, refuse_words};
@@ -14,7 +14,7 @@ fn main(rt: HostRuntime) -> ExitCode {
     ExitCode::from(status)
 }
 
-/// Collects the words and runs the program on them; an error is of the collecting alone.
+/// Collects the arguments and runs the program on them. An error is always one of the collection.
 fn run(rt: &HostRuntime) -> io::Result<u8> {
     let alloc = rt.alloc();
     let words: Vec<String> = env::args(rt)?.collect(alloc)?;

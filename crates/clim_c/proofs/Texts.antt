@@ -7,7 +7,7 @@ use Rattle.metadata.specs.Cell.{Cell, Text}
 use Rattle.metadata.specs.Source.{Source}
 use Rattle.metadata.specs.Rows.{IsCell}
 
--- a text of a heap is UTF-8
+-- a text of a heap is UTF-8 (II.24.2.3)
 text_is : (heap : List ℕ) (index : ℕ) (text : List ℕ) → IsText heap index text → IsUtf8 text
 text_is heap index text (inl none) = subst IsUtf8 (sym none.1) ([], (refl, refl))
 text_is heap index text (inr some) = some.2
@@ -33,7 +33,7 @@ pub has_namespace : 2 < cell_count TypeDef
 unfolding cell_columns
 has_namespace = lit< tt
 
--- a row that is answered by itself, and 0 where there is none
+-- if the result is not 0, it is the row that was found
 pub some_of : (r : Option ℕ) (P : ℕ → Type 0) → IfSome r P → 0 < unwrap_or r 0 → P (unwrap_or r 0)
 some_of None P is above = absurd (omega (arith, above))
 some_of (Some x) P is above = is

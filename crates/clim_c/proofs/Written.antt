@@ -1,11 +1,11 @@
--- What a loop leaves that writes one element after another.
+-- A loop that writes one element after another.
 use Rattle.std.proofs.Common.{◌≡◌, ℕ, ◌+◌, ◌≤◌, ◌<◌, ◌⊎◌, inl, inr, List, [], ◌∷◌, ◌++◌, length, take, get_or, set, append_assoc, sym, ◌∙◌, ap, subst, arith}
 use Rattle.std.specs.List.{SameFrom}
 use Rattle.std.proofs.lemmas.Bool.{cases_lt}
 use Rattle.std.proofs.lemmas.List.{append-nil, length-take-le, take_all, take_at, take_more_set, get_or-set_same, get_or-set_other}
 
 module _ {X : Type 0} where
-  -- the first elements hold what they should, with one more written
+  -- the first elements are right, and one more is written
   module _ (P : ℕ → X → Type 0) (xs : List X) (k : ℕ) (x : X) (within : k < length xs) (here : P k x)
       (before : (j : ℕ) (d : X) → j < k → P j (get_or xs j d)) where
     by_place : (j : ℕ) (d : X) → j < k + 1 → (j < k) ⊎ (k ≤ j) → P j (get_or (set xs k x) j d)
@@ -18,12 +18,12 @@ module _ {X : Type 0} where
     pub one_more : (j : ℕ) (d : X) → j < k + 1 → P j (get_or (set xs k x) j d)
     one_more j d below = by_place j d below (cases_lt j k)
 
-  -- the rest stays
+  -- the elements after it do not change
   pub rest_stays : (old xs : List X) (k : ℕ) (x : X) → SameFrom old xs k → SameFrom old (set xs k x) (k + 1)
   rest_stays old xs k x same = λ j d past.
       get_or-set_other xs k j x d (λ e. omega (arith, past, e)) ∙ same j d (omega (arith, past))
 
-  -- the items of a list are written from the first on: one more, all of them, and as many as there is room for
+  -- the items of a list are written in order: one more of them, all of them, or only those for which there is room
   pub next_left : (all xs left rest : List X) (k : ℕ) (x : X) → all ≡ take k xs ++ left → left ≡ x ∷ rest → k < length xs
       → all ≡ take (k + 1) (set xs k x) ++ rest
   next_left all xs left rest k x is first within =

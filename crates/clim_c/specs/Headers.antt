@@ -1,4 +1,4 @@
--- What a CLI header that is handed to C says.
+-- The CLI header that a C caller receives (II.25.3.3).
 use Rattle.cli_header.specs.declared.header.CliHeader.{CliHeader}
 use Rattle.cli_header.specs.declared.header.DataDirectory.{DataDirectory}
 use Rattle.clim_c.specs.declared.read_header.ClimDirectory.{ClimDirectory}
@@ -7,7 +7,7 @@ use Rattle.clim_c.specs.declared.read_header.ClimHeader.{ClimHeader}
 abbrev pub directory_of : ClimDirectory → DataDirectory
 directory_of told = record { rva = told.rva; size = told.size }
 
--- the header that it is
+-- the CLI header with these fields
 abbrev pub header_of : ClimHeader → CliHeader
 header_of told = record {
   place = told.place;

@@ -1,4 +1,4 @@
--- What look-ups write for C.
+-- The rows that look-ups write for a C caller.
 use Rattle.std.specs.Prelude.{◌≡◌, ◌↔◌, ◌⊎◌, ℕ, List, take}
 use Rattle.std.specs.List.{Contains}
 use Rattle.std.specs.List.Sorted.{IsStrictlyIncreasing}
@@ -8,15 +8,15 @@ use Rattle.schema.specs.declared.token.Token.{Token}
 use Rattle.metadata.specs.Metadata.{Metadata}
 use Rattle.metadata.specs.Lookups.{IsRun, HasRow, HasKey}
 
--- the rows are the first of those with a key, from the lowest on, as many as there is room for
+-- the rows are the first of those with the key, in ascending order: all of them, or those for which there is room
 pub record AreFirstByKey (model : Metadata) (table : TableId) (token : Token) (room : ℕ) (rows : List ℕ) : Type 0 where
   pub all : List ℕ
   pub ascending : IsStrictlyIncreasing all
   pub keyed : (row : ℕ) → Contains all row ↔ (HasRow model table row × HasKey model table token row)
   pub first : rows ≡ take room all
 
--- the rows of a table own rows of another: types own fields and methods, methods own parameters, and the rows of EventMap and
--- PropertyMap own events and properties (II.22.37, II.22.26, II.22.12, II.22.35)
+-- the rows of a table own rows of another: types own fields and methods, methods own parameters, and the rows of
+-- EventMap and PropertyMap own events and properties (II.22.37, II.22.26, II.22.12, II.22.35)
 abbrev pub Owns : TableId → TableId → Type 0
 Owns owner member =
     ((owner ≡ TypeDef) × (member ≡ Field))
@@ -25,7 +25,7 @@ Owns owner member =
     ⊎ (((owner ≡ EventMap) × (member ≡ Event))
     ⊎ ((owner ≡ PropertyMap) × (member ≡ Property)))))
 
--- the run of what a row owns
+-- the rows from `first` to before `past` are the run that the row owns
 abbrev pub IsOwned : Metadata → TableId → TableId → ℕ → ℕ → ℕ → Type 0
 IsOwned model owner member row first past =
     ((owner ≡ TypeDef) × (member ≡ Field) × IsRun model TypeDef 4 Field row first past)

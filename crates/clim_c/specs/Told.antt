@@ -1,4 +1,4 @@
--- What a cell that is handed to C tells.
+-- The cell that a C caller receives (II.22).
 use Rattle.std.specs.Prelude.{◌≡◌, ℕ, List, [], replicate, Some, None}
 use Rattle.schema.specs.declared.table.TableId.{TableId}
 use Rattle.schema.specs.Tables.{table_number}
@@ -11,16 +11,16 @@ use Rattle.reading.specs.declared.cell_ref.CellRef.TheVariants.{Number, Text, By
 use Rattle.reading.specs.Shown.{ShowsCell, ShowsBlob}
 use Rattle.clim_c.specs.declared.told_cell.ClimCell.{ClimCell}
 
--- what is told has a kind, bytes, a number, a table and a GUID
+-- the cell for C has this kind, these bytes, this number, this table and this GUID
 abbrev pub HasFields : ClimCell → ℕ → List ℕ → ℕ → ℕ → List ℕ → Type 0
 HasFields told kind bytes number table guid =
     (told.kind ≡ kind) × (told.bytes.now ≡ bytes) × (told.number ≡ number) × (told.table ≡ table) × (told.guid ≡ guid)
 
--- where no GUID is told
+-- the GUID field of a cell that is not a GUID
 abbrev pub no_guid : List ℕ
 no_guid = replicate 16 0
 
--- a value is told by its kind and by the fields that go with the kind; the others are 0 or no bytes
+-- the cell for C encodes the value: its kind, and the fields that belong to the kind; the others are 0 or no bytes
 abbrev pub Tells : ClimCell → CellRef → Type 0
 Tells told (Number number) = HasFields told 1 [] number 0 no_guid
 Tells told (Text text) = HasFields told 2 text.now 0 0 no_guid
@@ -32,7 +32,7 @@ Tells told (Ref (Some token)) = HasFields told 7 [] token.row (table_number toke
 Tells told (Start start) = HasFields told 8 [] start 0 no_guid
 Tells told (Sig blob) = HasFields told 9 blob.now 0 0 no_guid
 
--- what is told shows a cell of the root's model, and the blob of a signature is that of its number
+-- the cell for C is that of the root's model, and a signature is the blob at its heap offset
 abbrev pub TellsCell : List ℕ → Metadata → TableId → ℕ → ℕ → ClimCell → Type 0
 TellsCell root model table row column told =
     (seen : CellRef)

@@ -8,7 +8,7 @@ ghost use Rattle.clim_c.specs.Faults.{fault_of, IsWhole};
 use crate::fault::ClimFault;
 use opening::{open_image, open_root};
 
-/// Whether a file meets all demands; else the first that it does not meet.
+/// Whether a file meets all rules. Otherwise it writes the fault of the first rule that fails.
 #[unsafe(no_mangle)]
 pub extern "C" fn clim_check(file: &[u8], fault: &mut ClimFault) -> bool
     ensures found { OnTrue result (IsWhole file.now) }
@@ -25,7 +25,7 @@ pub extern "C" fn clim_check(file: &[u8], fault: &mut ClimFault) -> bool
     }
 }
 
-/// Whether a metadata root meets all demands; else the first that it does not meet.
+/// Whether a metadata root meets all rules. Otherwise it writes the fault of the first rule that fails.
 #[unsafe(no_mangle)]
 pub extern "C" fn clim_check_root(root: &[u8], fault: &mut ClimFault) -> bool
     ensures found { OnTrue result (HasModel root.now) }

@@ -2,22 +2,22 @@ ghost use Rattle.std.specs.Prelude.{◌≡◌};
 
 use opening::Fault;
 
-/// The first demand that some bytes do not meet, and where.
+/// The first rule that some bytes break, and where.
 #[repr(C)]
 #[derive(Clone, Copy)]
 pub struct ClimFault {
-    /// Where, counted in the bytes that were handed in.
+    /// The offset in the caller's bytes.
     pub offset: u64,
-    /// The number of the demand.
+    /// The number of the rule.
     pub code: u16,
-    /// The layer that poses it: the hundreds of the number.
+    /// The layer of the rule: the hundreds of its number.
     pub layer: u8,
 }
 
 impl ClimFault {
     ghost use Rattle.clim_c.specs.Faults.{fault_of};
 
-    /// A fault, for C.
+    /// The fault as a C caller receives it.
     pub(crate) fn of(fault: Fault) -> ClimFault
         ensures { fault_of result ≡ fault }
     {

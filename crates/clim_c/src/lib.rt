@@ -1,8 +1,8 @@
-//! `opening`, for C: a file is checked, opened and shown in place (ECMA-335 II.22 to II.25).
+//! The C interface of `opening`: checks a file, opens it and reads it in place (ECMA-335 II.22 to II.25).
 //!
-//! `c/clim.h` declares what is exported here, and says what a caller owes. Nothing takes memory or keeps
-//! anything between calls but in what the caller holds. Nothing checks that a C caller meets a condition, so
-//! no function has one: each tests its arguments, and its result tells what was refused.
+//! `c/clim.h` declares the exports, and says what a caller must ensure. Nothing here allocates. Nothing is kept between
+//! calls, except in what the caller holds. Nothing checks that a C caller meets a precondition, so no function has one:
+//! each tests its arguments, and its result says whether it rejected them.
 //!
 //! ```text
 //! clim_view view = CLIM_CLOSED;

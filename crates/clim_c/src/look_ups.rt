@@ -19,8 +19,8 @@ use schema::key;
 use std::ops::Range;
 use std::str;
 
-/// The first type with a namespace and a name, by its row; 0 where no type has them (II.22.37), and of a view
-/// that is not open. Names that are not UTF-8 are no type's.
+/// The first type with a namespace and a name, by its row (II.22.37). 0 if no type has them, or the view is not open.
+/// No type has a name that is not UTF-8.
 #[unsafe(no_mangle)]
 pub extern "C" fn clim_find_type(view: &ClimView, namespace: &[u8], name: &[u8]) -> u32
     ensures found { 0 < result → (model : Metadata) → IsModel view.now.root.now model → IsFirstType model namespace.now name.now result }
@@ -38,7 +38,7 @@ pub extern "C" fn clim_find_type(view: &ClimView, namespace: &[u8], name: &[u8])
     seen.find_type(namespace, name).unwrap_or(0)
 }
 
-/// The run of the rows of a table that a row of another owns, `None` where the one owns none of the other.
+/// The run of rows of `member` that a row of `owner` owns; `None` if the owner table does not own rows of that table.
 fn run_of(seen: &View, owner: TableId, row: u32, member: TableId) -> Option<Range<u32>>
     requires first { 1 ≤ row }
     requires last { row ≤ row_count seen.now owner }
@@ -57,8 +57,8 @@ fn run_of(seen: &View, owner: TableId, row: u32, member: TableId) -> Option<Rang
     Some(run)
 }
 
-/// The rows of a table that a row of another owns, from `first` to before `past` (II.22). It answers where the
-/// view is open and has the row, and the one table owns rows of the other; else both stay.
+/// The rows of one table that a row of another owns, from `first` to before `past` (II.22). `true` if the view is open
+/// and has the row, and the one table owns rows of the other. Otherwise `first` and `past` are unchanged.
 #[unsafe(no_mangle)]
 pub extern "C" fn clim_members(
     view: &ClimView,
@@ -96,7 +96,7 @@ pub extern "C" fn clim_members(
     true
 }
 
-/// Writes the rows with a key, as many as there is room for: how many were written.
+/// Writes the rows with a key, up to the length of `rows`, and returns the number written.
 fn write_rows(found: KeyRows<SourceKeys>, rows: &mut [u32]) -> usize
     ensures written { take result rows.new ≡ take (length rows.old) found.entry.rows }
     ensures within { result ≤ length rows.old }
@@ -113,8 +113,8 @@ fn write_rows(found: KeyRows<SourceKeys>, rows: &mut [u32]) -> usize
     count
 }
 
-/// The rows of a table whose key is a row, from the lowest on, as many as there are and as there is room for:
-/// how many were written (II.22). The others stay; none are written for a table without a key.
+/// Writes the rows of a table whose key is a row, in ascending order, up to the length of `rows`, and returns the
+/// number written (II.22). The other elements are unchanged. It writes none for a table without a key.
 #[unsafe(no_mangle)]
 pub extern "C" fn clim_rows_by_key(
     view: &ClimView,

@@ -9,7 +9,7 @@ use column_names::column_names;
 use opening::{Fault, TableId};
 use schema::{cell_count, column_of_cell};
 
-/// The name of the demand of a number; no bytes where no demand has it.
+/// The name of the rule with a number; no bytes if no rule has it.
 #[unsafe(no_mangle)]
 pub extern "C" fn clim_fault_name(code: u16, name: &mut &'static [u8])
     ensures { name.new.now ≡ name_of code }
@@ -22,7 +22,7 @@ pub extern "C" fn clim_fault_name(code: u16, name: &mut &'static [u8])
     *name = fault.name().as_bytes();
 }
 
-/// The name of the table of a number (II.22); no bytes where no table has it.
+/// The name of the table with a number (II.22); no bytes if no table has it.
 #[unsafe(no_mangle)]
 pub extern "C" fn clim_table_name(table: u8, name: &mut &'static [u8])
     ensures found { (known : Table) → table_number known ≡ table → name.new.now ≡ table_name known }
@@ -34,7 +34,7 @@ pub extern "C" fn clim_table_name(table: u8, name: &mut &'static [u8])
     };
 }
 
-/// How many cells a row of the table of a number has; 0 where no table has the number.
+/// The number of cells in a row of the table with a number; 0 if no table has it.
 #[unsafe(no_mangle)]
 pub extern "C" fn clim_cell_count(table: u8) -> usize
     ensures found { (known : Table) → table_number known ≡ table → result ≡ cell_count known }
@@ -46,8 +46,8 @@ pub extern "C" fn clim_cell_count(table: u8) -> usize
     }
 }
 
-/// The name of the column of a cell, by the place of the cell in its row, counted from 0 (II.22); no bytes
-/// where no row has such a cell.
+/// The name of the column of a cell, by the index of the cell in its row, from 0 (II.22); no bytes if no row has such a
+/// cell.
 #[unsafe(no_mangle)]
 pub extern "C" fn clim_column_name(table: u8, column: usize, name: &mut &'static [u8])
     ensures found { (known : Table) → table_number known ≡ table → column < cell_count known

@@ -11,7 +11,7 @@ use crate::fault::ClimFault;
 use crate::view::ClimView;
 use opening::{View, open_image, open_root, view_again};
 
-/// What is kept of an opened root.
+/// What a C caller keeps of an opened root.
 fn kept<'a>(view: &View<'a>) -> ClimView<'a>
     ensures root { result.root.now ≡ view.now }
     ensures open { result.is_open ≡ true }
@@ -23,7 +23,7 @@ fn kept<'a>(view: &View<'a>) -> ClimView<'a>
     }
 }
 
-/// The view of a root that was opened, `None` where there is none.
+/// The view of a root that was opened; `None` if there is none.
 pub(crate) fn seen<'a>(view: &ClimView<'a>) -> Option<View<'a>>
     ensures found { IfSome result (λ seen. (seen ≡ view.now.root.now) × (view.now.is_open ≡ true)) }
     ensures closed { IfNone result (view.now.is_open ≡ false) }
@@ -35,7 +35,8 @@ pub(crate) fn seen<'a>(view: &ClimView<'a>) -> Option<View<'a>>
     }
 }
 
-/// Opens a metadata root, in place; else tells the first demand that it does not meet, and the view stays.
+/// Opens a metadata root in place. Otherwise it writes the fault of the first rule that fails, and the view is
+/// unchanged.
 #[unsafe(no_mangle)]
 pub extern "C" fn clim_open_root<'a>(
     root: &'a [u8],
@@ -60,7 +61,7 @@ pub extern "C" fn clim_open_root<'a>(
     }
 }
 
-/// Opens a file, in place; else tells the first demand that it does not meet, and the view stays.
+/// Opens a file in place. Otherwise it writes the fault of the first rule that fails, and the view is unchanged.
 #[unsafe(no_mangle)]
 pub extern "C" fn clim_open<'a>(
     file: &'a [u8],

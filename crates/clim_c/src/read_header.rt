@@ -2,13 +2,13 @@ mod calls;
 
 pub use calls::clim_read_header;
 
-/// An address and how many bytes lie there, as headers name them (II.25.2.3.3).
+/// An address and the number of bytes there, as in the headers of a file (II.25.2.3.3).
 #[repr(C)]
 #[derive(Clone, Copy)]
 pub struct ClimDirectory {
     /// The relative virtual address of the first byte.
     pub rva: u32,
-    /// How many bytes there are.
+    /// The number of bytes.
     pub size: u32,
 }
 
@@ -16,15 +16,15 @@ pub struct ClimDirectory {
 #[repr(C)]
 #[derive(Clone, Copy)]
 pub struct ClimHeader {
-    /// Where the header begins in the file.
+    /// The offset of the header in the file.
     pub place: usize,
-    /// Where the metadata root begins in the file.
+    /// The offset of the metadata root in the file.
     pub root_start: usize,
-    /// Where the metadata root ends in the file.
+    /// The offset of the end of the metadata root in the file.
     pub root_end: usize,
-    /// How many bytes the header says that it has: 72 at least.
+    /// The size of the header in bytes, as it says: at least 72.
     pub cb: u32,
-    /// The least version of the runtime that the image needs.
+    /// The minimum version of the runtime that the image needs.
     pub major_runtime_version: u16,
     /// The minor part of that version.
     pub minor_runtime_version: u16,
@@ -34,16 +34,16 @@ pub struct ClimHeader {
     pub flags: u32,
     /// The token of the method where the program begins, or of the file that has it; 0 in a library.
     pub entry_point_token: u32,
-    /// The resources that the image has.
+    /// The resources of the image.
     pub resources: ClimDirectory,
     /// The hash of the file by which a loader checks its strong name.
     pub strong_name_signature: ClimDirectory,
-    /// Always 0 in the standard.
+    /// Always 0 by the standard.
     pub code_manager_table: ClimDirectory,
     /// The tables of function pointers that a loader fills in.
     pub vtable_fixups: ClimDirectory,
-    /// Always 0 in the standard.
+    /// Always 0 by the standard.
     pub export_address_table_jumps: ClimDirectory,
-    /// Always 0 in the standard.
+    /// Always 0 by the standard.
     pub managed_native_header: ClimDirectory,
 }

@@ -16,7 +16,7 @@ use crate::view::ClimView;
 use opening::{CellRef, TableId, View};
 use schema::cell_count;
 
-/// A value, for C.
+/// A value as a C caller receives it.
 fn told<'a>(cell: CellRef<'a>) -> ClimCell<'a>
     ensures { Tells result cell.entry }
 {
@@ -35,7 +35,7 @@ fn told<'a>(cell: CellRef<'a>) -> ClimCell<'a>
     }
 }
 
-/// A cell of a row of a table, for C.
+/// A cell of a row of a table, as a C caller receives it.
 fn told_at<'a>(seen: &View<'a>, table: TableId, row: u32, column: usize) -> ClimCell<'a>
     requires first { 1 ≤ row }
     requires last { row ≤ row_count seen.now table }
@@ -45,8 +45,8 @@ fn told_at<'a>(seen: &View<'a>, table: TableId, row: u32, column: usize) -> Clim
     told(seen.cell(table, row, column))
 }
 
-/// A cell of a row, counted from 1, by its place in the row, counted from 0. It answers where the view is
-/// open and has the cell; else the cell stays.
+/// A cell of a row, by its index in the row; rows count from 1, cells from 0. `true` if the view is open and has the
+/// cell. Otherwise `cell` is unchanged.
 #[unsafe(no_mangle)]
 pub extern "C" fn clim_cell_at<'a>(
     view: &ClimView<'a>,
@@ -76,8 +76,8 @@ pub extern "C" fn clim_cell_at<'a>(
     true
 }
 
-/// The cells of a column, from a row on, as many as there are and as there is room for: how many were
-/// written. The others stay.
+/// Writes the cells of a column from a row on, up to the length of `cells`, and returns the number written. The other
+/// elements are unchanged.
 #[unsafe(no_mangle)]
 pub extern "C" fn clim_cells<'a>(
     view: &ClimView<'a>,

@@ -1,14 +1,14 @@
-/// A cell of a row, for C (II.22). The fields that do not go with its kind are 0 or no bytes.
+/// A cell of a row, for C (II.22). The fields that do not belong to its kind are 0 or no bytes.
 #[repr(C)]
 #[derive(Clone, Copy)]
 pub struct ClimCell<'a> {
-    /// A text, a blob or the blob of a signature: a part of the root.
+    /// A text, a blob or a signature blob: a part of the root.
     pub bytes: &'a [u8],
-    /// A number; a row; or the first member of a run.
+    /// A number, the number of a row, or the first member of a run.
     pub number: u32,
-    /// What the cell is: `CLIM_NUMBER` to `CLIM_SIGNATURE` of `clim.h`.
+    /// The kind of the cell: `CLIM_NUMBER` to `CLIM_SIGNATURE` of `clim.h`.
     pub kind: u8,
-    /// The table of a row, by its number.
+    /// The table of a row, by table number.
     pub table: u8,
     /// A GUID.
     pub guid: [u8; 16],

@@ -3,16 +3,16 @@ ghost use Rattle.opening.specs.Views.{HasModel, AreFound};
 
 use opening::Found;
 
-/// A root that was opened, in the bytes that were handed in; or none.
+/// A root that was opened, in the caller's bytes; or none.
 ///
-/// It is the caller's, who moves and copies it as a whole, and drops it with no call. `clim_open` and
-/// `clim_open_root` make it, and the bytes have to stay as they are while it is used.
+/// It belongs to the caller, who may move and copy it as a whole. No call is needed to free it. `clim_open` and
+/// `clim_open_root` make it. The bytes must not change while it is used.
 #[repr(C)]
 #[derive(Clone, Copy)]
 pub struct ClimView<'a> {
     /// The root.
     pub root: &'a [u8],
-    /// What was found of it when it was opened.
+    /// What opening found of the root.
     pub found: Found,
     /// Whether there is a root.
     pub is_open: bool,

@@ -9,7 +9,7 @@ use crate::opened::seen;
 use crate::view::ClimView;
 use opening::TableId;
 
-/// The version that the root names (II.24.2.1); no bytes of a view that is not open.
+/// The version string of the root (II.24.2.1); no bytes if the view is not open.
 #[unsafe(no_mangle)]
 pub extern "C" fn clim_version<'a>(view: &ClimView<'a>, version: &mut &'a [u8])
     ensures open { view.now.is_open ≡ true → (model : Metadata) → IsModel view.now.root.now model → version.new.now ≡ model.version }
@@ -21,7 +21,7 @@ pub extern "C" fn clim_version<'a>(view: &ClimView<'a>, version: &mut &'a [u8])
     };
 }
 
-/// The bytes of `#US`, as they stand in the root (II.24.2.4); no bytes of a view that is not open.
+/// The bytes of `#US`, as they are in the root (II.24.2.4); no bytes if the view is not open.
 #[unsafe(no_mangle)]
 pub extern "C" fn clim_user<'a>(view: &ClimView<'a>, user: &mut &'a [u8])
     ensures open { view.now.is_open ≡ true → user.new.now ≡ user_of view.now.root.now }
@@ -33,7 +33,7 @@ pub extern "C" fn clim_user<'a>(view: &ClimView<'a>, user: &mut &'a [u8])
     };
 }
 
-/// How many rows the table of a number has; 0 where no table has the number, and of a view that is not open.
+/// The number of rows in the table with a number; 0 if no table has it, or the view is not open.
 #[unsafe(no_mangle)]
 pub extern "C" fn clim_count(view: &ClimView, table: u8) -> u32
     ensures open { view.now.is_open ≡ true → (model : Metadata) → IsModel view.now.root.now model

@@ -1,4 +1,4 @@
--- Where `clap` finds no fault in the words, each argument that has a row has a value.
+-- If `clap` accepts the arguments, each argument that has a row has a value.
 use Rattle.std.proofs.Common.{◌≡◌, ◌<◌, ◌&&◌, ◌++◌, ℕ, Bool, true, false, zero, suc, cond, List, [], ◌∷◌, length, length-append, subst, ap, Option, Some, None, is_some, arith, refl}
 use Rattle.std.specs.Prelude.{find, fold, slice_get, drop, encode_utf8, option_and_then, unwrap_or}
 use Rattle.std.specs.Option.{option_map_or}
@@ -75,7 +75,7 @@ given_has_value id rows given f = go (find (λ r. bytes_eq r.id id) rows) refl g
 
 -- ---- uses
 
--- a use of the argument that has no fault leaves each row with a value
+-- an accepted use of the argument leaves each row with a value
 abbrev pub Fills : Rule → Type 0
 Fills a = (again : Bool) (values : List Text) (rows : List Row) → use_fault again a values rows ≡ [] → IsFilled rows → IsFilled (used a values rows)
 
@@ -91,7 +91,7 @@ found_fills p (x ∷ xs) a e fills = go (p x) e (λ rest. found_fills p xs a res
     go true same rest = subst Fills (ap (λ o. unwrap_or o x) same) fills.0
     go false later rest = rest later
 
--- ---- the walk over the words, by the parts of `clap`'s definition
+-- ---- the walk over the arguments, by the parts of `clap`'s definition
 
 module _ (c : List Rule) (again : Bool) (fills : AllFill c) where
   settled_filled : (h : Held) → settle_fault c again h ≡ [] → IsFilled h.rows → IsFilled (settled c h).rows
@@ -130,7 +130,7 @@ module _ (c : List Rule) (again : Bool) (fills : AllFill c) where
       go false None none = reacted_filled a (found a refl) [] h none f
       go false (Some v) none = f
 
-  -- the rest of a bundle, from any place in it
+  -- the remainder of a bundle of flags, from any position in it
   abbrev RestFills : (Text → ℕ → Held → Kinds) → (Text → ℕ → Outcome → Held → Held × Outcome) → Type 0
   RestFills fault met = (flags : Text) (skip : ℕ) (so_far : Outcome) (h : Held) → fault flags skip h ≡ [] → IsFilled h.rows
       → IsFilled (met flags skip so_far h).0.rows
@@ -163,7 +163,7 @@ module _ (c : List Rule) (again : Bool) (fills : AllFill c) where
   bundle_filled (suc k) flags skip so_far h e f =
       step_filled (flags_fault c again k) (bundle_met c k) (bundle_filled k) (slice_get (chars flags) 0) flags skip so_far h e f
 
-  -- a word that is no flag, or was one, changes no row
+  -- an argument that is not a flag, or was one, changes no row
   plain_filled : (waiting : Waiting) (word : Text) (h : Held) → IsFilled h.rows → IsFilled (plain_word c waiting word h).0.rows
   plain_filled idle word h f = f
   plain_filled positional word h f = f

@@ -1,4 +1,4 @@
--- Where `clap` finds no fault in the words, they do not name the subcommand `help`.
+-- If `clap` accepts the arguments, they do not name the subcommand `help`.
 use Rattle.std.proofs.Common.{◌≡◌, ◌&&◌, ℕ, Bool, true, false, cond, not, List, [], ◌∷◌, Option, Some, None, is_some, refl, codes}
 use Rattle.std.specs.Prelude.{fold}
 use Rattle.std.specs.Str.{bytes_eq}
@@ -13,7 +13,7 @@ use Rattle.command_line.proofs.Filled.{first_none, second_none}
 abbrev pub is_help : Text → Bool
 is_help name = bytes_eq name (codes "help")
 
--- a walk that stopped has not stopped at `help`
+-- the walk did not stop at `help`
 abbrev pub StopsElsewhere : Option (Text × List Text) → Type 0
 StopsElsewhere None = Unit {0}
 StopsElsewhere (Some p) = is_help p.0 ≡ false
@@ -54,7 +54,7 @@ module _ (c : List Rule) where
       go None = stops
       go (Some a) = tt
 
--- a name is not `help`, where `help` would be answered
+-- a name is not `help`, since `clap` would answer that with the help
 not_help : (found disabled : Bool) (k : Kinds) (rest : Kinds) → disabled ≡ false → cond (found && not disabled) (kind.DisplayHelp ∷ rest) [] ≡ [] → found ≡ false
 not_help false disabled k rest is none = refl
 not_help true false k rest is none = cc
@@ -97,6 +97,6 @@ module _ (s : Shape) (names : Names) (helps : s.disable_help_subcommand ≡ fals
   walk_stops w (word ∷ rest) e stops =
       walk_stops (walked s.rules names w word) rest (second_none (turn_fault s names w word) _ e) (turn_stops w word (first_none _ _ e) stops)
 
-  -- the walk over the words does not stop at `help`
+  -- the walk over the arguments does not stop at `help`
   pub stops_elsewhere : (h : Held) (words : List Text) → walk_fault s names (walk_from h) words ≡ [] → StopsElsewhere (walk s.rules names h words).stopped
   stops_elsewhere h words e = walk_stops (walk_from h) words e tt

@@ -1,4 +1,4 @@
--- What the getters of `clap`'s matches read, where the matches are those of the words.
+-- What the getters of `clap`'s matches return, if the matches are those of the arguments.
 use Rattle.std.proofs.Common.{◌≡◌, ◌↔◌, ◌∙◌, ℕ, Result, Ok, Err, Bool, true, false, IsTrue, List, ap, ap₂, sym, Option, Some, None, refl, codes, is_some, subst}
 use Rattle.std.specs.Prelude.{if◌then◌else◌, option_map, unwrap_or, IsSome}
 use Rattle.std.specs.Option.{option_eq}
@@ -23,18 +23,18 @@ both_parts None name rows e f = cc
 both_parts (Some p) name rows e f =
     ap₂ (λ (n : Text) (rs : List Row). Some (n, rs)) (ap (λ o. unwrap_or o name) e) (ap (λ o. unwrap_or o rows) f)
 
--- the subcommand that was met, by its name and by its rows
+-- the subcommand that was found, by its name and by its rows
 pub rows_met : (m : ArgMatches) (name : Text) (rows : List Row) → subcommand_name_of m ≡ Some name
     → option_map (λ p. p.1) (subcommand_rows_of m) ≡ Some rows → subcommand_rows_of m ≡ Some (name, rows)
 rows_met m name rows named given = both_parts (subcommand_rows_of m) name rows (option_map_map _ _ (out-ArgMatches m).subcommand ∙ named) given
 
--- a word that is found to be that of a subcommand, or else is named by what is left
+-- an argument that is the name of a subcommand, or else of one of the following ones
 named_by : (word : Text) (found : Bool) (t : Subcommand) (rest : Option Subcommand) (s : Subcommand) → (found ≡ true → word ≡ name_of t)
     → (rest ≡ Some s → word ≡ name_of s) → (if found then Some t else rest) ≡ Some s → word ≡ name_of s
 named_by word true t rest s is later e = subst (λ (u : Subcommand). word ≡ name_of u) (ap (λ o. unwrap_or o t) e) (is refl)
 named_by word false t rest s is later e = later e
 
--- the word of the subcommand that it names
+-- the argument is the name of the subcommand that it selects
 pub named_back : (word : Text) (s : Subcommand) → subcommand_named word ≡ Some s → word ≡ name_of s
 named_back word s e =
     named_by word (bytes_eq word (name_of Root)) Root _ s (bytes_eq-Decides word (name_of Root)).0
@@ -46,7 +46,7 @@ named_back word s e =
     (named_by word (bytes_eq word (name_of Explain)) Explain _ s (bytes_eq-Decides word (name_of Explain)).0
     (λ none. cc))))))) e
 
--- a flag reads as true exactly where its text is `true`
+-- a flag is read as true if and only if its text is `true`
 flag_reads : (E : Type 0) (o : Option Text) (r : Option Bool) → (o ≡ None → r ≡ None)
     → ((t : Text) → o ≡ Some t → ReadsOne {E = E} ParsesBool t r) → (r ≡ Some true) ↔ (o ≡ Some (codes "true"))
 flag_reads E None r none value = ((λ is. let nothing = none refl in cc), (λ is. cc))
@@ -56,7 +56,7 @@ flag_reads E (Some t) (Some true) none value = ((λ _. ap Some (value t refl)), 
 flag_reads E (Some t) (Some false) none value =
     ((λ is. cc), (λ is. let word = value t refl in let other = ap (λ o. unwrap_or o t) is in cc))
 
--- the number of bytes that a getter reads
+-- the number of bytes that a getter returns
 pub count_is : (E : Type 0) (gives : List ℕ → Result ℕ E → Type 0) → ((t : Text) (r : Result ℕ E) → gives t r → ParsesUnsigned 64 10 t r) → (o : Option Text) (r : Option ℕ)
     → (o ≡ None → r ≡ None) → ((t : Text) → o ≡ Some t → ReadsOne gives t r) → IsCountOf o r
 count_is E gives parses None r none value = none refl

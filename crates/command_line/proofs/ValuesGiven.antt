@@ -1,4 +1,4 @@
--- Where `clap` finds no fault in the words, each value that the subcommand takes is there.
+-- If `clap` accepts the arguments, each value that the subcommand needs is there.
 use Rattle.std.proofs.Common.{◌≡◌, ◌≢◌, ◌<◌, ◌&&◌, ◌||◌, ◌∙◌, ℕ, Bool, true, false, cond, not, List, [], ◌∷◌, length, subst, ap, sym, Option, Some, None, is_some, arith, refl, codes}
 use Rattle.std.specs.Prelude.{find, option_map, unwrap_or, if◌then◌else◌, IsSome}
 use Rattle.std.specs.Str.{bytes_eq}
@@ -20,7 +20,7 @@ use Rattle.command_line.specs.CommandLine.{bare, budget, check, clim, code, expl
 use Rattle.command_line.proofs.NoHelp.{StopsElsewhere, is_help, stops_elsewhere}
 use Rattle.command_line.proofs.Filled.{AllFill, Fills, IsFilled, below_none, check_none, filled_with, filled_without, first_none, given_has_value, level_filled}
 
--- an argument whose use takes the place of an earlier one, with a value at least
+-- an argument whose new use replaces an earlier one, with at least one value
 set_fills : (a : Rule) → ((values : List Text) (rows : List Row) → used a values rows
     ≡ with_values a.id (reading_by a) CommandLine (values_or_missing a values) (without a.id rows))
     → ((again : Bool) (values : List Text) (rows : List Row) → use_fault again a values rows ≡ [] → 0 < length (values_or_missing a values))
@@ -39,7 +39,7 @@ built_value index a = with_index index (filled a)
 abbrev built_bare : Rule
 built_bare = with_index 2 (filled bare)
 
--- the values that a subcommand takes, by its name
+-- the values that a subcommand needs, by its name
 abbrev pub values_in : Text → List Text
 values_in name =
     if bytes_eq name (name_of Explain) then []
@@ -58,7 +58,7 @@ all_there : (ids : List Text) (rows : List Row) → IsFilled rows → AllGiven i
 all_there [] rows f given = tt
 all_there (id ∷ ids) rows f given = (given_has_value id rows given.0 f, all_there ids rows f given.1)
 
--- each use of a subcommand's arguments gives a value, and it wants those that it takes
+-- each use of a subcommand's arguments gives a value, and it requires those that it needs
 pub record IsReady (s : Shape) : Type 0 where
   pub fills : AllFill s.rules
   pub values : List Text
@@ -66,7 +66,7 @@ pub record IsReady (s : Shape) : Type 0 where
   pub known : IsSome (subcommand_named s.name)
   pub needs : (rows : List Row) → list_any (λ a. a.required && not (is_given a.id rows)) s.rules ≡ false → AllGiven values rows
 
--- those that are found by a test are ready
+-- the subcommands that a test finds are ready
 abbrev pub AllReady : (Shape → Bool) → List Shape → Type 0
 AllReady p [] = Unit {0}
 AllReady p (s ∷ rest) = (p s ≡ true → IsReady s) × AllReady p rest
@@ -122,7 +122,7 @@ not_needed : (given others : Bool) → (not given || others) ≡ false → other
 not_needed true others e = e
 not_needed false others e = cc
 
--- the values that each subcommand takes
+-- the values that each subcommand needs
 root_takes : values_in (codes "root") ≡ codes "FILE" ∷ []
 unfolding clap_on_literals
 root_takes = refl
@@ -201,7 +201,7 @@ check_ready = record {
   needs = λ rows all. (needed (is_given (codes "FILE") rows) _ all, tt);
 }
 
--- one that has a second value beside the file
+-- one with a second value besides the file
 abbrev built_second : Text → Shape
 built_second name = built_leaf (inherited (built clim).top (with_rule (reader name) second).top)
 
@@ -226,7 +226,7 @@ explain_ready = record {
   needs = λ rows all. tt;
 }
 
--- a word that answers to `help` is `help`
+-- an argument that selects `help` is `help`
 answers_help : (word : Text) → answers_to word (codes "help", []) ≡ true → is_help word ≡ true
 answers_help word is = go (bytes_eq (codes "help") word) (bytes_eq-Decides (codes "help") word).0 is
   where
@@ -234,7 +234,7 @@ answers_help word is = go (bytes_eq (codes "help") word) (bytes_eq-Decides (code
     go true same is = (bytes_eq-Decides word (codes "help")).1 (sym (same refl))
     go false same is = cc
 
--- each subcommand that a word other than `help` names
+-- each subcommand that an argument other than `help` selects is ready
 clim_ready : (word : Text) → is_help word ≡ false → AllReady (λ s. answers_to word (label_of s)) (built clim).subs
 clim_ready word other = (
   (λ is. reader_ready (codes "root") root_takes root_known),
@@ -266,7 +266,7 @@ file_first Token rows other there = (subst (λ (ids : List Text). AllThere ids r
 file_first Rewrite rows other there = (subst (λ (ids : List Text). AllThere ids rows) rewrite_takes there).0
 file_first Explain rows other there = absurd (other refl)
 
--- nothing is wanted that is not there
+-- all required values are there
 none_wanted : (wants_help wants_subcommand negates any : Bool) → check_kinds wants_help wants_subcommand (not (negates && false) && any) ≡ [] → any ≡ false
 none_wanted false false true false e = refl
 none_wanted false false false false e = refl
@@ -275,7 +275,7 @@ none_wanted false true negates any e = cc
 none_wanted false false true true e = cc
 none_wanted false false false true e = cc
 
--- each subcommand of a command is ready, where a word other than `help` names it
+-- each subcommand of a command is ready if an argument other than `help` selects it
 abbrev IsWholeApp : App → Type 0
 IsWholeApp a = (word : Text) → is_help word ≡ false → AllReady (λ s. answers_to word (label_of s)) a.subs
 
@@ -298,7 +298,7 @@ entered_has_values a (Some p) name rows ready elsewhere none e = go (find (λ s.
         subst (λ (rs : List Row). AllThere (values_in name) rs) same
         (subst (λ (ids : List Text). AllThere ids (finished s.rules (walk s.rules [] nothing_held p.1).held)) (sym own.takes ∙ ap values_in named) there)
 
--- where the walk over the program's own words stops
+-- where the walk over the program's own arguments stops
 abbrev stop_in : List Text → Option (Text × List Text)
 stop_in words = stop_after (built clim).top.rules (names_of (built clim)) (argument_words clim words)
 
@@ -306,7 +306,7 @@ stops : (words : List Text) → fault_of clim words ≡ [] → StopsElsewhere (s
 stops words none =
     stops_elsewhere (built clim).top (names_of (built clim)) refl nothing_held (argument_words clim words) (first_none _ _ none)
 
--- the words give each value that the subcommand takes, where `clap` finds no fault in them
+-- the arguments have each value that the subcommand needs, if `clap` accepts them
 pub has_values : (words : List Text) (name : Text) (rows : List Row) → fault_of clim words ≡ [] → subcommand_of clim words ≡ Some (name, rows)
     → AllThere (values_in name) rows
 has_values words name rows none is =
@@ -314,7 +314,7 @@ has_values words name rows none is =
     entered_has_values a (stop_in words) name rows clim_ready (stops words none)
     (below_none a.top (names_of a) nothing_held (argument_words clim words) (is_some (entered a (stop_in words))) (entered_fault a (stop_in words)) none) is
 
--- the subcommand that the words name is one, where `clap` finds no fault in them
+-- the arguments name a known subcommand, if `clap` accepts them
 pub is_known : (words : List Text) (name : Text) (rows : List Row) → fault_of clim words ≡ [] → subcommand_of clim words ≡ Some (name, rows)
     → IsSome (subcommand_named name)
 is_known words name rows none is = go (built clim) (stop_in words) clim_ready (stops words none) is

@@ -1,4 +1,4 @@
--- What the words of a command line ask for, by what `clap` gives for them.
+-- What the arguments of a command line ask for, by what `clap` gives for them.
 use Rattle.std.specs.Prelude.{◌≡◌, ◌≢◌, ◌↔◌, ℕ, ◌<◌, ◌^◌, IsTrue, IsSome, MatchOption, List, Option, Some, None, codes, if◌then◌else◌, option_map}
 use Rattle.std.specs.Str.{bytes_eq}
 use Rattle.std.specs.Option.{SomeIff}
@@ -9,7 +9,7 @@ use Rattle.command_line.specs.declared.asked.Ask.{Ask}
 use Rattle.command_line.specs.declared.asked.Subcommand.{Subcommand}
 use Rattle.command_line.specs.declared.asked.Subcommand.TheVariants.{Root, Check, Show, Types, Token, Rewrite, Explain}
 
--- the word of a subcommand
+-- the name of a subcommand
 abbrev pub name_of : Subcommand → Text
 name_of Root = codes "root"
 name_of Check = codes "check"
@@ -19,7 +19,7 @@ name_of Token = codes "token"
 name_of Rewrite = codes "rewrite"
 name_of Explain = codes "explain"
 
--- the subcommand that a word names
+-- the subcommand with this name
 abbrev pub subcommand_named : Text → Option Subcommand
 subcommand_named word =
     if bytes_eq word (name_of Root) then Some Root
@@ -31,17 +31,17 @@ subcommand_named word =
     else if bytes_eq word (name_of Explain) then Some Explain
     else None
 
--- decimal digits of a number of 64 bits, where a plus may stand first
+-- decimal digits of a number of 64 bits, with or without a leading plus sign
 abbrev pub IsByteCount : List ℕ → Type 0
 IsByteCount word = IsNumeral 10 (without_leading_plus word) × (digits_value 10 (without_leading_plus word) < 2 ^ 64)
 
--- the number of bytes that a word writes, where there is a word, and it writes one
+-- the number that the argument denotes; `None` if there is no argument, or it does not denote one
 abbrev pub IsCountOf : Option Text → Option ℕ → Type 0
 IsCountOf given number = MatchOption given (number ≡ None) (λ word. SomeIff number (IsByteCount word) (digits_value 10 (without_leading_plus word)))
 
--- the words name the subcommand, and give it the flag and the values
+-- the arguments name the subcommand, and give it this flag and these values
 pub record Gives (words : List Text) (ask : Ask) : Type 0 where
-  -- what `clap` gives for each argument of the subcommand
+  -- the values that `clap` gives for each argument of the subcommand
   pub rows : List Row
   pub subcommand : subcommand_of clim words ≡ Some (name_of ask.subcommand, rows)
   pub bare : IsTrue ask.bare ↔ (one_of (codes "bare") rows ≡ Some (codes "true"))
@@ -50,10 +50,10 @@ pub record Gives (words : List Text) (ask : Ask) : Type 0 where
   pub budget : IsCountOf (one_of (codes "budget") rows) ask.budget
   pub code : option_map (λ word. word.now) ask.code ≡ first_of (codes "CODE") rows
 
--- the file is there where the subcommand reads one
+-- there is a file, if the subcommand reads one
 abbrev pub HasFile : Ask → Type 0
 HasFile ask = ask.subcommand ≢ Explain → IsSome ask.file
 
--- the second value is there where the subcommand has one
+-- there is a second value, if the subcommand has one
 abbrev pub HasSecond : Ask → Type 0
 HasSecond ask = (ask.subcommand ≡ Token → IsSome ask.second) × (ask.subcommand ≡ Rewrite → IsSome ask.second)

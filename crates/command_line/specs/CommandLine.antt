@@ -1,16 +1,15 @@
--- The command line of the program, in the words of `clap`: what each command is called, and which
--- arguments it takes.
+-- The command line of the program as `clap` sees it: the name of each command, and the arguments that it takes.
 use Rattle.std.specs.Prelude.{Some, true, codes}
 use Rattle.clap.specs.Words.{App, Rule, Text, new_app, new_rule, with_rule, with_subcommand}
 use Rattle.clap.specs.Simple.{on_top}
 use Rattle.clap.specs.declared.builder.action.ArgAction.TheVariants.{Set, SetTrue}
 use Rattle.clap.specs.declared.builder.value_parser.ValueParser.TheVariants.{Unsigned}
 
--- `FILE`, one word, which must be there
+-- `FILE`, one value, required
 abbrev pub file : Rule
 file = record (new_rule (codes "FILE")) { action = Some Set; required = true }
 
--- a second value, one word, which must be there, and which help calls by a name
+-- a second value, required; help shows it with this name
 abbrev pub second : Rule
 second = record (new_rule (codes "second")) { action = Some Set; value_names = 1; required = true }
 
@@ -22,7 +21,7 @@ bare = record (new_rule (codes "bare")) { long = Some (codes "bare"); action = S
 abbrev pub budget : Rule
 budget = record (new_rule (codes "budget")) { long = Some (codes "budget"); action = Some Set; value_names = 1; parser = Some (Unsigned 0 0xFFFF_FFFF_FFFF_FFFF) }
 
--- `CODE`, one word, which may be there
+-- `CODE`, one value, optional
 abbrev pub code : Rule
 code = record (new_rule (codes "CODE")) { action = Some Set }
 
@@ -58,7 +57,7 @@ rewrite = with_rule (reader (codes "rewrite")) second
 abbrev pub explain : App
 explain = with_rule (new_app (codes "explain")) code
 
--- `clim SUBCOMMAND ..`, where the subcommand must be there
+-- `clim SUBCOMMAND ..`; the subcommand is required
 abbrev pub without_subcommands : App
 without_subcommands = on_top (λ s. record s { has_version = true; subcommand_required = true }) (new_app (codes "clim"))
 

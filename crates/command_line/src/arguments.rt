@@ -1,4 +1,4 @@
-//! The command line, and what its words ask for.
+//! The command line, and what its arguments ask for.
 ghost use Rattle.std.specs.Prelude.{◌≡◌, IfOk, IsOkAnd, map};
 ghost use Rattle.clap.specs.Words.{AddsSubcommand, FailsBy, app_of, fault_of};
 ghost use Rattle.command_line.specs.Asked.{Gives, HasFile, HasSecond};
@@ -11,13 +11,13 @@ use crate::subcommands::{
 use clap::{Command, Error};
 use std::alloc::{AllocError, Global};
 
-/// Reads the words of a command line, the program's name first.
+/// Parses the arguments of a command line, the program name first.
 ///
 /// # Errors
 ///
-/// The error that `clap` makes of words that the command line does not take, and of a request for
-/// help or the version (`use_stderr` tells them apart); want of memory is of the kind `OutOfMemory`.
-/// Its `Display` is the text for the user.
+/// The error that `clap` makes for arguments that the command line does not accept, and for a request for help or the
+/// version (`use_stderr` distinguishes them). Out of memory has the kind `OutOfMemory`. `Display` gives the text for
+/// the user.
 pub fn ask<'a>(alloc: Global, words: &'a [&'a str]) -> Result<Ask<'a>, Error>
     ensures given { IfOk result (Gives (map (λ word. word.now) words.entry.now)) }
     ensures file { IfOk result HasFile }
@@ -36,14 +36,12 @@ pub fn ask<'a>(alloc: Global, words: &'a [&'a str]) -> Result<Ask<'a>, Error>
     })
 }
 
-/// The command line as `clap` reads it and shows it in help.
+/// The command line as `clap` parses it and shows it in help.
 fn command<'a>(alloc: Global) -> Result<Command<'a>, AllocError>
     ensures { IfOk result (λ command. app_of command ≡ clim) }
 {
     let program = Command::new(alloc, "clim")
-        .about(
-            "Reads, checks and rewrites the metadata of .NET assemblies (ECMA-335, Partition II)",
-        )
+        .about("Read, check and rewrite the metadata of .NET assemblies (ECMA-335, Partition II)")
         .version("0.1.0")
         .after_help(STATUSES)
         .subcommand_required(true);
@@ -56,7 +54,7 @@ fn command<'a>(alloc: Global) -> Result<Command<'a>, AllocError>
     with(program, explain_fault::command(alloc))
 }
 
-/// A command with one subcommand more, where there was memory for that.
+/// A command with one more subcommand. Fails only if out of memory.
 fn with<'a>(
     command: Result<Command<'a>, AllocError>,
     subcommand: Result<Command<'a>, AllocError>,
@@ -70,11 +68,11 @@ fn with<'a>(
 }
 
 const STATUSES: &str = "\
-'clim <COMMAND> --help' has an example of each command, and 'clim explain CODE' tells what a fault means.
+'clim <COMMAND> --help' has examples of each command. 'clim explain CODE' explains a fault.
 
 Exit status:
-  0  done
-  1  FILE breaks a rule of the standard, told as 'fault LAYER CODE at OFFSET: NAME', or lacks what HEX
-     names, or its canonical root has more than 2^30 bytes
-  2  the words ask for nothing that clim does; FILE was not read
-  3  a file or the output could not be read or written, memory ran out, or the budget was spent";
+  0  success
+  1  FILE breaks a rule of the standard, printed as 'fault LAYER CODE at OFFSET: NAME';
+     or FILE has nothing that HEX names; or its canonical root has more than 2^30 bytes
+  2  usage error; FILE was not read
+  3  I/O error, out of memory, or budget spent";

@@ -1,44 +1,44 @@
 ghost use Rattle.std.specs.Prelude.{◌≡◌, None, Some};
 ghost use Rattle.command_line.specs.Asked.{subcommand_named};
 
-/// What the words of a command line ask for.
+/// What the arguments of a command line ask for.
 #[derive(Clone, Copy, Debug, PartialEq, Eq)]
 pub struct Ask<'a> {
-    /// What is to be done.
+    /// What to do.
     pub subcommand: Subcommand,
-    /// Whether the file is a metadata root, and no PE file.
+    /// Whether the file is a metadata root instead of a PE file.
     pub bare: bool,
-    /// The file to read, as its word has it. `explain` has none.
+    /// The path of the file to read. `explain` has none.
     pub file: Option<&'a str>,
-    /// The value behind the file, as its word has it: the token of `token`, the output of `rewrite`.
+    /// The argument after the file: the token of `token`, the output path of `rewrite`.
     pub second: Option<&'a str>,
-    /// How many bytes of signature blobs `check` may walk at most, where that is asked.
+    /// The largest number of signature blob bytes that `check` may check, if given.
     pub budget: Option<u64>,
-    /// The number of the fault that `explain` is asked about, as its word has it.
+    /// The number of the fault to `explain`, as it was given.
     pub code: Option<&'a str>,
 }
 
-/// What the program can do, each by a word of its own.
+/// The subcommands of the program.
 #[derive(Clone, Copy, Debug, PartialEq, Eq)]
 pub enum Subcommand {
     /// `root`: print the CLI header, and the version and the stream headers of the metadata root.
     Root,
-    /// `check`: tell whether the file breaks a rule of the standard.
+    /// `check`: check the file against the rules of the standard.
     Check,
     /// `show`: print each row of each table.
     Show,
-    /// `types`: print the types, and how many fields and methods each has.
+    /// `types`: print the types, with the number of their fields and methods.
     Types,
     /// `token`: print the row or the user string that a token names.
     Token,
     /// `rewrite`: write the canonical metadata root of the file.
     Rewrite,
-    /// `explain`: tell what a fault means, or list all.
+    /// `explain`: explain a fault, or list all.
     Explain,
 }
 
 impl Subcommand {
-    /// The subcommand that a word names.
+    /// The subcommand with this name.
     pub fn named(word: &str) -> Option<Subcommand>
         ensures { result ≡ subcommand_named word.now }
     {

@@ -1,11 +1,11 @@
-//! The words of the command line of `clim`, and its help.
+//! The arguments of the command line of `clim`, and its help.
 //!
-//! [`ask`] reads the words; its contract says that the subcommand, flags and values are those that `clap`
-//! gives for them.
+//! [`ask`] parses the arguments. Its contract says that the subcommand, flags and values are those that `clap` gives
+//! for them.
 //!
 //! ```text
 //! let ask = ask(alloc, &["clim", "token", "--bare", "one_module.root", "00000001"])?;
-//! // `ask.subcommand` is `Token`, `ask.bare` true, `ask.file` the file's word and `ask.second` the token's
+//! // `ask.subcommand` is `Token`, `ask.bare` true, `ask.file` the file's path and `ask.second` the token
 //! ```
 #![tactic(auto)]
 

@@ -1,4 +1,4 @@
-//! The words of each subcommand and its help, a module for each.
+//! The arguments of each subcommand and its help, one module for each.
 ghost use Rattle.std.specs.Prelude.{◌≡◌, IfOk, false};
 ghost use Rattle.clap.specs.Words.{app_of, rule_of};
 ghost use Rattle.clap.specs.declared.Command.TheViews.{out-Command as fields_of};
@@ -15,7 +15,7 @@ pub(crate) mod print_types;
 pub(crate) mod rewrite_file;
 pub(crate) mod show_tables;
 
-/// The words of a subcommand that reads a file, and its help: what it does and what it prints.
+/// The arguments of a subcommand that reads a file, and its help: what it does and what it prints.
 fn reader<'a>(
     alloc: Global,
     name: &'a str,
@@ -32,7 +32,7 @@ fn reader<'a>(
         .arg(bare(alloc))
 }
 
-/// `FILE`, the word of the file to read.
+/// `FILE`, the path of the file to read.
 fn file<'a>(alloc: Global) -> Arg<'a>
     ensures rule { rule_of result ≡ line.file }
     ensures local { result.global ≡ false }
@@ -43,7 +43,7 @@ fn file<'a>(alloc: Global) -> Arg<'a>
         .help("The file to read")
 }
 
-/// `--bare`, the flag of a metadata root.
+/// `--bare`, the flag for a metadata root.
 fn bare<'a>(alloc: Global) -> Arg<'a>
     ensures rule { rule_of result ≡ line.bare }
     ensures local { result.global ≡ false }
@@ -51,10 +51,10 @@ fn bare<'a>(alloc: Global) -> Arg<'a>
     Arg::new(alloc, "bare")
         .long("bare")
         .action(ArgAction::SetTrue)
-        .help("FILE is a metadata root and no PE file")
+        .help("FILE is a metadata root, not a PE file")
 }
 
-/// The value behind the file, which help calls by a name.
+/// The value after the file; help shows it with this name.
 fn second<'a>(alloc: Global, name: &'a str, help: &'a str) -> Arg<'a>
     ensures rule { rule_of result ≡ line.second }
     ensures local { result.global ≡ false }

@@ -3,24 +3,24 @@ ghost use Rattle.std.specs.Prelude.{◌≡◌};
 use crate::{cell_faults, file_faults, order_faults, other_faults, stream_faults, table_faults};
 use packed::FaultCode;
 
-/// What is known of a demand. The texts are plain, without line breaks; sections are those of ECMA-335.
+/// The explanation of a rule. Its texts are plain and have no line breaks. Sections are those of ECMA-335.
 #[derive(Clone, Copy, Debug, PartialEq, Eq)]
 pub struct Explanation {
-    /// Which demand it is.
+    /// The rule.
     pub code: FaultCode,
     /// What is wrong, in a few words and without a full stop.
     pub summary: &'static str,
-    /// The section that the demand comes from; `None` of a limit that the standard does not set.
+    /// The section that the rule comes from; `None` for a limit that the standard does not set.
     pub section: Option<&'static str>,
-    /// What is demanded.
+    /// What the rule says.
     pub demand: &'static str,
     /// Where the offset of a fault points.
     pub offset: &'static str,
-    /// What usually makes such a file, where that is known.
+    /// What usually causes such a file, if known.
     pub cause: Option<&'static str>,
 }
 
-/// The explanation of a demand.
+/// The explanation of a rule.
 pub fn explain(code: FaultCode) -> &'static Explanation
     ensures { result.now.code ≡ code }
 {

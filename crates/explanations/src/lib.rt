@@ -1,7 +1,7 @@
-//! What each demand asks, in words: for a reader of `fault LAYER CODE at OFFSET: NAME`.
+//! What each rule says, for a reader of `fault LAYER CODE at OFFSET: NAME`.
 //!
-//! [`explain`] answers the texts of a demand, [`code_of_number`] the demand of a number, and
-//! [`all_codes`] all demands. No call takes memory.
+//! [`explain`] returns the texts of a rule, [`code_of_number`] the rule with a number, and [`all_codes`] all rules.
+//! Nothing here allocates.
 //!
 //! ```text
 //! let code = code_of_number(501)?;

@@ -5,7 +5,7 @@ ghost use Rattle.explanations.specs.Codes.{codes_in_order};
 
 use packed::FaultCode;
 
-/// All demands, in the order of their numbers.
+/// All rules, in ascending order of their numbers.
 const CODES: [FaultCode; 45] = [
     FaultCode::TooLong,
     FaultCode::DosHeader,
@@ -54,7 +54,7 @@ const CODES: [FaultCode; 45] = [
     FaultCode::TooLarge,
 ];
 
-/// All demands, in the order of their numbers.
+/// All rules, in ascending order of their numbers.
 pub fn all_codes() -> &'static [FaultCode]
     ensures value { result.now ≡ codes_in_order }
     ensures count { length result.now ≡ 45 }
@@ -62,7 +62,7 @@ pub fn all_codes() -> &'static [FaultCode]
     &CODES
 }
 
-/// The demand of a number, `None` where no demand has it.
+/// The rule with a number; `None` if no rule has it.
 pub fn code_of_number(number: u16) -> Option<FaultCode>
     ensures found { IfSome result (λ code. number_of_code code ≡ number) }
     ensures only { (code : Demanded) → number_of_code code ≡ number → result ≡ Some code }

@@ -1,4 +1,4 @@
-//! Demands on the order of rows.
+//! Rules for the order of rows.
 use crate::explained::Explanation;
 use packed::FaultCode;
 
@@ -6,40 +6,40 @@ pub(crate) static NOT_SORTED: Explanation = Explanation {
     code: FaultCode::NotSorted,
     summary: "a key lower than that of the row before",
     section: Some("II.22, II.24.2.6"),
-    demand: "The rows of a table whose bit is set in Sorted never fall in the column that the standard \
-        sorts it by.",
-    offset: "That of the key's cell in the lower row.",
+    demand: "If the bit of a table is set in Sorted, its keys never decrease from row to row. The \
+        standard says which column has the key.",
+    offset: "The cell with the lower key.",
     cause: Some(
-        "A tool that appended rows to a sorted table, or changed keys, and did not sort it again.",
+        "A tool that added rows to a sorted table or changed its keys, and did not sort it again.",
     ),
 };
 
 pub(crate) static BAD_RUN: Explanation = Explanation {
     code: FaultCode::BadRun,
-    summary: "a run of members that does not begin where it has to",
+    summary: "a run of members that begins at a wrong row",
     section: Some("II.22.12, II.22.26, II.22.35, II.22.37"),
-    demand: "The members of the owners stand in the order of their owners: the first owner's list \
-        begins at row 1, and no list begins before that of the owner before. A null list begins \
-        where the next one does.",
-    offset: "That of the list's cell in the owner's row.",
+    demand: "Members are in the order of their owners. The first owner's list begins at row 1, and \
+        no list begins before that of the previous owner. A null list begins where the next list \
+        does.",
+    offset: "The cell with the list, in the row of the owner.",
     cause: Some("A tool that moved types or methods without their members."),
 };
 
 pub(crate) static NO_OWNER: Explanation = Explanation {
     code: FaultCode::NoOwner,
-    summary: "members that no row owns",
+    summary: "members without an owner",
     section: Some("II.22.12, II.22.26, II.22.35, II.22.37"),
-    demand: "Where a table of owners (TypeDef, MethodDef, EventMap, PropertyMap) has no rows, the table \
-        of their members has none.",
-    offset: "That of the first member's row.",
+    demand: "If a table of owners (TypeDef, MethodDef, EventMap, PropertyMap) has no rows, the \
+        table of their members has none.",
+    offset: "The row of the first member.",
     cause: None,
 };
 
 pub(crate) static NESTED_ORDER: Explanation = Explanation {
     code: FaultCode::NestedOrder,
-    summary: "a nested type that does not stand behind the one around it",
+    summary: "a nested type that does not follow its enclosing type",
     section: Some("II.22.32"),
     demand: "In each row of NestedClass the row of EnclosingClass is lower than that of NestedClass.",
-    offset: "That of the cell EnclosingClass.",
-    cause: Some("A tool that put types into another order."),
+    offset: "The cell EnclosingClass.",
+    cause: Some("A tool that changed the order of the types."),
 };

@@ -1,9 +1,8 @@
-//! The metadata of .NET assemblies (ECMA-335 II.22 to II.25), from files that strangers made: all that a
-//! client names, in one crate.
+//! The public API for the metadata of .NET assemblies (ECMA-335 II.22 to II.25). Files need not be trusted. One crate
+//! has all names that a client needs.
 //!
-//! **Opening** shows the one model of a file or a root in place, in the bytes that are handed in, and takes
-//! no memory. It answers exactly where there is a model, else the [`Fault`] of the first demand that the
-//! bytes do not meet:
+//! **Opening** reads the one model of a file or a root in place, from the caller's bytes, and does not allocate. It
+//! succeeds if and only if there is a model. Otherwise it returns the [`Fault`] of the first rule that the bytes break:
 //!
 //! ```text
 //! let (header, view) = open_image(&file)?;
@@ -11,8 +10,8 @@
 //! for method in view.methods_of(row) { view.cell(TableId::MethodDef, method, 3) } // CellRef::Text(".ctor")
 //! ```
 //!
-//! **Loading** makes the same model as one that owns what it holds, so that the bytes may go. Want of memory
-//! comes only where a model fits:
+//! **Loading** makes the same model with its own memory, so that the bytes can be dropped. It runs out of memory only
+//! if there is a model:
 //!
 //! ```text
 //! let (header, model) = load_image(alloc, &file)?;
@@ -20,9 +19,9 @@
 //! let model = view.model(alloc)?; // of a view that is open already
 //! ```
 //!
-//! **Building** makes a model of rows that a program has, without memory; else it answers the [`Refusal`] of
-//! the first demand that they do not meet, and hands them back. A row is a vector of [`Cell`]s, or a record
-//! that makes them:
+//! **Building** makes a model from rows of a program. `from_tables` does not allocate. If the rows break a rule, it
+//! returns the [`Refusal`] of the first one, and the rows. A row is a vector of [`Cell`]s, or a record that is
+//! converted to one:
 //!
 //! ```text
 //! let mut tables = Tables::new(alloc, "v4.0.30319")?;
@@ -33,7 +32,7 @@
 //! }
 //! ```
 //!
-//! **Writing** makes the one canonical root of a model, which loads to an equal model:
+//! **Writing** makes the one canonical root of a model. Loading it gives an equal model:
 //!
 //! ```text
 //! let root = write_root(alloc, &model)?;               // its bytes, or
@@ -41,7 +40,7 @@
 //! let root = prepare_view(alloc, &view, 1 << 30)?;     // of a view that is open: no model is made
 //! ```
 //!
-//! What is proved of a call stands at the call: this crate has no code.
+//! The contract of each call says what is proved of it. This crate has no code.
 #![tactic(auto)]
 
 // Bytes and files in place.
@@ -51,23 +50,23 @@ pub use opening::{
     open_root_within, read_heads,
 };
 
-// The heaps, for user strings and for what is shown of a GUID.
+// The heaps: user strings, and the text of a GUID.
 pub use heaps::{HeapFault, PoolError, Units, UserString, guid_text, user_string};
 pub use user_heap::UserHeap;
 
-// What columns hold, and their names.
+// The kinds of columns, and their names.
 pub use column_names::column_names;
 pub use schema::{Coded, Column, ColumnKind, cell_count, columns, key};
 
-// Models that own what they hold.
+// Models that own their memory.
 pub use loading::{LoadError, ToModel, load_image, load_root};
 pub use owned_model::{Bytes, Cell, Model, ModelKeys, Refusal, Row, Tables, Text};
 
-// Signatures in place: an item at a time, and in the notation of ILAsm.
+// Signatures in place: item by item, and in the notation of ILAsm.
 pub use signature_items::{Item, Items, MethodHead};
 pub use signature_text::{NamedText, TextSink, TokenNames, write_signature};
 
-// Signatures, and what they say.
+// Signatures and their values.
 pub use signatures::{
     Core, Element, FieldSig, InstanceSig, Local, LocalsSig, MethodSig, Modifier, Prefix,
     PropertySig, Ret, Shape, SigBody, SigError, SigKind, Signature, Slot, SlotKind, TypeSig,
@@ -100,5 +99,5 @@ pub use writer::{
     Counted, Prepared, Sink, WriteError, prepare, write_root, write_root_to, write_root_within,
 };
 
-// The canonical root of a view, whose model is not made.
+// The canonical root of a view. No model is made.
 pub use view_writer::prepare_view;

@@ -1,4 +1,4 @@
--- The rows of a table are of its kinds where each of them is.
+-- If each row of a table has the kinds of the table's columns, all rows have them.
 use Rattle.std.proofs.Common.{◌≡◌, ℕ, suc, ◌+◌, ◌-◌, ◌<◌, List, [], ◌∷◌, length, get_or, subst, arith}
 use Rattle.std.specs.List.{AllByRecursion}
 use Rattle.schema.specs.declared.table.TableId.{TableId}

@@ -1,4 +1,4 @@
--- The rows of a table, each of the number and the kinds of its cells (ECMA-335 II.22).
+-- The rows of a table: each has the number and the kinds of cells that its table declares (ECMA-335 II.22).
 use Rattle.std.specs.Prelude.{List}
 use Rattle.std.specs.List.{AllByRecursion}
 use Rattle.schema.specs.declared.table.TableId.{TableId}

@@ -1,11 +1,11 @@
-//! The rows of a model's tables as records, whose fields have the names of the columns (ECMA-335 II.22).
+//! The rows of a model's tables as records. The fields have the names of the columns (ECMA-335 II.22).
 //!
-//! [`rows`] goes over the records of a table, [`row`] answers one, and [`resolve`] the one that a reference
-//! names. They borrow from the model, and take no memory.
+//! [`rows`] iterates over the records of a table, [`row`] returns one, and [`resolve`] returns the one that a reference
+//! names. They borrow from the model and do not allocate.
 //!
 //! ```text
 //! for class in rows::<TypeDef>(&model) { class.type_name }
-//! let method = row::<MethodDef<_>>(&model, 1)?; // None where there is no such row
+//! let method = row::<MethodDef<_>>(&model, 1)?; // None if there is no such row
 //! let base = resolve::<TypeDefOrRef<_>>(&model, class.extends?)?; // one of three records
 //! ```
 #![tactic(auto)]

@@ -67,7 +67,7 @@ pub fn rows<'m, R: Record<'m>>(model: &'m Model) -> RecordsOf<'m, R>
     }
 }
 
-/// The record of a row, counted from 1; `None` where the table has no such row.
+/// The record of a row, counted from 1; `None` if the table has no such row.
 pub fn row<'m, R: Record<'m>>(model: &'m Model, row: u32) -> Option<R>
     ensures there { IsSome result ↔ HasRow model.now R.table row }
     ensures fields { IfSome result (λ it. R.fields it ≡ row_of model.now R.table row) }

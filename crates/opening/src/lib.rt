@@ -1,10 +1,10 @@
 //! Opens the metadata of a root or a file in place (ECMA-335 II.22 to II.25).
 //!
-//! [`open_root`] and [`open_image`] check every demand on the bytes that they are handed, without memory, and open them
-//! exactly where they have a model; else they answer the fault of the first demand that fails. [`open_root_within`] and
-//! [`open_image_within`] do so within a budget of bytes to walk. A [`View`] shows that one model: its version, its user
-//! bytes, its cells, the runs of members, and rows by name and by key. What it answers are values and parts of the
-//! caller's bytes. [`read_heads`] reads only what stands before the streams of a file.
+//! [`open_root`] and [`open_image`] check every rule for the bytes, and do not allocate. They succeed if and only if
+//! the bytes have a model. Otherwise they return the fault of the first rule that fails. [`open_root_within`] and
+//! [`open_image_within`] do the same within a budget of bytes to check. A [`View`] reads the one model of the bytes:
+//! its version, its user strings, its cells, the runs of members, and rows by name and by key. It returns values and
+//! parts of the caller's bytes. [`read_heads`] reads only the headers before the streams of a file.
 //!
 //! ```text
 //! let (header, view) = open_image(&file)?;

@@ -34,10 +34,10 @@ use schema::{TableId, Token, column_of_cell, key};
 use std::marker::Model;
 use std::ops::Range;
 
-/// The one model of a root, in place, in the bytes that were handed in (II.22, II.24.2).
+/// The one model of a root, read in place from the caller's bytes (II.22, II.24.2).
 ///
-/// Rows count from 1. A cell is named by its place in its row, from 0 on. What a view answers lives as
-/// long as the bytes, and longer than the view.
+/// Rows count from 1. A cell is named by its index in its row, from 0. What a view returns borrows from the bytes, not
+/// from the view.
 #[derive(Drop)]
 pub struct View<'a> {
     root: &'a [u8],
@@ -84,7 +84,7 @@ impl<'a> View<'a> {
         }
     }
 
-    /// What the cells of the model are read from.
+    /// The source that the model's cells are read from.
     fn source(&self) -> &Source<'a>
         ensures source { result.now.source ≡ source_of self.now }
         ensures rows { (table : Table) → rows_in result.now.source table ≡ row_count self.now table }
@@ -110,7 +110,7 @@ impl<'a> View<'a> {
         self.root
     }
 
-    /// What was found of the root when it was opened.
+    /// What opening found of the root.
     pub fn found(&self) -> Found
         ensures { AreFound self.now result }
     {
@@ -121,7 +121,7 @@ impl<'a> View<'a> {
         }
     }
 
-    /// The version that the root names (II.24.2.1).
+    /// The version string of the root (II.24.2.1).
     pub fn version(&self) -> &'a str
         ensures { (model : Metadata) → IsModel self.now model → result.now ≡ model.version }
     {
@@ -129,7 +129,7 @@ impl<'a> View<'a> {
         self.version
     }
 
-    /// The bytes of `#US`, as they stand in the root (II.24.2.4).
+    /// The bytes of `#US`, as they are in the root (II.24.2.4).
     pub fn user(&self) -> &'a [u8]
         ensures stream { result.now ≡ user_of self.now }
         ensures model { (model : Metadata) → IsModel self.now model → filled result.now ≡ model.user }
@@ -138,7 +138,7 @@ impl<'a> View<'a> {
         self.user
     }
 
-    /// How many rows a table has.
+    /// The number of rows in a table.
     pub fn count(&self, table: TableId) -> u32
         ensures rows { result ≡ row_count self.now table }
         ensures model { (model : Metadata) → IsModel self.now model → result ≡ count_in model table }
@@ -147,11 +147,11 @@ impl<'a> View<'a> {
         self.source().count(table)
     }
 
-    /// A cell of a row, by its place among the cells of the row: the padding of Constant has none (II.22).
+    /// A cell of a row, by its index in the row (II.22). The padding byte of Constant is not a cell.
     ///
-    /// A null start of a run is walked to the next that is not null, over a 256th of the owners at most; any
-    /// other cell takes constant time, but for a text its length. The blob of a signature is the one that its
-    /// number names.
+    /// For a null run start it scans to the next start that is not null, over at most 1/256 of the owners. A text takes
+    /// time linear in its length. Any other cell takes constant time. The blob of a signature is the one at its heap
+    /// offset.
     pub fn cell(&self, table: TableId, row: u32, column: usize) -> CellRef<'a>
         requires first { 1 ≤ row }
         requires last { row ≤ row_count self.now table }
@@ -168,10 +168,10 @@ impl<'a> View<'a> {
         )
     }
 
-    /// The starts in a column that lists rows of the member table, from the last row's to the first's: a load
-    /// reads all of them in one walk (II.22).
+    /// The starts in a column that lists rows of the member table, from the last row's to the first's (II.22). A load
+    /// reads all of them in one pass.
     ///
-    /// The column is named by its place among the cells of a row, as in [`View::cell`].
+    /// The column is the index of a cell in its row, as in [`View::cell`].
     pub fn starts(&self, table: TableId, column: usize, member: TableId) -> Starts<'_, 'a>
         requires column { column < cell_count table }
         requires list { (column_at table (column_of table column)).kind ≡ List member }
@@ -184,7 +184,7 @@ impl<'a> View<'a> {
 
     /// The fields of a type, as rows of Field (II.22.37).
     ///
-    /// A null start is walked to the next that is not null, over a 256th of the owners at most.
+    /// For a null start it scans to the next start that is not null, over at most 1/256 of the owners.
     pub fn fields_of(&self, row: u32) -> Range<u32>
         requires first { 1 ≤ row }
         requires last { row ≤ row_count self.now TypeDef }
@@ -203,7 +203,7 @@ impl<'a> View<'a> {
 
     /// The methods of a type, as rows of MethodDef (II.22.37).
     ///
-    /// A null start is walked to the next that is not null, over a 256th of the owners at most.
+    /// For a null start it scans to the next start that is not null, over at most 1/256 of the owners.
     pub fn methods_of(&self, row: u32) -> Range<u32>
         requires first { 1 ≤ row }
         requires last { row ≤ row_count self.now TypeDef }
@@ -222,7 +222,7 @@ impl<'a> View<'a> {
 
     /// The parameters of a method, as rows of Param (II.22.26).
     ///
-    /// A null start is walked to the next that is not null, over a 256th of the owners at most.
+    /// For a null start it scans to the next start that is not null, over at most 1/256 of the owners.
     pub fn params_of(&self, row: u32) -> Range<u32>
         requires first { 1 ≤ row }
         requires last { row ≤ row_count self.now MethodDef }
@@ -241,7 +241,7 @@ impl<'a> View<'a> {
 
     /// The events of a row of EventMap, as rows of Event (II.22.12).
     ///
-    /// A null start is walked to the next that is not null, over a 256th of the owners at most.
+    /// For a null start it scans to the next start that is not null, over at most 1/256 of the owners.
     pub fn events_of(&self, row: u32) -> Range<u32>
         requires first { 1 ≤ row }
         requires last { row ≤ row_count self.now EventMap }
@@ -260,7 +260,7 @@ impl<'a> View<'a> {
 
     /// The properties of a row of PropertyMap, as rows of Property (II.22.35).
     ///
-    /// A null start is walked to the next that is not null, over a 256th of the owners at most.
+    /// For a null start it scans to the next start that is not null, over at most 1/256 of the owners.
     pub fn properties_of(&self, row: u32) -> Range<u32>
         requires first { 1 ≤ row }
         requires last { row ≤ row_count self.now PropertyMap }
@@ -277,10 +277,9 @@ impl<'a> View<'a> {
         )
     }
 
-    /// The first type with a namespace and a name, by its row; `None` where no type has them (II.22.37).
+    /// The first type with a namespace and a name, by its row; `None` if no type has them (II.22.37).
     ///
-    /// The bytes are compared in place, up to the first that differs. A type without a namespace has the
-    /// empty one.
+    /// The bytes are compared in place, up to the first that differs. A type without a namespace has the empty one.
     pub fn find_type(&self, namespace: &str, name: &str) -> Option<u32>
         ensures found { (model : Metadata) → IsModel self.now model → IfSome result (IsFirstType model namespace.now name.now) }
         ensures none { (model : Metadata) → IsModel self.now model
@@ -289,9 +288,9 @@ impl<'a> View<'a> {
         find_type(self.source(), namespace, name)
     }
 
-    /// Whether the key numbers of a table never fall, in constant time (II.22).
+    /// Whether the keys of a table never decrease, in constant time (II.22).
     ///
-    /// A table that is said to be in order is, and another may be.
+    /// The answer is exact: `false` means that some key is lower than that of the row before.
     pub fn in_order(&self, table: TableId) -> bool
         requires { IsSome (key_of table) }
         ensures bytes { IfSome (key_of table) (λ key. IsTrue result ↔ IsInOrder (source_of self.now) table key) }
@@ -301,10 +300,10 @@ impl<'a> View<'a> {
         self.found.in_order[table.number() as usize]
     }
 
-    /// The rows of a table whose key is a token, from the lowest on (II.22).
+    /// The rows of a table whose key is a token, in ascending order (II.22).
     ///
-    /// Where the table is in order they are found by halving, and [`KeyRows::reads`] tells how many keys
-    /// were read; else each row is looked at as the iterator goes. A null token has no rows.
+    /// If the table is in order they are found by binary search, and [`KeyRows::reads`] counts the keys that it reads.
+    /// Otherwise the iterator looks at each row as it goes. A null token has no rows.
     pub fn by_key(&self, table: TableId, token: Token) -> KeyRows<SourceKeys<'_, 'a>>
         requires { IsSome (key_of table) }
         ensures ascending { IsStrictlyIncreasing result.rows }

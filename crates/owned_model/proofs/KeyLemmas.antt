@@ -20,7 +20,7 @@ use Rattle.owned_model.proofs.PlaceLemmas.{key_is_one}
 use Rattle.owned_model.proofs.RowLemmas.{that_passes, passes_that}
 
 module _ (f : ℕ → ℕ) (n : ℕ) where
-  -- numbers of rows none of which is lower than that of the row before
+  -- if no number is lower than the one before it, a later number is not lower than an earlier one
   rising : ((row : ℕ) → 2 ≤ row → row ≤ n → f (row - 1) ≤ f row) → (row gap : ℕ) → 1 ≤ row → row + gap ≤ n → f row ≤ f (row + gap)
   rising order row zero first last = let same : row + 0 ≡ row = omega arith in rw same (omega arith)
   rising order row (suc gap) first last =
@@ -30,7 +30,7 @@ module _ (f : ℕ → ℕ) (n : ℕ) where
       let step = rw same at next in
       omega arith
 
-  -- as a list
+  -- the same for the numbers as a list
   list_rises : (numbers : List ℕ) → length numbers ≡ n → ((row d : ℕ) → 1 ≤ row → row ≤ n → slice_index_or numbers (row - 1) d ≡ f row)
       → ((row : ℕ) → 2 ≤ row → row ≤ n → f (row - 1) ≤ f row) → IsNonDecreasing numbers
   list_rises numbers long is order = λ i j d low high.
@@ -45,7 +45,7 @@ module _ (f : ℕ → ℕ) (n : ℕ) where
       omega arith
 
 module _ (model : Metadata) (table : TableId) (place : ℕ) where
-  -- there is one key a row
+  -- each row has one key
   pub keys_long : length (keys_in model table place) ≡ count_in model table
   unfolding keys_in
   keys_long = lists.length-map (rows_of model table) (λ row. key_number (kind_at table place) (slice_index_or row place (says.Number 0)))
@@ -55,16 +55,16 @@ module _ (model : Metadata) (table : TableId) (place : ℕ) where
   key_is row d first last =
       lists.get_or-map (λ row. key_number (kind_at table place) (slice_index_or row place (says.Number 0))) (rows_of model table) (row - 1) [] d (omega arith)
 
-  -- keys that never fall, as a list
+  -- the keys of a table that is in order never decrease, as a list
   pub keys_rise : IsKeyOrdered model table → IsKeyPlace table place → IsNonDecreasing (keys_in model table place)
   keys_rise order at = list_rises (key_in model table place) (count_in model table) (keys_in model table place) keys_long key_is (λ row. order place row at)
 
--- a number tells which cells at a place are a token
+-- a cell of the key column refers to the token if and only if its key is the number
 abbrev pub TellsKey : Metadata → TableId → ℕ → Token → ℕ → Type 0
 TellsKey model table place token number = (row : ℕ) → HasRow model table row
     → (cell_in model table row place ≡ says.Ref (Some token)) ↔ (key_in model table place row ≡ number)
 
--- no cell at a place is a token
+-- no cell of the key column refers to the token
 abbrev pub HasNoKey : Metadata → TableId → ℕ → Token → Type 0
 HasNoKey model table place token = (row : ℕ) → HasRow model table row → cell_in model table row place ≢ says.Ref (Some token)
 
@@ -85,23 +85,23 @@ module _ (known : AreTagged) (model : Metadata) (valid : IsValid model) (table :
       let P : says.Cell → Type 0 = λ c. IsOfKind (kind_at table place) c in
       none (subst P same (valid.cells table row place has at.within).of_kind)
 
-  -- a token that names no row that exists is no key
+  -- a token whose row does not exist is not a key
   pub not_there : ¬ HasRow model token.table token.row → HasNoKey model table place token
   not_there none = λ row has same.
       let P : says.Cell → Type 0 = λ c. MayRefer model (nullable_at table place) c in
       none (subst P same (valid.cells table row place has at.within).refers)
 
 module _ (model : Metadata) (table : TableId) (place : ℕ) (at : IsKeyPlace table place) (token : Token) where
-  -- a key is at its one place
+  -- a key is in the one key column of its table
   key_here : (row : ℕ) → HasKey model table token row → cell_in model table row place ≡ says.Ref (Some token)
   key_here row (other, there, is) =
       ap (λ p. cell_in model table row p) (key_is_one table place other at there) ∙ is
 
-  -- no row has a key that no cell is
+  -- if no cell of the key column refers to the token, no row has it as its key
   pub none_has : HasNoKey model table place token → (row : ℕ) → ¬ (HasRow model table row × HasKey model table token row)
   none_has none row both = none row both.0 (key_here row both.1)
 
-  -- the rows whose key has the number are those with the key
+  -- the rows whose key is the number are those whose key is the token
   pub rows_are : (number : ℕ) → TellsKey model table place token number → (rows : List ℕ)
       → rows ≡ rows_with (keys_in model table place) number 1 (length (keys_in model table place) + 1)
       → (row : ℕ) → Contains rows row ↔ (HasRow model table row × HasKey model table token row)

@@ -13,7 +13,7 @@ use crate::valid_model::Model;
 use reading::KeyRows;
 use schema::{TableId, Token, columns_stand, tables_stand, tags_fit};
 
-/// The rows of a table whose key is a token, by the place of the key among the cells.
+/// The rows of a table whose key is a token, by the index of the key's cell.
 pub fn rows_by_key(
     model: &Model,
     table: TableId,
@@ -41,7 +41,7 @@ pub fn rows_by_key(
     }
 }
 
-/// The number of a key that is a token, `None` where no row has such a key.
+/// The number that encodes a token as a key; `None` if no row can have that key.
 fn key_number(model: &Model, table: TableId, place: usize, token: Token) -> Option<u32>
     requires { IsKeyPlace table place }
     ensures found { IfSome result (λ number. (row : ℕ) → HasRow model.now table row

@@ -1,9 +1,9 @@
-//! The model of CLI metadata (ECMA-335 II.22): tables that are valid, as those of every root are.
+//! The model of CLI metadata (ECMA-335 II.22): valid tables. The tables of each accepted root are valid too.
 //!
-//! [`Model::from_tables`] makes a model of [`Tables`] exactly where they are valid, without memory; else
-//! it tells the first demand that they do not meet, and hands the tables back. A clause sees a model as
-//! what it says, so `==` compares versions, user bytes and cells. Runs of members, types by name and rows
-//! by key are looked up as in a root that is opened in place, and take no memory either.
+//! [`Model::from_tables`] succeeds if and only if the [`Tables`] are valid, and does not allocate. Otherwise it returns
+//! them with the first rule that they break. A contract sees a model by its value, so `==` compares versions, user
+//! strings and cells. The look-ups are those of a root that is opened in place: runs of members, types by name, rows by
+//! key. They do not allocate either.
 //!
 //! ```text
 //! match Model::from_tables(tables) {

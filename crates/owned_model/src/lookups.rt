@@ -69,10 +69,10 @@ impl Model {
         run(self, TableId::PropertyMap, row, 1, TableId::Property)
     }
 
-    /// The first type with a namespace and a name, by its row; `None` where no type has them (II.22.37).
+    /// The first type with a namespace and a name, by its row; `None` if no type has them (II.22.37).
     ///
-    /// A type without a namespace has the empty one. The names of each type before it are compared, up to
-    /// the first byte that differs.
+    /// A type without a namespace has the empty one. The names of each type before it are compared, up to the first
+    /// byte that differs.
     pub fn find_type(&self, namespace: &str, name: &str) -> Option<u32>
         ensures found { IfSome result (IsFirstType self.now namespace.now name.now) }
         ensures none { IfNone result ((row : ℕ) → HasRow self.now TypeDef row → ¬ HasNames self.now namespace.now name.now row) }
@@ -80,11 +80,11 @@ impl Model {
         find_type(self, namespace, name)
     }
 
-    /// The rows of a table whose key is a token, from the lowest on (II.22).
+    /// The rows of a table whose key is a token, in ascending order (II.22).
     ///
-    /// Where the table is in order they are found by halving, and [`KeyRows::reads`] tells how many keys
-    /// were read; else each row is looked at as the iterator goes. A null token has no rows, nor has one
-    /// that the key column cannot name.
+    /// If the table is in order they are found by binary search, and [`KeyRows::reads`] counts the keys that it reads.
+    /// Otherwise the iterator looks at each row as it goes. A null token has no rows. Neither has a token that the key
+    /// column cannot encode.
     pub fn by_key(&self, table: TableId, token: Token) -> KeyRows<ModelKeys<'_>>
         requires { IsSome (key_of table) }
         ensures ascending { IsStrictlyIncreasing result.rows }

@@ -12,14 +12,14 @@ use cells::Cell;
 use reading::KeyNumbers;
 use schema::{ColumnKind, TableId, column_of_cell, columns};
 
-/// The key numbers of a table of a model, each of which is made of its cell.
+/// The keys of a table of a model. Each is computed from its cell.
 #[derive(Drop)]
 pub struct ModelKeys<'m> {
-    /// The model that has the cells.
+    /// The model with the cells.
     pub model: &'m Model,
     /// The table.
     pub table: TableId,
-    /// The place of the key among the cells of a row.
+    /// The index of the key's cell in a row.
     pub place: usize,
     ghost within: { place < cell_count table },
 }
@@ -39,7 +39,7 @@ impl<'m> KeyNumbers for ModelKeys<'m> {
     }
 }
 
-/// The key number of a cell in a column of a kind that takes it (II.24.2.6); null is 0.
+/// The key number of a cell in a column that can have it (II.24.2.6); null is 0.
 fn key_number(kind: ColumnKind, cell: &Cell) -> u32
     requires taken { IsOfKind kind (said cell.now) }
     requires low { row_in (said cell.now) ≤ 0xFFFFFF }
@@ -51,7 +51,7 @@ fn key_number(kind: ColumnKind, cell: &Cell) -> u32
     }
 }
 
-/// The kind of the column of a cell, by its place in a row.
+/// The kind of the column of a cell, by the cell's index in its row.
 pub fn kind_of(table: TableId, place: usize) -> ColumnKind
     requires { place < cell_count table }
     ensures { result ≡ kind_at table place }

@@ -9,7 +9,7 @@ use cells::Cell;
 use schema::TableId;
 use std::ops::Range;
 
-/// The run of members of an owner, by the place of the cell that lists them.
+/// The run of members of an owner, by the index of the cell with its start (II.22).
 pub fn run(model: &Model, owner: TableId, row: u32, place: usize, member: TableId) -> Range<u32>
     requires list { IsMemberList owner place member }
     requires first { 1 ≤ row }
@@ -25,7 +25,7 @@ pub fn run(model: &Model, owner: TableId, row: u32, place: usize, member: TableI
     first..past
 }
 
-/// Where the run of an owner begins.
+/// The first member row of an owner's run.
 fn start(model: &Model, owner: TableId, row: u32, place: usize, member: TableId) -> u32
     requires list { IsMemberList owner place member }
     requires first { 1 ≤ row }

@@ -9,12 +9,12 @@ use crate::valid_model::Model;
 use cells::Cell;
 use schema::TableId;
 
-/// The places of a type's name and namespace (II.22.37).
+/// The indexes of the cells with a type's name and namespace (II.22.37).
 const NAME: usize = 1;
 
 const NAMESPACE: usize = 2;
 
-/// The first type of a namespace and a name.
+/// The first type with a namespace and a name.
 pub fn find_type(model: &Model, namespace: &str, name: &str) -> Option<u32>
     ensures found { IfSome result (IsFirstType model.now namespace.now name.now) }
     ensures none { IfNone result ((row : ℕ) → HasRow model.now TypeDef row → ¬ HasNames model.now namespace.now name.now row) }
@@ -38,7 +38,7 @@ fn has_names(model: &Model, row: u32, namespace: &str, name: &str) -> bool
         && is_text(model.cell(TableId::TypeDef, row, NAMESPACE), namespace)
 }
 
-/// Whether a cell is a text.
+/// Whether a cell is the text that is sought.
 fn is_text(cell: &Cell, sought: &str) -> bool
     ensures { IsTrue result ↔ (said cell.now ≡ TextCell sought.now) }
 {

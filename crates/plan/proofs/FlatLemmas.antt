@@ -19,7 +19,7 @@ use Rattle.canonical.specs.Numbers.{cell_number, with_next, numbers_by, numbers_
 use Rattle.put.specs.Flat.{cells_of, rows_in, table_in, tables_in}
 use Rattle.plan.specs.Numbered.{flat}
 
--- ---- one number a column
+-- ---- one number per column
 
 length-with_next : (padding : Bool) (number : Cell → ℕ) (rest : List Cell → List ℕ) (n : ℕ) → ((cells : List Cell) → length (rest cells) ≡ n) → (cells : List Cell)
     → length (with_next padding number rest cells) ≡ suc n

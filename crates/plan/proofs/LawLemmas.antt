@@ -35,7 +35,7 @@ pub all_appended : (entries first second : List (List ℕ)) → pooled_all entri
 all_appended entries [] second = refl
 all_appended entries (value ∷ values) second = all_appended (pooled entries value) values second
 
--- values that are pooled one after another behind distinct ones
+-- values that are pooled one by one, after values that are distinct
 pub all_distinct : ((used : List (List ℕ)) (value : List ℕ) → distinct (used ++ value ∷ []) ≡ pooled (distinct used) value) → (used values : List (List ℕ))
     → pooled_all (distinct used) values ≡ distinct (used ++ values)
 all_distinct more used [] = ap distinct (sym (append-nil used))
@@ -43,7 +43,7 @@ all_distinct more used (value ∷ values) =
     ap (λ entries. pooled_all entries values) (sym (more used value)) ∙ all_distinct more (used ++ value ∷ []) values
     ∙ ap distinct (append_assoc used (value ∷ []) values)
 
--- so many texts were numbered more, and the pools are those of another state with values pooled
+-- the second state has numbered these texts more, and its pools are those of the first with these values pooled
 pub record ArePooled (before after : Numbered) (texts blobs guids : List (List ℕ)) : Type 0 where
   pub texts_are : after.texts ≡ before.texts + length texts
   pub blobs_are : after.blobs ≡ pooled_all before.blobs blobs
@@ -65,7 +65,7 @@ pooled_cell : (indexes : List ℕ) (k : ColumnKind) (cell : Cell) (so_far : Numb
 pooled_cell indexes k (Text text) so_far = record { texts_are = omega arith; blobs_are = refl; guids_are = refl }
 pooled_cell indexes k cell so_far = record { texts_are = omega arith; blobs_are = refl; guids_are = refl }
 
--- the walk over the columns of a row meets all its cells
+-- the walk over the columns of a row visits all its cells
 pooled_next : (indexes : List ℕ) (padding : Bool) (k : ColumnKind) (rest : List Cell → Numbered → Numbered) (column : ℕ) (columns : List ℕ)
     → ((cells : List Cell) (so_far : Numbered) → length cells ≡ length columns
     → ArePooled so_far (rest cells so_far) (flat_map texts_of cells) (flat_map blobs_of cells) (flat_map guids_of cells))
@@ -93,7 +93,7 @@ pooled_rows indexes columns [] so_far long = pooled_none so_far
 pooled_rows indexes columns (row ∷ rows) so_far long =
     pooled_then (pooled_row indexes columns 0 row so_far long.0) (pooled_rows indexes columns rows (with_row indexes columns row so_far) long.1)
 
--- what the cells of tables use, one table after another
+-- the values that the cells of tables use, table by table
 abbrev pub used_in : (Cell → List (List ℕ)) → Metadata → List TableId → List (List ℕ)
 used_in values model listed = flat_map (λ table. flat_map (flat_map values) (rows_of model table)) listed
 
@@ -105,7 +105,7 @@ pooled_tables indexes model (table ∷ listed) so_far long =
     let next = with_rows indexes (columns_of table) (rows_of model table) so_far in
     pooled_then (pooled_rows indexes (columns_of table) (rows_of model table) so_far (long table)) (pooled_tables indexes model listed next long)
 
--- ---- a pool's entries stand first when it grows
+-- ---- the entries of a pool are a prefix of those of a grown pool
 
 abbrev pub IsFront : List (List ℕ) → List (List ℕ) → Type 0
 IsFront entries final = (more : List (List ℕ)) × (final ≡ entries ++ more)
@@ -129,7 +129,7 @@ front_all entries [] = front_self entries
 front_all entries (value ∷ values) =
     front_then entries (pooled entries value) (pooled_all (pooled entries value) values) (front_pooled entries value) (front_all (pooled entries value) values)
 
--- the pools of one state stand first in those of another
+-- the pools of one state are prefixes of those of another
 pub record IsPart (part whole : Numbered) : Type 0 where
   pub part_blobs : IsFront part.blobs whole.blobs
   pub part_guids : IsFront part.guids whole.guids
@@ -176,7 +176,7 @@ part_tables indexes model (table ∷ listed) so_far =
     let next = with_rows indexes (columns_of table) (rows_of model table) so_far in
     part_then (part_rows indexes (columns_of table) (rows_of model table) so_far) (part_tables indexes model listed next)
 
--- ---- the index of a pooled value stays
+-- ---- the index of a pooled value does not change
 
 pub record IndexesStay : Type 0 where
   pub blob : (entries more : List (List ℕ)) (blob : List ℕ) → (blob ≡ []) ⊎ Contains entries blob → blob_index (entries ++ more) blob ≡ blob_index entries blob
@@ -209,9 +209,9 @@ guid_stays : IndexesStay → (entries : List (List ℕ)) (guid : List ℕ) (fina
 guid_stays stay entries guid final some front =
     sym (ap (λ list. guid_index list (Some guid)) front.1 ∙ stay.guid (pooled entries guid) front.0 guid (some_among entries guid some (among entries guid)))
 
--- ---- the indexes of the texts to come
+-- ---- the indexes of the next texts
 
--- the indexes from a place on are those of texts, and others behind them
+-- the indexes from this position on begin with those of the texts
 abbrev pub AreNext : (List ℕ → ℕ) → List ℕ → ℕ → List (List ℕ) → Type 0
 AreNext number indexes place texts = (rest : List ℕ) × (drop place indexes ≡ map number texts ++ rest)
 
@@ -239,7 +239,7 @@ module _ (number : List ℕ → ℕ) (indexes : List ℕ) (place : ℕ) where
 
 -- ---- numbers
 
--- no GUID is of no bytes
+-- no GUID of the cell is empty
 abbrev pub HasGuids : Cell → Type 0
 HasGuids cell = AllByRecursion (λ (guid : List ℕ). 0 < length guid) (guids_of cell)
 

@@ -1,4 +1,4 @@
--- A heap that is longer than 2^30 bytes stays so, whatever is pooled more.
+-- A heap that exceeds 2^30 bytes still does after more values are pooled.
 use Rattle.std.proofs.Common.{ℕ, ◌≤◌, inl, inr, Bool, true, false, cond, List, [], ◌∷◌, ◌++◌, length, sym, ap, subst, length-append, arith}
 use Rattle.std.specs.Prelude.{flat_map}
 use Rattle.std.proofs.lemmas.Bool.{cases_Bool}
@@ -25,7 +25,7 @@ longer_guids : (entries : List (List ℕ)) (value : List ℕ) → length (guid_h
 longer_guids entries value =
     omega (arith, ap length (flat_map-append (λ (guid : List ℕ). guid) entries (value ∷ [])), length-append (guid_heap entries) (guid_heap (value ∷ [])))
 
--- a pool is as it was, or has one more entry
+-- a pool is unchanged, or has one more entry
 pooled_grows : (size : List (List ℕ) → ℕ) → ((entries : List (List ℕ)) (value : List ℕ) → size entries ≤ size (entries ++ value ∷ []))
     → (entries : List (List ℕ)) (value : List ℕ) → size entries ≤ size (pooled entries value)
 pooled_grows size longer entries value =

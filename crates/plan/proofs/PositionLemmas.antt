@@ -1,4 +1,4 @@
--- Tables and their positions.
+-- Tables and their indexes.
 use Rattle.std.proofs.Common.{◌≡◌, ℕ, ◌<◌, List, map, length, get_or, refl, sym, ap, ◌∙◌, arith}
 use Rattle.std.specs.List.{range_with_len}
 use Rattle.std.proofs.lemmas.List.{get_or-map}
@@ -10,7 +10,7 @@ positions : map position_of tables ≡ range_with_len 0 38
 unfolding tables
 positions = refl
 
--- a table is found by its position
+-- a table is found by its index
 pub position_at : length tables ≡ 38 → (k : ℕ) → k < 38 → position_of (get_or tables k Module) ≡ k
 position_at count k below =
     sym (get_or-map position_of tables k Module 0 (omega (arith, count))) ∙ ap (λ (l : List ℕ). get_or l k 0) positions ∙ get_or-range_with_len 0 38 k 0 below ∙ omega arith

@@ -56,7 +56,7 @@ cell_text model k nullable (Sig signature) valid = tt
 
 -- ---- rows
 
--- what is so of each cell of a table, by its row and place, is so of all
+-- what holds for each cell of a table, by row and index, holds for all its cells
 pub each_cell : (model : Metadata) → IsValid model → (P : Cell → Type 0) (table : TableId)
     → ((k place : ℕ) → k < length (rows_of model table) → place < length (get_or (rows_of model table) k [])
     → IsValidCell model (kind_at table place) (nullable_at table place) (get_or (get_or (rows_of model table) k []) place (Number 0))
@@ -84,7 +84,7 @@ pub ready_at : (model : Metadata) → IsValid model → (table : TableId) (row p
 ready_at model valid table row place there within =
     cell_ready model (kind_at table place) (nullable_at table place) (cell_in model table row place) valid.few (valid.cells table row place there within)
 
--- ---- what all used values are
+-- ---- what holds for all used values
 
 and_append : {Y : Type 0} (P : Y → Type 0) (xs ys : List Y) → AllByRecursion P xs → AllByRecursion P ys → AllByRecursion P (xs ++ ys)
 and_append P [] ys a b = b
@@ -95,7 +95,7 @@ all_flat : {X Y : Type 0} (P : Y → Type 0) (Q : X → Type 0) (f : X → List 
 all_flat P Q f each [] all = tt
 all_flat P Q f each (x ∷ xs) all = and_append P (f x) (flat_map f xs) (each x all.0) (all_flat P Q f each xs all.1)
 
--- what is so of each table's cells is so of all tables'
+-- what holds for the cells of each table holds for those of all tables
 pub all_tables : (model : Metadata) → length tables ≡ 38 → IsValid model → (P : Cell → Type 0)
     → ((table : TableId) → AllByRecursion (AllByRecursion P) (rows_of model table)) → AllByRecursion (AllByRecursion (AllByRecursion P)) model.tables
 all_tables model count valid P each =

@@ -19,8 +19,8 @@ ghost use Rattle.plan.specs.Numbered.{flat, Numbered, CanBeNumbered, IsNumbering
 use heaps::{indexes_stay, pooled_are_distinct};
 use schema::tables_stand;
 
-/// The numbers of a model as one list are those that `put` takes for tables of as many rows, and are
-/// found again there by table, row and column.
+/// The numbers of a model as one list are what `put` needs for tables with these row counts: it finds them again by
+/// table, row and column, and their number is right.
 pub fn numbers_are_put()
     ensures back { (model : Metadata) (sizes : Sizes) → ((table : Table) → count_of sizes table ≡ count_in model table)
         → tables_in sizes tables (flat (numbers model)) ≡ numbers model }
@@ -38,7 +38,8 @@ pub fn cells_can_be_numbered()
     tables_stand();
 }
 
-/// With all its tables a valid model is numbered, by the indexes of its texts in the order of their use.
+/// The numbering of all tables of a valid model is the numbering of the model, if the text indexes are given in order
+/// of use.
 pub fn numberings_are_of_models()
     ensures whole { (model : Metadata) (indexes : List ℕ) → IsValid model
         → indexes ≡ map (text_index (pools_of model).texts) (used texts_of model)
@@ -52,7 +53,7 @@ pub fn numberings_are_of_models()
     indexes_stay();
 }
 
-/// A heap that is longer than 2^30 bytes stays so, whatever cells are numbered more.
+/// A heap that exceeds 2^30 bytes still does after more cells are numbered.
 pub fn heaps_stay_too_long()
     ensures row { (indexes : List ℕ) (columns : List Column) (cells : List Cell) (so_far : Numbered) → IsOver so_far
         → IsOver (with_row indexes columns cells so_far) }

@@ -9,7 +9,7 @@ use heaps::{BlobPool, GuidPool, PoolError};
 use std::alloc::{AllocError, Global};
 use std::marker::Model;
 
-/// The numbers of cells, one a column, and the pools of the blobs and GUIDs that they use.
+/// The numbers of cells, one per column, and the pools of their blobs and GUIDs.
 #[derive(Drop)]
 pub struct Numbering {
     blobs: BlobPool,
@@ -30,11 +30,11 @@ impl Model for Numbering {
 }
 
 impl Numbering {
-    /// A numbering of no cells, with memory for a count of numbers.
+    /// An empty numbering with memory for the given number of numbers.
     ///
     /// # Errors
     ///
-    /// Want of memory alone.
+    /// Only if out of memory.
     pub fn new(alloc: Global, count: usize) -> Result<Numbering, AllocError>
         ensures { IfOk result (λ numbering. numbering ≡ none_numbered) }
     {
@@ -47,11 +47,11 @@ impl Numbering {
         })
     }
 
-    /// Keeps the number of the next column.
+    /// Adds the number of the next column.
     ///
     /// # Errors
     ///
-    /// Want of memory alone, which leaves the numbering as it was.
+    /// Only if out of memory. Then the numbering is unchanged.
     pub fn put_number(&mut self, number: u32) -> Result<(), AllocError>
         ensures ok { OnOk result (self.new ≡ with_number self.old number) }
         ensures err { OnErr result (self.new ≡ self.old) }
@@ -59,12 +59,12 @@ impl Numbering {
         Ok(self.numbers.push(number)?)
     }
 
-    /// Keeps the number of the next text: its index in the strings heap (II.24.2.3), or 0 where there are too few. The
-    /// indexes are those of all texts, in the order of their use.
+    /// Adds the number of the next text: its index in the strings heap (II.24.2.3), or 0 if there are too few indexes.
+    /// `indexes` has those of all texts, in order of use.
     ///
     /// # Errors
     ///
-    /// Want of memory alone, which leaves the numbering as it was.
+    /// Only if out of memory. Then the numbering is unchanged.
     pub fn put_text(&mut self, indexes: &[u32]) -> Result<(), AllocError>
         ensures ok { OnOk result (self.new ≡ with_text indexes.now self.old) }
         ensures err { OnErr result (self.new ≡ self.old) }
@@ -75,12 +75,11 @@ impl Numbering {
         Ok(())
     }
 
-    /// Pools a blob of at most 2^29 - 1 bytes and answers its index (II.24.2.4).
+    /// Pools a blob of at most 2^29 - 1 bytes and returns its index (II.24.2.4).
     ///
     /// # Errors
     ///
-    /// `Full` where the heap of the blobs would pass 2^30 bytes; `Memory` where memory is refused. Each leaves the
-    /// numbering as it was.
+    /// `Full` if the blob heap would exceed 2^30 bytes; `Memory` if out of memory. Then the numbering is unchanged.
     pub fn put_blob(&mut self, blob: &[u8]) -> Result<u32, PoolError>
         requires { length blob.now < 2 ^ 29 }
         ensures pools { OnOk result (self.new ≡ with_blob self.old blob.now) }
@@ -91,12 +90,11 @@ impl Numbering {
         self.blobs.add(blob)
     }
 
-    /// Pools a GUID and answers its index; that of null is 0 (II.24.2.5).
+    /// Pools a GUID and returns its index; the index of null is 0 (II.24.2.5).
     ///
     /// # Errors
     ///
-    /// `Full` where the heap of the GUIDs would pass 2^30 bytes; `Memory` where memory is refused. Each leaves the
-    /// numbering as it was.
+    /// `Full` if the GUID heap would exceed 2^30 bytes; `Memory` if out of memory. Then the numbering is unchanged.
     pub fn put_guid(&mut self, guid: Option<[u8; 16]>) -> Result<u32, PoolError>
         ensures pools { OnOk result (self.new ≡ with_guid self.old guid) }
         ensures index { IfOk result (λ index. index ≡ guid_index self.new.guids guid) }
@@ -106,14 +104,14 @@ impl Numbering {
         self.guids.add(guid)
     }
 
-    /// The numbers, one a column.
+    /// The numbers, one per column.
     pub fn numbers(&self) -> &[u32]
         ensures { result.now ≡ self.now.numbers }
     {
         &self.numbers
     }
 
-    /// The blob heap without fill.
+    /// The blob heap, without padding.
     pub fn blobs(&self) -> &[u8]
         ensures heap { result.now ≡ blob_heap self.now.blobs }
         ensures fits { length result.now ≤ 2 ^ 30 }
@@ -121,7 +119,7 @@ impl Numbering {
         self.blobs.bytes()
     }
 
-    /// The GUID heap without fill.
+    /// The GUID heap, without padding.
     pub fn guids(&self) -> &[u8]
         ensures heap { result.now ≡ guid_heap self.now.guids }
         ensures fits { length result.now ≤ 2 ^ 30 }

@@ -6,7 +6,7 @@ ghost use Rattle.metadata.specs.KeyOrder.{row_number as number_of_row};
 
 use schema::{Coded, ColumnKind, TableId, Token};
 
-/// Whether a tag is of this table.
+/// Whether a tag is that of this table.
 fn is_table(table: TableId, listed: &Option<TableId>) -> bool
     ensures { result ≡ is_table_of table listed.now }
 {
@@ -16,7 +16,7 @@ fn is_table(table: TableId, listed: &Option<TableId>) -> bool
     }
 }
 
-/// The tag of a table, or how many tags there are where it has none.
+/// The tag of a table, or the number of tags if it has none.
 fn tag_of(coded: Coded, table: TableId) -> u32
     ensures value { result ≡ position_or_len (is_table_of table) (tables_of coded) }
     ensures limit { result ≤ 22 }
@@ -30,7 +30,7 @@ fn tag_of(coded: Coded, table: TableId) -> u32
     listed.len() as u32
 }
 
-/// The number by which a column of a kind names a row (II.24.2.6).
+/// The number by which a column of a kind refers to a row (II.24.2.6).
 pub fn row_number(kind: ColumnKind, token: Token) -> u32
     requires { token.row ≤ 0xFFFFFF }
     ensures { result ≡ number_of_row kind token }

@@ -1,4 +1,4 @@
--- A planned root whose offsets have four bytes.
+-- The offsets of a planned root fit four bytes.
 use Rattle.std.proofs.Common.{◌+◌, ◌^◌, ◌≤◌, length, ap, arith}
 use Rattle.std.specs.Prelude.{sum_by}
 use Rattle.metadata.specs.Metadata.{Metadata}

@@ -3,19 +3,19 @@ use sinks::Stopped;
 use std::alloc::AllocError;
 use thiserror::Error;
 
-/// Why a root was not written, or not all of it.
+/// Why a root was not written, or not completely.
 #[derive(Clone, Copy, Debug, PartialEq, Eq, Error)]
 pub enum WriteError {
-    /// The canonical root is longer than the limit. No byte went out.
+    /// The canonical root is longer than the limit. No byte was sent.
     #[error("the root is longer than the limit")]
     TooLarge,
-    /// Memory was refused. No byte went out.
+    /// Out of memory. No byte was sent.
     #[error("out of memory")]
     Memory,
-    /// The sink failed before all bytes had gone out.
+    /// The sink failed before all bytes were sent.
     #[error("the writer failed behind {given} bytes")]
     Device {
-        /// How many of the first bytes had gone out.
+        /// The number of bytes that were sent: the prefix of this length.
         given: u64,
     },
 }

@@ -11,9 +11,9 @@ use sinks::{Sink, send_all};
 use std::alloc::{AllocError, Global};
 use std::marker;
 
-/// The bytes of a model's canonical root, ready to be given out.
+/// The bytes of a model's canonical root, ready to be sent.
 ///
-/// A clause sees them as a list. They are at most 2^30 bytes, and have one model.
+/// A contract sees them as a list. They are at most 2^30 bytes, and have one model.
 #[derive(Debug, Drop)]
 pub struct Prepared {
     root: Vec<u8>,
@@ -35,7 +35,7 @@ impl Prepared {
     ghost use Rattle.std.specs.Io.KnownBytes.{Appends};
     ghost use Rattle.prepared.specs.Errors.{MatchError};
 
-    /// How many bytes the root has.
+    /// The length of the root in bytes.
     pub fn len(&self) -> u32
         ensures { result ≡ length self.now }
     {
@@ -49,25 +49,25 @@ impl Prepared {
         &self.root
     }
 
-    /// The bytes of the root, as they lie in memory.
+    /// The bytes of the root, without a copy.
     pub fn into_bytes(self) -> Vec<u8>
         ensures { result.items ≡ self }
     {
         self.root
     }
 
-    /// Gives out all bytes, in as many calls of [`Sink::offer`] as it takes. It takes no memory, and the
-    /// same bytes can be sent again through another sink.
+    /// Sends all bytes, in one or more calls of [`Sink::offer`]. It does not allocate. The same bytes can be sent again
+    /// through another sink.
     ///
     /// # Errors
     ///
-    /// `Device` alone: the sink's first failure, of whatever kind, ends the call.
+    /// Only `Device`: the first failure of the sink, of any kind, ends the call.
     pub fn send<W: Sink>(&self, sink: &mut W) -> Result<(), WriteError>
         requires few { W.failed sink.old < 2 ^ 63 }
-        // All bytes went out, and nothing else; and no call failed.
+        // All bytes were sent, and nothing else. No call failed.
         ensures all { OnOk result (Appends (W.given sink.old) (W.given sink.new) self.now) }
         ensures unfailed { OnOk result (W.failed sink.new ≡ W.failed sink.old) }
-        // Exactly so many of the first bytes went out, and not all; and one call failed.
+        // Exactly the first `given` bytes were sent, and not all. One call failed.
         ensures front { IfErr result (MatchError ⊥ ⊥
             (λ given. Appends (W.given sink.old) (W.given sink.new) (take given self.now) × (given < length self.now))) }
         ensures failed { OnErr result (W.failed sink.new ≡ W.failed sink.old + 1) }
@@ -76,7 +76,7 @@ impl Prepared {
     }
 }
 
-/// What a planned root is written of.
+/// The parts of a planned root.
 fn parts_of<'a>(plan: &'a RootPlan) -> RootParts<'a>
     requires { IsPlan plan.now }
     ensures can { CanBePut result }
@@ -97,11 +97,11 @@ fn parts_of<'a>(plan: &'a RootPlan) -> RootParts<'a>
     }
 }
 
-/// The root that is planned, in memory that is taken once; each byte is written once.
+/// The root of a plan. Its memory is allocated once, and each byte is written once.
 ///
 /// # Errors
 ///
-/// Want of memory alone.
+/// Only if out of memory.
 pub fn make(alloc: Global, plan: &RootPlan) -> Result<Prepared, AllocError>
     requires { IsPlan plan.now }
     ensures { (model : Metadata) → IsRootPlan model plan.now → IfOk result (λ prepared. prepared ≡ canonical model) }

@@ -1,10 +1,10 @@
--- How failures are shown.
+-- The lines that report failures.
 use Rattle.std.specs.Prelude.{ℕ, List, ◌++◌, codes}
 use Rattle.packed.specs.Codes.{fault_text}
 use Rattle.printed_faults.specs.declared.failure.Failure.{Failure}
 use Rattle.printed_faults.specs.declared.failure.Failure.TheVariants.{Fault, NoSuchRow, NoToken, NoCode, CannotRead, CannotWriteOutput, CannotWriteFile, OutOfMemory}
 
--- the line that tells a failure, without its line feed
+-- the line that reports a failure, without its line feed
 abbrev pub failure_text : Failure → List ℕ
 failure_text (Fault found) = fault_text found
 failure_text NoSuchRow = codes "no such row"

@@ -1,15 +1,15 @@
-//! What faults mean, in lines.
+//! Prints what faults mean.
 use explanations::{all_codes, explain};
 use packed::{Fault, FaultCode};
 use std::io;
 use std::io::Write;
 
-/// How many columns a line has at most.
+/// The largest number of columns in a line.
 const WIDTH: usize = 100;
 
-/// Prints a line for each fault, the lowest number first: its number, its name and what is wrong.
+/// Prints a line for each fault, lowest number first: its number, its name and what is wrong.
 ///
-/// It takes no memory. The error is that of the writer, which has then been given the front of the lines.
+/// It does not allocate. An error is that of the writer. By then the writer has a prefix of the lines.
 pub fn print_list<W: Write>(out: &mut W) -> io::Result<()> {
     for code in all_codes() {
         print_heading(*code, out)?;
@@ -17,7 +17,7 @@ pub fn print_list<W: Write>(out: &mut W) -> io::Result<()> {
     Ok(())
 }
 
-/// Prints the number of a demand, its name where it has one, and what is wrong.
+/// Prints the number of a rule, its name if it has one, and what is wrong.
 fn print_heading<W: Write>(code: FaultCode, out: &mut W) -> io::Result<()> {
     let (number, summary) = (code.number(), explain(code).summary);
     let name = Fault::new(code, 0).name();
@@ -28,16 +28,16 @@ fn print_heading<W: Write>(code: FaultCode, out: &mut W) -> io::Result<()> {
     }
 }
 
-/// Prints what is known of a fault: its line of the list, and behind an empty line what is demanded, the
-/// section of ECMA-335, where the offset points and what usually makes such a file, each behind a dash, in
-/// lines of at most 100 columns where no word has more.
+/// Prints the explanation of a fault: its line of the list, an empty line, and then items that begin with a dash. They
+/// are the rule, the section of ECMA-335, where the offset points and the usual cause. Lines have at most 100 columns,
+/// unless one word is longer.
 ///
-/// It takes no memory. The error is that of the writer, which has then been given the front of the lines.
+/// It does not allocate. An error is that of the writer. By then the writer has a prefix of the lines.
 pub fn print_explanation<W: Write>(code: FaultCode, out: &mut W) -> io::Result<()> {
     let told = explain(code);
     print_heading(code, out)?;
     writeln!(out)?;
-    print_item("Demand:", told.demand, out)?;
+    print_item("Rule:", told.demand, out)?;
     if let Some(section) = told.section {
         print_item("Section:", section, out)?;
     }
@@ -48,7 +48,7 @@ pub fn print_explanation<W: Write>(code: FaultCode, out: &mut W) -> io::Result<(
     Ok(())
 }
 
-/// Prints a text behind a dash and a label, in lines of at most so many columns as [`WIDTH`] says.
+/// Prints a dash, a label and a text, in lines of at most [`WIDTH`] columns.
 fn print_item<W: Write>(label: &str, text: &str, out: &mut W) -> io::Result<()> {
     write!(out, "- {label}")?;
     let mut room = (WIDTH - 2).saturating_sub(label.len());

@@ -1,4 +1,4 @@
-//! Why the program could not do what was asked, and what it tells of it.
+//! Why the program failed, and the line that reports it.
 ghost use Rattle.std.specs.Prelude.{◌≡◌, ◌↔◌, IfErr, IsOk, Some};
 ghost use Rattle.std.specs.IoError.{error_kind};
 ghost use Rattle.printed_faults.specs.Status.{IsOutput, TellsKind};
@@ -9,25 +9,25 @@ use packed::Fault;
 use std::io::ErrorKind;
 use std::{fmt, io};
 
-/// Why the program could not do what was asked. Its `Display` is the line for standard error, without the
-/// line feed: of a fault `fault LAYER CODE at OFFSET: NAME`.
+/// Why the program could not do what it was asked to do. `Display` gives the line for standard error, without the line
+/// feed: for a fault `fault LAYER CODE at OFFSET: NAME`.
 #[derive(Clone, Copy, Debug, PartialEq, Eq)]
 pub enum Failure<'a> {
     /// The file breaks a rule of the standard.
     Fault(Fault),
-    /// The token names no row and no user string of the file.
+    /// The token names no row and no user string in the file.
     NoSuchRow,
-    /// The word that is to be a token is none.
+    /// The argument is not a token.
     NoToken(&'a str),
-    /// The word that is to be the number of a fault is none.
+    /// The argument is not the number of a fault.
     NoCode(&'a str),
-    /// The file, by the word that names it, could not be opened or read to its end.
+    /// The file with this path could not be opened or read to its end.
     CannotRead(&'a str),
-    /// The output could not be written, or not to its end.
+    /// The output could not be written, or not completely.
     CannotWriteOutput,
-    /// The file, by the word that names it, could not be made, emptied or written to its end.
+    /// The file with this path could not be created, truncated or written to its end.
     CannotWriteFile(&'a str),
-    /// Memory was refused.
+    /// Out of memory.
     OutOfMemory,
 }
 
@@ -36,8 +36,8 @@ impl<'a> Failure<'a> {
     ghost use Rattle.std.specs.IoError.{error_kind};
     ghost use Rattle.printed_faults.specs.Status.{status_of, IsOutput, IsUnread, IsUnwritten, TellsKind};
 
-    /// What a refused read of the file is: want of memory where the error's kind is that, and else that
-    /// the file can't be read.
+    /// The failure for an error on reading the file: out of memory if the error is of that kind, else that the file
+    /// cannot be read.
     pub fn of_reading(error: &io::Error, file: &'a str) -> Failure<'a>
         ensures told { IsUnread file.now result }
         ensures kind { TellsKind (error_kind error.now) result }
@@ -48,8 +48,8 @@ impl<'a> Failure<'a> {
         }
     }
 
-    /// What a refused opening of the file to write is: want of memory where the error's kind is that, and
-    /// else that the file can't be written.
+    /// The failure for an error on opening the file to write: out of memory if the error is of that kind, else that the
+    /// file cannot be written.
     pub fn of_opening(error: &io::Error, file: &'a str) -> Failure<'a>
         ensures told { IsUnwritten file.now result }
         ensures kind { TellsKind (error_kind error.now) result }
@@ -60,8 +60,8 @@ impl<'a> Failure<'a> {
         }
     }
 
-    /// What a refused write to the output is: want of memory where the error's kind is that, as where a
-    /// buffer can't be had, and else that the output can't be written.
+    /// The failure for an error on writing the output: out of memory if the error is of that kind, else that the output
+    /// cannot be written. A buffer that cannot be allocated is out of memory.
     pub fn of_printing(error: &io::Error) -> Failure<'a>
         ensures told { IsOutput result }
         ensures kind { TellsKind (error_kind error.now) result }
@@ -72,8 +72,8 @@ impl<'a> Failure<'a> {
         }
     }
 
-    /// The status that the process ends with: 1 of a fault and of a token that names nothing, 2 of words
-    /// that ask for nothing, and 3 of a file or an output that can't be read or written and of want of memory.
+    /// The exit code of the process: 1 for a fault or a token that names nothing, 2 for a usage error, 3 for an I/O
+    /// error or out of memory.
     pub fn status(&self) -> u8
         ensures { result ≡ status_of self.now }
     {
@@ -88,11 +88,11 @@ impl<'a> Failure<'a> {
     }
 }
 
-/// What comes of printing.
+/// Converts the result of printing.
 ///
 /// # Errors
 ///
-/// An error of the writer as a failure: of the output, or of memory where its kind is that.
+/// The error of the writer as a failure: out of memory if it is of that kind, else that the output cannot be written.
 pub fn printed(outcome: io::Result<()>) -> Result<(), Failure<'static>>
     ensures ok { IsOk result ↔ IsOk outcome }
     ensures told { IfErr result IsOutput }

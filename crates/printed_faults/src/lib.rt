@@ -1,14 +1,13 @@
-//! What the program `clim` tells of faults: why a run failed and with which status it ends, and what a
-//! fault means.
+//! Reports faults: why a run of `clim` failed, its exit code, and what a fault means.
 //!
-//! A [`Failure`] is what a run ends with in place of its lines: its `Display` is the line for standard
-//! error, and [`Failure::status`] the status of the process. [`print_explanation`] and [`print_list`] print
-//! what faults mean. Nothing here takes memory.
+//! A [`Failure`] is the result of a run that failed. Its `Display` is the line for standard error, and
+//! [`Failure::status`] is the exit code. [`print_explanation`] and [`print_list`] print what faults mean. Nothing here
+//! allocates.
 //!
 //! ```text
-//! let failure = Failure::from(fault);      // shows as "fault 7 701 at 2114: BadSignature"
+//! let failure = Failure::from(fault);      // displayed as "fault 7 701 at 2114: BadSignature"
 //! failure.status() == 1
-//! printed(print_list(&mut out))?;          // Failure::CannotWriteOutput where the device is full
+//! printed(print_list(&mut out))?;          // Failure::CannotWriteOutput if the device is full
 //! ```
 #![tactic(auto)]
 

@@ -1,4 +1,4 @@
--- The blob of a cell of a view spells a signature.
+-- The blob of a signature cell of a view encodes a signature.
 use Rattle.std.proofs.Common.{◌≡◌, ◌∙◌, ℕ, List, subst, sym}
 use Rattle.std.proofs.lemmas.Grind.{not_there}
 use Rattle.schema.specs.declared.table.TableId.{TableId}
@@ -16,7 +16,7 @@ use Rattle.reading.specs.declared.cell_ref.CellRef.TheVariants as seen
 use Rattle.reading.specs.Shown.{Shows, ShowsCell}
 use Rattle.opening.specs.Views.{HasModel}
 
--- the facts are those of the column's kind and of what a view shows in it
+-- these facts hold for the column's kind and for the value that a view has in it
 pub spelled : (root : List ℕ) (table : TableId) (row place : ℕ) (held : ColumnKind) (column : SigKind) (value : CellRef) (blob : _) → HasModel root
     → held ≡ (column_at table (column_of table place)).kind → held ≡ kind.Signature column → value ≡ seen.Sig blob
     → ((model : Metadata) → IsModel root model → ShowsCell table place value (cell_in model table row place))

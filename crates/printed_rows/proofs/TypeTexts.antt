@@ -33,7 +33,7 @@ unfolding cell_columns
 text_cell source row place held (inl one) stands = let at = subst (λ (p : ℕ). IsCell source TypeDef row p held) one stands in (at.0, at.2)
 text_cell source row place held (inr two) stands = let at = subst (λ (p : ℕ). IsCell source TypeDef row p held) two stands in (at.0, at.2)
 
--- what shows a text in a column of texts is one
+-- a value that equals the cell of a text column is a text
 text_shown : (value : CellRef) (held : Cell) (text : List ℕ) → held ≡ cell.Text text → Shows kind.Text value held
     → ((shown : _) → value ≡ seen.Text shown → ⊥) → ⊥
 text_shown (seen.Number number) held text is shows none = let e : cell.Text text ≡ cell.Number number = sym is ∙ shows in cc

@@ -5,8 +5,8 @@ ghost use Rattle.schema.specs.Tokens.{IsToken};
 
 use opening::{Token, View};
 
-/// The token that a number spells (III.1.9), where it names a row of the view; `None` where its high byte is the
-/// number of no table, or the three bytes below are 0 or a row that the table has not.
+/// The token with a number (III.1.9), if it names a row of the view. `None` if no table has the number in the high
+/// byte, or the low three bytes are 0 or not a row of that table.
 pub fn existing_row(view: &View<'_>, number: u32) -> Option<Token>
     ensures found { IfSome result (λ token. IsToken number token × (1 ≤ token.row) × (token.row ≤ row_count view.now token.table)) }
     ensures none { IfNone result (¬ HasTokenRow view.now number) }

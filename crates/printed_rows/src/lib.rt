@@ -1,9 +1,8 @@
-//! What the program `clim` prints of a view: rows and cells, types and user strings, a line each.
+//! Prints the rows and cells, types and user strings of a view, one per line.
 //!
-//! [`print_tables`] prints all rows, [`print_row`] one, [`print_types`] the types, and
-//! [`print_user_string`] a user string; [`existing_row`] is the row that a token names. [`Shown`] is a text
-//! in printable ASCII. Each writes its line piece by piece, so that a writer with a buffer is to be handed in,
-//! and flushes nothing.
+//! [`print_tables`] prints all rows, [`print_row`] one row, [`print_types`] the types, and [`print_user_string`] a user
+//! string. [`existing_row`] finds the row that a token names. [`Shown`] is a text escaped as printable ASCII. Each call
+//! writes its line in pieces, so the writer should have a buffer. No call flushes it.
 //!
 //! ```text
 //! let view = open_root(&bytes)?;

@@ -1,4 +1,4 @@
-//! A row of a table as a line of text.
+//! Prints a row of a table as a line.
 ghost use Rattle.std.specs.Prelude.{◌≡◌, ◌≤◌, ◌<◌, IfOk, length};
 ghost use Rattle.opening.specs.Views.{row_count, HasModel};
 ghost use Rattle.schema.specs.CellColumns.{cell_count, column_of};
@@ -15,7 +15,7 @@ use std::alloc::{AllocError, Global};
 use std::io;
 use std::io::Write;
 
-/// What the column of a cell holds.
+/// The kind of the column of a cell.
 fn kind_of(table: TableId, place: usize) -> ColumnKind
     requires { place < cell_count table }
     ensures { result ≡ (column_at table (column_of table place)).kind }
@@ -23,7 +23,7 @@ fn kind_of(table: TableId, place: usize) -> ColumnKind
     columns(table)[column_of_cell(table, place)].kind
 }
 
-/// The shortest spelling of the signature that a blob spells (II.23.2). An error is want of memory alone.
+/// The canonical encoding of the signature in a blob (II.23.2). Fails only if out of memory.
 fn shortest(alloc: Global, kind: SigKind, blob: &[u8]) -> Result<Vec<u8>, AllocError>
     requires { ¬ (¬ ((signature : Body) × Spells kind signature blob.now)) }
     ensures { IfOk result (λ bytes. (signature : Body) → Spells kind signature blob.now → bytes.items ≡ short signature) }
@@ -35,15 +35,18 @@ fn shortest(alloc: Global, kind: SigKind, blob: &[u8]) -> Result<Vec<u8>, AllocE
     }
 }
 
-/// Prints the line of a row: its number and a colon, and each cell of the view's model behind a space. Numbers
-/// are decimal; texts stand in quotes, shown as [`Shown`](crate::Shown) has them; bytes, and signatures in their
-/// shortest spelling (II.23.2), in hexadecimal between `<` and `>`; a GUID in braces; a reference as the eight
-/// hexadecimal digits of its token; a start as `+` and a row. `null` stands where there is no GUID or no row.
+/// Prints the line of a row: its number, a colon, and after a space each cell of the view's model.
+///
+/// - A number is decimal.
+/// - A text is in quotes, escaped as by [`Shown`](crate::Shown).
+/// - Bytes are in hexadecimal between `<` and `>`, and so is a signature, in its canonical encoding (II.23.2).
+/// - A GUID is in braces, a reference is the eight hexadecimal digits of its token, and a start is `+` and a row.
+/// - `null` means no GUID or no row.
 ///
 /// # Errors
 ///
-/// That of the writer, which has then been given the front of the line; and one of the kind `OutOfMemory` where
-/// memory for a signature or a GUID was refused. That memory is given back before the next cell.
+/// The error of the writer, which by then has a prefix of the line; or one of kind `OutOfMemory`, if memory for a
+/// signature or a GUID runs out. That memory is freed before the next cell.
 pub fn print_row<W: Write>(
     alloc: Global,
     view: &View<'_>,
@@ -64,7 +67,7 @@ pub fn print_row<W: Write>(
     writeln!(out)
 }
 
-/// Prints a cell by its place in its row.
+/// Prints a cell, by its index in its row.
 fn print_cell<W: Write>(
     alloc: Global,
     view: &View<'_>,
@@ -87,8 +90,8 @@ fn print_cell<W: Write>(
     }
 }
 
-/// Prints what a cell holds: a text in quotes, bytes between `<` and `>`, a GUID in braces, a reference as
-/// the eight digits of its token, and a start behind a plus.
+/// Prints the value of a cell: a text in quotes, bytes between `<` and `>`, a GUID in braces. A reference is the eight
+/// digits of its token, and a start follows a plus sign.
 fn print_value<W: Write>(alloc: Global, cell: CellRef<'_>, out: &mut W) -> io::Result<()> {
     match cell {
         CellRef::Number(number) => write!(out, "{number}"),

@@ -1,12 +1,12 @@
-//! Texts, bytes and UTF-16 units in printable ASCII.
+//! Texts, bytes and UTF-16 units, escaped as printable ASCII.
 ghost use Rattle.std.specs.Prelude.{◌≡◌, ◌<◌, IsTrue, Some, [], ◌∷◌};
 ghost use Rattle.std.specs.Fmt.{WritesOnOk};
 ghost use Rattle.printed_rows.specs.Shown.{is_printable, shown_byte, shown_bytes, shown_text, shown_unit};
 
 use std::fmt;
 
-/// A text as the program prints it: printable ASCII but `"` and `\` as it is, and every other byte
-/// as `\x` and two hexadecimal digits.
+/// A text as the program prints it: printable ASCII except `"` and `\` as it is, and any other byte as `\x` and two
+/// hexadecimal digits.
 #[derive(Clone, Copy)]
 pub struct Shown<'a>(pub &'a str);
 
@@ -36,8 +36,8 @@ impl fmt::Display for Hex<'_> {
     }
 }
 
-/// A UTF-16 unit as the program prints it: printable ASCII but `\` as it is, and every other unit as
-/// `\u` and four hexadecimal digits.
+/// A UTF-16 unit as the program prints it: printable ASCII except `\` as it is, and any other unit as `\u` and four
+/// hexadecimal digits.
 #[derive(Clone, Copy)]
 pub(crate) struct ShownUnit(pub(crate) u16);
 
@@ -54,7 +54,7 @@ impl fmt::Display for ShownUnit {
     }
 }
 
-/// Whether a unit is printable ASCII but `\`.
+/// Whether a unit is printable ASCII except `\`.
 fn is_printable_unit(unit: u16) -> bool
     ensures value { result ≡ is_printable unit }
     ensures ascii { IsTrue result → unit < 128 }
@@ -62,7 +62,7 @@ fn is_printable_unit(unit: u16) -> bool
     32 <= unit && unit <= 126 && unit != 92
 }
 
-/// Writes a byte of a text as it is shown.
+/// Writes a byte of a text, escaped if needed.
 fn write_byte<W: fmt::Write>(byte: u8, f: &mut fmt::Formatter<W>) -> fmt::Result
     ensures { WritesOnOk W.write_str_gives f.old result (shown_byte byte) f.new }
 {
@@ -73,7 +73,7 @@ fn write_byte<W: fmt::Write>(byte: u8, f: &mut fmt::Formatter<W>) -> fmt::Result
     }
 }
 
-/// Writes a byte of ASCII as it is.
+/// Writes an ASCII byte as it is.
 fn write_ascii<W: fmt::Write>(byte: u8, f: &mut fmt::Formatter<W>) -> fmt::Result
     requires { byte < 128 }
     ensures { WritesOnOk W.write_str_gives f.old result (byte ∷ []) f.new }

@@ -1,4 +1,4 @@
-//! All tables of a view, in lines.
+//! Prints all tables of a view.
 
 use crate::row_lines::print_row;
 use opening::{TableId, View};
@@ -6,14 +6,14 @@ use std::alloc::Global;
 use std::io;
 use std::io::Write;
 
-/// Prints each table that has rows, the lowest number first: the line `table NN NAME COUNT`, where NN is the
-/// table's number in two upper-case hexadecimal digits (II.22), and the line of each row, as [`print_row`] has it.
+/// Prints each table that has rows, lowest number first: the line `table NN NAME COUNT`, where NN is the table's number
+/// in two upper-case hexadecimal digits (II.22), and then the line of each row, as [`print_row`] does.
 ///
-/// Lines go out as they are made: no more memory is held at a time than one cell takes.
+/// It prints one cell after another, and holds the memory of at most one cell at a time.
 ///
 /// # Errors
 ///
-/// Those of [`print_row`]. The writer has then been given the front of the lines.
+/// Those of [`print_row`]. By then the writer has a prefix of the lines.
 pub fn print_tables<W: Write>(alloc: Global, view: &View<'_>, out: &mut W) -> io::Result<()> {
     for table in TableId::all() {
         print_table(alloc, view, *table, out)?;

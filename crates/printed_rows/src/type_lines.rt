@@ -1,4 +1,4 @@
-//! The types of a view, in lines.
+//! Prints the types of a view.
 ghost use Rattle.std.specs.Prelude.{◌≡◌, ◌≤◌, ◌⊎◌};
 ghost use Rattle.metadata.specs.Cell.{Text};
 ghost use Rattle.metadata.specs.Metadata.{Metadata, cell_in};
@@ -12,11 +12,10 @@ use opening::{CellRef, TableId, Token, View};
 use std::io;
 use std::io::Write;
 
-/// Prints a line for each row of TypeDef (II.22.37): its token in eight hexadecimal digits; its namespace and a
-/// dot, where there is one, and its name, both shown as [`Shown`] has them; and how many fields and how many
-/// methods it has.
+/// Prints a line for each row of TypeDef (II.22.37): its token in eight hexadecimal digits; its namespace and a dot, if
+/// it has one, and its name, both escaped as by [`Shown`]; and the number of its fields and of its methods.
 ///
-/// It takes no memory. The error is that of the writer, which has then been given the front of the lines.
+/// It does not allocate. An error is that of the writer. By then the writer has a prefix of the lines.
 pub fn print_types<W: Write>(view: &View<'_>, out: &mut W) -> io::Result<()> {
     // The root of a view has a model.
     let _root = view.root();
@@ -51,7 +50,7 @@ fn print_type<W: Write>(view: &View<'_>, row: u32, out: &mut W) -> io::Result<()
     writeln!(out, " {fields} {methods}")
 }
 
-/// The name of a type, which is its cell at 1, or its namespace, at 2 (II.22.37).
+/// The name of a type, which is its cell 1, or its namespace, which is its cell 2 (II.22.37).
 #[tactic(auto, unfolding(schema::specs::CellColumns::cell_columns))]
 fn text_of<'a>(view: &View<'a>, row: u32, place: usize) -> &'a str
     requires model { HasModel view.now }

@@ -1,4 +1,4 @@
--- How long stream headers are, and those of streams by their sizes.
+-- The lengths of stream headers, and the headers by the sizes of the streams.
 use Rattle.std.proofs.Common.{◌≡◌, ℕ, ◌+◌, ◌≤◌, List, [], ◌∷◌, ◌++◌, length, refl, sym, ap, ◌∙◌, arith, length-append, lit≤, drop, filter, ltb, cond}
 use Rattle.std.proofs.lemmas.List.{drop_all}
 use Rattle.std.proofs.lemmas.List.Sums.{sum_by-cons}
@@ -25,7 +25,7 @@ pub header_is_long : (size : Kind → ℕ) (offset : ℕ) (kind : Kind) → leng
 header_is_long size offset kind =
     length-append (number_bytes 4 offset ++ number_bytes 4 (size kind)) (ended (stream_name kind))
 
--- headers are as long wherever the streams begin
+-- the length of the headers does not depend on the offsets of the streams
 pub directory_is_long : (size : Kind → ℕ) (offset : ℕ) (kinds : List Kind) → length (sized_directory size offset kinds) ≡ sum_by header_length kinds
 directory_is_long size offset [] = refl
 directory_is_long size offset (kind ∷ kinds) =
@@ -48,7 +48,7 @@ heading_is_long version size kinds =
     length-append (front version (length kinds)) (sized_directory size offset kinds)
     ∙ sums (front_is_long version (length kinds)) (directory_is_long size offset kinds)
 
--- headers go by the sizes of the streams alone
+-- the headers depend only on the sizes of the streams
 pub directory_by_size : (streams : Kind → List ℕ) (size : Kind → ℕ) → ((kind : Kind) → size kind ≡ length (streams kind)) → (offset : ℕ) (kinds : List Kind)
     → directory streams offset kinds ≡ sized_directory size offset kinds
 directory_by_size streams size same offset [] = refl
@@ -64,7 +64,7 @@ heading_by_size version streams size same kinds =
     ap (λ list. start ++ directory streams (length start + length list) kinds ++ flat_map streams kinds) (directory_by_size streams size same 0 kinds)
     ∙ ap (λ list. start ++ list ++ flat_map streams kinds) (directory_by_size streams size same (heading_size version size kinds) kinds)
 
--- streams of these sizes that have bytes
+-- the streams that have bytes, by these sizes
 pub held_by_size : (streams : Kind → List ℕ) (size : Kind → ℕ) → ((kind : Kind) → size kind ≡ length (streams kind)) → (kinds : List Kind)
     → filter (λ kind. ltb 0 (length (streams kind))) kinds ≡ filter (λ kind. ltb 0 (size kind)) kinds
 held_by_size streams size same [] = refl
@@ -72,7 +72,7 @@ held_by_size streams size same (kind ∷ kinds) =
     ap (λ count. cond (ltb 0 count) (kind ∷ filter (λ kind. ltb 0 (length (streams kind))) kinds) (filter (λ kind. ltb 0 (length (streams kind))) kinds)) (sym (same kind))
     ∙ ap (λ rest. cond (ltb 0 (size kind)) (kind ∷ rest) rest) (held_by_size streams size same kinds)
 
--- where no header is left
+-- the case that no header is left
 pub at_end : (len whole : ℕ) (kinds : List Kind) (i : ℕ) → len + sum_by header_length (drop i kinds) ≡ whole → length kinds ≤ i → len ≡ whole
 at_end len whole kinds i all past =
     let none : sum_by header_length (drop i kinds) ≡ 0 = ap (sum_by header_length) (drop_all i kinds past) in

@@ -1,4 +1,4 @@
--- Bytes written one behind the other.
+-- Bytes that are written in sequence.
 use Rattle.std.proofs.Common.{List, ℕ, ◌++◌, ap, ◌∙◌, append_assoc, length-append, arith}
 use Rattle.put.specs.Written.{Written, Puts}
 

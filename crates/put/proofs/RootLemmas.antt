@@ -1,4 +1,4 @@
--- The bytes of a whole root, one stream after another.
+-- The bytes of a whole root, stream by stream.
 use Rattle.std.proofs.Common.{◌≡◌, ℕ, ◌+◌, ◌<◌, ◌≤◌, List, [], ◌++◌, length, get_or, drop, refl, sym, ap, length-append, arith}
 use Rattle.std.proofs.lemmas.List.{drop_all, drop_more}
 use Rattle.std.specs.List.{flat_map}
@@ -13,7 +13,7 @@ use Rattle.put.specs.Root.{content, kinds_of, root_bytes, ArePartsOf}
 use Rattle.put.specs.declared.root_parts.RootParts.{RootParts}
 use Rattle.put.proofs.RowLemmas.{IsPutting, put_next}
 
--- the root as what stands before its streams and these
+-- a root is its headers followed by its streams
 pub root_split : (parts : RootParts) (kinds : List Kind) → kinds ≡ kinds_of parts
     → root_bytes parts ≡ heading parts.version.now (size_of parts.sizes) kinds ++ flat_map (content parts) kinds
 unfolding root_bytes
@@ -24,7 +24,7 @@ pub heading_fits : (parts : RootParts) (kinds : List Kind) (room : ℕ) → kind
 heading_fits parts kinds room same fits =
     omega (arith, ap length (root_split parts kinds same), length-append (heading parts.version.now (size_of parts.sizes) kinds) (flat_map (content parts) kinds), fits)
 
--- behind the heading all streams are left
+-- after the headers all streams are left
 pub streams_left : (parts : RootParts) (kinds : List Kind) (start now : Written) → kinds ≡ kinds_of parts → length (root_bytes parts) ≤ start.room
     → Puts start now (heading parts.version.now (size_of parts.sizes) kinds) → IsPutting start now (flat_map (content parts) kinds) (root_bytes parts)
 streams_left parts kinds start now same fits puts =

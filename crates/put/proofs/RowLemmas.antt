@@ -1,4 +1,4 @@
--- The bytes of a row, one column after another.
+-- The bytes of a row, column by column.
 use Rattle.std.proofs.Common.{◌≡◌, ℕ, zero, suc, ◌+◌, ◌-◌, ◌*◌, ◌/◌, ◌<◌, ◌≤◌, List, [], ◌∷◌, ◌++◌, length, get_or, take, drop, add-one, refl, sym, ap, ◌∙◌, append-nil, append_assoc, length-append, length-drop, arith}
 use Rattle.std.proofs.lemmas.List.{drop_all, drop_more}
 use Rattle.schema.specs.declared.column.Column.{Column}
@@ -7,7 +7,7 @@ use Rattle.schema.specs.LaidOut.{number_bytes, row_bytes, rows_bytes}
 use Rattle.put.specs.Flat.{rows_in}
 use Rattle.put.specs.Written.{Written, Puts}
 
--- what is left to write makes the whole, and there is room for it
+-- the bytes left to write complete the whole, and there is room for them
 pub record IsPutting (start now : Written) (left all : List ℕ) : Type 0 where
   pub whole : now.bytes ++ left ≡ start.bytes ++ all
   pub left_room : length left ≤ now.room
@@ -46,7 +46,7 @@ row_more sizes columns numbers i d more_columns more_numbers =
 pub row_end : (sizes : Sizes) (columns : List Column) (numbers : List ℕ) (i : ℕ) → length columns ≤ i → row_bytes sizes (drop i columns) (drop i numbers) ≡ []
 row_end sizes columns numbers i past = ap (λ list. row_bytes sizes list (drop i numbers)) (drop_all i columns past)
 
--- the next of some rows
+-- the next row of the remaining ones
 pub next_row : (sizes : Sizes) (columns : List Column) (width left next : ℕ) (numbers here rest : List ℕ) → left ≡ next + 1
     → here ≡ take width numbers → rest ≡ drop width numbers
     → rows_bytes sizes columns (rows_in width left numbers) ≡ row_bytes sizes columns here ++ rows_bytes sizes columns (rows_in width next rest)
@@ -61,6 +61,6 @@ no_row sizes columns width left numbers none = ap (λ count. rows_bytes sizes co
 less : (total width next : ℕ) → total ≡ width * (next + 1) → total - width ≡ width * next
 less total width next all = omega arith
 
--- how many numbers are behind a row
+-- the number of numbers after a row
 pub fewer : (width next : ℕ) (numbers rest : List ℕ) → rest ≡ drop width numbers → length numbers ≡ width * (next + 1) → length rest ≡ width * next
 fewer width next numbers rest back all = ap length back ∙ length-drop width numbers ∙ less (length numbers) width next all

@@ -1,4 +1,4 @@
--- A whole root that is written (ECMA-335 II.24.2.1 and II.24.2.2), by what it is written of.
+-- The bytes of a whole root, by its parts (ECMA-335 II.24.2.1 and II.24.2.2).
 use Rattle.std.specs.Prelude.{◌≡◌, ℕ, ◌+◌, ◌^◌, ◌<◌, ◌≤◌, List, ◌++◌, length, sum_by, flat_map}
 use Rattle.root.specs.declared.kind.Kind.{Kind}
 use Rattle.root.specs.declared.kind.Kind.TheVariants.{Tables, Strings, UserStrings, Guids, Blobs}
@@ -18,14 +18,14 @@ use Rattle.put.specs.TableHeader.{table_header}
 use Rattle.put.specs.Flat.{cells_of, tables_in}
 use Rattle.put.specs.declared.root_parts.RootParts.{RootParts}
 
--- the table stream: the header, the rows of all tables, and the fill
+-- the table stream: its header, the rows of all tables, and the padding (II.24.2.6)
 abbrev pub table_bytes : RootParts → List ℕ
 table_bytes parts =
     table_header parts.heap_sizes parts.sorted parts.layout.now
     ++ tables_bytes parts.layout.now tables (tables_in parts.layout.now tables parts.numbers.now)
     ++ fill parts.tables_len
 
--- what each stream holds
+-- the bytes of each stream
 abbrev pub content : RootParts → Kind → List ℕ
 content parts Tables = table_bytes parts
 content parts Strings = filled parts.strings.now
@@ -33,15 +33,15 @@ content parts UserStrings = filled parts.user_strings.now
 content parts Guids = filled parts.guids.now
 content parts Blobs = filled parts.blobs.now
 
--- the streams that have bytes
+-- the kinds of the streams that have bytes
 abbrev pub kinds_of : RootParts → List Kind
 kinds_of parts = held (size_of parts.sizes)
 
--- what stands before the first stream, and the streams
+-- the headers, and then the streams
 unfoldable pub root_bytes : RootParts → List ℕ
 root_bytes parts = heading parts.version.now (size_of parts.sizes) (kinds_of parts) ++ flat_map (content parts) (kinds_of parts)
 
--- the version is short, offsets have four bytes, and there is a number for each column of each row
+-- the version is short enough, offsets fit four bytes, and there is a number for each column of each row
 pub record CanBePut (parts : RootParts) : Type 0 where
   pub version : length parts.version.now ≤ 254
   pub low : heading_size parts.version.now (size_of parts.sizes) (kinds_of parts) + sum_by (size_of parts.sizes) (kinds_of parts) < 2 ^ 32

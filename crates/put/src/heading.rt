@@ -8,10 +8,10 @@ use crate::sizes::StreamSizes;
 use crate::writer::Writer;
 use root::Kind;
 
-/// The most bytes of a version.
+/// The largest number of bytes in a version string.
 const VERSION_LIMIT: usize = 254;
 
-/// How many bytes a text of so many has with the NUL that ends it, filled to a multiple of four.
+/// The length of a text of this many bytes with its terminating NUL, padded to a multiple of four.
 fn ended_len(len: usize) -> usize
     requires { len ≤ VERSION_LIMIT }
     ensures len { (text : List ℕ) → length text ≡ len → length (ended text) ≡ result }
@@ -20,7 +20,7 @@ fn ended_len(len: usize) -> usize
     len - len % 4 + 4
 }
 
-/// How many bytes the header of a stream has.
+/// The length of a stream's header in bytes.
 #[tactic(auto, using(crate::proofs::HeadingLemmas::name_short, crate::proofs::HeadingLemmas::header_is_long))]
 fn header_len(kind: Kind) -> usize
     ensures len { result ≡ header_length kind }
@@ -29,8 +29,8 @@ fn header_len(kind: Kind) -> usize
     8 + ended_len(kind.name().len())
 }
 
-/// How many bytes stand before the first stream of a root with this version and these streams,
-/// wherever the streams begin and whatever their sizes.
+/// The number of bytes before the first stream of a root with this version and these streams. It depends neither on the
+/// offsets nor on the sizes of the streams.
 pub fn heading_len(version: &str, kinds: &[Kind]) -> usize
     requires short { length version.now ≤ VERSION_LIMIT }
     requires few { length kinds.now ≤ 5 }
@@ -46,8 +46,8 @@ pub fn heading_len(version: &str, kinds: &[Kind]) -> usize
 }
 
 impl Writer {
-    /// Writes what stands before the stream headers: the signature, the versions, and how many streams
-    /// there are (II.24.2.1).
+    /// Writes the root header before the stream headers: the signature, the versions and the number of streams
+    /// (II.24.2.1).
     fn put_front(&mut self, version: &str, streams: usize)
         requires short { length version.now ≤ VERSION_LIMIT }
         requires few { streams ≤ 5 }
@@ -72,7 +72,7 @@ impl Writer {
         self.put_ended(kind.name());
     }
 
-    /// Writes the headers of these streams, of which the first begins at an offset.
+    /// Writes the headers of these streams; the first stream begins at the given offset.
     fn put_directory(&mut self, sizes: &StreamSizes, first: u32, kinds: &[Kind])
         requires low { first + sum_by (size_of sizes.now) kinds.now < 2 ^ 32 }
         requires room { length (sized_directory (size_of sizes.now) first kinds.now) ≤ self.old.room }
@@ -85,7 +85,7 @@ impl Writer {
         }
     }
 
-    /// Writes all that stands before the first of these streams.
+    /// Writes all headers before the first of these streams.
     pub fn put_heading(&mut self, version: &str, sizes: &StreamSizes, kinds: &[Kind])
         requires short { length version.now ≤ VERSION_LIMIT }
         requires few { length kinds.now ≤ 5 }

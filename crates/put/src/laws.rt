@@ -11,15 +11,15 @@ ghost use Rattle.put.specs.Root.{root_bytes, ArePartsOf};
 
 use schema::tables_stand;
 
-/// The canonical root is what [`Writer::put_heading`](crate::Writer::put_heading) writes for the sizes of
-/// its streams, and behind that the streams that have bytes.
+/// The canonical root is what [`Writer::put_heading`](crate::Writer::put_heading) writes for the sizes of its streams,
+/// followed by the streams that have bytes.
 pub fn canonical_roots_are_put()
     ensures { (model : Metadata) (size : TheKind → ℕ) → ((kind : TheKind) → size kind ≡ length (stream model kind))
         → canonical model ≡ heading model.version size (held size) ++ flat_map (stream model) (held size) }
 {}
 
-/// What stands before the rows in the table stream of a model is what
-/// [`Writer::put_table_header`](crate::Writer::put_table_header) writes for its counts.
+/// The header of a model's table stream is what [`Writer::put_table_header`](crate::Writer::put_table_header) writes
+/// for its row counts.
 pub fn table_headers_are_put()
     ensures { (model : Metadata) (sizes : Sizes) → sizes.counts ≡ (sizes_of model).counts
         → header_bytes model ≡ table_header (sizes_of model).heap_sizes (sizes_of model).sorted sizes }
@@ -27,8 +27,8 @@ pub fn table_headers_are_put()
     tables_stand();
 }
 
-/// What [`Writer::put_root`](crate::Writer::put_root) writes of the parts of a model is the model's
-/// canonical root.
+/// [`Writer::put_root`](crate::Writer::put_root) writes the canonical root of a model if it is given the parts of that
+/// model.
 pub fn parts_are_canonical()
     ensures { (model : Metadata) (parts : TheParts) → ArePartsOf model parts → root_bytes parts ≡ canonical model }
 {

@@ -1,8 +1,8 @@
-//! The bytes of the canonical root (ECMA-335 II.24.2), written one behind the other.
+//! Writes the bytes of the canonical root in sequence (ECMA-335 II.24.2).
 //!
-//! A [`Writer`] has room for all bytes before the first is written, so that no call but
-//! [`Writer::with_room`] can fail. Its calls write what `canonical` says of a root, by the sizes of the
-//! streams, the counts of the tables and the numbers of the cells: the laws of `laws.rt` say so.
+//! A [`Writer`] has room for all bytes before it writes the first one, so only [`Writer::with_room`] can fail. Its
+//! calls write what `canonical` defines for a root. They need the sizes of the streams, the row counts and the numbers
+//! of the cells. The laws of `laws.rt` state this.
 //!
 //! ```text
 //! let mut writer = Writer::with_room(alloc, len)?;

@@ -10,35 +10,35 @@ use crate::writer::Writer;
 use root::Kind;
 use schema::Layout;
 
-/// What a root is written of (II.24.2): all that is known before its first byte is written.
+/// The parts of a root (II.24.2). All are known before the first byte is written.
 #[derive(Clone, Copy)]
 pub struct RootParts<'a> {
-    /// The version.
+    /// The version string, without NUL.
     pub version: &'a str,
-    /// How many bytes each stream has, filled.
+    /// The size of each stream in bytes, with padding.
     pub sizes: StreamSizes,
-    /// The counts of the tables, and the widths of their columns.
+    /// The row counts, and the widths of the columns.
     pub layout: &'a Layout,
-    /// HeapSizes: which heaps have indexes of four bytes.
+    /// HeapSizes: which heaps have indexes of four bytes (II.24.2.6).
     pub heap_sizes: u8,
-    /// Sorted: which tables are in order of their keys.
+    /// Sorted: which tables are in order of their keys (II.24.2.6).
     pub sorted: u64,
-    /// How many bytes the table stream has without its fill.
+    /// The length of the table stream in bytes, without padding.
     pub tables_len: usize,
-    /// The numbers of all rows, one a column, by table, row and column.
+    /// The numbers of all rows, one per column, by table, row and column.
     pub numbers: &'a [u32],
-    /// The strings heap without fill.
+    /// The `#Strings` heap, without padding.
     pub strings: &'a [u8],
-    /// The heap of user strings without fill, or with it.
+    /// The `#US` heap, with or without padding.
     pub user_strings: &'a [u8],
-    /// The GUID heap.
+    /// The `#GUID` heap.
     pub guids: &'a [u8],
-    /// The blob heap without fill.
+    /// The `#Blob` heap, without padding.
     pub blobs: &'a [u8],
 }
 
 impl Writer {
-    /// Writes the table stream: what stands before the rows, the rows of all tables, and the fill (II.24.2.6).
+    /// Writes the table stream: its header, the rows of all tables, and the padding (II.24.2.6).
     fn put_table_stream(&mut self, parts: &RootParts)
         requires many { length parts.now.numbers.now ≡ sum_by (cells_of parts.now.layout.now) tables }
         requires room { length (table_bytes parts.now) ≤ self.old.room }
@@ -49,7 +49,7 @@ impl Writer {
         self.put_fill(parts.tables_len);
     }
 
-    /// Writes a stream, which ends at a multiple of four (II.24.2.2).
+    /// Writes a stream, padded to a multiple of four (II.24.2.2).
     fn put_stream(&mut self, parts: &RootParts, kind: Kind)
         requires many { length parts.now.numbers.now ≡ sum_by (cells_of parts.now.layout.now) tables }
         requires room { length (content parts.now kind) ≤ self.old.room }
@@ -64,7 +64,7 @@ impl Writer {
         }
     }
 
-    /// Writes a whole root: what stands before the first stream, and then each stream that has bytes.
+    /// Writes a whole root: all headers, and then each stream that has bytes.
     pub fn put_root(&mut self, parts: &RootParts)
         requires parts { CanBePut parts.now }
         requires room { length (root_bytes parts.now) ≤ self.old.room }

@@ -1,6 +1,6 @@
 use root::Kind;
 
-/// How many bytes each stream of a root has, filled to a multiple of four; 0 where it holds nothing.
+/// The size of each stream of a root in bytes, padded to a multiple of four; 0 for a stream that is left out.
 #[derive(Clone, Copy, Debug, PartialEq, Eq)]
 pub struct StreamSizes {
     /// `#~`.
@@ -19,7 +19,7 @@ impl StreamSizes {
     ghost use Rattle.std.specs.Prelude.{◌≡◌};
     ghost use Rattle.put.specs.Heading.{size_of};
 
-    /// How many bytes the stream of a kind has.
+    /// The size in bytes of the stream of a kind.
     pub fn size(&self, kind: Kind) -> u32
         ensures { result ≡ size_of self.now kind }
     {

@@ -7,7 +7,7 @@ ghost use Rattle.put.specs.TableHeader.{bit_if, count_bytes, is_counted, table_h
 use crate::writer::Writer;
 use schema::{Layout, TableId, bits_are_known};
 
-/// The bit of a table where it is set, else 0.
+/// The bit of a table if it is set, else 0.
 fn bit(set: bool, table: TableId) -> u64
     ensures { result ≡ bit_if set table }
 {
@@ -47,7 +47,7 @@ impl Writer {
         }
     }
 
-    /// Writes what stands before the rows of a table stream with these counts (II.24.2.6).
+    /// Writes the header of a table stream with these row counts (II.24.2.6).
     #[tactic(auto, unfolding(crate::specs::TableHeader::table_header))]
     pub fn put_table_header(&mut self, layout: &Layout, heap_sizes: u8, sorted: u64)
         requires { length (table_header heap_sizes sorted layout.now) ≤ self.old.room }

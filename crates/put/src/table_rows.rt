@@ -9,8 +9,8 @@ use crate::writer::Writer;
 use schema::{Layout, TableId, columns, columns_stand};
 
 impl Writer {
-    /// Writes a row of a table by its numbers, one a column; a number too great for its column stands by
-    /// its low bytes (II.24.2.6).
+    /// Writes a row of a table by its numbers, one per column. A number that is too great for its column is truncated
+    /// to its low bytes (II.24.2.6).
     fn put_row(&mut self, layout: &Layout, table: TableId, numbers: &[u32])
         requires many { length numbers.now ≡ length (columns_of table) }
         requires room { length (row_bytes layout.now (columns_of table) numbers.now) ≤ self.old.room }

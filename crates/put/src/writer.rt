@@ -8,8 +8,7 @@ ghost use Rattle.put.specs.Written.{Puts, fill};
 use std::alloc::{AllocError, Global};
 use std::marker::Model;
 
-/// Bytes that are written one behind the other, and room for more, which is taken once: so nothing
-/// that is written can fail.
+/// Bytes that are written in sequence. The memory for them is allocated once, so no write can fail.
 #[derive(Drop)]
 pub struct Writer {
     bytes: Vec<u8>,
@@ -25,11 +24,11 @@ impl Model for Writer {
 }
 
 impl Writer {
-    /// A writer with room for so many bytes.
+    /// A writer with room for this number of bytes.
     ///
     /// # Errors
     ///
-    /// Want of memory alone.
+    /// Only if out of memory.
     pub fn with_room(alloc: Global, room: usize) -> Result<Writer, AllocError>
         ensures bytes { IfOk result (λ writer. writer.bytes ≡ []) }
         ensures room { IfOk result (λ writer. room ≤ writer.room) }
@@ -54,7 +53,7 @@ impl Writer {
         let _ = self.bytes.extend_from_slice(bytes);
     }
 
-    /// Writes the low bytes of a number, so many, the lowest first (II.24.2.6).
+    /// Writes the low `width` bytes of a number, lowest first (II.24.2.6).
     pub fn put_number(&mut self, width: usize, number: u32)
         requires known { IsWidth width }
         requires room { width ≤ self.old.room }
@@ -64,7 +63,7 @@ impl Writer {
         self.put(&bytes[..width]);
     }
 
-    /// Writes a number of eight bytes, the lowest first.
+    /// Writes a number in eight bytes, lowest first.
     pub fn put_long(&mut self, number: u64)
         requires { 8 ≤ self.old.room }
         ensures { Puts self.old self.new (number_bytes 8 number) }
@@ -72,7 +71,7 @@ impl Writer {
         self.put(&number.to_le_bytes());
     }
 
-    /// Writes the zeros that fill so many bytes to a multiple of four.
+    /// Writes the zeros that pad this number of bytes to a multiple of four.
     pub fn put_fill(&mut self, count: usize)
         requires room { length (fill count) ≤ self.old.room }
         ensures { Puts self.old self.new (fill count) }
@@ -81,7 +80,7 @@ impl Writer {
         self.put(&zeros[..(4 - count % 4) % 4]);
     }
 
-    /// Writes bytes, filled with zeros to a multiple of four (II.24.2.2).
+    /// Writes bytes, padded with zeros to a multiple of four (II.24.2.2).
     pub fn put_filled(&mut self, bytes: &[u8])
         requires { length (filled bytes.now) ≤ self.old.room }
         ensures { Puts self.old self.new (filled bytes.now) }
@@ -90,7 +89,7 @@ impl Writer {
         self.put_fill(bytes.len());
     }
 
-    /// Writes a text and the NUL that ends it, filled with zeros to a multiple of four.
+    /// Writes a text and its terminating NUL, padded with zeros to a multiple of four.
     pub fn put_ended(&mut self, text: &str)
         requires room { length (ended text.now) ≤ self.old.room }
         ensures { Puts self.old self.new (ended text.now) }

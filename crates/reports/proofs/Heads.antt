@@ -1,4 +1,4 @@
--- The head of a file: what its demands say of it.
+-- The headers of a file that meets the rules for them.
 use Rattle.std.proofs.Common.{◌≡◌, ◌≤◌, ℕ, Bool, true, false, List, ◌++◌, Some, length, refl, subst, sym}
 use Rattle.packed.specs.declared.fault.Fault.{Fault}
 use Rattle.packed.specs.Demand.{Demand, AllHold, FirstToFail, raised}
@@ -29,7 +29,7 @@ unfolding demands_of_heads
 file_fails true file found is first = cc
 file_fails false file found is first = first
 
--- what is demanded of the header and the root
+-- the rules for the CLI header and the root
 abbrev behind_image : List ℕ → List (Demand Fault)
 behind_image file =
     demands_of_cli_header (image_of file)
@@ -58,7 +58,7 @@ module _ (file : List ℕ) (all : AllHold (demands_of_file_heads file)) where
       all_lowered (header_of (image_of file)).root.start (demands_of_root (root_in file (header_of (image_of file))))
       (all_back (demands_of_cli_header (image_of file)) (behind_header file) rest_holds)
 
--- where all demands on the head of a file hold, its header and its root are those that are read
+-- if all rules for the headers of a file hold, its CLI header and its root are those that were read
 pub heads_stand : (bare : Bool) (file : List ℕ) (header : CliHeader) (root : RootRead) → bare ≡ false → AllHold (demands_of_file_heads file)
     → header ≡ header_of (image_of file) → root ≡ root_read (root_in file header)
     → (AllHold (demands_of_image file) → IsImage file (image_of file))

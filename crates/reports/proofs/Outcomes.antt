@@ -1,4 +1,4 @@
--- What outcomes are, case by case.
+-- The possible results, case by case.
 use Rattle.std.proofs.Common.{List, Result, Ok, Err, IsOk, refl}
 use Rattle.packed.specs.declared.fault.Fault.{Fault as First}
 use Rattle.packed.specs.Demand.{Demand}
@@ -11,7 +11,7 @@ pub ok_unless_not : {T E : Type 0} (r : Result T E) → ¬ (¬ IsOk r) → IsOk 
 ok_unless_not (Ok x) h = refl
 ok_unless_not (Err e) h = absurd (h (λ is. cc))
 
--- a refused output is told of bytes that were met, whatever is demanded
+-- a failure to write the output is reported only of bytes that meet the rules
 pub tells_output : {met : Type 0} (demands : List (Demand First)) (failure : Failure) → IsOutput failure → met → TellsFault met demands failure
 tells_output demands (Fault found) is met = absurd is
 tells_output demands NoSuchRow is met = (is, met)

@@ -1,4 +1,4 @@
--- What a number names, and what is told where it names nothing.
+-- What a number names, and what is reported if it names nothing.
 use Rattle.std.proofs.Common.{◌≡◌, ◌≢◌, ℕ, ◌/◌, ◌%◌, ◌≤◌, Bool, List, Result, Ok, Err, inl, inr, refl, subst, sym}
 use Rattle.std.specs.Prelude.{IfErr, OnOk, IsOkAnd}
 use Rattle.heaps.specs.Entries.{IsUserString, UserText}

@@ -1,5 +1,5 @@
--- What stands at the head of a file (ECMA-335 II.25.3.3 and II.24.2.1): its CLI header, and the version and the stream
--- headers of its metadata root.
+-- The headers of a file (ECMA-335 II.25.3.3 and II.24.2.1): its CLI header, and the version and the stream headers of
+-- its metadata root.
 use Rattle.std.specs.Prelude.{◌≡◌, ℕ, Bool, true, false, List, Option, Some, None}
 use Rattle.packed.specs.declared.fault.Fault.{Fault}
 use Rattle.packed.specs.Demand.{Demand}
@@ -12,8 +12,8 @@ use Rattle.root.specs.Demands.{demands_of_root}
 use Rattle.metadata.specs.Streams.{root_in}
 use Rattle.opening.specs.Heads.{demands_of_heads as demands_of_file_heads}
 
--- the bytes are a metadata root with this directory, where they are bare, and else an image with this CLI header, whose
--- root has this directory
+-- the bytes are a metadata root with this directory if they are bare; else they are an image with this CLI header,
+-- whose root has this directory
 abbrev pub AreHeads : Bool → List ℕ → Option CliHeader → RootRead → Type 0
 AreHeads true bytes header root = (header ≡ None) × IsRoot bytes root.version root.headers
 AreHeads false bytes header root =
@@ -23,7 +23,7 @@ AreHeads false bytes header root =
 abbrev pub HasHeads : Bool → List ℕ → Type 0
 HasHeads bare bytes = (header : Option CliHeader) × (root : RootRead) × AreHeads bare bytes header root
 
--- what is demanded of them, in order: of a file its image, its CLI header and its root
+-- the rules for the headers, in order: for a file those for the image, the CLI header and the root
 unfoldable pub demands_of_heads : Bool → List ℕ → List (Demand Fault)
 demands_of_heads true bytes = demands_of_root bytes
 demands_of_heads false bytes = demands_of_file_heads bytes

@@ -1,4 +1,4 @@
-//! `clim check`: whether a file keeps the rules of the standard.
+//! `clim check`: checks a file against the rules of the standard.
 ghost use Rattle.std.specs.Prelude.{IfErr, OnOk};
 ghost use Rattle.reports.specs.Checked.{IsWhole, demands_of, signature_bytes_of};
 ghost use Rattle.reports.specs.Stops.{StopLeavesOutput, StopsWithin};
@@ -12,7 +12,7 @@ use std::alloc::Global;
 use std::io;
 use std::io::{BufWriter, Write};
 
-/// Prints `ok` where bytes break no rule.
+/// Prints `ok` if the bytes break no rule.
 pub(crate) fn run<W: Write>(
     alloc: Global,
     bytes: &[u8],
@@ -27,14 +27,14 @@ pub(crate) fn run<W: Write>(
     printed(print(alloc, out))
 }
 
-/// Prints `ok` where bytes break no rule, and so many bytes of signature blobs may be walked at most (II.23.2).
+/// Prints `ok` if the bytes break no rule. It checks at most `budget` bytes of signature blobs (II.23.2).
 ///
-/// The bytes are those of a metadata root where they are `bare`, and else of a file.
+/// The bytes are those of a metadata root if they are `bare`, else of a file.
 ///
 /// # Errors
 ///
-/// `Failed` with the fault of the first demand that fails, or where memory or the output is refused; `BudgetSpent`
-/// where more bytes of blobs were to be walked, and nothing that is demanded before signatures fails.
+/// `Failed` with the fault of the first rule that fails, or if memory runs out or the output cannot be written.
+/// `BudgetSpent` if more bytes of blobs must be checked; then all rules before signatures hold.
 pub fn check_within<W: Write>(
     alloc: Global,
     bytes: &[u8],

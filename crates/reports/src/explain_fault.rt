@@ -8,11 +8,11 @@ use std::alloc::Global;
 use std::io;
 use std::io::{BufWriter, Write};
 
-/// Explains a fault, or prints a line of each where none is named.
+/// Explains a fault, or prints one line for each fault if none is given.
 ///
 /// # Errors
 ///
-/// That memory or the output is refused.
+/// Out of memory, or the output cannot be written.
 pub fn explain<W: Write>(
     alloc: Global,
     code: Option<FaultCode>,

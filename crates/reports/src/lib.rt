@@ -1,12 +1,12 @@
-//! What `clim` prints of a file: the head of it, whether it keeps the rules, its rows, its types, and what a token
-//! names; and what a fault means.
+//! Prints what `clim` reports about a file: its headers, whether it breaks a rule, its rows, its types, and what a
+//! token names. It also prints what a fault means.
 //!
-//! [`print_report`] opens the bytes in place and prints a [`Report`] of them; its contract says what the bytes are where
-//! it was printed, and else what is told. How it is printed is shown by tests.
+//! [`print_report`] opens the bytes in place and prints a [`Report`] on them. Its contract says what is true of the
+//! bytes if it prints, and what it reports otherwise. The form of the output is covered by tests.
 //!
 //! ```text
 //! print_report(rt.alloc(), Report::Types, false, &file, &mut out)?; // a line for each type of a file
-//! check_within(rt.alloc(), &root, true, 1 << 20, &mut out)?; // walks at most 2^20 bytes of signatures
+//! check_within(rt.alloc(), &root, true, 1 << 20, &mut out)?; // checks at most 2^20 bytes of signatures
 //! ```
 #![tactic(auto)]
 

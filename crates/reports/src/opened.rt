@@ -1,4 +1,4 @@
-//! Opening what was read.
+//! Opens the bytes that were read.
 ghost use Rattle.std.specs.Prelude.{◌<◌, ◌≤◌, IfOk, IfErr, IsErrOf, IsOk};
 ghost use Rattle.reports.specs.Checked.{IsWhole, IsOpened, demands_of, signature_bytes_of};
 ghost use Rattle.opening.specs.Views.{HasModel};
@@ -8,11 +8,11 @@ ghost use Rattle.packed.specs.Demand.{FirstToFail};
 use opening::{BoundedError, View, open_image, open_image_within, open_root, open_root_within};
 use packed::Fault;
 
-/// The metadata of a file, or of a metadata root where the bytes are `bare`. It takes no memory.
+/// Opens the metadata of a file, or of a metadata root if the bytes are `bare`. It does not allocate.
 ///
 /// # Errors
 ///
-/// The fault of the first demand that fails; its offset counts from the first of these bytes.
+/// The fault of the first rule that fails, with its offset in these bytes.
 pub fn open(bytes: &[u8], bare: bool) -> Result<View<'_>, Fault>
     ensures found { IfOk result (λ _. IsWhole bare bytes.now) }
     ensures root { IfOk result (λ view. IsOpened bare bytes.now view) }
@@ -27,7 +27,7 @@ pub fn open(bytes: &[u8], bare: bool) -> Result<View<'_>, Fault>
     Ok(view)
 }
 
-/// The same, where so many bytes of signature blobs may be walked at most.
+/// The same, but at most `budget` bytes of signature blobs are checked.
 pub(crate) fn open_within(bytes: &[u8], bare: bool, budget: u64) -> Result<View<'_>, BoundedError>
     ensures found { IfOk result (λ _. IsWhole bare bytes.now) }
     ensures only { IsWhole bare bytes.now → signature_bytes_of bare bytes.now ≤ budget → IsOk result }

@@ -1,4 +1,4 @@
-//! `clim root`: the CLI header of a PE file, and the version and the directory of streams of its metadata root.
+//! `clim root`: the CLI header of a PE file, and the version and the stream headers of its metadata root.
 ghost use Rattle.std.specs.Prelude.{IfOk, IfErr, OnOk};
 ghost use Rattle.reports.specs.Heads.{AreHeads, HasHeads, demands_of_heads};
 ghost use Rattle.reports.specs.Reported.{LeavesOutput, TellsFault};
@@ -15,8 +15,8 @@ use std::alloc::Global;
 use std::io;
 use std::io::{BufWriter, Write};
 
-/// Prints what stands at the head of a file: its CLI header unless it is a bare root, and the
-/// version and the stream headers of its metadata root.
+/// Prints the headers: the CLI header unless the bytes are a bare root, and the version and the stream headers of the
+/// metadata root.
 pub(crate) fn run<W: Write>(
     alloc: Global,
     bytes: &[u8],
@@ -31,7 +31,7 @@ pub(crate) fn run<W: Write>(
     printed(print(alloc, header.as_ref(), &root, out))
 }
 
-/// The CLI header, which a bare root has not, and the metadata root.
+/// The CLI header, which a bare root does not have, and the metadata root.
 fn heads_of(bytes: &[u8], bare: bool) -> Result<(Option<CliHeader>, Root<'_>), Fault>
     ensures found { IfOk result (λ heads. AreHeads bare bytes.now heads.0 heads.1) }
     ensures first { IfErr result (FirstToFail (demands_of_heads bare bytes.now)) }

@@ -14,10 +14,10 @@ use std::alloc::{AllocError, Global};
 use std::io;
 use std::io::{BufWriter, Write};
 
-/// The high byte of a token that names an offset in the user bytes.
+/// The high byte of a token that names an offset in `#US` (III.1.9).
 const USER_STRINGS: u32 = 0x70;
 
-/// How many rows a token can name, the null one with them: its high byte is the table.
+/// The number of row numbers in a token, with that of null: the high byte is the table.
 const ROWS: u32 = 1 << 24;
 
 /// Prints what a token names.
@@ -67,7 +67,7 @@ fn print<W: Write>(alloc: Global, view: &View<'_>, token: Token, out: &mut W) ->
     out.flush()
 }
 
-/// Prints the user string at an offset in the model's user bytes.
+/// Prints the user string at an offset in the model's `#US` heap.
 fn print_string_at<W: Write>(
     alloc: Global,
     view: &View<'_>,
@@ -85,7 +85,7 @@ fn print_string_at<W: Write>(
     printed(print_user_string(alloc, &string, out))
 }
 
-/// A copy of bytes, filled with zeros to a multiple of four.
+/// A copy of bytes, padded with zeros to a multiple of four.
 fn filled_copy(alloc: Global, bytes: &[u8]) -> Result<Vec<u8>, AllocError>
     ensures { IfOk result (λ copy. copy.items ≡ filled bytes.now) }
 {

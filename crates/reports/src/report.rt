@@ -1,4 +1,4 @@
-//! What is printed of a file.
+//! What can be printed of a file.
 ghost use Rattle.std.specs.Prelude.{IfErr, OnOk};
 ghost use Rattle.reports.specs.Reported.{IsMet, LeavesOutput, Tells};
 
@@ -7,28 +7,28 @@ use printed_faults::Failure;
 use std::alloc::Global;
 use std::io::Write;
 
-/// What is to be printed of the bytes of a file.
+/// What to print of a file.
 #[derive(Clone, Copy, Debug, PartialEq, Eq)]
 pub enum Report {
     /// The CLI header, the version and the stream headers (II.25.3.3, II.24.2.1).
     Root,
-    /// That no rule is broken.
+    /// `ok`, if no rule is broken.
     Check,
     /// The rows of all tables (II.22).
     Show,
-    /// The types, a line each (II.22.37).
+    /// The types, one per line (II.22.37).
     Types,
     /// The row or the user string that this token names.
     Token(u32),
 }
 
-/// Prints it, of the bytes of a metadata root where they are `bare`, and else of a file. Nothing is printed before
-/// all that the report demands of them is checked.
+/// Prints a report on the bytes of a metadata root if they are `bare`, else of a file. Nothing is printed before all
+/// rules that the report needs are checked.
 ///
 /// # Errors
 ///
-/// The fault of the first demand that fails; `NoSuchRow` where a token names nothing; that memory or the output is
-/// refused.
+/// The fault of the first rule that fails; `NoSuchRow` if a token names nothing; out of memory, or the output cannot be
+/// written.
 pub fn print_report<W: Write>(
     alloc: Global,
     report: Report,
@@ -36,11 +36,11 @@ pub fn print_report<W: Write>(
     bytes: &[u8],
     out: &mut W,
 ) -> Result<(), Failure<'static>>
-    // It is printed only where the bytes meet what the report demands of them.
+    // If it prints, the bytes meet the rules that the report needs.
     ensures met { OnOk result (IsMet report bare bytes.now) }
-    // Else what is told is the first demand that fails, or that a token names nothing.
+    // Otherwise it reports the first rule that fails, or that a token names nothing.
     ensures first { IfErr result (Tells report bare bytes.now) }
-    // Nothing is printed where it is one of these.
+    // In these cases nothing is printed.
     ensures untouched { IfErr result (LeavesOutput out.old out.new) }
 {
     match report {

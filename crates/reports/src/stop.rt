@@ -1,4 +1,4 @@
-//! Why the program stopped before it did what was asked.
+//! Why the program stopped early.
 ghost use Rattle.std.specs.Prelude.{◌≡◌, Some};
 ghost use Rattle.reports.specs.Stops.{stop_text};
 ghost use Rattle.reports.specs.declared.stop.Stop.TheVariants.{Failed};
@@ -6,13 +6,12 @@ ghost use Rattle.reports.specs.declared.stop.Stop.TheVariants.{Failed};
 use printed_faults::Failure;
 use std::fmt;
 
-/// Why the program stopped before it did what was asked. Its `Display` is the line for standard error, without
-/// the line feed.
+/// Why the program stopped early. `Display` gives the line for standard error, without the line feed.
 #[derive(Clone, Copy, Debug, PartialEq, Eq)]
 pub enum Stop<'a> {
-    /// It could not be done.
+    /// It failed.
     Failed(Failure<'a>),
-    /// The budget was spent before all was checked.
+    /// The budget was spent before all signatures were checked.
     BudgetSpent,
 }
 
@@ -20,7 +19,7 @@ impl Stop<'_> {
     ghost use Rattle.std.specs.Prelude.{◌≡◌};
     ghost use Rattle.reports.specs.Stops.{status_of_stop};
 
-    /// The status that the process ends with: that of the failure, and 3 where the budget was spent.
+    /// The exit code of the process: that of the failure, or 3 if the budget was spent.
     pub fn status(&self) -> u8
         ensures { result ≡ status_of_stop self.now }
     {

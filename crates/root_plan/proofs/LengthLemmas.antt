@@ -1,4 +1,4 @@
--- How long a canonical root is: as long as what stands before its streams, and these.
+-- The length of a canonical root is the sum of the lengths of its headers and its streams.
 use Rattle.std.proofs.Common.{◌≡◌, ℕ, zero, suc, ◌+◌, ◌-◌, ◌%◌, ◌<◌, ◌≤◌, inl, inr, cond, ltb, List, [], ◌∷◌, ◌++◌, length, filter, replicate, refl, sym, ap, subst, ◌∙◌, length-append, arith}
 use Rattle.std.specs.Prelude.{sum_by, flat_map}
 use Rattle.std.proofs.lemmas.Bool.{cases_Bool, ltb-false}
@@ -10,7 +10,7 @@ use Rattle.metadata.specs.Metadata.{Metadata}
 use Rattle.canonical.specs.Canonical.{canonical, stream}
 use Rattle.put.specs.Heading.{held, heading, kinds_in_order}
 
--- streams that have no bytes add none
+-- streams without bytes add nothing
 pub held_sum : (size : Kind → ℕ) (kinds : List Kind) → sum_by size (filter (λ kind. ltb 0 (size kind)) kinds) ≡ sum_by size kinds
 held_sum size [] = refl
 held_sum size (kind ∷ kinds) =
@@ -38,7 +38,7 @@ length-streams streams size same [] = refl
 length-streams streams size same (kind ∷ kinds) =
     omega (arith, length-append (streams kind) (flat_map streams kinds), same kind, length-streams streams size same kinds, sum_by-cons size kind kinds)
 
--- a canonical root is its heading, and behind that the streams that have bytes
+-- a canonical root is its headers followed by the streams that have bytes
 abbrev pub ArePut : Type 0
 ArePut = (model : Metadata) (size : Kind → ℕ) → ((kind : Kind) → size kind ≡ length (stream model kind))
     → canonical model ≡ heading model.version size (held size) ++ flat_map (stream model) (held size)
@@ -64,7 +64,7 @@ within put model kind =
 pub fill_adds : (bytes : List ℕ) → length bytes ≤ length (filled bytes)
 fill_adds bytes = omega (arith, length-append bytes (replicate ((4 - length bytes % 4) % 4) 0))
 
--- a heap without fill that is longer than a limit makes a root that is
+-- if a heap without padding exceeds a limit, the root exceeds it
 pub over : ArePut → (model : Metadata) (kind : Kind) (heap : List ℕ) (limit : ℕ) → length (stream model kind) ≡ length (filled heap) → limit < length heap
     → limit < length (canonical model)
 over put model kind heap limit is more = omega (arith, within put model kind, is, fill_adds heap, more)

@@ -1,4 +1,4 @@
--- A plan whose parts are those of a model's canonical root.
+-- A plan with the parts of a model's canonical root.
 use Rattle.std.proofs.Common.{◌≡◌, ℕ, ◌<◌, ◌≤◌, List, ◌++◌, length, map, get_or, ltb, refl, sym, ap, ◌∙◌, arith}
 use Rattle.std.specs.Prelude.{count_by}
 use Rattle.std.proofs.Math.Path.{fun_ext}
@@ -26,7 +26,7 @@ use Rattle.root_plan.specs.declared.tables_plan.TablesPlan.{TablesPlan}
 use Rattle.root_plan.specs.Planned.{ArePooled, AreHeapLens, IsTablesPlan}
 use Rattle.root_plan.proofs.LengthLemmas.{fill_adds}
 
--- the sizes of a model are those of its counts by number
+-- the sizes of a model are those of its row counts by table number
 pub counts_are : (model : Metadata) (counts : List ℕ) (heap_sizes : ℕ) → ((table : TableId) → get_or counts (table_number table) 0 ≡ count_in model table)
     → (sizes_by_number counts heap_sizes).counts ≡ (sizes_of model).counts
 unfolding sizes_of
@@ -41,7 +41,7 @@ body_is model counts heap_sizes each =
     let same : (λ (table : TableId). get_or counts (table_number table) 0) ≡ count_in model = fun_ext each in
     ap (λ (count : TableId → ℕ). header_size (count_by (λ table. ltb 0 (count table)) tables)) same
 
--- the header, the rows and the fill are the table stream
+-- the header, the rows and the padding are the table stream
 pub stream_is : (model : Metadata) (header rows : List ℕ) (len : ℕ) → header ≡ header_bytes model → rows ≡ tables_bytes (sizes_of model) tables (numbers model)
     → len ≡ length (header_bytes model ++ tables_bytes (sizes_of model) tables (numbers model)) → header ++ rows ++ fill len ≡ table_stream model
 unfolding table_stream
@@ -51,7 +51,7 @@ stream_is model header rows len first second long =
     ∙ ap (λ list. header_bytes model ++ list ++ fill len) second
     ∙ ap (λ n. whole ++ fill n) long
 
--- a table stream that is longer than a limit without its fill makes a root that is
+-- if a table stream without padding exceeds a limit, the root exceeds it
 pub tables_over : (model : Metadata) (len limit : ℕ) → length (table_stream model) ≤ length (canonical model)
     → len ≡ length (header_bytes model ++ tables_bytes (sizes_of model) tables (numbers model)) → limit < len → limit < length (canonical model)
 unfolding table_stream

@@ -1,10 +1,10 @@
--- How the tables stand.
+-- The order of the tables.
 use Rattle.std.proofs.Common.{◌≡◌, ◌<◌, length, get_or}
 use Rattle.schema.specs.declared.table.TableId.{TableId}
 use Rattle.schema.specs.declared.table.TableId.TheVariants.{Module}
 use Rattle.schema.specs.Tables.{tables, table_number, position_of}
 
--- the tables stand by their positions, and their numbers rise with these
+-- the tables are listed by their indexes, in ascending order of their numbers
 pub record TheyStand : Type 0 where
   pub count : length tables ≡ 38
   pub position : (table : TableId) → position_of table < 38

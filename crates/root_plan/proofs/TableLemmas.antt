@@ -1,4 +1,4 @@
--- How long a table stream is, and that it goes by the counts of its tables and HeapSizes alone.
+-- The length of a table stream depends only on the row counts and HeapSizes.
 use Rattle.std.proofs.Common.{◌≡◌, ℕ, zero, suc, ◌+◌, ◌-◌, ◌*◌, ◌/◌, ◌<◌, ◌≤◌, inl, inr, Bool, cond, lit<, List, [], ◌∷◌, ◌++◌, length, get_or, take, drop, refl, ap, ◌∙◌, length-append, length-drop, arith}
 use Rattle.std.proofs.Math.Path.{fun_ext}
 use Rattle.std.specs.Prelude.{sum_by, count_by}
@@ -113,12 +113,12 @@ body_is : (model : Metadata) → (sizes_of model).body ≡ header_size (count_by
 unfolding sizes_of
 body_is model = refl
 
--- the numbers of a model as one list are found again by table, row and column
+-- the numbers of a model as one list can be found again by table, row and column
 pub record AreFound (flat : List (List (List ℕ)) → List ℕ) : Type 0 where
   pub back : (model : Metadata) (sizes : Sizes) → ((table : TableId) → count_of sizes table ≡ count_in model table) → tables_in sizes tables (flat (numbers model)) ≡ numbers model
   pub many : (model : Metadata) (sizes : Sizes) → ((table : TableId) → count_of sizes table ≡ count_in model table) → length (flat (numbers model)) ≡ sum_by (cells_of sizes) tables
 
--- the header and the rows end where the tables do
+-- the header and the rows end at the end of the tables
 pub stream_long : TheyStand → {flat : List (List (List ℕ)) → List ℕ} → AreFound flat → (model : Metadata)
     → length (header_bytes model ++ tables_bytes (sizes_of model) tables (numbers model)) ≡ tables_end (sizes_of model)
 unfolding tables_size
@@ -135,7 +135,7 @@ stream_long they {flat} found model =
       length-tables sizes tables (flat (numbers model)) (found.many model sizes count),
     )
 
--- ---- where the last table ends
+-- ---- the end of the last table
 
 tables_size_more : TheyStand → (sizes : Sizes) (i : ℕ) → i < 38 → tables_size sizes (take (i + 1) tables) ≡ tables_size sizes (take i tables) + table_size sizes (get_or tables i Module)
 unfolding tables_size
@@ -160,7 +160,7 @@ pub record AreAlike (sizes others : Sizes) : Type 0 where
   pub widths : (column : Column) → width_of sizes column ≡ width_of others column
   pub body : sizes.body ≡ others.body
 
--- tables end at the same place
+-- the tables end at the same offset
 pub end_alike : (sizes others : Sizes) → AreAlike sizes others → tables_end sizes ≡ tables_end others
 unfolding tables_size columns_width
 end_alike sizes others alike =

@@ -1,4 +1,5 @@
--- What a canonical root is planned of beside its pools (ECMA-335 II.24.2.1, II.24.2.4 and II.24.2.6).
+-- The parts of a model, besides its pools, that its canonical root is planned from (ECMA-335 II.24.2.1, II.24.2.4 and
+-- II.24.2.6).
 use Rattle.std.specs.Prelude.{◌≡◌, slice_index}
 use Rattle.schema.specs.declared.table.TableId.{TableId}
 use Rattle.schema.specs.Tables.{tables, table_number}
@@ -8,8 +9,8 @@ use Rattle.metadata.specs.Metadata.{Metadata, count_in}
 use Rattle.canonical.specs.TableStream.{is_sorted}
 use Rattle.root_plan.specs.declared.outline.Outline.{Outline}
 
--- the outline is that of the model: its version; its user bytes, once they are filled; how many rows each table has; and the
--- bits of the keyed tables whose rows are in order
+-- the outline is that of the model: its version; its user strings, once they are padded; the row count of each table;
+-- and the bits of the keyed tables whose rows are in order
 pub record Describes (outline : Outline) (model : Metadata) : Type 0 where
   pub version : outline.version.now ≡ model.version
   pub user : filled outline.user_strings.now ≡ model.user

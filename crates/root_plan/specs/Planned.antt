@@ -1,4 +1,4 @@
--- What is known of the canonical root of a model before a byte of it is written (ECMA-335 II.24.2).
+-- The plan of the canonical root of a model, made before a byte of it is written (ECMA-335 II.24.2).
 use Rattle.std.specs.Prelude.{◌≡◌, ◌+◌, ◌^◌, ◌≤◌, ℕ, List, ◌++◌, length, sum_by}
 use Rattle.root.specs.declared.kind.Kind.{Kind}
 use Rattle.schema.specs.Tables.{tables}
@@ -24,24 +24,24 @@ use Rattle.root_plan.specs.declared.planned.RootPlan.{RootPlan}
 use Rattle.root_plan.specs.declared.plan_error.PlanError.{PlanError}
 use Rattle.root_plan.specs.declared.plan_error.PlanError.TheVariants as error
 
--- a heap that would pass 2^30 bytes makes a root that does
+-- if a heap would exceed 2^30 bytes, the root would too
 abbrev pub plan_error : PoolError → PlanError
 plan_error pool.Memory = error.Memory
 plan_error pool.Full = error.TooLarge
 
--- the pools are those of the model, and the numbers those of its cells
+-- the pools are those of the model, and the numbers are those of its cells
 pub record ArePooled (model : Metadata) (plan : TextPlan) (numbered : Numbered) : Type 0 where
   pub texts : plan.entries ≡ (pools_of model).texts
   pub numbering : IsNumbering model numbered
 
--- how many bytes the streams of the model's heaps have
+-- the lengths of the model's heap streams in bytes
 pub record AreHeapLens (model : Metadata) (lens : HeapLens) : Type 0 where
   pub strings : lens.strings ≡ length (texts_stream model)
   pub guids : lens.guids ≡ length (guids_stream model)
   pub blobs : lens.blobs ≡ length (blobs_stream model)
 
--- The plan is that of the model's table stream: of its counts and its HeapSizes, from which the widths of columns follow; of
--- its Sorted; and of its length without fill.
+-- The plan is that of the model's table stream: its row counts and HeapSizes, which determine the widths of the
+-- columns; its Sorted; and its length without padding.
 pub record IsTablesPlan (model : Metadata) (plan : TablesPlan) : Type 0 where
   pub counts : plan.layout.counts ≡ (sizes_of model).counts
   pub widths : plan.layout.heap_sizes ≡ (sizes_of model).heap_sizes
@@ -49,14 +49,14 @@ pub record IsTablesPlan (model : Metadata) (plan : TablesPlan) : Type 0 where
   pub sorted : plan.sorted ≡ (sizes_of model).sorted
   pub len : plan.len ≡ length (header_bytes model ++ tables_bytes (sizes_of model) tables (numbers model))
 
--- the header and the rows of a table stream that is planned, with these numbers, and the fill
+-- the table stream of a plan, with these numbers: its header, its rows and its padding
 abbrev pub planned_tables : TablesPlan → List ℕ → List ℕ
 planned_tables plan numbers =
     table_header plan.heap_sizes plan.sorted plan.layout ++ tables_bytes plan.layout tables (tables_in plan.layout tables numbers) ++ fill plan.len
 
--- The plan is that of the model's canonical root: its version and its user bytes, once they are filled; its pools and numbers;
--- its table stream, of which the plan and the numbers tell each byte; how many bytes each stream has; and how many the root
--- has, which stand behind one another.
+-- The plan is that of the model's canonical root: its version and its user strings, once they are padded; its pools and
+-- its numbers; its table stream, of which the plan and the numbers determine each byte; the length of each stream; and
+-- the length of the root, which is the sum of those of its headers and its streams.
 pub record IsRootPlan (model : Metadata) (plan : RootPlan) : Type 0 where
   pub version : plan.version.now ≡ model.version
   pub user : filled plan.user_strings.now ≡ model.user

@@ -3,7 +3,7 @@ ghost use Rattle.put.specs.TableHeader.{bit_if};
 
 use schema::TableId;
 
-/// The bit of a table where it is set, else 0.
+/// The bit of a table if it is set, else 0.
 pub fn bit(set: bool, table: TableId) -> u64
     ensures { result ≡ bit_if set table }
 {

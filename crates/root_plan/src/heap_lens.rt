@@ -11,7 +11,7 @@ use crate::stream_lens::filled_len;
 use heaps::TextPool;
 use plan::Numbering;
 
-/// How many bytes the streams of the heaps have, filled to a multiple of four.
+/// The lengths of the heap streams in bytes, padded to a multiple of four.
 #[derive(Clone, Copy)]
 pub struct HeapLens {
     /// `#Strings`.
@@ -22,7 +22,7 @@ pub struct HeapLens {
     pub blobs: u32,
 }
 
-/// The bit of a heap in HeapSizes, set where its stream has so many bytes that indexes take four.
+/// The bit of a heap in HeapSizes: set if its stream is so long that its indexes have four bytes (II.24.2.6).
 fn wide_bit(len: u32, bit: u8) -> u8
     ensures value { (stream : List ℕ) → len ≡ length stream → result ≡ bit_of_heap stream bit }
     ensures limit { result ≤ bit }
@@ -31,7 +31,7 @@ fn wide_bit(len: u32, bit: u8) -> u8
 }
 
 impl HeapLens {
-    /// Those of these pools.
+    /// The lengths for these pools.
     pub fn of(texts: &TextPool, numbering: &Numbering) -> HeapLens
         ensures strings { result.strings ≡ length (filled (text_heap texts.now.entries)) }
         ensures guids { result.guids ≡ length (filled (guid_heap numbering.now.guids)) }

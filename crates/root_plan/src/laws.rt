@@ -8,8 +8,8 @@ ghost use Rattle.plan.specs.Numbered.{IsTooLong};
 
 use put::canonical_roots_are_put;
 
-/// Each stream of a canonical root, with its fill, is no longer than the root: so where a heap of a
-/// model is longer than 2^30 bytes, its canonical root is too.
+/// A stream of a canonical root, with its padding, is not longer than the root. So if a heap of a model exceeds 2^30
+/// bytes, its canonical root does too.
 pub fn streams_are_within_roots()
     ensures stream { (model : Metadata) (kind : TheKind) → length (stream model kind) ≤ length (canonical model) }
     ensures texts { (model : Metadata) → 2 ^ 30 < length (text_heap (pools_of model).texts) → 2 ^ 30 < length (canonical model) }

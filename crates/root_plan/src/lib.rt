@@ -1,14 +1,14 @@
-//! What is known of a canonical root before a byte of it is written: its pools, its numbers, and how
-//! long it and each of its streams is (ECMA-335 II.24.2).
+//! Plans a canonical root before a byte of it is written: its pools, its numbers, its length and the length of each
+//! stream (ECMA-335 II.24.2).
 //!
-//! An [`Outline`] holds what a root is planned of beside its pools, be they of a model or of a root in place.
-//! [`RootPlan::of`] plans the root, and tells exactly whether it is longer than a limit. A writer that takes the
-//! memory of the root at once then has nothing left that can fail.
+//! An [`Outline`] has what the plan needs besides the pools, for a model and for a root in place alike.
+//! [`RootPlan::of`] plans the root. It fails if and only if the root exceeds a limit. A writer that then allocates the
+//! memory of the root at once has nothing left that can fail.
 //!
 //! ```text
 //! let plan = RootPlan::of(&outline, texts, numbering, 1 << 30)?;
-//! plan.len                   // how many bytes the root has
-//! plan.sizes.strings         // how many of them are `#Strings`, with its fill
+//! plan.len                   // the length of the root in bytes
+//! plan.sizes.strings         // the length of `#Strings` with its padding
 //! plan.tables.heap_sizes     // HeapSizes, by the sizes of the streams
 //! ```
 #![tactic(auto)]

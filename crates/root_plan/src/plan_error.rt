@@ -1,12 +1,12 @@
 use heaps::PoolError;
 use std::alloc::AllocError;
 
-/// Why a root is not planned.
+/// Why a root cannot be planned.
 #[derive(Debug, Clone, Copy, PartialEq, Eq)]
 pub enum PlanError {
     /// The canonical root is longer than the limit.
     TooLarge,
-    /// There is no more memory.
+    /// Out of memory.
     Memory,
 }
 

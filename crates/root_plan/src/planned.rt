@@ -17,27 +17,27 @@ use heaps::TextPool;
 use plan::Numbering;
 use put::StreamSizes;
 
-/// What is known of the canonical root of a model before a byte of it is written.
+/// The plan of the canonical root of a model, made before a byte of it is written.
 #[derive(Drop)]
 pub struct RootPlan<'a> {
-    /// The version.
+    /// The version string.
     pub version: &'a str,
-    /// The heap of user strings without fill, or with it.
+    /// The `#US` heap, with or without padding.
     pub user_strings: &'a [u8],
-    /// The strings heap.
+    /// The `#Strings` heap.
     pub texts: TextPool,
-    /// The number of each cell, and the heaps of blobs and GUIDs.
+    /// The number of each cell, and the `#Blob` and `#GUID` heaps.
     pub numbering: Numbering,
     /// The table stream.
     pub tables: TablesPlan,
-    /// How many bytes each stream has, filled to a multiple of four.
+    /// The size of each stream in bytes, padded to a multiple of four.
     pub sizes: StreamSizes,
-    /// How many bytes the root has, at most 2^30.
+    /// The length of the root in bytes, at most 2^30.
     pub len: u32,
 }
 
-/// How many bytes each stream has of a root with these heaps and tables, and the root itself; `None` where it has
-/// more bytes than the limit.
+/// The length of each stream in a root with these heaps and tables, and the length of the root. `None` if the root
+/// exceeds the limit.
 fn lens_of(
     outline: &Outline,
     heaps: &HeapLens,
@@ -75,12 +75,12 @@ fn lens_of(
 }
 
 impl<'a> RootPlan<'a> {
-    /// The plan of the canonical root of what is outlined, with these pools and numbers, where that root has at
-    /// most so many bytes. No memory is taken.
+    /// The plan of the canonical root of the outline, with these pools and numbers, if the root has at most `limit`
+    /// bytes. It does not allocate.
     ///
     /// # Errors
     ///
-    /// `TooLarge` where the canonical root is longer than the limit.
+    /// `TooLarge` if the canonical root is longer than the limit.
     pub fn of(
         outline: &Outline<'a>,
         texts: TextPool,

@@ -7,10 +7,10 @@ ghost use Rattle.put.specs.Heading.{size_of, held, heading_size};
 
 use put::{HeldKinds, StreamSizes, canonical_roots_are_put, heading_len};
 
-/// The most bytes of a stream, and of a root.
+/// The largest length of a stream, and of a root, in bytes.
 const STREAM_LIMIT: usize = 1 << 30;
 
-/// How many bytes a stream has that holds so many, filled to a multiple of four (II.24.2.2).
+/// The length of a stream with this many bytes, padded to a multiple of four (II.24.2.2).
 pub fn filled_len(len: usize) -> u32
     requires { len ≤ STREAM_LIMIT }
     ensures value { (bytes : List ℕ) → length bytes ≡ len → result ≡ length (filled bytes) }
@@ -19,7 +19,7 @@ pub fn filled_len(len: usize) -> u32
     (len + (4 - len % 4) % 4) as u32
 }
 
-/// How many bytes the root of a version has whose streams have these sizes.
+/// The length in bytes of a root with this version, whose streams have these sizes.
 pub fn root_len(version: &str, sizes: &StreamSizes) -> usize
     requires short { length version.now ≤ 254 }
     requires low { (kind : TheKind) → size_of sizes.now kind ≤ STREAM_LIMIT }

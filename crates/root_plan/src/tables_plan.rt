@@ -13,21 +13,21 @@ use plan::numbers_are_put;
 use put::table_headers_are_put;
 use schema::{Layout, TableId, tables_stand, widths_follow_from_counts};
 
-/// The table stream of a root that is planned (II.24.2.6).
+/// The plan of a table stream (II.24.2.6).
 #[derive(Drop)]
 pub struct TablesPlan {
-    /// How many rows each table has, and the widths of the columns.
+    /// The row count of each table, and the widths of the columns.
     pub layout: Layout,
     /// HeapSizes: which heaps have indexes of four bytes.
     pub heap_sizes: u8,
     /// Sorted: the bits of the keyed tables whose rows are in order.
     pub sorted: u64,
-    /// How many bytes the stream has without its fill.
+    /// The length of the stream in bytes, without padding.
     pub len: usize,
 }
 
 impl TablesPlan {
-    /// The table stream of the canonical root of what is outlined, by the HeapSizes of that root.
+    /// The table stream of the canonical root of the outline, by the HeapSizes of that root.
     pub(crate) fn of(outline: &Outline, heap_sizes: u8) -> TablesPlan
         requires { heap_sizes < 8 }
         ensures plan { (model : Metadata) → Describes outline.now model → heap_sizes ≡ (sizes_of model).heap_sizes → IsTablesPlan model result }

@@ -1,4 +1,4 @@
--- What a clause sees of a writer whose failures are counted.
+-- A writer whose failures are counted, as contracts see it.
 use Rattle.std.specs.Prelude.{ℕ}
 use Rattle.sinks.specs.declared.counted.Counted.{Counted}
 
@@ -6,6 +6,6 @@ use Rattle.sinks.specs.declared.counted.Counted.{Counted}
 abbrev pub writer_of : {W : Type 0} → Counted W → W
 writer_of counted = counted.writer
 
--- how many calls failed
+-- the number of calls that failed
 abbrev pub failures_of : {W : Type 0} → Counted W → ℕ
 failures_of counted = counted.failures

@@ -2,9 +2,9 @@ use crate::sink::Sink;
 use std::io;
 use std::io::Write;
 
-/// A writer, and how many of its writes failed.
+/// A writer with the number of its writes that failed.
 ///
-/// It tells its bytes exactly where its writer does.
+/// Its bytes are known if and only if those of the writer are.
 #[derive(Drop)]
 pub struct Counted<W: Write> {
     writer: W,
@@ -15,7 +15,7 @@ impl<W: Write> Counted<W> {
     ghost use Rattle.std.specs.Prelude.{◌≡◌};
     ghost use Rattle.sinks.specs.Counted.{writer_of, failures_of};
 
-    /// A writer that has not failed yet. It takes no memory.
+    /// A writer without failures so far. It does not allocate.
     pub fn new(writer: W) -> Counted<W>
         ensures writer { writer_of result ≡ writer }
         ensures failures { failures_of result ≡ 0 }
@@ -27,7 +27,7 @@ impl<W: Write> Counted<W> {
         }
     }
 
-    /// The writer. It takes no memory.
+    /// The writer. It does not allocate.
     pub fn into_inner(self) -> W
         ensures { result ≡ writer_of self }
     {

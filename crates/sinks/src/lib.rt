@@ -1,14 +1,14 @@
-//! Bytes given out through a writer that may fail.
+//! Sends bytes through a writer that may fail.
 //!
-//! A [`Sink`] takes bytes a front at a time and counts its failures. [`Counted`] is one over any
-//! writer. [`send_all`] gives out all bytes, or stops at the first failure and tells how many bytes
-//! had gone out by then: never more, and none twice. Nothing here takes memory.
+//! A [`Sink`] accepts a prefix of the bytes at each call, and counts its failures. [`Counted`] is a sink over any
+//! writer. [`send_all`] sends all bytes, or stops at the first failure and reports how many bytes were sent. That
+//! number is exact, and no byte is sent twice. Nothing here allocates.
 //!
 //! ```text
 //! let mut sink = Counted::new(file);
 //! match send_all(b"abcd", &mut sink) {
-//!     Ok(()) => ..,                        // "abcd" went out; sink.failures() is what it was
-//!     Err(Stopped { given: 2 }) => ..,     // "ab" went out; sink.failures() is one more
+//!     Ok(()) => ..,                        // "abcd" was sent; sink.failures() is unchanged
+//!     Err(Stopped { given: 2 }) => ..,     // "ab" was sent; sink.failures() is one more
 //! }
 //! ```
 #![tactic(auto)]

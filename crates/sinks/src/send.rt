@@ -3,27 +3,26 @@ ghost use Rattle.std.specs.Io.KnownBytes.{Appends};
 
 use crate::sink::Sink;
 
-/// The sink failed before all bytes had gone out.
+/// The sink failed before all bytes were sent.
 #[derive(Clone, Copy, Debug, PartialEq, Eq)]
 pub struct Stopped {
-    /// How many of the first bytes had gone out.
+    /// The number of bytes that were sent: the prefix of this length.
     pub given: u64,
 }
 
-/// Gives out all the bytes, in as many calls of [`Sink::offer`] as it takes. It takes no memory. No bytes are
-/// offered where there are none.
+/// Sends all bytes, in one or more calls of [`Sink::offer`]. It does not allocate. It makes no call for an empty slice.
 ///
 /// # Errors
 ///
-/// How many bytes went out before the first failure, which ends it, whatever its kind: no byte is offered again,
-/// after an interruption neither.
+/// The number of bytes sent before the first failure. A failure of any kind ends the call, an interruption too. No byte
+/// is offered again after it.
 pub fn send_all<W: Sink>(bytes: &[u8], sink: &mut W) -> Result<(), Stopped>
     requires few { W.failed sink.old < 2 ^ 63 }
-    // All bytes went out, and nothing else; and no call failed.
+    // All bytes were sent, and nothing else. No call failed.
     ensures all { OnOk result (Appends (W.given sink.old) (W.given sink.new) bytes.now) }
     ensures unfailed { OnOk result (W.failed sink.new ≡ W.failed sink.old) }
 
-    // Exactly so many of the first bytes went out, and not all; and one call failed.
+    // Exactly the first `given` bytes were sent, and not all. One call failed.
     ensures front { IfErr result (λ stopped. Appends (W.given sink.old) (W.given sink.new) (take stopped.given bytes.now)) }
     ensures short { IfErr result (λ stopped. stopped.given < length bytes.now) }
     ensures failed { OnErr result (W.failed sink.new ≡ W.failed sink.old + 1) }
@@ -42,7 +41,7 @@ pub fn send_all<W: Sink>(bytes: &[u8], sink: &mut W) -> Result<(), Stopped>
     Ok(())
 }
 
-/// How many of some bytes the sink took; 0 exactly where it failed.
+/// The number of bytes that the sink accepted; 0 if and only if it failed.
 fn offer_some<W: Sink>(bytes: &[u8], sink: &mut W) -> usize
     requires few { W.failed sink.old < 2 ^ 63 }
     requires some { 0 < length bytes.now }

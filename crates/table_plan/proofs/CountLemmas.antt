@@ -1,4 +1,4 @@
--- How many numbers tables have, one table after another.
+-- The number of numbers in tables, table by table.
 use Rattle.std.proofs.Common.{◌≡◌, ℕ, ◌+◌, ◌*◌, ◌<◌, ◌≤◌, List, length, get_or, drop, ap, ◌∙◌, arith}
 use Rattle.std.specs.Prelude.{sum_by}
 use Rattle.std.proofs.Math.Nat.{mul-le-mul_left, mul-le-mul_right}
@@ -10,7 +10,7 @@ use Rattle.schema.specs.Tables.{tables}
 use Rattle.metadata.specs.Metadata.{Metadata}
 use Rattle.plan.specs.Numbered.{numbers_in}
 
--- few columns of few rows
+-- a table with at most 9 columns and 0xFFFFFF rows has at most 150994935 numbers
 pub cells_low : (columns count : ℕ) → columns ≤ 9 → count ≤ 0xFFFFFF → columns * count ≤ 150994935
 cells_low columns count few rows = omega (arith, mul-le-mul_right count few, mul-le-mul_left 9 rows)
 

@@ -1,4 +1,4 @@
--- What is left of columns, rows and tables, and a heap that is too long whatever of them is numbered.
+-- The remaining columns, rows and tables; a heap that is too long stays too long.
 use Rattle.std.proofs.Common.{◌≡◌, ℕ, ◌+◌, ◌<◌, List, length, get_or, drop, sym, ap, subst, ◌∙◌}
 use Rattle.std.proofs.lemmas.List.{drop_more}
 use Rattle.schema.specs.declared.column.Column.{Column}

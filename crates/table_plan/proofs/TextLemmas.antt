@@ -1,4 +1,4 @@
--- The texts of tables, one table after another.
+-- The texts of tables, table by table.
 use Rattle.std.proofs.Common.{◌≡◌, ℕ, ◌+◌, ◌<◌, ◌≤◌, List, [], ◌∷◌, ◌++◌, map, length, get_or, drop, refl, sym, ap, ◌∙◌, append_assoc, append-nil, arith}
 use Rattle.std.specs.Prelude.{flat_map}
 use Rattle.std.specs.List.{range_with_len}
@@ -14,12 +14,12 @@ positions : map position_of tables ≡ range_with_len 0 38
 unfolding tables
 positions = refl
 
--- a table is found by its position
+-- a table is found by its index
 pub position_at : length tables ≡ 38 → (k : ℕ) → k < 38 → position_of (get_or tables k Module) ≡ k
 position_at count k below =
     sym (get_or-map position_of tables k Module 0 (omega (arith, count))) ∙ ap (λ (l : List ℕ). get_or l k 0) positions ∙ get_or-range_with_len 0 38 k 0 below ∙ omega arith
 
--- one item more, of a list whose values are those of its items, one after another
+-- one more item of a list; the values of the list are those of its items in sequence
 pub next_values : {A : Type 0} (values : A → List (List ℕ)) (all : List A → List (List ℕ)) → ((item : A) (items : List A) → all (item ∷ items) ≡ values item ++ all items)
     → (items : List A) (i : ℕ) (d item : A) (before after whole : List (List ℕ)) → i < length items → item ≡ get_or items i d → after ≡ before ++ values item
     → before ++ all (drop i items) ≡ whole → after ++ all (drop (i + 1) items) ≡ whole

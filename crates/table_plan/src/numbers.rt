@@ -16,7 +16,7 @@ use signatures::encode;
 use std::alloc::Global;
 use tables::{Cell, Row, Tables};
 
-/// How many numbers the rows of all tables have, one a column.
+/// The number of numbers in the rows of all tables, one per column.
 fn count_numbers(tables: &Tables) -> usize
     requires { (table : Table) → count_in tables.now table ≤ 0xFFFFFF }
     ensures { result ≡ sum_by (numbers_in tables.now) all_tables }
@@ -29,7 +29,7 @@ fn count_numbers(tables: &Tables) -> usize
     count
 }
 
-/// Keeps the number of a cell in a column of a kind, once its values are pooled: that of a text is the next index.
+/// Adds the number of a cell in a column of a kind, after its values are pooled. For a text it is the next index.
 fn put_cell(
     alloc: Global,
     numbering: &mut Numbering,
@@ -61,7 +61,7 @@ fn put_cell(
     Ok(())
 }
 
-/// Keeps the number of the next cell, or 0 where a column has none, and answers the cells behind it.
+/// Adds the number of the next cell, or 0 if the column has none, and returns the cells after it.
 fn put_next<'c>(
     alloc: Global,
     numbering: &mut Numbering,
@@ -90,7 +90,7 @@ fn put_next<'c>(
     }
 }
 
-/// Keeps the numbers of a row, one a column.
+/// Adds the numbers of a row, one per column.
 fn put_row(
     alloc: Global,
     numbering: &mut Numbering,
@@ -110,7 +110,7 @@ fn put_row(
     Ok(())
 }
 
-/// Keeps the numbers of rows.
+/// Adds the numbers of rows.
 fn put_rows(
     alloc: Global,
     numbering: &mut Numbering,
@@ -129,7 +129,7 @@ fn put_rows(
     Ok(())
 }
 
-/// Keeps the numbers of the rows of all tables.
+/// Adds the numbers of the rows of all tables.
 fn put_tables(
     alloc: Global,
     numbering: &mut Numbering,
@@ -153,7 +153,7 @@ fn put_tables(
     Ok(())
 }
 
-/// The numbers of all cells, by table, row and column, each once its values are pooled.
+/// The numbers of all cells, by table, row and column, each after its values are pooled.
 pub fn numbers_of(alloc: Global, indexes: &[u32], tables: &Tables) -> Result<Numbering, PoolError>
     requires few { (table : Table) → count_in tables.now table ≤ 0xFFFFFF }
     requires ready { (table : Table) → AllByRecursion (AllByRecursion CanBeNumbered) (rows_of tables.now table) }

@@ -14,12 +14,12 @@ use tables::Tables;
 
 /// The pools of the canonical root of valid tables, and the numbers of all their cells (II.24.2.3 to II.24.2.6).
 ///
-/// The texts are pooled first; then each cell is numbered, by table, row and column, and blobs and GUIDs are pooled
-/// as they come, a signature in its shortest spelling. The memory of the numbers is taken at once.
+/// It pools the texts first. Then it numbers each cell, by table, row and column, and pools blobs and GUIDs on the way,
+/// a signature in its canonical encoding. The memory of the numbers is allocated once.
 ///
 /// # Errors
 ///
-/// `Full` where one of the heaps would pass 2^30 bytes; `Memory` where memory is refused.
+/// `Full` if one of the heaps would exceed 2^30 bytes; `Memory` if out of memory.
 pub fn pools_of_tables(alloc: Global, tables: &Tables) -> Result<(TextPool, Numbering), PoolError>
     requires { IsValid tables.now }
     ensures pools { IfOk result (λ pools. (pools.0.entries ≡ (pools_of tables.now).texts) × IsNumbering tables.now pools.1) }

@@ -12,7 +12,7 @@ use schema::{TableId, tables_stand};
 use std::alloc::{AllocError, Global};
 use tables::{Cell, Row, Tables};
 
-/// Adds the text of a cell that is one.
+/// Adds the text of a cell, if it is a text.
 fn add_cell<'a>(texts: &mut Vec<&'a str>, cell: &'a Cell) -> Result<(), AllocError>
     ensures { OnOk result (bytes_of texts.new.items ≡ bytes_of texts.old.items ++ texts_of (said cell.now)) }
 {
@@ -42,7 +42,7 @@ fn add_rows<'a>(texts: &mut Vec<&'a str>, rows: &'a [Row]) -> Result<(), AllocEr
     Ok(())
 }
 
-/// The texts of all cells, in the order of their use.
+/// The texts of all cells, in order of use.
 #[tactic(auto, unfolding(canonical::specs::Pools::used))]
 fn used_texts<'a>(alloc: Global, tables: &'a Tables) -> Result<Vec<&'a str>, AllocError>
     requires valid { IsValid tables.now }
@@ -56,7 +56,7 @@ fn used_texts<'a>(alloc: Global, tables: &'a Tables) -> Result<Vec<&'a str>, All
     Ok(texts)
 }
 
-/// The strings heap of tables, planned from the texts of all cells, and their indexes in the order of their use (II.24.2.3).
+/// The strings heap of tables, planned from the texts of all cells, and their indexes in order of use (II.24.2.3).
 pub fn text_pool(alloc: Global, tables: &Tables) -> Result<TextPool, PoolError>
     requires valid { IsValid tables.now }
     ensures entries { IfOk result (λ pool. pool.entries ≡ (pools_of tables.now).texts) }

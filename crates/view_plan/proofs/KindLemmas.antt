@@ -46,7 +46,7 @@ pub next_text : (indexes : List ℕ) (k : ColumnKind) (cell : Cell) (so_far : Nu
 next_text indexes k cell so_far is of =
     ap (λ (column : ColumnKind). with_cell indexes column cell so_far) is ∙ text_column indexes cell so_far (subst (λ (column : ColumnKind). IsOfKind column cell) is of)
 
--- a cell that uses no text has its number by its values
+-- a cell that uses no text has the number that its values give
 pub next_other : (indexes : List ℕ) (k : ColumnKind) (cell : Cell) (so_far : Numbered) → texts_of cell ≡ []
     → with_cell indexes k cell so_far ≡ with_number (with_values so_far cell) (cell_number (pools_in (with_values so_far cell)) k cell)
 next_other indexes k (Text text) so_far none = absurd (omega (arith, ap length none))
@@ -56,7 +56,7 @@ pub over_other : (indexes : List ℕ) (k : ColumnKind) (cell : Cell) (so_far : N
     → IsOver (with_cell indexes k cell so_far)
 over_other indexes k cell so_far none over = subst IsOver (sym (next_other indexes k cell so_far none)) over
 
--- the kind of the column of a cell, as it is looked up
+-- the kind of the column of a cell, as the code looks it up
 pub kind_seen : (table : TableId) (place index : ℕ) (columns : List Column) → columns ≡ columns_of table → index ≡ column_of table place
     → (get_or columns index (col kind.U8)).kind ≡ kind_at table place
 kind_seen table place index columns same at =

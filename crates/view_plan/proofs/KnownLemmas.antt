@@ -1,4 +1,4 @@
--- Indexes that are known stay so as the pool grows.
+-- Indexes that are known stay right as the pool grows.
 use Rattle.std.proofs.Common.{◌≡◌, ℕ, zero, suc, ◌⊎◌, inl, inr, Bool, true, cond, List, [], ◌∷◌, ◌++◌, Contains, Some, IfSome, Result, Ok, Err, OnOk, OnErr, Bor, refl, sym, ap, subst, ◌∙◌, append-nil, arith}
 use Rattle.std.specs.List.{AllByRecursion}
 use Rattle.std.specs.Map.{lookup}
@@ -20,7 +20,7 @@ behind : (entries : List (List ℕ)) (value : List ℕ) → Contains ([] ∷ ent
 behind entries value (zero, h, e) = inl (sym e)
 behind entries value (suc k, h, e) = inr (k, omega (arith, h), e)
 
--- a value that is pooled is there, or empty
+-- a value that was pooled is in the pool, or is empty
 pub pooled_there : (entries : List (List ℕ)) (value : List ℕ) → (value ≡ []) ⊎ Contains (pooled entries value) value
 pooled_there entries value =
     elim (cases_Bool (is_among ([] ∷ entries) value)) [
@@ -35,11 +35,11 @@ among entries value (inl none) = list_any-from_Contains nat_list_eq_equiv value 
 among entries value (inr found) =
     list_any-from_Contains nat_list_eq_equiv value ([] ∷ entries) (suc found.0, omega (arith, found.1), found.2)
 
--- a value that is there adds nothing
+-- a value that is in the pool already adds nothing
 pub pooled_again : (entries : List (List ℕ)) (value : List ℕ) → (value ≡ []) ⊎ Contains entries value → pooled entries value ≡ entries
 pooled_again entries value there = ap (λ b. cond b entries (entries ++ value ∷ [])) (among entries value there)
 
--- a pool with a value begins as it was
+-- a pool is a prefix of the pool with a further value
 front : (entries : List (List ℕ)) (value : List ℕ) → (more : List (List ℕ)) × (pooled entries value ≡ entries ++ more)
 front entries value =
     elim (cases_Bool (is_among ([] ∷ entries) value)) [
@@ -70,7 +70,7 @@ known_still stay kind blobs more [] known = tt
 known_still stay kind blobs more (met ∷ entries) known =
     ((λ signature spells. pooled_still stay blobs more _ met.1 (known.0 signature spells)), known_still stay kind blobs more entries known.1)
 
--- whatever is pooled
+-- known blobs stay known, whatever is pooled
 pub known_pooled : BlobsStay → (kind : SigKind) (blobs : List (List ℕ)) (value : List ℕ) (entries : List Met) → AllKnown kind blobs entries → AllKnown kind (pooled blobs value) entries
 known_pooled stay kind blobs value entries known =
     subst (λ b. AllKnown kind b entries) (sym (front blobs value).1) (known_still stay kind blobs (front blobs value).0 entries known)
@@ -78,7 +78,7 @@ known_pooled stay kind blobs value entries known =
 known_key : (kind : SigKind) (blobs : List (List ℕ)) (a b : List ℕ) (index : ℕ) → a ≡ b → IsKnown kind blobs a index → IsKnown kind blobs b index
 known_key kind blobs a b index same known = subst (λ blob. IsKnown kind blobs blob index) same known
 
--- what is found is known
+-- a blob that the map finds is known
 pub found_known : (kind : SigKind) (blobs : List (List ℕ)) (blob : List ℕ) (test : Bor (List ℕ) → Bool) → ((key : Bor (List ℕ)) → test key ≡ true → key.now ≡ blob) → (entries : List Met)
     → AllKnown kind blobs entries → IfSome (lookup test entries) (λ index. IsKnown kind blobs blob index)
 found_known kind blobs blob test same [] known = tt
@@ -90,7 +90,7 @@ found_known kind blobs blob test same (met ∷ entries) known =
           (found_known kind blobs blob test same entries known.1)
     ]
 
--- one blob more is known
+-- the map with one more known blob
 pub known_inserted : (kind : SigKind) (blobs : List (List ℕ)) (eq : Bor (List ℕ) → Bor (List ℕ) → Bool) (blob : Bor (List ℕ)) (index : ℕ)
     → ((key : Bor (List ℕ)) → eq blob key ≡ true → blob.now ≡ key.now) → IsKnown kind blobs blob.now index → (entries : List Met) → AllKnown kind blobs entries
     → AllKnown kind blobs (insert_entry eq entries blob index)

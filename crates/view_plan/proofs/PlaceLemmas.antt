@@ -1,4 +1,4 @@
--- The cells of a row that are left, by the columns that are.
+-- The cells of a row that are left, by the columns that are left.
 use Rattle.std.proofs.Common.{◌≡◌, ℕ, ◌+◌, ◌<◌, ◌≤◌, inl, inr, true, false, cond, List, [], ◌∷◌, length, get_or, drop, map, refl, sym, ap, subst, ◌∙◌, length-drop, arith}
 use Rattle.std.specs.List.{range_with_len}
 use Rattle.std.proofs.lemmas.Bool.{cases_Bool}
@@ -53,7 +53,7 @@ module _ (table : TableId) (index place : ℕ) (below : index < length (columns_
       ∙ ap (λ cells. with_next_cell false (with_cell indexes (column_at table index).kind) rest cells so_far) (drop_more row place (Number 0) within)
       ∙ ap (λ i. rest (drop (place + 1) row) (with_cell indexes (column_at table i).kind (get_or row place (Number 0)) so_far)) (sym here.1)
 
--- padding is of one kind
+-- a kind other than `Padding` is not padding
 pub unpadded : (k : ColumnKind) → (k ≡ kind.Padding → ⊥) → is_padding k ≡ false
 unpadded kind.U8 other = refl
 unpadded kind.U16 other = refl
@@ -80,7 +80,7 @@ pub few_cells : (table : TableId) → cell_count table ≤ length (columns_of ta
 unfolding cell_columns
 few_cells table = few_indexes 0 (columns_of table)
 
--- ---- what is left of a row, of rows and of tables
+-- ---- the remaining parts of a row, of rows and of tables
 
 pub row_left : (indexes : List ℕ) (columns : List Column) (i : ℕ) (cells : List Cell) (so_far whole : Numbered) → i < length columns
     → with_row indexes (drop i columns) cells so_far ≡ whole
@@ -112,7 +112,7 @@ positions : map position_of tables ≡ range_with_len 0 38
 unfolding tables
 positions = refl
 
--- a table is found by its position
+-- a table is found by its index
 pub position_at : length tables ≡ 38 → (k : ℕ) → k < 38 → position_of (get_or tables k Module) ≡ k
 position_at count k below =
     sym (get_or-map position_of tables k Module 0 (omega (arith, count))) ∙ ap (λ (l : List ℕ). get_or l k 0) positions ∙ get_or-range_with_len 0 38 k 0 below ∙ omega arith

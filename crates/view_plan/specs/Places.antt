@@ -1,9 +1,9 @@
--- Which cells of a row are left (ECMA-335 II.22).
+-- The cells of a row that are left, by its columns (ECMA-335 II.22).
 use Rattle.std.specs.Prelude.{◌≡◌, ℕ, drop}
 use Rattle.schema.specs.declared.table.TableId.{TableId}
 use Rattle.schema.specs.Columns.{columns_of}
 use Rattle.schema.specs.CellColumns.{indexes_from, cell_columns}
 
--- the cells from a place on are those of the columns from an index on
+-- the cells from index `place` on are those of the columns from `index` on
 abbrev pub IsPlaceOf : TableId → ℕ → ℕ → Type 0
 IsPlaceOf table index place = drop place (cell_columns table) ≡ indexes_from index (drop index (columns_of table))

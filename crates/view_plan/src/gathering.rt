@@ -16,8 +16,8 @@ use schema::SigKind;
 use std::alloc::{AllocError, Global};
 use std::marker::Model;
 
-/// The numbers of cells in place, and the blobs of signatures that were met in columns of one kind, each with the
-/// index of its shortest spelling.
+/// The numbers of cells in place, and the signature blobs that were met in columns of one kind, each with the index of
+/// its canonical encoding.
 #[derive(Drop)]
 pub struct Gathering<'a> {
     alloc: Global,
@@ -38,7 +38,7 @@ impl<'a> Model for Gathering<'a> {
 }
 
 impl<'a> Gathering<'a> {
-    /// No cells, with memory for a count of numbers.
+    /// An empty gathering with memory for the given number of numbers.
     pub fn new(alloc: Global, count: usize) -> Result<Gathering<'a>, AllocError>
         ensures { IfOk result (λ gathering. gathering ≡ none_numbered) }
     {
@@ -51,28 +51,28 @@ impl<'a> Gathering<'a> {
         })
     }
 
-    /// What was gathered.
+    /// The numbering that was gathered.
     pub fn into_numbering(self) -> Numbering
         ensures { result ≡ self.entry }
     {
         self.numbering
     }
 
-    /// Keeps the number of the next column.
+    /// Adds the number of the next column.
     pub fn put_number(&mut self, number: u32) -> Result<(), AllocError>
         ensures { OnOk result (self.new ≡ with_number self.old number) }
     {
         self.numbering.put_number(number)
     }
 
-    /// Keeps the number of the next text, of the indexes of all texts in the order of their use.
+    /// Adds the number of the next text. `indexes` has those of all texts, in order of use.
     pub fn put_text(&mut self, indexes: &[u32]) -> Result<(), AllocError>
         ensures { OnOk result (self.new ≡ with_text indexes.now self.old) }
     {
         self.numbering.put_text(indexes)
     }
 
-    /// Pools a blob and answers its index.
+    /// Pools a blob and returns its index.
     pub fn put_blob(&mut self, blob: &[u8]) -> Result<u32, PoolError>
         requires { length blob.now < 2 ^ 29 }
         ensures pools { OnOk result (self.new ≡ with_blob self.old blob.now) }
@@ -83,7 +83,7 @@ impl<'a> Gathering<'a> {
         self.numbering.put_blob(blob)
     }
 
-    /// Pools a GUID and answers its index; that of null is 0.
+    /// Pools a GUID and returns its index; the index of null is 0.
     pub fn put_guid(&mut self, guid: Option<[u8; 16]>) -> Result<u32, PoolError>
         ensures pools { OnOk result (self.new ≡ with_guid self.old guid) }
         ensures index { IfOk result (λ index. index ≡ guid_index self.new.guids guid) }
@@ -92,7 +92,7 @@ impl<'a> Gathering<'a> {
         self.numbering.put_guid(guid)
     }
 
-    /// The index of a blob that was met in a column of the kind.
+    /// The index of a blob that was met in a column of this kind.
     fn find(&self, blob: &[u8], kind: SigKind) -> Option<u32>
         ensures { IfSome result (λ index. IsKnown kind self.now.blobs blob.now index) }
     {
@@ -102,7 +102,7 @@ impl<'a> Gathering<'a> {
         self.known.get(blob).copied()
     }
 
-    /// Keeps the index of a blob that was met in a column of the kind, and no longer those of another kind.
+    /// Remembers the index of a blob that was met in a column of this kind. Blobs of another kind are forgotten.
     fn remember(&mut self, blob: &'a [u8], kind: SigKind, index: u32) -> Result<(), AllocError>
         requires { IsKnown kind self.old.blobs blob.now index }
         ensures { self.new ≡ self.old }
@@ -115,7 +115,8 @@ impl<'a> Gathering<'a> {
         Ok(())
     }
 
-    /// Pools the shortest spelling of what a blob spells in a column of a kind, and answers its index (II.23.2).
+    /// Pools the canonical encoding of the signature in a blob, for a column of a kind, and returns its index
+    /// (II.23.2).
     pub fn put_signature(&mut self, blob: &'a [u8], kind: SigKind) -> Result<u32, PoolError>
         requires { ∥ ((signature : Body) × Spells kind signature blob.now) ∥₁ }
         ensures pools { (signature : Body) → Spells kind signature blob.now → OnOk result (self.new ≡ with_blob self.old (short signature)) }

@@ -1,15 +1,14 @@
-//! What is to be written of a root that is open in place, before any byte is: the pools of its heaps, and the
-//! number of each cell (ECMA-335 II.24.2.3 to II.24.2.6).
+//! Plans the heaps of a root that is read in place, and the number of each cell, before any byte is written (ECMA-335
+//! II.24.2.3 to II.24.2.6).
 //!
-//! [`pools_of_view`] goes over the rows of a view twice. First it reads the texts alone and plans the strings heap.
-//! Then it numbers each cell, by table, row and column, and pools blobs, signatures in their shortest spelling, and
-//! GUIDs. No cell is copied: texts and blobs are read where they lie. A text is read once, when it is planned: its
-//! number is the next of the indexes of the plan. A signature is decoded and spelled anew only where its blob was not
-//! met before in a column of its kind.
+//! [`pools_of_view`] visits the rows of a view twice. First it reads only the texts and plans the strings heap. Then it
+//! numbers each cell, by table, row and column. It pools GUIDs and blobs, signatures in their canonical encoding. No
+//! cell is copied: texts and blobs are read in place. A text is read once, for the plan; its number is the next index
+//! of the plan. A signature is decoded and encoded again only if its blob was not met before in a column of its kind.
 //!
 //! ```text
 //! let (texts, numbering) = pools_of_view(alloc, &view)?;
-//! numbering.numbers() // what stands in the rows, by table, row and column
+//! numbering.numbers() // the numbers of the rows, by table, row and column
 //! ```
 #![tactic(auto)]
 

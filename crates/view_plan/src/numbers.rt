@@ -22,7 +22,7 @@ use plan::{Numbering, cells_can_be_numbered, heaps_stay_too_long, row_number};
 use schema::{ColumnKind, TableId, column_of_cell, columns, columns_stand, tables_stand};
 use std::alloc::Global;
 
-/// The number of a signature's blob in a column of a kind, whose shortest spelling is pooled.
+/// The number of a signature blob in a column of a kind. Its canonical encoding is pooled.
 fn signature_number<'a>(
     gathering: &mut Gathering<'a>,
     blob: &'a [u8],
@@ -41,7 +41,7 @@ fn signature_number<'a>(
     gathering.put_signature(blob, column)
 }
 
-/// The number of a value in place that is no text, in a column of a kind, whose values are pooled.
+/// The number of a value in place that is not a text, in a column of a kind. Its values are pooled.
 fn number_of<'a>(
     gathering: &mut Gathering<'a>,
     kind: ColumnKind,
@@ -66,7 +66,7 @@ fn number_of<'a>(
     }
 }
 
-/// Keeps the number of a cell, once its values are pooled: that of a text is the next index, and no heap is read for it.
+/// Adds the number of a cell after its values are pooled. For a text it is the next index, and no heap is read.
 fn put_cell<'a>(
     gathering: &mut Gathering<'a>,
     indexes: &[u32],
@@ -98,7 +98,7 @@ fn put_cell<'a>(
     }
 }
 
-/// Keeps the number of the column of an index, or 0 where it has no cell, and answers the place of the cells behind it.
+/// Adds the number of the column at an index, or 0 if it has no cell, and returns the index of the next cell.
 fn put_next<'a>(
     gathering: &mut Gathering<'a>,
     indexes: &[u32],
@@ -135,7 +135,7 @@ fn put_next<'a>(
     }
 }
 
-/// Keeps the numbers of a row, one a column.
+/// Adds the numbers of a row, one per column.
 fn put_row<'a>(
     gathering: &mut Gathering<'a>,
     indexes: &[u32],
@@ -158,7 +158,7 @@ fn put_row<'a>(
     Ok(())
 }
 
-/// Keeps the numbers of the rows of a table.
+/// Adds the numbers of the rows of a table.
 fn put_rows<'a>(
     gathering: &mut Gathering<'a>,
     indexes: &[u32],
@@ -178,7 +178,7 @@ fn put_rows<'a>(
     Ok(())
 }
 
-/// How many numbers the rows of all tables have, one a column.
+/// The number of numbers in the rows of all tables, one per column.
 fn count_numbers(view: &View) -> usize {
     columns_stand();
     let mut count = 0;
@@ -188,7 +188,7 @@ fn count_numbers(view: &View) -> usize {
     count
 }
 
-/// Keeps the numbers of the rows of all tables.
+/// Adds the numbers of the rows of all tables.
 fn put_tables<'a>(
     gathering: &mut Gathering<'a>,
     indexes: &[u32],
@@ -207,7 +207,7 @@ fn put_tables<'a>(
     Ok(())
 }
 
-/// The numbers of all cells, by table, row and column, each once its values are pooled.
+/// The numbers of all cells, by table, row and column, each after its values are pooled.
 pub fn numbers_of(alloc: Global, indexes: &[u32], view: &View) -> Result<Numbering, PoolError>
     ensures ok { (model : Metadata) → IsModel view.now model
         → IfOk result (λ numbering. numbering ≡ with_tables indexes.now model all_tables none_numbered) }

@@ -14,8 +14,8 @@ use opening::View;
 use plan::{Numbering, cells_can_be_numbered, numberings_are_of_models};
 use std::alloc::Global;
 
-/// The strings heap of the canonical root, planned from the texts of all cells, and their indexes in the order of their
-/// use (II.24.2.3).
+/// The strings heap of the canonical root, planned from the texts of all cells, and their indexes in order of use
+/// (II.24.2.3).
 fn text_pool(alloc: Global, view: &View) -> Result<TextPool, PoolError>
     ensures entries { (model : Metadata) → IsModel view.now model → IfOk result (λ pool. pool.entries ≡ (pools_of model).texts) }
     ensures indexes { (model : Metadata) → IsModel view.now model
@@ -33,13 +33,13 @@ fn text_pool(alloc: Global, view: &View) -> Result<TextPool, PoolError>
 
 /// The pools of the canonical root of a view's model, and the numbers of all its cells (II.24.2.3 to II.24.2.6).
 ///
-/// The texts are pooled first; then each cell is numbered, by table, row and column, and blobs and GUIDs are pooled
-/// as they come, a signature in its shortest spelling. Nothing that the view shows is copied but the blobs and GUIDs
-/// that are pooled. The memory of the numbers is taken at once.
+/// It pools the texts first. Then it numbers each cell, by table, row and column, and pools blobs and GUIDs on the way,
+/// a signature in its canonical encoding. It copies only the blobs and GUIDs that it pools. The memory of the numbers
+/// is allocated once.
 ///
 /// # Errors
 ///
-/// `Full` where one of the heaps would pass 2^30 bytes; `Memory` where memory is refused.
+/// `Full` if one of the heaps would exceed 2^30 bytes; `Memory` if out of memory.
 pub fn pools_of_view<'a>(alloc: Global, view: &View<'a>) -> Result<(TextPool, Numbering), PoolError>
     ensures pools { (model : Metadata) → IsModel view.now model
         → IfOk result (λ pools. (pools.0.entries ≡ (pools_of model).texts) × IsNumbering model pools.1) }

@@ -6,7 +6,7 @@ use schema::SigKind;
 use signatures::{SigError, shortest_spelling};
 use std::alloc::{AllocError, Global};
 
-/// The shortest spelling of the signature that a blob spells in a column of a kind (II.23.2).
+/// The canonical encoding of the signature that a blob encodes in a column of a kind (II.23.2).
 pub fn shortest(alloc: Global, blob: &[u8], kind: SigKind) -> Result<Vec<u8>, AllocError>
     requires { ∥ ((signature : Body) × Spells kind signature blob.now) ∥₁ }
     ensures bytes { (signature : Body) → Spells kind signature blob.now → IfOk result (λ bytes. bytes.items ≡ short signature) }

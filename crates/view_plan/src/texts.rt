@@ -11,7 +11,7 @@ use opening::{CellRef, View};
 use schema::{ColumnKind, TableId, cell_count, column_of_cell, columns, tables_stand};
 use std::alloc::{AllocError, Global};
 
-/// Adds the text of a cell that is one: no other column is read.
+/// Adds the text of a cell, if it is a text. No other column is read.
 fn add_cell<'a>(
     texts: &mut Vec<&'a str>,
     view: &View<'a>,
@@ -67,7 +67,7 @@ fn add_rows<'a>(texts: &mut Vec<&'a str>, view: &View<'a>, table: TableId) -> Re
     Ok(())
 }
 
-/// The texts of all cells, in the order of their use.
+/// The texts of all cells, in order of use.
 #[tactic(auto, unfolding(canonical::specs::Pools::used))]
 pub fn used_texts<'a>(alloc: Global, view: &View<'a>) -> Result<Vec<&'a str>, AllocError>
     ensures { (model : Metadata) → IsModel view.now model → IfOk result (λ texts. bytes_of texts.items ≡ used texts_of model) }

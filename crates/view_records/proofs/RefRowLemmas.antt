@@ -1,4 +1,4 @@
--- What the values of a row in place hold and say, where they show the cells of a model's row.
+-- The values of a row that is read in place are of their columns' kinds, and equal the cells of the model's row.
 use Rattle.std.proofs.Common.{◌≡◌, ℕ, zero, suc, ◌+◌, ◌<◌, ◌≤◌, Bool, true, false, cond, List, [], ◌∷◌, length, drop, Option, Some, None, option_map, get_or, slice_get, slice_set, refl, sym, ◌∙◌, ap, subst, arith, add-one}
 use Rattle.std.proofs.lemmas.Option.{slice_get_within, get_or_from_slice_get}
 use Rattle.std.proofs.lemmas.Grind.{common_steps}
@@ -23,7 +23,7 @@ use Rattle.records.specs.Signatures.{spelled}
 use Rattle.view_records.specs.declared.ref_row.RefRow.{RefRow}
 use Rattle.view_records.specs.RefRows.{IsShown, IsRefOfShape, IsSaid, shape_at, HoldsAt, SaysAt}
 
--- ---- lists from a place on
+-- ---- lists from an index on
 
 get_at : {A : Type 0} → (all : List A) (place : ℕ) (c : A) (rest : List A) → drop place all ≡ c ∷ rest → slice_get all place ≡ Some c
 get_at [] zero c rest h = absurd cc
@@ -49,7 +49,7 @@ get_set_below (x ∷ xs) zero k v h = absurd (omega (arith, h))
 get_set_below (x ∷ xs) (suc i) zero v h = refl
 get_set_below (x ∷ xs) (suc i) (suc k) v h = get_set_below xs i k v (omega (arith, h))
 
--- what holds of the values before a place, and of the one that is put there
+-- what holds of the values before an index, and of the one that is set there
 pub one_more : (P : ℕ → Option CellRef → Type 0) (values : List CellRef) (place : ℕ) (v : CellRef) → place < length values
     → ((k : ℕ) → k < place → P k (slice_get values k)) → P place (Some v) → (k : ℕ) → k < place + 1 → P k (slice_get (slice_set values place v) k)
 one_more P values place v within before here k below =
@@ -75,11 +75,11 @@ cells_few table few = omega (arith, count_within 0 (columns_of table), few)
 
 -- ---- one value
 
--- blobs that spell signatures say them
+-- a blob that encodes a signature is read as that signature
 abbrev pub BlobsSay : Type 0
 BlobsSay = (column : SigKind) (said : Body) (blob : List ℕ) → Spells column said blob → spelled column blob ≡ said
 
--- the cell of a value; of a signature any
+-- the cell that a value equals; a signature blob has an arbitrary one
 abbrev plain : CellRef → Cell
 plain (seen.Number n) = Number n
 plain (seen.Text t) = Text t.now
@@ -106,7 +106,7 @@ signature_held : (k : ColumnKind) (blob : _) (c : Cell) → Shows k (seen.Sig bl
 signature_held (kind.Signature column) blob c shows = tt
 signature_held _ blob c shows = absurd shows
 
--- a value that shows a cell of its column's kind holds what the column does
+-- a value that equals a cell of its column's kind is of the column's shape
 value_held : (k : ColumnKind) (v : CellRef) (c : Cell) → Shows k v c → IsOfKind k c → IsRefOfShape (Some v) (shape_of k)
 value_held k (seen.Number n) c shows is = plain_held k (seen.Number n) (subst (IsOfKind k) shows is)
 value_held k (seen.Text t) c shows is = plain_held k (seen.Text t) (subst (IsOfKind k) shows is)
@@ -120,7 +120,7 @@ signature_said : BlobsSay → (k : ColumnKind) (blob : _) (c : Cell) → Shows k
 signature_said say (kind.Signature column) blob c shows = shows.2 ∙ ap Sig (sym (say column shows.0 blob.now shows.1))
 signature_said say _ blob c shows = absurd shows
 
--- it says the cell that it shows
+-- it denotes the cell that it equals
 value_said : BlobsSay → (k : ColumnKind) (v : CellRef) (c : Cell) → Shows k v c → IsSaid (Some v) (Some (shape_of k)) c
 value_said say k (seen.Number n) c shows = shows
 value_said say k (seen.Text t) c shows = shows
@@ -140,7 +140,7 @@ shown_said : BlobsSay → (value : Option CellRef) (table : TableId) (place : �
 shown_said say None table place k c at shown = absurd shown
 shown_said say (Some v) table place k c at shown = let P : ColumnKind → Type 0 = λ held. Shows held v c in value_said say k v c (subst P at shown)
 
--- it is decided whether a value holds a shape
+-- whether a value is of a shape is decidable
 pub held_stable : (value : Option CellRef) (shape : Shape) → ¬ (¬ IsRefOfShape value shape) → IsRefOfShape value shape
 held_stable (Some (seen.Number n)) number h = tt
 held_stable (Some (seen.Text t)) text h = tt
@@ -151,7 +151,7 @@ held_stable (Some (seen.Start n)) start h = tt
 held_stable (Some (seen.Sig blob)) (signature column) h = tt
 held_stable _ _ h = absurd (h (λ held. held))
 
--- a value says one cell
+-- a value denotes one cell only
 said_once : (value : Option CellRef) (shape : Option Shape) (c d : Cell) → IsSaid value shape c → IsSaid value shape d → c ≡ d
 said_once (Some (seen.Number n)) shape c d h k = h ∙ sym k
 said_once (Some (seen.Text t)) shape c d h k = h ∙ sym k
@@ -200,7 +200,7 @@ said_from row whole place (k ∷ ks) (c ∷ cs) at cell are each =
       said_from row whole (place + 1) ks cs (drop_next (kinds_of row.table) place k ks at) (drop_next whole place c cs cell) are.1 each,
     )
 
--- what is known of the values of a row
+-- facts on the values of a row
 pub record AreShown (row : RefRow) (whole : List Cell) : Type 0 where
   pub kinds : (place : ℕ) → place < cell_count row.table
       → slice_get (kinds_of row.table) place ≡ Some (column_at row.table (column_of row.table place)).kind
@@ -244,6 +244,6 @@ one_from row place (kind ∷ kinds) (x ∷ xs) (y ∷ ys) h k =
     ap (λ rest. x ∷ rest) (one_from row (place + 1) kinds xs ys h.1 k.1)
     ∙ ap (λ first. first ∷ ys) (said_once (slice_get row.values place) (shape_at row.table place) x y h.0 k.0)
 
--- a row in place says one row
+-- a row in place denotes one row only
 pub row_is_one : (row : RefRow) (kinds : List ColumnKind) (a b : List Cell) → AreSaid (SaysAt row) 0 kinds a → AreSaid (SaysAt row) 0 kinds b → a ≡ b
 row_is_one row kinds a b h k = one_from row 0 kinds a b h k

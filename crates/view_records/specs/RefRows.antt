@@ -1,4 +1,4 @@
--- What the values of a row in place hold, and what they say (ECMA-335 II.22).
+-- The values of a row that is read in place: their shapes, and the cells that they denote (ECMA-335 II.22).
 use Rattle.std.specs.Prelude.{◌≡◌, ℕ, List, Option, Some, None, option_map, slice_get, ⊤}
 use Rattle.schema.specs.declared.table.TableId.{TableId}
 use Rattle.metadata.specs.Cell.{Cell, Number, Text, Bytes, Guid, Ref, Start, Sig}
@@ -10,12 +10,12 @@ use Rattle.records.specs.Shapes.{Shape, number, text, bytes, guid, reference, st
 use Rattle.records.specs.Signatures.{spelled}
 use Rattle.view_records.specs.declared.ref_row.RefRow.{RefRow}
 
--- there is a value, which shows a cell of a table, by its place in its row
+-- there is a value, and it equals the cell of the table at this index
 abbrev pub IsShown : Option CellRef → TableId → ℕ → Cell → Type 0
 IsShown None table place cell = ⊥
 IsShown (Some value) table place cell = ShowsCell table place value cell
 
--- there is a value, which holds this
+-- there is a value, and it is of this shape
 abbrev pub IsRefOfShape : Option CellRef → Shape → Type 0
 IsRefOfShape (Some (seen.Number n)) number = ⊤
 IsRefOfShape (Some (seen.Text t)) text = ⊤
@@ -26,12 +26,12 @@ IsRefOfShape (Some (seen.Start n)) start = ⊤
 IsRefOfShape (Some (seen.Sig blob)) (signature column) = ⊤
 IsRefOfShape _ _ = ⊥
 
--- what the cells at a place of a table's rows hold
+-- the shape of the cells at an index of a table's rows
 unfoldable pub shape_at : TableId → ℕ → Option Shape
 shape_at table place = option_map shape_of (slice_get (kinds_of table) place)
 
--- there is a value, and this is the cell that it says, where it stands in a column that holds a shape: a blob says the
--- signature that it spells there
+-- there is a value, and it denotes this cell in a column of the shape: a blob in a signature column denotes the
+-- signature that it encodes (II.23.2)
 abbrev pub IsSaid : Option CellRef → Option Shape → Cell → Type 0
 IsSaid (Some (seen.Number n)) shape cell = cell ≡ Number n
 IsSaid (Some (seen.Text t)) shape cell = cell ≡ Text t.now
@@ -42,10 +42,10 @@ IsSaid (Some (seen.Start n)) shape cell = cell ≡ Start n
 IsSaid (Some (seen.Sig blob)) (Some (signature column)) cell = cell ≡ Sig (spelled column blob.now)
 IsSaid _ _ _ = ⊥
 
--- the value at a place holds what its column does, and this is it
+-- the value at an index is of the shape of its column, and that is this shape
 abbrev pub HoldsAt : RefRow → ℕ → Shape → Type 0
 HoldsAt row place shape = IsRefOfShape (slice_get row.values place) shape × (shape_at row.table place ≡ Some shape)
 
--- the value at a place says the cell
+-- the value at an index denotes the cell
 abbrev pub SaysAt : RefRow → ℕ → Cell → Type 0
 SaysAt row place cell = IsSaid (slice_get row.values place) (shape_at row.table place) cell

@@ -10,7 +10,7 @@ use crate::row_values::cells_of;
 use opening::{Token, View};
 use records::{CodedRow, lists};
 
-/// The record of a row that exists, of a table that its coded index lists.
+/// The record of an existing row in a table that its coded index lists.
 fn coded_row_in<'a, R: CodedRow<'a, RefRow<'a>>>(view: &View<'a>, token: Token) -> R
     requires listed { IsOneOf (tables_of R.index) token.table }
     requires first { 1 ≤ token.row }
@@ -21,8 +21,8 @@ fn coded_row_in<'a, R: CodedRow<'a, RefRow<'a>>>(view: &View<'a>, token: Token) 
     R::from_row_of(token.table, &cells_of(view, token.table, token.row))
 }
 
-/// The record of the row that a token names, in the variant of its table; `None` where the coded index does
-/// not list that table (II.24.2.6), or the table has no such row.
+/// The record of the row that a token names, in the variant of its table. `None` if the coded index does not list that
+/// table (II.24.2.6), or the table has no such row.
 pub fn resolve<'a, R: CodedRow<'a, RefRow<'a>>>(view: &View<'a>, token: Token) -> Option<R>
     ensures there { IsSome result ↔ (Contains (tables_of R.index) (Some token.table) × ((1 ≤ token.row) × (token.row ≤ row_count view.now token.table))) }
     ensures table { IfSome result (λ it. R.table_of it ≡ token.table) }

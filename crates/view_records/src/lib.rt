@@ -1,13 +1,13 @@
-//! The rows of a view's tables as records, in place (ECMA-335 II.22): the same records that a model in
-//! memory has, but for signatures, which are their blobs.
+//! The rows of a view's tables as records, read in place (ECMA-335 II.22). They are the records of a model in memory,
+//! except that a signature is its blob.
 //!
-//! [`rows`] goes over the records of a table, [`row`] answers one, and [`resolve`] the one that a reference names. What
-//! records hold lives as long as the bytes that were opened, and longer than the view; nothing is copied, and no memory
-//! is taken. [`cells_of`] answers the cells of one row, whichever table it is in.
+//! [`rows`] iterates over the records of a table, [`row`] returns one, and [`resolve`] returns the one that a reference
+//! names. Records borrow from the bytes that were opened, not from the view. Nothing is copied or allocated.
+//! [`cells_of`] returns the cells of one row of any table.
 //!
 //! ```text
 //! for class in rows::<TypeDef>(&view) { class.type_name }
-//! let method = row::<MethodDef<_>>(&view, 1)?; // None where there is no such row
+//! let method = row::<MethodDef<_>>(&view, 1)?; // None if there is no such row
 //! method.signature // the blob
 //! let base = resolve::<TypeDefOrRef<_>>(&view, class.extends?)?; // one of three records
 //! ```

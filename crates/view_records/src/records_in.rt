@@ -11,7 +11,7 @@ use opening::View;
 use records::FromRow;
 use std::marker::{Model, PhantomData};
 
-/// The record of a row that exists.
+/// The record of an existing row.
 fn record_in<'a, R: FromRow<'a, RefRow<'a>>>(view: &View<'a>, row: u32) -> R
     requires first { 1 ≤ row }
     requires last { row ≤ row_count view.now R.table }
@@ -20,7 +20,7 @@ fn record_in<'a, R: FromRow<'a, RefRow<'a>>>(view: &View<'a>, row: u32) -> R
     R::from_row(&cells_of(view, R::table_id(), row))
 }
 
-/// The record of a row, counted from 1; `None` where the table has no such row.
+/// The record of a row, counted from 1; `None` if the table has no such row.
 pub fn row<'a, R: FromRow<'a, RefRow<'a>>>(view: &View<'a>, row: u32) -> Option<R>
     ensures there { IsSome result ↔ ((1 ≤ row) × (row ≤ row_count view.now R.table)) }
     ensures model { (model : Metadata) → IsModel view.now model → IfSome result (λ it. R.fields it ≡ row_of model R.table row) }

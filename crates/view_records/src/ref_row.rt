@@ -4,11 +4,11 @@ use opening::{CellRef, TableId, Token};
 use records::Row;
 use schema::SigKind;
 
-/// The cells of a row, by parts of the bytes that were opened.
+/// The cells of a row. They borrow from the bytes that were opened.
 #[derive(Clone, Copy, Debug)]
 pub struct RefRow<'a> {
     pub(crate) table: TableId,
-    // As many as the row has cells; nothing reads those behind them.
+    // The first values are the row's cells; nothing reads the values after them.
     pub(crate) values: [CellRef<'a>; 9],
 }
 

@@ -13,7 +13,7 @@ use opening::{CellRef, TableId, View};
 use records::{blobs_say_signatures, cells_have_kinds, valid_rows_are_of_kinds};
 use schema::{cell_count, columns_stand};
 
-/// The values of a row's cells, by their places.
+/// The values of a row's cells, by their indexes.
 fn values_of<'a>(view: &View<'a>, table: TableId, row: u32) -> [CellRef<'a>; 9]
     requires first { 1 ≤ row }
     requires last { row ≤ row_count view.now table }
@@ -28,13 +28,13 @@ fn values_of<'a>(view: &View<'a>, table: TableId, row: u32) -> [CellRef<'a>; 9]
     values
 }
 
-/// The cells of a row, in place: those of a record in place.
+/// The cells of a row of any table, read in place.
 pub fn cells_of<'a>(view: &View<'a>, table: TableId, row: u32) -> RefRow<'a>
     requires first { 1 ≤ row }
     requires last { row ≤ row_count view.now table }
-    // They hold what the columns of the table hold.
+    // They are of the shapes of the table's columns.
     ensures held { AreHeld (HoldsAt result) 0 (kinds_of table) }
-    // They say the cells of the row of every model.
+    // They denote the cells of the row in every model.
     ensures model { (model : Metadata) → IsModel view.now model → AreSaid (SaysAt result) 0 (kinds_of table) (row_of model table row) }
 {
     models_are_read();

@@ -1,4 +1,4 @@
--- User strings and their fill (ECMA-335 II.24.2.2).
+-- User strings and their padding (ECMA-335 II.24.2.2).
 use Rattle.std.proofs.Common.{ℕ, ◌-◌, ◌%◌, ◌≤◌, List, length, replicate, length-append, arith}
 use Rattle.heaps.specs.Fill.{filled}
 

@@ -10,17 +10,16 @@ use opening::View;
 use prepared::{Prepared, WriteError, make};
 use std::alloc::Global;
 
-/// Makes the canonical root of a view's one model, where it has at most so many bytes: what `prepare` of `writer`
-/// makes of that model, which is not made here.
+/// Makes the canonical root of a view's one model, if it has at most `limit` bytes. The bytes are those that `prepare`
+/// of `writer` makes of that model, but no model is made here.
 ///
-/// No cell is copied. The memory of the root is taken once, when its length is known, and each byte is
-/// written once. Beside it, while the call lasts, stand the heaps, where each text, blob and GUID is kept
-/// once, and a number of four bytes for each column of each row. The cost is that of reading each cell.
+/// No cell is copied. The memory of the root is allocated once, when its length is known, and each byte is written
+/// once. During the call there are also the heaps, with each text, blob and GUID once. There is also a number of four
+/// bytes for each column of each row. The cost is that of reading each cell.
 ///
 /// # Errors
 ///
-/// `TooLarge` where the canonical root is longer than the limit, or `Memory` where memory was refused
-/// before that was known.
+/// `TooLarge` if the canonical root is longer than the limit. `Memory` if memory runs out before that is known.
 pub fn prepare_view(alloc: Global, view: &View, limit: u32) -> Result<Prepared, WriteError>
     requires { limit ≤ 2 ^ 30 }
     ensures root { (model : Metadata) → IsModel view.now model → IfOk result (λ prepared. prepared ≡ canonical model) }

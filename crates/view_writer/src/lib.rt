@@ -1,6 +1,7 @@
-//! The canonical root of a root that is open in place (ECMA-335 II.24.2), without a model that owns its cells.
+//! Writes the canonical root of a root that is open in place (ECMA-335 II.24.2). It makes no model that owns its cells.
 //!
-//! [`prepare_view`] makes the bytes that `writer` makes of the one model of the view. Their one model is that one.
+//! [`prepare_view`] makes the bytes that `writer` makes of the view's one model. That model is the one model of the
+//! bytes.
 //!
 //! ```text
 //! let view = open_root(&root)?;

@@ -7,7 +7,7 @@ use metadata::{models_are_read, models_of_roots_are_valid};
 use opening::View;
 use root_plan::Outline;
 
-/// What the canonical root of a view's one model is planned of, beside its pools.
+/// What the canonical root of a view's one model is planned from, besides its pools.
 pub fn outline_of<'a>(view: &View<'a>) -> Outline<'a>
     ensures { (model : Metadata) → IsModel view.now model → Describes result model }
 {

@@ -13,7 +13,7 @@ use root_plan::{PlanError, RootPlan, streams_are_within_roots};
 use std::alloc::Global;
 use view_plan::pools_of_view;
 
-/// The pools and numbers of a view. `TooLarge` is told where a heap would pass 2^30 bytes.
+/// The pools and numbers of a view. `TooLarge` if a heap would exceed 2^30 bytes.
 fn pools(alloc: Global, view: &View) -> Result<(TextPool, Numbering), PlanError>
     ensures pools { (model : Metadata) → IsModel view.now model → IfOk result (λ pools. ArePooled model pools.0 pools.1) }
     ensures too_large { (model : Metadata) → IsModel view.now model → result ≡ Err PlanError.TooLarge → 2 ^ 30 < length (canonical model) }
@@ -22,8 +22,8 @@ fn pools(alloc: Global, view: &View) -> Result<(TextPool, Numbering), PlanError>
     Ok(pools_of_view(alloc, view)?)
 }
 
-/// The plan of the canonical root of a view's one model, where that has at most so many bytes. No cell is
-/// made: the memory that it takes is that of the pools and of a number a cell.
+/// The plan of the canonical root of a view's one model, if that root has at most `limit` bytes. No cell is copied. It
+/// allocates the pools and one number per column of each row.
 pub fn plan_of<'a>(alloc: Global, view: &View<'a>, limit: u32) -> Result<RootPlan<'a>, PlanError>
     requires { limit ≤ 2 ^ 30 }
     ensures plan { (model : Metadata) → IsModel view.now model → IfOk result (λ plan. IsRootPlan model plan) }

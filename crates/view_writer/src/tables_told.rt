@@ -13,7 +13,7 @@ use opening::View;
 use root_plan::bit;
 use schema::{TableId, bits_are_known, key, tables_stand};
 
-/// How many rows each table has, by its number.
+/// The row count of each table, by table number.
 pub fn counts(view: &View) -> [u32; 45]
     ensures { (table : Table) → slice_index result (table_number table) ≡ row_count view.now table }
 {

@@ -1,4 +1,4 @@
--- The counts of tables by their numbers, and the bits of those that are in order, one table after another.
+-- The row counts by table number, and the bits of the tables that are in order, table by table.
 use Rattle.std.proofs.Common.{◌≡◌, ℕ, ◌+◌, ◌<◌, ◌≤◌, Bool, true, false, List, length, get_or, drop, map, refl, sym, ap, ◌∙◌, arith, below_more, get_or-set_other, get_or-set_same}
 use Rattle.std.proofs.Math.ListN.{set}
 use Rattle.std.specs.Prelude.{◌↔◌, Option, Some, None}
@@ -20,7 +20,7 @@ use Rattle.put.specs.TableHeader.{bit_if}
 
 -- ---- counts
 
--- the tables stand by their positions, and their numbers rise with these
+-- the tables are listed by their indexes, in ascending order of their numbers
 pub record TheyStand : Type 0 where
   pub count : length tables ≡ 38
   pub position : (table : TableId) → position_of table < 38
@@ -36,7 +36,7 @@ position_at : length tables ≡ 38 → (k : ℕ) → k < 38 → position_of (get
 position_at count k below =
     sym (get_or-map position_of tables k Module 0 (omega (arith, count))) ∙ ap (λ (l : List ℕ). get_or l k 0) positions ∙ get_or-range_with_len 0 38 k 0 below ∙ omega arith
 
--- an array of what each table has, by its number, that is filled table by table
+-- an array by table number that is filled in table by table
 pub table_kept : TheyStand → (f : TableId → ℕ) (kept : List ℕ) (i number value : ℕ) → i < 38 → length kept ≡ 45 → number ≡ table_number (get_or tables i Module)
     → value ≡ f (get_or tables i Module)
     → ((k : ℕ) → k < i → get_or kept (table_number (get_or tables k Module)) 0 ≡ f (get_or tables k Module))
@@ -75,19 +75,19 @@ all_bits test items i bits total same past whole =
 
 -- ---- a test
 
--- a test that tells what another one tells is that one
+-- two tests that are both equivalent to one fact are equal
 pub same_test : (P : Type 0) (one other : Bool) → (one ≡ true → P) → (P → one ≡ true) → (other ≡ true → P) → (P → other ≡ true) → one ≡ other
 same_test P true true a b c d = refl
 same_test P false false a b c d = refl
 same_test P true false a b c d = sym (d (a refl))
 same_test P false true a b c d = b (c refl)
 
--- a table without a key is not said to be in order
+-- a table without a key is not in the bits of the tables that are in order
 pub unkeyed : (model : Metadata) (table : TableId) (key : Option ℕ) → key ≡ key_of table → is_some key ≡ false → false ≡ is_sorted model table
 unkeyed model table None is none = ap (is_by_key (table_keys model table)) is
 unkeyed model table (Some key) is none = absurd cc
 
--- the Sorted bits of keyed tables of valid models tell their order
+-- the Sorted bits of keyed tables of valid models say whether they are in order
 abbrev pub TellOrder : Type 0
 TellOrder = (model : Metadata) → IsValid model → (table : TableId) (key : ℕ) → key_of table ≡ Some key → (is_sorted model table ≡ true) ↔ IsKeyOrdered model table
 

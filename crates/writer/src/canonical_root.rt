@@ -7,15 +7,14 @@ use owned_model::Model;
 use prepared::{Prepared, WriteError, make};
 use std::alloc::Global;
 
-/// Makes the canonical root of a model, where it has at most so many bytes.
+/// Makes the canonical root of a model, if it has at most `limit` bytes.
 ///
-/// Its memory is taken once, when its length is known, and each byte is written once. Beside it, while
-/// the call lasts, stand the heaps and a number of four bytes for each column of each row.
+/// The memory of the root is allocated once, when its length is known, and each byte is written once. During the call
+/// there are also the heaps, and a number of four bytes for each column of each row.
 ///
 /// # Errors
 ///
-/// `TooLarge` where the canonical root is longer than the limit, or `Memory` where memory was refused
-/// before that was known.
+/// `TooLarge` if the canonical root is longer than the limit. `Memory` if memory runs out before that is known.
 pub fn prepare(alloc: Global, model: &Model, limit: u32) -> Result<Prepared, WriteError>
     requires { limit ≤ 2 ^ 30 }
     ensures root { IfOk result (λ prepared. prepared ≡ canonical model.now) }

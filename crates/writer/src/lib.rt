@@ -1,16 +1,16 @@
-//! The canonical root of a model (ECMA-335 II.24.2), in memory or given out through a writer that may fail.
+//! Writes the canonical root of a model (ECMA-335 II.24.2), into memory or through a writer that may fail.
 //!
-//! [`write_root`] and [`write_root_within`] answer its bytes, whose one model is the one that was
-//! written. [`write_root_to`] gives them out through a [`Sink`], such as [`Counted`] over any writer.
-//! [`prepare`] makes the bytes first, so that only [`Prepared::send`], which takes no memory, stands
-//! behind the opening of a file. A root that is too long and want of memory are told before the first byte goes out.
+//! [`write_root`] and [`write_root_within`] return its bytes. Their one model is the one that was written.
+//! [`write_root_to`] sends them through a [`Sink`], such as [`Counted`] over any writer. [`prepare`] makes the bytes
+//! first, so once a file is open only [`Prepared::send`] is left, which does not allocate. A root that is too long and
+//! lack of memory are reported before the first byte is sent.
 //!
 //! ```text
 //! let prepared = prepare(alloc, &model, 1 << 20)?;        // TooLarge: it has more than 2^20 bytes
 //! let mut sink = Counted::new(file);
 //! match prepared.send(&mut sink) {
-//!     Ok(()) => ..,                                       // all prepared.len() bytes went out
-//!     Err(WriteError::Device { given }) => ..,            // the first `given` bytes went out
+//!     Ok(()) => ..,                                       // all prepared.len() bytes were sent
+//!     Err(WriteError::Device { given }) => ..,            // the first `given` bytes were sent
 //!     Err(_) => ..,                                       // never
 //! }
 //! ```

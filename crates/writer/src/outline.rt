@@ -4,7 +4,7 @@ use crate::tables_told;
 use owned_model::Model;
 use root_plan::Outline;
 
-/// What the canonical root of a model is planned of, beside its pools.
+/// What the canonical root of a model is planned from, besides its pools.
 pub fn outline_of(model: &Model) -> Outline<'_>
     ensures { Describes result model.now }
 {

@@ -12,7 +12,7 @@ use root_plan::{PlanError, RootPlan, streams_are_within_roots};
 use std::alloc::Global;
 use table_plan::pools_of_tables;
 
-/// The pools and numbers of valid tables. `TooLarge` is told where a heap would pass 2^30 bytes.
+/// The pools and numbers of valid tables. `TooLarge` if a heap would exceed 2^30 bytes.
 fn pools(alloc: Global, tables: &Tables) -> Result<(TextPool, Numbering), PlanError>
     requires { IsValid tables.now }
     ensures pools { IfOk result (λ pools. ArePooled tables.now pools.0 pools.1) }
@@ -22,8 +22,8 @@ fn pools(alloc: Global, tables: &Tables) -> Result<(TextPool, Numbering), PlanEr
     Ok(pools_of_tables(alloc, tables)?)
 }
 
-/// The plan of the canonical root of a model, where that has at most so many bytes. The memory that
-/// it takes is that of the pools and of a number a cell.
+/// The plan of the canonical root of a model, if that root has at most `limit` bytes. It allocates the pools and one
+/// number per column of each row.
 pub fn plan_of(alloc: Global, model: &Model, limit: u32) -> Result<RootPlan<'_>, PlanError>
     requires { limit ≤ 2 ^ 30 }
     ensures plan { IfOk result (λ plan. IsRootPlan model.now plan) }

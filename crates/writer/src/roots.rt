@@ -12,14 +12,14 @@ use prepared::WriteError;
 use sinks::Sink;
 use std::alloc::Global;
 
-/// The most bytes of a root.
+/// The largest length of a root in bytes.
 const ROOT_LIMIT: u32 = 1 << 30;
 
-/// The canonical root of a model, where it has at most so many bytes.
+/// The canonical root of a model, if it has at most `limit` bytes.
 ///
 /// # Errors
 ///
-/// `TooLarge` where the canonical root is longer than the limit, or `Memory` where memory was refused.
+/// `TooLarge` if the canonical root is longer than the limit, or `Memory` if out of memory.
 pub fn write_root_within(alloc: Global, model: &Model, limit: u32) -> Result<Vec<u8>, WriteError>
     requires { limit ≤ 2 ^ 30 }
     ensures root { IfOk result (λ root. root.items ≡ canonical model.now) }
@@ -41,7 +41,7 @@ pub fn write_root_within(alloc: Global, model: &Model, limit: u32) -> Result<Vec
 ///
 /// # Errors
 ///
-/// `TooLarge` where the canonical root has more than 2^30 bytes, or `Memory` where memory was refused.
+/// `TooLarge` if the canonical root has more than 2^30 bytes, or `Memory` if out of memory.
 pub fn write_root(alloc: Global, model: &Model) -> Result<Vec<u8>, WriteError>
     ensures root { IfOk result (λ root. root.items ≡ canonical model.now) }
     ensures within { IfOk result (λ root. length root.items ≤ 2 ^ 30) }
@@ -53,19 +53,19 @@ pub fn write_root(alloc: Global, model: &Model) -> Result<Vec<u8>, WriteError>
     write_root_within(alloc, model, ROOT_LIMIT)
 }
 
-/// Gives out the canonical root of a model. All memory is taken before the first byte goes out.
+/// Sends the canonical root of a model. All memory is allocated before the first byte is sent.
 ///
 /// # Errors
 ///
-/// `TooLarge` where the canonical root has more than 2^30 bytes, `Memory` where memory was refused: no
-/// byte went out. `Device` where the sink failed, which ends the call.
+/// `TooLarge` if the canonical root has more than 2^30 bytes, `Memory` if out of memory; then no byte was sent.
+/// `Device` if the sink failed, which ends the call.
 pub fn write_root_to<W: Sink>(alloc: Global, model: &Model, sink: &mut W) -> Result<(), WriteError>
     requires few { W.failed sink.old < 2 ^ 63 }
-    // All of the root went out, and nothing else; and no call failed.
+    // The whole root was sent, and nothing else. No call failed.
     ensures all { OnOk result (Appends (W.given sink.old) (W.given sink.new) (canonical model.now)) }
     ensures unfailed { OnOk result (W.failed sink.new ≡ W.failed sink.old) }
     ensures within { OnOk result (length (canonical model.now) ≤ 2 ^ 30) }
-    // The sink is as it was; or exactly so many of the first bytes went out, and not all, and one call failed.
+    // The sink is unchanged; or exactly the first `given` bytes were sent, and not all, and one call failed.
     ensures refused { IfErr result (MatchError
         ((2 ^ 30 < length (canonical model.now)) × (sink.new ≡ sink.old))
         (sink.new ≡ sink.old)

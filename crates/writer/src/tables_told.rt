@@ -11,7 +11,7 @@ use owned_model::Model;
 use root_plan::bit;
 use schema::{TableId, bits_are_known, key, tables_stand};
 
-/// How many rows each table has, by its number.
+/// The row count of each table, by table number.
 pub fn counts(model: &Model) -> [u32; 45]
     ensures { (table : Table) → slice_index result (table_number table) ≡ count_in model.now table }
 {

@@ -6,16 +6,16 @@ fn explains_a_fault(rt: HostRuntime) -> Result<(), Fail> {
     let guid = "\
 504 BadGuid: no GUID at an index into '#GUID'
 
-- Demand: An index into '#GUID' is 0, null, or the number of an entry of 16 bytes within the heap,
+- Rule: An index into '#GUID' is 0 for null, or the number of a 16-byte entry within the heap,
   counted from 1.
 - Section: II.24.2.5
-- Offset: That of the cell with the index.
-- Usual cause: An index that counts bytes in place of entries.
+- Offset: The cell with the index.
+- Usual cause: An index that counts bytes instead of entries.
 ";
     let limit = "\
 101 TooLong: the input has more than 2^30 bytes
 
-- Demand: A file, or with '--bare' a root, has at most 2^30 bytes. The limit is clim's own.
+- Rule: A file, or a root with '--bare', has at most 2^30 bytes. This limit is clim's own.
 - Offset: 0, the first byte.
 ";
     for (code, told) in [("504", guid), ("101", limit)] {
@@ -44,7 +44,7 @@ fn lists_all_faults(rt: HostRuntime) -> Result<(), Fail> {
         let (status, out, _) = answer(&rt, &["clim", "explain", code])?;
         assert_eq!(rt; status, 0, "{code}");
         assert_eq!(rt; out.lines().next(), Some(line));
-        assert!(rt; out.contains("\n\n- Demand: "));
+        assert!(rt; out.contains("\n\n- Rule: "));
         assert!(rt; out.contains("\n- Offset: "));
         for told in out.lines() {
             assert!(rt; told.len() <= 100, "{told}");

@@ -12,7 +12,7 @@ use crate::read_header::{ClimDirectory, ClimHeader};
 use cli_header::{CliHeader, DataDirectory};
 use opening::read_heads;
 
-/// A directory, for C.
+/// A directory as a C caller receives it.
 fn told_directory(directory: DataDirectory) -> ClimDirectory
     ensures { directory_of result ≡ directory }
 {
@@ -22,7 +22,7 @@ fn told_directory(directory: DataDirectory) -> ClimDirectory
     }
 }
 
-/// A header, for C.
+/// A header as a C caller receives it.
 fn told_header(header: &CliHeader) -> ClimHeader
     ensures { header_of result ≡ header.now }
 {
@@ -45,10 +45,10 @@ fn told_header(header: &CliHeader) -> ClimHeader
     }
 }
 
-/// Reads the CLI header of a file (II.25.3.3), where what stands before the streams meets all demands; else
-/// the first that it does not meet, and the header stays.
+/// Reads the CLI header of a file (II.25.3.3), if all headers before the streams meet their rules. Otherwise it writes
+/// the fault of the first rule that fails, and the header is unchanged.
 ///
-/// Tables, heaps and signatures are not looked at.
+/// It does not look at tables, heaps or signatures.
 #[unsafe(no_mangle)]
 pub extern "C" fn clim_read_header(
     file: &[u8],

@@ -8,7 +8,7 @@ use crate::subcommands::{reader, second};
 use clap::Command;
 use std::alloc::{AllocError, Global};
 
-/// The words of the subcommand and its help.
+/// The arguments of the subcommand and its help.
 pub(crate) fn command<'a>(alloc: Global) -> Result<Command<'a>, AllocError>
     ensures app { IfOk result (λ command. app_of command ≡ line.token) }
     ensures local { IfOk result (λ command. (fields_of command).has_globals ≡ false) }
@@ -16,18 +16,18 @@ pub(crate) fn command<'a>(alloc: Global) -> Result<Command<'a>, AllocError>
     reader(
         alloc,
         "token",
-        "Prints the row or the user string that a token names",
+        "Print the row or the user string that a token names",
         OUTPUT,
     )?
     .arg(second(alloc, "HEX", "The token: one to eight hexadecimal digits"))
 }
 
 const OUTPUT: &str = "\
-The high byte of HEX is the number of a table and the rest a row (ECMA-335, III.1.9); the line is that of
-'clim show'. The high byte 70 names an offset in the user strings (II.24.2.4); the line is then 'user TEXT
-FLAG', where each unit that is not printable ASCII, and each backslash, stands as \\u and four hexadecimal
-digits, and FLAG is the last byte; or 'user' alone of an entry of no bytes. FILE is checked first, as
-'clim check' does it.
+The high byte of HEX is the number of a table, and the other bytes are a row (ECMA-335, III.1.9). The output
+is the line of that row in 'clim show'. If the high byte is 70, HEX names an offset in the user strings
+(II.24.2.4). The output is then 'user TEXT FLAG'. In TEXT, a backslash and a unit that is not printable ASCII
+become \\u and four hexadecimal digits. FLAG is the last byte. For an entry of no bytes the output is 'user'.
+FILE is checked first, as by 'clim check'.
 
 Examples:
   $ clim token --bare one_module.root 00000001

@@ -8,7 +8,7 @@ use crate::subcommands::reader;
 use clap::Command;
 use std::alloc::{AllocError, Global};
 
-/// The words of the subcommand and its help.
+/// The arguments of the subcommand and its help.
 pub(crate) fn command<'a>(alloc: Global) -> Result<Command<'a>, AllocError>
     ensures app { IfOk result (λ command. app_of command ≡ line.types) }
     ensures local { IfOk result (λ command. (fields_of command).has_globals ≡ false) }
@@ -16,15 +16,15 @@ pub(crate) fn command<'a>(alloc: Global) -> Result<Command<'a>, AllocError>
     reader(
         alloc,
         "types",
-        "Prints the types, and how many fields and methods each has",
+        "Print the types, with the number of their fields and methods",
         OUTPUT,
     )
 }
 
 const OUTPUT: &str = "\
-Each line is 'TOKEN NAME FIELDS METHODS' of a row of TypeDef (ECMA-335, II.22.37): NAME has the namespace
-and a dot before it where there is one, and its bytes stand as in the texts of 'clim show'. FILE is
-checked first, as 'clim check' does it.
+There is a line 'TOKEN NAME FIELDS METHODS' for each row of TypeDef (ECMA-335, II.22.37). NAME begins with the
+namespace and a dot, if there is a namespace, and is escaped like the texts of 'clim show'. FILE is checked
+first, as by 'clim check'.
 
 Examples:
   $ clim types --bare two_types.root

@@ -8,7 +8,7 @@ use crate::subcommands::{reader, second};
 use clap::Command;
 use std::alloc::{AllocError, Global};
 
-/// The words of the subcommand and its help.
+/// The arguments of the subcommand and its help.
 pub(crate) fn command<'a>(alloc: Global) -> Result<Command<'a>, AllocError>
     ensures app { IfOk result (λ command. app_of command ≡ line.rewrite) }
     ensures local { IfOk result (λ command. (fields_of command).has_globals ≡ false) }
@@ -16,18 +16,19 @@ pub(crate) fn command<'a>(alloc: Global) -> Result<Command<'a>, AllocError>
     reader(
         alloc,
         "rewrite",
-        "Writes the canonical metadata root of a file",
+        "Write the canonical metadata root of a file",
         OUTPUT,
     )?
     .arg(second(alloc, "OUT", "The file to write"))
 }
 
 const OUTPUT: &str = "\
-OUT is made, or emptied, once FILE was read whole and checked as 'clim check' does it, and the root is
-ready: it may be FILE, and a FILE that is refused, also where the root is too long (fault 901), leaves
-OUT as it was. The root is a metadata root alone, which '--bare' reads: the one spelling of what FILE's
-metadata says, with the heaps in order of first use, each text, blob and GUID once, and the narrowest
-indexes (ECMA-335, II.24.2). Methods' bodies and resources are not in it.
+OUT becomes a metadata root without a PE file, which '--bare' reads. The canonical root is the one encoding of
+FILE's metadata that has the heaps in order of first use, each text, blob and GUID once, and the narrowest
+indexes (ECMA-335, II.24.2). Method bodies and resources are not in it.
+
+FILE is read and checked first, as by 'clim check'. OUT is created or truncated when the root is ready, so it
+may be FILE. If FILE is refused or the root is too long (fault 901), OUT is not changed.
 
 Examples:
   $ clim rewrite one_module.dll out.root

@@ -8,21 +8,25 @@ use crate::subcommands::reader;
 use clap::Command;
 use std::alloc::{AllocError, Global};
 
-/// The words of the subcommand and its help.
+/// The arguments of the subcommand and its help.
 pub(crate) fn command<'a>(alloc: Global) -> Result<Command<'a>, AllocError>
     ensures app { IfOk result (λ command. app_of command ≡ line.show) }
     ensures local { IfOk result (λ command. (fields_of command).has_globals ≡ false) }
 {
-    reader(alloc, "show", "Prints the rows of all tables", OUTPUT)
+    reader(alloc, "show", "Print the rows of all tables", OUTPUT)
 }
 
 const OUTPUT: &str = "\
-The lines are, for each table that has rows (ECMA-335, II.22), 'table NN NAME COUNT', where NN is the
-table's number in hexadecimal, and then each row: its number and its cells. A text stands in quotes,
-each byte of it that is not printable ASCII, and each quote and backslash, as \\x and two hexadecimal
-digits; bytes and signatures (II.23.2) in hexadecimal between < and >, a signature in its shortest
-spelling, a GUID in braces, a reference as the token of its row, and the start of a run of members as +
-and a row. Where there is no GUID or row, 'null' stands. FILE is checked first, as 'clim check' does it.
+For each table that has rows (ECMA-335, II.22) there is a line 'table NN NAME COUNT', with the number NN of the
+table in hexadecimal. Then there is a line for each row: its number and its cells. A cell is one of these:
+  \"..\"  a text; a quote, a backslash and a byte that is not printable ASCII become \\x and two hexadecimal
+        digits
+  <..>  bytes in hexadecimal, or a signature in its canonical encoding (II.23.2)
+  {..}  a GUID
+  +N    the row N where a run of members starts
+  null  no GUID, or no row
+  a decimal number, or the token of a row in eight hexadecimal digits
+FILE is checked first, as by 'clim check'.
 
 Examples:
   $ clim show --bare one_module.root

@@ -2,7 +2,7 @@ use Rattle.std.proofs.Common.{◌≡◌, ◌≤◌, ◌++◌, length, take}
 use Rattle.std.specs.List.{SameFrom}
 use Rattle.clim_c.proofs.look_ups.write_rows.Given as goal
 
--- the rows so far are the first that were found
+-- the rows written so far are the first ones that were found
 abbrev pub invariant-loop-row : goal.invariant-loop-row
 invariant-loop-row l = record {
   left : l.fn.found.rows ≡ take l.count l.rows ++ l.row-iterator.rows;

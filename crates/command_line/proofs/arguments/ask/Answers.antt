@@ -22,7 +22,7 @@ clim_is_free : is_simple_and_free clim ≡ true
 unfolding clap_on_literals
 clim_is_free = refl
 
--- an error that `clap` makes has the kind of its first fault
+-- an error from `clap` has the kind of its first fault
 refused_by : (a : App) (words : List Text) (e : Error) → a ≡ clim → (is_simple_and_free a ≡ true → HasKind (fault_of a words) e) → HasKind (fault_of clim words) e
 refused_by a words e same fails = subst (λ (b : App). HasKind (fault_of b words) e) same (fails (ap is_simple_and_free same ∙ clim_is_free))
 
@@ -36,7 +36,7 @@ returns-clause-refused c =
     subst (λ (a : App). fault_of a (map (λ word. word.now) c.args.words.now) ≡ []) c.in_ok-command.ensures
     (c.in_ok-matches.ensures.kinds (ap is_simple_and_free c.in_ok-command.ensures ∙ clim_is_free))
 
--- the subcommand that `clap` gives for the words, and what it gives to its arguments
+-- the subcommand that `clap` finds in the arguments, and the values that it gives to the subcommand's arguments
 entered_by : (a : App) (texts : List Text) (m : ArgMatches) (name : Text) (rows : List Row) → a ≡ clim → HasMatchesOf a texts m
     → subcommand_name_of m ≡ Some name → option_map (λ p. p.1) (subcommand_rows_of m) ≡ Some rows → subcommand_of clim texts ≡ Some (name, rows)
 entered_by a texts m name rows same has named given =
@@ -79,7 +79,7 @@ returns-clause-given c =
       code = c.get_str-3.ensures ∙ first_value-rows found (codes "CODE");
     }
 
--- each value that the subcommand takes is there
+-- each value that the subcommand needs is there
 values_there : (c : goal.Joined-matches) → fault_of clim (map (λ word. word.now) c.args.words.now) ≡ []
     → AllThere (values_in c.unwrap.result.0.now) (rows_of (found_of c.unwrap.result.1.now))
 values_there c none = has_values (map (λ word. word.now) c.args.words.now) _ (rows_of (found_of c.unwrap.result.1.now)) none (entered c)
@@ -92,7 +92,7 @@ returns-clause-file c = λ other.
     some_mapped (λ s. s.now) c.get_str.result (first_of (codes "FILE") (rows_of found)) (c.get_str.ensures ∙ first_value-rows found (codes "FILE"))
     (file_first c.unwrap-2.result (rows_of found) other there)
 
--- the second value is there, where the words name a subcommand that takes one
+-- the second value is there if the arguments name a subcommand that needs one
 second_there : (c : goal.Joined-matches) (name : Text) → c.unwrap.result.0.now ≡ name → values_in name ≡ codes "FILE" ∷ codes "second" ∷ []
     → fault_of clim (map (λ word. word.now) c.args.words.now) ≡ [] → IsSome c.get_str-2.result
 second_there c name is takes none =

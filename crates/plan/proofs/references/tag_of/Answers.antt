@@ -23,7 +23,7 @@ few_tags coded.CustomAttributeType = omega arith
 few_tags coded.ResolutionScope = omega arith
 few_tags coded.TypeOrMethodDef = omega arith
 
--- whether a tag is of the table, told of the tables of the index
+-- whether a tag is that of the table, for the tables of the index
 tag_is : (listed tables : List (Option TableId)) (tag : ℕ) (table : TableId) (told answer : Bool) → listed ≡ tables → told ≡ is_table table (get_or listed tag None)
     → told ≡ answer → is_table table (get_or tables tag None) ≡ answer
 tag_is listed tables tag table told answer same is said = sym (is ∙ ap (λ (list : List (Option TableId)). is_table table (get_or list tag None)) same) ∙ said

@@ -4,7 +4,7 @@ use Rattle.canonical.specs.Canonical.{ended}
 use Rattle.put.specs.Heading.{header_length}
 use Rattle.put.proofs.heading.heading_len.Given as goal
 
--- with the headers that are left it is the whole
+-- together with the headers that are left this is the whole length
 abbrev pub invariant-loop-kind : goal.invariant-loop-kind
 invariant-loop-kind l = record {
   whole : l.len + sum_by header_length (drop l.kind-index l.kinds) ≡ 20 + length (ended l.version) + sum_by header_length l.kinds;

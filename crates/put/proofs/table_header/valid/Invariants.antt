@@ -4,6 +4,6 @@ use Rattle.schema.specs.LaidOut.{bits_of}
 use Rattle.put.specs.TableHeader.{is_counted}
 use Rattle.put.proofs.table_header.valid.Given as goal
 
--- with the bits of the tables that are left it is the whole
+-- together with the bits of the tables that are left this is the whole
 abbrev pub invariant-loop-table : goal.invariant-loop-table
 invariant-loop-table l = l.valid + bits_of (is_counted l.layout) (drop l.table-index tables) ≡ bits_of (is_counted l.layout) tables

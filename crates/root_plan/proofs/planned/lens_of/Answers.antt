@@ -11,7 +11,7 @@ use Rattle.root_plan.proofs.PlanLemmas.{sizes_are, tables_over}
 use Rattle.root_plan.proofs.planned.lens_of.Goals as goal
 use Rattle.root_plan.proofs.planned.lens_of.Goals.{After-root_len-len}
 
--- the sizes of the streams that are measured
+-- the stream sizes that were computed
 abbrev sizes_of_streams : After-root_len-len → StreamSizes
 sizes_of_streams c = record {
   tables = c.filled_len.result;

@@ -5,14 +5,14 @@ use Rattle.std.proofs.KnownBytes.{Appends-trans}
 use Rattle.std.specs.Io.KnownBytes.{Appends}
 use Rattle.sinks.proofs.send.send_all.Goals as goal
 
--- what was offered from a place on goes out behind what stands before it
+-- the bytes offered from an index on are sent after those before it
 more_given : (old middle new : Option (List ℕ)) (bytes rest : List ℕ) (given taken : ℕ) → rest ≡ drop given bytes
     → Appends old middle (take given bytes) → Appends middle new (take taken rest) → Appends old new (take (given + taken) bytes)
 more_given old middle new bytes rest given taken is first second =
     rw (take-add given taken bytes) (Appends-trans old middle new (take given bytes) (take taken (drop given bytes)) first
     (subst (λ list. Appends middle new (take taken list)) is second))
 
--- a call that took some bytes did not fail
+-- a call that accepted some bytes did not fail
 not_failed : (taken before failed after : ℕ) → (taken ≡ 0 → ⊥) → failed ≡ before → after ≡ failed + cond (eqb taken 0) 1 0 → after ≡ before
 not_failed taken before failed after some same counted =
     let no : eqb taken 0 ≡ false = grind (arith, nat_tests) in

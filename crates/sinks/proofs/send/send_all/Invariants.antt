@@ -2,7 +2,7 @@ use Rattle.std.proofs.Common.{length, ◌-◌, ◌≡◌, ◌≤◌, take}
 use Rattle.std.specs.Io.KnownBytes.{Appends}
 use Rattle.sinks.proofs.send.send_all.Given as goal
 
--- the first bytes went out, and no call failed
+-- the first `given` bytes were sent, and no call failed
 abbrev pub invariant-loop-given : goal.invariant-loop-given
 invariant-loop-given g l = record {
   within : l.given ≤ length l.bytes;

@@ -5,7 +5,7 @@ use Rattle.plan.specs.Numbered.{numbers_in}
 use Rattle.table_plan.proofs.CountLemmas.{cells_low, more_numbers, all_numbers}
 use Rattle.table_plan.proofs.numbers.count_numbers.Goals as goal
 
--- a table has few numbers
+-- a table has at most 150994935 numbers
 few_here : (c : goal.After-count) → length c.columns.result.now * c.count.result ≤ 150994935
 few_here c =
     let table = get_or c.all-table-items.result.now c.loop-table.table-index Module in

@@ -4,7 +4,7 @@ use Rattle.schema.specs.Tables.{tables}
 use Rattle.plan.specs.Numbered.{numbers_in}
 use Rattle.table_plan.proofs.numbers.count_numbers.Given as goal
 
--- with the numbers of the tables that are left it is the whole
+-- together with the numbers of the tables that are left this is the whole
 abbrev pub invariant-loop-table : goal.invariant-loop-table
 invariant-loop-table l = record {
   whole : l.count + sum_by (numbers_in l.tables) (drop l.table-index tables) ≡ sum_by (numbers_in l.tables) tables;

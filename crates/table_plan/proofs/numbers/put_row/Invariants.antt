@@ -4,7 +4,7 @@ use Rattle.cells.specs.Said.{all_said}
 use Rattle.plan.specs.Numbered.{CanBeNumbered, with_row}
 use Rattle.table_plan.proofs.numbers.put_row.Given as goal
 
--- with the columns that are left it is the whole row
+-- together with the columns that are left this is the whole row
 abbrev pub invariant-loop-column : goal.invariant-loop-column
 invariant-loop-column l = record {
   whole : with_row l.indexes (drop l.column-index l.columns) (all_said l.rest) l.numbering ≡ with_row l.indexes l.columns (all_said l.cells) l.fn.numbering;

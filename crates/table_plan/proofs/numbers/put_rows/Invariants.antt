@@ -3,7 +3,7 @@ use Rattle.std.specs.List.{AllByRecursion}
 use Rattle.plan.specs.Numbered.{CanBeNumbered, with_rows}
 use Rattle.table_plan.proofs.numbers.put_rows.Given as goal
 
--- with the rows that are left it is all of them
+-- together with the rows that are left these are all rows
 abbrev pub invariant-loop-row : goal.invariant-loop-row
 invariant-loop-row l = record {
   whole : with_rows l.indexes l.columns (drop l.row-index l.rows) l.numbering ≡ with_rows l.indexes l.columns l.rows l.fn.numbering;

@@ -5,7 +5,7 @@ use Rattle.cells.specs.Said.{all_said}
 use Rattle.canonical.specs.Pools.{texts_of}
 use Rattle.table_plan.proofs.texts.add_row.Given as goal
 
--- with the cells that are left it is the whole row
+-- together with the cells that are left this is the whole row
 abbrev pub invariant-loop-cell : goal.invariant-loop-cell
 invariant-loop-cell l =
     bytes_of l.texts.items ++ flat_map texts_of (all_said (drop l.cell-index l.cells)) ≡ bytes_of l.fn.texts.items ++ flat_map texts_of (all_said l.cells)

@@ -3,7 +3,7 @@ use Rattle.std.proofs.Math.Nat.{mul-le-mul_left, mul-le-mul_right}
 use Rattle.schema.specs.declared.table.TableId.TheVariants.{Module}
 use Rattle.view_plan.proofs.numbers.count_numbers.Goals as goal
 
--- few columns of few rows
+-- a table with at most 9 columns and 0xFFFFFF rows has at most 150994935 numbers
 cells_low : (columns count : ℕ) → columns ≤ 9 → count ≤ 0xFFFFFF → columns * count ≤ 150994935
 cells_low columns count few rows = omega (arith, mul-le-mul_right count few, mul-le-mul_left 9 rows)
 

@@ -6,7 +6,7 @@ use Rattle.plan.specs.Numbered.{with_row}
 use Rattle.view_plan.specs.Places.{IsPlaceOf}
 use Rattle.view_plan.proofs.numbers.put_row.Given as goal
 
--- with the columns that are left it is the whole row
+-- together with the columns that are left this is the whole row
 abbrev pub invariant-loop-index : goal.invariant-loop-index
 invariant-loop-index l = record {
   whole : (model : Metadata) → IsModel l.view model

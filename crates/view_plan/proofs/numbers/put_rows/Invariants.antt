@@ -5,7 +5,7 @@ use Rattle.metadata.specs.Model.{IsModel}
 use Rattle.plan.specs.Numbered.{with_rows}
 use Rattle.view_plan.proofs.numbers.put_rows.Given as goal
 
--- with the rows that are left it is all of them
+-- together with the rows that are left these are all rows
 abbrev pub invariant-loop-row : goal.invariant-loop-row
 invariant-loop-row l =
     (model : Metadata) → IsModel l.view model

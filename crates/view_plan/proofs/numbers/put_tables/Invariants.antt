@@ -5,7 +5,7 @@ use Rattle.metadata.specs.Model.{IsModel}
 use Rattle.plan.specs.Numbered.{with_tables}
 use Rattle.view_plan.proofs.numbers.put_tables.Given as goal
 
--- with the tables that are left it is all of them
+-- together with the tables that are left these are all tables
 abbrev pub invariant-loop-table : goal.invariant-loop-table
 invariant-loop-table l =
     (model : Metadata) → IsModel l.view model

@@ -6,7 +6,7 @@ use Rattle.metadata.specs.Model.{IsModel}
 use Rattle.canonical.specs.Pools.{texts_of}
 use Rattle.view_plan.proofs.texts.add_row.Given as goal
 
--- with the texts of the first cells
+-- the texts of the first cells were added
 abbrev pub invariant-loop-place : goal.invariant-loop-place
 invariant-loop-place l =
     (model : Metadata) → IsModel l.view model

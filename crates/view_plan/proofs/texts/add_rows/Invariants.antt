@@ -6,7 +6,7 @@ use Rattle.metadata.specs.Model.{IsModel}
 use Rattle.canonical.specs.Pools.{texts_of}
 use Rattle.view_plan.proofs.texts.add_rows.Given as goal
 
--- with the texts of the first rows
+-- the texts of the first rows were added
 abbrev pub invariant-loop-row : goal.invariant-loop-row
 invariant-loop-row l =
     (model : Metadata) → IsModel l.view model

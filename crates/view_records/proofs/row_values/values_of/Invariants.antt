@@ -4,7 +4,7 @@ use Rattle.metadata.specs.Model.{IsModel}
 use Rattle.view_records.specs.RefRows.{IsShown}
 use Rattle.view_records.proofs.row_values.values_of.Given as goal
 
--- the values so far show their cells
+-- the values so far equal their cells
 abbrev pub invariant-loop-place : goal.invariant-loop-place
 invariant-loop-place l = record {
   long : length l.values ≡ 9;

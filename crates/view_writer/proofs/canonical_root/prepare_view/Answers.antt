@@ -7,7 +7,7 @@ use Rattle.prepared.specs.declared.error.WriteError.{WriteError}
 use Rattle.prepared.specs.declared.error.WriteError.TheVariants.{Memory}
 use Rattle.view_writer.proofs.canonical_root.prepare_view.Goals as goal
 
--- want of memory tells nothing
+-- `Memory` says nothing about the root
 refused : {T : Type 0} (result : Result T WriteError) (P : Type 0) → IsErrAnd result (λ error. error ≡ Memory) → IfErr result (MatchError P ⊤ (λ given. ⊥))
 refused (Ok value) P is = tt
 refused (Err error) P is =

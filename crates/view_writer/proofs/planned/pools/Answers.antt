@@ -7,7 +7,7 @@ use Rattle.root_plan.specs.declared.plan_error.PlanError.TheVariants.{TooLarge}
 use Rattle.root_plan.specs.Planned.{plan_error}
 use Rattle.view_writer.proofs.planned.pools.Goals as goal
 
--- a root is told too large where a pool is full alone
+-- `TooLarge` is returned only if a pool is full
 told : {T : Type 0} (result : Result T PlanError) (pool : PoolError) (Q : Type 0) → IsErrAnd result (λ error. error ≡ plan_error pool) → result ≡ Err TooLarge
     → (pool ≡ Full → Q) → Q
 told (Ok value) pool Q gives large full = absurd cc

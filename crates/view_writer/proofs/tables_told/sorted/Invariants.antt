@@ -6,6 +6,6 @@ use Rattle.metadata.specs.Model.{IsModel}
 use Rattle.canonical.specs.TableStream.{is_sorted}
 use Rattle.view_writer.proofs.tables_told.sorted.Given as goal
 
--- with the bits of the tables that are left it is the whole
+-- together with the bits of the tables that are left this is the whole
 abbrev pub invariant-loop-table : goal.invariant-loop-table
 invariant-loop-table l = (model : Metadata) → IsModel l.view model → l.sorted + bits_of (is_sorted model) (drop l.table-index tables) ≡ bits_of (is_sorted model) tables

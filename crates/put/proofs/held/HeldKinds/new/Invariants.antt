@@ -2,7 +2,7 @@ use Rattle.std.proofs.Common.{◌≡◌, ◌≤◌, ◌++◌, length, ltb, filte
 use Rattle.put.specs.Heading.{size_of, kinds_in_order, held}
 use Rattle.put.proofs.held.HeldKinds.new.Given as goal
 
--- with those that are left it is the whole
+-- together with the kinds that are left these are all
 abbrev pub invariant-loop-kind : goal.invariant-loop-kind
 invariant-loop-kind l = record {
   whole : take l.count l.kinds ++ filter (λ kind. ltb 0 (size_of l.sizes kind)) (drop l.kind-index kinds_in_order) ≡ held (size_of l.sizes);

@@ -4,7 +4,7 @@ use Rattle.schema.specs.LaidOut.{counts_bytes}
 use Rattle.put.specs.TableHeader.{is_counted}
 use Rattle.put.proofs.writer.Writer.put_counts.Given as goal
 
--- with the counts that are left it is the whole
+-- together with the counts that are left this is the whole
 abbrev pub invariant-loop-table : goal.invariant-loop-table
 invariant-loop-table l = record {
   bytes : l.self.bytes ++ counts_bytes (is_counted l.layout) l.layout (drop l.table-index tables) ≡ l.fn.self.bytes ++ counts_bytes (is_counted l.layout) l.layout tables;

@@ -3,7 +3,7 @@ use Rattle.std.specs.Prelude.{sum_by}
 use Rattle.put.specs.Heading.{size_of, sized_directory}
 use Rattle.put.proofs.writer.Writer.put_directory.Given as goal
 
--- with the headers of the streams that are left it is the whole
+-- together with the headers of the streams that are left this is the whole
 abbrev pub invariant-loop-kind : goal.invariant-loop-kind
 invariant-loop-kind l = record {
   bytes : l.self.bytes ++ sized_directory (size_of l.sizes) l.offset (drop l.kind-index l.kinds) ≡ l.fn.self.bytes ++ sized_directory (size_of l.sizes) l.first l.kinds;

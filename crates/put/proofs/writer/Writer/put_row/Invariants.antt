@@ -4,7 +4,7 @@ use Rattle.schema.specs.LaidOut.{row_bytes}
 use Rattle.put.proofs.RowLemmas.{IsPutting}
 use Rattle.put.proofs.writer.Writer.put_row.Given as goal
 
--- with the columns that are left it is the whole row
+-- together with the columns that are left this is the whole row
 abbrev pub invariant-loop-column : goal.invariant-loop-column
 invariant-loop-column l =
     IsPutting l.fn.self l.self (row_bytes l.layout (drop l.column (columns_of l.table)) (drop l.column l.numbers)) (row_bytes l.layout (columns_of l.table) l.numbers)

@@ -6,7 +6,7 @@ use Rattle.put.specs.Flat.{rows_in, table_in}
 use Rattle.put.proofs.RowLemmas.{IsPutting}
 use Rattle.put.proofs.writer.Writer.put_rows.Given as goal
 
--- with the rows that are left it is the whole table
+-- together with the rows that are left this is the whole table
 abbrev pub invariant-loop-row : goal.invariant-loop-row
 invariant-loop-row l = record {
   putting : IsPutting l.fn.self l.self (rows_bytes l.layout (columns_of l.table) (rows_in (length (columns_of l.table)) (count_of l.layout l.table - l._row) l.rest))

@@ -6,7 +6,7 @@ use Rattle.put.proofs.RowLemmas.{IsPutting}
 use Rattle.put.proofs.TableLemmas.{bytes_in}
 use Rattle.put.proofs.writer.Writer.put_tables.Given as goal
 
--- with the tables that are left it is the whole
+-- together with the tables that are left this is the whole
 abbrev pub invariant-loop-table : goal.invariant-loop-table
 invariant-loop-table l = record {
   putting : IsPutting l.fn.self l.self (bytes_in l.layout (drop l.table-index tables) l.rest) (bytes_in l.layout tables l.numbers);

@@ -16,7 +16,7 @@ use Rattle.root_plan.proofs.PlanLemmas.{counts_are, body_is, sorted_is, stream_i
 use Rattle.root_plan.proofs.tables_plan.TablesPlan.of.Goals as goal
 use Rattle.root_plan.proofs.tables_plan.TablesPlan.of.Goals.{After-row_start-len}
 
--- each table has as many rows as in the model
+-- each table has the row count of the model
 each : (c : After-row_start-len) (model : Metadata) → Describes c.args.outline.now model → (table : TableId) → count_of c.of-layout.result table ≡ count_in model table
 each c model described table = c.of-layout.ensures.each table ∙ described.counts table
 

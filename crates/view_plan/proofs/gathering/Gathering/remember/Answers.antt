@@ -8,7 +8,7 @@ use Rattle.view_plan.proofs.KnownLemmas.{Met, AllKnown, known_inserted}
 use Rattle.view_plan.proofs.gathering.Gathering.remember.Goals as goal
 use Rattle.view_plan.proofs.gathering.Gathering.remember.Goals.{then-ne, else-ne}
 
--- what is known is of the kind
+-- all known blobs are of this kind
 record IsTurned (before after : Inside) (kind : SigKind) : Type 0 where
   of_kind : after.kind ≡ kind
   same : after.numbering ≡ before.numbering
@@ -29,7 +29,7 @@ kept before after kind is of_kind known = record {
       (subst (λ (k : SigKind). AllKnown k before.numbering.blobs before.known.entries) of_kind known);
 }
 
--- the invariant of the fields, by what the map has
+-- the invariant of the fields, by the entries of the map
 holds : (before after : Inside) (kind : SigKind) (entries : List Met) → IsTurned before after kind → AllKnown kind before.numbering.blobs entries
     → AllKnown after.kind after.numbering.blobs entries
 holds before after kind entries turned known =
