@@ -1,5 +1,7 @@
+pub mod Apart
 pub mod Before
 pub mod Columns
+pub mod Ended
 pub mod Numbers
 pub mod OrderLemmas
 pub mod Orders
@@ -8,5 +10,7 @@ pub mod Spellings
 pub mod Spending
 pub mod Starts
 pub mod Sums
+pub mod TextLemmas
 pub mod Verdicts
+pub mod Walks
 pub mod Within

@@ -1,13 +1,34 @@
 -- The numbers in slots.
-use Rattle.std.proofs.Common.{◌≡◌, ℕ, ◌+◌, ◌<◌, ◌≤◌, replicate, sym, subst, ◌∙◌, inl, inr, arith}
-use Rattle.std.proofs.lemmas.Bool.{cases_eq}
-use Rattle.std.proofs.lemmas.List.{get_or-replicate, length-replicate}
-use Rattle.checks.specs.Passed.{Keeps}
+use Rattle.std.proofs.Common.{◌≡◌, ◌≢◌, ℕ, ◌+◌, ◌<◌, ◌≤◌, ◌%◌, ◌/◌, List, length, replicate, slice_index, slice_set, sym, subst, ◌∙◌, inl, inr, arith}
+use Rattle.std.proofs.lemmas.Bool.{cases_eq, cases_lt}
+use Rattle.std.proofs.lemmas.Bool.Decides.{nat_tests}
+use Rattle.std.proofs.lemmas.Grind.{get_or-set_at}
+use Rattle.std.proofs.lemmas.List.{get_or-replicate, get_or-set_other, get_or_past, length-replicate}
+use Rattle.checks.specs.Passed.{Keeps, no_slots}
+
+-- each of the empty slots holds 0
+pub none_filled : (slot : ℕ) → slice_index (replicate 1024 0) slot ≡ 0
+none_filled slot = elim (cases_lt slot 1024) [
+  | inl within ↦ get_or-replicate 1024 slot 0 0 within
+  | inr past ↦ get_or_past (replicate 1024 0) slot 0 (omega (arith, length-replicate {A = ℕ} 1024 0))
+]
+
+-- what holds of what is in each slot, and of one more
+pub slots_more : (P : ℕ → ℕ → Type 0) (starts : List ℕ) (slot start : ℕ) → slot < length starts → P slot start
+    → ((k : ℕ) → slice_index starts k ≢ 0 → P k (slice_index starts k))
+    → (k : ℕ) → slice_index (slice_set starts slot start) k ≢ 0 → P k (slice_index (slice_set starts slot start) k)
+slots_more P starts slot start within here before k some =
+    elim (cases_eq k slot) [
+      | inl same ↦ rw (get_or-set_at starts slot k start 0 same within) (subst (λ j. P j start) (sym same) here)
+      | inr other ↦ rw (get_or-set_other starts slot k start 0 other) (before k (λ none. some (get_or-set_other starts slot k start 0 other ∙ none)))
+    ]
 
 -- empty slots keep no number
-pub none_kept : (slots number : ℕ) → ¬ Keeps (replicate slots 0) number
-none_kept slots number (other, (k, within, is)) =
-    other (sym is ∙ get_or-replicate slots k 0 number (omega (arith, length-replicate {A = ℕ} slots 0)))
+pub none_kept : (bytes number : ℕ) → ¬ Keeps (no_slots bytes) number
+none_kept bytes number keeps =
+    let recent = none_filled (number % 1024) in
+    let long = none_filled (number / (bytes / 1024 + 1) % 1024) in
+    grind (arith, nat_tests)
 
 -- a property of the numbers of the rows before one, and of that row's number
 pub one_more : (P : ℕ → Type 0) (value : ℕ → ℕ) (row number : ℕ) → ((r : ℕ) → 1 ≤ r → r < row → P (value r)) → number ≡ value row → P number

@@ -1,8 +1,8 @@
 -- Spending a budget, step by step.
-use Rattle.std.proofs.Common.{◌≡◌, ℕ, ◌+◌, ◌-◌, ◌<◌, ◌≤◌, refl, subst, arith}
+use Rattle.std.proofs.Common.{ℕ, ◌+◌, ◌<◌, ◌≤◌, refl, arith}
 use Rattle.checks.specs.declared.budget.Budget.{Budget}
 use Rattle.checks.specs.declared.budget.Budget.TheVariants.{Unbounded, Left}
-use Rattle.checks.specs.Budgets.{IsBelow, Spends}
+use Rattle.checks.specs.Budgets.{IsBelow, Takes, Spends}
 use Rattle.checks.specs.Signatures.{sum_below}
 use Rattle.checks.proofs.Sums.{sum_none, sum_more, sum_fewer, sum_step}
 
@@ -28,27 +28,32 @@ below_more Unbounded (Left l) m n before below = cc
 below_more (Left k) Unbounded m n before below = absurd before
 below_more (Left k) (Left l) m n before below = omega arith
 
-below_within : (a : Budget) (m n : ℕ) → m ≤ n → IsBelow a m → IsBelow a n
+pub below_within : (a : Budget) (m n : ℕ) → m ≤ n → IsBelow a m → IsBelow a n
 below_within Unbounded m n more below = below
 below_within (Left k) m n more below = omega arith
 
--- what is spent over rows, with the number of bytes of each
-module _ (f : ℕ → ℕ) (row count : ℕ) (first : 1 ≤ row) (last : row ≤ count) (a b : Budget) (spent : Spends a b (sum_below f (row - 1))) where
-  step : sum_below f (row - 1) + f (row - 1) ≤ sum_below f count
-  step = sum_step f (row - 1) count (omega arith)
+pub takes_none : (budget : Budget) → Takes budget budget 0
+takes_none Unbounded = refl
+takes_none (Left left) = omega arith
 
-  -- the row is read, or not, or too few bytes are left for it
-  pub row_walked : (c : Budget) (bytes : ℕ) → f (row - 1) ≡ bytes → Spends b c bytes → Spends a c (sum_below f (row + 1 - 1))
-  row_walked c bytes is here =
-      let next : row - 1 + 1 ≡ row + 1 - 1 = omega arith in
-      let P : ℕ → Type 0 = λ n. Spends a c (sum_below f n) in
-      subst P next (rw sum_more (spends_more a b c (sum_below f (row - 1)) (f (row - 1)) spent (rw is here)))
+pub takes_more : (a b c : Budget) (m n : ℕ) → Takes a b m → Takes b c n → Takes a c (m + n)
+takes_more Unbounded Unbounded c m n before here = here
+takes_more Unbounded (Left l) c m n before here = cc
+takes_more (Left k) Unbounded c m n before here = absurd before
+takes_more (Left k) (Left l) Unbounded m n before here = here
+takes_more (Left k) (Left l) (Left j) m n before here = omega arith
 
-  pub row_spared : Spends a b (sum_below f (row + 1 - 1))
-  row_spared = spends_within a b (sum_below f (row - 1)) (sum_below f (row + 1 - 1)) (sum_fewer f (row - 1) (row + 1 - 1) (omega arith)) spent
+pub below_taken : (a b : Budget) (m n : ℕ) → Takes a b m → IsBelow b n → IsBelow a (m + n)
+below_taken Unbounded Unbounded m n before below = below
+below_taken Unbounded (Left l) m n before below = cc
+below_taken (Left k) Unbounded m n before below = absurd before
+below_taken (Left k) (Left l) m n before below = omega arith
 
-  pub row_refused : IsBelow b (f (row - 1)) → IsBelow a (sum_below f count)
-  row_refused below = below_within a (sum_below f (row - 1) + f (row - 1)) (sum_below f count) step (below_more a b (sum_below f (row - 1)) (f (row - 1)) spent below)
+-- what is taken is spent
+pub taken_within : (a b : Budget) (m n : ℕ) → m ≤ n → Takes a b m → Spends a b n
+taken_within Unbounded b m n more taken = taken
+taken_within (Left k) Unbounded m n more taken = taken
+taken_within (Left k) (Left l) m n more taken = omega arith
 
 -- nothing is spent over no parts
 pub parts_none : (f : ℕ → ℕ) (budget : Budget) → Spends budget budget (sum_below f 0)

@@ -14,6 +14,12 @@ abbrev pub IsBelow : Budget → ℕ → Type 0
 IsBelow Unbounded bytes = ⊥
 IsBelow (Left left) bytes = left < bytes
 
+-- one budget is what is left of another, of which exactly these bytes were spent
+abbrev pub Takes : Budget → Budget → ℕ → Type 0
+Takes Unbounded after bytes = after ≡ Unbounded
+Takes (Left left) Unbounded bytes = ⊥
+Takes (Left left) (Left after) bytes = left ≡ after + bytes
+
 -- the second budget is what is left of the first, after at most this number of bytes was spent
 abbrev pub Spends : Budget → Budget → ℕ → Type 0
 Spends Unbounded after bytes = after ≡ Unbounded

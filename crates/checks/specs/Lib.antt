@@ -4,3 +4,5 @@ pub mod Orders
 pub mod Runs
 pub mod Passed
 pub mod Signatures
+pub mod Texts
+pub mod Walks

@@ -16,11 +16,11 @@ pub enum Budget {
 
 impl Budget {
     ghost use Rattle.std.specs.Prelude.{OnSome, IfNone};
-    ghost use Rattle.checks.specs.Budgets.{Spends, IsBelow};
+    ghost use Rattle.checks.specs.Budgets.{Takes, IsBelow};
 
     /// Subtracts the bytes of a blob that will be read; `None` if fewer are left.
     pub(crate) fn spend(&mut self, bytes: usize) -> Option<()>
-        ensures spends { OnSome result (Spends self.old self.new bytes) }
+        ensures takes { OnSome result (Takes self.old self.new bytes) }
         ensures spent { IfNone result (IsBelow self.old bytes) }
     {
         if let Budget::Left(left) = *self {

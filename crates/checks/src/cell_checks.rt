@@ -1,14 +1,15 @@
-ghost use Rattle.std.specs.Prelude.{◌≡◌, ◌≤◌, ◌<◌, ◌+◌, ◌∷◌, [], ◌↔◌, ℕ, IsTrue, false, length};
+ghost use Rattle.std.specs.Prelude.{◌≡◌, ◌≤◌, ◌<◌, ◌+◌, ◌∷◌, [], ◌↔◌, ℕ, IsTrue, Ok, false, length};
 ghost use Rattle.packed.specs.declared.code.FaultCode.TheVariants.{BadIndex, BadList};
 ghost use Rattle.packed.specs.Demand.{Answers, HoldBefore, demand};
 ghost use Rattle.schema.specs.declared.column.ColumnKind.TheVariants as kind;
 ghost use Rattle.schema.specs.Columns.{columns_of};
 ghost use Rattle.metadata.specs.Source.{rows_in};
 ghost use Rattle.reading.specs.Codes.{code_at};
-ghost use Rattle.checks.specs.Columns.{IsChecked, ColumnStands};
+ghost use Rattle.checks.specs.Columns.{AllPass, IsChecked, ColumnStands};
 ghost use Rattle.metadata.specs.Demands.{MayRefer, demands_of_number, demands_of_cell, demands_of_row, demands_of_table, demands_of_cells};
 
 use crate::column::first_refused;
+use crate::texts::Texts;
 use packed::{Fault, FaultCode};
 use reading::{Source, column_at, named_by};
 use schema::{Coded, Column, ColumnKind, TableId, columns};
@@ -18,8 +19,9 @@ pub fn check_cells(source: &Source) -> Result<(), Fault>
     ensures { Answers (demands_of_cells source.now) result }
 {
     let tables = TableId::all();
+    let mut texts = Texts::new(source.texts());
     for position in 0..tables.len() {
-        check_table(source, tables[position])?;
+        check_table(source, tables[position], &mut texts)?;
     }
     Ok(())
 }
@@ -28,10 +30,12 @@ pub fn check_cells(source: &Source) -> Result<(), Fault>
 ///
 /// A pass over the columns finds the first row with a number that does not. The rows are checked one by one
 /// only from that row on, to find its first fault.
-fn check_table(source: &Source, table: TableId) -> Result<(), Fault>
-    ensures { Answers (demands_of_table source.now table) result }
+fn check_table(source: &Source, table: TableId, texts: &mut Texts) -> Result<(), Fault>
+    requires { texts.old ≡ source.now.source.texts }
+    ensures texts { texts.new ≡ texts.old }
+    ensures answers { Answers (demands_of_table source.now table) result }
 {
-    check_rows(source, table, first_row(source, table))
+    check_rows(source, table, first_row(source, table, texts))
 }
 
 /// Checks that each number of a table stands for a cell, row by row from `first` on.
@@ -50,14 +54,16 @@ fn check_rows(source: &Source, table: TableId, first: u32) -> Result<(), Fault>
 
 /// The first row of a table with a number that stands for no cell. If there is none, one more than the last row.
 /// It reads column by column.
-fn first_row(source: &Source, table: TableId) -> u32
+fn first_row(source: &Source, table: TableId, texts: &mut Texts) -> u32
+    requires { texts.old ≡ source.now.source.texts }
+    ensures texts { texts.new ≡ texts.old }
     ensures first { 1 ≤ result }
     ensures last { result ≤ rows_in source.now.source table + 1 }
     ensures before { HoldBefore (demands_of_row source.now table) 1 result }
 {
     let mut limit = source.count(table) + 1;
     for column in 0..columns(table).len() {
-        limit = first_in_column(source, table, column, limit);
+        limit = first_in_column(source, table, column, limit, texts);
     }
     limit
 }
@@ -65,22 +71,25 @@ fn first_row(source: &Source, table: TableId) -> u32
 /// The first row before `limit` whose number in this column stands for no cell; `limit` if there is none.
 ///
 /// The column's kind is matched once, before the loop over the rows.
-fn first_in_column(source: &Source, table: TableId, column: usize, limit: u32) -> u32
+fn first_in_column(
+    source: &Source,
+    table: TableId,
+    column: usize,
+    limit: u32,
+    texts: &mut Texts,
+) -> u32
     requires column { column < length (columns_of table) }
     requires first { 1 ≤ limit }
     requires last { limit ≤ rows_in source.now.source table + 1 }
+    requires texts { texts.old ≡ source.now.source.texts }
+    ensures texts { texts.new ≡ texts.old }
     ensures first { 1 ≤ result }
     ensures last { result ≤ limit }
     ensures stands { ColumnStands source.now table result column }
 {
     match column_at(table, column).kind {
         ColumnKind::U8 | ColumnKind::U16 | ColumnKind::U32 | ColumnKind::Padding => limit,
-        ColumnKind::Text => {
-            let check = |number|
-                ensures { IsChecked source.entry.now.source kind.Text false number result }
-            { source.check_text(number) };
-            first_refused(source, table, column, limit, check)
-        }
+        ColumnKind::Text => first_without_text(source, table, column, limit, texts),
         ColumnKind::Guid => {
             let check = |number|
                 ensures { IsChecked source.entry.now.source kind.Guid false number result }
@@ -97,6 +106,39 @@ fn first_in_column(source: &Source, table: TableId, column: usize, limit: u32) -
             source, table, column, limit,
         ),
     }
+}
+
+/// The first row before a limit whose number in a column is of no text, the limit where there is none.
+///
+/// In a heap that is UTF-8 as a whole a text takes constant time.
+fn first_without_text(
+    source: &Source,
+    table: TableId,
+    column: usize,
+    limit: u32,
+    texts: &mut Texts,
+) -> u32
+    requires column { column < length (columns_of table) }
+    requires first { 1 ≤ limit }
+    requires last { limit ≤ rows_in source.now.source table + 1 }
+    requires texts { texts.old ≡ source.now.source.texts }
+    ensures texts { texts.new ≡ texts.old }
+    ensures first { 1 ≤ result }
+    ensures last { result ≤ limit }
+    ensures passed { AllPass (λ number. IsChecked source.now.source kind.Text false number (Ok tt)) source.now.source table column result }
+{
+    if source.strings().is_utf8() {
+        let check = |number|
+            ensures { IsChecked source.entry.now.source kind.Text false number result }
+        { source.check_text(number) };
+        return first_refused(source, table, column, limit, check);
+    }
+    for row in 1..limit {
+        if texts.check(source.number(table, row, column)).is_err() {
+            return row;
+        }
+    }
+    limit
 }
 
 /// The same for a column of indexes into tables; returns row 1 if the column is of another kind.

@@ -16,12 +16,15 @@ mod budget;
 mod cell_checks;
 mod column;
 mod key_order;
+mod laws;
 mod nesting;
 mod order;
 mod passed;
 mod runs;
 mod signature_checks;
 mod tables;
+mod texts;
 
 pub use budget::{BoundedError, Budget};
+pub use laws::apart_is_walked_once;
 pub use tables::{Checked, check_tables_within};

@@ -1,46 +1,70 @@
-ghost use Rattle.std.specs.Prelude.{◌≡◌, ◌⊎◌, ℕ, IsTrue};
-ghost use Rattle.checks.specs.Passed.{Keeps};
+ghost use Rattle.std.specs.Prelude.{◌≡◌, ◌≢◌, ◌⊎◌, ℕ};
+ghost use Rattle.checks.specs.Passed.{Keeps, no_slots, is_kept, keep};
 
 use std::marker::Model;
 
-/// The greatest number of numbers that are kept.
+/// The number of slots of a table, and of the parts of a heap.
 const SLOTS: usize = 1024;
 
-/// Numbers that passed a check recently. Each is in the slot of its low bits; an empty slot has 0.
+/// The numbers of blobs that a check accepted, so that it need not walk them again.
+///
+/// A blob that was just accepted is in the slot of its number's low bits. A long blob, one that ends in a later
+/// part of the heap than it begins, is in the slot of the part in which it begins too. A slot without a number has 0.
+///
+/// Of blobs that do not overlap only one leaves a part. So each of them that is longer than a part is walked once,
+/// in any order, and a repeated walk of another one reads less than a part: the heap's bytes / 1024.
 #[derive(Drop)]
 pub struct Passed {
-    numbers: [u32; 1024],
+    recent: [u32; SLOTS],
+    long: [u32; SLOTS],
+    /// The number of bytes of a part of the heap.
+    part: usize,
 }
 
 impl Model for Passed {
-    ghost use Rattle.std.specs.Prelude.{ℕ, List};
+    ghost use Rattle.std.specs.Prelude.{◌<◌};
+    ghost use Rattle.checks.specs.Passed.{Slots};
 
-    ghost Value = { List ℕ };
+    ghost Value = { Slots };
 
-    ghost view = { λ passed. passed.numbers };
+    ghost view = { λ passed. record { recent = passed.recent; long = passed.long; part = passed.part } };
+
+    ghost invariant = { λ passed. 0 < passed.part };
 }
 
 impl Passed {
-    /// No numbers.
-    pub fn none() -> Passed
-        ensures { (number : ℕ) → ¬ Keeps result number }
+    /// No numbers, for a heap of a number of bytes.
+    pub fn none(bytes: usize) -> Passed
+        ensures value { result ≡ no_slots bytes }
+        ensures none { (number : ℕ) → ¬ Keeps result number }
     {
         Passed {
-            numbers: [0; SLOTS],
+            recent: [0; SLOTS],
+            long: [0; SLOTS],
+            part: bytes / SLOTS + 1,
         }
     }
 
     /// Whether a number is kept.
     pub fn has(&self, number: u32) -> bool
-        ensures { IsTrue result → Keeps self.now number }
+        ensures { result ≡ is_kept self.now number }
     {
-        number != 0 && self.numbers[number as usize % SLOTS] == number
+        let place = number as usize;
+        number != 0
+            && (self.recent[place % SLOTS] == number
+                || self.long[place / self.part % SLOTS] == number)
     }
 
-    /// Keeps a number. It replaces any number with the same low bits.
-    pub fn keep(&mut self, number: u32)
-        ensures { (other : ℕ) → Keeps self.new other → (other ≡ number) ⊎ Keeps self.old other }
+    /// Keeps the number of a blob of a number of bytes, in place of others with the same slots.
+    pub fn keep(&mut self, number: u32, bytes: usize)
+        ensures value { self.new ≡ keep self.old number bytes }
+        ensures kept { number ≢ 0 → Keeps self.new number }
+        ensures only { (other : ℕ) → Keeps self.new other → (other ≡ number) ⊎ Keeps self.old other }
     {
-        self.numbers[number as usize % SLOTS] = number;
+        let place = number as usize;
+        self.recent[place % SLOTS] = number;
+        if bytes >= self.part - place % self.part {
+            self.long[place / self.part % SLOTS] = number;
+        }
     }
 }

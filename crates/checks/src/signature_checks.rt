@@ -1,4 +1,4 @@
-ghost use Rattle.std.specs.Prelude.{◌≡◌, ◌≤◌, ◌<◌, ◌+◌, ℕ, Ok, length, IfOk, IfSome, OnSome, IfNone};
+ghost use Rattle.std.specs.Prelude.{◌≡◌, ◌≤◌, ◌<◌, ◌+◌, ℕ, ◌-◌, Ok, length, IfOk, IfSome, OnSome, IfNone};
 ghost use Rattle.packed.specs.Demand.{Answers, HoldBefore};
 ghost use Rattle.heaps.specs.Entries.{IsBlob};
 ghost use Rattle.schema.specs.Columns.{columns_of, column_at};
@@ -9,6 +9,7 @@ ghost use Rattle.reading.specs.Codes.{code_at};
 ghost use Rattle.checks.specs.Budgets.{Spends, IsBelow, AnswersWithin};
 ghost use Rattle.checks.specs.Columns.{AllPass, IsSpelled, ColumnSpells};
 ghost use Rattle.checks.specs.Signatures.{column_bytes, table_bytes, signature_bytes};
+ghost use Rattle.checks.specs.Walks.{StopsAt, walked_bytes};
 
 use crate::budget::{BoundedError, Budget};
 use crate::passed::Passed;
@@ -107,7 +108,7 @@ fn first_in_column(
 /// The first row before `limit` whose blob breaks a rule of a signature of this kind; `limit` if there is
 /// none. `None` if the budget is spent.
 ///
-/// A number that was accepted recently is not checked again.
+/// A number that is remembered is not walked again.
 fn first_misspelled(
     source: &Source,
     table: TableId,
@@ -122,22 +123,24 @@ fn first_misspelled(
     requires last { limit ≤ rows_in source.now.source table + 1 }
     ensures found { IfSome result (λ row. (1 ≤ row) × (row ≤ limit)) }
     ensures spelled { IfSome result (AllPass (λ number. IsSpelled source.now.source (kind.Signature spelled) number (Ok tt)) source.now.source table column) }
-    ensures spends { OnSome result (Spends budget.old budget.new (column_bytes source.now.source table column)) }
-    ensures spent { IfNone result (IsBelow budget.old (column_bytes source.now.source table column)) }
+    // What is taken of the budget are the bytes that were walked, where a blob that is kept is not walked again.
+    ensures walked { IfSome result (StopsAt source.now.source table column limit budget.old budget.new) }
+    ensures spent { IfNone result (IsBelow budget.old (walked_bytes source.now.source table column (limit - 1))) }
 {
     numbers_are_read();
-    let mut accepted = Passed::none();
+    let heap = source.blobs();
+    let mut accepted = Passed::none(heap.len());
     for row in 1..limit {
         let number = source.number(table, row, column);
         if accepted.has(number) {
             continue;
         }
-        let Ok(blob) = blob(source.blobs(), number) else {
+        let Ok(blob) = blob(heap, number) else {
             return Some(row);
         };
         budget.spend(blob.len())?;
         match check_blob(source, spelled, blob) {
-            Ok(()) => accepted.keep(number),
+            Ok(()) => accepted.keep(number, blob.len()),
             Err(_) => return Some(row),
         }
     }

@@ -29,8 +29,8 @@ pub struct Checked {
 /// of signature blobs that are read.
 ///
 /// If all rules hold, it returns what it found. It does not allocate. The cost is linear in the rows and in the
-/// strings and blobs that they name. The blob of a signature is read again only if another number with the same
-/// low ten bits was accepted since. Blobs may overlap, so the sum of their lengths can grow with the square of the
+/// rows, and of the texts and blobs that they name. Of blobs that do not overlap, those that are longer than the
+/// bytes of the heap / 1024 are walked once in each column. Blobs may overlap, so that their lengths can add
 /// size of the file. The budget limits this. Each read of a blob spends its length. An invalid signature is read
 /// once more to find its fault; this read is free.
 ///

@@ -10,12 +10,12 @@ returns-in-U8-clause-stands c =
 pub returns-in-Text-clause-stands : goal.returns-in-Text-clause-stands
 returns-in-Text-clause-stands c =
     passed_stands c.args.source.now c.args.table c.args.column _ c.column_at.result c.column_at.ensures _ kind.Text c.in-Text.is
-    c.first_refused.ensures.passed (λ number passed. passed)
+    c.first_without_text.ensures.passed (λ number passed. passed)
 
 pub returns-in-Guid-clause-stands : goal.returns-in-Guid-clause-stands
 returns-in-Guid-clause-stands c =
     passed_stands c.args.source.now c.args.table c.args.column _ c.column_at.result c.column_at.ensures _ kind.Guid c.in-Guid.is
-    c.first_refused-in-Guid.ensures.passed (λ number passed. passed)
+    c.first_refused.ensures.passed (λ number passed. passed)
 
 pub returns-in-Blob-clause-stands : goal.returns-in-Blob-clause-stands
 returns-in-Blob-clause-stands c =

@@ -4,6 +4,7 @@ use Rattle.schema.specs.declared.column.ColumnKind.TheVariants as kind
 use Rattle.checks.specs.Signatures.{column_bytes}
 use Rattle.checks.proofs.Columns.{passed_spells, none_asked}
 use Rattle.checks.proofs.Spending.{spends_any}
+use Rattle.checks.proofs.Walks.{walk_spends, walk_below}
 use Rattle.checks.proofs.signature_checks.first_in_column.Goals as goal
 
 some_weaker : (P Q : ℕ → Type 0) (o : Option ℕ) → ((x : ℕ) → P x → Q x) → IfSome o P → IfSome o Q
@@ -19,6 +20,16 @@ returns-in-Signature-clause-spells c =
     (λ row spelled. passed_spells c.args.source.now c.args.table c.args.column row c.column_at.result c.column_at.ensures _
     (kind.Signature c.in-Signature.spelled) c.in-Signature.is spelled (λ number passed. passed))
     c.first_misspelled.ensures.spelled
+
+pub returns-in-Signature-clause-spends : goal.returns-in-Signature-clause-spends
+returns-in-Signature-clause-spends c =
+    walk_spends c.args.source.now.source c.args.table c.args.column c.args.limit c.in-Signature.spelled (sym (ap (λ (held : Column). held.kind) c.column_at.ensures) ∙ c.in-Signature.is) c.requires.last
+    c.args.budget.now c.first_misspelled.new.budget c.first_misspelled.result c.first_misspelled.ensures.walked
+
+pub returns-in-Signature-clause-spent : goal.returns-in-Signature-clause-spent
+returns-in-Signature-clause-spent c =
+    walk_below c.args.source.now.source c.args.table c.args.column c.args.limit c.in-Signature.spelled (sym (ap (λ (held : Column). held.kind) c.column_at.ensures) ∙ c.in-Signature.is) c.requires.last
+    c.requires.first c.args.budget.now c.first_misspelled.result c.first_misspelled.ensures.spent
 
 pub returns-in_default-clause-spells : goal.returns-in_default-clause-spells
 returns-in_default-clause-spells c =

@@ -1,0 +1,43 @@
+-- What a walk down a column of signatures walks.
+use Rattle.std.specs.Prelude.{ℕ, zero, suc, ◌+◌, ◌≤◌, ◌<◌, length, if◌then◌else◌}
+use Rattle.schema.specs.declared.table.TableId.{TableId}
+use Rattle.metadata.specs.Source.{Source, number_of}
+use Rattle.checks.specs.declared.budget.Budget.{Budget}
+use Rattle.checks.specs.Budgets.{Takes}
+use Rattle.checks.specs.Passed.{Slots, no_slots, is_kept, keep}
+use Rattle.checks.specs.Signatures.{blob_length}
+
+-- which numbers are kept, and how many bytes of blobs were walked
+pub record Walk : Type 0 where
+  pub slots : Slots
+  pub bytes : ℕ
+
+-- the walk after one more number: it walks the blob and keeps the number, if that is not kept
+abbrev pub walk_one : (ℕ → ℕ) → Walk → ℕ → Walk
+walk_one long walk number =
+    if is_kept walk.slots number then walk else record { slots = keep walk.slots number (long number); bytes = walk.bytes + long number }
+
+-- the walk over the first numbers of a column, in a heap of so many bytes, by the lengths of the blobs of numbers
+unfoldable pub walk_over : ℕ → (ℕ → ℕ) → (ℕ → ℕ) → ℕ → Walk
+walk_over heap long number zero = record { slots = no_slots heap; bytes = 0 }
+walk_over heap long number (suc before) = walk_one long (walk_over heap long number before) (number before)
+
+-- the blobs of the first numbers of a column end within the heap, and none of them overlaps another
+pub record LieApart (heap : ℕ) (long number : ℕ → ℕ) (rows : ℕ) : Type 0 where
+  pub within : (k : ℕ) → k < rows → number k + long (number k) ≤ heap
+  pub apart : (j k : ℕ) → j < rows → k < rows → number j < number k → number j + long (number j) < number k
+
+-- the number of a column in the row before which so many stand
+abbrev pub number_after : Source → TableId → ℕ → ℕ → ℕ
+number_after source table column before = number_of source table (before + 1) column
+
+-- how many bytes of blobs are walked in the first rows of a column
+abbrev pub walked_bytes : Source → TableId → ℕ → ℕ → ℕ
+walked_bytes source table column rows =
+    (walk_over (length source.blobs) (blob_length source.blobs) (number_after source table column) rows).bytes
+
+-- a walk over the rows before a limit that stops at a row took from a budget what the blobs of the rows before that one
+-- took, and the blob of this row or not
+abbrev pub StopsAt : Source → TableId → ℕ → ℕ → Budget → Budget → ℕ → Type 0
+StopsAt source table column limit before after row =
+    (rows : ℕ) × (rows ≤ row) × (row ≤ rows + 1) × (rows < limit) × Takes before after (walked_bytes source table column rows)

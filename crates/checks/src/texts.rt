@@ -1,0 +1,202 @@
+ghost use Rattle.std.specs.Prelude.{◌≡◌, ◌≢◌, ◌≤◌, ◌<◌, ◌+◌, ◌*◌, ◌/◌, ◌↔◌, ℕ, IsTrue, IfOk, IfSome, length, slice_index};
+ghost use Rattle.packed.specs.Demand.{Answers};
+ghost use Rattle.heaps.specs.Demands.{at_place, demands_of_text};
+ghost use Rattle.checks.specs.Texts.{AreStarts, Reaches};
+
+use heaps::{HeapFault, text};
+use memchr::memchr;
+use simdutf8::basic;
+use std::marker::Model;
+
+/// The number of parts of a heap.
+const PARTS: usize = 1024;
+
+/// The texts of a `#Strings` heap that is not UTF-8 as a whole (II.24.2.3).
+///
+/// Of each part of the heap it remembers the start of a text that leaves the part. A later text of the part is an
+/// ending of that one, or has it as its ending, so that less than a part is left to check. The texts of n cells
+/// of a heap of h bytes cost n h / 1024 bytes, and each byte of the heap once more.
+#[derive(Drop)]
+pub struct Texts<'a> {
+    heap: &'a [u8],
+    /// Of each part a start, or 0.
+    starts: [u32; PARTS],
+    /// The number of bytes of a part.
+    part: usize,
+}
+
+impl<'a> Model for Texts<'a> {
+    ghost use Rattle.std.specs.Prelude.{List, ℕ};
+
+    ghost Value = { List ℕ };
+
+    ghost use Rattle.checks.specs.Texts.{heap_of, AreKnown};
+
+    ghost view = { heap_of };
+
+    ghost invariant = { AreKnown };
+}
+
+impl<'a> Texts<'a> {
+    /// The texts of a heap, of which none is known.
+    pub fn new(heap: &'a [u8]) -> Texts<'a>
+        ensures { result ≡ heap.now }
+    {
+        Texts {
+            heap,
+            starts: [0; PARTS],
+            part: heap.len() / PARTS + 1,
+        }
+    }
+
+    /// Whether a text is at an index of the heap (II.24.2.3).
+    ///
+    /// # Errors
+    ///
+    /// Those of [`heaps::text`].
+    pub fn check(&mut self, index: u32) -> Result<(), HeapFault>
+        ensures heap { self.new ≡ self.old }
+        ensures answers { (place : ℕ) → Answers (demands_of_text self.old index place) (at_place place result) }
+    {
+        let start = index as usize;
+        if start == 0 {
+            return Ok(());
+        }
+        if start >= self.heap.len() {
+            return Err(HeapFault::BadString);
+        }
+        let slot = start / self.part;
+        let known = self.starts[slot];
+        if known != 0 && known <= index {
+            return check_within(self.heap, index, known);
+        }
+        let end = start - start % self.part + self.part;
+        if ends_before(self.heap, start, end) {
+            end_of_text(self.heap, index)?;
+            return Ok(());
+        }
+        let next = next_known(&self.starts, slot);
+        let reach = if next < PARTS {
+            end_through(self.heap, index, self.starts[next], (next + 1) * self.part)?
+        } else {
+            end_of_text(self.heap, index)?
+        };
+        keep_text(&mut self.starts, self.heap, self.part, index, reach);
+        Ok(())
+    }
+}
+
+/// Whether a character may begin with a byte.
+fn begins_character(byte: u8) -> bool
+    ensures { IsTrue result ↔ (128 ≤ byte → 192 ≤ byte) }
+{
+    byte < 128 || byte >= 192
+}
+
+/// Whether a NUL is in the bytes from a start up to an end.
+fn ends_before(heap: &[u8], start: usize, end: usize) -> bool
+    requires { start ≤ length heap.now }
+{
+    let (_, rest) = heap.split_at(start);
+    let len = end.saturating_sub(start).min(rest.len());
+    let (near, _) = rest.split_at(len);
+    memchr(0, near).is_some()
+}
+
+/// The first slot from one on with a start, or the number of parts.
+fn next_known(starts: &[u32; PARTS], slot: usize) -> usize
+    ensures first { slot ≤ result }
+    ensures known { result < 1024 → slice_index starts.now result ≢ 0 }
+{
+    for next in slot..PARTS {
+        if starts[next] != 0 {
+            return next;
+        }
+    }
+    slot.max(PARTS)
+}
+
+/// Whether a text is at an index within a text: it begins with a character.
+fn check_within(heap: &[u8], index: u32, known: u32) -> Result<(), HeapFault>
+    requires within { index < length heap.now }
+    requires order { known ≤ index }
+    requires first { 1 ≤ known }
+    requires known { (end : ℕ) × (index < end) × Reaches heap.now known end }
+    ensures answers { (place : ℕ) → Answers (demands_of_text heap.now index place) (at_place place result) }
+{
+    if begins_character(heap[index as usize]) {
+        Ok(())
+    } else {
+        Err(HeapFault::BadUtf8)
+    }
+}
+
+/// Where the text of an index ends.
+fn end_of_text(heap: &[u8], index: u32) -> Result<usize, HeapFault>
+    requires { 1 ≤ index }
+    ensures reaches { IfOk result (Reaches heap.now index) }
+    ensures answers { (place : ℕ) → Answers (demands_of_text heap.now index place) (at_place place result) }
+{
+    let text = text(heap, index)?;
+    Ok(index as usize + text.len())
+}
+
+/// An end that the text of an index reaches, where a known text behind it reaches one.
+fn end_through(heap: &[u8], index: u32, known: u32, end: usize) -> Result<usize, HeapFault>
+    requires first { 1 ≤ index }
+    requires order { index ≤ known }
+    requires known { Reaches heap.now known end }
+    ensures reaches { IfOk result (Reaches heap.now index) }
+    ensures answers { (place : ℕ) → Answers (demands_of_text heap.now index place) (at_place place result) }
+{
+    let (_, rest) = heap.split_at(index as usize);
+    let (front, _) = rest.split_at((known - index) as usize);
+    if memchr(0, front).is_some() {
+        return end_of_text(heap, index);
+    }
+    match basic::from_utf8(front) {
+        Ok(_) => Ok(end),
+        Err(_) => Err(HeapFault::BadUtf8),
+    }
+}
+
+/// The first place from one up to an end at which a character may begin.
+fn first_character(heap: &[u8], begin: usize, end: usize) -> Option<u32>
+    requires { end ≤ length heap.now }
+    ensures { IfSome result (λ place. (begin ≤ place) × (place < end) × (128 ≤ slice_index heap.now place → 192 ≤ slice_index heap.now place)) }
+{
+    for place in begin..end {
+        if begins_character(heap[place]) {
+            return u32::try_from(place).ok();
+        }
+    }
+    None
+}
+
+/// Keeps the text of an index, which reaches an end, as the start of each part that it leaves, up to one with a start.
+fn keep_text(starts: &mut [u32; PARTS], heap: &[u8], part: usize, index: u32, reach: usize)
+    requires first { 1 ≤ index }
+    requires part { part ≡ length heap.now / 1024 + 1 }
+    requires reaches { Reaches heap.now index reach }
+    requires starts { AreStarts heap.now part starts.old }
+    ensures { AreStarts heap.now part starts.new }
+{
+    let slot = index as usize / part;
+    if slot >= PARTS || reach / part <= slot {
+        return;
+    }
+    let is_new = starts[slot] == 0;
+    starts[slot] = index;
+    if !is_new {
+        return;
+    }
+    for later in slot + 1..PARTS.min(reach / part) {
+        if starts[later] != 0 {
+            return;
+        }
+        let begin = later * part;
+        if let Some(start) = first_character(heap, begin, begin + part) {
+            starts[later] = start;
+        }
+    }
+}
