@@ -14,7 +14,7 @@ ghost use Rattle.clim_c.specs.LookUps.{AreFirstByKey, IsOwned, Owns};
 use crate::opened::seen;
 use crate::view::ClimView;
 use metadata::models_are_read;
-use opening::{KeyRows, SourceKeys, TableId, Token, View};
+use opening::{KeyRows, KeysOf, TableId, Token, View};
 use schema::key;
 use std::ops::Range;
 use std::str;
@@ -97,7 +97,7 @@ pub extern "C" fn clim_members(
 }
 
 /// Writes the rows with a key, up to the length of `rows`, and returns the number written.
-fn write_rows(found: KeyRows<SourceKeys>, rows: &mut [u32]) -> usize
+fn write_rows(found: KeyRows<KeysOf<View>>, rows: &mut [u32]) -> usize
     ensures written { take result rows.new ≡ take (length rows.old) found.entry.rows }
     ensures within { result ≤ length rows.old }
     ensures same { SameFrom rows.old rows.new result }

@@ -35,6 +35,7 @@ pub record KeysKnown : Type 0 where
   pub reference : (table : TableId) (column : ℕ) → key_of table ≡ Some column → IsReference (column_at table column)
   pub one : (coded : Coded) (a b : ℕ) (table : TableId) → slice_get (tables_of coded) a ≡ Some (Some table)
       → slice_get (tables_of coded) b ≡ Some (Some table) → a ≡ b
+  pub few : (coded : Coded) → length (tables_of coded) ≤ 2 ^ tag_bits coded
   pub columns : HaveCells
 
 -- ---- the tag of a table is its index in the list
@@ -87,7 +88,7 @@ placed (Some other ∷ listed) table tag e = ⊎_elim
         absurd (true≢false (sym again ∙ f))
     behind (suc tag) rest e f = rest tag e
 
-tag_is : KeysKnown → (coded : Coded) (table : TableId) (tag : ℕ) → slice_get (tables_of coded) tag ≡ Some (Some table)
+pub tag_is : KeysKnown → (coded : Coded) (table : TableId) (tag : ℕ) → slice_get (tables_of coded) tag ≡ Some (Some table)
     → position_or_len (is_table table) (tables_of coded) ≡ tag
 tag_is known coded table tag e =
     let is = placed (tables_of coded) table tag e in
@@ -169,7 +170,7 @@ module _ (known : KeysKnown) (source : Source) (model : Metadata)
     (counts : (table : TableId) → count_in model table ≡ rows_in source table)
     (cells : (table : TableId) (row place : ℕ) → 1 ≤ row → row ≤ rows_in source table → place < cell_count table
     → IsCell source table row place (cell_in model table row place)) where
-  key_is : (table : TableId) (key place row : ℕ) → key_of table ≡ Some key → IsKeyPlace table place → 1 ≤ row → row ≤ rows_in source table
+  pub key_is : (table : TableId) (key place row : ℕ) → key_of table ≡ Some key → IsKeyPlace table place → 1 ≤ row → row ≤ rows_in source table
       → number_of source table row key ≡ key_in model table place row
   key_is table key place row is at first last =
       let same : column_of table place ≡ key = cc in

@@ -9,3 +9,4 @@ pub mod ValidLemmas
 pub mod RefusalLemmas
 pub mod SameLemmas
 pub mod KeyLemmas
+pub mod NumberLemmas

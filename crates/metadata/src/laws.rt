@@ -5,19 +5,22 @@ ghost use Rattle.root.specs.declared.kind.Kind.TheVariants.{UserStrings};
 ghost use Rattle.cli_header.specs.declared.header.CliHeader.{CliHeader};
 ghost use Rattle.heaps.specs.Fill.{filled};
 ghost use Rattle.schema.specs.declared.table.TableId.{TableId as Table};
+ghost use Rattle.schema.specs.declared.token.Token.{Token};
 ghost use Rattle.schema.specs.Columns.{key_of};
 ghost use Rattle.schema.specs.LaidOut.{IsTableStream};
-ghost use Rattle.metadata.specs.Cell.{Cell};
+ghost use Rattle.metadata.specs.Cell.{Cell, Ref};
+ghost use Rattle.metadata.specs.Kinds.{IsOfKind};
+ghost use Rattle.metadata.specs.Lookups.{IsKeyPlace};
 ghost use Rattle.metadata.specs.Metadata.{Metadata, row_of, count_in, cell_in};
-ghost use Rattle.metadata.specs.Source.{Source, rows_in};
+ghost use Rattle.metadata.specs.Source.{Source, rows_in, number_of};
 ghost use Rattle.metadata.specs.Streams.{stream_in};
-ghost use Rattle.schema.specs.CellColumns.{cell_count};
+ghost use Rattle.schema.specs.CellColumns.{cell_count, column_of};
 ghost use Rattle.metadata.specs.Rows.{IsCell};
 ghost use Rattle.metadata.specs.Rules.{IsInOrder, AreByKey, AreOwned, AreNested};
 ghost use Rattle.metadata.specs.Model.{IsModel, IsModelOfFile};
 ghost use Rattle.metadata.specs.Placed.{tables_in, source_of};
-ghost use Rattle.metadata.specs.Valid.{IsValid};
-ghost use Rattle.metadata.specs.KeyOrder.{IsKeyOrdered};
+ghost use Rattle.metadata.specs.Valid.{IsValid, kind_at};
+ghost use Rattle.metadata.specs.KeyOrder.{key_in, key_number, row_number, IsKeyOrdered};
 ghost use Rattle.metadata.specs.Same.{SaysSame};
 ghost use Rattle.metadata.specs.Refusals.{refusals_of};
 ghost use Rattle.metadata.specs.Demands.{demands_of_metadata, demands_of_file};
@@ -113,12 +116,27 @@ pub fn valid_models_are_not_refused()
     tables_stand();
 }
 
-/// The keys of a table are sorted in a root if and only if they are sorted in its model.
+/// The key numbers of a table in a root are those in its model, so they are in order in both or in neither.
 pub fn keys_are_in_order()
-    ensures { (root : List ℕ) (model : Metadata) → IsModel root model → (table : Table) (key : ℕ) → key_of table ≡ Some key
+    ensures order { (root : List ℕ) (model : Metadata) → IsModel root model → (table : Table) (key : ℕ) → key_of table ≡ Some key
         → IsInOrder (source_of root) table key ↔ IsKeyOrdered model table }
+    ensures numbers { (root : List ℕ) (model : Metadata) → IsModel root model → (table : Table) (cell row : ℕ) → IsKeyPlace table cell
+        → 1 ≤ row → row ≤ rows_in (source_of root) table
+        → number_of (source_of root) table row (column_of table cell) ≡ key_in model table cell row }
 {
     models_are_read();
+    tables_stand();
+    columns_stand();
+    cells_have_columns();
+    tags_fit();
+}
+
+/// Two rows have different numbers in a key column that can refer to both.
+pub fn key_numbers_are_one()
+    ensures { (table : Table) (cell : ℕ) → IsKeyPlace table cell → (token : Token) → 1 ≤ token.row → IsOfKind (kind_at table cell) (Ref (Some token))
+        → (key : Cell) → IsOfKind (kind_at table cell) key
+        → (key ≡ Ref (Some token)) ↔ (key_number (kind_at table cell) key ≡ row_number (kind_at table cell) token) }
+{
     tables_stand();
     columns_stand();
     cells_have_columns();

@@ -1,8 +1,8 @@
 //! The model of a root or a file (ECMA-335 II.22 to II.25): what it is, and the rules that the bytes
 //! must follow, in order.
 //!
-//! This crate has no code. It has the definitions in `specs/` that reading and writing share, and their
-//! laws. `Model.antt` defines the model of a root and of a file, by the relations of the layers below.
+//! Apart from [`row_number`] there is no code here, only the definitions in `specs/` in which reading and
+//! writing meet, and their laws. `Model.antt` says which model a root and a file have, by the relations of the layers below;
 //! `Demands.antt` lists the rules, each with its code and its offset. All rules hold if and only if
 //! there is a model, and there is at most one: [`roots_have_models`], [`files_have_models`].
 //!
@@ -14,11 +14,13 @@
 
 mod laws;
 mod refusal;
+mod row_numbers;
 
 pub use laws::{
-    cells_are_one, files_have_models, keys_are_in_order, models_are_read,
+    cells_are_one, files_have_models, key_numbers_are_one, keys_are_in_order, models_are_read,
     models_of_roots_are_valid, models_of_same_parts_are_one, roots_have_models,
     valid_models_are_not_refused,
 };
 pub use packed::FaultCode;
 pub use refusal::Refusal;
+pub use row_numbers::row_number;

@@ -45,9 +45,9 @@
 
 // Bytes and files in place.
 pub use opening::{
-    BoundedError, CellRef, CliHeader, Fault, FaultCode, Heads, KeyNumbers, KeyRows, Pe, Root,
-    SourceKeys, Starts, TableId, Token, View, open_image, open_image_within, open_root,
-    open_root_within, read_heads,
+    BoundedError, CellRef, CliHeader, Fault, FaultCode, Heads, KeyNumbers, KeyRows, KeysOf,
+    MemberList, Pe, ReadMetadata, Root, Starts, TableId, Token, View, open_image,
+    open_image_within, open_root, open_root_within, read_heads,
 };
 
 // The heaps: user strings, and the text of a GUID.
@@ -60,7 +60,7 @@ pub use schema::{Coded, Column, ColumnKind, cell_count, columns, key};
 
 // Models that own their memory.
 pub use loading::{LoadError, ToModel, load_image, load_root};
-pub use owned_model::{Bytes, Cell, Model, ModelKeys, Refusal, Row, Tables, Text};
+pub use owned_model::{Bytes, Cell, Model, Refusal, Row, Tables, Text};
 
 // Signatures in place: item by item, and in the notation of ILAsm.
 pub use signature_items::{Item, Items, MethodHead};
@@ -86,13 +86,7 @@ pub use assembly_records::{
 };
 
 // Rows of a model and of a view as records.
-pub use model_records::{
-    RecordsOf, resolve as resolve_in_model, row as row_of_model, rows as rows_of_model,
-};
-pub use view_records::{
-    RecordsIn, RefRow, cells_of, resolve as resolve_in_view, row as row_of_view,
-    rows as rows_of_view,
-};
+pub use typed_rows::{ReadRows, Records, RefRow, cells_of, resolve, row, rows};
 
 // The canonical root of a model.
 pub use writer::{

@@ -16,6 +16,7 @@
 mod found;
 mod heads;
 mod image;
+mod metadata_held;
 mod open;
 mod view;
 
@@ -24,10 +25,11 @@ pub use cli_header::CliHeader;
 pub use found::Found;
 pub use heads::{Heads, read_heads};
 pub use image::{open_image, open_image_within};
+pub use metadata_source::{KeysOf, MemberList, ReadMetadata};
 pub use open::{open_root, open_root_within, view_again};
 pub use packed::{Fault, FaultCode};
 pub use pe::Pe;
-pub use reading::{CellRef, KeyNumbers, KeyRows, SourceKeys, Starts};
+pub use reading::{CellRef, KeyNumbers, KeyRows, Starts};
 pub use root::Root;
 pub use schema::{TableId, Token};
 pub use view::View;

@@ -26,11 +26,9 @@ ghost use Rattle.opening.specs.Views.{HasModel, AreFound, row_count, user_of};
 use crate::found::Found;
 use checks::Checked;
 use metadata::{keys_are_in_order, models_are_read};
-use reading::{
-    CellRef, KeyRows, KnownRuns, Source, SourceKeys, Starts, cell_of, find_type,
-    members_are_listed, rows_by_key, run, starts_of,
-};
-use schema::{TableId, Token, column_of_cell, key};
+use metadata_source::KeysOf;
+use reading::{CellRef, KeyRows, KnownRuns, Source, Starts, cell_of, starts_of};
+use schema::{TableId, Token, column_of_cell};
 use std::marker::Model;
 use std::ops::Range;
 
@@ -85,7 +83,7 @@ impl<'a> View<'a> {
     }
 
     /// The source that the model's cells are read from.
-    fn source(&self) -> &Source<'a>
+    pub(crate) fn source(&self) -> &Source<'a>
         ensures source { result.now.source ≡ source_of self.now }
         ensures rows { (table : Table) → rows_in result.now.source table ≡ row_count self.now table }
         ensures readable { IsReadable result.now.source }
@@ -96,7 +94,7 @@ impl<'a> View<'a> {
     }
 
     /// The starts of runs that are known.
-    fn known(&self) -> &KnownRuns
+    pub(crate) fn known(&self) -> &KnownRuns
         ensures { (source : TheSource) → source ≡ source_of self.now → AreKnown source result.now }
     {
         &self.found.known
@@ -190,15 +188,7 @@ impl<'a> View<'a> {
         requires last { row ≤ row_count self.now TypeDef }
         ensures { (model : Metadata) → IsModel self.now model → IsRun model TypeDef 4 Field row result.start result.end }
     {
-        members_are_listed();
-        run(
-            self.source(),
-            self.known(),
-            TableId::TypeDef,
-            row,
-            4,
-            TableId::Field,
-        )
+        metadata_source::fields_of(self, row)
     }
 
     /// The methods of a type, as rows of MethodDef (II.22.37).
@@ -209,15 +199,7 @@ impl<'a> View<'a> {
         requires last { row ≤ row_count self.now TypeDef }
         ensures { (model : Metadata) → IsModel self.now model → IsRun model TypeDef 5 MethodDef row result.start result.end }
     {
-        members_are_listed();
-        run(
-            self.source(),
-            self.known(),
-            TableId::TypeDef,
-            row,
-            5,
-            TableId::MethodDef,
-        )
+        metadata_source::methods_of(self, row)
     }
 
     /// The parameters of a method, as rows of Param (II.22.26).
@@ -228,15 +210,7 @@ impl<'a> View<'a> {
         requires last { row ≤ row_count self.now MethodDef }
         ensures { (model : Metadata) → IsModel self.now model → IsRun model MethodDef 5 Param row result.start result.end }
     {
-        members_are_listed();
-        run(
-            self.source(),
-            self.known(),
-            TableId::MethodDef,
-            row,
-            5,
-            TableId::Param,
-        )
+        metadata_source::params_of(self, row)
     }
 
     /// The events of a row of EventMap, as rows of Event (II.22.12).
@@ -247,15 +221,7 @@ impl<'a> View<'a> {
         requires last { row ≤ row_count self.now EventMap }
         ensures { (model : Metadata) → IsModel self.now model → IsRun model EventMap 1 Event row result.start result.end }
     {
-        members_are_listed();
-        run(
-            self.source(),
-            self.known(),
-            TableId::EventMap,
-            row,
-            1,
-            TableId::Event,
-        )
+        metadata_source::events_of(self, row)
     }
 
     /// The properties of a row of PropertyMap, as rows of Property (II.22.35).
@@ -266,15 +232,7 @@ impl<'a> View<'a> {
         requires last { row ≤ row_count self.now PropertyMap }
         ensures { (model : Metadata) → IsModel self.now model → IsRun model PropertyMap 1 Property row result.start result.end }
     {
-        members_are_listed();
-        run(
-            self.source(),
-            self.known(),
-            TableId::PropertyMap,
-            row,
-            1,
-            TableId::Property,
-        )
+        metadata_source::properties_of(self, row)
     }
 
     /// The first type with a namespace and a name, by its row; `None` if no type has them (II.22.37).
@@ -285,7 +243,7 @@ impl<'a> View<'a> {
         ensures none { (model : Metadata) → IsModel self.now model
             → IfNone result ((row : ℕ) → HasRow model TypeDef row → ¬ HasNames model namespace.now name.now row) }
     {
-        find_type(self.source(), namespace, name)
+        metadata_source::find_type(self, namespace, name)
     }
 
     /// Whether the keys of a table never decrease, in constant time (II.22).
@@ -302,9 +260,9 @@ impl<'a> View<'a> {
 
     /// The rows of a table whose key is a token, in ascending order (II.22).
     ///
-    /// If the table is in order they are found by binary search, and [`KeyRows::reads`] counts the keys that it reads.
-    /// Otherwise the iterator looks at each row as it goes. A null token has no rows.
-    pub fn by_key(&self, table: TableId, token: Token) -> KeyRows<SourceKeys<'_, 'a>>
+    /// If the table is in order, they are found by binary search, and [`KeyRows::reads`] is the number of keys
+    /// that were read. Otherwise the iterator looks at each row. A null token has no rows.
+    pub fn by_key(&self, table: TableId, token: Token) -> KeyRows<KeysOf<'_, View<'a>>>
         requires { IsSome (key_of table) }
         ensures ascending { IsStrictlyIncreasing result.rows }
         ensures rows { (model : Metadata) → IsModel self.now model → (row : ℕ)
@@ -313,10 +271,6 @@ impl<'a> View<'a> {
             → result.reads ≤ 2 * binary_digits (count_in model table) + 2 }
         ensures walked { (model : Metadata) → IsModel self.now model → ¬ IsKeyOrdered model table → result.reads ≡ 0 }
     {
-        keys_are_in_order();
-        match key(table) {
-            Some(column) => rows_by_key(self.source(), table, column, self.in_order(table), token),
-            None => unreachable!(),
-        }
+        metadata_source::rows_by_key(self, table, token)
     }
 }

@@ -2,8 +2,8 @@
 //!
 //! [`Model::from_tables`] succeeds if and only if the [`Tables`] are valid, and does not allocate. Otherwise it returns
 //! them with the first rule that they break. A contract sees a model by its value, so `==` compares versions, user
-//! strings and cells. The look-ups are those of a root that is opened in place: runs of members, types by name, rows by
-//! key. They do not allocate either.
+//! what it says, so `==` compares versions, user bytes and cells. Runs of members, types by name, rows by key
+//! and records of rows are those of a root that is opened in place, by the same code. They do not allocate.
 //!
 //! ```text
 //! match Model::from_tables(tables) {
@@ -13,18 +13,14 @@
 //! ```
 #![tactic(auto)]
 
-mod by_key;
-mod key_place;
 mod laws;
 mod lookups;
-mod model_keys;
-mod row_numbers;
-mod runs_of;
-mod type_names;
+mod metadata_held;
+mod rows_held;
 mod valid_model;
 
 pub use laws::equality_is_tested;
-pub use model_keys::ModelKeys;
+pub use metadata_source::{KeysOf, MemberList, ReadMetadata};
 pub use reading::{KeyNumbers, KeyRows};
 pub use refusals::Refusal;
 pub use tables::{Bytes, Cell, Row, Signature, TableId, Tables, Text, Token};

@@ -1,10 +1,6 @@
-use crate::by_key::rows_by_key;
-use crate::key_place::place_of_key;
-use crate::model_keys::ModelKeys;
-use crate::runs_of::run;
-use crate::type_names::find_type;
 use crate::valid_model::Model;
-use reading::{KeyRows, members_are_listed};
+use metadata_source::KeysOf;
+use reading::KeyRows;
 use schema::{TableId, Token};
 use std::ops::Range;
 
@@ -25,8 +21,7 @@ impl Model {
         requires last { row ≤ count_in self.now TypeDef }
         ensures { IsRun self.now TypeDef 4 Field row result.start result.end }
     {
-        members_are_listed();
-        run(self, TableId::TypeDef, row, 4, TableId::Field)
+        metadata_source::fields_of(self, row)
     }
 
     /// The methods of a type, as rows of MethodDef (II.22.37), in constant time.
@@ -35,8 +30,7 @@ impl Model {
         requires last { row ≤ count_in self.now TypeDef }
         ensures { IsRun self.now TypeDef 5 MethodDef row result.start result.end }
     {
-        members_are_listed();
-        run(self, TableId::TypeDef, row, 5, TableId::MethodDef)
+        metadata_source::methods_of(self, row)
     }
 
     /// The parameters of a method, as rows of Param (II.22.26), in constant time.
@@ -45,8 +39,7 @@ impl Model {
         requires last { row ≤ count_in self.now MethodDef }
         ensures { IsRun self.now MethodDef 5 Param row result.start result.end }
     {
-        members_are_listed();
-        run(self, TableId::MethodDef, row, 5, TableId::Param)
+        metadata_source::params_of(self, row)
     }
 
     /// The events of a row of EventMap, as rows of Event (II.22.12), in constant time.
@@ -55,8 +48,7 @@ impl Model {
         requires last { row ≤ count_in self.now EventMap }
         ensures { IsRun self.now EventMap 1 Event row result.start result.end }
     {
-        members_are_listed();
-        run(self, TableId::EventMap, row, 1, TableId::Event)
+        metadata_source::events_of(self, row)
     }
 
     /// The properties of a row of PropertyMap, as rows of Property (II.22.35), in constant time.
@@ -65,8 +57,7 @@ impl Model {
         requires last { row ≤ count_in self.now PropertyMap }
         ensures { IsRun self.now PropertyMap 1 Property row result.start result.end }
     {
-        members_are_listed();
-        run(self, TableId::PropertyMap, row, 1, TableId::Property)
+        metadata_source::properties_of(self, row)
     }
 
     /// The first type with a namespace and a name, by its row; `None` if no type has them (II.22.37).
@@ -77,21 +68,21 @@ impl Model {
         ensures found { IfSome result (IsFirstType self.now namespace.now name.now) }
         ensures none { IfNone result ((row : ℕ) → HasRow self.now TypeDef row → ¬ HasNames self.now namespace.now name.now row) }
     {
-        find_type(self, namespace, name)
+        metadata_source::find_type(self, namespace, name)
     }
 
     /// The rows of a table whose key is a token, in ascending order (II.22).
     ///
-    /// If the table is in order they are found by binary search, and [`KeyRows::reads`] counts the keys that it reads.
-    /// Otherwise the iterator looks at each row as it goes. A null token has no rows. Neither has a token that the key
-    /// column cannot encode.
-    pub fn by_key(&self, table: TableId, token: Token) -> KeyRows<ModelKeys<'_>>
+    /// If the table is in order, they are found by binary search, and [`KeyRows::reads`] is the number of keys
+    /// that were read. Otherwise the iterator looks at each row. A null token has no rows, nor has one that
+    /// the key column cannot name.
+    pub fn by_key(&self, table: TableId, token: Token) -> KeyRows<KeysOf<'_, Model>>
         requires { IsSome (key_of table) }
         ensures ascending { IsStrictlyIncreasing result.rows }
         ensures rows { (row : ℕ) → Contains result.rows row ↔ (HasRow self.now table row × HasKey self.now table token row) }
         ensures found { IsKeyOrdered self.now table → result.reads ≤ 2 * binary_digits (count_in self.now table) + 2 }
         ensures walked { ¬ IsKeyOrdered self.now table → result.reads ≡ 0 }
     {
-        rows_by_key(self, table, place_of_key(table), token)
+        metadata_source::rows_by_key(self, table, token)
     }
 }

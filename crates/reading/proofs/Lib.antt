@@ -1,10 +1,7 @@
 pub mod CellLemmas
-pub mod ColumnLemmas
 pub mod KeyLemmas
 pub mod KnownLemmas
 pub mod RowLemmas
 pub mod ShownLemmas
 pub mod StartLemmas
 pub mod TextLemmas
-pub mod TokenLemmas
-pub mod TypeNameLemmas

@@ -1,12 +1,6 @@
 -- The rows with a key, found one after another.
 use Rattle.std.specs.Prelude.{◌≡◌, ℕ, zero, suc, ◌+◌, ◌-◌, ◌≤◌, ◌<◌, ◌==◌, Bool, true, List, [], ◌∷◌, length, if◌then◌else◌}
-use Rattle.schema.specs.declared.table.TableId.{TableId}
-use Rattle.schema.specs.declared.token.Token.{Token}
-use Rattle.schema.specs.declared.column.ColumnKind.{ColumnKind}
-use Rattle.schema.specs.declared.column.ColumnKind.TheVariants as kind
-use Rattle.schema.specs.CodedIndexes.{IsCoded}
 use Rattle.rows.specs.Keys.{key_at}
-use Rattle.metadata.specs.Source.{Source, rows_in, number_of}
 
 -- the rows that remain, in order, and the number of keys that were read to find them
 pub record RowsLeft : Type 0 where
@@ -21,21 +15,6 @@ rows_that test row (suc left) = if test row then row ∷ rows_that test (row + 1
 -- the rows with a key number, from the numbers of all rows
 abbrev pub rows_with : List ℕ → ℕ → ℕ → ℕ → List ℕ
 rows_with numbers number first past = rows_that (λ row. key_at numbers row == number) first (past - first)
-
--- the numbers of a column, from a row on; the last number counts the rows that are left
-abbrev pub numbers_from : Source → TableId → ℕ → ℕ → ℕ → List ℕ
-numbers_from source table column row zero = []
-numbers_from source table column row (suc left) = number_of source table row column ∷ numbers_from source table column (row + 1) left
-
--- the numbers of a column, by row
-unfoldable pub keys_in : Source → TableId → ℕ → List ℕ
-keys_in source table column = numbers_from source table column 1 (rows_in source table)
-
--- the number encodes the row of the token, in a column of this kind
-abbrev pub Names : ColumnKind → ℕ → Token → Type 0
-Names (kind.Row table) number token = (token.table ≡ table) × (token.row ≡ number)
-Names (kind.Coded coded) number token = IsCoded coded number token.table token.row
-Names _ number token = ⊥
 
 -- the rows with a key number that remain, from one row to before another
 abbrev pub left_of : List ℕ → ℕ → ℕ → ℕ → ℕ → RowsLeft

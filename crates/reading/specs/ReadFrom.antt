@@ -1,11 +1,9 @@
 -- How the cells of a model are read from the numbers and heaps of a metadata root.
-use Rattle.std.specs.Prelude.{◌≡◌, ℕ, ◌≤◌, ◌<◌, length}
+use Rattle.std.specs.Prelude.{◌≡◌, ℕ, ◌≤◌, ◌<◌}
 use Rattle.schema.specs.declared.table.TableId.{TableId}
-use Rattle.schema.specs.declared.column.ColumnKind.TheVariants as kind
-use Rattle.schema.specs.Columns.{columns_of, column_at}
 use Rattle.metadata.specs.Metadata.{Metadata, count_in, cell_in}
 use Rattle.metadata.specs.Source.{Source, rows_in}
-use Rattle.schema.specs.CellColumns.{cell_count, column_of}
+use Rattle.schema.specs.CellColumns.{cell_count}
 use Rattle.metadata.specs.Rows.{IsCell}
 
 -- the cells of the source are those of the model
@@ -17,10 +15,3 @@ pub record IsReadFrom (source : Source) (model : Metadata) : Type 0 where
 -- some model has the cells of the source (in the form of a double negation)
 abbrev pub IsReadable : Source → Type 0
 IsReadable source = ¬ (¬ ((model : Metadata) × IsReadFrom source model))
-
--- the column of the table lists members, and its cell has the same index in a row
-pub record IsMemberList (owner : TableId) (column : ℕ) (member : TableId) : Type 0 where
-  pub within : column < length (columns_of owner)
-  pub cell : column < cell_count owner
-  pub same : column_of owner column ≡ column
-  pub kind : (column_at owner column).kind ≡ kind.List member

@@ -1,10 +1,4 @@
-ghost use Rattle.std.specs.Prelude.{◌≡◌, ◌<◌, length};
-ghost use Rattle.schema.specs.Columns.{columns_of};
-ghost use Rattle.reading.specs.KeyRows.{keys_in};
-
-use crate::source::Source;
 use rows::Keys;
-use schema::TableId;
 
 /// Gives the key numbers of the rows of a table.
 ///
@@ -26,30 +20,6 @@ pub trait KeyNumbers: Drop {
         requires first { 1 ≤ row }
         requires last { row ≤ length (numbers self.now) }
         ensures { result ≡ key_at (numbers self.now) row };
-}
-
-/// The key numbers of a table of a source.
-#[derive(Drop)]
-pub struct SourceKeys<'v, 'a> {
-    /// The source of the numbers.
-    pub source: &'v Source<'a>,
-    /// The table.
-    pub table: TableId,
-    /// Its key column.
-    pub column: usize,
-    ghost within: { column < length (columns_of table) },
-}
-
-impl<'v, 'a> KeyNumbers for SourceKeys<'v, 'a> {
-    ghost numbers = { λ keys. keys_in keys.source.now.source keys.table keys.column };
-
-    fn count(&self) -> u32 {
-        self.source.count(self.table)
-    }
-
-    fn number(&self, row: u32) -> u32 {
-        self.source.number(self.table, row, self.column)
-    }
 }
 
 /// Key numbers that count how often they are read.

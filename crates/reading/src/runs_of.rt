@@ -1,40 +1,42 @@
 ghost use Rattle.std.specs.Prelude.{◌≡◌, ◌≤◌, ◌<◌, ◌+◌, length};
 ghost use Rattle.schema.specs.declared.column.ColumnKind.TheVariants.{List};
 ghost use Rattle.schema.specs.Columns.{columns_of, column_at};
-ghost use Rattle.metadata.specs.Metadata.{Metadata};
+ghost use Rattle.schema.specs.CellColumns.{cell_count, column_of};
+ghost use Rattle.metadata.specs.Cell.{Start};
+ghost use Rattle.metadata.specs.Metadata.{Metadata, cell_in};
 ghost use Rattle.metadata.specs.Source.{rows_in};
 ghost use Rattle.metadata.specs.Starts.{start_of};
-ghost use Rattle.metadata.specs.Lookups.{IsRun};
-ghost use Rattle.reading.specs.ReadFrom.{IsReadFrom, IsMemberList};
+ghost use Rattle.reading.specs.ReadFrom.{IsReadFrom};
 ghost use Rattle.reading.specs.KnownStarts.{AreKnown};
 
 use crate::known_starts::KnownRuns;
 use crate::source::Source;
-use schema::TableId;
-use std::ops::Range;
+use schema::{TableId, column_of_cell};
 
-/// The run of members of an owner, by the column of its table that lists them.
-pub fn run(
+/// Where the run of an owner begins, by the cell that lists its members.
+pub fn start_at(
     source: &Source,
     known: &KnownRuns,
     owner: TableId,
     row: u32,
-    column: usize,
+    cell: usize,
     member: TableId,
-) -> Range<u32>
-    requires list { IsMemberList owner column member }
+) -> u32
     requires known { AreKnown source.now.source known.now }
     requires first { 1 ≤ row }
     requires last { row ≤ rows_in source.now.source owner }
-    ensures { (model : Metadata) → IsReadFrom source.now.source model → IsRun model owner column member row result.start result.end }
+    requires cell { cell < cell_count owner }
+    requires list { (column_at owner (column_of owner cell)).kind ≡ List member }
+    ensures { (model : Metadata) → IsReadFrom source.now.source model → cell_in model owner row cell ≡ Start result }
 {
-    let first = start(source, known, owner, row, column, member);
-    let past = if row < source.count(owner) {
-        start(source, known, owner, row + 1, column, member)
-    } else {
-        source.count(member) + 1
-    };
-    first..past
+    start(
+        source,
+        known,
+        owner,
+        row,
+        column_of_cell(owner, cell),
+        member,
+    )
 }
 
 /// The start of an owner's run: its list value, or the start of the next owner if the value is null. After the

@@ -1,14 +1,19 @@
-ghost use Rattle.std.specs.Prelude.{◌≡◌, ◌<◌, ℕ, List, Some, length, slice_get};
+ghost use Rattle.std.specs.Prelude.{◌≡◌, ◌<◌, ℕ, List, Some, length, option_map, slice_get};
 ghost use Rattle.schema.specs.declared.table.TableId.{TableId as Table};
 ghost use Rattle.schema.specs.declared.column.SigKind.{SigKind as Kind};
+ghost use Rattle.schema.specs.declared.column.ColumnKind.{ColumnKind};
 ghost use Rattle.schema.specs.Columns.{column_at};
 ghost use Rattle.schema.specs.CellColumns.{cell_count, column_of};
 ghost use Rattle.signature_values.specs.Syntax.{Body};
 ghost use Rattle.signature_values.specs.Spells.{Spells};
+ghost use Rattle.metadata.specs.Cell.{Cell as TheCell};
 ghost use Rattle.metadata.specs.Metadata.{Metadata, row_of};
+ghost use Rattle.cells.specs.declared.cell.Cell.{Cell as Owned};
+ghost use Rattle.cells.specs.Said.{said, all_said};
 ghost use Rattle.metadata.specs.Lookups.{HasRow};
 ghost use Rattle.metadata.specs.Valid.{IsValid};
 ghost use Rattle.records.specs.Kinds.{kinds_of, AreOfKinds};
+ghost use Rattle.records.specs.Shapes.{IsOfShape, AreHeld, AreSaid};
 ghost use Rattle.records.specs.Signatures.{spelled};
 
 use signature_values::signatures_are_read;
@@ -31,4 +36,12 @@ pub fn cells_have_kinds()
 pub fn valid_rows_are_of_kinds()
     ensures { (model : Metadata) → IsValid model → (table : Table) (row : ℕ) → HasRow model table row
         → AreOfKinds (kinds_of table) (row_of model table row) }
+{}
+
+/// Owned cells of some kinds hold what columns of these kinds hold, and all that they say is what they are.
+pub fn owned_cells_are_rows()
+    ensures held { (kinds : List ColumnKind) (cells : List Owned) → AreOfKinds kinds (all_said cells)
+        → AreHeld (λ place shape. IsOfShape (slice_get cells place) shape) 0 kinds }
+    ensures only { (kinds : List ColumnKind) (cells : List Owned) (row : List TheCell) → AreOfKinds kinds (all_said cells)
+        → AreSaid (λ place cell. option_map said (slice_get cells place) ≡ Some cell) 0 kinds row → row ≡ all_said cells }
 {}

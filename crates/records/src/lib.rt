@@ -29,8 +29,10 @@ pub use coded_row::{CodedRow, coded_row_of, lists};
 pub use field_value::{FieldValue, owned_cells};
 pub use generics::{GenericParam, GenericParamConstraint, MethodSpec};
 pub use kinds::is_row_of;
-pub use laws::{blobs_say_signatures, cells_have_kinds, valid_rows_are_of_kinds};
-pub use record::{FromRow, Record, known_record_of, record_of};
+pub use laws::{
+    blobs_say_signatures, cells_have_kinds, owned_cells_are_rows, valid_rows_are_of_kinds,
+};
+pub use record::{FromRow, Record, record_of};
 pub use row::Row;
 pub use schema::{SigKind, TableId};
 pub use signature::IsSignature;

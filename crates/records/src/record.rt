@@ -47,10 +47,9 @@ pub trait Record<'m>: FromRow<'m, CellRow<'m>> {
         ensures { IfOk result (λ cells. all_said cells.items ≡ Self.fields self.now) };
 }
 
-/// The record of cells that are known to have the number and kinds of its table's rows, such as the rows of a valid
-/// model. They are not checked again.
+/// The record that stands for cells which are known to be of its table's number and kinds.
 #[tactic(auto, using(crate::proofs::RowLemmas::cells_are_held))]
-pub fn known_record_of<'m, R: FromRow<'m, CellRow<'m>>>(cells: &'m [Cell]) -> R
+fn known_record_of<'m, R: FromRow<'m, CellRow<'m>>>(cells: &'m [Cell]) -> R
     requires { AreOfKinds (kinds_of R.table) (all_said cells.now) }
     ensures { R.fields result ≡ all_said cells.now }
 {

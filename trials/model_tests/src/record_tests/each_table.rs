@@ -35,19 +35,19 @@ fn check<'m, R: Record<'m> + Debug + Drop>(
     assert_eq!(rt; got.as_str(), wanted.as_str());
     let (_, fewer) = cells.split_last().ok_or("no cells")?;
     assert!(rt; R::from_cells(fewer).is_none(), "{table}");
-    let found = model_records::row::<R>(model, 1).ok_or("no record of the row")?;
+    let found = model.row::<R>(1).ok_or("no record of the row")?;
     let found = format!(in alloc; "{found:?}")?;
     assert_eq!(rt; found.as_str(), wanted.as_str());
-    let mut records = model_records::rows::<R>(model);
+    let mut records = model.rows::<R>();
     assert_eq!(rt; records.len(), rows.len());
     let first = records.next().ok_or("no first record")?;
     let first = format!(in alloc; "{first:?}")?;
     assert_eq!(rt; first.as_str(), wanted.as_str());
     assert_eq!(rt; records.count(), rows.len().saturating_sub(1));
-    assert!(rt; model_records::row::<R>(model, 0).is_none(), "{table}");
-    assert!(rt; model_records::row::<R>(model, 3).is_none(), "{table}");
+    assert!(rt; model.row::<R>(0).is_none(), "{table}");
+    assert!(rt; model.row::<R>(3).is_none(), "{table}");
     assert!(rt;
-        model_records::row::<R>(model, u32::MAX).is_none(),
+        model.row::<R>(u32::MAX).is_none(),
         "{table}"
     );
     Ok(())

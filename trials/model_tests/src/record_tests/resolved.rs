@@ -12,7 +12,7 @@ use std::alloc::Global;
 use std::fmt::Debug;
 use std::process::Abort;
 use std::test::Fail;
-use view_records::RefRow;
+use typed_rows::RefRow;
 
 /// A row that no table has.
 const MISSING: [u32; 3] = [0, 3, u32::MAX];
@@ -27,11 +27,11 @@ fn check<'m, R: CodedRow<'m, CellRow<'m>> + Debug + Drop>(
     let coded = R::coded_id();
     for table in TableId::all() {
         let table = *table;
-        let found = model_records::resolve::<R>(model, Token { table, row: 1 });
+        let found = model.resolve::<R>(Token { table, row: 1 });
         let is_listed = coded.tables().contains(&Some(table));
         assert_eq!(rt; found.is_some(), is_listed, "{table}");
         for row in MISSING {
-            let found = model_records::resolve::<R>(model, Token { table, row });
+            let found = model.resolve::<R>(Token { table, row });
             assert!(rt; found.is_none(), "{table}");
         }
         if let Some(found) = found {
@@ -54,11 +54,11 @@ fn check_in_place<'a, R: CodedRow<'a, RefRow<'a>> + Debug + Drop>(
     let coded = R::coded_id();
     for table in TableId::all() {
         let table = *table;
-        let found = view_records::resolve::<R>(view, Token { table, row: 1 });
+        let found = typed_rows::resolve::<R, _>(view, Token { table, row: 1 });
         let is_listed = coded.tables().contains(&Some(table));
         assert_eq!(rt; found.is_some(), is_listed, "{table}");
         for row in MISSING {
-            let found = view_records::resolve::<R>(view, Token { table, row });
+            let found = typed_rows::resolve::<R, _>(view, Token { table, row });
             assert!(rt; found.is_none(), "{table}");
         }
         if let Some(found) = found {

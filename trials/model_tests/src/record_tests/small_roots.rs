@@ -26,9 +26,9 @@ fn the_row_of_a_module(rt: HostRuntime) -> Result<(), Fail> {
         enc_base_id: None,
     };
     let view = open_root(root.as_slice())?;
-    assert_eq!(rt; view_records::row::<Module>(&view, 1), Some(wanted));
+    assert_eq!(rt; typed_rows::row::<Module, _>(&view, 1), Some(wanted));
     let model = load_root(alloc, root.as_slice())?;
-    assert_eq!(rt; model_records::row::<Module>(&model, 1), Some(wanted));
+    assert_eq!(rt; model.row::<Module>(1), Some(wanted));
     Ok(())
 }
 
@@ -75,8 +75,8 @@ fn the_rows_of_two_types(rt: HostRuntime) -> Result<(), Fail> {
     let root = two_types(alloc)?;
     let view = open_root(root.as_slice())?;
     let model = load_root(alloc, root.as_slice())?;
-    let mut shown = view_records::rows::<TypeDef>(&view);
-    let mut owned = model_records::rows::<TypeDef>(&model);
+    let mut shown = typed_rows::rows::<TypeDef, _>(&view);
+    let mut owned = model.rows::<TypeDef>();
     assert_eq!(rt; (shown.len(), owned.len()), (2, 2));
     for (wanted, full_name) in TYPES.iter().zip(["<Module>", "N.C"]) {
         assert_eq!(rt; shown.next(), Some(*wanted));
@@ -99,21 +99,21 @@ fn the_members_of_two_types(rt: HostRuntime) -> Result<(), Fail> {
         return Err("no signature of a field".into());
     };
     for (row, name) in [(1, "a"), (2, "b")] {
-        let shown = view_records::row::<Field<_>>(&view, row).ok_or("no field of the view")?;
+        let shown = typed_rows::row::<Field<_>, _>(&view, row).ok_or("no field of the view")?;
         assert_eq!(rt; (shown.flags, shown.name), (1, name));
         assert_eq!(rt; shown.signature, [0x06, 0x08].as_slice());
-        let owned = model_records::row::<Field<_>>(&model, row).ok_or("no field of the model")?;
+        let owned = model.row::<Field<_>>(row).ok_or("no field of the model")?;
         assert_eq!(rt; (owned.flags, owned.name), (1, name));
         assert!(rt; *owned.signature == number);
     }
     let Ok(nothing) = decode(alloc, &[0, 0, 1], SigKind::MethodDef) else {
         return Err("no signature of a method".into());
     };
-    let shown = view_records::row::<MethodDef<_>>(&view, 1).ok_or("no method of the view")?;
+    let shown = typed_rows::row::<MethodDef<_>, _>(&view, 1).ok_or("no method of the view")?;
     assert_eq!(rt; (shown.rva, shown.impl_flags, shown.flags), (0, 0, 6));
     assert_eq!(rt; (shown.name, shown.param_list), ("M", 1));
     assert_eq!(rt; shown.signature, [0, 0, 1].as_slice());
-    let owned = model_records::row::<MethodDef<_>>(&model, 1).ok_or("no method of the model")?;
+    let owned = model.row::<MethodDef<_>>(1).ok_or("no method of the model")?;
     assert_eq!(rt; (owned.rva, owned.impl_flags, owned.flags), (0, 0, 6));
     assert_eq!(rt; (owned.name, owned.param_list), ("M", 1));
     assert!(rt; *owned.signature == nothing);
@@ -137,9 +137,9 @@ fn starts_that_are_null(rt: HostRuntime) -> Result<(), Fail> {
     let view = open_root(root.as_slice())?;
     let model = load_root(alloc, root.as_slice())?;
     for (row, start) in [(1, 1), (2, 3), (3, 3)] {
-        let shown = view_records::row::<TypeDef>(&view, row).ok_or("no type of the view")?;
+        let shown = typed_rows::row::<TypeDef, _>(&view, row).ok_or("no type of the view")?;
         assert_eq!(rt; shown.field_list, start);
-        let owned = model_records::row::<TypeDef>(&model, row).ok_or("no type of the model")?;
+        let owned = model.row::<TypeDef>(row).ok_or("no type of the model")?;
         assert_eq!(rt; owned, shown);
     }
     Ok(())
@@ -163,13 +163,13 @@ fn null_by_each_tag(rt: HostRuntime) -> Result<(), Fail> {
         let root = root_of(alloc, &[(0x27, 1)], &rows, &[(STRINGS, b"\0T\0N.M\0")])?;
         let view = open_root(root.as_slice())?;
         assert_eq!(rt;
-            view_records::row::<ExportedType>(&view, 1),
+            typed_rows::row::<ExportedType, _>(&view, 1),
             Some(wanted),
             "tag {tag}"
         );
         let model = load_root(alloc, root.as_slice())?;
         assert_eq!(rt;
-            model_records::row::<ExportedType>(&model, 1),
+            model.row::<ExportedType>(1),
             Some(wanted),
             "tag {tag}"
         );

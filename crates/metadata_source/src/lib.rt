@@ -1,0 +1,27 @@
+//! A metadata, whatever holds it (ECMA-335 II.22): a root that was opened in place, or tables in memory.
+//!
+//! A type that holds one implements [`ReadMetadata`]. The look-ups here are written and proved once, for
+//! every such type. They do not allocate.
+//!
+//! ```text
+//! let class = find_type(&source, "System", "Object")?;
+//! for method in methods_of(&source, class) { .. }
+//! for row in rows_by_key(&source, TableId::CustomAttribute, token) { .. }
+//! ```
+#![tactic(auto)]
+
+mod by_key;
+mod key_cells;
+mod keys_of;
+mod member_lists;
+mod row_numbers;
+mod runs_of;
+mod source;
+mod type_names;
+
+pub use by_key::rows_by_key;
+pub use keys_of::KeysOf;
+pub use member_lists::MemberList;
+pub use runs_of::{events_of, fields_of, methods_of, params_of, properties_of};
+pub use source::ReadMetadata;
+pub use type_names::find_type;

@@ -1,0 +1,55 @@
+ghost use Rattle.schema.specs.CellColumns.{column_of};
+ghost use Rattle.metadata.specs.Source.{number_of};
+ghost use Rattle.metadata.specs.Model.{IsModel};
+ghost use Rattle.metadata.specs.Placed.{source_of};
+ghost use Rattle.opening.specs.Views.{row_count};
+
+use crate::view::View;
+use metadata::{keys_are_in_order, models_are_read, models_of_roots_are_valid};
+use metadata_source::{MemberList, ReadMetadata};
+use reading::{is_text_at, start_at};
+use schema::{TableId, column_of_cell};
+
+impl ReadMetadata for View<'_> {
+    ghost shows = { IsModel };
+
+    ghost row_count = { row_count };
+
+    ghost key_number = { λ root table cell row. number_of (source_of root) table row (column_of table cell) };
+
+    fn holds_one(&self) {
+        models_are_read();
+        models_of_roots_are_valid();
+        keys_are_in_order();
+        // The root has a model.
+        let _root = self.root();
+    }
+
+    fn count(&self, table: TableId) -> u32 {
+        View::count(self, table)
+    }
+
+    fn start(&self, list: MemberList, row: u32) -> u32 {
+        start_at(
+            self.source(),
+            self.known(),
+            list.owner(),
+            row,
+            list.cell(),
+            list.member(),
+        )
+    }
+
+    fn is_text(&self, table: TableId, row: u32, cell: usize, sought: &str) -> bool {
+        is_text_at(self.source(), table, row, cell, sought)
+    }
+
+    fn key(&self, table: TableId, row: u32, cell: usize) -> u32 {
+        self.source()
+            .number(table, row, column_of_cell(table, cell))
+    }
+
+    fn in_order(&self, table: TableId) -> bool {
+        View::in_order(self, table)
+    }
+}

@@ -1,0 +1,66 @@
+ghost use Rattle.std.specs.Prelude.{◌≡◌, ◌≤◌};
+ghost use Rattle.cells.specs.Said.{said};
+ghost use Rattle.metadata.specs.Metadata.{Metadata, count_in};
+ghost use Rattle.metadata.specs.Valid.{row_in};
+ghost use Rattle.metadata.specs.KeyOrder.{key_in, key_number};
+
+use crate::valid_model::Model;
+use cells::Cell;
+use metadata::row_number;
+use metadata_source::{MemberList, ReadMetadata};
+use schema::{ColumnKind, TableId, column_of_cell, columns};
+
+impl ReadMetadata for Model {
+    ghost shows = { λ model other. model ≡ other };
+
+    ghost row_count = { count_in };
+
+    ghost key_number = { key_in };
+
+    fn holds_one(&self) {
+        let _tables = self.tables();
+    }
+
+    fn count(&self, table: TableId) -> u32 {
+        Model::count(self, table)
+    }
+
+    fn start(&self, list: MemberList, row: u32) -> u32 {
+        // The cell is one of a valid model.
+        let _tables = self.tables();
+        match self.cell(list.owner(), row, list.cell()) {
+            Cell::Start(start) => *start,
+            _ => unreachable!(),
+        }
+    }
+
+    fn is_text(&self, table: TableId, row: u32, cell: usize, sought: &str) -> bool {
+        match self.cell(table, row, cell) {
+            Cell::Text(text) => text.as_str() == sought,
+            _ => false,
+        }
+    }
+
+    fn key(&self, table: TableId, row: u32, cell: usize) -> u32 {
+        // The cell is one of a valid model.
+        let _tables = self.tables();
+        let kind = columns(table)[column_of_cell(table, cell)].kind;
+        let key = self.cell(table, row, cell);
+        key_number(kind, key)
+    }
+
+    fn in_order(&self, table: TableId) -> bool {
+        Model::in_order(self, table)
+    }
+}
+
+/// The key number of a cell in a column of a kind (II.24.2.6). Null is 0.
+fn key_number(kind: ColumnKind, cell: &Cell) -> u32
+    requires { row_in (said cell.now) ≤ 0xFFFFFF }
+    ensures { result ≡ key_number kind (said cell.now) }
+{
+    match cell {
+        Cell::Ref(Some(token)) => row_number(kind, *token) as u32,
+        _ => 0,
+    }
+}

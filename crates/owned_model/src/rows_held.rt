@@ -1,0 +1,58 @@
+ghost use Rattle.std.specs.Prelude.{◌≡◌, ◌≤◌, ◌↔◌, Some, IsSome, IfSome, Contains};
+ghost use Rattle.schema.specs.CodedIndexes.{tables_of};
+ghost use Rattle.metadata.specs.Metadata.{Metadata, row_of, count_in};
+ghost use Rattle.metadata.specs.Lookups.{HasRow};
+
+use crate::valid_model::Model;
+use records::{CellRow, CodedRow, FromRow, owned_cells_are_rows, valid_rows_are_of_kinds};
+use schema::{TableId, Token};
+use typed_rows::{ReadRows, Records};
+
+impl<'m> ReadRows<'m> for &'m Model {
+    type Form = CellRow<'m>;
+
+    ghost shows = { λ model other. model.now ≡ other };
+
+    ghost row_count = { λ model table. count_in model.now table };
+
+    fn count_rows(&self, table: TableId) -> u32 {
+        self.count(table)
+    }
+
+    fn row_at(&self, table: TableId, row: u32) -> CellRow<'m> {
+        valid_rows_are_of_kinds();
+        owned_cells_are_rows();
+        // The cells are those of a valid model.
+        let _tables = self.tables();
+        CellRow {
+            cells: self.cells(table, row),
+        }
+    }
+}
+
+impl Model {
+    /// The record of a row, counted from 1; `None` if the table has no such row.
+    pub fn row<'m, R: FromRow<'m, CellRow<'m>>>(&'m self, row: u32) -> Option<R>
+        ensures there { IsSome result ↔ HasRow self.now R.table row }
+        ensures fields { IfSome result (λ it. R.fields it ≡ row_of self.now R.table row) }
+    {
+        typed_rows::row(self, row)
+    }
+
+    /// The records of a table's rows, in order.
+    pub fn rows<'m, R: FromRow<'m, CellRow<'m>>>(&'m self) -> Records<'m, &'m Model, R>
+        ensures { result ≡ record { source = self.entry; next = 1; last = count_in self.now R.table } }
+    {
+        typed_rows::rows(self)
+    }
+
+    /// The record of the row that a token names, in the variant of its table; `None` if the coded index does
+    /// not list that table (II.24.2.6), or the table has no such row.
+    pub fn resolve<'m, R: CodedRow<'m, CellRow<'m>>>(&'m self, token: Token) -> Option<R>
+        ensures there { IsSome result ↔ (Contains (tables_of R.index) (Some token.table) × HasRow self.now token.table token.row) }
+        ensures table { IfSome result (λ it. R.table_of it ≡ token.table) }
+        ensures fields { IfSome result (λ it. R.fields it ≡ row_of self.now token.table token.row) }
+    {
+        typed_rows::resolve(self, token)
+    }
+}

@@ -1,7 +1,0 @@
-use Rattle.std.proofs.Common.{◌≡◌, ℕ, ◌<◌, false, None, slice_index_or}
-use Rattle.signature_values.specs.Parts.{is_table}
-use Rattle.schema.specs.CodedIndexes.{tables_of}
-use Rattle.refusals.proofs.key_numbers.tag_of.Given as goal
-
-abbrev pub invariant-loop-tag : goal.invariant-loop-tag
-invariant-loop-tag l = (k : ℕ) → k < l.tag → is_table l.table (slice_index_or l.listed k None) ≡ false

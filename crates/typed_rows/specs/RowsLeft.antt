@@ -1,0 +1,19 @@
+-- The rows of a table that are left.
+use Rattle.std.specs.Prelude.{◌≡◌, ℕ, ◌+◌, ◌<◌, ◌≤◌, List, Option, MatchOption}
+use Rattle.schema.specs.declared.table.TableId.{TableId}
+use Rattle.metadata.specs.Cell.{Cell}
+use Rattle.metadata.specs.Metadata.{Metadata, row_of}
+
+-- the rows of a table from one to the last, of what has them
+pub record RowsLeft (S : Type 0) : Type 0 where
+  pub source : S
+  pub next : ℕ
+  pub last : ℕ
+
+-- the next row comes, whose fields are those of the row of every model that is shown; or there is none, and nothing changes
+abbrev pub YieldsRow : {S R : Type 0} → (S → Metadata → Type 0) → (R → List Cell) → TableId → RowsLeft S → Option R → RowsLeft S → Type 0
+YieldsRow shows fields table before result after =
+    MatchOption result ((before.last < before.next) × (after ≡ before)) (λ it.
+    (before.next ≤ before.last)
+    × (after ≡ record before { next = before.next + 1 })
+    × ((model : Metadata) → shows before.source model → fields it ≡ row_of model table before.next))

@@ -1,0 +1,70 @@
+ghost use Rattle.typed_rows.specs.RefRows.{HoldsAt, SaysAt};
+
+use opening::{CellRef, TableId, Token};
+use records::Row;
+use schema::SigKind;
+
+/// The cells of a row. They borrow from the bytes that were opened.
+#[derive(Clone, Copy, Debug)]
+pub struct RefRow<'a> {
+    pub(crate) table: TableId,
+    // The first values are the row's cells; nothing reads the values after them.
+    pub(crate) values: [CellRef<'a>; 9],
+}
+
+impl<'a> Row<'a> for RefRow<'a> {
+    type Signature = &'a [u8];
+
+    ghost holds = { HoldsAt };
+
+    ghost says = { SaysAt };
+
+    fn number(&self, place: usize) -> u32 {
+        match self.values.get(place) {
+            Some(CellRef::Number(number)) => *number,
+            _ => unreachable!(),
+        }
+    }
+
+    fn text(&self, place: usize) -> &'a str {
+        match self.values.get(place) {
+            Some(CellRef::Text(text)) => *text,
+            _ => unreachable!(),
+        }
+    }
+
+    fn bytes(&self, place: usize) -> &'a [u8] {
+        match self.values.get(place) {
+            Some(CellRef::Bytes(bytes)) => *bytes,
+            _ => unreachable!(),
+        }
+    }
+
+    fn guid(&self, place: usize) -> Option<[u8; 16]> {
+        match self.values.get(place) {
+            Some(CellRef::Guid(guid)) => *guid,
+            _ => unreachable!(),
+        }
+    }
+
+    fn reference(&self, place: usize) -> Option<Token> {
+        match self.values.get(place) {
+            Some(CellRef::Ref(reference)) => *reference,
+            _ => unreachable!(),
+        }
+    }
+
+    fn start(&self, place: usize) -> u32 {
+        match self.values.get(place) {
+            Some(CellRef::Start(row)) => *row,
+            _ => unreachable!(),
+        }
+    }
+
+    fn signature(&self, place: usize, _column: SigKind) -> &'a [u8] {
+        match self.values.get(place) {
+            Some(CellRef::Sig(blob)) => *blob,
+            _ => unreachable!(),
+        }
+    }
+}

@@ -1,0 +1,51 @@
+ghost use Rattle.std.specs.Prelude.{◌≤◌, ◌<◌, ℕ, slice_get};
+ghost use Rattle.schema.specs.CellColumns.{cell_count};
+ghost use Rattle.metadata.specs.Metadata.{Metadata, row_of, cell_in};
+ghost use Rattle.metadata.specs.Model.{IsModel};
+ghost use Rattle.opening.specs.Views.{row_count};
+ghost use Rattle.records.specs.Kinds.{kinds_of};
+ghost use Rattle.records.specs.Shapes.{AreHeld, AreSaid};
+ghost use Rattle.typed_rows.specs.RefRows.{IsShown, HoldsAt, SaysAt};
+
+use crate::ref_row::RefRow;
+use metadata::{models_are_read, models_of_roots_are_valid};
+use opening::{CellRef, TableId, View};
+use records::{blobs_say_signatures, cells_have_kinds, valid_rows_are_of_kinds};
+use schema::{cell_count, columns_stand};
+
+/// The values of a row's cells, by their indexes.
+fn values_of<'a>(view: &View<'a>, table: TableId, row: u32) -> [CellRef<'a>; 9]
+    requires first { 1 ≤ row }
+    requires last { row ≤ row_count view.now table }
+    ensures { (model : Metadata) → IsModel view.now model → (place : ℕ) → place < cell_count table
+        → IsShown (slice_get result place) table place (cell_in model table row place) }
+{
+    columns_stand();
+    let mut values = [CellRef::Number(0); 9];
+    for place in 0..cell_count(table) {
+        values[place] = view.cell(table, row, place);
+    }
+    values
+}
+
+/// The cells of a row of any table, read in place.
+pub fn cells_of<'a>(view: &View<'a>, table: TableId, row: u32) -> RefRow<'a>
+    requires first { 1 ≤ row }
+    requires last { row ≤ row_count view.now table }
+    // They are of the shapes of the table's columns.
+    ensures held { AreHeld (HoldsAt result) 0 (kinds_of table) }
+    // They denote the cells of the row in every model.
+    ensures model { (model : Metadata) → IsModel view.now model → AreSaid (SaysAt result) 0 (kinds_of table) (row_of model table row) }
+{
+    models_are_read();
+    models_of_roots_are_valid();
+    valid_rows_are_of_kinds();
+    cells_have_kinds();
+    blobs_say_signatures();
+    // The root has a model.
+    let _root = view.root();
+    RefRow {
+        table,
+        values: values_of(view, table, row),
+    }
+}
