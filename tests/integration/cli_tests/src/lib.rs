@@ -1,0 +1,22 @@
+//! Tests of the crates of the program, by the public calls of `cli`: the lines that it prints, its exit codes, its help
+//! and its usage texts, on files that the tests write. The tests of a crate are in the module of its name.
+//! [`file_named`] returns the file that the arguments name.
+
+mod named;
+
+pub use named::file_named;
+
+#[cfg(test)]
+mod cli;
+#[cfg(test)]
+mod command_line;
+#[cfg(test)]
+mod explanations;
+#[cfg(test)]
+mod printed_rows;
+#[cfg(test)]
+mod reports;
+#[cfg(test)]
+mod runs;
+#[cfg(test)]
+mod samples;

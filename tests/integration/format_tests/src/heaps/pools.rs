@@ -1,0 +1,113 @@
+use crate::heaps::GUIDS;
+use heaps::{BlobPool, GuidPool, PoolError, TextPool};
+use std::alloc::Global;
+use std::test::Fail;
+
+/// The pool of these blobs, in their order of use.
+fn pool_of_blobs(alloc: Global, blobs: &[&[u8]]) -> Result<BlobPool, PoolError> {
+    let mut pool = BlobPool::new(alloc);
+    for blob in blobs {
+        let _index = pool.add(blob)?;
+    }
+    Ok(pool)
+}
+
+/// The pool of these GUIDs, in their order of use, without null.
+fn pool_of_guids(alloc: Global, guids: &[Option<[u8; 16]>]) -> Result<GuidPool, PoolError> {
+    let mut pool = GuidPool::new(alloc);
+    for guid in guids {
+        let _index = pool.add(*guid)?;
+    }
+    Ok(pool)
+}
+
+#[test]
+fn plans_texts(rt: HostRuntime) -> Result<(), Fail> {
+    let pool = TextPool::plan(rt.alloc(), &["a.dll", "b", "a.dll", ""])?;
+    assert_eq!(rt; pool.add("a.dll"), 1);
+    assert_eq!(rt; pool.add("b"), 7);
+    assert_eq!(rt; pool.add(""), 0);
+    assert!(rt; pool.bytes() == [0x00, 0x61, 0x2E, 0x64, 0x6C, 0x6C, 0x00, 0x62, 0x00].as_slice());
+    let pool = TextPool::plan(rt.alloc(), &["me", "Name", "Game", "ame"])?;
+    assert_eq!(rt; pool.add("me"), 3);
+    assert_eq!(rt; pool.add("Name"), 1);
+    assert_eq!(rt; pool.add("Game"), 6);
+    assert_eq!(rt; pool.add("ame"), 2);
+    assert!(rt;
+        pool.bytes()
+            == [
+                0x00, 0x4E, 0x61, 0x6D, 0x65, 0x00, 0x47, 0x61, 0x6D, 0x65, 0x00,
+            ]
+            .as_slice()
+    );
+    let pool = TextPool::plan(rt.alloc(), &["", ""])?;
+    assert!(rt; pool.bytes().is_empty());
+    Ok(())
+}
+
+#[test]
+fn tells_indexes_by_place(rt: HostRuntime) -> Result<(), Fail> {
+    let pool = TextPool::plan(rt.alloc(), &["dll", "", "a.dll", "dll", "b", "a.dll"])?;
+    assert!(rt; pool.indexes() == [3, 0, 1, 3, 7, 1].as_slice());
+    let pool = TextPool::plan(rt.alloc(), &["me", "Name", "Game", "ame"])?;
+    assert!(rt; pool.indexes() == [3, 1, 6, 2].as_slice());
+    let pool = TextPool::plan(rt.alloc(), &["", ""])?;
+    assert!(rt; pool.indexes() == [0, 0].as_slice());
+    Ok(())
+}
+
+#[test]
+fn pools_blobs(rt: HostRuntime) -> Result<(), Fail> {
+    let mut pool = BlobPool::new(rt.alloc());
+    assert!(rt; pool.bytes().is_empty());
+    assert_eq!(rt; pool.add(&[]), Ok(0));
+    assert!(rt; pool.bytes().is_empty());
+    for (blob, index) in [
+        ([0xAA, 0xBB].as_slice(), 1),
+        ([].as_slice(), 0),
+        ([0; 128].as_slice(), 4),
+        ([0x01].as_slice(), 134),
+        ([0xAA, 0xBB].as_slice(), 1),
+        ([0xBB].as_slice(), 136),
+        ([0; 127].as_slice(), 138),
+        ([0xCC; 0x4000].as_slice(), 266),
+        ([0xDD].as_slice(), 0x4000 + 270),
+    ] {
+        assert_eq!(rt; pool.add(blob), Ok(index));
+    }
+    assert!(rt;
+        pool.bytes()
+            .starts_with(&[0x00, 0x02, 0xAA, 0xBB, 0x80, 0x80, 0x00])
+    );
+    assert!(rt; pool.bytes().ends_with(&[0xCC, 0x01, 0xDD]));
+    assert_eq!(rt; pool.bytes().len(), 0x4000 + 272);
+    for (index, blob) in [
+        (1, [0xAA, 0xBB].as_slice()),
+        (4, [0; 128].as_slice()),
+        (266, [0xCC; 0x4000].as_slice()),
+    ] {
+        assert!(rt; heaps::blob(pool.bytes(), index) == Ok(blob), "at {index}");
+    }
+    let pool = pool_of_blobs(rt.alloc(), &[&[0xAA, 0xBB], &[], &[0x01], &[0xAA, 0xBB]])?;
+    assert!(rt; pool.bytes() == [0x00, 0x02, 0xAA, 0xBB, 0x01, 0x01].as_slice());
+    Ok(())
+}
+
+#[test]
+fn pools_guids(rt: HostRuntime) -> Result<(), Fail> {
+    let mut pool = GuidPool::new(rt.alloc());
+    assert!(rt; pool.bytes().is_empty());
+    assert_eq!(rt; pool.add(None), Ok(0));
+    assert!(rt; pool.bytes().is_empty());
+    assert_eq!(rt; pool.add(Some([0; 16])), Ok(1));
+    assert_eq!(rt; pool.add(Some(GUIDS)), Ok(2));
+    assert_eq!(rt; pool.add(Some([0; 16])), Ok(1));
+    assert_eq!(rt; pool.add(Some([7; 16])), Ok(3));
+    assert_eq!(rt; pool.add(None), Ok(0));
+    assert_eq!(rt; pool.bytes().len(), 48);
+    assert_eq!(rt; heaps::guid(pool.bytes(), 2), Ok(Some(GUIDS)));
+    let pool = pool_of_guids(rt.alloc(), &[Some(GUIDS), None, Some([0; 16]), Some(GUIDS)])?;
+    assert_eq!(rt; pool.bytes().len(), 32);
+    assert_eq!(rt; heaps::guid(pool.bytes(), 1), Ok(Some(GUIDS)));
+    Ok(())
+}

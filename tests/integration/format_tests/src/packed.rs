@@ -1,0 +1,4 @@
+//! Tests of `packed`: numbers and faults.
+
+mod faults;
+mod numbers;

@@ -1,0 +1,123 @@
+use crate::signatures::blobs::{BODIES, CORES};
+use copier::{copy_body, is_same};
+use encoder::{encode_body, spelled_len};
+use recogniser::recognise;
+use schema::SigKind;
+use signatures::{Signature, decode, encode};
+use std::alloc::Global;
+use std::process::Abort;
+use std::test::Fail;
+
+/// That bytes in their shortest spelling are decoded as a value that is shown so, encoded again, copied
+/// and equal to their copy.
+fn is_spelled(
+    rt: &impl Abort,
+    alloc: Global,
+    kind: SigKind,
+    bytes: &[u8],
+    shown: &str,
+) -> Result<(), Fail> {
+    assert!(rt; recognise(bytes, kind), "{bytes:?}");
+    let signature = decode(alloc, bytes, kind).expect(rt, "spelled");
+    let text = format!(in alloc; "{:?}", signature.body())?;
+    assert_eq!(rt; text.as_str(), shown);
+    assert!(rt; signature.is_held_by(kind), "{bytes:?}");
+    let encoded = encode(alloc, &signature)?;
+    assert_eq!(rt; encoded.as_slice(), bytes);
+    let copy = signature.copy(alloc)?;
+    assert!(rt; copy == signature, "{bytes:?}");
+    let text = format!(in alloc; "{:?}", copy.body())?;
+    assert_eq!(rt; text.as_str(), shown);
+    Ok(())
+}
+
+#[test]
+fn each_type_is_spelled(rt: HostRuntime) -> Result<(), Fail> {
+    for core in CORES {
+        let shown = format!(in rt.alloc();
+            "TypeSpec(Slot(Slot {{ mods: [], kind: Plain({}) }}))",
+            core.shown
+        )?;
+        is_spelled(
+            &rt,
+            rt.alloc(),
+            SigKind::TypeSpec,
+            core.bytes,
+            shown.as_str(),
+        )?;
+    }
+    Ok(())
+}
+
+#[test]
+fn each_signature_is_spelled(rt: HostRuntime) -> Result<(), Fail> {
+    for body in BODIES {
+        is_spelled(&rt, rt.alloc(), body.kind, body.bytes, body.shown)?;
+    }
+    Ok(())
+}
+
+/// The calls below those of signatures answer the same.
+#[test]
+fn bodies_are_measured_and_copied(rt: HostRuntime) -> Result<(), Fail> {
+    for blob in BODIES {
+        let signature = decode(rt.alloc(), blob.bytes, blob.kind).expect(&rt, "spelled");
+        let body = signature.body();
+        assert_eq!(rt; spelled_len(body), Some(blob.bytes.len()));
+        let copy = copy_body(rt.alloc(), body)?;
+        assert!(rt; is_same(&copy, body), "{body:?}");
+        let made = Signature::new(copy).expect(&rt, "spelled");
+        let encoded = encode_body(rt.alloc(), made.body()).expect(&rt, "memory");
+        assert_eq!(rt; encoded.as_slice(), blob.bytes);
+    }
+    Ok(())
+}
+
+/// Types are equal exactly where their bytes are: none of the table stands twice in it.
+#[test]
+fn other_types_are_not_equal(rt: HostRuntime) {
+    for (place, blob) in CORES.iter().enumerate() {
+        let one = decode(rt.alloc(), blob.bytes, SigKind::TypeSpec).expect(&rt, "spelled");
+        for (other_place, other) in CORES.iter().enumerate() {
+            let other = decode(rt.alloc(), other.bytes, SigKind::TypeSpec).expect(&rt, "spelled");
+            assert_eq!(rt; one == other, place == other_place, "{one:?} {other:?}");
+        }
+    }
+}
+
+/// Signatures are equal exactly where they are shown alike, whatever holds them.
+#[test]
+fn other_signatures_are_not_equal(rt: HostRuntime) {
+    for (place, blob) in BODIES.iter().enumerate() {
+        let one = decode(rt.alloc(), blob.bytes, blob.kind).expect(&rt, "spelled");
+        for (other_place, other) in BODIES.iter().enumerate() {
+            let other = decode(rt.alloc(), other.bytes, other.kind).expect(&rt, "spelled");
+            assert_eq!(rt; one == other, place == other_place, "{one:?} {other:?}");
+        }
+    }
+}
+
+/// A number, a count and an index that stand in longer forms than they need.
+#[test]
+fn longer_spellings_are_shortened(rt: HostRuntime) -> Result<(), Fail> {
+    for (long, short) in [
+        (
+            [0x15, 0x12, 0x80, 0x05, 0x01, 0x08].as_slice(),
+            [0x15, 0x12, 0x05, 0x01, 0x08].as_slice(),
+        ),
+        (
+            [0x15, 0x12, 0x05, 0xC0, 0x00, 0x00, 0x01, 0x08].as_slice(),
+            [0x15, 0x12, 0x05, 0x01, 0x08].as_slice(),
+        ),
+        ([0x13, 0x80, 0x07].as_slice(), [0x13, 0x07].as_slice()),
+        (
+            [0x14, 0x08, 0x01, 0x00, 0x01, 0xC0, 0x00, 0x00, 0x06].as_slice(),
+            [0x14, 0x08, 0x01, 0x00, 0x01, 0x06].as_slice(),
+        ),
+    ] {
+        let signature = decode(rt.alloc(), long, SigKind::TypeSpec).expect(&rt, "spelled");
+        let encoded = encode(rt.alloc(), &signature)?;
+        assert_eq!(rt; encoded.as_slice(), short);
+    }
+    Ok(())
+}
