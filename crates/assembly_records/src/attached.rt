@@ -1,5 +1,5 @@
 ghost use Rattle.std.specs.Prelude.{◌≡◌, [], ◌∷◌};
-ghost use Rattle.schema.specs.declared.table.TableId.TheVariants as table;
+ghost use Rattle.table_schema.specs.declared.table.TableId.TheVariants as table;
 ghost use Rattle.metadata.specs.Cell.{Number, Bytes, Ref};
 
 use records::{Cell, FieldValue, FromRow, Record, Row, TableId, Token, owned_cells};

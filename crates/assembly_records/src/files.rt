@@ -1,5 +1,5 @@
 ghost use Rattle.std.specs.Prelude.{◌≡◌, [], ◌∷◌, Some};
-ghost use Rattle.schema.specs.declared.table.TableId.TheVariants as table;
+ghost use Rattle.table_schema.specs.declared.table.TableId.TheVariants as table;
 ghost use Rattle.metadata.specs.Cell.{Number, Text, Bytes, Ref};
 ghost use Rattle.records.specs.Names.{full_name};
 

@@ -1,11 +1,11 @@
 ghost use Rattle.std.specs.Prelude.{◌≡◌};
-ghost use Rattle.schema.specs.declared.coded.Coded.TheVariants as coded;
-ghost use Rattle.schema.specs.declared.table.TableId.TheVariants as table;
+ghost use Rattle.table_schema.specs.declared.coded.Coded.TheVariants as coded;
+ghost use Rattle.table_schema.specs.declared.table.TableId.TheVariants as table;
 
 use crate::references::ModuleRef;
 use member_records::{MemberRef, MethodDef};
 use records::{CodedRow, FromRow, IsSignature, Row, TableId, TypeDef, TypeRef, TypeSpec};
-use schema::Coded;
+use table_schema::Coded;
 
 /// The parent of a member of another module, which a MemberRefParent names (II.24.2.6).
 #[derive(Clone, Copy, Debug)]

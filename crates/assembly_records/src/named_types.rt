@@ -1,11 +1,11 @@
 ghost use Rattle.std.specs.Prelude.{◌≡◌};
-ghost use Rattle.schema.specs.declared.coded.Coded.TheVariants as coded;
-ghost use Rattle.schema.specs.declared.table.TableId.TheVariants as table;
+ghost use Rattle.table_schema.specs.declared.coded.Coded.TheVariants as coded;
+ghost use Rattle.table_schema.specs.declared.table.TableId.TheVariants as table;
 
 use crate::files::{ExportedType, File};
 use crate::references::{AssemblyRef, ModuleRef};
 use records::{CodedRow, FromRow, IsSignature, Module, Row, TableId, TypeDef, TypeRef, TypeSpec};
-use schema::Coded;
+use table_schema::Coded;
 
 /// A type that a TypeDefOrRef names (II.24.2.6).
 #[derive(Clone, Copy, Debug)]

@@ -2,22 +2,22 @@
 use Rattle.std.proofs.Common.{◌≡◌, ℕ, ◌+◌, ◌-◌, ◌*◌, ◌^◌, ◌<◌, ◌≤◌, Bool, true, List, [], ◌∷◌, ◌++◌, zero, suc, length, get_or, map, All, Contains, IsUtf8, refl, sym, ap, ◌∙◌, ◌⊎◌, Some, arith}
 use Rattle.std.proofs.lemmas.List.{get_or-map}
 use Rattle.packed.specs.Number.{IsNumber}
-use Rattle.schema.specs.declared.table.TableId.{TableId}
-use Rattle.schema.specs.declared.table.TableId.TheVariants.{Module}
-use Rattle.schema.specs.declared.coded.Coded.{Coded}
-use Rattle.schema.specs.declared.column.SigKind.{SigKind}
-use Rattle.schema.specs.Tables.{tables, position_of, table_number}
-use Rattle.schema.specs.Columns.{columns_of, column_at, key_of, IsReference, MayBeNull}
-use Rattle.schema.specs.CodedIndexes.{tables_of, tag_bits}
+use Rattle.table_schema.specs.declared.table.TableId.{TableId}
+use Rattle.table_schema.specs.declared.table.TableId.TheVariants.{Module}
+use Rattle.table_schema.specs.declared.coded.Coded.{Coded}
+use Rattle.table_schema.specs.declared.column.SigKind.{SigKind}
+use Rattle.table_schema.specs.Tables.{tables, position_of, table_number}
+use Rattle.table_schema.specs.Columns.{columns_of, column_at, key_of, IsReference, MayBeNull}
+use Rattle.table_schema.specs.CodedIndexes.{tables_of, tag_bits}
 use Rattle.schema.specs.LaidOut.{number_bytes, bits_of}
 use Rattle.schema.specs.Header.{has_bit}
-use Rattle.heaps.specs.BlobHeap.{blob_heap, blob_index}
-use Rattle.heaps.specs.Distinct.{distinct}
-use Rattle.heaps.specs.Entries.{HasNoNul, IsBlob, IsGuid, IsText}
-use Rattle.heaps.specs.GuidHeap.{guid_heap, guid_index}
-use Rattle.heaps.specs.TextHeap.{holders, text_heap, text_index}
-use Rattle.signature_values.specs.Syntax.{Body}
-use Rattle.signature_values.specs.Spells.{Holds, Spells, IsSpellable, short}
+use Rattle.heap_pools.specs.BlobHeap.{blob_heap, blob_index}
+use Rattle.heap_pools.specs.Distinct.{distinct}
+use Rattle.heap_entries.specs.Entries.{HasNoNul, IsBlob, IsGuid, IsText}
+use Rattle.heap_pools.specs.GuidHeap.{guid_heap, guid_index}
+use Rattle.heap_pools.specs.TextHeap.{holders, text_heap, text_index}
+use Rattle.sig_grammar.specs.Syntax.{Body}
+use Rattle.sig_grammar.specs.Spells.{Holds, Spells, IsSpellable, short}
 
 pub record Facts : Type 0 where
   pub text : (used : List (List ℕ)) (text rest : List ℕ) → Contains used text → HasNoNul text → IsUtf8 text

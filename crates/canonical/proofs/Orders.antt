@@ -4,21 +4,21 @@ use Rattle.std.specs.Prelude.{slice_index}
 use Rattle.std.specs.List.{position_or_len}
 use Rattle.std.proofs.lemmas.List.{length-map, get_or-map}
 use Rattle.std.proofs.Math.Nat.{mod-eq_of_lt, one-le-pow}
-use Rattle.schema.specs.declared.table.TableId.{TableId}
-use Rattle.schema.specs.declared.table.TableId.TheVariants.{NestedClass, TypeDef}
-use Rattle.schema.specs.declared.coded.Coded.{Coded}
-use Rattle.schema.specs.declared.column.Column.{Column}
-use Rattle.schema.specs.declared.column.ColumnKind.{ColumnKind}
-use Rattle.schema.specs.declared.column.ColumnKind.TheVariants as kind
-use Rattle.schema.specs.Columns.{columns_of, column_at, key_of, col, IsReference}
-use Rattle.schema.specs.CodedIndexes.{tables_of, tag_bits}
+use Rattle.table_schema.specs.declared.table.TableId.{TableId}
+use Rattle.table_schema.specs.declared.table.TableId.TheVariants.{NestedClass, TypeDef}
+use Rattle.table_schema.specs.declared.coded.Coded.{Coded}
+use Rattle.table_schema.specs.declared.column.Column.{Column}
+use Rattle.table_schema.specs.declared.column.ColumnKind.{ColumnKind}
+use Rattle.table_schema.specs.declared.column.ColumnKind.TheVariants as kind
+use Rattle.table_schema.specs.Columns.{columns_of, column_at, key_of, col, IsReference}
+use Rattle.table_schema.specs.CodedIndexes.{tables_of, tag_bits}
 use Rattle.schema.specs.Sizes.{count_of, kind_width, row_index_width, coded_width, width_of}
-use Rattle.signature_values.specs.Parts.{is_table}
+use Rattle.sig_grammar.specs.Parts.{is_table}
 use Rattle.metadata.specs.Cell.{Cell}
 use Rattle.metadata.specs.Cell.{Number}
 use Rattle.metadata.specs.Metadata.{Metadata, rows_of, count_in, cell_in}
 use Rattle.metadata.specs.Source.{number_of}
-use Rattle.schema.specs.CellColumns.{is_padding, cell_columns, cell_count, column_of}
+use Rattle.table_schema.specs.CellColumns.{is_padding, cell_columns, cell_count, column_of}
 use Rattle.metadata.specs.Rows.{table_at}
 use Rattle.metadata.specs.Lookups.{IsKeyPlace}
 use Rattle.metadata.specs.KeyOrder.{key_number, key_in, IsKeyOrdered}

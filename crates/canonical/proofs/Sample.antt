@@ -2,18 +2,18 @@
 use Rattle.std.proofs.Common.{◌≡◌, ℕ, length, ◌++◌, List, [], ◌∷◌, refl, Some, None, false, codes}
 use Rattle.std.specs.Prelude.{replicate}
 use Rattle.root.specs.declared.kind.Kind.TheVariants.{Strings}
-use Rattle.schema.specs.declared.table.TableId.TheVariants.{TypeDef, TypeRef, Field, MethodDef, Module, Constant, Assembly, PropertyMap}
-use Rattle.schema.specs.declared.coded.Coded.TheVariants.{TypeDefOrRef}
-use Rattle.schema.specs.declared.column.ColumnKind.TheVariants as kind
-use Rattle.schema.specs.Tables.{tables}
-use Rattle.schema.specs.Columns.{columns_of}
+use Rattle.table_schema.specs.declared.table.TableId.TheVariants.{TypeDef, TypeRef, Field, MethodDef, Module, Constant, Assembly, PropertyMap}
+use Rattle.table_schema.specs.declared.coded.Coded.TheVariants.{TypeDefOrRef}
+use Rattle.table_schema.specs.declared.column.ColumnKind.TheVariants as kind
+use Rattle.table_schema.specs.Tables.{tables}
+use Rattle.table_schema.specs.Columns.{columns_of}
 use Rattle.schema.specs.Sizes.{Sizes}
 use Rattle.schema.specs.LaidOut.{row_bytes, bits_of}
-use Rattle.heaps.specs.Ending.{ends_with}
-use Rattle.heaps.specs.TextHeap.{is_holder}
-use Rattle.heaps.specs.BlobHeap.{counted}
-use Rattle.signature_values.specs.declared.element.Element.TheVariants.{I4}
-use Rattle.signature_values.specs.Syntax.{Body, field, method_body, simple, plain, slot, no_slots, void_ret, method}
+use Rattle.heap_pools.specs.Ending.{ends_with}
+use Rattle.heap_pools.specs.TextHeap.{is_holder}
+use Rattle.heap_pools.specs.BlobHeap.{counted}
+use Rattle.sig_grammar.specs.declared.element.Element.TheVariants.{I4}
+use Rattle.sig_grammar.specs.Syntax.{Body, field, method_body, simple, plain, slot, no_slots, void_ret, method}
 use Rattle.metadata.specs.Cell.{Cell}
 use Rattle.metadata.specs.Cell.{Number, Text, Bytes, Guid, Ref, Start, Sig}
 use Rattle.metadata.specs.Metadata.{Metadata}

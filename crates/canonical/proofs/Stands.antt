@@ -5,20 +5,20 @@ use Rattle.std.specs.List.{position_or_len}
 use Rattle.std.proofs.lemmas.Bool.{cases_Bool}
 use Rattle.std.proofs.lemmas.Nat.{pow_pos}
 use Rattle.std.proofs.Math.Nat.{mod-eq_of_lt}
-use Rattle.schema.specs.declared.table.TableId.{TableId}
-use Rattle.schema.specs.declared.token.Token.{Token}
-use Rattle.schema.specs.declared.coded.Coded.{Coded}
-use Rattle.schema.specs.declared.column.ColumnKind.{ColumnKind}
-use Rattle.schema.specs.declared.column.ColumnKind.TheVariants as kind
-use Rattle.schema.specs.CodedIndexes.{tables_of, tag_bits, IsCoded}
+use Rattle.table_schema.specs.declared.table.TableId.{TableId}
+use Rattle.table_schema.specs.declared.token.Token.{Token}
+use Rattle.table_schema.specs.declared.coded.Coded.{Coded}
+use Rattle.table_schema.specs.declared.column.ColumnKind.{ColumnKind}
+use Rattle.table_schema.specs.declared.column.ColumnKind.TheVariants as kind
+use Rattle.table_schema.specs.CodedIndexes.{tables_of, tag_bits, IsCoded}
 use Rattle.schema.specs.Sizes.{count_of, narrow_or_wide, heap_width, row_index_width, coded_width, kind_width}
-use Rattle.heaps.specs.Distinct.{distinct}
-use Rattle.heaps.specs.Entries.{HasNoNul, IsText, IsBlob, IsGuid}
-use Rattle.heaps.specs.TextHeap.{text_index}
-use Rattle.heaps.specs.BlobHeap.{blob_index}
-use Rattle.heaps.specs.GuidHeap.{guid_index}
-use Rattle.signature_values.specs.Parts.{is_table}
-use Rattle.signature_values.specs.Spells.{short, tokens}
+use Rattle.heap_pools.specs.Distinct.{distinct}
+use Rattle.heap_entries.specs.Entries.{HasNoNul, IsText, IsBlob, IsGuid}
+use Rattle.heap_pools.specs.TextHeap.{text_index}
+use Rattle.heap_pools.specs.BlobHeap.{blob_index}
+use Rattle.heap_pools.specs.GuidHeap.{guid_index}
+use Rattle.sig_grammar.specs.Parts.{is_table}
+use Rattle.sig_grammar.specs.Spells.{short, tokens}
 use Rattle.metadata.specs.Cell.{Cell}
 use Rattle.metadata.specs.Cell.{Number, Start}
 use Rattle.metadata.specs.Metadata.{Metadata, count_in}

@@ -13,7 +13,7 @@ use Rattle.root.specs.declared.kind.Kind.TheVariants.{Tables, Strings, UserStrin
 use Rattle.root.specs.Streams.{Header, stream_name, named}
 use Rattle.root.specs.Root.{IsStreamName, IsHeader, AreHeaders, AllMeet}
 use Rattle.schema.specs.LaidOut.{number_bytes}
-use Rattle.heaps.specs.Fill.{filled}
+use Rattle.heap_entries.specs.Fill.{filled}
 use Rattle.canonical.specs.Canonical.{ended, stream_header, directory}
 use Rattle.canonical.proofs.Lists.{IsIn, from_filter}
 use Rattle.canonical.proofs.Facts.{Facts}

@@ -1,13 +1,13 @@
 -- The numbers of the canonical table stream encode the cells of the model.
 use Rattle.std.proofs.Common.{◌≡◌, ◌||◌, lit<, true≢false, ℕ, zero, suc, ◌+◌, ◌-◌, ◌%◌, ◌^◌, ◌<◌, ◌≤◌, Bool, true, false, ltb, List, [], ◌∷◌, length, get_or, refl, sym, ap, subst, ◌∙◌, ◌⊎◌, inl, inr, arith}
 use Rattle.std.specs.List.{list_any}
-use Rattle.schema.specs.declared.table.TableId.{TableId}
-use Rattle.schema.specs.declared.table.TableId.TheVariants.{TypeDef, Field, MethodDef, Param, EventMap, Event, PropertyMap, Property}
-use Rattle.schema.specs.declared.column.Column.{Column}
-use Rattle.schema.specs.declared.column.ColumnKind.{ColumnKind}
-use Rattle.schema.specs.declared.column.ColumnKind.TheVariants as kind
-use Rattle.schema.specs.Tables.{position_of}
-use Rattle.schema.specs.Columns.{columns_of, column_at, col, MayBeNull}
+use Rattle.table_schema.specs.declared.table.TableId.{TableId}
+use Rattle.table_schema.specs.declared.table.TableId.TheVariants.{TypeDef, Field, MethodDef, Param, EventMap, Event, PropertyMap, Property}
+use Rattle.table_schema.specs.declared.column.Column.{Column}
+use Rattle.table_schema.specs.declared.column.ColumnKind.{ColumnKind}
+use Rattle.table_schema.specs.declared.column.ColumnKind.TheVariants as kind
+use Rattle.table_schema.specs.Tables.{position_of}
+use Rattle.table_schema.specs.Columns.{columns_of, column_at, col, MayBeNull}
 use Rattle.schema.specs.Sizes.{count_of, narrow_or_wide, kind_width, width_of}
 use Rattle.metadata.specs.Cell.{Cell}
 use Rattle.metadata.specs.Cell.{Number, Start}
@@ -15,7 +15,7 @@ use Rattle.metadata.specs.Metadata.{Metadata, rows_of, count_in, cell_in}
 use Rattle.metadata.specs.Source.{Source, rows_in, number_of}
 use Rattle.metadata.specs.Starts.{start_from, start_of}
 use Rattle.metadata.specs.Stands.{StandsFor}
-use Rattle.schema.specs.CellColumns.{cell_columns, cell_count, column_of}
+use Rattle.table_schema.specs.CellColumns.{cell_columns, cell_count, column_of}
 use Rattle.metadata.specs.Rows.{IsCell, IsRow, IsTable, table_at, IsTableAt, AreTables}
 use Rattle.metadata.specs.Rules.{IsOwned, AreOwned}
 use Rattle.canonical.specs.Pools.{used, texts_of, blobs_of, guids_of, pools_of}

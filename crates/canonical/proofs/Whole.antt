@@ -10,20 +10,20 @@ use Rattle.root.specs.declared.kind.Kind.TheVariants.{Tables, Strings, UserStrin
 use Rattle.root.specs.Streams.{Header}
 use Rattle.root.specs.Root.{signature, IsVersion, AreHeaders, IsRoot}
 use Rattle.packed.specs.Number.{IsNumber}
-use Rattle.heaps.specs.Fill.{filled}
-use Rattle.heaps.specs.Distinct.{is_among, first_uses, distinct}
-use Rattle.schema.specs.declared.table.TableId.{TableId}
-use Rattle.schema.specs.declared.column.ColumnKind.{ColumnKind}
-use Rattle.schema.specs.declared.column.ColumnKind.TheVariants as kind
-use Rattle.schema.specs.Tables.{tables}
-use Rattle.schema.specs.Columns.{column_at}
+use Rattle.heap_entries.specs.Fill.{filled}
+use Rattle.heap_pools.specs.Distinct.{is_among, first_uses, distinct}
+use Rattle.table_schema.specs.declared.table.TableId.{TableId}
+use Rattle.table_schema.specs.declared.column.ColumnKind.{ColumnKind}
+use Rattle.table_schema.specs.declared.column.ColumnKind.TheVariants as kind
+use Rattle.table_schema.specs.Tables.{tables}
+use Rattle.table_schema.specs.Columns.{column_at}
 use Rattle.schema.specs.Sizes.{header_size}
 use Rattle.schema.specs.LaidOut.{number_bytes, tables_bytes, IsLaidOut}
 use Rattle.metadata.specs.Cell.{Cell}
 use Rattle.metadata.specs.Cell.{Guid}
 use Rattle.metadata.specs.Metadata.{Metadata, count_in}
 use Rattle.metadata.specs.Source.{Source}
-use Rattle.schema.specs.CellColumns.{cell_count, column_of}
+use Rattle.table_schema.specs.CellColumns.{cell_count, column_of}
 use Rattle.metadata.specs.Rows.{table_at, AreTables}
 use Rattle.metadata.specs.Rules.{AreByKey, AreOwned, AreNested}
 use Rattle.metadata.specs.Streams.{stream_in, source_in}

@@ -7,14 +7,14 @@ use Rattle.std.proofs.lemmas.Bool.Decides.{nat_tests}
 use Rattle.std.proofs.lemmas.List.{get_or-map}
 use Rattle.std.proofs.lemmas.Nat.{mul-add-lt}
 use Rattle.packed.specs.Packed.{IsPacked}
-use Rattle.schema.specs.declared.table.TableId.{TableId}
-use Rattle.schema.specs.declared.table.TableId.TheVariants.{Module}
-use Rattle.schema.specs.declared.coded.Coded.{Coded}
-use Rattle.schema.specs.Tables.{tables, position_of, table_number}
-use Rattle.schema.specs.CodedIndexes.{tables_of, tag_bits}
+use Rattle.table_schema.specs.declared.table.TableId.{TableId}
+use Rattle.table_schema.specs.declared.table.TableId.TheVariants.{Module}
+use Rattle.table_schema.specs.declared.coded.Coded.{Coded}
+use Rattle.table_schema.specs.Tables.{tables, position_of, table_number}
+use Rattle.table_schema.specs.CodedIndexes.{tables_of, tag_bits}
 use Rattle.schema.specs.Sizes.{Sizes, count_of, narrow_or_wide, heap_width, is_below, coded_width}
-use Rattle.heaps.specs.Entries.{IsText, IsBlob, IsGuid}
-use Rattle.signature_values.specs.Parts.{is_table}
+use Rattle.heap_entries.specs.Entries.{IsText, IsBlob, IsGuid}
+use Rattle.sig_grammar.specs.Parts.{is_table}
 use Rattle.metadata.specs.Metadata.{Metadata, count_in}
 use Rattle.canonical.specs.Pools.{texts_stream, blobs_stream, guids_stream}
 use Rattle.canonical.specs.TableStream.{sizes_of}

@@ -5,7 +5,7 @@ use Rattle.root.specs.declared.kind.Kind.TheVariants.{Tables, Strings, UserStrin
 use Rattle.root.specs.Streams.{stream_name}
 use Rattle.root.specs.Root.{signature}
 use Rattle.schema.specs.LaidOut.{number_bytes}
-use Rattle.heaps.specs.Fill.{filled}
+use Rattle.heap_entries.specs.Fill.{filled}
 use Rattle.metadata.specs.Metadata.{Metadata}
 use Rattle.canonical.specs.Pools.{texts_stream, blobs_stream, guids_stream}
 use Rattle.canonical.specs.TableStream.{table_stream}

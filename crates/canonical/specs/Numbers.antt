@@ -1,19 +1,19 @@
 -- The numbers that encode the cells of a model (ECMA-335 II.22 and II.24.2.6).
 use Rattle.std.specs.Prelude.{ℕ, Bool, true, false, List, [], ◌∷◌, map, Some, None}
-use Rattle.schema.specs.declared.table.TableId.{TableId}
-use Rattle.schema.specs.declared.column.Column.{Column}
-use Rattle.schema.specs.declared.column.ColumnKind.{ColumnKind}
-use Rattle.schema.specs.Tables.{tables}
-use Rattle.schema.specs.Columns.{columns_of}
-use Rattle.heaps.specs.TextHeap.{text_index}
-use Rattle.heaps.specs.BlobHeap.{blob_index}
-use Rattle.heaps.specs.GuidHeap.{guid_index}
-use Rattle.signature_values.specs.Spells.{short}
+use Rattle.table_schema.specs.declared.table.TableId.{TableId}
+use Rattle.table_schema.specs.declared.column.Column.{Column}
+use Rattle.table_schema.specs.declared.column.ColumnKind.{ColumnKind}
+use Rattle.table_schema.specs.Tables.{tables}
+use Rattle.table_schema.specs.Columns.{columns_of}
+use Rattle.heap_pools.specs.TextHeap.{text_index}
+use Rattle.heap_pools.specs.BlobHeap.{blob_index}
+use Rattle.heap_pools.specs.GuidHeap.{guid_index}
+use Rattle.sig_grammar.specs.Spells.{short}
 use Rattle.metadata.specs.Cell.{Cell}
 use Rattle.metadata.specs.Cell.{Number, Text, Bytes, Guid, Ref, Start, Sig}
 use Rattle.metadata.specs.Metadata.{Metadata, rows_of}
 use Rattle.metadata.specs.KeyOrder.{row_number}
-use Rattle.schema.specs.CellColumns.{is_padding}
+use Rattle.table_schema.specs.CellColumns.{is_padding}
 use Rattle.canonical.specs.Pools.{Pools, pools_of}
 
 -- the number of a cell: the index of a heap value, the number of a row, or the start itself; a null reference is 0

@@ -2,12 +2,12 @@
 use Rattle.std.specs.Prelude.{ℕ, List, [], ◌∷◌, flat_map, Some}
 use Rattle.metadata.specs.Cell.{Cell}
 use Rattle.metadata.specs.Cell.{Text, Bytes, Guid, Sig}
-use Rattle.heaps.specs.Fill.{filled}
-use Rattle.heaps.specs.Distinct.{distinct}
-use Rattle.heaps.specs.TextHeap.{holders, text_heap}
-use Rattle.heaps.specs.BlobHeap.{blob_heap}
-use Rattle.heaps.specs.GuidHeap.{guid_heap}
-use Rattle.signature_values.specs.Spells.{short}
+use Rattle.heap_entries.specs.Fill.{filled}
+use Rattle.heap_pools.specs.Distinct.{distinct}
+use Rattle.heap_pools.specs.TextHeap.{holders, text_heap}
+use Rattle.heap_pools.specs.BlobHeap.{blob_heap}
+use Rattle.heap_pools.specs.GuidHeap.{guid_heap}
+use Rattle.sig_grammar.specs.Spells.{short}
 use Rattle.metadata.specs.Metadata.{Metadata}
 
 -- the texts that a cell uses (II.24.2.3)

@@ -1,11 +1,11 @@
 -- The canonical table stream of a model (ECMA-335 II.24.2.6).
 use Rattle.std.specs.Prelude.{ℕ, ◌+◌, ◌^◌, Bool, true, false, ◌&&◌, nat_lt, nat_le, if◌then◌else◌, List, [], ◌∷◌, ◌++◌, map, length, count_by, slice_index, Option, Some, None}
-use Rattle.schema.specs.declared.table.TableId.{TableId}
-use Rattle.schema.specs.Tables.{tables}
-use Rattle.schema.specs.Columns.{columns_of, key_of}
+use Rattle.table_schema.specs.declared.table.TableId.{TableId}
+use Rattle.table_schema.specs.Tables.{tables}
+use Rattle.table_schema.specs.Columns.{columns_of, key_of}
 use Rattle.schema.specs.Sizes.{Sizes, header_size}
 use Rattle.schema.specs.LaidOut.{number_bytes, tables_bytes, bits_of, counts_bytes}
-use Rattle.heaps.specs.Fill.{filled}
+use Rattle.heap_entries.specs.Fill.{filled}
 use Rattle.metadata.specs.Metadata.{Metadata, rows_of, count_in}
 use Rattle.metadata.specs.KeyOrder.{key_number}
 use Rattle.canonical.specs.Pools.{texts_stream, blobs_stream, guids_stream}

@@ -3,15 +3,18 @@ ghost use Rattle.metadata.specs.Metadata.{Metadata};
 ghost use Rattle.metadata.specs.Model.{IsModel};
 ghost use Rattle.metadata.specs.Valid.{IsValid};
 ghost use Rattle.metadata.specs.KeyOrder.{IsKeyOrdered};
-ghost use Rattle.schema.specs.declared.table.TableId.{TableId as Table};
-ghost use Rattle.schema.specs.Columns.{key_of};
+ghost use Rattle.table_schema.specs.declared.table.TableId.{TableId as Table};
+ghost use Rattle.table_schema.specs.Columns.{key_of};
 ghost use Rattle.canonical.specs.TableStream.{is_sorted};
 ghost use Rattle.canonical.specs.Canonical.{canonical};
 
-use heaps::{pooled_are_distinct, pooled_blob_is_found, pooled_guid_is_found, used_text_is_found};
+use heap_pools::{
+    pooled_are_distinct, pooled_blob_is_found, pooled_guid_is_found, used_text_is_found,
+};
 use metadata::roots_have_models;
-use schema::{bits_are_known, columns_stand, numbers_are_spelled, tables_stand, tags_fit};
+use schema::{bits_are_known, numbers_are_spelled};
 use signature_values::shortest_spells;
+use table_schema::{columns_stand, tables_stand, tags_fit};
 
 /// The canonical root of a valid model has this model, if the root has at most 2^30 bytes.
 ///

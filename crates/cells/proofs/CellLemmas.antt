@@ -4,12 +4,12 @@ use Rattle.std.specs.Bool.{Decides}
 use Rattle.std.specs.Cmp.Lexicographic.{pointwise_decides}
 use Rattle.std.proofs.lemmas.Bool.Decides.{Decides-like, Decides-and, Decides-eqb}
 use denote.Enum.Bare.{same_true, true_same}
-use Rattle.schema.specs.declared.table.TableId.{TableId}
-use Rattle.schema.specs.contracts.table.TableId as table
-use Rattle.schema.specs.contracts.table.TableIdPartialEq.TheImpl as tables
-use Rattle.schema.specs.declared.token.Token.{Token}
-use Rattle.schema.specs.contracts.token.TokenPartialEq.TheImpl as tokens
-use Rattle.signature_values.specs.Syntax.{Body}
+use Rattle.table_schema.specs.declared.table.TableId.{TableId}
+use Rattle.table_schema.specs.contracts.table.TableId as table
+use Rattle.table_schema.specs.contracts.table.TableIdPartialEq.TheImpl as tables
+use Rattle.table_schema.specs.declared.token.Token.{Token}
+use Rattle.table_schema.specs.contracts.token.TokenPartialEq.TheImpl as tokens
+use Rattle.sig_grammar.specs.Syntax.{Body}
 use Rattle.signatures.specs.contracts.signature.SignaturePartialEq.TheImpl as signatures
 use Rattle.cells.specs.declared.cell.Cell.{Cell}
 use Rattle.cells.specs.declared.cell.Cell.TheVariants.{Number, Text, Bytes, Guid, Ref, Start, Sig}

@@ -1,7 +1,7 @@
 use crate::bytes::Bytes;
 use crate::text::Text;
-use schema::Token;
 use signatures::Signature;
+use table_schema::Token;
 
 /// A cell of a row (II.22).
 #[derive(Debug, PartialEq, Eq, Drop)]

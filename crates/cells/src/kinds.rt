@@ -3,7 +3,7 @@ ghost use Rattle.metadata.specs.Kinds.{IsTo, IsOfKind, IsStorable, IsHeld};
 ghost use Rattle.cells.specs.Said.{said};
 
 use crate::cell::Cell;
-use schema::{Coded, ColumnKind, TableId, Token};
+use table_schema::{Coded, ColumnKind, TableId, Token};
 
 /// Blobs have fewer bytes than this (II.24.2.4), because their length is a packed number.
 const BLOB_LIMIT: usize = 0x2000_0000;

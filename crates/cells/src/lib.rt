@@ -21,6 +21,6 @@ mod text;
 pub use bytes::Bytes;
 pub use cell::Cell;
 pub use laws::equality_is_tested;
-pub use schema::{ColumnKind, Token};
 pub use signatures::Signature;
+pub use table_schema::{ColumnKind, Token};
 pub use text::Text;

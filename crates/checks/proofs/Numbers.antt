@@ -2,9 +2,9 @@
 use Rattle.std.proofs.Common.{◌≡◌, ℕ, Result}
 use Rattle.packed.specs.declared.code.FaultCode.{FaultCode}
 use Rattle.packed.specs.Demand.{Answers}
-use Rattle.schema.specs.declared.table.TableId.{TableId}
-use Rattle.schema.specs.declared.column.Column.{Column}
-use Rattle.schema.specs.Columns.{column_at}
+use Rattle.table_schema.specs.declared.table.TableId.{TableId}
+use Rattle.table_schema.specs.declared.column.Column.{Column}
+use Rattle.table_schema.specs.Columns.{column_at}
 use Rattle.metadata.specs.Source.{number_of}
 use Rattle.metadata.specs.Placed.{Placed, cell_place}
 use Rattle.metadata.specs.Demands.{demands_of_number, demands_of_cell}

@@ -3,7 +3,7 @@ use Rattle.std.proofs.Common.{ℕ, ◌-◌, Bool, true, false, List, arith}
 use Rattle.packed.specs.declared.fault.Fault.{Fault}
 use Rattle.packed.specs.Demand.{Demand, AllHold, demands_where}
 use Rattle.packed.proofs.DemandLemmas.{all_of_each}
-use Rattle.schema.specs.declared.table.TableId.{TableId}
+use Rattle.table_schema.specs.declared.table.TableId.{TableId}
 use Rattle.metadata.specs.Source.{rows_in}
 use Rattle.metadata.specs.Rules.{IsInOrder}
 use Rattle.metadata.specs.Placed.{Placed}

@@ -5,16 +5,16 @@ use Rattle.std.proofs.lemmas.Bool.Decides.{nat_tests}
 use Rattle.packed.specs.declared.code.FaultCode.{FaultCode}
 use Rattle.packed.specs.declared.code.FaultCode.TheVariants.{BadSignature, SignatureIndex}
 use Rattle.packed.specs.Demand.{Answers, AllHold, FirstToFail, fault}
-use Rattle.heaps.specs.Entries.{IsBlob}
-use Rattle.schema.specs.declared.table.TableId.{TableId}
-use Rattle.schema.specs.declared.token.Token.{Token}
-use Rattle.schema.specs.declared.column.Column.{Column}
-use Rattle.schema.specs.declared.column.SigKind.{SigKind}
-use Rattle.schema.specs.declared.column.ColumnKind.TheVariants as kind
-use Rattle.schema.specs.Tables.{table_number}
-use Rattle.schema.specs.Columns.{column_at}
-use Rattle.signature_values.specs.Spells.{Spells, tokens, has_row, first_bad}
-use Rattle.signature_values.specs.Syntax.{Body}
+use Rattle.heap_entries.specs.Entries.{IsBlob}
+use Rattle.table_schema.specs.declared.table.TableId.{TableId}
+use Rattle.table_schema.specs.declared.token.Token.{Token}
+use Rattle.table_schema.specs.declared.column.Column.{Column}
+use Rattle.table_schema.specs.declared.column.SigKind.{SigKind}
+use Rattle.table_schema.specs.declared.column.ColumnKind.TheVariants as kind
+use Rattle.table_schema.specs.Tables.{table_number}
+use Rattle.table_schema.specs.Columns.{column_at}
+use Rattle.sig_grammar.specs.Spells.{Spells, tokens, has_row, first_bad}
+use Rattle.sig_grammar.specs.Syntax.{Body}
 use Rattle.metadata.specs.Source.{Source, rows_in, number_of, IsThere}
 use Rattle.metadata.specs.Placed.{Placed, cell_place}
 use Rattle.metadata.specs.Demands.{demands_of_spelling, demands_of_signature}

@@ -5,7 +5,7 @@ use Rattle.std.proofs.lemmas.Bool.{cases_lt}
 use Rattle.std.proofs.lemmas.Bool.Decides.{nat_tests}
 use Rattle.packed.specs.declared.code.FaultCode.TheVariants.{BadRun}
 use Rattle.packed.specs.Demand.{demands_from, fault}
-use Rattle.schema.specs.declared.table.TableId.{TableId}
+use Rattle.table_schema.specs.declared.table.TableId.{TableId}
 use Rattle.metadata.specs.Source.{Source, rows_in, number_of}
 use Rattle.metadata.specs.Starts.{start_from, start_of}
 use Rattle.metadata.specs.Placed.{Placed, cell_place}

@@ -7,11 +7,11 @@ use Rattle.std.proofs.lemmas.List.{length-append}
 use Rattle.std.proofs.Math.Seq.{drop-append_seam}
 use Rattle.packed.specs.Front.{unsigned_at}
 use Rattle.packed.specs.Packed.{IsPacked}
-use Rattle.heaps.specs.Entries.{IsBlob, IsCounted}
-use Rattle.schema.specs.declared.table.TableId.{TableId}
-use Rattle.schema.specs.declared.column.SigKind.{SigKind}
-use Rattle.schema.specs.declared.column.ColumnKind.TheVariants as kind
-use Rattle.schema.specs.Columns.{column_at}
+use Rattle.heap_entries.specs.Entries.{IsBlob, IsCounted}
+use Rattle.table_schema.specs.declared.table.TableId.{TableId}
+use Rattle.table_schema.specs.declared.column.SigKind.{SigKind}
+use Rattle.table_schema.specs.declared.column.ColumnKind.TheVariants as kind
+use Rattle.table_schema.specs.Columns.{column_at}
 use Rattle.metadata.specs.Source.{Source, number_of}
 use Rattle.checks.specs.Signatures.{sum_below, counted_length, blob_length, cell_bytes}
 

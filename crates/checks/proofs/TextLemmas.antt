@@ -7,10 +7,10 @@ use Rattle.std.proofs.lemmas.Bool.{false≢true}
 use Rattle.std.proofs.lemmas.Nat.{div-add-mod', mul-le}
 use Rattle.memchr.specs.Find.{IsFirstByte, is_byte}
 use Rattle.packed.specs.Demand.{AllHold, Answers}
-use Rattle.heaps.specs.Demands.{at_place, demands_of_text}
-use Rattle.heaps.specs.declared.fault.HeapFault.{HeapFault}
-use Rattle.heaps.specs.declared.fault.HeapFault.TheVariants.{BadUtf8}
-use Rattle.heaps.specs.Entries.{IsEnded, HasNoNul}
+use Rattle.heap_entries.specs.Demands.{at_place, demands_of_text}
+use Rattle.heap_entries.specs.declared.fault.HeapFault.{HeapFault}
+use Rattle.heap_entries.specs.declared.fault.HeapFault.TheVariants.{BadUtf8}
+use Rattle.heap_entries.specs.Entries.{IsEnded, HasNoNul}
 use Rattle.checks.specs.Texts.{AreStarts, Reaches}
 use Rattle.checks.proofs.PassedLemmas.{slots_more}
 use Rattle.checks.proofs.Ended.{rest_is, ended_length, byte_is, no_text}

@@ -3,8 +3,8 @@ use Rattle.std.specs.Prelude.{ℕ, ◌≤◌, ◌<◌, Bool, List, Result}
 use Rattle.packed.specs.declared.code.FaultCode.{FaultCode}
 use Rattle.packed.specs.declared.fault.Fault.{Fault}
 use Rattle.packed.specs.Demand.{Demand, AllHold, Answers}
-use Rattle.schema.specs.declared.table.TableId.{TableId}
-use Rattle.schema.specs.declared.column.ColumnKind.{ColumnKind}
+use Rattle.table_schema.specs.declared.table.TableId.{TableId}
+use Rattle.table_schema.specs.declared.column.ColumnKind.{ColumnKind}
 use Rattle.metadata.specs.Source.{Source, number_of}
 use Rattle.metadata.specs.Placed.{Placed}
 use Rattle.metadata.specs.Demands.{demands_of_number, demands_of_cell, demands_of_spelling, demands_of_signature}

@@ -1,8 +1,8 @@
 -- Which tables are in order of their keys.
 use Rattle.std.specs.Prelude.{◌≡◌, ℕ, ◌↔◌, Bool, false, IsTrue, List, Some, slice_index_or}
-use Rattle.schema.specs.declared.table.TableId.{TableId}
-use Rattle.schema.specs.Tables.{table_number}
-use Rattle.schema.specs.Columns.{key_of}
+use Rattle.table_schema.specs.declared.table.TableId.{TableId}
+use Rattle.table_schema.specs.Tables.{table_number}
+use Rattle.table_schema.specs.Columns.{key_of}
 use Rattle.metadata.specs.Source.{Source}
 use Rattle.metadata.specs.Rules.{IsInOrder}
 

@@ -3,7 +3,7 @@ use Rattle.std.specs.Prelude.{ℕ, List, Option, Some, None}
 use Rattle.packed.specs.declared.code.FaultCode.TheVariants.{BadRun}
 use Rattle.packed.specs.declared.fault.Fault.{Fault}
 use Rattle.packed.specs.Demand.{Demand, AllHold, FirstToFail, fault}
-use Rattle.schema.specs.declared.table.TableId.{TableId}
+use Rattle.table_schema.specs.declared.table.TableId.{TableId}
 use Rattle.metadata.specs.Placed.{Placed, cell_place}
 
 -- no fault if all rules hold, else the fault of the first broken rule

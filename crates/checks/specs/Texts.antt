@@ -1,6 +1,6 @@
 -- What is remembered of the texts of a strings heap.
 use Rattle.std.specs.Prelude.{◌≡◌, ◌≢◌, ℕ, ◌+◌, ◌*◌, ◌/◌, ◌≤◌, List, length, slice_index, IsUtf8}
-use Rattle.heaps.specs.Entries.{IsEnded}
+use Rattle.heap_entries.specs.Entries.{IsEnded}
 use Rattle.checks.specs.declared.texts.Texts.TheInside.{Inside}
 
 -- a text is at the start, and no NUL ends it before an end

@@ -1,6 +1,6 @@
 -- What a walk down a column of signatures walks.
 use Rattle.std.specs.Prelude.{ℕ, zero, suc, ◌+◌, ◌≤◌, ◌<◌, length, if◌then◌else◌}
-use Rattle.schema.specs.declared.table.TableId.{TableId}
+use Rattle.table_schema.specs.declared.table.TableId.{TableId}
 use Rattle.metadata.specs.Source.{Source, number_of}
 use Rattle.checks.specs.declared.budget.Budget.{Budget}
 use Rattle.checks.specs.Budgets.{Takes}

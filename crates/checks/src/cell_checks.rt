@@ -1,8 +1,8 @@
 ghost use Rattle.std.specs.Prelude.{◌≡◌, ◌≤◌, ◌<◌, ◌+◌, ◌∷◌, [], ◌↔◌, ℕ, IsTrue, Ok, false, length};
 ghost use Rattle.packed.specs.declared.code.FaultCode.TheVariants.{BadIndex, BadList};
 ghost use Rattle.packed.specs.Demand.{Answers, HoldBefore, demand};
-ghost use Rattle.schema.specs.declared.column.ColumnKind.TheVariants as kind;
-ghost use Rattle.schema.specs.Columns.{columns_of};
+ghost use Rattle.table_schema.specs.declared.column.ColumnKind.TheVariants as kind;
+ghost use Rattle.table_schema.specs.Columns.{columns_of};
 ghost use Rattle.metadata.specs.Source.{rows_in};
 ghost use Rattle.reading.specs.Codes.{code_at};
 ghost use Rattle.checks.specs.Columns.{AllPass, IsChecked, ColumnStands};
@@ -12,7 +12,7 @@ use crate::column::first_refused;
 use crate::texts::Texts;
 use packed::{Fault, FaultCode};
 use reading::{Source, column_at, named_by};
-use schema::{Coded, Column, ColumnKind, TableId, columns};
+use table_schema::{Coded, Column, ColumnKind, TableId, columns};
 
 /// Checks that each number of each table stands for a cell (II.22).
 pub fn check_cells(source: &Source) -> Result<(), Fault>

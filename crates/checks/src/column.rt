@@ -1,11 +1,11 @@
 ghost use Rattle.std.specs.Prelude.{◌≡◌, ◌≤◌, ◌<◌, ◌+◌, IsTrue, Ok, length};
-ghost use Rattle.schema.specs.Columns.{columns_of};
+ghost use Rattle.table_schema.specs.Columns.{columns_of};
 ghost use Rattle.metadata.specs.Source.{rows_in};
 ghost use Rattle.checks.specs.Columns.{AllPass};
 
 use packed::FaultCode;
 use reading::Source;
-use schema::TableId;
+use table_schema::TableId;
 
 /// The first row before `limit` whose number in a column breaks a rule; `limit` if there is none.
 ///

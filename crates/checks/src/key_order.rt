@@ -1,10 +1,10 @@
 ghost use Rattle.std.specs.Prelude.{◌≡◌, ◌<◌, ◌↔◌, ℕ, IsTrue, length};
-ghost use Rattle.schema.specs.Columns.{columns_of, key_of};
+ghost use Rattle.table_schema.specs.Columns.{columns_of, key_of};
 ghost use Rattle.metadata.specs.Rules.{IsInOrder};
 ghost use Rattle.checks.specs.Orders.{TellsOrder};
 
 use reading::Source;
-use schema::{TableId, columns_stand, key, tables_stand};
+use table_schema::{TableId, columns_stand, key, tables_stand};
 
 /// Whether the keys of each table never decrease, by table number; `false` for tables without a key.
 ///

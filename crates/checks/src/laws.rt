@@ -1,5 +1,5 @@
 ghost use Rattle.std.specs.Prelude.{ℕ, ◌+◌, ◌*◌, ◌/◌, ◌≤◌, length};
-ghost use Rattle.schema.specs.declared.table.TableId.{TableId};
+ghost use Rattle.table_schema.specs.declared.table.TableId.{TableId};
 ghost use Rattle.metadata.specs.Source.{Source};
 ghost use Rattle.checks.specs.Signatures.{blob_length};
 ghost use Rattle.checks.specs.Walks.{LieApart, number_after, walked_bytes};

@@ -1,12 +1,12 @@
 ghost use Rattle.std.specs.Prelude.{◌≡◌, ◌≤◌};
 ghost use Rattle.packed.specs.Demand.{Answers};
-ghost use Rattle.schema.specs.declared.table.TableId.TheVariants.{NestedClass};
+ghost use Rattle.table_schema.specs.declared.table.TableId.TheVariants.{NestedClass};
 ghost use Rattle.metadata.specs.Source.{rows_in};
 ghost use Rattle.metadata.specs.Demands.{demands_of_nesting_in, demands_of_nesting};
 
 use packed::{Fault, FaultCode};
 use reading::Source;
-use schema::TableId;
+use table_schema::TableId;
 
 /// The columns of a nested type, and of the type that encloses it.
 const NESTED: usize = 0;

@@ -1,13 +1,13 @@
 ghost use Rattle.std.specs.Prelude.{◌≡◌, ◌≤◌, ◌<◌, length};
 ghost use Rattle.packed.specs.Demand.{Answers};
-ghost use Rattle.schema.specs.Columns.{columns_of, key_of};
+ghost use Rattle.table_schema.specs.Columns.{columns_of, key_of};
 ghost use Rattle.metadata.specs.Source.{rows_in};
 ghost use Rattle.checks.specs.Orders.{TellsOrder};
 ghost use Rattle.metadata.specs.Demands.{demands_of_key_in, demands_of_keys, demands_of_order_by, demands_of_order};
 
 use packed::{Fault, FaultCode};
 use reading::Source;
-use schema::{TableId, columns_stand, key, tables_stand};
+use table_schema::{TableId, columns_stand, key, tables_stand};
 
 /// Checks that each table whose `Sorted` bit is set is in order of its key (II.22). `in_order` says which are.
 pub fn check_order(source: &Source, in_order: &[bool; 45]) -> Result<(), Fault>

@@ -1,6 +1,6 @@
 ghost use Rattle.std.specs.Prelude.{◌≡◌, ◌≤◌, ◌<◌, ◌-◌, ◌+◌, ◌&&◌, length, IfOk, IfSome, Some, nat_lt, if◌then◌else◌};
 ghost use Rattle.packed.specs.Demand.{Answers, demands_from};
-ghost use Rattle.schema.specs.Columns.{columns_of};
+ghost use Rattle.table_schema.specs.Columns.{columns_of};
 ghost use Rattle.metadata.specs.Source.{rows_in};
 ghost use Rattle.metadata.specs.Starts.{start_of};
 ghost use Rattle.metadata.specs.Demands.{demands_of_start, demands_of_run, demands_of_runs};
@@ -9,7 +9,7 @@ ghost use Rattle.checks.specs.Runs.{IsVerdict, fault_in_row};
 
 use packed::{Fault, FaultCode};
 use reading::{KnownRuns, KnownStarts, Source, start_before};
-use schema::TableId;
+use table_schema::TableId;
 
 /// The results of a pass over owners: the start of the first run, the first owner whose start is less than the
 /// start before, and the starts that are kept.

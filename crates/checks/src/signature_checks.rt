@@ -1,8 +1,8 @@
 ghost use Rattle.std.specs.Prelude.{◌≡◌, ◌≤◌, ◌<◌, ◌+◌, ℕ, ◌-◌, Ok, length, IfOk, IfSome, OnSome, IfNone};
 ghost use Rattle.packed.specs.Demand.{Answers, HoldBefore};
-ghost use Rattle.heaps.specs.Entries.{IsBlob};
-ghost use Rattle.schema.specs.Columns.{columns_of, column_at};
-ghost use Rattle.schema.specs.declared.column.ColumnKind.TheVariants as kind;
+ghost use Rattle.heap_entries.specs.Entries.{IsBlob};
+ghost use Rattle.table_schema.specs.Columns.{columns_of, column_at};
+ghost use Rattle.table_schema.specs.declared.column.ColumnKind.TheVariants as kind;
 ghost use Rattle.metadata.specs.Source.{rows_in};
 ghost use Rattle.metadata.specs.Demands.{demands_of_spelling, demands_of_signature, demands_of_signatures_in, demands_of_signatures_of, demands_of_signatures};
 ghost use Rattle.reading.specs.Codes.{code_at};
@@ -13,11 +13,11 @@ ghost use Rattle.checks.specs.Walks.{StopsAt, walked_bytes};
 
 use crate::budget::{BoundedError, Budget};
 use crate::passed::Passed;
-use heaps::{blob, entries_are_one};
+use heap_entries::{blob, entries_are_one};
 use packed::{Fault, FaultCode, numbers_are_read};
 use reading::{Source, column_at};
 use recogniser::recognise_first_bad;
-use schema::{ColumnKind, SigKind, TableId, columns};
+use table_schema::{ColumnKind, SigKind, TableId, columns};
 
 /// Checks that each signature blob encodes a signature, and that the rows of its type indexes exist (II.23.2).
 pub fn check_signatures(source: &Source, budget: Budget) -> Result<(), BoundedError>

@@ -1,9 +1,9 @@
 ghost use Rattle.std.specs.Prelude.{◌≡◌, ◌≢◌, ◌≤◌, ◌<◌, ◌+◌, ◌*◌, ◌/◌, ◌↔◌, ℕ, IsTrue, IfOk, IfSome, length, slice_index};
 ghost use Rattle.packed.specs.Demand.{Answers};
-ghost use Rattle.heaps.specs.Demands.{at_place, demands_of_text};
+ghost use Rattle.heap_entries.specs.Demands.{at_place, demands_of_text};
 ghost use Rattle.checks.specs.Texts.{AreStarts, Reaches};
 
-use heaps::{HeapFault, text};
+use heap_entries::{HeapFault, text};
 use memchr::memchr;
 use simdutf8::basic;
 use std::marker::Model;

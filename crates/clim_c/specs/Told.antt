@@ -1,8 +1,8 @@
 -- The cell that a C caller receives (II.22).
 use Rattle.std.specs.Prelude.{◌≡◌, ℕ, List, [], replicate, Some, None}
-use Rattle.schema.specs.declared.table.TableId.{TableId}
-use Rattle.schema.specs.Tables.{table_number}
-use Rattle.schema.specs.CellColumns.{column_of}
+use Rattle.table_schema.specs.declared.table.TableId.{TableId}
+use Rattle.table_schema.specs.Tables.{table_number}
+use Rattle.table_schema.specs.CellColumns.{column_of}
 use Rattle.metadata.specs.Metadata.{Metadata, cell_in}
 use Rattle.metadata.specs.Source.{number_of}
 use Rattle.metadata.specs.Placed.{source_of}

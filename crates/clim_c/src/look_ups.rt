@@ -1,10 +1,10 @@
 ghost use Rattle.std.specs.Prelude.{◌≡◌, ◌≤◌, ◌<◌, ℕ, true, false, IsSome, IfSome, IfNone, length, take};
 ghost use Rattle.std.specs.Bool.{OnTrue, OnFalse};
 ghost use Rattle.std.specs.List.{SameFrom};
-ghost use Rattle.schema.specs.declared.table.TableId.{TableId as Table};
-ghost use Rattle.schema.specs.declared.table.TableId.TheVariants.{TypeDef};
-ghost use Rattle.schema.specs.Tables.{table_number};
-ghost use Rattle.schema.specs.Columns.{key_of};
+ghost use Rattle.table_schema.specs.declared.table.TableId.{TableId as Table};
+ghost use Rattle.table_schema.specs.declared.table.TableId.TheVariants.{TypeDef};
+ghost use Rattle.table_schema.specs.Tables.{table_number};
+ghost use Rattle.table_schema.specs.Columns.{key_of};
 ghost use Rattle.metadata.specs.Metadata.{Metadata};
 ghost use Rattle.metadata.specs.Model.{IsModel};
 ghost use Rattle.metadata.specs.Lookups.{IsFirstType, HasRow, HasNames};
@@ -15,9 +15,9 @@ use crate::opened::seen;
 use crate::view::ClimView;
 use metadata::models_are_read;
 use opening::{KeyRows, KeysOf, TableId, Token, View};
-use schema::key;
 use std::ops::Range;
 use std::str;
+use table_schema::key;
 
 /// The first type with a namespace and a name, by its row (II.22.37). 0 if no type has them, or the view is not open.
 /// No type has a name that is not UTF-8.

@@ -1,13 +1,13 @@
 ghost use Rattle.std.specs.Prelude.{◌≡◌, ◌≢◌, ◌≤◌, ◌<◌, [], slice_index_or};
 ghost use Rattle.packed.specs.Codes.{name_of};
-ghost use Rattle.schema.specs.declared.table.TableId.{TableId as Table};
-ghost use Rattle.schema.specs.Tables.{table_number, table_name};
-ghost use Rattle.schema.specs.CellColumns.{cell_count, column_of};
+ghost use Rattle.table_schema.specs.declared.table.TableId.{TableId as Table};
+ghost use Rattle.table_schema.specs.Tables.{table_number, table_name};
+ghost use Rattle.table_schema.specs.CellColumns.{cell_count, column_of};
 ghost use Rattle.column_names.specs.ColumnNames.{column_names_of};
 
 use column_names::column_names;
 use opening::{Fault, TableId};
-use schema::{cell_count, column_of_cell};
+use table_schema::{cell_count, column_of_cell};
 
 /// The name of the rule with a number; no bytes if no rule has it.
 #[unsafe(no_mangle)]

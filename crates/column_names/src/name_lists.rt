@@ -1,8 +1,8 @@
 ghost use Rattle.std.specs.Prelude.{◌≡◌, length, map};
-ghost use Rattle.schema.specs.Columns.{columns_of};
+ghost use Rattle.table_schema.specs.Columns.{columns_of};
 ghost use Rattle.column_names.specs.ColumnNames.{column_names_of};
 
-use schema::TableId;
+use table_schema::TableId;
 
 const TYPE_DEF: &[&str] = &[
     "Flags",

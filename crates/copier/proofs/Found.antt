@@ -1,11 +1,11 @@
 -- The row checker stops at the first type index whose row does not exist.
 use Rattle.std.proofs.Common.{◌≡◌, ◌∙◌, ℕ, Bool, true, false, not, cond, Option, Some, None, Result, Ok, Err, List, [], ◌∷◌, refl, ap}
 use Rattle.std.specs.Prelude.{flat_map}
-use Rattle.schema.specs.declared.token.Token.{Token}
-use Rattle.signature_values.specs.Parts.{Part, byte, number, signed, index, part_tokens}
-use Rattle.signature_values.specs.Spells.{has_row, first_bad, tokens}
-use Rattle.signature_values.specs.Syntax.{Body}
-use Rattle.signature_values.specs.Grammar.{body_parts}
+use Rattle.table_schema.specs.declared.token.Token.{Token}
+use Rattle.sig_grammar.specs.Parts.{Part, byte, number, signed, index, part_tokens}
+use Rattle.sig_grammar.specs.Spells.{has_row, first_bad, tokens}
+use Rattle.sig_grammar.specs.Syntax.{Body}
+use Rattle.sig_grammar.specs.Grammar.{body_parts}
 use Rattle.walk.specs.Run.{after, then, run}
 use Rattle.walk.specs.Items.{Item, part, broken, kept, body_items}
 use Rattle.copier.specs.Rows.{row_checker_step}

@@ -1,15 +1,15 @@
 -- The content of a type, a parameter and a method that are made from their parts.
 use Rattle.std.proofs.Common.{◌≡◌, ◌∙◌, ℕ, ◌+◌, ◌<◌, ◌≤◌, Bool, Option, List, [], ◌∷◌, ◌++◌, length, take, get_or, Vec, Global, map, refl, sym}
 use Rattle.std.proofs.lemmas.List.{take_more, take_all, map-append}
-use Rattle.signature_values.specs.declared.types.Modifier.{Modifier}
-use Rattle.signature_values.specs.declared.types.Core.{Core}
-use Rattle.signature_values.specs.declared.types.SlotKind.{SlotKind}
-use Rattle.signature_values.specs.declared.types.Ret.{Ret}
-use Rattle.signature_values.specs.declared.types.TypeSig as types
-use Rattle.signature_values.specs.declared.types.Slot as slots
-use Rattle.signature_values.specs.declared.types.MethodSig as methods
-use Rattle.signature_values.specs.Views.{core_of, type_of, content_of, slot_of, slots_from, ret_of, method_of}
-use Rattle.signature_values.specs.Syntax as sig
+use Rattle.sig_grammar.specs.declared.types.Modifier.{Modifier}
+use Rattle.sig_grammar.specs.declared.types.Core.{Core}
+use Rattle.sig_grammar.specs.declared.types.SlotKind.{SlotKind}
+use Rattle.sig_grammar.specs.declared.types.Ret.{Ret}
+use Rattle.sig_grammar.specs.declared.types.TypeSig as types
+use Rattle.sig_grammar.specs.declared.types.Slot as slots
+use Rattle.sig_grammar.specs.declared.types.MethodSig as methods
+use Rattle.sig_grammar.specs.Views.{core_of, type_of, content_of, slot_of, slots_from, ret_of, method_of}
+use Rattle.sig_grammar.specs.Syntax as sig
 
 pub made_type : (mods : Vec Modifier Global) (core : Core) → type_of (types.roll-TypeSig (record { mods = mods; core = core })) ≡ sig.typed mods.items (core_of core)
 unfolding type_of core_of

@@ -6,32 +6,32 @@ use Rattle.std.specs.Cmp.Lexicographic.{pointwise_decides}
 use Rattle.std.proofs.lemmas.Bool.Decides.{Decides-and, Decides-like, Decides-eqb, Decides-int_eq}
 use Rattle.std.specs.contracts.prelude.BoolPartialEq.TheImpl as bools
 use denote.Enum.Bare.{same_true, true_same}
-use Rattle.schema.specs.declared.table.TableId.{TableId}
-use Rattle.schema.specs.contracts.table.TableId as table
-use Rattle.schema.specs.contracts.table.TableIdPartialEq.TheImpl as tables
-use Rattle.schema.specs.declared.token.Token.{Token}
-use Rattle.schema.specs.contracts.token.TokenPartialEq.TheImpl as tokens
-use Rattle.signature_values.specs.declared.element.Element.{Element}
-use Rattle.signature_values.specs.declared.types.Modifier.{Modifier}
-use Rattle.signature_values.specs.contracts.types.ModifierPartialEq.TheImpl as modifiers
-use Rattle.signature_values.specs.declared.body.Prefix.{Prefix}
-use Rattle.signature_values.specs.contracts.body.PrefixPartialEq.TheImpl as prefixes
-use Rattle.signature_values.specs.declared.body.Prefix.TheVariants.{Mod, Pinned}
-use Rattle.signature_values.specs.declared.types.Shape.{Shape}
-use Rattle.signature_values.specs.contracts.types.ShapePartialEq.TheImpl as shapes
-use Rattle.signature_values.specs.declared.types.TypeSig.{TypeSig}
-use Rattle.signature_values.specs.declared.types.MethodSig.{MethodSig}
-use Rattle.signature_values.specs.declared.types.Slot.{Slot}
-use Rattle.signature_values.specs.declared.types.Ret.{Ret}
-use Rattle.signature_values.specs.declared.types.Core as cores
-use Rattle.signature_values.specs.declared.types.Core.{Core-F, out-Core, roll-Core, roll-out-Core}
-use Rattle.signature_values.specs.declared.types.Core.TheOpen as layers
-use Rattle.signature_values.specs.declared.types.Core.TheVariants.{rolls-Simple, rolls-Pointer, rolls-Vector, rolls-Array, rolls-Class, rolls-Value, rolls-Var, rolls-MVar, rolls-Instance, rolls-Function}
-use Rattle.signature_values.specs.declared.types.SlotKind as kinds
-use Rattle.signature_values.specs.declared.types.SlotKind.{SlotKind-F, out-SlotKind, roll-SlotKind, roll-out-SlotKind}
-use Rattle.signature_values.specs.Views.{core_of, shape_of, types_from, slots_from}
-use Rattle.signature_values.specs.Syntax as sig
-use Rattle.signature_values.proofs.ViewLemmas.{view_simple, view_void_pointer, view_pointer, view_vector, view_array, view_class, view_value, view_var, view_mvar, view_instance, view_function}
+use Rattle.table_schema.specs.declared.table.TableId.{TableId}
+use Rattle.table_schema.specs.contracts.table.TableId as table
+use Rattle.table_schema.specs.contracts.table.TableIdPartialEq.TheImpl as tables
+use Rattle.table_schema.specs.declared.token.Token.{Token}
+use Rattle.table_schema.specs.contracts.token.TokenPartialEq.TheImpl as tokens
+use Rattle.sig_grammar.specs.declared.element.Element.{Element}
+use Rattle.sig_grammar.specs.declared.types.Modifier.{Modifier}
+use Rattle.sig_grammar.specs.contracts.types.ModifierPartialEq.TheImpl as modifiers
+use Rattle.sig_grammar.specs.declared.body.Prefix.{Prefix}
+use Rattle.sig_grammar.specs.contracts.body.PrefixPartialEq.TheImpl as prefixes
+use Rattle.sig_grammar.specs.declared.body.Prefix.TheVariants.{Mod, Pinned}
+use Rattle.sig_grammar.specs.declared.types.Shape.{Shape}
+use Rattle.sig_grammar.specs.contracts.types.ShapePartialEq.TheImpl as shapes
+use Rattle.sig_grammar.specs.declared.types.TypeSig.{TypeSig}
+use Rattle.sig_grammar.specs.declared.types.MethodSig.{MethodSig}
+use Rattle.sig_grammar.specs.declared.types.Slot.{Slot}
+use Rattle.sig_grammar.specs.declared.types.Ret.{Ret}
+use Rattle.sig_grammar.specs.declared.types.Core as cores
+use Rattle.sig_grammar.specs.declared.types.Core.{Core-F, out-Core, roll-Core, roll-out-Core}
+use Rattle.sig_grammar.specs.declared.types.Core.TheOpen as layers
+use Rattle.sig_grammar.specs.declared.types.Core.TheVariants.{rolls-Simple, rolls-Pointer, rolls-Vector, rolls-Array, rolls-Class, rolls-Value, rolls-Var, rolls-MVar, rolls-Instance, rolls-Function}
+use Rattle.sig_grammar.specs.declared.types.SlotKind as kinds
+use Rattle.sig_grammar.specs.declared.types.SlotKind.{SlotKind-F, out-SlotKind, roll-SlotKind, roll-out-SlotKind}
+use Rattle.sig_grammar.specs.Views.{core_of, shape_of, types_from, slots_from}
+use Rattle.sig_grammar.specs.Syntax as sig
+use Rattle.sig_grammar.proofs.ViewLemmas.{view_simple, view_void_pointer, view_pointer, view_vector, view_array, view_class, view_value, view_var, view_mvar, view_instance, view_function}
 
 -- ---- tests
 

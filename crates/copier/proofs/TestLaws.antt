@@ -4,8 +4,8 @@ use Rattle.std.specs.Bool.{Decides}
 use Rattle.std.specs.Cmp.{IsEquivalence}
 use Rattle.std.proofs.lemmas.Bool.Decides.{same_from_decides, Decides-and, Decides-like, Decides-eqb}
 use base.Stored.{Gv, gnil, gnum, gcons}
-use Rattle.signature_values.specs.Syntax.{Body}
-use Rattle.signature_values.specs.Code.{body_code}
+use Rattle.sig_grammar.specs.Syntax.{Body}
+use Rattle.sig_grammar.specs.Code.{body_code}
 use Rattle.copier.specs.Same.{is_same_tree, is_same_body}
 use Rattle.copier.proofs.SameLemmas.{denied}
 

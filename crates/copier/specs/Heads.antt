@@ -1,6 +1,6 @@
 -- Methods that are equal, except for their results and parameters (ECMA-335 II.23.2.1 to II.23.2.3).
 use Rattle.std.specs.Prelude.{◌≡◌}
-use Rattle.signature_values.specs.declared.types.MethodSig.{MethodSig, out-MethodSig}
+use Rattle.sig_grammar.specs.declared.types.MethodSig.{MethodSig, out-MethodSig}
 
 -- equal calling convention, HASTHIS, EXPLICITTHIS, number of generic parameters, and index of SENTINEL
 pub record HaveOneHead (first second : MethodSig) : Type 0 where

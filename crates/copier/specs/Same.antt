@@ -2,8 +2,8 @@
 -- Different signatures have different trees, so the test is equality.
 use Rattle.std.specs.Prelude.{◌&&◌, Bool, true, false, nat_eq}
 use base.Stored.{Gv, gnil, gnum, gcons}
-use Rattle.signature_values.specs.Syntax.{Body}
-use Rattle.signature_values.specs.Code.{body_code}
+use Rattle.sig_grammar.specs.Syntax.{Body}
+use Rattle.sig_grammar.specs.Code.{body_code}
 
 abbrev pub is_same_tree : Gv → Gv → Bool
 is_same_tree gnil gnil = true

@@ -1,8 +1,8 @@
 ghost use Rattle.std.specs.Prelude.{◌≡◌, IfOk, map};
-ghost use Rattle.signature_values.specs.Views.{local_of, body_of};
+ghost use Rattle.sig_grammar.specs.Views.{local_of, body_of};
 
 use crate::copied_types::{copy_content, copy_method, copy_ret, copy_slot, copy_slots, copy_types};
-use signature_values::{FieldSig, InstanceSig, Local, LocalsSig, PropertySig, SigBody};
+use sig_grammar::{FieldSig, InstanceSig, Local, LocalsSig, PropertySig, SigBody};
 use std::alloc::{AllocError, Global};
 
 /// Copies a local variable (II.23.2.6).

@@ -1,7 +1,7 @@
 ghost use Rattle.std.specs.Prelude.{◌≡◌, IfOk, map};
-ghost use Rattle.signature_values.specs.Views.{core_of, type_of, content_of, slot_of, ret_of, method_of, shape_of};
+ghost use Rattle.sig_grammar.specs.Views.{core_of, type_of, content_of, slot_of, ret_of, method_of, shape_of};
 
-use signature_values::{Core, MethodSig, Ret, Shape, Slot, SlotKind, TypeSig};
+use sig_grammar::{Core, MethodSig, Ret, Shape, Slot, SlotKind, TypeSig};
 use std::alloc::{AllocError, Global};
 
 /// Copies the shape of an array (II.23.2.13).
@@ -17,7 +17,7 @@ fn copy_shape(alloc: Global, shape: &Shape) -> Result<Shape, AllocError>
 
 /// Copies a type without the modifiers before it (II.23.2.12).
 #[cycle(copies)]
-#[tactic(auto, using(signature_values::proofs::ViewLemmas::views))]
+#[tactic(auto, using(sig_grammar::proofs::ViewLemmas::views))]
 fn copy_core(alloc: Global, core: &Core) -> Result<Core, AllocError>
     ensures { IfOk result (λ copy. core_of copy ≡ core_of core.now) }
 {
@@ -85,7 +85,7 @@ pub fn copy_types(alloc: Global, types: &[TypeSig]) -> Result<Vec<TypeSig>, Allo
 
 /// Copies the kind and type of a parameter, a field, a local variable or a result (II.23.2.10).
 #[cycle(copies)]
-#[tactic(auto, using(signature_values::proofs::ViewLemmas::view_typed_ref, signature_values::proofs::ViewLemmas::view_plain, signature_values::proofs::ViewLemmas::view_by_ref))]
+#[tactic(auto, using(sig_grammar::proofs::ViewLemmas::view_typed_ref, sig_grammar::proofs::ViewLemmas::view_plain, sig_grammar::proofs::ViewLemmas::view_by_ref))]
 pub fn copy_content(alloc: Global, kind: &SlotKind) -> Result<SlotKind, AllocError>
     ensures { IfOk result (λ copy. content_of copy ≡ content_of kind.now) }
 {
@@ -123,7 +123,7 @@ pub fn copy_slots(alloc: Global, slots: &[Slot]) -> Result<Vec<Slot>, AllocError
 
 /// Copies the result of a method (II.23.2.11).
 #[cycle(copies)]
-#[tactic(auto, using(signature_values::proofs::ViewLemmas::view_some_ret, signature_values::proofs::ViewLemmas::view_void_ret))]
+#[tactic(auto, using(sig_grammar::proofs::ViewLemmas::view_some_ret, sig_grammar::proofs::ViewLemmas::view_void_ret))]
 pub fn copy_ret(alloc: Global, ret: &Ret) -> Result<Ret, AllocError>
     ensures { IfOk result (λ copy. ret_of copy ≡ ret_of ret.now) }
 {

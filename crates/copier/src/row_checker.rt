@@ -1,9 +1,9 @@
 ghost use Rattle.std.specs.Prelude.{◌≡◌};
-ghost use Rattle.signature_values.specs.Views.{body_of};
-ghost use Rattle.signature_values.specs.Spells.{tokens, first_bad as first_bad_of};
+ghost use Rattle.sig_grammar.specs.Views.{body_of};
+ghost use Rattle.sig_grammar.specs.Spells.{tokens, first_bad as first_bad_of};
 
-use schema::Token;
-use signature_values::{SigBody, names_row};
+use sig_grammar::{SigBody, names_row};
+use table_schema::Token;
 use walk::{PartSink, items_are_parts, visit_body};
 
 /// Searches for a type index whose row does not exist, and stops at the first.

@@ -1,11 +1,11 @@
 ghost use Rattle.std.specs.Prelude.{◌≡◌, ◌↔◌, IsTrue, map};
-ghost use Rattle.signature_values.specs.Syntax.{Body};
-ghost use Rattle.signature_values.specs.Views.{local_of, body_of, slot_of};
+ghost use Rattle.sig_grammar.specs.Syntax.{Body};
+ghost use Rattle.sig_grammar.specs.Views.{local_of, body_of, slot_of};
 ghost use Rattle.copier.specs.Same.{is_same_body};
 
 use crate::same_parts::same_prefixes;
 use crate::same_types::{same_content, same_method, same_ret, same_slot, same_slots, same_types};
-use signature_values::{Local, PropertySig, SigBody};
+use sig_grammar::{Local, PropertySig, SigBody};
 
 /// Whether two local variables are equal (II.23.2.6).
 fn same_local(local: &Local, other: &Local) -> bool

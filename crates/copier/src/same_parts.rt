@@ -1,9 +1,9 @@
 ghost use Rattle.std.specs.Prelude.{◌≡◌, ◌↔◌, IsTrue};
-ghost use Rattle.signature_values.specs.Syntax as sig;
-ghost use Rattle.signature_values.specs.Views.{core_of, shape_of};
+ghost use Rattle.sig_grammar.specs.Syntax as sig;
+ghost use Rattle.sig_grammar.specs.Views.{core_of, shape_of};
 
-use schema::Token;
-use signature_values::{Core, Element, Modifier, Prefix, Shape};
+use sig_grammar::{Core, Element, Modifier, Prefix, Shape};
+use table_schema::Token;
 
 /// Whether two lists of modifiers are equal.
 pub fn same_modifiers(modifiers: &[Modifier], others: &[Modifier]) -> bool
@@ -41,7 +41,7 @@ pub fn same_generic(is_value: bool, of: Token, other_is_value: bool, other: Toke
 }
 
 /// Whether the type is this one-byte type.
-#[tactic(auto, using(signature_values::proofs::ViewLemmas::views))]
+#[tactic(auto, using(sig_grammar::proofs::ViewLemmas::views))]
 pub fn is_simple(element: Element, core: &Core) -> bool
     ensures { IsTrue result ↔ (sig.simple element ≡ core_of core.now) }
 {
@@ -52,7 +52,7 @@ pub fn is_simple(element: Element, core: &Core) -> bool
 }
 
 /// Whether the type is the pointer to VOID with these modifiers.
-#[tactic(auto, using(signature_values::proofs::ViewLemmas::views))]
+#[tactic(auto, using(sig_grammar::proofs::ViewLemmas::views))]
 pub fn is_void_pointer(mods: &[Modifier], core: &Core) -> bool
     ensures { IsTrue result ↔ (sig.void_pointer mods.now ≡ core_of core.now) }
 {
@@ -66,7 +66,7 @@ pub fn is_void_pointer(mods: &[Modifier], core: &Core) -> bool
 }
 
 /// Whether the type is the class with this token.
-#[tactic(auto, using(signature_values::proofs::ViewLemmas::views))]
+#[tactic(auto, using(sig_grammar::proofs::ViewLemmas::views))]
 pub fn is_class(of: Token, core: &Core) -> bool
     ensures { IsTrue result ↔ (sig.class of ≡ core_of core.now) }
 {
@@ -77,7 +77,7 @@ pub fn is_class(of: Token, core: &Core) -> bool
 }
 
 /// Whether the type is the value type with this token.
-#[tactic(auto, using(signature_values::proofs::ViewLemmas::views))]
+#[tactic(auto, using(sig_grammar::proofs::ViewLemmas::views))]
 pub fn is_value_type(of: Token, core: &Core) -> bool
     ensures { IsTrue result ↔ (sig.value of ≡ core_of core.now) }
 {
@@ -88,7 +88,7 @@ pub fn is_value_type(of: Token, core: &Core) -> bool
 }
 
 /// Whether the type is the generic parameter of a type with this number.
-#[tactic(auto, using(signature_values::proofs::ViewLemmas::views))]
+#[tactic(auto, using(sig_grammar::proofs::ViewLemmas::views))]
 pub fn is_type_parameter(number: u32, core: &Core) -> bool
     ensures { IsTrue result ↔ (sig.var number ≡ core_of core.now) }
 {
@@ -99,7 +99,7 @@ pub fn is_type_parameter(number: u32, core: &Core) -> bool
 }
 
 /// Whether the type is the generic parameter of a method with this number.
-#[tactic(auto, using(signature_values::proofs::ViewLemmas::views))]
+#[tactic(auto, using(sig_grammar::proofs::ViewLemmas::views))]
 pub fn is_method_parameter(number: u32, core: &Core) -> bool
     ensures { IsTrue result ↔ (sig.mvar number ≡ core_of core.now) }
 {

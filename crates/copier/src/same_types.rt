@@ -1,18 +1,18 @@
 ghost use Rattle.std.specs.Prelude.{◌≡◌, ◌↔◌, IsTrue, map};
-ghost use Rattle.signature_values.specs.Syntax as sig;
-ghost use Rattle.signature_values.specs.Views.{core_of, type_of, content_of, slot_of, ret_of, method_of, shape_of, types_from};
+ghost use Rattle.sig_grammar.specs.Syntax as sig;
+ghost use Rattle.sig_grammar.specs.Views.{core_of, type_of, content_of, slot_of, ret_of, method_of, shape_of, types_from};
 ghost use Rattle.copier.specs.Heads.{HaveOneHead};
 
 use crate::same_parts::{
     is_class, is_method_parameter, is_simple, is_type_parameter, is_value_type, is_void_pointer,
     same_generic, same_modifiers, same_shape,
 };
-use schema::Token;
-use signature_values::{Core, MethodSig, Modifier, Ret, Shape, Slot, SlotKind, TypeSig};
+use sig_grammar::{Core, MethodSig, Modifier, Ret, Shape, Slot, SlotKind, TypeSig};
+use table_schema::Token;
 
 /// Whether two types without the modifiers before them are equal (II.23.2.12).
 #[cycle(same)]
-#[tactic(auto, using(signature_values::proofs::ViewLemmas::views))]
+#[tactic(auto, using(sig_grammar::proofs::ViewLemmas::views))]
 fn same_core(core: &Core, other: &Core) -> bool
     ensures { IsTrue result ↔ (core_of core.now ≡ core_of other.now) }
 {
@@ -41,7 +41,7 @@ fn same_core(core: &Core, other: &Core) -> bool
 
 /// Whether the type is the pointer to this type with these modifiers.
 #[cycle(same)]
-#[tactic(auto, using(signature_values::proofs::ViewLemmas::view_pointer, signature_values::proofs::ViewLemmas::view_void_pointer))]
+#[tactic(auto, using(sig_grammar::proofs::ViewLemmas::view_pointer, sig_grammar::proofs::ViewLemmas::view_void_pointer))]
 fn is_pointer(mods: &[Modifier], to: &Core, core: &Core) -> bool
     ensures { IsTrue result ↔ (sig.pointer mods.now (core_of to.now) ≡ core_of core.now) }
 {
@@ -56,7 +56,7 @@ fn is_pointer(mods: &[Modifier], to: &Core, core: &Core) -> bool
 
 /// Whether the type is the array of this type with this shape.
 #[cycle(same)]
-#[tactic(auto, using(signature_values::proofs::ViewLemmas::view_array))]
+#[tactic(auto, using(sig_grammar::proofs::ViewLemmas::view_array))]
 fn is_array(of: &TypeSig, shape: &Shape, core: &Core) -> bool
     ensures { IsTrue result ↔ (sig.array (type_of of.now) (shape_of shape.now) ≡ core_of core.now) }
 {
@@ -70,7 +70,7 @@ fn is_array(of: &TypeSig, shape: &Shape, core: &Core) -> bool
 
 /// Whether the type is the instance of this generic type with these type arguments.
 #[cycle(same)]
-#[tactic(auto, using(signature_values::proofs::ViewLemmas::view_instance, crate::proofs::SameLemmas::types_one))]
+#[tactic(auto, using(sig_grammar::proofs::ViewLemmas::view_instance, crate::proofs::SameLemmas::types_one))]
 fn is_instance(is_value: bool, of: Token, args: &[TypeSig], core: &Core) -> bool
     ensures { IsTrue result ↔ (sig.instance is_value of (types_from (map type_of args.now)) ≡ core_of core.now) }
 {
@@ -86,7 +86,7 @@ fn is_instance(is_value: bool, of: Token, args: &[TypeSig], core: &Core) -> bool
 
 /// Whether two types are equal.
 #[cycle(same)]
-#[tactic(auto, using(signature_values::proofs::ViewLemmas::view_type))]
+#[tactic(auto, using(sig_grammar::proofs::ViewLemmas::view_type))]
 fn same_type(of: &TypeSig, other: &TypeSig) -> bool
     ensures { IsTrue result ↔ (type_of of.now ≡ type_of other.now) }
 {
@@ -111,7 +111,7 @@ pub fn same_types(types: &[TypeSig], others: &[TypeSig]) -> bool
 
 /// Whether the kind and type of two parameters, fields, local variables or results are equal (II.23.2.10).
 #[cycle(same)]
-#[tactic(auto, using(signature_values::proofs::ViewLemmas::view_typed_ref, signature_values::proofs::ViewLemmas::view_plain, signature_values::proofs::ViewLemmas::view_by_ref))]
+#[tactic(auto, using(sig_grammar::proofs::ViewLemmas::view_typed_ref, sig_grammar::proofs::ViewLemmas::view_plain, sig_grammar::proofs::ViewLemmas::view_by_ref))]
 pub fn same_content(kind: &SlotKind, other: &SlotKind) -> bool
     ensures { IsTrue result ↔ (content_of kind.now ≡ content_of other.now) }
 {
@@ -135,7 +135,7 @@ pub fn same_content(kind: &SlotKind, other: &SlotKind) -> bool
 
 /// Whether two parameters, fields or results are equal.
 #[cycle(same)]
-#[tactic(auto, using(signature_values::proofs::ViewLemmas::view_slot))]
+#[tactic(auto, using(sig_grammar::proofs::ViewLemmas::view_slot))]
 pub fn same_slot(slot: &Slot, other: &Slot) -> bool
     ensures { IsTrue result ↔ (slot_of slot.now ≡ slot_of other.now) }
 {
@@ -160,7 +160,7 @@ pub fn same_slots(slots: &[Slot], others: &[Slot]) -> bool
 
 /// Whether the results of two methods are equal (II.23.2.11).
 #[cycle(same)]
-#[tactic(auto, using(signature_values::proofs::ViewLemmas::view_some_ret, signature_values::proofs::ViewLemmas::view_void_ret))]
+#[tactic(auto, using(sig_grammar::proofs::ViewLemmas::view_some_ret, sig_grammar::proofs::ViewLemmas::view_void_ret))]
 pub fn same_ret(ret: &Ret, other: &Ret) -> bool
     ensures { IsTrue result ↔ (ret_of ret.now ≡ ret_of other.now) }
 {
@@ -189,7 +189,7 @@ fn same_head(method: &MethodSig, other: &MethodSig) -> bool
 
 /// Whether two methods are equal (II.23.2.1 to II.23.2.3).
 #[cycle(same)]
-#[tactic(auto, using(signature_values::proofs::ViewLemmas::view_method, crate::proofs::SameLemmas::slots_one))]
+#[tactic(auto, using(sig_grammar::proofs::ViewLemmas::view_method, crate::proofs::SameLemmas::slots_one))]
 pub fn same_method(method: &MethodSig, other: &MethodSig) -> bool
     ensures { IsTrue result ↔ (method_of method.now ≡ method_of other.now) }
 {

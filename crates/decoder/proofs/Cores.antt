@@ -2,24 +2,24 @@
 use Rattle.std.proofs.Common.{◌≡◌, ◌∙◌, ℕ, zero, suc, ◌-◌, ◌<◌, ◌≢◌, ◌⊎◌, inl, inr, Bool, eqb, Option, Some, None, List, [], ◌∷◌, Vec, Global, map, refl, ap, arith}
 use Rattle.std.proofs.lemmas.Bool.{ne_eqb}
 use Rattle.std.specs.Prelude.{option_map, option_and_then}
-use Rattle.schema.specs.declared.column.SigKind.{SigKind}
-use Rattle.schema.specs.declared.column.SigKind.TheVariants as column
-use Rattle.signature_values.specs.declared.element.Element.{Element}
-use Rattle.signature_values.specs.declared.types.Modifier.{Modifier}
-use Rattle.signature_values.specs.declared.types.TypeSig.{TypeSig}
-use Rattle.signature_values.specs.declared.types.TypeSig as types
-use Rattle.signature_values.specs.declared.types.MethodSig.{MethodSig}
-use Rattle.signature_values.specs.declared.types.MethodSig as methods
-use Rattle.signature_values.specs.declared.types.Core as cores
-use Rattle.signature_values.specs.declared.types.Slot.{Slot}
-use Rattle.signature_values.specs.declared.types.Slot as slots
-use Rattle.signature_values.specs.declared.types.SlotKind as kinds
-use Rattle.signature_values.specs.declared.types.Ret as rets
-use Rattle.signature_values.specs.Syntax as sig
-use Rattle.signature_values.specs.Views.{core_of, type_of, content_of, slot_of, ret_of, method_of, slots_from}
-use Rattle.signature_values.specs.Reading.{Reader, change, deep, void_or, named_at, leading_within, leading_at, modifiers_at, content_at, ret_at, method_at, both, core_at, core_by, element_of}
-use Rattle.signature_values.specs.Columns.{body_at}
-use Rattle.signature_values.proofs.ViewLemmas.{view_some_ret}
+use Rattle.table_schema.specs.declared.column.SigKind.{SigKind}
+use Rattle.table_schema.specs.declared.column.SigKind.TheVariants as column
+use Rattle.sig_grammar.specs.declared.element.Element.{Element}
+use Rattle.sig_grammar.specs.declared.types.Modifier.{Modifier}
+use Rattle.sig_grammar.specs.declared.types.TypeSig.{TypeSig}
+use Rattle.sig_grammar.specs.declared.types.TypeSig as types
+use Rattle.sig_grammar.specs.declared.types.MethodSig.{MethodSig}
+use Rattle.sig_grammar.specs.declared.types.MethodSig as methods
+use Rattle.sig_grammar.specs.declared.types.Core as cores
+use Rattle.sig_grammar.specs.declared.types.Slot.{Slot}
+use Rattle.sig_grammar.specs.declared.types.Slot as slots
+use Rattle.sig_grammar.specs.declared.types.SlotKind as kinds
+use Rattle.sig_grammar.specs.declared.types.Ret as rets
+use Rattle.sig_grammar.specs.Syntax as sig
+use Rattle.sig_grammar.specs.Views.{core_of, type_of, content_of, slot_of, ret_of, method_of, slots_from}
+use Rattle.sig_grammar.specs.Reading.{Reader, change, deep, void_or, named_at, leading_within, leading_at, modifiers_at, content_at, ret_at, method_at, both, core_at, core_by, element_of}
+use Rattle.sig_grammar.specs.Columns.{body_at}
+use Rattle.sig_grammar.proofs.ViewLemmas.{view_some_ret}
 use Rattle.decoder.specs.declared.error.SigError.{SigError}
 use Rattle.decoder.specs.declared.error.SigError.TheVariants.{Bad, Memory}
 use Rattle.decoder.specs.Gives.{Fails}

@@ -2,10 +2,10 @@
 use Rattle.std.proofs.Common.{◌≡◌, ℕ, suc, ◌+◌, ◌-◌, ◌<◌, ◌≤◌, Bool, false, Option, Some, None, Result, Ok, Err, List, [], ◌∷◌, ◌++◌, length, append_assoc, append-nil, refl, sym, ap, subst, arith, IfSome}
 use Rattle.std.specs.Prelude.{option_map}
 use Rattle.std.specs.Result.{IsErr, IsErrAnd}
-use Rattle.signature_values.specs.declared.types.Modifier.{Modifier}
-use Rattle.signature_values.specs.declared.body.Prefix.{Prefix}
-use Rattle.signature_values.specs.Reading.{Reader, Optional, many_at, leading_at, modifier_at, modifiers_at, starts_modifier, prefix_at, prefixes_at, starts_prefix}
-use Rattle.signature_values.proofs.Items.{Stepping, ShorterItem, leading_is, modifier_steps, prefix_steps}
+use Rattle.sig_grammar.specs.declared.types.Modifier.{Modifier}
+use Rattle.sig_grammar.specs.declared.body.Prefix.{Prefix}
+use Rattle.sig_grammar.specs.Reading.{Reader, Optional, many_at, leading_at, modifier_at, modifiers_at, starts_modifier, prefix_at, prefixes_at, starts_prefix}
+use Rattle.sig_grammar.proofs.Items.{Stepping, ShorterItem, leading_is, modifier_steps, prefix_steps}
 use Rattle.decoder.specs.declared.error.SigError.{SigError}
 use Rattle.decoder.specs.declared.error.SigError.TheVariants.{Bad, Memory}
 use Rattle.decoder.specs.Gives.{Fails, Gives}

@@ -2,8 +2,8 @@
 use Rattle.std.proofs.Common.{◌≡◌, ◌∙◌, ℕ, zero, suc, ◌+◌, ◌-◌, ◌<◌, ◌≤◌, ◌&&◌, Bool, true, false, cond, Option, Some, None, List, [], ◌∷◌, ◌++◌, length, drop, refl, sym, ap, ap₂, append_assoc, append-nil, length-append, arith}
 use Rattle.std.specs.Prelude.{option_map, option_and_then, is_none}
 use Rattle.std.specs.Option.{option_or}
-use Rattle.signature_values.specs.Syntax.{Core, Slot}
-use Rattle.signature_values.specs.Reading.{Reader, many_at, params_at, slot_at, head_is}
+use Rattle.sig_grammar.specs.Syntax.{Core, Slot}
+use Rattle.sig_grammar.specs.Reading.{Reader, many_at, params_at, slot_at, head_is}
 use Rattle.decoder.specs.declared.error.SigError.{SigError}
 use Rattle.decoder.specs.declared.error.SigError.TheVariants.{Bad, Memory}
 use Rattle.decoder.specs.Gives.{Fails}

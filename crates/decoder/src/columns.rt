@@ -1,8 +1,8 @@
 ghost use Rattle.std.specs.Prelude.{◌≡◌, map};
-ghost use Rattle.signature_values.specs.Syntax as sig;
-ghost use Rattle.signature_values.specs.Views.{local_of, body_of};
-ghost use Rattle.signature_values.specs.Reading.{change, many_at, counted_at, core_at, typed_at, slot_at, ret_at};
-ghost use Rattle.signature_values.specs.Columns.{local_at, headed_at, property_from, method_or, body_at};
+ghost use Rattle.sig_grammar.specs.Syntax as sig;
+ghost use Rattle.sig_grammar.specs.Views.{local_of, body_of};
+ghost use Rattle.sig_grammar.specs.Reading.{change, many_at, counted_at, core_at, typed_at, slot_at, ret_at};
+ghost use Rattle.sig_grammar.specs.Columns.{local_at, headed_at, property_from, method_or, body_at};
 ghost use Rattle.decoder.specs.Gives.{Gives};
 
 use crate::error::SigError;
@@ -11,12 +11,12 @@ use crate::methods::{method, params};
 use crate::modifiers::prefixes;
 use crate::slots::{content, ret, slot};
 use crate::types::types;
-use schema::SigKind;
-use signature_values::{FieldSig, InstanceSig, Local, LocalsSig, PropertySig, SigBody};
+use sig_grammar::{FieldSig, InstanceSig, Local, LocalsSig, PropertySig, SigBody};
 use std::alloc::Global;
+use table_schema::SigKind;
 
 /// Builds a local variable (II.23.2.6).
-#[tactic(auto, unfolding(signature_values::specs::Columns::local_at, signature_values::specs::Reading::both))]
+#[tactic(auto, unfolding(sig_grammar::specs::Columns::local_at, sig_grammar::specs::Reading::both))]
 fn local(alloc: Global, bytes: &[u8], depth: u8) -> Result<(Local, &[u8]), SigError>
     ensures { Gives (λ x. (local_of x.0, x.1.now)) result (local_at (core_at depth) bytes.now) }
 {
@@ -68,7 +68,7 @@ fn method_body(
 }
 
 /// Builds a property, after its first byte, whose bit 0x20 is HASTHIS (II.23.2.5).
-#[tactic(auto, unfolding(signature_values::specs::Columns::headed_at, signature_values::specs::Reading::both))]
+#[tactic(auto, unfolding(sig_grammar::specs::Columns::headed_at, sig_grammar::specs::Reading::both))]
 fn property(
     alloc: Global,
     bytes: &[u8],
@@ -89,7 +89,7 @@ fn property(
 }
 
 /// Builds the local variables of a method, after their first byte (II.23.2.6).
-#[tactic(auto, unfolding(signature_values::specs::Reading::counted_at))]
+#[tactic(auto, unfolding(sig_grammar::specs::Reading::counted_at))]
 fn locals(alloc: Global, bytes: &[u8], depth: u8) -> Result<(SigBody, &[u8]), SigError>
     ensures { Gives (λ x. (body_of x.0, x.1.now)) result (change sig.locals (counted_at (local_at (core_at depth))) bytes.now) }
 {
@@ -99,7 +99,7 @@ fn locals(alloc: Global, bytes: &[u8], depth: u8) -> Result<(SigBody, &[u8]), Si
 }
 
 /// Builds type arguments, after their first byte (II.23.2.15).
-#[tactic(auto, unfolding(signature_values::specs::Reading::counted_at))]
+#[tactic(auto, unfolding(sig_grammar::specs::Reading::counted_at))]
 fn arguments(alloc: Global, bytes: &[u8], depth: u8) -> Result<(SigBody, &[u8]), SigError>
     ensures { Gives (λ x. (body_of x.0, x.1.now)) result (change sig.instance_body (counted_at (typed_at (core_at depth))) bytes.now) }
 {
@@ -118,7 +118,7 @@ fn type_spec(alloc: Global, bytes: &[u8], depth: u8) -> Result<(SigBody, &[u8]),
 }
 
 /// Builds the signature at the start, in a column of a kind.
-#[tactic(auto, unfolding(signature_values::specs::Columns::body_at))]
+#[tactic(auto, unfolding(sig_grammar::specs::Columns::body_at))]
 pub fn body(
     alloc: Global,
     bytes: &[u8],

@@ -1,11 +1,11 @@
 ghost use Rattle.std.specs.Prelude.{◌≡◌, ◌∷◌, [], MatchResult, IfOk};
-ghost use Rattle.signature_values.specs.Reading.{number_at, signed_at, index_at};
+ghost use Rattle.sig_grammar.specs.Reading.{number_at, signed_at, index_at};
 ghost use Rattle.decoder.specs.declared.error.SigError.TheVariants.{Bad};
 ghost use Rattle.decoder.specs.Gives.{Gives};
 
 use crate::error::SigError;
-use schema::Token;
 use std::alloc::{AllocError, Global};
+use table_schema::Token;
 
 /// The first byte, and the remaining bytes.
 pub fn byte(bytes: &[u8]) -> Result<(u8, &[u8]), SigError>

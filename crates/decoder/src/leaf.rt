@@ -1,15 +1,15 @@
 ghost use Rattle.std.specs.Prelude.{◌≡◌};
-ghost use Rattle.signature_values.specs.Syntax as sig;
-ghost use Rattle.signature_values.specs.Views.{core_of};
-ghost use Rattle.signature_values.specs.Reading.{change, index_at, number_at};
+ghost use Rattle.sig_grammar.specs.Syntax as sig;
+ghost use Rattle.sig_grammar.specs.Views.{core_of};
+ghost use Rattle.sig_grammar.specs.Reading.{change, index_at, number_at};
 ghost use Rattle.decoder.specs.Gives.{Gives};
 
 use crate::error::SigError;
 use crate::front::{index, number};
-use signature_values::Core;
+use sig_grammar::Core;
 
 /// Builds a class, after CLASS.
-#[tactic(auto, using(crate::proofs::Cores::fails_change, signature_values::proofs::ViewLemmas::view_class))]
+#[tactic(auto, using(crate::proofs::Cores::fails_change, sig_grammar::proofs::ViewLemmas::view_class))]
 pub fn class(bytes: &[u8]) -> Result<(Core, &[u8]), SigError>
     ensures { Gives (λ x. (core_of x.0, x.1.now)) result (change sig.class index_at bytes.now) }
 {
@@ -18,7 +18,7 @@ pub fn class(bytes: &[u8]) -> Result<(Core, &[u8]), SigError>
 }
 
 /// Builds a value type, after VALUETYPE.
-#[tactic(auto, using(crate::proofs::Cores::fails_change, signature_values::proofs::ViewLemmas::view_value))]
+#[tactic(auto, using(crate::proofs::Cores::fails_change, sig_grammar::proofs::ViewLemmas::view_value))]
 pub fn value_type(bytes: &[u8]) -> Result<(Core, &[u8]), SigError>
     ensures { Gives (λ x. (core_of x.0, x.1.now)) result (change sig.value index_at bytes.now) }
 {
@@ -27,7 +27,7 @@ pub fn value_type(bytes: &[u8]) -> Result<(Core, &[u8]), SigError>
 }
 
 /// Builds a generic parameter of a type, after VAR.
-#[tactic(auto, using(crate::proofs::Cores::fails_change, signature_values::proofs::ViewLemmas::view_var))]
+#[tactic(auto, using(crate::proofs::Cores::fails_change, sig_grammar::proofs::ViewLemmas::view_var))]
 pub fn type_parameter(bytes: &[u8]) -> Result<(Core, &[u8]), SigError>
     ensures { Gives (λ x. (core_of x.0, x.1.now)) result (change sig.var number_at bytes.now) }
 {
@@ -36,7 +36,7 @@ pub fn type_parameter(bytes: &[u8]) -> Result<(Core, &[u8]), SigError>
 }
 
 /// Builds a generic parameter of a method, after MVAR.
-#[tactic(auto, using(crate::proofs::Cores::fails_change, signature_values::proofs::ViewLemmas::view_mvar))]
+#[tactic(auto, using(crate::proofs::Cores::fails_change, sig_grammar::proofs::ViewLemmas::view_mvar))]
 pub fn method_parameter(bytes: &[u8]) -> Result<(Core, &[u8]), SigError>
     ensures { Gives (λ x. (core_of x.0, x.1.now)) result (change sig.mvar number_at bytes.now) }
 {

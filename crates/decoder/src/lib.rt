@@ -23,6 +23,6 @@ mod types;
 mod whole;
 
 pub use error::SigError;
-pub use schema::SigKind;
-pub use signature_values::SigBody;
+pub use sig_grammar::SigBody;
+pub use table_schema::SigKind;
 pub use whole::decode_body;

@@ -1,18 +1,18 @@
 ghost use Rattle.std.specs.Prelude.{◌≡◌, ◌&&◌, ◌/◌, ◌%◌, ◌==◌, true, map};
-ghost use Rattle.signature_values.specs.Syntax as sig;
-ghost use Rattle.signature_values.specs.Views.{core_of, slot_of, method_of};
-ghost use Rattle.signature_values.specs.Reading.{change, core_at, params_at};
-ghost use Rattle.signature_values.specs.Reading.{takes_sentinel as kind_takes_sentinel, generic_at, method_at};
+ghost use Rattle.sig_grammar.specs.Syntax as sig;
+ghost use Rattle.sig_grammar.specs.Views.{core_of, slot_of, method_of};
+ghost use Rattle.sig_grammar.specs.Reading.{change, core_at, params_at};
+ghost use Rattle.sig_grammar.specs.Reading.{takes_sentinel as kind_takes_sentinel, generic_at, method_at};
 ghost use Rattle.decoder.specs.Gives.{Gives};
 
 use crate::error::SigError;
 use crate::front::{byte, number, with_room};
 use crate::slots::{ret, slot};
-use signature_leaves::sentinel;
-use signature_values::method_byte::{
+use sig_grammar::method_byte::{
     begins_method, calling_convention, has_explicit_this, has_this, is_generic, may_have_sentinel,
 };
-use signature_values::{Core, MethodSig, Slot};
+use sig_grammar::{Core, MethodSig, Slot};
+use signature_leaves::sentinel;
 use std::alloc::Global;
 
 /// Whether SENTINEL is allowed in a method with this first byte: its calling convention is C or vararg, and
@@ -25,7 +25,7 @@ fn takes_sentinel(code: u8, own: bool) -> bool
 
 /// The number of generic parameters of a method, if its first byte says that the method is generic, and the
 /// remaining bytes.
-#[tactic(auto, unfolding(signature_values::specs::Reading::generic_at))]
+#[tactic(auto, unfolding(sig_grammar::specs::Reading::generic_at))]
 fn generic(bytes: &[u8], code: u8) -> Result<(Option<u32>, &[u8]), SigError>
     ensures { Gives (λ x. (x.0, x.1.now)) result (generic_at (code / 16 % 2 == 1) bytes.now) }
 {
@@ -62,7 +62,7 @@ pub fn params(
 
 /// Builds a method; `own` says whether it may have a SENTINEL (II.23.2.1 to II.23.2.3).
 #[cycle(build)]
-#[tactic(auto, unfolding(signature_values::specs::Reading::method_at))]
+#[tactic(auto, unfolding(sig_grammar::specs::Reading::method_at))]
 pub fn method(
     alloc: Global,
     bytes: &[u8],

@@ -1,10 +1,10 @@
 ghost use Rattle.std.specs.Prelude.{◌≡◌};
-ghost use Rattle.signature_values.specs.Reading.{modifiers_at, prefixes_at};
+ghost use Rattle.sig_grammar.specs.Reading.{modifiers_at, prefixes_at};
 ghost use Rattle.decoder.specs.Gives.{Gives};
 
 use crate::error::SigError;
+use sig_grammar::{Modifier, Prefix};
 use signature_leaves::{has_modifier, has_prefix, modifier, prefix};
-use signature_values::{Modifier, Prefix};
 use std::alloc::Global;
 
 /// Builds the modifiers at the start.

@@ -1,11 +1,11 @@
 ghost use Rattle.std.specs.Prelude.{◌≡◌};
-ghost use Rattle.signature_values.specs.Reading.{number_at, signed_at, many_at, counted_within, shape_at};
-ghost use Rattle.signature_values.specs.Views.{shape_of};
+ghost use Rattle.sig_grammar.specs.Reading.{number_at, signed_at, many_at, counted_within, shape_at};
+ghost use Rattle.sig_grammar.specs.Views.{shape_of};
 ghost use Rattle.decoder.specs.Gives.{Gives};
 
 use crate::error::SigError;
 use crate::front::{number, signed, with_room};
-use signature_values::Shape;
+use sig_grammar::Shape;
 use std::alloc::Global;
 
 /// Builds `count` numbers.
@@ -37,7 +37,7 @@ fn signed_numbers(alloc: Global, bytes: &[u8], count: u32) -> Result<(Vec<i32>, 
 }
 
 /// Builds the sizes of an array, at most `most`, after their count.
-#[tactic(auto, unfolding(signature_values::specs::Reading::counted_within))]
+#[tactic(auto, unfolding(sig_grammar::specs::Reading::counted_within))]
 fn sizes(alloc: Global, bytes: &[u8], most: u32) -> Result<(Vec<u32>, &[u8]), SigError>
     ensures { Gives (λ x. (x.0.items, x.1.now)) result (counted_within number_at most bytes.now) }
 {
@@ -49,7 +49,7 @@ fn sizes(alloc: Global, bytes: &[u8], most: u32) -> Result<(Vec<u32>, &[u8]), Si
 }
 
 /// Builds the lower bounds of an array, at most `most`, after their count.
-#[tactic(auto, unfolding(signature_values::specs::Reading::counted_within))]
+#[tactic(auto, unfolding(sig_grammar::specs::Reading::counted_within))]
 fn low_bounds(alloc: Global, bytes: &[u8], most: u32) -> Result<(Vec<i32>, &[u8]), SigError>
     ensures { Gives (λ x. (x.0.items, x.1.now)) result (counted_within signed_at most bytes.now) }
 {
@@ -61,7 +61,7 @@ fn low_bounds(alloc: Global, bytes: &[u8], most: u32) -> Result<(Vec<i32>, &[u8]
 }
 
 /// Builds the shape of an array (II.23.2.13).
-#[tactic(auto, unfolding(signature_values::specs::Reading::shape_at, signature_values::specs::Reading::both))]
+#[tactic(auto, unfolding(sig_grammar::specs::Reading::shape_at, sig_grammar::specs::Reading::both))]
 pub fn shape(alloc: Global, bytes: &[u8]) -> Result<(Shape, &[u8]), SigError>
     ensures { Gives (λ x. (shape_of x.0, x.1.now)) result (shape_at bytes.now) }
 {

@@ -1,14 +1,14 @@
 ghost use Rattle.std.specs.Prelude.{◌≡◌};
-ghost use Rattle.signature_values.specs.Views.{content_of, slot_of, ret_of};
-ghost use Rattle.signature_values.specs.Reading.{core_at, content_at, slot_at, ret_at};
+ghost use Rattle.sig_grammar.specs.Views.{content_of, slot_of, ret_of};
+ghost use Rattle.sig_grammar.specs.Reading.{core_at, content_at, slot_at, ret_at};
 ghost use Rattle.decoder.specs.Gives.{Gives};
 
 use crate::error::SigError;
 use crate::front::byte;
 use crate::modifiers::modifiers;
 use crate::types::core;
-use signature_values::element_type::{BYREF, TYPEDBYREF, VOID};
-use signature_values::{Ret, Slot, SlotKind};
+use sig_grammar::element_type::{BYREF, TYPEDBYREF, VOID};
+use sig_grammar::{Ret, Slot, SlotKind};
 use std::alloc::Global;
 
 /// Builds the kind and type of a parameter, a field or a local variable (II.23.2.10).

@@ -1,8 +1,8 @@
 ghost use Rattle.std.specs.Prelude.{◌≡◌, map};
-ghost use Rattle.signature_values.specs.Syntax as sig;
-ghost use Rattle.signature_values.specs.Views.{core_of, type_of};
-ghost use Rattle.signature_values.specs.Reading.{change, many_at, core_at, core_by, typed_at};
-ghost use Rattle.signature_values.specs.Reading.{pointer_to, target_at, array_from, array_at, instance_from, instance_at};
+ghost use Rattle.sig_grammar.specs.Syntax as sig;
+ghost use Rattle.sig_grammar.specs.Views.{core_of, type_of};
+ghost use Rattle.sig_grammar.specs.Reading.{change, many_at, core_at, core_by, typed_at};
+ghost use Rattle.sig_grammar.specs.Reading.{pointer_to, target_at, array_from, array_at, instance_from, instance_at};
 ghost use Rattle.decoder.specs.Gives.{Gives};
 
 use crate::error::SigError;
@@ -11,10 +11,10 @@ use crate::leaf::{class, method_parameter, type_parameter, value_type};
 use crate::methods::function;
 use crate::modifiers::modifiers;
 use crate::shape::shape;
-use signature_values::element_type::{
+use sig_grammar::element_type::{
     ARRAY, CLASS, FNPTR, GENERICINST, MVAR, PTR, SZARRAY, VALUETYPE, VAR, VOID,
 };
-use signature_values::{Core, Element, TypeSig};
+use sig_grammar::{Core, Element, TypeSig};
 use std::alloc::Global;
 
 /// Builds a core of at most the given depth (II.23.2.12).
@@ -35,7 +35,7 @@ pub fn core(alloc: Global, bytes: &[u8], depth: u8) -> Result<(Core, &[u8]), Sig
 
 /// Builds a core after its first byte. The types in it are at most `depth` deep.
 #[cycle(build)]
-#[tactic(auto, unfolding(signature_values::specs::Reading::core_by))]
+#[tactic(auto, unfolding(sig_grammar::specs::Reading::core_by))]
 fn core_behind(alloc: Global, code: u8, bytes: &[u8], depth: u8) -> Result<(Core, &[u8]), SigError>
     ensures { Gives (λ x. (core_of x.0, x.1.now)) result (core_by depth (core_at depth) code bytes.now) }
 {
@@ -129,7 +129,7 @@ fn array(alloc: Global, bytes: &[u8], depth: u8) -> Result<(Core, &[u8]), SigErr
 
 /// Builds an instance of a generic type, after GENERICINST.
 #[cycle(build)]
-#[tactic(auto, unfolding(signature_values::specs::Reading::instance_at, signature_values::specs::Reading::both, signature_values::specs::Reading::named_at))]
+#[tactic(auto, unfolding(sig_grammar::specs::Reading::instance_at, sig_grammar::specs::Reading::both, sig_grammar::specs::Reading::named_at))]
 fn instance(alloc: Global, bytes: &[u8], depth: u8) -> Result<(Core, &[u8]), SigError>
     ensures { Gives (λ x. (core_of x.0, x.1.now)) result (change instance_from (instance_at (core_at depth)) bytes.now) }
 {

@@ -1,15 +1,16 @@
 ghost use Rattle.std.specs.Prelude.{◌≡◌, ◌↔◌, IfOk, IsErrOf};
-ghost use Rattle.signature_values.specs.Syntax.{Body};
-ghost use Rattle.signature_values.specs.Views.{body_of};
-ghost use Rattle.signature_values.specs.Spells.{Spells};
+ghost use Rattle.sig_grammar.specs.Syntax.{Body};
+ghost use Rattle.sig_grammar.specs.Views.{body_of};
+ghost use Rattle.sig_grammar.specs.Spells.{Spells};
 ghost use Rattle.decoder.specs.declared.error.SigError.TheVariants.{Bad};
 
 use crate::columns::body;
 use crate::error::SigError;
 use recogniser::recognise;
-use schema::SigKind;
-use signature_values::{SigBody, signatures_are_read};
+use sig_grammar::SigBody;
+use signature_values::signatures_are_read;
 use std::alloc::Global;
+use table_schema::SigKind;
 
 /// The greatest depth to which types may nest.
 const DEPTH: u8 = 128;

@@ -3,9 +3,9 @@ use Rattle.std.proofs.Common.{◌≡◌, ◌∙◌, ℕ, ◌+◌, ◌-◌, ◌�
 use Rattle.std.specs.Prelude.{flat_map}
 use Rattle.std.specs.List.{AllByRecursion}
 use Rattle.std.proofs.lemmas.Bool.{le-leb}
-use Rattle.signature_values.specs.Parts.{Part, short_part, HasSpelling}
-use Rattle.signature_values.specs.Syntax.{Body}
-use Rattle.signature_values.specs.Spells.{IsSpellable, short}
+use Rattle.sig_grammar.specs.Parts.{Part, short_part, HasSpelling}
+use Rattle.sig_grammar.specs.Syntax.{Body}
+use Rattle.sig_grammar.specs.Spells.{IsSpellable, short}
 use Rattle.walk.specs.Run.{after, run}
 use Rattle.walk.specs.Items.{Item, part, broken, kept, body_items}
 use Rattle.encoder.specs.Written.{Written, put_short, writer_step}

@@ -4,12 +4,12 @@ use Rattle.std.specs.Prelude.{slice_get}
 use Rattle.std.specs.List.{position_or_len}
 use Rattle.std.proofs.lemmas.Bool.{ltb-true, lt-ltb, le-ltb}
 use Rattle.std.proofs.lemmas.Option.{slice_get_within}
-use Rattle.schema.specs.declared.token.Token.{Token}
-use Rattle.schema.specs.declared.table.TableId.{TableId}
-use Rattle.schema.specs.declared.table.TableId.TheVariants.{TypeDef, TypeRef, TypeSpec}
-use Rattle.schema.specs.declared.coded.Coded.TheVariants.{TypeDefOrRef}
-use Rattle.schema.specs.CodedIndexes.{tables_of, IsCoded}
-use Rattle.signature_values.specs.Parts.{is_table, index_number}
+use Rattle.table_schema.specs.declared.token.Token.{Token}
+use Rattle.table_schema.specs.declared.table.TableId.{TableId}
+use Rattle.table_schema.specs.declared.table.TableId.TheVariants.{TypeDef, TypeRef, TypeSpec}
+use Rattle.table_schema.specs.declared.coded.Coded.TheVariants.{TypeDefOrRef}
+use Rattle.table_schema.specs.CodedIndexes.{tables_of, IsCoded}
+use Rattle.sig_grammar.specs.Parts.{is_table, index_number}
 use Rattle.encoder.specs.Lengths.{has_tag, number_of}
 
 abbrev pub tag_of : TableId → ℕ

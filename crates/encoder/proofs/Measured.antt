@@ -5,11 +5,11 @@ use Rattle.std.specs.List.{AllByRecursion}
 use Rattle.std.proofs.lemmas.Bool.{ltb-true, lt-ltb, leb-true, leb-false, and_parts, and_from}
 use Rattle.std.proofs.lemmas.Int.{ints}
 use Rattle.packed.specs.Packed.{FitsBits, fits_bits}
-use Rattle.signature_values.specs.Parts.{Part, byte, number, signed, index, short_part, HasSpelling, index_number}
-use Rattle.signature_values.specs.Syntax.{Body}
-use Rattle.signature_values.specs.Grammar.{body_parts}
-use Rattle.signature_values.specs.Limits.{IsBodyWithin}
-use Rattle.signature_values.specs.Spells.{IsSpellable, short}
+use Rattle.sig_grammar.specs.Parts.{Part, byte, number, signed, index, short_part, HasSpelling, index_number}
+use Rattle.sig_grammar.specs.Syntax.{Body}
+use Rattle.sig_grammar.specs.Grammar.{body_parts}
+use Rattle.sig_grammar.specs.Limits.{IsBodyWithin}
+use Rattle.sig_grammar.specs.Spells.{IsSpellable, short}
 use Rattle.walk.specs.Run.{then, run}
 use Rattle.walk.specs.Items.{Item, part, broken, kept, unbroken, body_items}
 use Rattle.encoder.specs.Lengths.{has_tag, has_short, take_room, measurer_step}

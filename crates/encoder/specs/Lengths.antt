@@ -2,10 +2,10 @@
 use Rattle.std.specs.Prelude.{ℕ, ◌-◌, ◌^◌, ◌&&◌, nat_lt, nat_le, Bool, if◌then◌else◌, Option, Some, None, Result, Ok, Err, length}
 use Rattle.std.specs.List.{position_or_len}
 use Rattle.packed.specs.Packed.{fits_bits}
-use Rattle.schema.specs.declared.token.Token.{Token}
-use Rattle.schema.specs.declared.coded.Coded.TheVariants.{TypeDefOrRef}
-use Rattle.schema.specs.CodedIndexes.{tables_of}
-use Rattle.signature_values.specs.Parts.{Part, byte, number, signed, index, is_table, index_number, short_part}
+use Rattle.table_schema.specs.declared.token.Token.{Token}
+use Rattle.table_schema.specs.declared.coded.Coded.TheVariants.{TypeDefOrRef}
+use Rattle.table_schema.specs.CodedIndexes.{tables_of}
+use Rattle.sig_grammar.specs.Parts.{Part, byte, number, signed, index, is_table, index_number, short_part}
 use Rattle.walk.specs.Items.{Item, part, broken}
 use Rattle.encoder.specs.declared.measurer.Measurer.{Measurer}
 

@@ -1,6 +1,6 @@
 -- The effect of a part of a signature on the writer: the bytes so far, and the number of bytes that still fit.
 use Rattle.std.specs.Prelude.{ℕ, ◌-◌, nat_le, if◌then◌else◌, Result, Ok, Err, List, ◌++◌, length}
-use Rattle.signature_values.specs.Parts.{short_part}
+use Rattle.sig_grammar.specs.Parts.{short_part}
 use Rattle.walk.specs.Items.{Item, part, broken}
 use Rattle.encoder.specs.Lengths.{has_short}
 

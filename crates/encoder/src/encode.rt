@@ -1,10 +1,10 @@
 ghost use Rattle.std.specs.Prelude.{◌≡◌, ◌+◌, ◌≤◌, ◌++◌, IfOk, length, vec_len, vec_capacity};
-ghost use Rattle.signature_values.specs.Views.{body_of};
-ghost use Rattle.signature_values.specs.Spells.{IsSpellable, short};
+ghost use Rattle.sig_grammar.specs.Views.{body_of};
+ghost use Rattle.sig_grammar.specs.Spells.{IsSpellable, short};
 
 use crate::length::{DEPTH, spelled_len};
 use crate::writer::Writer;
-use signature_values::SigBody;
+use sig_grammar::SigBody;
 use std::alloc::{AllocError, Global};
 use walk::{items_are_parts, visit_body};
 

@@ -1,9 +1,9 @@
 ghost use Rattle.std.specs.Prelude.{◌≡◌, ◌↔◌, IfSome, IsSome, length};
-ghost use Rattle.signature_values.specs.Views.{body_of};
-ghost use Rattle.signature_values.specs.Spells.{IsSpellable, short};
+ghost use Rattle.sig_grammar.specs.Views.{body_of};
+ghost use Rattle.sig_grammar.specs.Spells.{IsSpellable, short};
 
 use crate::measurer::Measurer;
-use signature_values::SigBody;
+use sig_grammar::SigBody;
 use walk::{items_are_parts, visit_body};
 
 /// The greatest depth to which types may nest.

@@ -18,4 +18,4 @@ mod writer;
 
 pub use encode::{encode_body, spell_into};
 pub use length::spelled_len;
-pub use signature_values::SigBody;
+pub use sig_grammar::SigBody;

@@ -4,7 +4,7 @@ ghost use Rattle.walk.specs.Run.{after};
 ghost use Rattle.encoder.specs.Lengths.{number_of, take_room};
 
 use packed::unsigned_len;
-use schema::{Coded, Token, join};
+use table_schema::{Coded, Token, join};
 use walk::PartSink;
 
 /// The least number that is too large for a packed number.

@@ -5,8 +5,8 @@ ghost use Rattle.encoder.specs.Written.{put_short};
 
 use crate::measurer::{index_number, signed_len, spelled_number};
 use packed::{put_signed, put_unsigned, unsigned_len};
-use schema::Token;
 use std::marker::Model;
+use table_schema::Token;
 use walk::PartSink;
 
 /// Appends an encoding to bytes, within the capacity that was reserved for it.

@@ -14,33 +14,13 @@
 //! ```
 #![tactic(auto)]
 
-mod blob_pool;
-mod blobs;
-mod ending;
-mod fault;
-mod first_byte;
-mod guid_pool;
-mod guids;
-mod laws;
-mod pool_error;
-mod strings;
-mod text_plan;
-mod text_pool;
-mod user_strings;
-
-pub use blob_pool::BlobPool;
-pub use blobs::blob;
-pub use fault::HeapFault;
-pub use first_byte::begin;
-pub use guid_format::guid_text;
-pub use guid_pool::GuidPool;
-pub use guids::guid;
-pub use laws::{
-    entries_are_one, heaps_grow, indexes_stay, pooled_are_distinct, pooled_blob_is_found,
-    pooled_guid_is_found, pushed_string_is_found, used_text_is_found,
+pub use heap_entries::{
+    HeapFault, Strings, Units, UserString, blob, entries_are_one, guid, guid_text, text,
+    user_string,
+};
+pub use heap_pools::{
+    BlobPool, GuidPool, HEAP_LIMIT, PoolError, TextPool, UserHeap, begin, heaps_grow, indexes_stay,
+    pooled_are_distinct, pooled_blob_is_found, pooled_guid_is_found, pushed_string_is_found,
+    used_text_is_found,
 };
 pub use packed::{Fault, FaultCode};
-pub use pool_error::{HEAP_LIMIT, PoolError};
-pub use strings::{Strings, text};
-pub use text_pool::TextPool;
-pub use user_strings::{Units, UserString, user_string};

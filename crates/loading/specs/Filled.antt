@@ -1,7 +1,7 @@
 -- Tables after one table was filled (ECMA-335 II.22).
 use Rattle.std.specs.Prelude.{List, slice_set}
-use Rattle.schema.specs.declared.table.TableId.{TableId}
-use Rattle.schema.specs.Tables.{position_of}
+use Rattle.table_schema.specs.declared.table.TableId.{TableId}
+use Rattle.table_schema.specs.Tables.{position_of}
 use Rattle.metadata.specs.Cell.{Cell}
 use Rattle.metadata.specs.Metadata.{Metadata}
 

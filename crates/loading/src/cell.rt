@@ -1,5 +1,5 @@
 ghost use Rattle.std.specs.Prelude.{◌≡◌, ◌≤◌, ◌<◌, IfOk};
-ghost use Rattle.schema.specs.CellColumns.{cell_count};
+ghost use Rattle.table_schema.specs.CellColumns.{cell_count};
 ghost use Rattle.metadata.specs.Cell.{Cell as Says};
 ghost use Rattle.metadata.specs.Metadata.{Metadata, cell_in};
 ghost use Rattle.metadata.specs.Model.{IsModel};
@@ -9,9 +9,9 @@ ghost use Rattle.opening.specs.Views.{HasModel, row_count};
 
 use cells::{Bytes, Cell, ColumnKind, Text};
 use opening::{CellRef, TableId, View};
-use schema::{column_of_cell, columns};
 use signatures::{SigError, decode};
 use std::alloc::{AllocError, Global};
+use table_schema::{column_of_cell, columns};
 
 /// Decodes the signature that a blob encodes in a column of signatures.
 fn own_signature(alloc: Global, blob: &[u8], kind: ColumnKind) -> Result<Cell, AllocError>

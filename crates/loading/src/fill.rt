@@ -1,5 +1,5 @@
 ghost use Rattle.std.specs.Prelude.{◌≡◌, IfOk};
-ghost use Rattle.heaps.specs.Fill.{filled};
+ghost use Rattle.heap_entries.specs.Fill.{filled};
 
 use std::alloc::{AllocError, Global};
 

@@ -1,5 +1,5 @@
 ghost use Rattle.std.specs.Prelude.{◌≡◌, ◌≤◌, [], IfOk, OnOk, length};
-ghost use Rattle.schema.specs.declared.table.TableId.{TableId as Table};
+ghost use Rattle.table_schema.specs.declared.table.TableId.{TableId as Table};
 ghost use Rattle.cells.specs.Said.{all_said};
 ghost use Rattle.metadata.specs.Metadata.{Metadata, rows_of, row_of};
 ghost use Rattle.metadata.specs.Model.{IsModel};
@@ -10,8 +10,8 @@ use crate::cell::load_cell;
 use cells::Cell;
 use metadata::models_are_read;
 use opening::View;
-use schema::{TableId, cell_count, tables_stand};
 use std::alloc::{AllocError, Global};
+use table_schema::{TableId, cell_count, tables_stand};
 use tables::Tables;
 
 /// Loads the cells of a row.

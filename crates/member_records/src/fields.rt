@@ -1,6 +1,6 @@
 ghost use Rattle.std.specs.Prelude.{◌≡◌, [], ◌∷◌, IfOk};
-ghost use Rattle.schema.specs.declared.table.TableId.TheVariants as table;
-ghost use Rattle.schema.specs.declared.column.SigKind.TheVariants as column;
+ghost use Rattle.table_schema.specs.declared.table.TableId.TheVariants as table;
+ghost use Rattle.table_schema.specs.declared.column.SigKind.TheVariants as column;
 ghost use Rattle.metadata.specs.Cell.{Number, Text, Bytes, Ref, Sig};
 ghost use Rattle.cells.specs.Said.{all_said};
 

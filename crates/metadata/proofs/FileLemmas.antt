@@ -10,7 +10,7 @@ use Rattle.cli_header.specs.declared.header.CliHeader.{CliHeader}
 use Rattle.cli_header.specs.Header.{IsCliHeader}
 use Rattle.cli_header.specs.Said.{header_of}
 use Rattle.cli_header.specs.Demands.{demands_of_cli_header}
-use Rattle.schema.specs.declared.table.TableId.{TableId}
+use Rattle.table_schema.specs.declared.table.TableId.{TableId}
 use Rattle.metadata.specs.Metadata.{Metadata, count_in}
 use Rattle.metadata.specs.Source.{rows_in}
 use Rattle.metadata.specs.Streams.{root_in}

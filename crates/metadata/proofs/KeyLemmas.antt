@@ -4,17 +4,17 @@ use Rattle.std.specs.Prelude.{slice_get}
 use Rattle.std.specs.List.{position_or_len}
 use Rattle.std.proofs.lemmas.Bool.{cases_Bool, cases_lt}
 use Rattle.std.proofs.lemmas.Bool.Decides.{nat_tests}
-use Rattle.schema.specs.declared.table.TableId.{TableId}
-use Rattle.schema.specs.declared.table.TableId.TheVariants.{Module, TypeRef, TypeDef, Field, MethodDef, Param, InterfaceImpl, MemberRef, Constant, CustomAttribute, FieldMarshal, DeclSecurity, ClassLayout, FieldLayout, StandAloneSig, EventMap, Event, PropertyMap, Property, MethodSemantics, MethodImpl, ModuleRef, TypeSpec, ImplMap, FieldRVA, Assembly, AssemblyProcessor, AssemblyOS, AssemblyRef, AssemblyRefProcessor, AssemblyRefOS, File, ExportedType, ManifestResource, NestedClass, GenericParam, MethodSpec, GenericParamConstraint}
-use Rattle.schema.specs.declared.token.Token.{Token}
-use Rattle.schema.specs.declared.coded.Coded.{Coded}
-use Rattle.schema.specs.declared.column.ColumnKind.{ColumnKind}
-use Rattle.schema.specs.declared.column.ColumnKind.TheVariants as kind
-use Rattle.schema.specs.Tables.{tables, position_of, table_number}
-use Rattle.schema.specs.Columns.{columns_of, column_at, key_of, IsReference}
-use Rattle.schema.specs.CodedIndexes.{tables_of, tag_bits, IsCoded}
-use Rattle.schema.specs.CellColumns.{is_padding, cell_count, column_of}
-use Rattle.signature_values.specs.Parts.{is_table}
+use Rattle.table_schema.specs.declared.table.TableId.{TableId}
+use Rattle.table_schema.specs.declared.table.TableId.TheVariants.{Module, TypeRef, TypeDef, Field, MethodDef, Param, InterfaceImpl, MemberRef, Constant, CustomAttribute, FieldMarshal, DeclSecurity, ClassLayout, FieldLayout, StandAloneSig, EventMap, Event, PropertyMap, Property, MethodSemantics, MethodImpl, ModuleRef, TypeSpec, ImplMap, FieldRVA, Assembly, AssemblyProcessor, AssemblyOS, AssemblyRef, AssemblyRefProcessor, AssemblyRefOS, File, ExportedType, ManifestResource, NestedClass, GenericParam, MethodSpec, GenericParamConstraint}
+use Rattle.table_schema.specs.declared.token.Token.{Token}
+use Rattle.table_schema.specs.declared.coded.Coded.{Coded}
+use Rattle.table_schema.specs.declared.column.ColumnKind.{ColumnKind}
+use Rattle.table_schema.specs.declared.column.ColumnKind.TheVariants as kind
+use Rattle.table_schema.specs.Tables.{tables, position_of, table_number}
+use Rattle.table_schema.specs.Columns.{columns_of, column_at, key_of, IsReference}
+use Rattle.table_schema.specs.CodedIndexes.{tables_of, tag_bits, IsCoded}
+use Rattle.table_schema.specs.CellColumns.{is_padding, cell_count, column_of}
+use Rattle.sig_grammar.specs.Parts.{is_table}
 use Rattle.metadata.specs.Cell.{Cell}
 use Rattle.metadata.specs.Metadata.{Metadata, count_in, cell_in}
 use Rattle.metadata.specs.Source.{Source, rows_in, number_of}

@@ -12,10 +12,10 @@ use Rattle.root.specs.Streams.{Header, RootRead, named, stream_name}
 use Rattle.root.specs.Fields.{root_read}
 use Rattle.root.specs.Root.{IsRoot}
 use Rattle.root.specs.Demands.{demands_of_root}
-use Rattle.heaps.specs.Fill.{filled}
-use Rattle.schema.specs.declared.table.TableId.{TableId}
-use Rattle.schema.specs.declared.table.TableId.TheVariants.{Module}
-use Rattle.schema.specs.Tables.{position_of, tables}
+use Rattle.heap_entries.specs.Fill.{filled}
+use Rattle.table_schema.specs.declared.table.TableId.{TableId}
+use Rattle.table_schema.specs.declared.table.TableId.TheVariants.{Module}
+use Rattle.table_schema.specs.Tables.{position_of, tables}
 use Rattle.schema.specs.Sizes.{Sizes}
 use Rattle.schema.specs.Header.{sizes_of}
 use Rattle.schema.specs.LaidOut.{IsLaidOut, IsTableStream}
@@ -26,7 +26,7 @@ use Rattle.metadata.specs.Cell.{Number}
 use Rattle.metadata.specs.Metadata.{Metadata, rows_of}
 use Rattle.metadata.specs.Source.{Source, rows_in}
 use Rattle.metadata.specs.Streams.{stream_in, source_in}
-use Rattle.schema.specs.CellColumns.{cell_count}
+use Rattle.table_schema.specs.CellColumns.{cell_count}
 use Rattle.metadata.specs.Rows.{IsCell, IsRow, IsTable, IsTableAt, AreTables, table_at}
 use Rattle.metadata.specs.Rules.{AreByKey, AreOwned, AreNested}
 use Rattle.metadata.specs.Model.{IsModel}

@@ -2,10 +2,10 @@
 use Rattle.std.proofs.Common.{◌≡◌, ℕ, ◌-◌, ◌<◌, ◌≤◌, ◌++◌, length, get_or, subst, arith}
 use Rattle.packed.specs.Demand.{AllHold}
 use Rattle.packed.proofs.DemandLemmas.{all_append, all_front, all_back, each_holds, all_of_each}
-use Rattle.schema.specs.declared.table.TableId.{TableId}
-use Rattle.schema.specs.declared.table.TableId.TheVariants.{Module, TypeDef, Field, MethodDef, Param, EventMap, Event, PropertyMap, Property, NestedClass}
-use Rattle.schema.specs.Tables.{tables, position_of}
-use Rattle.schema.specs.CellColumns.{cell_count}
+use Rattle.table_schema.specs.declared.table.TableId.{TableId}
+use Rattle.table_schema.specs.declared.table.TableId.TheVariants.{Module, TypeDef, Field, MethodDef, Param, EventMap, Event, PropertyMap, Property, NestedClass}
+use Rattle.table_schema.specs.Tables.{tables, position_of}
+use Rattle.table_schema.specs.CellColumns.{cell_count}
 use Rattle.metadata.specs.Metadata.{Metadata, row_of, count_in, cell_in}
 use Rattle.metadata.specs.Lookups.{HasRow}
 use Rattle.metadata.specs.Rows.{table_at}

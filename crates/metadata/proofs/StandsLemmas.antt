@@ -4,22 +4,22 @@ use Rattle.std.specs.List.{slice_get}
 use Rattle.std.proofs.lemmas.Nat.{same_from_place}
 use Rattle.std.proofs.lemmas.Option.{slice_get_within}
 use Rattle.packed.specs.Demand.{AllHold}
-use Rattle.schema.specs.declared.table.TableId.{TableId}
-use Rattle.schema.specs.declared.token.Token.{Token}
-use Rattle.schema.specs.declared.coded.Coded.{Coded}
-use Rattle.schema.specs.declared.column.SigKind.{SigKind}
-use Rattle.schema.specs.declared.column.ColumnKind.{ColumnKind}
-use Rattle.schema.specs.declared.column.ColumnKind.TheVariants as kind
-use Rattle.schema.specs.CodedIndexes.{tables_of, tag_bits, IsCoded}
-use Rattle.heaps.specs.Entries.{IsText, IsBlob, IsGuid}
-use Rattle.heaps.specs.Demands.{demands_of_text}
-use Rattle.signature_values.specs.Syntax.{Body}
-use Rattle.signature_values.specs.Spells.{Spells}
+use Rattle.table_schema.specs.declared.table.TableId.{TableId}
+use Rattle.table_schema.specs.declared.token.Token.{Token}
+use Rattle.table_schema.specs.declared.coded.Coded.{Coded}
+use Rattle.table_schema.specs.declared.column.SigKind.{SigKind}
+use Rattle.table_schema.specs.declared.column.ColumnKind.{ColumnKind}
+use Rattle.table_schema.specs.declared.column.ColumnKind.TheVariants as kind
+use Rattle.table_schema.specs.CodedIndexes.{tables_of, tag_bits, IsCoded}
+use Rattle.heap_entries.specs.Entries.{IsText, IsBlob, IsGuid}
+use Rattle.heap_entries.specs.Demands.{demands_of_text}
+use Rattle.sig_grammar.specs.Syntax.{Body}
+use Rattle.sig_grammar.specs.Spells.{Spells}
 use Rattle.metadata.specs.Cell.{Cell}
 use Rattle.metadata.specs.Cell.{Number, Text, Bytes, Guid, Ref, Start, Sig}
 use Rattle.metadata.specs.Source.{Source}
 use Rattle.metadata.specs.Stands.{Refers, StandsFor}
-use Rattle.schema.specs.CellColumns.{is_padding}
+use Rattle.table_schema.specs.CellColumns.{is_padding}
 use Rattle.metadata.specs.Demands.{MayRefer, demands_of_number, demands_of_spelling}
 
 -- references

@@ -3,13 +3,13 @@ use Rattle.std.proofs.Common.{◌≡◌, ℕ, ◌+◌, ◌<◌, ◌≤◌, true,
 use Rattle.std.proofs.lemmas.Bool.{cases_Bool}
 use Rattle.packed.specs.Demand.{AllHold}
 use Rattle.packed.proofs.DemandLemmas.{each_holds, all_of_each}
-use Rattle.schema.specs.declared.table.TableId.{TableId}
-use Rattle.schema.specs.Columns.{columns_of, column_at}
+use Rattle.table_schema.specs.declared.table.TableId.{TableId}
+use Rattle.table_schema.specs.Columns.{columns_of, column_at}
 use Rattle.metadata.specs.Cell.{Cell}
 use Rattle.metadata.specs.Source.{Source, rows_in, number_of}
 use Rattle.metadata.specs.Starts.{start_of}
 use Rattle.metadata.specs.Placed.{Placed, cell_place}
-use Rattle.schema.specs.CellColumns.{is_padding, cell_count, column_of}
+use Rattle.table_schema.specs.CellColumns.{is_padding, cell_count, column_of}
 use Rattle.metadata.specs.Rows.{StandsIn, IsCell, IsRow, IsTable, IsTableAt, AreTables, table_at}
 use Rattle.metadata.specs.Demands.{demands_of_cell, demands_of_row, demands_of_table, demands_of_table_at, demands_of_cells, demands_of_signature, demands_of_signatures_in, demands_of_signatures_of, demands_of_signatures_at, demands_of_signatures}
 use Rattle.metadata.proofs.ItemLemmas.{item_of, items_of, items_one}

@@ -8,22 +8,22 @@ use Rattle.std.proofs.lemmas.Str.{IsUtf8-nil}
 use Rattle.packed.specs.Packed.{IsPacked}
 use Rattle.root.specs.declared.kind.Kind.TheVariants.{Tables, UserStrings}
 use Rattle.root.specs.Streams.{Header, named, stream_name}
-use Rattle.heaps.specs.Entries.{HasNoNul, IsText, IsBlob, IsGuid}
-use Rattle.heaps.specs.Fill.{filled}
-use Rattle.schema.specs.declared.table.TableId.{TableId}
-use Rattle.schema.specs.declared.table.TableId.TheVariants.{Module, TypeDef, Field, MethodDef, Param, EventMap, Event, PropertyMap, Property, NestedClass}
-use Rattle.schema.specs.declared.token.Token.{Token}
-use Rattle.schema.specs.declared.column.SigKind.{SigKind}
-use Rattle.schema.specs.declared.column.ColumnKind.{ColumnKind}
-use Rattle.schema.specs.declared.column.ColumnKind.TheVariants as kind
-use Rattle.schema.specs.Tables.{tables, position_of}
-use Rattle.schema.specs.Columns.{columns_of, column_at}
-use Rattle.schema.specs.CodedIndexes.{tables_of}
+use Rattle.heap_entries.specs.Entries.{HasNoNul, IsText, IsBlob, IsGuid}
+use Rattle.heap_entries.specs.Fill.{filled}
+use Rattle.table_schema.specs.declared.table.TableId.{TableId}
+use Rattle.table_schema.specs.declared.table.TableId.TheVariants.{Module, TypeDef, Field, MethodDef, Param, EventMap, Event, PropertyMap, Property, NestedClass}
+use Rattle.table_schema.specs.declared.token.Token.{Token}
+use Rattle.table_schema.specs.declared.column.SigKind.{SigKind}
+use Rattle.table_schema.specs.declared.column.ColumnKind.{ColumnKind}
+use Rattle.table_schema.specs.declared.column.ColumnKind.TheVariants as kind
+use Rattle.table_schema.specs.Tables.{tables, position_of}
+use Rattle.table_schema.specs.Columns.{columns_of, column_at}
+use Rattle.table_schema.specs.CodedIndexes.{tables_of}
 use Rattle.schema.specs.Sizes.{Sizes, count_of, kind_width, width_of}
 use Rattle.schema.specs.LaidOut.{IsLaidOut}
 use Rattle.schema.specs.Cells.{HoldsCell}
-use Rattle.signature_values.specs.Syntax.{Body}
-use Rattle.signature_values.specs.Spells.{Spells, IsSpellable, tokens}
+use Rattle.sig_grammar.specs.Syntax.{Body}
+use Rattle.sig_grammar.specs.Spells.{Spells, IsSpellable, tokens}
 use Rattle.metadata.specs.Cell.{Cell}
 use Rattle.metadata.specs.Cell.{Number, Ref, Start}
 use Rattle.metadata.specs.Metadata.{Metadata, rows_of, row_of, count_in, cell_in}
@@ -31,7 +31,7 @@ use Rattle.metadata.specs.Source.{Source, rows_in, number_of, IsThere}
 use Rattle.metadata.specs.Starts.{start_from, start_of}
 use Rattle.metadata.specs.Stands.{StandsFor, Refers}
 use Rattle.metadata.specs.Streams.{stream_in, source_in}
-use Rattle.schema.specs.CellColumns.{cell_columns, cell_count, column_of}
+use Rattle.table_schema.specs.CellColumns.{cell_columns, cell_count, column_of}
 use Rattle.metadata.specs.Rows.{IsCell, IsRow, IsTable, IsTableAt}
 use Rattle.metadata.specs.Rules.{IsOwned}
 use Rattle.metadata.specs.Model.{IsModel}

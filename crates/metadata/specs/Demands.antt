@@ -4,26 +4,26 @@ use Rattle.std.specs.Prelude.{◌≡◌, ◌≢◌, ℕ, ◌+◌, ◌-◌, ◌<�
 use Rattle.packed.specs.declared.code.FaultCode.TheVariants.{BadTag, BadIndex, BadList, NotSorted, NoOwner, BadRun, NestedOrder, BadSignature, SignatureIndex, EntryPoint}
 use Rattle.packed.specs.declared.fault.Fault.{Fault}
 use Rattle.packed.specs.Demand.{Demand, demand, demands_from, demands_where, raised}
-use Rattle.schema.specs.declared.table.TableId.{TableId}
-use Rattle.schema.specs.declared.table.TableId.TheVariants.{TypeDef, Field, MethodDef, Param, EventMap, Event, PropertyMap, Property, NestedClass}
-use Rattle.schema.specs.declared.token.Token.{Token}
-use Rattle.schema.specs.declared.coded.Coded.{Coded}
-use Rattle.schema.specs.declared.column.SigKind.{SigKind}
-use Rattle.schema.specs.declared.column.ColumnKind.{ColumnKind}
-use Rattle.schema.specs.declared.column.ColumnKind.TheVariants as kind
-use Rattle.schema.specs.Columns.{columns_of, column_at, key_of}
-use Rattle.schema.specs.CodedIndexes.{IsCoded}
+use Rattle.table_schema.specs.declared.table.TableId.{TableId}
+use Rattle.table_schema.specs.declared.table.TableId.TheVariants.{TypeDef, Field, MethodDef, Param, EventMap, Event, PropertyMap, Property, NestedClass}
+use Rattle.table_schema.specs.declared.token.Token.{Token}
+use Rattle.table_schema.specs.declared.coded.Coded.{Coded}
+use Rattle.table_schema.specs.declared.column.SigKind.{SigKind}
+use Rattle.table_schema.specs.declared.column.ColumnKind.{ColumnKind}
+use Rattle.table_schema.specs.declared.column.ColumnKind.TheVariants as kind
+use Rattle.table_schema.specs.Columns.{columns_of, column_at, key_of}
+use Rattle.table_schema.specs.CodedIndexes.{IsCoded}
 use Rattle.schema.specs.Demands.{demands_of_stream}
-use Rattle.heaps.specs.Entries.{IsBlob}
-use Rattle.heaps.specs.Demands.{demands_of_text, demands_of_blob, demands_of_guid}
+use Rattle.heap_entries.specs.Entries.{IsBlob}
+use Rattle.heap_entries.specs.Demands.{demands_of_text, demands_of_blob, demands_of_guid}
 use Rattle.root.specs.Demands.{demands_of_root}
 use Rattle.pe.specs.Headers.{image_of}
 use Rattle.pe.specs.Demands.{demands_of_image}
 use Rattle.cli_header.specs.declared.header.CliHeader.{CliHeader}
 use Rattle.cli_header.specs.Demands.{demands_of_cli_header}
 use Rattle.cli_header.specs.Said.{header_of}
-use Rattle.signature_values.specs.Syntax.{Body}
-use Rattle.signature_values.specs.Spells.{Spells}
+use Rattle.sig_grammar.specs.Syntax.{Body}
+use Rattle.sig_grammar.specs.Spells.{Spells}
 use Rattle.metadata.specs.Source.{Source, rows_in, number_of, IsThere}
 use Rattle.metadata.specs.Streams.{root_in}
 use Rattle.metadata.specs.Starts.{start_of}

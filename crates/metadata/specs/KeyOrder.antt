@@ -1,12 +1,12 @@
 -- The key numbers of a model's tables, and their order (ECMA-335 II.22 and II.24.2.6).
 use Rattle.std.specs.Prelude.{ℕ, ◌-◌, ◌+◌, ◌*◌, ◌^◌, ◌≤◌, Some}
 use Rattle.std.specs.List.{position_or_len}
-use Rattle.schema.specs.declared.table.TableId.{TableId}
-use Rattle.schema.specs.declared.token.Token.{Token}
-use Rattle.schema.specs.declared.column.ColumnKind.{ColumnKind}
-use Rattle.schema.specs.declared.column.ColumnKind.TheVariants as kind
-use Rattle.schema.specs.CodedIndexes.{tables_of, tag_bits}
-use Rattle.signature_values.specs.Parts.{is_table}
+use Rattle.table_schema.specs.declared.table.TableId.{TableId}
+use Rattle.table_schema.specs.declared.token.Token.{Token}
+use Rattle.table_schema.specs.declared.column.ColumnKind.{ColumnKind}
+use Rattle.table_schema.specs.declared.column.ColumnKind.TheVariants as kind
+use Rattle.table_schema.specs.CodedIndexes.{tables_of, tag_bits}
+use Rattle.sig_grammar.specs.Parts.{is_table}
 use Rattle.metadata.specs.Cell.{Cell, Ref}
 use Rattle.metadata.specs.Metadata.{Metadata, count_in, cell_in}
 use Rattle.metadata.specs.Lookups.{IsKeyPlace}

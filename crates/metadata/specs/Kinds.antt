@@ -1,12 +1,12 @@
 -- The cells that a column can hold (ECMA-335 II.22).
 use Rattle.std.specs.Prelude.{◌≡◌, ◌<◌, ◌^◌, ⊤, List, [], ◌∷◌, length, Option, Some, IfSome, Contains, IsUtf8}
-use Rattle.heaps.specs.Entries.{HasNoNul}
-use Rattle.schema.specs.declared.table.TableId.{TableId}
-use Rattle.schema.specs.declared.token.Token.{Token}
-use Rattle.schema.specs.declared.column.ColumnKind.{ColumnKind}
-use Rattle.schema.specs.declared.column.ColumnKind.TheVariants as kind
-use Rattle.schema.specs.CodedIndexes.{tables_of}
-use Rattle.signature_values.specs.Spells.{Holds, IsSpellable}
+use Rattle.heap_entries.specs.Entries.{HasNoNul}
+use Rattle.table_schema.specs.declared.table.TableId.{TableId}
+use Rattle.table_schema.specs.declared.token.Token.{Token}
+use Rattle.table_schema.specs.declared.column.ColumnKind.{ColumnKind}
+use Rattle.table_schema.specs.declared.column.ColumnKind.TheVariants as kind
+use Rattle.table_schema.specs.CodedIndexes.{tables_of}
+use Rattle.sig_grammar.specs.Spells.{Holds, IsSpellable}
 use Rattle.metadata.specs.Cell.{Cell}
 use Rattle.metadata.specs.Cell as cell
 

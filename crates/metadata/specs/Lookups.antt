@@ -1,12 +1,12 @@
 -- The results of lookups in a model (ECMA-335 II.22).
 use Rattle.std.specs.Prelude.{◌≡◌, ℕ, ◌+◌, ◌<◌, ◌≤◌, List, Some}
-use Rattle.schema.specs.declared.table.TableId.{TableId}
-use Rattle.schema.specs.declared.table.TableId.TheVariants.{TypeDef}
-use Rattle.schema.specs.declared.token.Token.{Token}
-use Rattle.schema.specs.Columns.{key_of}
+use Rattle.table_schema.specs.declared.table.TableId.{TableId}
+use Rattle.table_schema.specs.declared.table.TableId.TheVariants.{TypeDef}
+use Rattle.table_schema.specs.declared.token.Token.{Token}
+use Rattle.table_schema.specs.Columns.{key_of}
 use Rattle.metadata.specs.Cell.{Text, Ref, Start}
 use Rattle.metadata.specs.Metadata.{Metadata, count_in, cell_in}
-use Rattle.schema.specs.CellColumns.{cell_count, column_of}
+use Rattle.table_schema.specs.CellColumns.{cell_count, column_of}
 
 -- the row of a table exists
 abbrev pub HasRow : Metadata → TableId → ℕ → Type 0

@@ -1,7 +1,7 @@
 -- The metadata of a root: its content, independent of its encoding (ECMA-335 II.22 and II.24.2).
 use Rattle.std.specs.Prelude.{ℕ, ◌-◌, List, [], length, slice_index_or}
-use Rattle.schema.specs.declared.table.TableId.{TableId}
-use Rattle.schema.specs.Tables.{position_of}
+use Rattle.table_schema.specs.declared.table.TableId.{TableId}
+use Rattle.table_schema.specs.Tables.{position_of}
 use Rattle.metadata.specs.Cell.{Cell}
 use Rattle.metadata.specs.Cell.{Number}
 

@@ -7,13 +7,13 @@ use Rattle.pe.specs.Image as pe
 use Rattle.pe.specs.Image.{Image}
 use Rattle.cli_header.specs.declared.header.CliHeader.{CliHeader}
 use Rattle.cli_header.specs.Header.{IsCliHeader}
-use Rattle.heaps.specs.Fill.{filled}
-use Rattle.schema.specs.declared.token.Token.{Token}
-use Rattle.schema.specs.declared.table.TableId.{TableId}
-use Rattle.schema.specs.declared.table.TableId.TheVariants.{MethodDef, File}
+use Rattle.heap_entries.specs.Fill.{filled}
+use Rattle.table_schema.specs.declared.token.Token.{Token}
+use Rattle.table_schema.specs.declared.table.TableId.{TableId}
+use Rattle.table_schema.specs.declared.table.TableId.TheVariants.{MethodDef, File}
 use Rattle.schema.specs.Sizes.{Sizes}
 use Rattle.schema.specs.LaidOut.{IsLaidOut}
-use Rattle.schema.specs.Tokens.{IsToken}
+use Rattle.table_schema.specs.Tokens.{IsToken}
 use Rattle.metadata.specs.Metadata.{Metadata, count_in}
 use Rattle.metadata.specs.Rows.{AreTables}
 use Rattle.metadata.specs.Rules.{AreByKey, AreOwned, AreNested}

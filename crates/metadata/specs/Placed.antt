@@ -4,7 +4,7 @@ use Rattle.std.specs.Option.{option_map}
 use Rattle.root.specs.declared.kind.Kind.TheVariants.{Tables}
 use Rattle.root.specs.Fields.{root_read}
 use Rattle.root.specs.Streams.{place_of}
-use Rattle.schema.specs.declared.table.TableId.{TableId}
+use Rattle.table_schema.specs.declared.table.TableId.{TableId}
 use Rattle.schema.specs.Header.{sizes_of}
 use Rattle.schema.specs.Places.{cell_start}
 use Rattle.schema.specs.Cells.{numbers_at}

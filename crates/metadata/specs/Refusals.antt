@@ -7,10 +7,10 @@ use Rattle.packed.specs.declared.code.FaultCode.TheVariants.{Version, UserBytes,
 use Rattle.packed.specs.Codes.{number_of_code}
 use Rattle.packed.specs.Demand.{Demand, demands_from}
 use Rattle.root.specs.Root.{IsVersion}
-use Rattle.schema.specs.declared.table.TableId.{TableId}
-use Rattle.schema.specs.declared.table.TableId.TheVariants.{TypeDef, Field, MethodDef, Param, EventMap, Event, PropertyMap, Property, NestedClass}
-use Rattle.schema.specs.Tables.{table_number}
-use Rattle.schema.specs.CellColumns.{cell_count}
+use Rattle.table_schema.specs.declared.table.TableId.{TableId}
+use Rattle.table_schema.specs.declared.table.TableId.TheVariants.{TypeDef, Field, MethodDef, Param, EventMap, Event, PropertyMap, Property, NestedClass}
+use Rattle.table_schema.specs.Tables.{table_number}
+use Rattle.table_schema.specs.CellColumns.{cell_count}
 use Rattle.metadata.specs.declared.refusal.Refusal.{Refusal}
 use Rattle.metadata.specs.Kinds.{IsOfKind, IsStorable, IsHeld}
 use Rattle.metadata.specs.Metadata.{Metadata, row_of, count_in, cell_in}

@@ -1,10 +1,10 @@
 -- The rows of cells that a root's numbers represent (ECMA-335 II.22).
 use Rattle.std.specs.Prelude.{ℕ, zero, suc, ◌+◌, List, [], ◌∷◌, slice_index_or}
-use Rattle.schema.specs.declared.table.TableId.{TableId}
-use Rattle.schema.specs.declared.table.TableId.TheVariants.{Module}
-use Rattle.schema.specs.Tables.{tables}
-use Rattle.schema.specs.Columns.{column_at}
-use Rattle.schema.specs.CellColumns.{cell_count, column_of}
+use Rattle.table_schema.specs.declared.table.TableId.{TableId}
+use Rattle.table_schema.specs.declared.table.TableId.TheVariants.{Module}
+use Rattle.table_schema.specs.Tables.{tables}
+use Rattle.table_schema.specs.Columns.{column_at}
+use Rattle.table_schema.specs.CellColumns.{cell_count, column_of}
 use Rattle.metadata.specs.Cell.{Cell}
 use Rattle.metadata.specs.Source.{Source, rows_in, number_of}
 use Rattle.metadata.specs.Starts.{start_of}

@@ -1,8 +1,8 @@
 -- The rules for the rows of a root, beside those for single cells (ECMA-335 II.22).
 use Rattle.std.specs.Prelude.{◌≡◌, ◌≢◌, ℕ, ◌-◌, ◌<◌, ◌≤◌, Bool, true, Option, Some, None}
-use Rattle.schema.specs.declared.table.TableId.{TableId}
-use Rattle.schema.specs.declared.table.TableId.TheVariants.{TypeDef, Field, MethodDef, Param, EventMap, Event, PropertyMap, Property, NestedClass}
-use Rattle.schema.specs.Columns.{key_of}
+use Rattle.table_schema.specs.declared.table.TableId.{TableId}
+use Rattle.table_schema.specs.declared.table.TableId.TheVariants.{TypeDef, Field, MethodDef, Param, EventMap, Event, PropertyMap, Property, NestedClass}
+use Rattle.table_schema.specs.Columns.{key_of}
 use Rattle.schema.specs.Header.{has_bit}
 use Rattle.metadata.specs.Source.{Source, rows_in, number_of}
 use Rattle.metadata.specs.Starts.{start_of}

@@ -1,6 +1,6 @@
 -- Two models with the same parts.
 use Rattle.std.specs.Prelude.{◌≡◌, ℕ, ◌<◌, length}
-use Rattle.schema.specs.declared.table.TableId.{TableId}
+use Rattle.table_schema.specs.declared.table.TableId.{TableId}
 use Rattle.metadata.specs.Metadata.{Metadata, row_of, count_in, cell_in}
 use Rattle.metadata.specs.Lookups.{HasRow}
 

@@ -1,7 +1,7 @@
 -- What the cells of a root are read from: the numbers of its tables, and its heaps (ECMA-335 II.24.2.3 to II.24.2.6).
 use Rattle.std.specs.Prelude.{ℕ, ◌≤◌, List}
-use Rattle.schema.specs.declared.table.TableId.{TableId}
-use Rattle.schema.specs.declared.token.Token.{Token}
+use Rattle.table_schema.specs.declared.table.TableId.{TableId}
+use Rattle.table_schema.specs.declared.token.Token.{Token}
 use Rattle.schema.specs.Sizes.{Sizes, count_of}
 use Rattle.schema.specs.LaidOut.{number_in}
 

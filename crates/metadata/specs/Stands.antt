@@ -1,14 +1,14 @@
 -- The cell that the number in a column represents (ECMA-335 II.22 and II.24.2.6).
 use Rattle.std.specs.Prelude.{◌≡◌, ℕ, ◌+◌, ◌≤◌, ◌⊎◌, Bool, true, List, Option, Some, None}
 use Rattle.std.specs.List.{AllByRecursion}
-use Rattle.schema.specs.declared.table.TableId.{TableId}
-use Rattle.schema.specs.declared.token.Token.{Token}
-use Rattle.schema.specs.declared.column.ColumnKind.{ColumnKind}
-use Rattle.schema.specs.declared.column.ColumnKind.TheVariants as kind
-use Rattle.schema.specs.CodedIndexes.{IsCoded}
-use Rattle.heaps.specs.Entries.{IsText, IsBlob, IsGuid}
-use Rattle.signature_values.specs.Syntax.{Body}
-use Rattle.signature_values.specs.Spells.{Spells, tokens}
+use Rattle.table_schema.specs.declared.table.TableId.{TableId}
+use Rattle.table_schema.specs.declared.token.Token.{Token}
+use Rattle.table_schema.specs.declared.column.ColumnKind.{ColumnKind}
+use Rattle.table_schema.specs.declared.column.ColumnKind.TheVariants as kind
+use Rattle.table_schema.specs.CodedIndexes.{IsCoded}
+use Rattle.heap_entries.specs.Entries.{IsText, IsBlob, IsGuid}
+use Rattle.sig_grammar.specs.Syntax.{Body}
+use Rattle.sig_grammar.specs.Spells.{Spells, tokens}
 use Rattle.metadata.specs.Cell.{Cell}
 use Rattle.metadata.specs.Cell.{Number, Text, Bytes, Guid, Ref, Start, Sig}
 use Rattle.metadata.specs.Source.{Source, rows_in, IsThere}

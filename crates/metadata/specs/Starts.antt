@@ -1,6 +1,6 @@
 -- The starts of the runs of members that owners have (ECMA-335 II.22.12, II.22.26, II.22.35 and II.22.37).
 use Rattle.std.specs.Prelude.{ℕ, zero, suc, ◌+◌, ◌-◌, ◌==◌, if◌then◌else◌}
-use Rattle.schema.specs.declared.table.TableId.{TableId}
+use Rattle.table_schema.specs.declared.table.TableId.{TableId}
 use Rattle.metadata.specs.Source.{Source, rows_in, number_of}
 
 -- the start of the owner in `row`, the first of `left` owners: its list value; if that is null, the start of the next

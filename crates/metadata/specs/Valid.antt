@@ -2,14 +2,14 @@
 use Rattle.std.specs.Prelude.{◌≡◌, ◌≢◌, ℕ, ◌-◌, ◌+◌, ◌^◌, ◌%◌, ◌<◌, ◌≤◌, ⊤, Bool, true, List, length, Some, None}
 use Rattle.std.specs.List.{AllByRecursion}
 use Rattle.root.specs.Root.{IsVersion}
-use Rattle.schema.specs.declared.table.TableId.{TableId}
-use Rattle.schema.specs.declared.table.TableId.TheVariants.{TypeDef, Field, MethodDef, Param, EventMap, Event, PropertyMap, Property, NestedClass}
-use Rattle.schema.specs.declared.token.Token.{Token}
-use Rattle.schema.specs.declared.column.ColumnKind.{ColumnKind}
-use Rattle.schema.specs.declared.column.ColumnKind.TheVariants as kind
-use Rattle.schema.specs.Columns.{column_at}
-use Rattle.schema.specs.CellColumns.{cell_count, column_of}
-use Rattle.signature_values.specs.Spells.{tokens}
+use Rattle.table_schema.specs.declared.table.TableId.{TableId}
+use Rattle.table_schema.specs.declared.table.TableId.TheVariants.{TypeDef, Field, MethodDef, Param, EventMap, Event, PropertyMap, Property, NestedClass}
+use Rattle.table_schema.specs.declared.token.Token.{Token}
+use Rattle.table_schema.specs.declared.column.ColumnKind.{ColumnKind}
+use Rattle.table_schema.specs.declared.column.ColumnKind.TheVariants as kind
+use Rattle.table_schema.specs.Columns.{column_at}
+use Rattle.table_schema.specs.CellColumns.{cell_count, column_of}
+use Rattle.sig_grammar.specs.Spells.{tokens}
 use Rattle.metadata.specs.Cell.{Cell, Ref, Start, Sig}
 use Rattle.metadata.specs.Kinds.{IsOfKind, IsStorable, IsHeld}
 use Rattle.metadata.specs.Metadata.{Metadata, row_of, count_in, cell_in}

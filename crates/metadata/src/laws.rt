@@ -3,10 +3,10 @@ ghost use Rattle.packed.specs.Demand.{AllHold};
 ghost use Rattle.root.specs.Fields.{root_read};
 ghost use Rattle.root.specs.declared.kind.Kind.TheVariants.{UserStrings};
 ghost use Rattle.cli_header.specs.declared.header.CliHeader.{CliHeader};
-ghost use Rattle.heaps.specs.Fill.{filled};
-ghost use Rattle.schema.specs.declared.table.TableId.{TableId as Table};
-ghost use Rattle.schema.specs.declared.token.Token.{Token};
-ghost use Rattle.schema.specs.Columns.{key_of};
+ghost use Rattle.heap_entries.specs.Fill.{filled};
+ghost use Rattle.table_schema.specs.declared.table.TableId.{TableId as Table};
+ghost use Rattle.table_schema.specs.declared.token.Token.{Token};
+ghost use Rattle.table_schema.specs.Columns.{key_of};
 ghost use Rattle.schema.specs.LaidOut.{IsTableStream};
 ghost use Rattle.metadata.specs.Cell.{Cell, Ref};
 ghost use Rattle.metadata.specs.Kinds.{IsOfKind};
@@ -14,7 +14,7 @@ ghost use Rattle.metadata.specs.Lookups.{IsKeyPlace};
 ghost use Rattle.metadata.specs.Metadata.{Metadata, row_of, count_in, cell_in};
 ghost use Rattle.metadata.specs.Source.{Source, rows_in, number_of};
 ghost use Rattle.metadata.specs.Streams.{stream_in};
-ghost use Rattle.schema.specs.CellColumns.{cell_count, column_of};
+ghost use Rattle.table_schema.specs.CellColumns.{cell_count, column_of};
 ghost use Rattle.metadata.specs.Rows.{IsCell};
 ghost use Rattle.metadata.specs.Rules.{IsInOrder, AreByKey, AreOwned, AreNested};
 ghost use Rattle.metadata.specs.Model.{IsModel, IsModelOfFile};
@@ -26,14 +26,12 @@ ghost use Rattle.metadata.specs.Refusals.{refusals_of};
 ghost use Rattle.metadata.specs.Demands.{demands_of_metadata, demands_of_file};
 
 use cli_header::headers_are_read;
-use heaps::entries_are_one;
+use heap_entries::entries_are_one;
 use pe::images_are_read;
 use root::roots_are_read;
-use schema::{
-    cells_have_columns, cells_stand, columns_stand, numbers_are_read, streams_are_read,
-    tables_stand, tags_fit,
-};
+use schema::{cells_stand, numbers_are_read, streams_are_read};
 use signature_values::{signatures_are_read, spelled_is_spellable};
+use table_schema::{cells_have_columns, columns_stand, tables_stand, tags_fit};
 
 /// A list of bytes satisfies all rules for a root if and only if it has a model. It has at most one model.
 pub fn roots_have_models()

@@ -1,10 +1,10 @@
 ghost use Rattle.std.specs.Prelude.{◌≡◌, ◌≤◌, ◌<◌, ◌^◌, length};
 ghost use Rattle.std.specs.List.{position_or_len};
-ghost use Rattle.schema.specs.CodedIndexes.{tables_of, tag_bits};
-ghost use Rattle.signature_values.specs.Parts.{is_table as is_table_of};
+ghost use Rattle.table_schema.specs.CodedIndexes.{tables_of, tag_bits};
+ghost use Rattle.sig_grammar.specs.Parts.{is_table as is_table_of};
 ghost use Rattle.metadata.specs.KeyOrder.{row_number as number_of_row};
 
-use schema::{Coded, ColumnKind, TableId, Token, tags_fit};
+use table_schema::{Coded, ColumnKind, TableId, Token, tags_fit};
 
 /// The number by which a column of a kind refers to a row (II.24.2.6).
 ///

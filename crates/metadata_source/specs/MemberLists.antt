@@ -1,7 +1,7 @@
 -- Which tables and cells the lists of members are (ECMA-335 II.22.12, II.22.26, II.22.35 and II.22.37).
 use Rattle.std.specs.Prelude.{ℕ}
-use Rattle.schema.specs.declared.table.TableId.{TableId}
-use Rattle.schema.specs.declared.table.TableId.TheVariants.{TypeDef, MethodDef, Field, Param, EventMap, Event, PropertyMap, Property}
+use Rattle.table_schema.specs.declared.table.TableId.{TableId}
+use Rattle.table_schema.specs.declared.table.TableId.TheVariants.{TypeDef, MethodDef, Field, Param, EventMap, Event, PropertyMap, Property}
 use Rattle.metadata_source.specs.declared.member_lists.MemberList.{MemberList}
 use Rattle.metadata_source.specs.declared.member_lists.MemberList.TheVariants as list
 

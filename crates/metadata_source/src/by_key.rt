@@ -2,7 +2,7 @@ ghost use Rattle.std.specs.Prelude.{◌≡◌, ◌≢◌, ◌≤◌, ◌+◌, �
 ghost use Rattle.std.specs.List.{Contains};
 ghost use Rattle.std.specs.List.Sorted.{IsStrictlyIncreasing};
 ghost use Rattle.rows.specs.Keys.{binary_digits};
-ghost use Rattle.schema.specs.Columns.{key_of};
+ghost use Rattle.table_schema.specs.Columns.{key_of};
 ghost use Rattle.metadata.specs.Cell.{Ref};
 ghost use Rattle.metadata.specs.Metadata.{Metadata, count_in, cell_in};
 ghost use Rattle.metadata.specs.Lookups.{HasRow, HasKey, IsKeyPlace};
@@ -14,7 +14,7 @@ use crate::row_numbers::number_of;
 use crate::source::ReadMetadata;
 use metadata::key_numbers_are_one;
 use reading::KeyRows;
-use schema::{TableId, Token};
+use table_schema::{TableId, Token};
 
 /// The rows of a table whose key is a token, from the lowest on (II.22).
 ///

@@ -1,10 +1,10 @@
 ghost use Rattle.std.specs.Prelude.{◌≡◌, ◌<◌, IsSome};
-ghost use Rattle.schema.specs.Columns.{key_of};
-ghost use Rattle.schema.specs.CellColumns.{cell_count};
+ghost use Rattle.table_schema.specs.Columns.{key_of};
+ghost use Rattle.table_schema.specs.CellColumns.{cell_count};
 ghost use Rattle.metadata.specs.Lookups.{IsKeyPlace};
 ghost use Rattle.metadata.specs.Valid.{kind_at};
 
-use schema::{
+use table_schema::{
     ColumnKind, TableId, cell_count, cells_have_columns, column_of_cell, columns, columns_stand,
     key,
 };

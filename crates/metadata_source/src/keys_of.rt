@@ -3,7 +3,7 @@ ghost use Rattle.metadata_source.specs.Keys.{all_numbers};
 
 use crate::source::ReadMetadata;
 use reading::KeyNumbers;
-use schema::TableId;
+use table_schema::TableId;
 
 /// The key numbers of a table's rows.
 #[derive(Drop)]

@@ -1,4 +1,4 @@
-use schema::TableId;
+use table_schema::TableId;
 
 /// A column whose cells list members: each row owns a run of rows of another table (II.22).
 #[derive(Clone, Copy)]
@@ -17,8 +17,8 @@ pub enum MemberList {
 
 impl MemberList {
     ghost use Rattle.std.specs.Prelude.{◌≡◌, ◌<◌};
-    ghost use Rattle.schema.specs.declared.column.ColumnKind.TheVariants.{List};
-    ghost use Rattle.schema.specs.CellColumns.{cell_count};
+    ghost use Rattle.table_schema.specs.declared.column.ColumnKind.TheVariants.{List};
+    ghost use Rattle.table_schema.specs.CellColumns.{cell_count};
     ghost use Rattle.metadata.specs.Valid.{kind_at};
     ghost use Rattle.metadata_source.specs.MemberLists.{owner_of, cell_of, member_of};
 
@@ -35,7 +35,7 @@ impl MemberList {
     }
 
     /// The index of the cell that lists the members, in a row of an owner.
-    #[tactic(auto, unfolding(schema::specs::CellColumns::cell_columns))]
+    #[tactic(auto, unfolding(table_schema::specs::CellColumns::cell_columns))]
     pub fn cell(self) -> usize
         ensures value { result ≡ cell_of self }
         ensures within { cell_of self < cell_count (owner_of self) }

@@ -4,7 +4,7 @@ ghost use Rattle.metadata.specs.Kinds.{IsOfKind};
 ghost use Rattle.metadata.specs.KeyOrder.{row_number as number_of_row};
 
 use metadata::row_number;
-use schema::{ColumnKind, TableId, Token};
+use table_schema::{ColumnKind, TableId, Token};
 
 /// The number by which a column of a kind refers to a row (II.24.2.6), `None` if it takes no reference
 /// to the row's table.

@@ -1,15 +1,15 @@
 use crate::member_lists::MemberList;
-use schema::TableId;
+use table_schema::TableId;
 
 /// A value that holds one metadata, which reading does not change.
 ///
 /// Rows count from 1. A cell is named by its index in its row, from 0 on.
 pub trait ReadMetadata {
     ghost use Rattle.std.specs.Prelude.{◌≡◌, ◌≤◌, ◌<◌, ◌↔◌, ℕ, IsTrue, IsSome};
-    ghost use Rattle.schema.specs.declared.table.TableId.{TableId as Table};
-    ghost use Rattle.schema.specs.declared.column.ColumnKind.TheVariants as kind;
-    ghost use Rattle.schema.specs.Columns.{key_of};
-    ghost use Rattle.schema.specs.CellColumns.{cell_count};
+    ghost use Rattle.table_schema.specs.declared.table.TableId.{TableId as Table};
+    ghost use Rattle.table_schema.specs.declared.column.ColumnKind.TheVariants as kind;
+    ghost use Rattle.table_schema.specs.Columns.{key_of};
+    ghost use Rattle.table_schema.specs.CellColumns.{cell_count};
     ghost use Rattle.metadata.specs.Cell.{Text, Start};
     ghost use Rattle.metadata.specs.Metadata.{Metadata, count_in, cell_in};
     ghost use Rattle.metadata.specs.Lookups.{IsKeyPlace};

@@ -1,10 +1,10 @@
 ghost use Rattle.std.specs.Prelude.{◌≡◌, ◌≤◌, ◌↔◌, ℕ, IsTrue, IfSome, IfNone};
-ghost use Rattle.schema.specs.declared.table.TableId.TheVariants.{TypeDef};
+ghost use Rattle.table_schema.specs.declared.table.TableId.TheVariants.{TypeDef};
 ghost use Rattle.metadata.specs.Metadata.{Metadata};
 ghost use Rattle.metadata.specs.Lookups.{HasRow, HasNames, IsFirstType};
 
 use crate::source::ReadMetadata;
-use schema::TableId;
+use table_schema::TableId;
 
 /// The cell of a type's name (II.22.37).
 const NAME: usize = 1;
@@ -31,7 +31,7 @@ pub fn find_type<S: ReadMetadata>(source: &S, namespace: &str, name: &str) -> Op
 }
 
 /// Whether a type has a namespace and a name (II.22.37).
-#[tactic(auto, unfolding(schema::specs::CellColumns::cell_columns))]
+#[tactic(auto, unfolding(table_schema::specs::CellColumns::cell_columns))]
 fn has_names<S: ReadMetadata>(source: &S, row: u32, namespace: &str, name: &str) -> bool
     requires first { 1 ≤ row }
     requires last { row ≤ S.row_count source.now TypeDef }

@@ -51,8 +51,7 @@ pub use opening::{
 };
 
 // The heaps: user strings, and the text of a GUID.
-pub use heaps::{HeapFault, PoolError, Units, UserString, guid_text, user_string};
-pub use user_heap::UserHeap;
+pub use heaps::{HeapFault, PoolError, Units, UserHeap, UserString, guid_text, user_string};
 
 // The kinds of columns, and their names.
 pub use column_names::column_names;

@@ -31,5 +31,5 @@ pub use packed::{Fault, FaultCode};
 pub use pe::Pe;
 pub use reading::{CellRef, KeyNumbers, KeyRows, Starts};
 pub use root::Root;
-pub use schema::{TableId, Token};
+pub use table_schema::{TableId, Token};
 pub use view::View;

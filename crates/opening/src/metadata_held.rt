@@ -1,4 +1,4 @@
-ghost use Rattle.schema.specs.CellColumns.{column_of};
+ghost use Rattle.table_schema.specs.CellColumns.{column_of};
 ghost use Rattle.metadata.specs.Source.{number_of};
 ghost use Rattle.metadata.specs.Model.{IsModel};
 ghost use Rattle.metadata.specs.Placed.{source_of};
@@ -8,7 +8,7 @@ use crate::view::View;
 use metadata::{keys_are_in_order, models_are_read, models_of_roots_are_valid};
 use metadata_source::{MemberList, ReadMetadata};
 use reading::{is_text_at, start_at};
-use schema::{TableId, column_of_cell};
+use table_schema::{TableId, column_of_cell};
 
 impl ReadMetadata for View<'_> {
     ghost shows = { IsModel };

@@ -1,17 +1,17 @@
 ghost use Rattle.std.specs.Prelude.{◌≡◌, ◌≤◌, ◌<◌, ◌↔◌, ◌+◌, ◌-◌, ◌*◌, ℕ, IsTrue, Some, IsSome, IfSome, IfNone, length, slice_index};
 ghost use Rattle.std.specs.List.{Contains};
 ghost use Rattle.std.specs.List.Sorted.{IsStrictlyIncreasing};
-ghost use Rattle.heaps.specs.Fill.{filled};
+ghost use Rattle.heap_entries.specs.Fill.{filled};
 ghost use Rattle.rows.specs.Keys.{binary_digits};
 ghost use Rattle.root.specs.Fields.{root_read};
-ghost use Rattle.schema.specs.declared.table.TableId.{TableId as Table};
-ghost use Rattle.schema.specs.declared.table.TableId.TheVariants.{TypeDef, MethodDef, Field, Param, EventMap, Event, PropertyMap, Property};
-ghost use Rattle.schema.specs.declared.column.ColumnKind.TheVariants.{List};
-ghost use Rattle.schema.specs.Columns.{key_of, column_at};
+ghost use Rattle.table_schema.specs.declared.table.TableId.{TableId as Table};
+ghost use Rattle.table_schema.specs.declared.table.TableId.TheVariants.{TypeDef, MethodDef, Field, Param, EventMap, Event, PropertyMap, Property};
+ghost use Rattle.table_schema.specs.declared.column.ColumnKind.TheVariants.{List};
+ghost use Rattle.table_schema.specs.Columns.{key_of, column_at};
 ghost use Rattle.metadata.specs.Metadata.{Metadata, count_in, cell_in};
 ghost use Rattle.metadata.specs.Cell.{Start};
 ghost use Rattle.metadata.specs.Source.{Source as TheSource, rows_in, number_of};
-ghost use Rattle.schema.specs.CellColumns.{cell_count, column_of};
+ghost use Rattle.table_schema.specs.CellColumns.{cell_count, column_of};
 ghost use Rattle.metadata.specs.Rules.{IsInOrder};
 ghost use Rattle.metadata.specs.KeyOrder.{IsKeyOrdered};
 ghost use Rattle.metadata.specs.Model.{IsModel};
@@ -28,9 +28,9 @@ use checks::Checked;
 use metadata::{keys_are_in_order, models_are_read};
 use metadata_source::KeysOf;
 use reading::{CellRef, KeyRows, KnownRuns, Source, Starts, cell_of, starts_of};
-use schema::{TableId, Token, column_of_cell};
 use std::marker::Model;
 use std::ops::Range;
+use table_schema::{TableId, Token, column_of_cell};
 
 /// The one model of a root, read in place from the caller's bytes (II.22, II.24.2).
 ///

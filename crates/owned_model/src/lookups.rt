@@ -1,16 +1,16 @@
 use crate::valid_model::Model;
 use metadata_source::KeysOf;
 use reading::KeyRows;
-use schema::{TableId, Token};
 use std::ops::Range;
+use table_schema::{TableId, Token};
 
 impl Model {
     ghost use Rattle.std.specs.Prelude.{◌≤◌, ◌+◌, ◌*◌, ◌≡◌, ◌↔◌, ℕ, IsSome, IfSome, IfNone};
     ghost use Rattle.std.specs.List.{Contains};
     ghost use Rattle.std.specs.List.Sorted.{IsStrictlyIncreasing};
     ghost use Rattle.rows.specs.Keys.{binary_digits};
-    ghost use Rattle.schema.specs.declared.table.TableId.TheVariants.{TypeDef, MethodDef, Field, Param, EventMap, Event, PropertyMap, Property};
-    ghost use Rattle.schema.specs.Columns.{key_of};
+    ghost use Rattle.table_schema.specs.declared.table.TableId.TheVariants.{TypeDef, MethodDef, Field, Param, EventMap, Event, PropertyMap, Property};
+    ghost use Rattle.table_schema.specs.Columns.{key_of};
     ghost use Rattle.metadata.specs.Metadata.{count_in};
     ghost use Rattle.metadata.specs.Lookups.{IsRun, IsFirstType, HasRow, HasNames, HasKey};
     ghost use Rattle.metadata.specs.KeyOrder.{IsKeyOrdered};

@@ -8,7 +8,7 @@ use crate::valid_model::Model;
 use cells::Cell;
 use metadata::row_number;
 use metadata_source::{MemberList, ReadMetadata};
-use schema::{ColumnKind, TableId, column_of_cell, columns};
+use table_schema::{ColumnKind, TableId, column_of_cell, columns};
 
 impl ReadMetadata for Model {
     ghost shows = { λ model other. model ≡ other };

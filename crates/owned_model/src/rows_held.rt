@@ -1,11 +1,11 @@
 ghost use Rattle.std.specs.Prelude.{◌≡◌, ◌≤◌, ◌↔◌, Some, IsSome, IfSome, Contains};
-ghost use Rattle.schema.specs.CodedIndexes.{tables_of};
+ghost use Rattle.table_schema.specs.CodedIndexes.{tables_of};
 ghost use Rattle.metadata.specs.Metadata.{Metadata, row_of, count_in};
 ghost use Rattle.metadata.specs.Lookups.{HasRow};
 
 use crate::valid_model::Model;
 use records::{CellRow, CodedRow, FromRow, owned_cells_are_rows, valid_rows_are_of_kinds};
-use schema::{TableId, Token};
+use table_schema::{TableId, Token};
 use typed_rows::{ReadRows, Records};
 
 impl<'m> ReadRows<'m> for &'m Model {

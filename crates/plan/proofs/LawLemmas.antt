@@ -8,18 +8,18 @@ use Rattle.std.proofs.lemmas.Map.Views.{Contains-from_any}
 use Rattle.std.proofs.Math.Path.{fun_ext}
 use Rattle.std.proofs.lemmas.List.{drop_at, drop-drop, ext_get_or, get_or-drop, get_or-map, length-map, map-append}
 use Rattle.std.proofs.lemmas.List.Elements.{All-from_get_or, recursion_from_All, Contains-append_right}
-use Rattle.schema.specs.declared.column.Column.{Column}
-use Rattle.schema.specs.declared.column.ColumnKind.{ColumnKind}
-use Rattle.schema.specs.declared.table.TableId.{TableId}
-use Rattle.schema.specs.declared.table.TableId.TheVariants.{Module}
-use Rattle.schema.specs.Tables.{tables}
-use Rattle.schema.specs.Columns.{columns_of}
-use Rattle.schema.specs.CellColumns.{is_padding, indexes_from, cell_columns}
-use Rattle.heaps.specs.TextHeap.{text_index}
-use Rattle.heaps.specs.Distinct.{is_among, pooled, distinct}
-use Rattle.heaps.specs.BlobHeap.{blob_heap, blob_index}
-use Rattle.heaps.specs.GuidHeap.{guid_heap, guid_index}
-use Rattle.signature_values.specs.Spells.{short}
+use Rattle.table_schema.specs.declared.column.Column.{Column}
+use Rattle.table_schema.specs.declared.column.ColumnKind.{ColumnKind}
+use Rattle.table_schema.specs.declared.table.TableId.{TableId}
+use Rattle.table_schema.specs.declared.table.TableId.TheVariants.{Module}
+use Rattle.table_schema.specs.Tables.{tables}
+use Rattle.table_schema.specs.Columns.{columns_of}
+use Rattle.table_schema.specs.CellColumns.{is_padding, indexes_from, cell_columns}
+use Rattle.heap_pools.specs.TextHeap.{text_index}
+use Rattle.heap_pools.specs.Distinct.{is_among, pooled, distinct}
+use Rattle.heap_pools.specs.BlobHeap.{blob_heap, blob_index}
+use Rattle.heap_pools.specs.GuidHeap.{guid_heap, guid_index}
+use Rattle.sig_grammar.specs.Spells.{short}
 use Rattle.metadata.specs.Cell.{Cell, Number, Text, Bytes, Guid, Ref, Start, Sig}
 use Rattle.metadata.specs.Metadata.{Metadata, rows_of}
 use Rattle.metadata.specs.Valid.{IsValid, IsValidCell, kind_at, nullable_at}

@@ -3,14 +3,14 @@ use Rattle.std.proofs.Common.{ℕ, ◌≤◌, inl, inr, Bool, true, false, cond,
 use Rattle.std.specs.Prelude.{flat_map}
 use Rattle.std.proofs.lemmas.Bool.{cases_Bool}
 use Rattle.std.proofs.lemmas.List.Concat.{flat_map-append}
-use Rattle.schema.specs.declared.column.Column.{Column}
-use Rattle.schema.specs.declared.column.ColumnKind.{ColumnKind}
-use Rattle.schema.specs.declared.table.TableId.{TableId}
-use Rattle.schema.specs.Columns.{columns_of}
-use Rattle.schema.specs.CellColumns.{is_padding}
-use Rattle.heaps.specs.Distinct.{is_among, pooled}
-use Rattle.heaps.specs.BlobHeap.{blob_heap, counted}
-use Rattle.heaps.specs.GuidHeap.{guid_heap}
+use Rattle.table_schema.specs.declared.column.Column.{Column}
+use Rattle.table_schema.specs.declared.column.ColumnKind.{ColumnKind}
+use Rattle.table_schema.specs.declared.table.TableId.{TableId}
+use Rattle.table_schema.specs.Columns.{columns_of}
+use Rattle.table_schema.specs.CellColumns.{is_padding}
+use Rattle.heap_pools.specs.Distinct.{is_among, pooled}
+use Rattle.heap_pools.specs.BlobHeap.{blob_heap, counted}
+use Rattle.heap_pools.specs.GuidHeap.{guid_heap}
 use Rattle.metadata.specs.Cell.{Cell, Text}
 use Rattle.metadata.specs.Metadata.{Metadata, rows_of}
 use Rattle.canonical.specs.Pools.{blobs_of, guids_of}

@@ -1,14 +1,14 @@
 -- The numbers of cells, and the pools of their blobs and GUIDs, cell by cell (ECMA-335 II.24.2.4 to II.24.2.6).
 use Rattle.std.specs.Prelude.{◌≡◌, ℕ, ◌+◌, ◌*◌, ◌^◌, ◌<◌, ◌≤◌, ◌⊎◌, ⊤, Bool, true, false, List, [], ◌∷◌, ◌++◌, length, slice_index, flat_map, Option, Some}
-use Rattle.schema.specs.declared.column.Column.{Column}
-use Rattle.schema.specs.declared.column.ColumnKind.{ColumnKind}
-use Rattle.schema.specs.declared.table.TableId.{TableId}
-use Rattle.schema.specs.Columns.{columns_of}
-use Rattle.schema.specs.CellColumns.{is_padding}
-use Rattle.heaps.specs.Distinct.{pooled}
-use Rattle.heaps.specs.BlobHeap.{blob_heap}
-use Rattle.heaps.specs.GuidHeap.{guid_heap, pooled_guid}
-use Rattle.signature_values.specs.Spells.{short}
+use Rattle.table_schema.specs.declared.column.Column.{Column}
+use Rattle.table_schema.specs.declared.column.ColumnKind.{ColumnKind}
+use Rattle.table_schema.specs.declared.table.TableId.{TableId}
+use Rattle.table_schema.specs.Columns.{columns_of}
+use Rattle.table_schema.specs.CellColumns.{is_padding}
+use Rattle.heap_pools.specs.Distinct.{pooled}
+use Rattle.heap_pools.specs.BlobHeap.{blob_heap}
+use Rattle.heap_pools.specs.GuidHeap.{guid_heap, pooled_guid}
+use Rattle.sig_grammar.specs.Spells.{short}
 use Rattle.metadata.specs.Cell.{Cell}
 use Rattle.metadata.specs.Cell.{Text, Bytes, Ref, Sig}
 use Rattle.metadata.specs.Metadata.{Metadata, rows_of, count_in}

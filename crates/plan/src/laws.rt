@@ -1,12 +1,12 @@
 ghost use Rattle.std.specs.Prelude.{◌≡◌, ◌<◌, ℕ, List, All, length, map, sum_by};
 ghost use Rattle.std.specs.List.{AllByRecursion};
-ghost use Rattle.schema.specs.declared.table.TableId.{TableId as Table};
+ghost use Rattle.table_schema.specs.declared.table.TableId.{TableId as Table};
 ghost use Rattle.schema.specs.Sizes.{Sizes, count_of};
-ghost use Rattle.schema.specs.Tables.{tables};
-ghost use Rattle.schema.specs.declared.column.Column.{Column};
-ghost use Rattle.schema.specs.CellColumns.{cell_count};
-ghost use Rattle.heaps.specs.Entries.{HasNoNul};
-ghost use Rattle.heaps.specs.TextHeap.{text_index};
+ghost use Rattle.table_schema.specs.Tables.{tables};
+ghost use Rattle.table_schema.specs.declared.column.Column.{Column};
+ghost use Rattle.table_schema.specs.CellColumns.{cell_count};
+ghost use Rattle.heap_entries.specs.Entries.{HasNoNul};
+ghost use Rattle.heap_pools.specs.TextHeap.{text_index};
 ghost use Rattle.metadata.specs.Cell.{Cell};
 ghost use Rattle.metadata.specs.Lookups.{HasRow};
 ghost use Rattle.metadata.specs.Metadata.{Metadata, rows_of, count_in, cell_in};
@@ -16,8 +16,8 @@ ghost use Rattle.canonical.specs.Pools.{texts_of, used, pools_of};
 ghost use Rattle.put.specs.Flat.{cells_of, tables_in};
 ghost use Rattle.plan.specs.Numbered.{flat, Numbered, CanBeNumbered, IsNumbering, IsOver, IsTooLong, with_row, with_rows, with_tables, none_numbered};
 
-use heaps::{indexes_stay, pooled_are_distinct};
-use schema::tables_stand;
+use heap_pools::{indexes_stay, pooled_are_distinct};
+use table_schema::tables_stand;
 
 /// The numbers of a model as one list are what `put` needs for tables with these row counts: it finds them again by
 /// table, row and column, and their number is right.

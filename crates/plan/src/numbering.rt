@@ -1,11 +1,11 @@
 ghost use Rattle.std.specs.Prelude.{◌≡◌, ◌^◌, ◌≤◌, ◌<◌, ◌↔◌, Err, OnOk, OnErr, IfOk, length};
-ghost use Rattle.heaps.specs.declared.pool_error.PoolError.TheVariants.{Full};
-ghost use Rattle.heaps.specs.Distinct.{pooled};
-ghost use Rattle.heaps.specs.BlobHeap.{blob_heap, blob_index};
-ghost use Rattle.heaps.specs.GuidHeap.{guid_heap, guid_index, pooled_guid};
+ghost use Rattle.heap_pools.specs.declared.pool_error.PoolError.TheVariants.{Full};
+ghost use Rattle.heap_pools.specs.Distinct.{pooled};
+ghost use Rattle.heap_pools.specs.BlobHeap.{blob_heap, blob_index};
+ghost use Rattle.heap_pools.specs.GuidHeap.{guid_heap, guid_index, pooled_guid};
 ghost use Rattle.plan.specs.Numbered.{with_blob, with_guid, with_number, with_text, none_numbered};
 
-use heaps::{BlobPool, GuidPool, PoolError};
+use heap_pools::{BlobPool, GuidPool, PoolError};
 use std::alloc::{AllocError, Global};
 use std::marker::Model;
 

@@ -1,7 +1,7 @@
 ghost use Rattle.std.specs.Prelude.{◌≡◌, ◌≤◌};
 ghost use Rattle.metadata.specs.KeyOrder.{row_number as number_of_row};
 
-use schema::{ColumnKind, Token};
+use table_schema::{ColumnKind, Token};
 
 /// The number by which a column of a kind refers to a row (II.24.2.6).
 pub fn row_number(kind: ColumnKind, token: Token) -> u32

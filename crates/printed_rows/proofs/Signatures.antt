@@ -1,16 +1,16 @@
 -- The blob of a signature cell of a view encodes a signature.
 use Rattle.std.proofs.Common.{◌≡◌, ◌∙◌, ℕ, List, subst, sym}
 use Rattle.std.proofs.lemmas.Grind.{not_there}
-use Rattle.schema.specs.declared.table.TableId.{TableId}
-use Rattle.schema.specs.declared.column.SigKind.{SigKind}
-use Rattle.schema.specs.declared.column.ColumnKind.{ColumnKind}
-use Rattle.schema.specs.declared.column.ColumnKind.TheVariants as kind
-use Rattle.schema.specs.Columns.{column_at}
-use Rattle.signature_values.specs.Syntax.{Body}
-use Rattle.signature_values.specs.Spells.{Spells}
+use Rattle.table_schema.specs.declared.table.TableId.{TableId}
+use Rattle.table_schema.specs.declared.column.SigKind.{SigKind}
+use Rattle.table_schema.specs.declared.column.ColumnKind.{ColumnKind}
+use Rattle.table_schema.specs.declared.column.ColumnKind.TheVariants as kind
+use Rattle.table_schema.specs.Columns.{column_at}
+use Rattle.sig_grammar.specs.Syntax.{Body}
+use Rattle.sig_grammar.specs.Spells.{Spells}
 use Rattle.metadata.specs.Metadata.{Metadata, cell_in}
 use Rattle.metadata.specs.Model.{IsModel}
-use Rattle.schema.specs.CellColumns.{column_of}
+use Rattle.table_schema.specs.CellColumns.{column_of}
 use Rattle.reading.specs.declared.cell_ref.CellRef.{CellRef}
 use Rattle.reading.specs.declared.cell_ref.CellRef.TheVariants as seen
 use Rattle.reading.specs.Shown.{Shows, ShowsCell}

@@ -1,17 +1,17 @@
 -- The name and the namespace of a type are texts (ECMA-335 II.22.37).
 use Rattle.std.proofs.Common.{◌≡◌, ℕ, ◌≤◌, ◌<◌, ◌⊎◌, List, subst, sym, refl, arith, inl, inr, ◌∙◌}
 use Rattle.std.proofs.lemmas.Grind.{not_there}
-use Rattle.schema.specs.declared.table.TableId.TheVariants.{TypeDef}
-use Rattle.schema.specs.declared.column.ColumnKind.{ColumnKind}
-use Rattle.schema.specs.declared.column.ColumnKind.TheVariants as kind
-use Rattle.schema.specs.Columns.{column_at}
+use Rattle.table_schema.specs.declared.table.TableId.TheVariants.{TypeDef}
+use Rattle.table_schema.specs.declared.column.ColumnKind.{ColumnKind}
+use Rattle.table_schema.specs.declared.column.ColumnKind.TheVariants as kind
+use Rattle.table_schema.specs.Columns.{column_at}
 use Rattle.metadata.specs.Cell.{Cell}
 use Rattle.metadata.specs.Cell as cell
 use Rattle.metadata.specs.Metadata.{Metadata, cell_in}
 use Rattle.metadata.specs.Model.{IsModel}
 use Rattle.metadata.specs.Placed.{source_of}
 use Rattle.metadata.specs.Source.{Source}
-use Rattle.schema.specs.CellColumns.{cell_count, cell_columns, column_of}
+use Rattle.table_schema.specs.CellColumns.{cell_count, cell_columns, column_of}
 use Rattle.metadata.specs.Rows.{IsCell}
 use Rattle.reading.specs.declared.cell_ref.CellRef.{CellRef}
 use Rattle.reading.specs.declared.cell_ref.CellRef.TheVariants as seen

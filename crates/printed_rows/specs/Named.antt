@@ -1,7 +1,7 @@
 -- The row that a number names in a root (III.1.9).
 use Rattle.std.specs.Prelude.{ℕ, ◌≤◌, List}
-use Rattle.schema.specs.declared.token.Token.{Token}
-use Rattle.schema.specs.Tokens.{IsToken}
+use Rattle.table_schema.specs.declared.token.Token.{Token}
+use Rattle.table_schema.specs.Tokens.{IsToken}
 use Rattle.opening.specs.Views.{row_count}
 
 -- the number is the token of an existing row of the root (III.1.9)

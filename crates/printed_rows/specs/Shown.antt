@@ -1,7 +1,7 @@
 -- Texts, bytes and UTF-16 units, escaped as printable ASCII.
 use Rattle.std.specs.Prelude.{◌==◌, ◌&&◌, ℕ, Bool, not, nat_le, if◌then◌else◌, List, [], ◌∷◌}
 use Rattle.std.specs.List.{flat_map}
-use Rattle.schema.specs.Tokens.{hexadecimal}
+use Rattle.table_schema.specs.Tokens.{hexadecimal}
 
 -- printable ASCII except the backslash
 abbrev pub is_printable : ℕ → Bool

@@ -1,7 +1,7 @@
 ghost use Rattle.std.specs.Prelude.{◌≤◌, IfSome, IfNone};
 ghost use Rattle.opening.specs.Views.{row_count};
 ghost use Rattle.printed_rows.specs.Named.{HasTokenRow};
-ghost use Rattle.schema.specs.Tokens.{IsToken};
+ghost use Rattle.table_schema.specs.Tokens.{IsToken};
 
 use opening::{Token, View};
 

@@ -1,19 +1,19 @@
 //! Prints a row of a table as a line.
 ghost use Rattle.std.specs.Prelude.{◌≡◌, ◌≤◌, ◌<◌, IfOk, length};
 ghost use Rattle.opening.specs.Views.{row_count, HasModel};
-ghost use Rattle.schema.specs.CellColumns.{cell_count, column_of};
-ghost use Rattle.schema.specs.Columns.{columns_of, column_at};
-ghost use Rattle.signature_values.specs.Syntax.{Body};
-ghost use Rattle.signature_values.specs.Spells.{Spells, short};
+ghost use Rattle.table_schema.specs.CellColumns.{cell_count, column_of};
+ghost use Rattle.table_schema.specs.Columns.{columns_of, column_at};
+ghost use Rattle.sig_grammar.specs.Syntax.{Body};
+ghost use Rattle.sig_grammar.specs.Spells.{Spells, short};
 
 use crate::shown::{Hex, Shown};
-use heaps::guid_text;
+use heap_entries::guid_text;
 use opening::{CellRef, TableId, View};
-use schema::{ColumnKind, SigKind, cell_count, column_of_cell, columns};
 use signatures::{SigError, shortest_spelling};
 use std::alloc::{AllocError, Global};
 use std::io;
 use std::io::Write;
+use table_schema::{ColumnKind, SigKind, cell_count, column_of_cell, columns};
 
 /// The kind of the column of a cell.
 fn kind_of(table: TableId, place: usize) -> ColumnKind

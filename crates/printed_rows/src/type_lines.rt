@@ -4,7 +4,7 @@ ghost use Rattle.metadata.specs.Cell.{Text};
 ghost use Rattle.metadata.specs.Metadata.{Metadata, cell_in};
 ghost use Rattle.metadata.specs.Model.{IsModel};
 ghost use Rattle.opening.specs.Views.{row_count, HasModel};
-ghost use Rattle.schema.specs.declared.table.TableId.TheVariants.{TypeDef};
+ghost use Rattle.table_schema.specs.declared.table.TableId.TheVariants.{TypeDef};
 
 use crate::shown::Shown;
 use metadata::models_are_read;
@@ -51,7 +51,7 @@ fn print_type<W: Write>(view: &View<'_>, row: u32, out: &mut W) -> io::Result<()
 }
 
 /// The name of a type, which is its cell 1, or its namespace, which is its cell 2 (II.22.37).
-#[tactic(auto, unfolding(schema::specs::CellColumns::cell_columns))]
+#[tactic(auto, unfolding(table_schema::specs::CellColumns::cell_columns))]
 fn text_of<'a>(view: &View<'a>, row: u32, place: usize) -> &'a str
     requires model { HasModel view.now }
     requires first { 1 ≤ row }

@@ -1,5 +1,5 @@
 use crate::shown::ShownUnit;
-use heaps::UserString;
+use heap_entries::UserString;
 use std::io;
 use std::io::Write;
 

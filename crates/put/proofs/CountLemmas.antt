@@ -3,9 +3,9 @@ use Rattle.std.proofs.Common.{◌≡◌, ℕ, ◌+◌, ◌<◌, ◌≤◌, Bool,
 use Rattle.std.proofs.Math.Path.{fun_ext}
 use Rattle.std.proofs.lemmas.List.{drop_all, get_or-map}
 use Rattle.std.proofs.lemmas.List.Sums.{sum_by-drop_more}
-use Rattle.schema.specs.declared.table.TableId.{TableId}
-use Rattle.schema.specs.declared.table.TableId.TheVariants.{Module}
-use Rattle.schema.specs.Tables.{tables, position_of}
+use Rattle.table_schema.specs.declared.table.TableId.{TableId}
+use Rattle.table_schema.specs.declared.table.TableId.TheVariants.{Module}
+use Rattle.table_schema.specs.Tables.{tables, position_of}
 use Rattle.schema.specs.Sizes.{Sizes, count_of}
 use Rattle.schema.specs.LaidOut.{number_bytes, bits_of, counts_bytes}
 use Rattle.metadata.specs.Metadata.{Metadata, count_in}

@@ -1,7 +1,7 @@
 -- The bytes of a row, column by column.
 use Rattle.std.proofs.Common.{◌≡◌, ℕ, zero, suc, ◌+◌, ◌-◌, ◌*◌, ◌/◌, ◌<◌, ◌≤◌, List, [], ◌∷◌, ◌++◌, length, get_or, take, drop, add-one, refl, sym, ap, ◌∙◌, append-nil, append_assoc, length-append, length-drop, arith}
 use Rattle.std.proofs.lemmas.List.{drop_all, drop_more}
-use Rattle.schema.specs.declared.column.Column.{Column}
+use Rattle.table_schema.specs.declared.column.Column.{Column}
 use Rattle.schema.specs.Sizes.{Sizes, width_of}
 use Rattle.schema.specs.LaidOut.{number_bytes, row_bytes, rows_bytes}
 use Rattle.put.specs.Flat.{rows_in}

@@ -4,10 +4,10 @@ use Rattle.std.specs.Prelude.{sum_by}
 use Rattle.std.proofs.Math.Nat.{mul-le-mul_left, mul-le-mul_right}
 use Rattle.std.proofs.lemmas.List.{drop_all, drop_more}
 use Rattle.std.proofs.lemmas.List.Sums.{sum_by-drop_more}
-use Rattle.schema.specs.declared.table.TableId.{TableId}
-use Rattle.schema.specs.declared.table.TableId.TheVariants.{Module}
-use Rattle.schema.specs.Tables.{tables}
-use Rattle.schema.specs.Columns.{columns_of}
+use Rattle.table_schema.specs.declared.table.TableId.{TableId}
+use Rattle.table_schema.specs.declared.table.TableId.TheVariants.{Module}
+use Rattle.table_schema.specs.Tables.{tables}
+use Rattle.table_schema.specs.Columns.{columns_of}
 use Rattle.schema.specs.Sizes.{Sizes}
 use Rattle.schema.specs.LaidOut.{rows_bytes, tables_bytes}
 use Rattle.put.specs.Flat.{cells_of, table_in, tables_in}

@@ -2,12 +2,12 @@
 use Rattle.std.specs.Prelude.{◌≡◌, ℕ, ◌+◌, ◌^◌, ◌<◌, ◌≤◌, List, ◌++◌, length, sum_by, flat_map}
 use Rattle.root.specs.declared.kind.Kind.{Kind}
 use Rattle.root.specs.declared.kind.Kind.TheVariants.{Tables, Strings, UserStrings, Guids, Blobs}
-use Rattle.schema.specs.Tables.{tables}
+use Rattle.table_schema.specs.Tables.{tables}
 use Rattle.schema.specs.LaidOut.{tables_bytes}
-use Rattle.heaps.specs.Fill.{filled}
-use Rattle.heaps.specs.TextHeap.{text_heap}
-use Rattle.heaps.specs.BlobHeap.{blob_heap}
-use Rattle.heaps.specs.GuidHeap.{guid_heap}
+use Rattle.heap_entries.specs.Fill.{filled}
+use Rattle.heap_pools.specs.TextHeap.{text_heap}
+use Rattle.heap_pools.specs.BlobHeap.{blob_heap}
+use Rattle.heap_pools.specs.GuidHeap.{guid_heap}
 use Rattle.metadata.specs.Metadata.{Metadata}
 use Rattle.canonical.specs.Pools.{pools_of}
 use Rattle.canonical.specs.TableStream.{table_stream}

@@ -1,7 +1,7 @@
 -- The header of a table stream, by its row counts (ECMA-335 II.24.2.6).
 use Rattle.std.specs.Prelude.{ℕ, Bool, nat_lt, ◌^◌, if◌then◌else◌, List, [], ◌∷◌, ◌++◌}
-use Rattle.schema.specs.declared.table.TableId.{TableId}
-use Rattle.schema.specs.Tables.{tables, table_number}
+use Rattle.table_schema.specs.declared.table.TableId.{TableId}
+use Rattle.table_schema.specs.Tables.{tables, table_number}
 use Rattle.schema.specs.Sizes.{Sizes, count_of}
 use Rattle.schema.specs.LaidOut.{number_bytes, bits_of, counts_bytes}
 

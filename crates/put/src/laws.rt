@@ -9,7 +9,7 @@ ghost use Rattle.put.specs.TableHeader.{table_header};
 ghost use Rattle.put.specs.declared.root_parts.RootParts.{RootParts as TheParts};
 ghost use Rattle.put.specs.Root.{root_bytes, ArePartsOf};
 
-use schema::tables_stand;
+use table_schema::tables_stand;
 
 /// The canonical root is what [`Writer::put_heading`](crate::Writer::put_heading) writes for the sizes of its streams,
 /// followed by the streams that have bytes.

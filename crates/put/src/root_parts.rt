@@ -1,5 +1,5 @@
 ghost use Rattle.std.specs.Prelude.{◌≡◌, ◌≤◌, length, sum_by};
-ghost use Rattle.schema.specs.Tables.{tables};
+ghost use Rattle.table_schema.specs.Tables.{tables};
 ghost use Rattle.put.specs.Written.{Puts};
 ghost use Rattle.put.specs.Flat.{cells_of};
 ghost use Rattle.put.specs.Root.{table_bytes, content, root_bytes, CanBePut};

@@ -1,11 +1,12 @@
 ghost use Rattle.std.specs.Prelude.{◌≡◌, ◌+◌, ◌^◌, ◌<◌, ◌≤◌, length};
-ghost use Rattle.schema.specs.Tables.{tables};
+ghost use Rattle.table_schema.specs.Tables.{tables};
 ghost use Rattle.schema.specs.LaidOut.{bits_of, number_bytes, counts_bytes};
 ghost use Rattle.put.specs.Written.{Puts};
 ghost use Rattle.put.specs.TableHeader.{bit_if, count_bytes, is_counted, table_header};
 
 use crate::writer::Writer;
-use schema::{Layout, TableId, bits_are_known};
+use schema::{Layout, bits_are_known};
+use table_schema::TableId;
 
 /// The bit of a table if it is set, else 0.
 fn bit(set: bool, table: TableId) -> u64

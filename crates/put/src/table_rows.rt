@@ -1,12 +1,13 @@
 ghost use Rattle.std.specs.Prelude.{◌≡◌, ◌≤◌, length, sum_by};
-ghost use Rattle.schema.specs.Tables.{tables};
-ghost use Rattle.schema.specs.Columns.{columns_of};
+ghost use Rattle.table_schema.specs.Tables.{tables};
+ghost use Rattle.table_schema.specs.Columns.{columns_of};
 ghost use Rattle.schema.specs.LaidOut.{row_bytes, rows_bytes, tables_bytes};
 ghost use Rattle.put.specs.Written.{Puts};
 ghost use Rattle.put.specs.Flat.{cells_of, table_in, tables_in};
 
 use crate::writer::Writer;
-use schema::{Layout, TableId, columns, columns_stand};
+use schema::Layout;
+use table_schema::{TableId, columns, columns_stand};
 
 impl Writer {
     /// Writes a row of a table by its numbers, one per column. A number that is too great for its column is truncated

@@ -1,5 +1,5 @@
 ghost use Rattle.std.specs.Prelude.{◌≡◌, ◌≤◌, ◌∷◌, ◌++◌, [], length, IfOk};
-ghost use Rattle.heaps.specs.Fill.{filled};
+ghost use Rattle.heap_entries.specs.Fill.{filled};
 ghost use Rattle.schema.specs.Sizes.{IsWidth};
 ghost use Rattle.schema.specs.LaidOut.{number_bytes};
 ghost use Rattle.canonical.specs.Canonical.{ended};

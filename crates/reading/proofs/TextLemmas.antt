@@ -4,7 +4,7 @@ use Rattle.std.specs.List.{list_any, AllByRecursion}
 use Rattle.std.proofs.lemmas.Bool.{cases_eq, eq-eqb}
 use Rattle.std.proofs.lemmas.Bool.Decides.{nat_tests}
 use Rattle.std.proofs.lemmas.List.Elements.{recursion_from_All}
-use Rattle.heaps.specs.Entries.{HasNoNul}
+use Rattle.heap_entries.specs.Entries.{HasNoNul}
 
 abbrev pub NoNul : List ℕ → Type 0
 NoNul bytes = AllByRecursion (λ byte. byte ≢ 0) bytes

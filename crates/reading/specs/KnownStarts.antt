@@ -1,7 +1,7 @@
 -- Which starts of runs are known without passing over the owners.
 use Rattle.std.specs.Prelude.{◌≡◌, ℕ, ◌+◌, ◌*◌, ◌≤◌, slice_index}
-use Rattle.schema.specs.declared.table.TableId.{TableId}
-use Rattle.schema.specs.declared.table.TableId.TheVariants.{TypeDef, Field, MethodDef, Param, EventMap, Event, PropertyMap, Property}
+use Rattle.table_schema.specs.declared.table.TableId.{TableId}
+use Rattle.table_schema.specs.declared.table.TableId.TheVariants.{TypeDef, Field, MethodDef, Param, EventMap, Event, PropertyMap, Property}
 use Rattle.metadata.specs.Source.{Source, rows_in}
 use Rattle.metadata.specs.Starts.{start_of}
 use Rattle.reading.specs.declared.known_starts.KnownStarts.{KnownStarts}

@@ -1,9 +1,9 @@
 -- How the cells of a model are read from the numbers and heaps of a metadata root.
 use Rattle.std.specs.Prelude.{◌≡◌, ℕ, ◌≤◌, ◌<◌}
-use Rattle.schema.specs.declared.table.TableId.{TableId}
+use Rattle.table_schema.specs.declared.table.TableId.{TableId}
 use Rattle.metadata.specs.Metadata.{Metadata, count_in, cell_in}
 use Rattle.metadata.specs.Source.{Source, rows_in}
-use Rattle.schema.specs.CellColumns.{cell_count}
+use Rattle.table_schema.specs.CellColumns.{cell_count}
 use Rattle.metadata.specs.Rows.{IsCell}
 
 -- the cells of the source are those of the model

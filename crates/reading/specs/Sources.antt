@@ -1,7 +1,7 @@
 -- What a source stands for, by its fields.
 use Rattle.std.specs.Prelude.{◌≡◌, ◌≤◌, ◌+◌, ◌^◌, length, slice_index}
-use Rattle.schema.specs.declared.table.TableId.{TableId}
-use Rattle.schema.specs.Tables.{table_number}
+use Rattle.table_schema.specs.declared.table.TableId.{TableId}
+use Rattle.table_schema.specs.Tables.{table_number}
 use Rattle.schema.specs.Cells.{numbers_at}
 use Rattle.metadata.specs.Source.{rows_in}
 use Rattle.metadata.specs.Placed.{Placed}

@@ -1,6 +1,6 @@
 -- The starts of owners, from one of them back to the first.
 use Rattle.std.specs.Prelude.{◌≡◌, ℕ, zero, suc, ◌+◌, ◌≤◌, ◌<◌, List, [], ◌∷◌, length}
-use Rattle.schema.specs.Columns.{columns_of}
+use Rattle.table_schema.specs.Columns.{columns_of}
 use Rattle.metadata.specs.Source.{rows_in}
 use Rattle.metadata.specs.Starts.{start_of}
 use Rattle.reading.specs.declared.starts.Starts.TheInside.{Inside}

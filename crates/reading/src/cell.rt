@@ -1,8 +1,8 @@
 ghost use Rattle.std.specs.Prelude.{◌≡◌, ◌≤◌, ◌<◌, ◌⊎◌, ℕ, List, Option, Some, None, length};
-ghost use Rattle.schema.specs.declared.token.Token.{Token as TheToken};
-ghost use Rattle.schema.specs.Columns.{columns_of, column_at};
-ghost use Rattle.schema.specs.CodedIndexes.{IsCoded};
-ghost use Rattle.heaps.specs.Entries.{IsText, IsBlob, IsGuid};
+ghost use Rattle.table_schema.specs.declared.token.Token.{Token as TheToken};
+ghost use Rattle.table_schema.specs.Columns.{columns_of, column_at};
+ghost use Rattle.table_schema.specs.CodedIndexes.{IsCoded};
+ghost use Rattle.heap_entries.specs.Entries.{IsText, IsBlob, IsGuid};
 ghost use Rattle.metadata.specs.Cell.{Cell};
 ghost use Rattle.metadata.specs.Cell.{Ref};
 ghost use Rattle.metadata.specs.Source.{rows_in, number_of};
@@ -16,8 +16,8 @@ use crate::column::column_at;
 use crate::known_starts::KnownRuns;
 use crate::runs_of::start;
 use crate::source::Source;
-use heaps::{Strings, blob, guid};
-use schema::{Coded, ColumnKind, TableId, Token};
+use heap_entries::{Strings, blob, guid};
+use table_schema::{Coded, ColumnKind, TableId, Token};
 
 /// The cell that the number of a column stands for, if there is one.
 pub fn cell_of<'a>(

@@ -1,4 +1,4 @@
-use schema::Token;
+use table_schema::Token;
 
 /// A cell of a row (II.22). It borrows from the caller's bytes.
 #[derive(Clone, Copy, Debug, PartialEq)]

@@ -1,8 +1,8 @@
 ghost use Rattle.std.specs.Prelude.{◌≡◌, Some, IfSome};
-ghost use Rattle.schema.specs.declared.token.Token.{Token as TheToken};
-ghost use Rattle.schema.specs.CodedIndexes.{IsCoded};
+ghost use Rattle.table_schema.specs.declared.token.Token.{Token as TheToken};
+ghost use Rattle.table_schema.specs.CodedIndexes.{IsCoded};
 
-use schema::{Coded, Token, split};
+use table_schema::{Coded, Token, split};
 
 /// The row that a coded index names (II.24.2.6). Its row is 0 if the index is null. `None` if its tag is not
 /// used.

@@ -1,7 +1,7 @@
 ghost use Rattle.std.specs.Prelude.{◌≡◌, ◌<◌, length};
-ghost use Rattle.schema.specs.Columns.{columns_of, column_at};
+ghost use Rattle.table_schema.specs.Columns.{columns_of, column_at};
 
-use schema::{Column, TableId, columns};
+use table_schema::{Column, TableId, columns};
 
 /// The column with this index.
 pub fn column_at(table: TableId, index: usize) -> Column

@@ -1,11 +1,11 @@
 ghost use Rattle.std.specs.Prelude.{◌≡◌, ◌≢◌, ◌≤◌, ◌<◌, ◌+◌, ◌*◌, ◌/◌, ℕ, Some, IsSome, IfSome, IfNone};
-ghost use Rattle.schema.specs.declared.table.TableId.{TableId as Table};
-ghost use Rattle.schema.specs.declared.column.ColumnKind.TheVariants.{List};
-ghost use Rattle.schema.specs.Columns.{column_at};
+ghost use Rattle.table_schema.specs.declared.table.TableId.{TableId as Table};
+ghost use Rattle.table_schema.specs.declared.column.ColumnKind.TheVariants.{List};
+ghost use Rattle.table_schema.specs.Columns.{column_at};
 ghost use Rattle.metadata.specs.Source.{Source as TheSource, rows_in};
 ghost use Rattle.metadata.specs.Starts.{start_of};
 
-use schema::TableId;
+use table_schema::TableId;
 
 /// The greatest number of starts that are kept of a column.
 const KEPT: u32 = 256;

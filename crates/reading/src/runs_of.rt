@@ -1,7 +1,7 @@
 ghost use Rattle.std.specs.Prelude.{◌≡◌, ◌≤◌, ◌<◌, ◌+◌, length};
-ghost use Rattle.schema.specs.declared.column.ColumnKind.TheVariants.{List};
-ghost use Rattle.schema.specs.Columns.{columns_of, column_at};
-ghost use Rattle.schema.specs.CellColumns.{cell_count, column_of};
+ghost use Rattle.table_schema.specs.declared.column.ColumnKind.TheVariants.{List};
+ghost use Rattle.table_schema.specs.Columns.{columns_of, column_at};
+ghost use Rattle.table_schema.specs.CellColumns.{cell_count, column_of};
 ghost use Rattle.metadata.specs.Cell.{Start};
 ghost use Rattle.metadata.specs.Metadata.{Metadata, cell_in};
 ghost use Rattle.metadata.specs.Source.{rows_in};
@@ -11,7 +11,7 @@ ghost use Rattle.reading.specs.KnownStarts.{AreKnown};
 
 use crate::known_starts::KnownRuns;
 use crate::source::Source;
-use schema::{TableId, column_of_cell};
+use table_schema::{TableId, column_of_cell};
 
 /// Where the run of an owner begins, by the cell that lists its members.
 pub fn start_at(

@@ -1,8 +1,9 @@
-use heaps::{Strings, blob, guid};
+use heap_entries::{Strings, blob, guid};
 use packed::{Fault, FaultCode};
 use rows::Rows;
-use schema::{TableId, numbers_are_read};
+use schema::numbers_are_read;
 use std::marker::Model;
+use table_schema::TableId;
 
 /// The rows and heaps of a metadata root, in the caller's bytes.
 #[derive(Drop)]
@@ -30,10 +31,10 @@ impl<'a> Model for Source<'a> {
 impl<'a> Source<'a> {
     ghost use Rattle.std.specs.Prelude.{◌≡◌, ◌≤◌, ◌<◌, ◌+◌, ◌^◌, ◌↔◌, ℕ, IsTrue, length, slice_index};
     ghost use Rattle.packed.specs.Demand.{Answers, fault};
-    ghost use Rattle.heaps.specs.Demands.{demands_of_text, demands_of_blob, demands_of_guid};
-    ghost use Rattle.schema.specs.declared.table.TableId.{TableId as Table};
-    ghost use Rattle.schema.specs.Tables.{table_number};
-    ghost use Rattle.schema.specs.Columns.{columns_of};
+    ghost use Rattle.heap_entries.specs.Demands.{demands_of_text, demands_of_blob, demands_of_guid};
+    ghost use Rattle.table_schema.specs.declared.table.TableId.{TableId as Table};
+    ghost use Rattle.table_schema.specs.Tables.{table_number};
+    ghost use Rattle.table_schema.specs.Columns.{columns_of};
     ghost use Rattle.schema.specs.Cells.{cell_width, numbers_at};
     ghost use Rattle.metadata.specs.Source.{rows_in, number_of, IsThere};
     ghost use Rattle.metadata.specs.Rules.{is_said_sorted};

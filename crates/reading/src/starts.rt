@@ -1,8 +1,8 @@
 ghost use Rattle.std.specs.Prelude.{◌≡◌, ◌≤◌, ◌<◌, ◌-◌, ℕ, length, slice_index};
 ghost use Rattle.std.specs.Iterator.{YieldsFirst, item_count};
-ghost use Rattle.schema.specs.declared.column.ColumnKind.TheVariants.{List};
-ghost use Rattle.schema.specs.Columns.{columns_of, column_at};
-ghost use Rattle.schema.specs.CellColumns.{cell_count, column_of};
+ghost use Rattle.table_schema.specs.declared.column.ColumnKind.TheVariants.{List};
+ghost use Rattle.table_schema.specs.Columns.{columns_of, column_at};
+ghost use Rattle.table_schema.specs.CellColumns.{cell_count, column_of};
 ghost use Rattle.metadata.specs.Cell.{Start};
 ghost use Rattle.metadata.specs.Metadata.{Metadata, cell_in};
 ghost use Rattle.metadata.specs.Source.{rows_in};
@@ -12,8 +12,8 @@ ghost use Rattle.reading.specs.ReadFrom.{IsReadFrom};
 
 use crate::runs_of::start_before;
 use crate::source::Source;
-use schema::{TableId, column_of_cell};
 use std::marker::Model;
+use table_schema::{TableId, column_of_cell};
 
 /// The starts of the runs of all owners in a column that lists members, from the last owner to the first.
 ///

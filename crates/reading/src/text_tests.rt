@@ -1,15 +1,15 @@
 ghost use Rattle.std.specs.Prelude.{◌≡◌, ◌≤◌, ◌<◌, ◌↔◌, ◌++◌, ◌∷◌, ℕ, List, IsTrue};
-ghost use Rattle.heaps.specs.Entries.{IsText, HasNoNul};
-ghost use Rattle.schema.specs.declared.column.ColumnKind.TheVariants as kind;
-ghost use Rattle.schema.specs.Columns.{column_at};
-ghost use Rattle.schema.specs.CellColumns.{cell_count, column_of};
+ghost use Rattle.heap_entries.specs.Entries.{IsText, HasNoNul};
+ghost use Rattle.table_schema.specs.declared.column.ColumnKind.TheVariants as kind;
+ghost use Rattle.table_schema.specs.Columns.{column_at};
+ghost use Rattle.table_schema.specs.CellColumns.{cell_count, column_of};
 ghost use Rattle.metadata.specs.Cell.{Text};
 ghost use Rattle.metadata.specs.Metadata.{Metadata, cell_in};
 ghost use Rattle.metadata.specs.Source.{rows_in};
 ghost use Rattle.reading.specs.ReadFrom.{IsReadFrom};
 
 use crate::source::Source;
-use schema::{TableId, column_of_cell};
+use table_schema::{TableId, column_of_cell};
 
 /// Whether a cell of a row is a text, in a column of texts (II.24.2.3).
 ///

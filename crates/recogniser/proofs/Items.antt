@@ -1,13 +1,13 @@
 -- Items at the start, one by one, as the pass skips them: modifiers, and modifiers with PINNED.
 use Rattle.std.proofs.Common.{◌≡◌, ℕ, ◌<◌, Bool, false, Option, Some, None, List, [], ◌∷◌, length, refl, ap, ◌∙◌, subst, IfSome}
 use Rattle.std.specs.Prelude.{option_map}
-use Rattle.schema.specs.declared.token.Token.{Token}
-use Rattle.signature_values.specs.declared.types.Modifier.{Modifier}
-use Rattle.signature_values.specs.declared.body.Prefix.{Prefix}
-use Rattle.signature_values.specs.Parts.{Part}
-use Rattle.signature_values.specs.Grammar.{list_parts, modifier_parts, prefix_parts}
-use Rattle.signature_values.specs.Reading.{Optional, index_at, leading_at, modifier_at, modifiers_at, prefix_at, prefixes_at, starts_modifier, starts_prefix}
-use Rattle.signature_values.proofs.Items.{Stepping, ShorterItem, leading_is, modifier_steps, prefix_steps}
+use Rattle.table_schema.specs.declared.token.Token.{Token}
+use Rattle.sig_grammar.specs.declared.types.Modifier.{Modifier}
+use Rattle.sig_grammar.specs.declared.body.Prefix.{Prefix}
+use Rattle.sig_grammar.specs.Parts.{Part}
+use Rattle.sig_grammar.specs.Grammar.{list_parts, modifier_parts, prefix_parts}
+use Rattle.sig_grammar.specs.Reading.{Optional, index_at, leading_at, modifier_at, modifiers_at, prefix_at, prefixes_at, starts_modifier, starts_prefix}
+use Rattle.sig_grammar.proofs.Items.{Stepping, ShorterItem, leading_is, modifier_steps, prefix_steps}
 use Rattle.recogniser.specs.Skips.{passed, skip_index, skip_modifiers, skip_prefixes}
 use Rattle.recogniser.proofs.Noted.{index_parts, noted-none, noted_parts, noted_parts-append}
 

@@ -5,9 +5,9 @@ use Rattle.std.specs.List.{flat_map}
 use Rattle.std.specs.Option.{option_or}
 use Rattle.std.proofs.lemmas.List.Folds.{find-append}
 use Rattle.std.proofs.lemmas.Grind.{flat_map-append}
-use Rattle.schema.specs.declared.token.Token.{Token}
-use Rattle.signature_values.specs.Parts.{Part, number, signed, index, part_tokens}
-use Rattle.signature_values.specs.Spells.{has_row, first_bad}
+use Rattle.table_schema.specs.declared.token.Token.{Token}
+use Rattle.sig_grammar.specs.Parts.{Part, number, signed, index, part_tokens}
+use Rattle.sig_grammar.specs.Spells.{has_row, first_bad}
 use Rattle.recogniser.specs.Skips.{noted}
 
 -- the parts of a number, of a signed number and of a type index

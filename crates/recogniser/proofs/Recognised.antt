@@ -1,13 +1,13 @@
 -- If bytes are skipped to their end, they encode a signature, and its first bad token was kept.
 use Rattle.std.proofs.Common.{◌≡◌, ℕ, ◌<◌, ◌^◌, Bool, true, false, eqb, Option, Some, None, is_some, IfSome, List, [], ◌∷◌, length, get_or, refl, sym, ap, ◌∙◌}
 use Rattle.std.proofs.Math.Dec.{eqb-suc-zero}
-use Rattle.schema.specs.declared.token.Token.{Token}
-use Rattle.schema.specs.declared.column.SigKind.{SigKind}
-use Rattle.signature_values.specs.Syntax.{Body}
-use Rattle.signature_values.specs.Grammar.{body_parts}
-use Rattle.signature_values.specs.Spells.{Spells, tokens, first_bad}
-use Rattle.signature_values.specs.Reading.{core_at}
-use Rattle.signature_values.specs.Columns.{body_at}
+use Rattle.table_schema.specs.declared.token.Token.{Token}
+use Rattle.table_schema.specs.declared.column.SigKind.{SigKind}
+use Rattle.sig_grammar.specs.Syntax.{Body}
+use Rattle.sig_grammar.specs.Grammar.{body_parts}
+use Rattle.sig_grammar.specs.Spells.{Spells, tokens, first_bad}
+use Rattle.sig_grammar.specs.Reading.{core_at}
+use Rattle.sig_grammar.specs.Columns.{body_at}
 use Rattle.recogniser.specs.Skips.{Left, passed, skip_core, skip_body}
 use Rattle.recogniser.proofs.Passes.{core_passes, body_passes}
 

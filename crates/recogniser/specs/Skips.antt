@@ -1,14 +1,14 @@
 -- The remainder of a signature after its parts, without their values. Private functions compute this in the same way.
 use Rattle.std.specs.Prelude.{ℕ, zero, suc, ◌==◌, ◌&&◌, ◌/◌, ◌%◌, nat_lt, Bool, true, false, not, if◌then◌else◌, Option, Some, None, option_map, option_and_then, is_some, List, [], ◌∷◌, drop}
 use Rattle.std.specs.Option.{option_or}
-use Rattle.schema.specs.declared.token.Token.{Token}
-use Rattle.schema.specs.declared.column.SigKind.{SigKind}
-use Rattle.schema.specs.declared.column.SigKind.TheVariants as column
-use Rattle.signature_values.specs.ElementTypes.{VOID, PTR, BYREF, VALUETYPE, CLASS, VAR, ARRAY, GENERICINST, TYPEDBYREF, FNPTR, SZARRAY, MVAR, SENTINEL}
-use Rattle.signature_values.specs.Parts.{Part, part_tokens}
-use Rattle.signature_values.specs.Grammar.{modifiers_parts, prefixes_parts}
-use Rattle.signature_values.specs.Spells.{first_bad}
-use Rattle.signature_values.specs.Reading.{number_at, index_at, modifiers_at, prefixes_at, element_of, head_is, is_method_code, takes_sentinel}
+use Rattle.table_schema.specs.declared.token.Token.{Token}
+use Rattle.table_schema.specs.declared.column.SigKind.{SigKind}
+use Rattle.table_schema.specs.declared.column.SigKind.TheVariants as column
+use Rattle.sig_grammar.specs.ElementTypes.{VOID, PTR, BYREF, VALUETYPE, CLASS, VAR, ARRAY, GENERICINST, TYPEDBYREF, FNPTR, SZARRAY, MVAR, SENTINEL}
+use Rattle.sig_grammar.specs.Parts.{Part, part_tokens}
+use Rattle.sig_grammar.specs.Grammar.{modifiers_parts, prefixes_parts}
+use Rattle.sig_grammar.specs.Spells.{first_bad}
+use Rattle.sig_grammar.specs.Reading.{number_at, index_at, modifiers_at, prefixes_at, element_of, head_is, is_method_code, takes_sentinel}
 use Rattle.std.specs.List.{flat_map}
 use Rattle.recogniser.specs.declared.rest.Rest.{Rest}
 

@@ -4,7 +4,7 @@ ghost use Rattle.recogniser.specs.Skips.{left, skip_core, skip_many, skip_slot, 
 use crate::index::after_prefixes;
 use crate::rest::{Rest, byte, number};
 use crate::walk::{after_content, after_method, after_ret, after_slot, after_types};
-use schema::SigKind;
+use table_schema::SigKind;
 
 /// The remainder after a local variable (II.23.2.6).
 #[tactic(auto, unfolding(crate::specs::Skips::skip_local))]

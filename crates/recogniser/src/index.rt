@@ -1,13 +1,13 @@
 ghost use Rattle.std.specs.Prelude.{◌≡◌, option_map, ◌∷◌, []};
 ghost use Rattle.std.specs.List.{flat_map};
-ghost use Rattle.signature_values.specs.Parts.{part_tokens};
-ghost use Rattle.signature_values.specs.Grammar.{prefix_parts};
+ghost use Rattle.sig_grammar.specs.Parts.{part_tokens};
+ghost use Rattle.sig_grammar.specs.Grammar.{prefix_parts};
 ghost use Rattle.recogniser.specs.Skips.{left, noted, skip_index, skip_modifiers, skip_prefixes};
 
 use crate::rest::Rest;
-use schema::Token;
+use sig_grammar::{Prefix, names_row};
 use signature_leaves::{has_modifier, has_prefix, index, modifier, prefix};
-use signature_values::{Prefix, names_row};
+use table_schema::Token;
 
 /// The first token without a row, after one more token.
 fn first_bad(bad: Option<Token>, token: Token, counts: &[u32; 45]) -> Option<Token>

@@ -18,5 +18,5 @@ mod shape;
 mod walk;
 mod whole;
 
-pub use schema::{SigKind, Token};
+pub use table_schema::{SigKind, Token};
 pub use whole::{index_of_first_bad, recognise, recognise_first_bad};

@@ -1,7 +1,7 @@
 ghost use Rattle.std.specs.Prelude.{◌≡◌, [], ◌∷◌, option_map, MatchOption};
 ghost use Rattle.recogniser.specs.Skips.{left, number_left, skip_number};
 
-use schema::Token;
+use table_schema::Token;
 
 /// The remainder of a signature after the part that was passed.
 #[derive(Clone, Copy)]

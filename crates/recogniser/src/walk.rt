@@ -4,12 +4,12 @@ ghost use Rattle.recogniser.specs.Skips.{left, skip_core, skip_by, skip_typed, s
 use crate::index::{after_index, after_modifiers};
 use crate::rest::{Rest, after_number, byte, number};
 use crate::shape::after_shape;
-use signature_leaves::sentinel;
-use signature_values::Element;
-use signature_values::element_type::{
+use sig_grammar::Element;
+use sig_grammar::element_type::{
     ARRAY, BYREF, CLASS, FNPTR, GENERICINST, MVAR, PTR, SZARRAY, TYPEDBYREF, VALUETYPE, VAR, VOID,
 };
-use signature_values::method_byte::{begins_method, is_generic, may_have_sentinel};
+use sig_grammar::method_byte::{begins_method, is_generic, may_have_sentinel};
+use signature_leaves::sentinel;
 
 /// The remainder after a core of at most the given depth (II.23.2.12).
 #[cycle(walk)]

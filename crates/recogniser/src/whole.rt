@@ -1,11 +1,11 @@
 ghost use Rattle.std.specs.Prelude.{◌≡◌, IsTrue, ◌↔◌, IfSome, Some};
-ghost use Rattle.signature_values.specs.Syntax.{Body};
-ghost use Rattle.signature_values.specs.Spells.{Spells, tokens, first_bad};
+ghost use Rattle.sig_grammar.specs.Syntax.{Body};
+ghost use Rattle.sig_grammar.specs.Spells.{Spells, tokens, first_bad};
 
 use crate::columns::after_body;
 use crate::rest::Rest;
-use schema::{SigKind, Token};
 use signature_values::signatures_are_read;
+use table_schema::{SigKind, Token};
 
 /// The greatest depth to which types may nest.
 const DEPTH: u8 = 128;

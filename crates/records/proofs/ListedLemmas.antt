@@ -1,7 +1,7 @@
 -- A table that a list contains is one of its tables.
 use Rattle.std.proofs.Common.{◌≡◌, ℕ, zero, suc, ◌<◌, List, [], ◌∷◌, Option, Some, None, length, slice_index_or, inl, inr, arith}
 use Rattle.std.specs.List.{Contains}
-use Rattle.schema.specs.declared.table.TableId.{TableId}
+use Rattle.table_schema.specs.declared.table.TableId.{TableId}
 use Rattle.records.specs.Listed.{IsOneOf}
 
 one_at : (listed : List (Option TableId)) (table : TableId) (k : ℕ) → k < length listed → slice_index_or listed k (Some table) ≡ Some table → IsOneOf listed table

@@ -1,10 +1,10 @@
 -- The kinds of the cells of a table's rows (ECMA-335 II.22).
 use Rattle.std.specs.Prelude.{List, [], ◌∷◌, ⊤, if◌then◌else◌}
-use Rattle.schema.specs.declared.table.TableId.{TableId}
-use Rattle.schema.specs.declared.column.Column.{Column}
-use Rattle.schema.specs.declared.column.ColumnKind.{ColumnKind}
-use Rattle.schema.specs.Columns.{columns_of}
-use Rattle.schema.specs.CellColumns.{is_padding}
+use Rattle.table_schema.specs.declared.table.TableId.{TableId}
+use Rattle.table_schema.specs.declared.column.Column.{Column}
+use Rattle.table_schema.specs.declared.column.ColumnKind.{ColumnKind}
+use Rattle.table_schema.specs.Columns.{columns_of}
+use Rattle.table_schema.specs.CellColumns.{is_padding}
 use Rattle.metadata.specs.Cell.{Cell}
 use Rattle.metadata.specs.Kinds.{IsOfKind}
 

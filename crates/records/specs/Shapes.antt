@@ -1,8 +1,8 @@
 -- The shapes of the cells of a row, and their contents (ECMA-335 II.22).
 use Rattle.std.specs.Prelude.{ℕ, ◌+◌, List, [], ◌∷◌, Option, Some, ⊤}
-use Rattle.schema.specs.declared.column.SigKind.{SigKind}
-use Rattle.schema.specs.declared.column.ColumnKind.{ColumnKind}
-use Rattle.schema.specs.declared.column.ColumnKind.TheVariants as kind
+use Rattle.table_schema.specs.declared.column.SigKind.{SigKind}
+use Rattle.table_schema.specs.declared.column.ColumnKind.{ColumnKind}
+use Rattle.table_schema.specs.declared.column.ColumnKind.TheVariants as kind
 use Rattle.metadata.specs.Cell.{Cell}
 use Rattle.cells.specs.declared.cell.Cell.{Cell as Owned}
 use Rattle.cells.specs.declared.cell.Cell.TheVariants as cell

@@ -1,9 +1,9 @@
 -- The content of a blob in a column of signatures (ECMA-335 II.23.2).
 use Rattle.std.specs.Prelude.{ℕ, List, [], Option, Some, None}
-use Rattle.schema.specs.declared.column.SigKind.{SigKind}
-use Rattle.signature_values.specs.Syntax.{Body, locals}
-use Rattle.signature_values.specs.Reading.{core_at}
-use Rattle.signature_values.specs.Columns.{body_at}
+use Rattle.table_schema.specs.declared.column.SigKind.{SigKind}
+use Rattle.sig_grammar.specs.Syntax.{Body, locals}
+use Rattle.sig_grammar.specs.Reading.{core_at}
+use Rattle.sig_grammar.specs.Columns.{body_at}
 
 -- the signature that was read, without the remaining bytes; if none was read, no local variables
 abbrev pub read_or_none : Option (Body × List ℕ) → Body

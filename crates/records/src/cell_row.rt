@@ -4,7 +4,7 @@ ghost use Rattle.records.specs.Shapes.{IsOfShape};
 
 use crate::row::Row;
 use cells::{Cell, Signature, Token};
-use schema::SigKind;
+use table_schema::SigKind;
 
 /// A row of owned cells.
 #[derive(Clone, Copy, Debug)]

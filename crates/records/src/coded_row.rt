@@ -1,7 +1,7 @@
 ghost use Rattle.std.specs.Prelude.{◌≡◌, ◌↔◌, List, Some, IsTrue, IsSome, IfSome, Contains};
-ghost use Rattle.schema.specs.declared.table.TableId.{TableId as Table};
-ghost use Rattle.schema.specs.declared.coded.Coded.{Coded as Index};
-ghost use Rattle.schema.specs.CodedIndexes.{tables_of};
+ghost use Rattle.table_schema.specs.declared.table.TableId.{TableId as Table};
+ghost use Rattle.table_schema.specs.declared.coded.Coded.{Coded as Index};
+ghost use Rattle.table_schema.specs.CodedIndexes.{tables_of};
 ghost use Rattle.metadata.specs.Cell.{Cell as TheCell};
 ghost use Rattle.cells.specs.Said.{all_said};
 ghost use Rattle.records.specs.Kinds.{kinds_of, AreOfKinds};
@@ -12,7 +12,7 @@ use crate::cell_row::CellRow;
 use crate::kinds::is_row_of;
 use crate::row::Row;
 use cells::Cell;
-use schema::{Coded, TableId};
+use table_schema::{Coded, TableId};
 
 /// A row that a coded index names, as a record of one of the tables that the index lists (II.24.2.6).
 pub trait CodedRow<'m, W: Row<'m>>: Sized {

@@ -1,6 +1,6 @@
 ghost use Rattle.std.specs.Prelude.{◌≡◌, [], ◌∷◌, IfOk};
-ghost use Rattle.schema.specs.declared.table.TableId.TheVariants as table;
-ghost use Rattle.schema.specs.declared.column.SigKind.TheVariants as column;
+ghost use Rattle.table_schema.specs.declared.table.TableId.TheVariants as table;
+ghost use Rattle.table_schema.specs.declared.column.SigKind.TheVariants as column;
 ghost use Rattle.metadata.specs.Cell.{Number, Text, Ref, Sig};
 ghost use Rattle.cells.specs.Said.{all_said};
 
@@ -9,8 +9,8 @@ use crate::record::{FromRow, Record};
 use crate::row::Row;
 use crate::signature::IsSignature;
 use cells::{Cell, Signature, Token};
-use schema::{SigKind, TableId};
 use std::alloc::{AllocError, Global};
+use table_schema::{SigKind, TableId};
 
 /// A generic parameter of a type or method (II.22.20).
 #[derive(Clone, Copy, Debug, PartialEq, Eq)]

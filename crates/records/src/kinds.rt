@@ -3,7 +3,7 @@ ghost use Rattle.cells.specs.Said.{all_said};
 ghost use Rattle.records.specs.Kinds.{kinds_in, kinds_of, AreOfKinds};
 
 use cells::Cell;
-use schema::{Column, ColumnKind, TableId, columns};
+use table_schema::{Column, ColumnKind, TableId, columns};
 
 /// Whether there is a cell of the right kind for each column except padding, and no other cell.
 fn are_of_kinds(columns: &[Column], cells: &[Cell]) -> bool

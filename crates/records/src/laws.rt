@@ -1,11 +1,11 @@
 ghost use Rattle.std.specs.Prelude.{◌≡◌, ◌<◌, ℕ, List, Some, length, option_map, slice_get};
-ghost use Rattle.schema.specs.declared.table.TableId.{TableId as Table};
-ghost use Rattle.schema.specs.declared.column.SigKind.{SigKind as Kind};
-ghost use Rattle.schema.specs.declared.column.ColumnKind.{ColumnKind};
-ghost use Rattle.schema.specs.Columns.{column_at};
-ghost use Rattle.schema.specs.CellColumns.{cell_count, column_of};
-ghost use Rattle.signature_values.specs.Syntax.{Body};
-ghost use Rattle.signature_values.specs.Spells.{Spells};
+ghost use Rattle.table_schema.specs.declared.table.TableId.{TableId as Table};
+ghost use Rattle.table_schema.specs.declared.column.SigKind.{SigKind as Kind};
+ghost use Rattle.table_schema.specs.declared.column.ColumnKind.{ColumnKind};
+ghost use Rattle.table_schema.specs.Columns.{column_at};
+ghost use Rattle.table_schema.specs.CellColumns.{cell_count, column_of};
+ghost use Rattle.sig_grammar.specs.Syntax.{Body};
+ghost use Rattle.sig_grammar.specs.Spells.{Spells};
 ghost use Rattle.metadata.specs.Cell.{Cell as TheCell};
 ghost use Rattle.metadata.specs.Metadata.{Metadata, row_of};
 ghost use Rattle.cells.specs.declared.cell.Cell.{Cell as Owned};

@@ -34,6 +34,6 @@ pub use laws::{
 };
 pub use record::{FromRow, Record, record_of};
 pub use row::Row;
-pub use schema::{SigKind, TableId};
 pub use signature::IsSignature;
+pub use table_schema::{SigKind, TableId};
 pub use types::{ClassLayout, InterfaceImpl, Module, NestedClass, TypeDef, TypeRef, TypeSpec};

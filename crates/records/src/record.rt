@@ -1,5 +1,5 @@
 ghost use Rattle.std.specs.Prelude.{◌≡◌, ◌↔◌, List, IsSome, IfSome, IfOk};
-ghost use Rattle.schema.specs.declared.table.TableId.{TableId as Table};
+ghost use Rattle.table_schema.specs.declared.table.TableId.{TableId as Table};
 ghost use Rattle.metadata.specs.Cell.{Cell as TheCell};
 ghost use Rattle.cells.specs.Said.{all_said};
 ghost use Rattle.records.specs.Kinds.{kinds_of, AreOfKinds};
@@ -9,8 +9,8 @@ use crate::cell_row::CellRow;
 use crate::kinds::is_row_of;
 use crate::row::Row;
 use cells::Cell;
-use schema::TableId;
 use std::alloc::{AllocError, Global};
+use table_schema::TableId;
 
 /// A record that can be read from any kind of row.
 pub trait FromRow<'m, W: Row<'m>>: Sized {

@@ -4,7 +4,7 @@ ghost use Rattle.records.specs.Shapes.{Shape};
 ghost use Rattle.records.specs.Shapes as shape;
 
 use crate::signature::IsSignature;
-use schema::{SigKind, Token};
+use table_schema::{SigKind, Token};
 
 /// A row of a table, which is read cell by cell. Cell indexes count from 0. A padding column has no cell.
 pub trait Row<'m> {

@@ -1,5 +1,5 @@
-ghost use Rattle.schema.specs.declared.column.SigKind.{SigKind as Kind};
-ghost use Rattle.signature_values.specs.Syntax.{Body};
+ghost use Rattle.table_schema.specs.declared.column.SigKind.{SigKind as Kind};
+ghost use Rattle.sig_grammar.specs.Syntax.{Body};
 ghost use Rattle.records.specs.Signatures.{spelled};
 
 use cells::Signature;

@@ -1,6 +1,6 @@
 ghost use Rattle.std.specs.Prelude.{◌≡◌, [], ◌∷◌, Some, IfOk};
-ghost use Rattle.schema.specs.declared.table.TableId.TheVariants as table;
-ghost use Rattle.schema.specs.declared.column.SigKind.TheVariants as column;
+ghost use Rattle.table_schema.specs.declared.table.TableId.TheVariants as table;
+ghost use Rattle.table_schema.specs.declared.column.SigKind.TheVariants as column;
 ghost use Rattle.metadata.specs.Cell.{Number, Text, Guid, Ref, Start, Sig};
 ghost use Rattle.cells.specs.Said.{all_said};
 ghost use Rattle.records.specs.Names.{full_name};
@@ -10,9 +10,9 @@ use crate::record::{FromRow, Record};
 use crate::row::Row;
 use crate::signature::IsSignature;
 use cells::{Cell, Signature, Token};
-use schema::{SigKind, TableId};
 use std::alloc::{AllocError, Global};
 use std::fmt;
+use table_schema::{SigKind, TableId};
 
 /// This module, the only row of its table (II.22.30).
 #[derive(Clone, Copy, Debug, PartialEq, Eq)]

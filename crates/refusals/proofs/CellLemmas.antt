@@ -5,9 +5,9 @@ use Rattle.std.proofs.lemmas.List as lists
 use Rattle.packed.specs.declared.code.FaultCode.TheVariants.{BadIndex}
 use Rattle.packed.specs.Codes.{number_of_code}
 use Rattle.packed.specs.Demand.{FirstToFail}
-use Rattle.schema.specs.declared.table.TableId.{TableId}
-use Rattle.schema.specs.declared.column.ColumnKind.{ColumnKind}
-use Rattle.schema.specs.Tables.{table_number}
+use Rattle.table_schema.specs.declared.table.TableId.{TableId}
+use Rattle.table_schema.specs.declared.column.ColumnKind.{ColumnKind}
+use Rattle.table_schema.specs.Tables.{table_number}
 use Rattle.metadata.specs.Cell as says
 use Rattle.metadata.specs.declared.refusal.Refusal.{Refusal}
 use Rattle.metadata.specs.Kinds.{IsOfKind, IsStorable}

@@ -2,8 +2,8 @@
 use Rattle.std.proofs.Common.{◌≡◌, ℕ, ◌+◌, ◌-◌, ◌<◌, ◌≤◌, List, [], length, slice_index_or, refl, sym, ◌∙◌, ap, inl, inr, arith}
 use Rattle.std.proofs.lemmas.Bool.{cases_eq}
 use Rattle.std.proofs.lemmas.List.{get_or_read}
-use Rattle.schema.specs.declared.table.TableId.{TableId}
-use Rattle.schema.specs.declared.column.ColumnKind.{ColumnKind}
+use Rattle.table_schema.specs.declared.table.TableId.{TableId}
+use Rattle.table_schema.specs.declared.column.ColumnKind.{ColumnKind}
 use Rattle.metadata.specs.Cell.{Cell, Number}
 use Rattle.metadata.specs.Metadata.{Metadata, rows_of}
 use Rattle.metadata.specs.KeyOrder.{key_number, key_in}

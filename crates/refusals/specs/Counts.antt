@@ -1,7 +1,7 @@
 -- The number of rows of each table.
 use Rattle.std.specs.Prelude.{◌≡◌, ◌≤◌, slice_index}
-use Rattle.schema.specs.declared.table.TableId.{TableId}
-use Rattle.schema.specs.Tables.{table_number}
+use Rattle.table_schema.specs.declared.table.TableId.{TableId}
+use Rattle.table_schema.specs.Tables.{table_number}
 use Rattle.metadata.specs.Metadata.{count_in}
 use Rattle.refusals.specs.declared.counted.Counted.TheInside.{Inside}
 

@@ -1,6 +1,6 @@
 ghost use Rattle.std.specs.Prelude.{◌≡◌, ◌≤◌, ◌<◌, ◌↔◌, IsTrue, length};
 ghost use Rattle.packed.specs.Demand.{Answers, demands_from};
-ghost use Rattle.schema.specs.CellColumns.{cell_count};
+ghost use Rattle.table_schema.specs.CellColumns.{cell_count};
 ghost use Rattle.cells.specs.Said.{said, all_said};
 ghost use Rattle.metadata.specs.Kinds.{IsOfKind, IsStorable};
 ghost use Rattle.metadata.specs.Metadata.{row_of, count_in, cell_in};
@@ -12,7 +12,7 @@ use crate::counted::Counted;
 use cells::Cell;
 use metadata::Refusal;
 use packed::FaultCode;
-use schema::{ColumnKind, TableId, cell_count};
+use table_schema::{ColumnKind, TableId, cell_count};
 
 /// Checks that each row has the cells of its table, and that each cell fits its column (II.22). The content
 /// of signatures is checked later.

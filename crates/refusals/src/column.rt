@@ -1,8 +1,8 @@
 ghost use Rattle.std.specs.Prelude.{◌≡◌, ◌<◌};
-ghost use Rattle.schema.specs.CellColumns.{cell_count};
+ghost use Rattle.table_schema.specs.CellColumns.{cell_count};
 ghost use Rattle.metadata.specs.Valid.{kind_at, nullable_at};
 
-use schema::{Column, TableId, column_of_cell, columns};
+use table_schema::{Column, TableId, column_of_cell, columns};
 
 /// The column of the cell with this index in a row.
 pub fn column_at(table: TableId, place: usize) -> Column

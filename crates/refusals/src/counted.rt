@@ -7,8 +7,8 @@ ghost use Rattle.metadata.specs.Refusals.{refusals_of_count};
 use cells::Cell;
 use metadata::Refusal;
 use packed::FaultCode;
-use schema::{TableId, tables_stand};
 use std::marker::Model;
+use table_schema::{TableId, tables_stand};
 use tables::Tables;
 
 /// The greatest number of rows of a table (II.22).
@@ -40,8 +40,8 @@ impl<'a> Counted<'a> {
     ghost use Rattle.std.specs.Prelude.{◌≡◌, ◌≤◌, IfOk, slice_index, unwrap_or, option_map};
     ghost use Rattle.std.specs.Option.{option_copied};
     ghost use Rattle.packed.specs.Demand.{Answers};
-    ghost use Rattle.schema.specs.declared.table.TableId.{TableId as Table};
-    ghost use Rattle.schema.specs.Tables.{table_number};
+    ghost use Rattle.table_schema.specs.declared.table.TableId.{TableId as Table};
+    ghost use Rattle.table_schema.specs.Tables.{table_number};
     ghost use Rattle.cells.specs.Said.{said, all_said};
     ghost use Rattle.metadata.specs.Cell.{Number as NumberCell};
     ghost use Rattle.metadata.specs.Metadata.{row_of, count_in, cell_in};

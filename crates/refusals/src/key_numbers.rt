@@ -6,7 +6,7 @@ ghost use Rattle.metadata.specs.KeyOrder.{key_number};
 
 use cells::Cell;
 use metadata::row_number;
-use schema::ColumnKind;
+use table_schema::ColumnKind;
 
 /// The number of a reference in a column of a kind (II.24.2.6); 0 for null, any other cell or no cell.
 pub fn key_number(kind: ColumnKind, cell: Option<&Cell>) -> u64

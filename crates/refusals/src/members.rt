@@ -11,7 +11,7 @@ use crate::counted::Counted;
 use cells::Cell;
 use metadata::Refusal;
 use packed::FaultCode;
-use schema::TableId;
+use table_schema::TableId;
 
 /// Checks that each member of the five runs has one owner (II.22.37, II.22.26, II.22.12 and II.22.35).
 #[tactic(auto, using(packed::proofs::DemandLemmas::fails_front, packed::proofs::DemandLemmas::fails_back, packed::proofs::DemandLemmas::all_append), unfolding(metadata::specs::Refusals::refusals_of_runs))]

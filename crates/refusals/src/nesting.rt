@@ -1,7 +1,7 @@
 ghost use Rattle.std.specs.Prelude.{◌≡◌, ◌≤◌, unwrap_or, option_map};
 ghost use Rattle.std.specs.Option.{option_copied};
 ghost use Rattle.packed.specs.Demand.{Answers};
-ghost use Rattle.schema.specs.declared.table.TableId.TheVariants.{NestedClass};
+ghost use Rattle.table_schema.specs.declared.table.TableId.TheVariants.{NestedClass};
 ghost use Rattle.cells.specs.Said.{said};
 ghost use Rattle.metadata.specs.Cell.{Number as NumberCell};
 ghost use Rattle.metadata.specs.Metadata.{count_in};
@@ -12,7 +12,7 @@ use crate::counted::Counted;
 use cells::Cell;
 use metadata::Refusal;
 use packed::FaultCode;
-use schema::TableId;
+use table_schema::TableId;
 
 /// The cells of a nested type and of its enclosing type.
 const NESTED: usize = 0;

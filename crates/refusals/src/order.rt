@@ -1,6 +1,6 @@
 ghost use Rattle.std.specs.Prelude.{◌≡◌, ◌<◌, ◌≤◌, ◌-◌, ◌↔◌, ℕ, Some, IsTrue, slice_index_or};
-ghost use Rattle.schema.specs.Columns.{key_of};
-ghost use Rattle.schema.specs.CellColumns.{cell_count};
+ghost use Rattle.table_schema.specs.Columns.{key_of};
+ghost use Rattle.table_schema.specs.CellColumns.{cell_count};
 ghost use Rattle.metadata.specs.Metadata.{count_in};
 ghost use Rattle.metadata.specs.Cell.{Number as NumberCell};
 ghost use Rattle.metadata.specs.KeyOrder.{key_number, key_in, IsKeyOrdered};
@@ -8,7 +8,7 @@ ghost use Rattle.refusals.specs.Orders.{TellsOrder};
 
 use crate::column::column_at;
 use crate::key_numbers::key_number;
-use schema::{ColumnKind, TableId, cell_count, column_of_cell, key, tables_stand};
+use table_schema::{ColumnKind, TableId, cell_count, column_of_cell, key, tables_stand};
 use tables::{Row, Tables};
 
 /// Whether each table with a key is in order of it (II.22), by table number; `false` for tables without a

@@ -1,6 +1,6 @@
 ghost use Rattle.std.specs.Prelude.{◌≡◌, ◌≤◌, ◌<◌, ◌↔◌, IsTrue};
 ghost use Rattle.packed.specs.Demand.{Answers, demands_from};
-ghost use Rattle.schema.specs.CellColumns.{cell_count};
+ghost use Rattle.table_schema.specs.CellColumns.{cell_count};
 ghost use Rattle.cells.specs.Said.{said};
 ghost use Rattle.metadata.specs.Metadata.{count_in};
 ghost use Rattle.metadata.specs.Valid.{NamesTypes};
@@ -11,7 +11,7 @@ use crate::counted::Counted;
 use cells::Cell;
 use metadata::Refusal;
 use packed::FaultCode;
-use schema::{TableId, cell_count};
+use table_schema::{TableId, cell_count};
 
 /// Checks that each signature is one that its column holds, and that the rows of its type indexes exist (II.23.2).
 #[tactic(auto, using(packed::proofs::DemandLemmas::before_none, packed::proofs::DemandLemmas::before_more, packed::proofs::DemandLemmas::before_all, packed::proofs::DemandLemmas::before_fails), unfolding(metadata::specs::Refusals::refusals_of_signatures, metadata::specs::Refusals::refusals_of_signatures_at))]

@@ -1,10 +1,10 @@
 -- What a number names, and what is reported if it names nothing.
 use Rattle.std.proofs.Common.{◌≡◌, ◌≢◌, ℕ, ◌/◌, ◌%◌, ◌≤◌, Bool, List, Result, Ok, Err, inl, inr, refl, subst, sym}
 use Rattle.std.specs.Prelude.{IfErr, OnOk, IsOkAnd}
-use Rattle.heaps.specs.Entries.{IsUserString, UserText}
-use Rattle.heaps.specs.Fill.{filled}
-use Rattle.schema.specs.declared.token.Token.{Token}
-use Rattle.schema.specs.Tokens.{IsToken}
+use Rattle.heap_entries.specs.Entries.{IsUserString, UserText}
+use Rattle.heap_entries.specs.Fill.{filled}
+use Rattle.table_schema.specs.declared.token.Token.{Token}
+use Rattle.table_schema.specs.Tokens.{IsToken}
 use Rattle.opening.specs.Views.{row_count, user_of}
 use Rattle.printed_faults.specs.declared.failure.Failure.{Failure}
 use Rattle.printed_faults.specs.declared.failure.Failure.TheVariants.{Fault, NoSuchRow, NoToken, NoCode, CannotRead, CannotWriteFile, CannotWriteOutput, OutOfMemory}

@@ -2,8 +2,8 @@
 use Rattle.std.specs.Prelude.{◌≡◌, ◌≢◌, ℕ, ◌/◌, ◌%◌, ◌^◌, ◌⊎◌, Bool, List}
 use Rattle.packed.specs.declared.fault.Fault.{Fault}
 use Rattle.packed.specs.Demand.{Demand, FirstToFail}
-use Rattle.heaps.specs.Entries.{IsUserString, UserText}
-use Rattle.heaps.specs.Fill.{filled}
+use Rattle.heap_entries.specs.Entries.{IsUserString, UserText}
+use Rattle.heap_entries.specs.Fill.{filled}
 use Rattle.opening.specs.Views.{user_of}
 use Rattle.printed_faults.specs.declared.failure.Failure.{Failure}
 use Rattle.printed_faults.specs.declared.failure.Failure.TheVariants as failed

@@ -1,12 +1,12 @@
 //! `clim token`: the row or the user string that a token names.
 ghost use Rattle.std.specs.Prelude.{◌≡◌, ◌≤◌, IfOk, IfErr, OnOk};
-ghost use Rattle.heaps.specs.Fill.{filled};
+ghost use Rattle.heap_entries.specs.Fill.{filled};
 ghost use Rattle.opening.specs.Views.{HasModel, row_count};
 ghost use Rattle.reports.specs.Reported.{HasString, IsMet, IsNamed, LeavesOutput, TellsNoString, TellsNone, TellsUnnamed};
 ghost use Rattle.reports.specs.declared.report.Report.TheVariants as report;
 
 use crate::opened::open;
-use heaps::{UserString, user_string};
+use heap_entries::{UserString, user_string};
 use opening::{Token, View};
 use printed_faults::{Failure, printed};
 use printed_rows::{existing_row, print_row};

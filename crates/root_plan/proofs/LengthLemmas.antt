@@ -5,7 +5,7 @@ use Rattle.std.proofs.lemmas.Bool.{cases_Bool, ltb-false}
 use Rattle.std.proofs.lemmas.List.Sums.{sum_by-cons}
 use Rattle.root.specs.declared.kind.Kind.{Kind}
 use Rattle.root.specs.declared.kind.Kind.TheVariants.{Tables, Strings, UserStrings, Guids, Blobs}
-use Rattle.heaps.specs.Fill.{filled}
+use Rattle.heap_entries.specs.Fill.{filled}
 use Rattle.metadata.specs.Metadata.{Metadata}
 use Rattle.canonical.specs.Canonical.{canonical, stream}
 use Rattle.put.specs.Heading.{held, heading, kinds_in_order}

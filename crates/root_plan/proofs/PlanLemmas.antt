@@ -2,8 +2,8 @@
 use Rattle.std.proofs.Common.{◌≡◌, ℕ, ◌<◌, ◌≤◌, List, ◌++◌, length, map, get_or, ltb, refl, sym, ap, ◌∙◌, arith}
 use Rattle.std.specs.Prelude.{count_by}
 use Rattle.std.proofs.Math.Path.{fun_ext}
-use Rattle.schema.specs.declared.table.TableId.{TableId}
-use Rattle.schema.specs.Tables.{tables, table_number}
+use Rattle.table_schema.specs.declared.table.TableId.{TableId}
+use Rattle.table_schema.specs.Tables.{tables, table_number}
 use Rattle.schema.specs.Sizes.{sizes_by_number, header_size}
 use Rattle.root.specs.declared.kind.Kind.{Kind}
 use Rattle.root.specs.declared.kind.Kind.TheVariants.{Tables, Strings, UserStrings, Guids, Blobs}
@@ -15,11 +15,11 @@ use Rattle.canonical.specs.Canonical.{canonical, stream}
 use Rattle.put.specs.Heading.{size_of}
 use Rattle.put.specs.Written.{fill}
 use Rattle.put.specs.declared.sizes.StreamSizes.{StreamSizes}
-use Rattle.heaps.specs.Fill.{filled}
-use Rattle.heaps.specs.TextPlan.{TextPlan}
-use Rattle.heaps.specs.TextHeap.{text_heap}
-use Rattle.heaps.specs.BlobHeap.{blob_heap}
-use Rattle.heaps.specs.GuidHeap.{guid_heap}
+use Rattle.heap_entries.specs.Fill.{filled}
+use Rattle.heap_pools.specs.TextPlan.{TextPlan}
+use Rattle.heap_pools.specs.TextHeap.{text_heap}
+use Rattle.heap_pools.specs.BlobHeap.{blob_heap}
+use Rattle.heap_pools.specs.GuidHeap.{guid_heap}
 use Rattle.plan.specs.Numbered.{Numbered}
 use Rattle.root_plan.specs.declared.heap_lens.HeapLens.{HeapLens}
 use Rattle.root_plan.specs.declared.tables_plan.TablesPlan.{TablesPlan}

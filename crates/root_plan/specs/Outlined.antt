@@ -1,10 +1,10 @@
 -- The parts of a model, besides its pools, that its canonical root is planned from (ECMA-335 II.24.2.1, II.24.2.4 and
 -- II.24.2.6).
 use Rattle.std.specs.Prelude.{◌≡◌, slice_index}
-use Rattle.schema.specs.declared.table.TableId.{TableId}
-use Rattle.schema.specs.Tables.{tables, table_number}
+use Rattle.table_schema.specs.declared.table.TableId.{TableId}
+use Rattle.table_schema.specs.Tables.{tables, table_number}
 use Rattle.schema.specs.LaidOut.{bits_of}
-use Rattle.heaps.specs.Fill.{filled}
+use Rattle.heap_entries.specs.Fill.{filled}
 use Rattle.metadata.specs.Metadata.{Metadata, count_in}
 use Rattle.canonical.specs.TableStream.{is_sorted}
 use Rattle.root_plan.specs.declared.outline.Outline.{Outline}

@@ -1,12 +1,12 @@
 -- The plan of the canonical root of a model, made before a byte of it is written (ECMA-335 II.24.2).
 use Rattle.std.specs.Prelude.{◌≡◌, ◌+◌, ◌^◌, ◌≤◌, ℕ, List, ◌++◌, length, sum_by}
 use Rattle.root.specs.declared.kind.Kind.{Kind}
-use Rattle.schema.specs.Tables.{tables}
+use Rattle.table_schema.specs.Tables.{tables}
 use Rattle.schema.specs.LaidOut.{tables_bytes}
-use Rattle.heaps.specs.declared.pool_error.PoolError.{PoolError}
-use Rattle.heaps.specs.declared.pool_error.PoolError.TheVariants as pool
-use Rattle.heaps.specs.TextPlan.{TextPlan}
-use Rattle.heaps.specs.Fill.{filled}
+use Rattle.heap_pools.specs.declared.pool_error.PoolError.{PoolError}
+use Rattle.heap_pools.specs.declared.pool_error.PoolError.TheVariants as pool
+use Rattle.heap_pools.specs.TextPlan.{TextPlan}
+use Rattle.heap_entries.specs.Fill.{filled}
 use Rattle.metadata.specs.Metadata.{Metadata}
 use Rattle.metadata.specs.Valid.{IsValid}
 use Rattle.canonical.specs.Pools.{pools_of, texts_stream, blobs_stream, guids_stream}

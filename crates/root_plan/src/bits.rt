@@ -1,7 +1,7 @@
 ghost use Rattle.std.specs.Prelude.{◌≡◌};
 ghost use Rattle.put.specs.TableHeader.{bit_if};
 
-use schema::TableId;
+use table_schema::TableId;
 
 /// The bit of a table if it is set, else 0.
 pub fn bit(set: bool, table: TableId) -> u64

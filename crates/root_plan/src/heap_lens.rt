@@ -1,14 +1,14 @@
 ghost use Rattle.std.specs.Prelude.{◌≡◌, ◌<◌, ◌^◌, ◌≤◌, ℕ, List, length};
-ghost use Rattle.heaps.specs.Fill.{filled};
-ghost use Rattle.heaps.specs.TextHeap.{text_heap};
-ghost use Rattle.heaps.specs.BlobHeap.{blob_heap};
-ghost use Rattle.heaps.specs.GuidHeap.{guid_heap};
+ghost use Rattle.heap_entries.specs.Fill.{filled};
+ghost use Rattle.heap_pools.specs.TextHeap.{text_heap};
+ghost use Rattle.heap_pools.specs.BlobHeap.{blob_heap};
+ghost use Rattle.heap_pools.specs.GuidHeap.{guid_heap};
 ghost use Rattle.metadata.specs.Metadata.{Metadata};
 ghost use Rattle.canonical.specs.TableStream.{wide_bit as bit_of_heap, sizes_of};
 ghost use Rattle.root_plan.specs.Planned.{AreHeapLens};
 
 use crate::stream_lens::filled_len;
-use heaps::TextPool;
+use heap_pools::TextPool;
 use plan::Numbering;
 
 /// The lengths of the heap streams in bytes, padded to a multiple of four.

@@ -1,6 +1,6 @@
 ghost use Rattle.std.specs.Prelude.{◌^◌, ◌<◌, ◌≤◌, length};
 ghost use Rattle.root.specs.declared.kind.Kind.{Kind as TheKind};
-ghost use Rattle.heaps.specs.TextHeap.{text_heap};
+ghost use Rattle.heap_pools.specs.TextHeap.{text_heap};
 ghost use Rattle.metadata.specs.Metadata.{Metadata};
 ghost use Rattle.canonical.specs.Pools.{pools_of};
 ghost use Rattle.canonical.specs.Canonical.{canonical, stream};

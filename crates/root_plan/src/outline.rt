@@ -1,6 +1,6 @@
 ghost use Rattle.std.specs.Prelude.{◌≡◌, ◌≤◌, ◌^◌, length, slice_index};
-ghost use Rattle.schema.specs.declared.table.TableId.{TableId as Table};
-ghost use Rattle.schema.specs.Tables.{table_number};
+ghost use Rattle.table_schema.specs.declared.table.TableId.{TableId as Table};
+ghost use Rattle.table_schema.specs.Tables.{table_number};
 
 /// What a canonical root is planned from besides its pools. A model and a view can both provide it; it has no cell.
 #[derive(Clone, Copy)]

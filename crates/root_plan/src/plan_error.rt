@@ -1,4 +1,4 @@
-use heaps::PoolError;
+use heap_pools::PoolError;
 use std::alloc::AllocError;
 
 /// Why a root cannot be planned.

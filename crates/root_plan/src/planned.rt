@@ -13,7 +13,7 @@ use crate::outline::Outline;
 use crate::plan_error::PlanError;
 use crate::stream_lens::{filled_len, root_len};
 use crate::tables_plan::TablesPlan;
-use heaps::TextPool;
+use heap_pools::TextPool;
 use plan::Numbering;
 use put::StreamSizes;
 

@@ -1,6 +1,6 @@
 ghost use Rattle.std.specs.Prelude.{◌≡◌, ◌+◌, ◌^◌, ◌<◌, ◌≤◌, ℕ, List, length, sum_by};
 ghost use Rattle.root.specs.declared.kind.Kind.{Kind as TheKind};
-ghost use Rattle.heaps.specs.Fill.{filled};
+ghost use Rattle.heap_entries.specs.Fill.{filled};
 ghost use Rattle.metadata.specs.Metadata.{Metadata};
 ghost use Rattle.canonical.specs.Canonical.{canonical, stream};
 ghost use Rattle.put.specs.Heading.{size_of, held, heading_size};

@@ -1,5 +1,5 @@
 ghost use Rattle.std.specs.Prelude.{◌≡◌, ◌<◌, length, sum_by};
-ghost use Rattle.schema.specs.Tables.{tables};
+ghost use Rattle.table_schema.specs.Tables.{tables};
 ghost use Rattle.metadata.specs.Metadata.{Metadata};
 ghost use Rattle.canonical.specs.Numbers.{numbers};
 ghost use Rattle.canonical.specs.TableStream.{sizes_of, table_stream};
@@ -11,7 +11,8 @@ ghost use Rattle.root_plan.specs.Planned.{IsTablesPlan, planned_tables};
 use crate::outline::Outline;
 use plan::numbers_are_put;
 use put::table_headers_are_put;
-use schema::{Layout, TableId, tables_stand, widths_follow_from_counts};
+use schema::{Layout, widths_follow_from_counts};
+use table_schema::{TableId, tables_stand};
 
 /// The plan of a table stream (II.24.2.6).
 #[derive(Drop)]

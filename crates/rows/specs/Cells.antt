@@ -1,8 +1,8 @@
 -- The cells of a table stream (ECMA-335 II.24.2.6), by table, row from 1 and column from 0.
 use Rattle.std.specs.Prelude.{ℕ, ◌-◌, ◌≤◌, List, [], ◌++◌, length, take, slice_index_or}
-use Rattle.schema.specs.declared.table.TableId.{TableId}
-use Rattle.schema.specs.Tables.{position_of, tables}
-use Rattle.schema.specs.Columns.{columns_of}
+use Rattle.table_schema.specs.declared.table.TableId.{TableId}
+use Rattle.table_schema.specs.Tables.{position_of, tables}
+use Rattle.table_schema.specs.Columns.{columns_of}
 use Rattle.schema.specs.Sizes.{Sizes}
 use Rattle.schema.specs.Places.{tables_end}
 use Rattle.schema.specs.LaidOut.{row_bytes, rows_bytes, tables_bytes}

@@ -4,8 +4,9 @@ ghost use Rattle.packed.specs.Places.{part};
 ghost use Rattle.schema.specs.Sizes.{IsWidth};
 
 use packed::{u16_at, u32_at};
-use schema::{Layout, TableId, cells_stand, tables_end_within, tables_stand};
+use schema::{Layout, cells_stand, tables_end_within};
 use std::marker::Model;
+use table_schema::{TableId, tables_stand};
 
 /// The number in `width` bytes at offset `place`.
 fn number_of(bytes: &[u8], place: usize, width: usize) -> u32
@@ -42,7 +43,7 @@ impl<'a> Model for Rows<'a> {
 
 impl<'a> Rows<'a> {
     ghost use Rattle.std.specs.Prelude.{◌≡◌, ◌≤◌, ◌<◌, ◌+◌, ◌^◌, ℕ, List, length};
-    ghost use Rattle.schema.specs.Columns.{columns_of};
+    ghost use Rattle.table_schema.specs.Columns.{columns_of};
     ghost use Rattle.schema.specs.Sizes.{count_of};
     ghost use Rattle.schema.specs.Places.{cell_start};
     ghost use Rattle.schema.specs.LaidOut.{IsTableStream, IsLaidOut, StandsAt, number_bytes, number_in};

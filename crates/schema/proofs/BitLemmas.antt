@@ -1,15 +1,16 @@
 -- The bits of the tables that pass a test, as one number.
-use Rattle.std.proofs.Common.{◌≡◌, ℕ, zero, suc, ◌+◌, ◌-◌, ◌*◌, ◌/◌, ◌%◌, ◌^◌, ◌<◌, ◌≤◌, Bool, true, false, cond, List, [], ◌∷◌, length, get_or, take, refl, sym, ap, subst, ◌∙◌, arith, lit≤, lit<, eqb}
+use Rattle.std.proofs.Common.{◌≡◌, ℕ, zero, suc, ◌+◌, ◌-◌, ◌*◌, ◌/◌, ◌%◌, ◌^◌, ◌<◌, ◌≤◌, Bool, true, false, cond, List, [], ◌∷◌, length, get_or, take, refl, sym, ap, subst, ◌∙◌, arith, lit<, eqb}
 use Rattle.std.proofs.Math.Nat.{pow-le-pow_right}
 use Rattle.std.proofs.lemmas.List.Sums.{sum_by-cons, sum_by_more}
 use Rattle.std.proofs.lemmas.Nat.{pow_pos, pow-add, shr-shr, div-mul-add, one_shl}
-use Rattle.schema.specs.declared.table.TableId.{TableId}
-use Rattle.schema.specs.declared.table.TableId.TheVariants.{Module}
-use Rattle.schema.specs.Tables.{tables, table_number, position_of}
+use Rattle.table_schema.specs.declared.table.TableId.{TableId}
+use Rattle.table_schema.specs.declared.table.TableId.TheVariants.{Module}
+use Rattle.table_schema.specs.Tables.{tables, table_number, position_of}
 use Rattle.schema.specs.LaidOut.{bits_of}
 use Rattle.schema.specs.Header.{has_bit}
 use Rattle.schema.specs.Demands.{NamesTables}
-use Rattle.schema.proofs.TableFacts.{table_at_position, position_below, number_below, length-tables}
+use Rattle.table_schema.proofs.TableFacts.{table_at_position, position_below, number_below, length-tables}
+use Rattle.table_schema.proofs.TableOrder.{IsAscending, ascending, above}
 
 abbrev pub bit : Bool → ℕ
 bit b = cond b 1 0
@@ -21,15 +22,6 @@ bits_cons test table listed = sum_by-cons (λ t. cond (test t) (2 ^ table_number
     times : (b : Bool) → cond b (2 ^ table_number table) 0 ≡ bit b * 2 ^ table_number table
     times true = omega arith
     times false = omega arith
-
--- the numbers of the tables increase, from a number on
-abbrev IsAscending : ℕ → List TableId → Type 0
-IsAscending low [] = Unit {0}
-IsAscending low (table ∷ listed) = (low ≤ table_number table) × IsAscending (suc (table_number table)) listed
-
-ascending : IsAscending 0 tables
-unfolding tables
-ascending = (lit≤ tt, (lit≤ tt, (lit≤ tt, (lit≤ tt, (lit≤ tt, (lit≤ tt, (lit≤ tt, (lit≤ tt, (lit≤ tt, (lit≤ tt, (lit≤ tt, (lit≤ tt, (lit≤ tt, (lit≤ tt, (lit≤ tt, (lit≤ tt, (lit≤ tt, (lit≤ tt, (lit≤ tt, (lit≤ tt, (lit≤ tt, (lit≤ tt, (lit≤ tt, (lit≤ tt, (lit≤ tt, (lit≤ tt, (lit≤ tt, (lit≤ tt, (lit≤ tt, (lit≤ tt, (lit≤ tt, (lit≤ tt, (lit≤ tt, (lit≤ tt, (lit≤ tt, (lit≤ tt, (lit≤ tt, (lit≤ tt, tt))))))))))))))))))))))))))))))))))))))
 
 -- the bits are at these numbers and above
 multiple : (test : TableId → Bool) (low : ℕ) (listed : List TableId) → IsAscending low listed → (q : ℕ) × (bits_of test listed ≡ q * 2 ^ low)
@@ -92,11 +84,6 @@ from_bit test table listed up =
     let rest = multiple test (suc n) listed up in
     let is = rest.1 ∙ ap (λ p. rest.0 * p) (power_next n) in
     (rest.0, bits_cons test table listed ∙ ap (λ k. bit (test table) * 2 ^ n + k) is, is)
-
-above : (low n : ℕ) (listed : List TableId) (i : ℕ) (none : TableId) → IsAscending low listed → i < length listed → low ≤ table_number (get_or listed i none)
-above low n [] i none up below = absurd (omega arith)
-above low n (table ∷ listed) zero none up below = up.0
-above low n (table ∷ listed) (suc i) none up below = omega (arith, up.0, above (suc (table_number table)) n listed i none up.1 (omega arith))
 
 bit_at : (test : TableId → Bool) (low : ℕ) (listed : List TableId) (i : ℕ) (none : TableId) → IsAscending low listed → i < length listed
     → bits_of test listed / 2 ^ table_number (get_or listed i none) % 2 ≡ bit (test (get_or listed i none))
@@ -205,17 +192,3 @@ bits_low test = let small = bits_below test tables in omega (arith, small, lengt
         term_low : (b : Bool) (t : TableId) → bit b * 2 ^ table_number t ≤ 2 ^ 44
         term_low true t = let low = power_low t in omega arith
         term_low false t = omega arith
-
--- numbers increase with table indexes
-rises : (low : ℕ) (listed : List TableId) (i k : ℕ) (none : TableId) → IsAscending low listed → i < k → k < length listed → table_number (get_or listed i none) < table_number (get_or listed k none)
-rises low [] i k none up less below = absurd (omega arith)
-rises low (table ∷ listed) i zero none up less below = absurd (omega arith)
-rises low (table ∷ listed) zero (suc k) none up less below = omega (arith, above (suc (table_number table)) 0 listed k none up.1 (omega arith))
-rises low (table ∷ listed) (suc i) (suc k) none up less below = rises (suc (table_number table)) listed i k none up.1 (omega arith) (omega arith)
-
-pub numbers_rise : (lower higher : TableId) → position_of lower < position_of higher → table_number lower < table_number higher
-numbers_rise lower higher less =
-    let all = rises 0 tables (position_of lower) (position_of higher) Module ascending less (omega (arith, position_below higher, length-tables)) in
-    let a = ap table_number (table_at_position lower) in
-    let b = ap table_number (table_at_position higher) in
-    omega (arith, all, a, b)

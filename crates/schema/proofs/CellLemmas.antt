@@ -4,9 +4,9 @@ use Rattle.std.proofs.lemmas.List.{drop-drop, drop_at, take-append-drop}
 use Rattle.std.proofs.lemmas.List.Sums.{sum_by-cons}
 use Rattle.packed.specs.Number.{little_endian}
 use Rattle.packed.specs.Places.{part}
-use Rattle.schema.specs.declared.table.TableId.{TableId}
-use Rattle.schema.specs.declared.column.Column.{Column}
-use Rattle.schema.specs.Columns.{columns_of}
+use Rattle.table_schema.specs.declared.table.TableId.{TableId}
+use Rattle.table_schema.specs.declared.column.Column.{Column}
+use Rattle.table_schema.specs.Columns.{columns_of}
 use Rattle.schema.specs.Sizes.{Sizes, count_of, width_of}
 use Rattle.schema.specs.Places.{columns_width, tables_size, table_size, row_width}
 use Rattle.schema.specs.LaidOut.{number_bytes, row_bytes, FitRow, rows_bytes, FitRows, tables_bytes, FitTables}

@@ -3,12 +3,12 @@ use Rattle.std.proofs.Common.{◌≡◌, ℕ, zero, suc, ◌+◌, ◌-◌, ◌*�
 use Rattle.std.specs.List.{list_all}
 use Rattle.std.proofs.lemmas.Nat.{div-add-mod', div-mul-add, mod-mul-add, mod_below}
 use Rattle.std.proofs.Math.Nat.{mod-lt, one-le-pow, pow-suc}
-use Rattle.schema.specs.declared.table.TableId.{TableId}
-use Rattle.schema.specs.declared.column.Column.{Column}
-use Rattle.schema.specs.declared.column.ColumnKind.{ColumnKind}
-use Rattle.schema.specs.declared.column.ColumnKind.TheVariants as kind
-use Rattle.schema.specs.Columns.{columns_of}
-use Rattle.schema.specs.CodedIndexes.{tables_of, tag_bits}
+use Rattle.table_schema.specs.declared.table.TableId.{TableId}
+use Rattle.table_schema.specs.declared.column.Column.{Column}
+use Rattle.table_schema.specs.declared.column.ColumnKind.{ColumnKind}
+use Rattle.table_schema.specs.declared.column.ColumnKind.TheVariants as kind
+use Rattle.table_schema.specs.Columns.{columns_of}
+use Rattle.table_schema.specs.CodedIndexes.{tables_of, tag_bits}
 use Rattle.schema.specs.Sizes.{Sizes, SameCounts, count_of, narrow_or_wide, heap_width, row_index_width, is_below, kind_width, width_of}
 use Rattle.schema.specs.LaidOut.{number_bytes, row_bytes, rows_bytes, tables_bytes, fields_of, FitRow}
 

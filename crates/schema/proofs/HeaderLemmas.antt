@@ -7,14 +7,14 @@ use Rattle.packed.specs.Demand.{AllHold, demands_from}
 use Rattle.packed.proofs.DemandLemmas.{each_holds}
 use Rattle.packed.specs.Number.{little_endian}
 use Rattle.packed.specs.Places.{part}
-use Rattle.schema.specs.declared.table.TableId.{TableId}
-use Rattle.schema.specs.declared.table.TableId.TheVariants.{Module}
-use Rattle.schema.specs.Tables.{position_of, tables}
+use Rattle.table_schema.specs.declared.table.TableId.{TableId}
+use Rattle.table_schema.specs.declared.table.TableId.TheVariants.{Module}
+use Rattle.table_schema.specs.Tables.{position_of, tables}
 use Rattle.schema.specs.Sizes.{Sizes, header_size}
 use Rattle.schema.specs.Header.{has_bit, valid_of, count_place, count_in, sizes_of}
 use Rattle.schema.specs.Demands.{demands_of_position}
 use Rattle.schema.specs.Kept.{AreFew}
-use Rattle.schema.proofs.TableFacts.{position_at, position_below, table_at_position, length-tables}
+use Rattle.table_schema.proofs.TableFacts.{position_at, position_below, table_at_position, length-tables}
 
 -- the row count of a table that Valid names is before the first table
 pub count_within : (test : TableId → Bool) (table : TableId) → test table ≡ true → header_size (count_by test (take (position_of table) tables)) + 4 ≤ header_size (count_by test tables)

@@ -1,13 +1,10 @@
-pub mod CodedLemmas
-pub mod TableFacts
-pub mod PlaceLemmas
 pub mod BitLemmas
+pub mod CellLemmas
+pub mod FieldLemmas
 pub mod HeaderLemmas
 pub mod NumberLemmas
-pub mod CellLemmas
-pub mod StreamLemmas
 pub mod OneLemmas
+pub mod PlaceLemmas
 pub mod ReadLemmas
 pub mod Samples
-pub mod CellColumnLemmas
-pub mod FieldLemmas
+pub mod StreamLemmas

@@ -4,17 +4,17 @@ use Rattle.std.proofs.Math.ListN.{set}
 use Rattle.std.proofs.lemmas.List.{take_all}
 use Rattle.std.proofs.lemmas.List.Sums.{sum_by_more, sum_by_more_le}
 use Rattle.schema.specs.declared.place.Place.{Place}
-use Rattle.schema.specs.declared.table.TableId.{TableId}
-use Rattle.schema.specs.declared.table.TableId.TheVariants.{Module, GenericParamConstraint}
-use Rattle.schema.specs.declared.column.Column.{Column}
-use Rattle.schema.specs.declared.column.ColumnKind.{ColumnKind}
-use Rattle.schema.specs.declared.column.ColumnKind.TheVariants as kind
-use Rattle.schema.specs.Tables.{position_of, tables}
-use Rattle.schema.specs.Columns.{columns_of}
+use Rattle.table_schema.specs.declared.table.TableId.{TableId}
+use Rattle.table_schema.specs.declared.table.TableId.TheVariants.{Module, GenericParamConstraint}
+use Rattle.table_schema.specs.declared.column.Column.{Column}
+use Rattle.table_schema.specs.declared.column.ColumnKind.{ColumnKind}
+use Rattle.table_schema.specs.declared.column.ColumnKind.TheVariants as kind
+use Rattle.table_schema.specs.Tables.{position_of, tables}
+use Rattle.table_schema.specs.Columns.{columns_of}
 use Rattle.schema.specs.Sizes.{Sizes, count_of, width_of, kind_width, narrow_or_wide, IsWidth}
 use Rattle.schema.specs.Places.{columns_width, tables_size, table_size, row_width, table_start, row_start, cell_start, tables_end}
 use Rattle.schema.specs.Kept.{IsPlace, ArePlaces, AreFew}
-use Rattle.schema.proofs.TableFacts.{position_below, position_at, table_at_position, length-tables}
+use Rattle.table_schema.proofs.TableFacts.{position_below, position_at, table_at_position, length-tables}
 
 -- one more column, one more table
 pub columns_width_more : (sizes : Sizes) (columns : List Column) (i : ℕ) (none : Column) → i < length columns → columns_width sizes (take (i + 1) columns) ≡ columns_width sizes (take i columns) + width_of sizes (get_or columns i none)

@@ -10,15 +10,15 @@ use Rattle.packed.specs.Demand.{AllHold, Answers, demands_from}
 use Rattle.packed.proofs.DemandLemmas.{all_append, all_front, all_back, all_of_each, none_fails}
 use Rattle.packed.specs.Number.{little_endian}
 use Rattle.packed.specs.Places.{part}
-use Rattle.schema.specs.declared.table.TableId.{TableId}
-use Rattle.schema.specs.declared.table.TableId.TheVariants.{Module}
-use Rattle.schema.specs.Tables.{position_of, tables}
+use Rattle.table_schema.specs.declared.table.TableId.{TableId}
+use Rattle.table_schema.specs.declared.table.TableId.TheVariants.{Module}
+use Rattle.table_schema.specs.Tables.{position_of, tables}
 use Rattle.schema.specs.Sizes.{Sizes, count_of, header_size}
 use Rattle.schema.specs.Places.{tables_end}
 use Rattle.schema.specs.LaidOut.{number_bytes, tables_bytes, FitTables, bits_of, counts_bytes, IsLaidOut, IsTableStream}
 use Rattle.schema.specs.Header.{heap_sizes_of, valid_of, sorted_of, has_bit, count_in, sizes_of}
 use Rattle.schema.specs.Demands.{demands_of_header, demands_of_position, demands_of_tables, demands_of_stream}
-use Rattle.schema.proofs.TableFacts.{position_at, position_below, table_at_position, length-tables}
+use Rattle.table_schema.proofs.TableFacts.{position_at, position_below, table_at_position, length-tables}
 use Rattle.schema.proofs.BitLemmas.{bits_low, tests_are, names_tables}
 use Rattle.schema.proofs.NumberLemmas.{IsBytes, length-number_bytes, part_of_number, part_fits, number_read}
 use Rattle.schema.proofs.HeaderLemmas.{counts_are, count_is, count_counted, count_uncounted, same_sizes, few_from, place_at}

@@ -5,9 +5,9 @@ use Rattle.packed.specs.declared.code.FaultCode.TheVariants.{TablesHeader, Table
 use Rattle.packed.specs.declared.fault.Fault.{Fault}
 use Rattle.packed.specs.Demand.{Demand, demand, demands_from}
 use Rattle.packed.specs.Places.{part}
-use Rattle.schema.specs.declared.table.TableId.{TableId}
-use Rattle.schema.specs.declared.table.TableId.TheVariants.{Module}
-use Rattle.schema.specs.Tables.{tables}
+use Rattle.table_schema.specs.declared.table.TableId.{TableId}
+use Rattle.table_schema.specs.declared.table.TableId.TheVariants.{Module}
+use Rattle.table_schema.specs.Tables.{tables}
 use Rattle.schema.specs.Places.{tables_end}
 use Rattle.schema.specs.LaidOut.{bits_of}
 use Rattle.schema.specs.Header.{heap_sizes_of, valid_of, count_place, count_in, sizes_of}

@@ -2,8 +2,8 @@
 use Rattle.std.specs.Prelude.{ℕ, Bool, ◌/◌, ◌%◌, ◌^◌, ◌==◌, List, take, map, count_by, if◌then◌else◌, slice_index}
 use Rattle.packed.specs.Number.{little_endian}
 use Rattle.packed.specs.Places.{part}
-use Rattle.schema.specs.declared.table.TableId.{TableId}
-use Rattle.schema.specs.Tables.{table_number, position_of, tables}
+use Rattle.table_schema.specs.declared.table.TableId.{TableId}
+use Rattle.table_schema.specs.Tables.{table_number, position_of, tables}
 use Rattle.schema.specs.Sizes.{Sizes, header_size}
 
 -- HeapSizes (II.24.2.6)

@@ -1,12 +1,7 @@
-pub mod CodedIndexes
-pub mod Columns
+pub mod Cells
 pub mod Demands
 pub mod Header
+pub mod Kept
 pub mod LaidOut
 pub mod Places
 pub mod Sizes
-pub mod Tables
-pub mod Tokens
-pub mod Kept
-pub mod Cells
-pub mod CellColumns

@@ -1,9 +1,9 @@
 -- The offsets of tables, rows and cells in a table stream (ECMA-335 II.24.2.6). Each follows the one before it.
 use Rattle.std.specs.Prelude.{ℕ, List, take, ◌+◌, ◌*◌, ◌-◌, sum_by}
-use Rattle.schema.specs.declared.table.TableId.{TableId}
-use Rattle.schema.specs.declared.column.Column.{Column}
-use Rattle.schema.specs.Tables.{position_of, tables}
-use Rattle.schema.specs.Columns.{columns_of}
+use Rattle.table_schema.specs.declared.table.TableId.{TableId}
+use Rattle.table_schema.specs.declared.column.Column.{Column}
+use Rattle.table_schema.specs.Tables.{position_of, tables}
+use Rattle.table_schema.specs.Columns.{columns_of}
 use Rattle.schema.specs.Sizes.{Sizes, count_of, width_of}
 
 -- the number of bytes of these columns in a row

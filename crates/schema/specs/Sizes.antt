@@ -1,13 +1,13 @@
 -- The sizes in the header of a table stream, and the widths of columns that follow from them (ECMA-335 II.24.2.6).
 use Rattle.std.specs.Prelude.{◌≡◌, ◌⊎◌, ℕ, Bool, true, List, Option, Some, None, map, ◌+◌, ◌*◌, ◌^◌, ◌-◌, ◌/◌, ◌%◌, nat_lt, ◌==◌, if◌then◌else◌, slice_index, count_by}
 use Rattle.std.specs.List.{list_all}
-use Rattle.schema.specs.declared.table.TableId.{TableId}
-use Rattle.schema.specs.declared.coded.Coded.{Coded}
-use Rattle.schema.specs.declared.column.ColumnKind.{ColumnKind}
-use Rattle.schema.specs.declared.column.ColumnKind.TheVariants as kind
-use Rattle.schema.specs.declared.column.Column.{Column}
-use Rattle.schema.specs.Tables.{table_number, position_of, tables}
-use Rattle.schema.specs.CodedIndexes.{tables_of, tag_bits}
+use Rattle.table_schema.specs.declared.table.TableId.{TableId}
+use Rattle.table_schema.specs.declared.coded.Coded.{Coded}
+use Rattle.table_schema.specs.declared.column.ColumnKind.{ColumnKind}
+use Rattle.table_schema.specs.declared.column.ColumnKind.TheVariants as kind
+use Rattle.table_schema.specs.declared.column.Column.{Column}
+use Rattle.table_schema.specs.Tables.{table_number, position_of, tables}
+use Rattle.table_schema.specs.CodedIndexes.{tables_of, tag_bits}
 
 -- the number of rows of each table, in the order of the tables; HeapSizes; Sorted; the offset of the first table
 pub record Sizes : Type 0 where

@@ -1,8 +1,8 @@
 ghost use Rattle.std.specs.Prelude.{◌≡◌, ◌<◌, ◌%◌, ◌^◌, ℕ, List, length, slice_index, slice_index_or};
-ghost use Rattle.schema.specs.declared.table.TableId.{TableId as Table};
-ghost use Rattle.schema.specs.declared.column.Column.{Column as TheColumn};
-ghost use Rattle.schema.specs.declared.column.ColumnKind.TheVariants as kind;
-ghost use Rattle.schema.specs.Columns.{col};
+ghost use Rattle.table_schema.specs.declared.table.TableId.{TableId as Table};
+ghost use Rattle.table_schema.specs.declared.column.Column.{Column as TheColumn};
+ghost use Rattle.table_schema.specs.declared.column.ColumnKind.TheVariants as kind;
+ghost use Rattle.table_schema.specs.Columns.{col};
 ghost use Rattle.schema.specs.Sizes.{Sizes, SameCounts, width_of};
 ghost use Rattle.schema.specs.LaidOut.{number_bytes, row_bytes, tables_bytes, fields_of, FitRow};
 

@@ -1,6 +1,4 @@
-use crate::coded::Coded;
-use crate::column::{Column, ColumnKind};
-use crate::table::TableId;
+use table_schema::{Coded, Column, ColumnKind, TableId};
 
 /// The sizes in the header of a table stream (II.24.2.6).
 #[derive(Clone, Copy)]

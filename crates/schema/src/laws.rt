@@ -1,44 +1,12 @@
-ghost use Rattle.std.specs.Prelude.{◌≡◌, ◌*◌, ◌-◌, ◌^◌, ◌<◌, ◌≤◌, ℕ, List, length, true, Some, slice_get, slice_index_or};
+ghost use Rattle.std.specs.Prelude.{◌≡◌, ◌^◌, ◌<◌, ◌≤◌, ℕ, List, length};
 ghost use Rattle.packed.specs.Number.{IsNumber};
-ghost use Rattle.schema.specs.declared.table.TableId.{TableId as Table};
-ghost use Rattle.schema.specs.declared.table.TableId.TheVariants.{Module as TheModule};
-ghost use Rattle.schema.specs.declared.column.Column.{Column as TheColumn};
-ghost use Rattle.schema.specs.declared.coded.Coded.{Coded as TheCoded};
-ghost use Rattle.schema.specs.Tables.{table_number, position_of, tables};
-ghost use Rattle.schema.specs.Columns.{columns_of, column_at, key_of, IsReference, MayBeNull};
-ghost use Rattle.schema.specs.CodedIndexes.{tables_of, tag_bits};
+ghost use Rattle.table_schema.specs.declared.table.TableId.{TableId as Table};
+ghost use Rattle.table_schema.specs.declared.column.Column.{Column as TheColumn};
+ghost use Rattle.table_schema.specs.Columns.{columns_of};
 ghost use Rattle.schema.specs.Sizes.{Sizes, count_of, width_of, IsWidth};
 ghost use Rattle.schema.specs.Places.{tables_end};
 ghost use Rattle.schema.specs.LaidOut.{number_bytes, IsLaidOut};
 ghost use Rattle.schema.specs.Cells.{HoldsCell};
-
-/// The tables are in the order of their numbers, each at its table index.
-pub fn tables_stand()
-    ensures count { length tables ≡ 38 }
-    ensures position { (table : Table) → position_of table < 38 }
-    ensures number { (table : Table) → table_number table < 45 }
-    ensures stand { (table : Table) → slice_index_or tables (position_of table) TheModule ≡ table }
-    ensures rise { (lower higher : Table) → position_of lower < position_of higher → table_number lower < table_number higher }
-{}
-
-/// A table has at most nine columns. Its key, if it has one, refers to rows. A column that allows null has
-/// a number for null.
-pub fn columns_stand()
-    ensures few { (table : Table) → length (columns_of table) ≤ 9 }
-    ensures key { (table : Table) (column : ℕ) → key_of table ≡ Some column → column < length (columns_of table) }
-    ensures reference { (table : Table) (column : ℕ) → key_of table ≡ Some column → IsReference (column_at table column) }
-    ensures null { (table : Table) (column : ℕ) → column < length (columns_of table) → (column_at table column).nullable ≡ true
-        → MayBeNull (column_at table column) }
-{}
-
-/// The tag of a coded index fits beside a row number, and each of its tables has one tag.
-pub fn tags_fit()
-    ensures few { (coded : TheCoded) → length (tables_of coded) ≤ 2 ^ tag_bits coded }
-    ensures narrow { (coded : TheCoded) → 2 ^ tag_bits coded * 2 ^ (16 - tag_bits coded) ≡ 2 ^ 16 }
-    ensures wide { (coded : TheCoded) → 2 ^ tag_bits coded * 2 ^ 24 ≤ 2 ^ 32 }
-    ensures one { (coded : TheCoded) (a b : ℕ) (table : Table) → slice_get (tables_of coded) a ≡ Some (Some table)
-        → slice_get (tables_of coded) b ≡ Some (Some table) → a ≡ b }
-{}
 
 /// A column has one, two or four bytes.
 pub fn widths_are_known()

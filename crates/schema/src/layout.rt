@@ -1,9 +1,7 @@
-use crate::column::Column;
-use crate::column_lists::columns;
 use crate::header::Header;
 use crate::place::Place;
-use crate::table::TableId;
 use std::marker::Model;
+use table_schema::{Column, TableId, columns};
 
 /// The offset of every cell of a table stream (II.24.2.6).
 ///
@@ -56,9 +54,9 @@ impl Header {
 
 impl Layout {
     ghost use Rattle.std.specs.Prelude.{◌≡◌, ◌≢◌, ◌≤◌, ◌<◌, ◌+◌, ℕ, length, slice_index};
-    ghost use Rattle.schema.specs.declared.table.TableId.{TableId as Table};
-    ghost use Rattle.schema.specs.Tables.{table_number};
-    ghost use Rattle.schema.specs.Columns.{columns_of, column_at};
+    ghost use Rattle.table_schema.specs.declared.table.TableId.{TableId as Table};
+    ghost use Rattle.table_schema.specs.Tables.{table_number};
+    ghost use Rattle.table_schema.specs.Columns.{columns_of, column_at};
     ghost use Rattle.schema.specs.Sizes.{sizes_by_number, count_of, width_of, IsWidth};
     ghost use Rattle.schema.specs.Places.{row_width, row_start, cell_start, tables_end};
     ghost use Rattle.schema.specs.Kept.{sizes_kept, AreFew};

@@ -15,11 +15,6 @@
 #![tactic(auto)]
 
 mod bit_laws;
-mod cell_columns;
-mod coded;
-mod coded_index;
-mod column;
-mod column_lists;
 mod field_laws;
 mod header;
 mod laws;
@@ -27,22 +22,17 @@ mod layout;
 mod place;
 mod read;
 mod read_laws;
-mod table;
-mod token;
 
 pub use bit_laws::bits_are_known;
-pub use cell_columns::{cell_count, cells_have_columns, column_of_cell};
-pub use coded::Coded;
-pub use coded_index::{join, split};
-pub use column::{Column, ColumnKind, SigKind};
-pub use column_lists::{columns, key};
 pub use field_laws::{low_bytes_stand, widths_follow_from_counts};
 pub use laws::{
-    cells_stand, columns_stand, numbers_are_spelled, stream_is_one, tables_end_within,
-    tables_stand, tags_fit, widths_are_known,
+    cells_stand, numbers_are_spelled, stream_is_one, tables_end_within, widths_are_known,
 };
 pub use layout::Layout;
 pub use packed::{Fault, FaultCode};
 pub use read_laws::{numbers_are_read, streams_are_read};
-pub use table::TableId;
-pub use token::{Token, tokens_are_in_order};
+pub use table_schema::{
+    Coded, Column, ColumnKind, SigKind, TableId, Token, cell_count, cells_have_columns,
+    column_of_cell, columns, columns_stand, join, key, split, tables_stand, tags_fit,
+    tokens_are_in_order,
+};

@@ -1,14 +1,14 @@
 ghost use Rattle.std.specs.Prelude.{◌≡◌, ◌<◌, ◌≤◌, ◌↔◌, length, count_by, IsTrue, IfOk, IfErr};
 ghost use Rattle.packed.specs.Demand.{Answers, demands_from};
-ghost use Rattle.schema.specs.Tables.{tables};
+ghost use Rattle.table_schema.specs.Tables.{tables};
 ghost use Rattle.schema.specs.LaidOut.{bits_of};
 ghost use Rattle.schema.specs.Header.{has_bit, valid_of, count_place, count_in, sizes_of};
 ghost use Rattle.schema.specs.Demands.{NamesTables, demands_of_header, demands_of_count, demands_of_position, demands_of_stream};
 
 use crate::header::Header;
 use crate::layout::Layout;
-use crate::table::TableId;
 use packed::{Fault, FaultCode, u32_at, u64_at};
+use table_schema::TableId;
 
 /// The largest number of rows of a table (II.22).
 const ROW_LIMIT: u32 = 0xFF_FFFF;

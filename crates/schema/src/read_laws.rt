@@ -1,7 +1,7 @@
 ghost use Rattle.std.specs.Prelude.{◌≡◌, ◌^◌, ◌<◌, ◌≤◌, ℕ, List, length, get_or};
 ghost use Rattle.packed.specs.Demand.{AllHold};
-ghost use Rattle.schema.specs.declared.table.TableId.{TableId as Table};
-ghost use Rattle.schema.specs.Columns.{columns_of};
+ghost use Rattle.table_schema.specs.declared.table.TableId.{TableId as Table};
+ghost use Rattle.table_schema.specs.Columns.{columns_of};
 ghost use Rattle.schema.specs.Sizes.{Sizes, count_of};
 ghost use Rattle.schema.specs.LaidOut.{number_in, IsLaidOut, IsTableStream};
 ghost use Rattle.schema.specs.Header.{sizes_of};

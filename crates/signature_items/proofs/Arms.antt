@@ -2,14 +2,14 @@
 use Rattle.std.proofs.Common.{◌≡◌, ◌≢◌, ◌∙◌, ℕ, zero, suc, ◌-◌, ◌<◌, ◌||◌, Bool, true, false, cond, eqb, Option, Some, None, List, [], ◌∷◌, ◌++◌, length, map, refl, sym, ap, arith}
 use Rattle.std.specs.Prelude.{flat_map}
 use Rattle.std.proofs.lemmas.Bool.{ne_eqb}
-use Rattle.schema.specs.declared.token.Token.{Token}
-use Rattle.signature_values.specs.declared.element.Element.{Element}
-use Rattle.signature_values.specs.declared.types.Modifier.{Modifier}
-use Rattle.signature_values.specs.declared.body.Prefix.{Prefix}
-use Rattle.signature_values.specs.Syntax as sig
-use Rattle.signature_values.specs.Views.{types_from}
-use Rattle.signature_values.specs.Reading.{Reader, change, both, many_at, counted_at, number_at, index_at, modifier_at, modifiers_at, prefix_at, prefixes_at, starts_modifier, starts_prefix, void_or, named_at, typed_at, target_at, pointer_to, content_at, slot_at, ret_from, ret_at, array_at, array_from, shape_at, instance_at, instance_from, method_at, core_at, core_by, element_of}
-use Rattle.signature_values.specs.Columns.{local_at, local_from}
+use Rattle.table_schema.specs.declared.token.Token.{Token}
+use Rattle.sig_grammar.specs.declared.element.Element.{Element}
+use Rattle.sig_grammar.specs.declared.types.Modifier.{Modifier}
+use Rattle.sig_grammar.specs.declared.body.Prefix.{Prefix}
+use Rattle.sig_grammar.specs.Syntax as sig
+use Rattle.sig_grammar.specs.Views.{types_from}
+use Rattle.sig_grammar.specs.Reading.{Reader, change, both, many_at, counted_at, number_at, index_at, modifier_at, modifiers_at, prefix_at, prefixes_at, starts_modifier, starts_prefix, void_or, named_at, typed_at, target_at, pointer_to, content_at, slot_at, ret_from, ret_at, array_at, array_from, shape_at, instance_at, instance_from, method_at, core_at, core_by, element_of}
+use Rattle.sig_grammar.specs.Columns.{local_at, local_from}
 use Rattle.signature_items.specs.declared.item.Item.{Item}
 use Rattle.signature_items.specs.declared.item.Item.TheVariants as item
 use Rattle.signature_items.specs.declared.place.Place.{Place}

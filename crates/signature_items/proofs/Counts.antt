@@ -1,11 +1,11 @@
 -- Counted values: the number of values that are read, and the first value with those after it.
 use Rattle.std.proofs.Common.{◌≡◌, ◌∙◌, ℕ, zero, suc, ◌-◌, ◌<◌, ◌&&◌, Bool, true, false, cond, Option, Some, None, IfSome, List, [], ◌∷◌, ◌++◌, length, drop, append-nil, refl, sym, ap, arith}
 use Rattle.std.specs.Prelude.{option_map, option_and_then, flat_map}
-use Rattle.signature_values.specs.Grammar.{count_types, count_slots}
-use Rattle.signature_values.specs.Views.{types_from, slots_from}
-use Rattle.signature_values.specs.Syntax.{Core, Typed, Slot}
-use Rattle.signature_values.specs.Reading.{Reader, change, many_at, typed_at, slot_at, params_at, core_at, head_is}
-use Rattle.signature_values.specs.Columns.{local_at}
+use Rattle.sig_grammar.specs.Grammar.{count_types, count_slots}
+use Rattle.sig_grammar.specs.Views.{types_from, slots_from}
+use Rattle.sig_grammar.specs.Syntax.{Core, Typed, Slot}
+use Rattle.sig_grammar.specs.Reading.{Reader, change, many_at, typed_at, slot_at, params_at, core_at, head_is}
+use Rattle.sig_grammar.specs.Columns.{local_at}
 use Rattle.signature_items.specs.declared.item.Item.{Item}
 use Rattle.signature_items.specs.declared.item.Item.TheVariants as item
 use Rattle.signature_items.specs.declared.place.Place.{Place}

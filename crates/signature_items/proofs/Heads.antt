@@ -3,12 +3,12 @@ use Rattle.std.proofs.Common.{◌≡◌, ◌≢◌, ◌∙◌, ℕ, ℤ, suc, �
 use Rattle.std.specs.Prelude.{flat_map, option_map, option_and_then}
 use Rattle.std.proofs.lemmas.Bool.{ne_eqb}
 use Rattle.std.proofs.lemmas.Bool.Decides.{nat_tests}
-use Rattle.schema.specs.declared.column.SigKind.{SigKind}
-use Rattle.schema.specs.declared.column.SigKind.TheVariants as column
-use Rattle.signature_values.specs.Syntax as sig
-use Rattle.signature_values.specs.Views.{slots_from}
-use Rattle.signature_values.specs.Reading.{Reader, change, both, void_or, leading_within, leading_at, modifiers_at, many_at, counted_at, counted_within, number_at, signed_at, typed_at, slot_at, ret_at, params_at, generic_at, takes_sentinel, is_method_code, method_from, method_at, core_at, shape_at, shape_with}
-use Rattle.signature_values.specs.Columns.{local_at, headed_at, property_from, body_at}
+use Rattle.table_schema.specs.declared.column.SigKind.{SigKind}
+use Rattle.table_schema.specs.declared.column.SigKind.TheVariants as column
+use Rattle.sig_grammar.specs.Syntax as sig
+use Rattle.sig_grammar.specs.Views.{slots_from}
+use Rattle.sig_grammar.specs.Reading.{Reader, change, both, void_or, leading_within, leading_at, modifiers_at, many_at, counted_at, counted_within, number_at, signed_at, typed_at, slot_at, ret_at, params_at, generic_at, takes_sentinel, is_method_code, method_from, method_at, core_at, shape_at, shape_with}
+use Rattle.sig_grammar.specs.Columns.{local_at, headed_at, property_from, body_at}
 use Rattle.signature_items.specs.declared.item.Item.{Item}
 use Rattle.signature_items.specs.declared.item.Item.TheVariants as item
 use Rattle.signature_items.specs.declared.place.Place.TheVariants as place

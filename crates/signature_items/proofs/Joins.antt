@@ -1,7 +1,7 @@
 -- Readers that return items, one after another.
 use Rattle.std.proofs.Common.{◌≡◌, ℕ, Option, Some, None, List, ◌∷◌, ◌++◌, refl, ap, append_assoc}
 use Rattle.std.specs.Prelude.{option_map, option_and_then}
-use Rattle.signature_values.specs.Reading.{Reader, change, both}
+use Rattle.sig_grammar.specs.Reading.{Reader, change, both}
 use Rattle.signature_items.specs.declared.item.Item.{Item}
 use Rattle.signature_items.specs.Places.{Told, Teller, before_told, and_tell, joined, item_then}
 

@@ -2,10 +2,10 @@
 use Rattle.std.proofs.Common.{◌≡◌, ℕ, zero, suc, ◌<◌, ◌≤◌, ◌||◌, Bool, true, false, cond, eqb, ltb, Option, Some, None, List, [], ◌∷◌, ◌++◌, length, drop, map, length-drop, refl, ap, arith, IfSome}
 use Rattle.std.specs.Prelude.{option_map, option_and_then}
 use Rattle.packed.specs.Front as front
-use Rattle.schema.specs.declared.token.Token.{Token}
-use Rattle.signature_values.specs.declared.types.Modifier.{Modifier}
-use Rattle.signature_values.specs.declared.body.Prefix.TheVariants.{Pinned}
-use Rattle.signature_values.specs.Reading.{Reader, Optional, change, both, number_at, token_of, index_at, items_then, leading_within, leading_at, modifier_at, modifier_after, prefix_of, prefix_at, starts_modifier, starts_prefix}
+use Rattle.table_schema.specs.declared.token.Token.{Token}
+use Rattle.sig_grammar.specs.declared.types.Modifier.{Modifier}
+use Rattle.sig_grammar.specs.declared.body.Prefix.TheVariants.{Pinned}
+use Rattle.sig_grammar.specs.Reading.{Reader, Optional, change, both, number_at, token_of, index_at, items_then, leading_within, leading_at, modifier_at, modifier_after, prefix_of, prefix_at, starts_modifier, starts_prefix}
 use Rattle.signature_items.specs.declared.item.Item.{Item}
 use Rattle.signature_items.specs.Places.{Teller, item_then}
 

@@ -1,9 +1,9 @@
 -- The frames of an iterator: their items, with a position before them, and the room for them.
 use Rattle.std.proofs.Common.{◌≡◌, ◌∙◌, ℕ, suc, ◌+◌, ◌<◌, ◌≤◌, true, Option, Some, None, is_some, IfSome, List, [], ◌∷◌, ◌++◌, length, append-nil, length-append, refl, sym, ap, subst, arith}
-use Rattle.schema.specs.declared.column.SigKind.{SigKind}
-use Rattle.signature_values.specs.Syntax.{Body}
-use Rattle.signature_values.specs.Reading.{core_at}
-use Rattle.signature_values.specs.Columns.{body_at}
+use Rattle.table_schema.specs.declared.column.SigKind.{SigKind}
+use Rattle.sig_grammar.specs.Syntax.{Body}
+use Rattle.sig_grammar.specs.Reading.{core_at}
+use Rattle.sig_grammar.specs.Columns.{body_at}
 use Rattle.signature_items.specs.declared.item.Item.{Item}
 use Rattle.signature_items.specs.declared.place.Place.{Place}
 use Rattle.signature_items.specs.declared.place.Place.TheVariants as place

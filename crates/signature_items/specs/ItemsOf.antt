@@ -1,10 +1,10 @@
 -- The items of a signature (ECMA-335 II.23.2), in encoded order.
 use Rattle.std.specs.Prelude.{ℕ, zero, suc, Bool, Option, Some, None, List, [], ◌∷◌, ◌++◌, length, map, flat_map}
-use Rattle.signature_values.specs.declared.types.Modifier.{Modifier}
-use Rattle.signature_values.specs.declared.body.Prefix.{Prefix}
-use Rattle.signature_values.specs.declared.body.Prefix.TheVariants.{Mod, Pinned}
-use Rattle.signature_values.specs.Grammar.{count_types, count_slots}
-use Rattle.signature_values.specs.Syntax.{Core, simple, void_pointer, pointer, vector, array, class, value, var, mvar, instance, function, Typed, typed, Types, no_types, type_then, Content, typed_ref, plain, by_ref, Slot, slot, Slots, no_slots, slot_then, Ret, some_ret, void_ret, Method, method, ArrayShape, LocalVariable, local, Body, field, method_body, property, locals, instance_body, type_spec}
+use Rattle.sig_grammar.specs.declared.types.Modifier.{Modifier}
+use Rattle.sig_grammar.specs.declared.body.Prefix.{Prefix}
+use Rattle.sig_grammar.specs.declared.body.Prefix.TheVariants.{Mod, Pinned}
+use Rattle.sig_grammar.specs.Grammar.{count_types, count_slots}
+use Rattle.sig_grammar.specs.Syntax.{Core, simple, void_pointer, pointer, vector, array, class, value, var, mvar, instance, function, Typed, typed, Types, no_types, type_then, Content, typed_ref, plain, by_ref, Slot, slot, Slots, no_slots, slot_then, Ret, some_ret, void_ret, Method, method, ArrayShape, LocalVariable, local, Body, field, method_body, property, locals, instance_body, type_spec}
 use Rattle.signature_items.specs.declared.item.Item.{Item}
 use Rattle.signature_items.specs.declared.item.Item.TheVariants as item
 

@@ -1,11 +1,11 @@
 -- The remainder of a signature after some of its items, and its own items. Private functions compute this.
 use Rattle.std.specs.Prelude.{ℕ, ℤ, suc, Bool, Option, Some, None, option_map, option_and_then, List, [], ◌∷◌, ◌++◌, map, flat_map, length, ⊤, true}
-use Rattle.signature_values.specs.declared.types.Modifier.{Modifier}
-use Rattle.signature_values.specs.Syntax.{Core, Slot, field, locals, instance_body}
-use Rattle.signature_values.specs.ElementTypes.{SENTINEL}
-use Rattle.signature_values.specs.Views.{slots_from}
-use Rattle.signature_values.specs.Reading.{Reader, change, both, behind, fail, number_at, signed_at, many_at, counted_at, counted_within, typed_at, target_at, content_at, slot_at, ret_at, shape_at, params_at, method_at, instance_from, instance_at, core_by, core_at}
-use Rattle.signature_values.specs.Columns.{local_at, headed_at, property_from, body_at}
+use Rattle.sig_grammar.specs.declared.types.Modifier.{Modifier}
+use Rattle.sig_grammar.specs.Syntax.{Core, Slot, field, locals, instance_body}
+use Rattle.sig_grammar.specs.ElementTypes.{SENTINEL}
+use Rattle.sig_grammar.specs.Views.{slots_from}
+use Rattle.sig_grammar.specs.Reading.{Reader, change, both, behind, fail, number_at, signed_at, many_at, counted_at, counted_within, typed_at, target_at, content_at, slot_at, ret_at, shape_at, params_at, method_at, instance_from, instance_at, core_by, core_at}
+use Rattle.sig_grammar.specs.Columns.{local_at, headed_at, property_from, body_at}
 use Rattle.signature_items.specs.ItemsOf.{modifiers_items, core_items, typed_items, content_items, slot_items, slots_items, ret_items, local_items, shape_items, method_items, items_of}
 use Rattle.signature_items.specs.declared.item.Item.{Item}
 use Rattle.signature_items.specs.declared.item.Item.TheVariants as item

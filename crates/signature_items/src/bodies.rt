@@ -8,8 +8,8 @@ use crate::methods::{method, params};
 use crate::place::Place;
 use crate::step::Step;
 use crate::types::{ret, types, variables};
-use schema::SigKind;
 use signature_leaves::{byte, number};
+use table_schema::SigKind;
 
 /// The greatest depth to which types may nest.
 pub const DEPTH: u8 = 128;

@@ -1,5 +1,5 @@
-use schema::Token;
-use signature_values::{Element, Modifier};
+use sig_grammar::{Element, Modifier};
+use table_schema::Token;
 
 /// The head of a method (II.23.2.1 to II.23.2.3): what precedes its result and its parameters.
 #[derive(Clone, Copy, Debug, PartialEq, Eq)]

@@ -1,6 +1,6 @@
 ghost use Rattle.std.specs.Prelude.{◌≡◌, IfSome, IsSomeAnd};
-ghost use Rattle.signature_values.specs.Syntax.{Body};
-ghost use Rattle.signature_values.specs.Spells.{Spells};
+ghost use Rattle.sig_grammar.specs.Syntax.{Body};
+ghost use Rattle.sig_grammar.specs.Spells.{Spells};
 ghost use Rattle.signature_items.specs.ItemsOf.{items_of};
 ghost use Rattle.signature_items.specs.Places.{place_at, place_depth};
 ghost use Rattle.signature_items.specs.Steps.{told, IsWithin};
@@ -15,9 +15,9 @@ use crate::shape::{low_bound, low_count, shape, size};
 use crate::step::Step;
 use crate::types::{local, marked, ret, slot, target, typed};
 use recogniser::recognise;
-use schema::SigKind;
 use signature_values::signatures_are_read;
 use std::marker::Model;
+use table_schema::SigKind;
 
 /// The first item at a position.
 #[tactic(auto, using(crate::proofs::Heads::place_method))]

@@ -24,4 +24,4 @@ mod types;
 
 pub use item::{Item, MethodHead};
 pub use items::Items;
-pub use schema::{SigKind, Token};
+pub use table_schema::{SigKind, Token};

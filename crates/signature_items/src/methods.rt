@@ -1,15 +1,15 @@
 ghost use Rattle.std.specs.Prelude.{◌≡◌, ◌&&◌, ◌/◌, ◌%◌, ◌==◌, ℕ, suc, List, None, IfSome, option_map};
-ghost use Rattle.signature_values.specs.Reading.{generic_at, takes_sentinel as kind_takes_sentinel};
+ghost use Rattle.sig_grammar.specs.Reading.{generic_at, takes_sentinel as kind_takes_sentinel};
 ghost use Rattle.signature_items.specs.Places.{next_at, params_told, method_told, frame_depth};
 ghost use Rattle.signature_items.specs.Steps.{told, IsWithin};
 
 use crate::item::{Item, MethodHead};
 use crate::place::{Frame, Place};
 use crate::step::Step;
-use signature_leaves::{byte, number};
-use signature_values::method_byte::{
+use sig_grammar::method_byte::{
     begins_method, calling_convention, has_explicit_this, has_this, is_generic, may_have_sentinel,
 };
+use signature_leaves::{byte, number};
 
 /// The frame of `count` parameters, with SENTINEL before one of them if it is allowed.
 #[tactic(auto, using(crate::proofs::Counts::params_zero, crate::proofs::Counts::params_more))]
@@ -28,7 +28,7 @@ pub fn params(count: u32, allowed: bool, depth: u8) -> Option<Frame>
 }
 
 /// The number of generic parameters, if the first byte of the method says that the method is generic.
-#[tactic(auto, unfolding(signature_values::specs::Reading::generic_at))]
+#[tactic(auto, unfolding(sig_grammar::specs::Reading::generic_at))]
 fn generic(bytes: &[u8], code: u8) -> Option<(Option<u32>, &[u8])>
     ensures { option_map (λ x. (x.0, x.1.now)) result ≡ generic_at (code / 16 % 2 == 1) bytes.now }
 {

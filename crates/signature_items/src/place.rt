@@ -1,4 +1,4 @@
-use schema::SigKind;
+use table_schema::SigKind;
 
 /// What the remainder of a signature starts with. The types in it nest at most `depth` deep.
 #[derive(Clone, Copy)]

@@ -1,5 +1,5 @@
 ghost use Rattle.std.specs.Prelude.{◌≡◌, ◌<◌, ◌≤◌, ℕ, suc, true, List, None, IfSome};
-ghost use Rattle.signature_values.specs.Reading.{starts_modifier};
+ghost use Rattle.sig_grammar.specs.Reading.{starts_modifier};
 ghost use Rattle.signature_items.specs.declared.place.Place.TheVariants as place;
 ghost use Rattle.signature_items.specs.ItemsOf.{prefix_item as item_of_prefix};
 ghost use Rattle.signature_items.specs.Places.{item_then, place_at, next_at, core_told, code_told, instance_told, content_told, types_told, locals_told, place_depth, frame_depth, IsLed};
@@ -8,12 +8,12 @@ ghost use Rattle.signature_items.specs.Steps.{told, IsWithin};
 use crate::item::Item;
 use crate::place::{Frame, Place};
 use crate::step::Step;
-use signature_leaves::{byte, has_modifier, has_prefix, index, modifier, number, prefix};
-use signature_values::element_type::{
+use sig_grammar::element_type::{
     ARRAY, BYREF, CLASS, FNPTR, GENERICINST, MVAR, PTR, SENTINEL, SZARRAY, TYPEDBYREF, VALUETYPE,
     VAR, VOID,
 };
-use signature_values::{Element, Prefix};
+use sig_grammar::{Element, Prefix};
+use signature_leaves::{byte, has_modifier, has_prefix, index, modifier, number, prefix};
 
 /// The frame of `count` types; `None` if there are none.
 #[tactic(auto, using(crate::proofs::Counts::types_zero, crate::proofs::Counts::types_more))]

@@ -2,10 +2,10 @@
 use Rattle.std.proofs.Common.{◌≡◌, ◌≢◌, ℕ, Bool, true, false, cond, eqb, ◌||◌, Some, None, List, ◌∷◌, refl, subst}
 use Rattle.std.specs.Prelude.{option_map}
 use Rattle.std.proofs.lemmas.Bool.{ne_eqb}
-use Rattle.schema.specs.declared.token.Token.{Token}
-use Rattle.signature_values.specs.declared.types.Modifier.{Modifier}
-use Rattle.signature_values.specs.declared.body.Prefix.TheVariants.{Mod, Pinned}
-use Rattle.signature_values.specs.Reading.{index_at, modifier_at, modifier_after, starts_modifier, prefix_of, prefix_at, starts_prefix}
+use Rattle.table_schema.specs.declared.token.Token.{Token}
+use Rattle.sig_grammar.specs.declared.types.Modifier.{Modifier}
+use Rattle.sig_grammar.specs.declared.body.Prefix.TheVariants.{Mod, Pinned}
+use Rattle.sig_grammar.specs.Reading.{index_at, modifier_at, modifier_after, starts_modifier, prefix_of, prefix_at, starts_prefix}
 
 modifier_is : (c : ℕ) (b rest : List ℕ) → starts_modifier b ≡ true → b ≡ c ∷ rest → modifier_at b ≡ modifier_after (eqb c 0x1F) rest
 unfolding modifier_at

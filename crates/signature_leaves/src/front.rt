@@ -1,11 +1,11 @@
 ghost use Rattle.std.specs.Prelude.{◌≡◌, ◌∷◌, [], ◌&&◌, MatchOption, option_map, if◌then◌else◌, drop};
-ghost use Rattle.signature_values.specs.ElementTypes as code;
-ghost use Rattle.signature_values.specs.Reading.{number_at, signed_at, index_at, head_is};
+ghost use Rattle.sig_grammar.specs.ElementTypes as code;
+ghost use Rattle.sig_grammar.specs.Reading.{number_at, signed_at, index_at, head_is};
 
 use packed::{read_signed, read_unsigned};
-use schema::Token;
-use signature_values::element_type::SENTINEL;
-use signature_values::token_of_index;
+use sig_grammar::element_type::SENTINEL;
+use sig_grammar::token_of_index;
+use table_schema::Token;
 
 /// The first byte, and the remaining bytes; `None` if the slice is empty.
 pub fn byte(bytes: &[u8]) -> Option<(u8, &[u8])>
@@ -17,7 +17,7 @@ pub fn byte(bytes: &[u8]) -> Option<(u8, &[u8])>
 
 /// The packed number at the start (II.23.2), and the remaining bytes. `None` if the bytes end within it,
 /// or if the first byte is 0xE0 or more.
-#[tactic(auto, unfolding(signature_values::specs::Reading::number_at))]
+#[tactic(auto, unfolding(sig_grammar::specs::Reading::number_at))]
 pub fn number(bytes: &[u8]) -> Option<(u32, &[u8])>
     ensures { option_map (λ x. (x.0, x.1.now)) result ≡ number_at bytes.now }
 {
@@ -27,7 +27,7 @@ pub fn number(bytes: &[u8]) -> Option<(u32, &[u8])>
 }
 
 /// The packed signed number at the start (II.23.2), and the remaining bytes; `None` as for [`number`].
-#[tactic(auto, unfolding(signature_values::specs::Reading::signed_at))]
+#[tactic(auto, unfolding(sig_grammar::specs::Reading::signed_at))]
 pub fn signed(bytes: &[u8]) -> Option<(i32, &[u8])>
     ensures { option_map (λ x. (x.0, x.1.now)) result ≡ signed_at bytes.now }
 {
@@ -38,7 +38,7 @@ pub fn signed(bytes: &[u8]) -> Option<(i32, &[u8])>
 
 /// The token of the type index at the start (II.23.2.8), and the remaining bytes. `None` if there is no
 /// number, or if its tag names no table. The token's row need not exist.
-#[tactic(auto, unfolding(signature_values::specs::Reading::index_at))]
+#[tactic(auto, unfolding(sig_grammar::specs::Reading::index_at))]
 pub fn index(bytes: &[u8]) -> Option<(Token, &[u8])>
     ensures { option_map (λ x. (x.0, x.1.now)) result ≡ index_at bytes.now }
 {

@@ -1,9 +1,9 @@
 ghost use Rattle.std.specs.Prelude.{◌≡◌, true, Some, option_map};
-ghost use Rattle.signature_values.specs.Reading.{starts_modifier, modifier_at, starts_prefix, prefix_at};
+ghost use Rattle.sig_grammar.specs.Reading.{starts_modifier, modifier_at, starts_prefix, prefix_at};
 
 use crate::front::{byte, index};
-use signature_values::element_type::{CMOD_OPT, CMOD_REQD, PINNED};
-use signature_values::{Modifier, Prefix};
+use sig_grammar::element_type::{CMOD_OPT, CMOD_REQD, PINNED};
+use sig_grammar::{Modifier, Prefix};
 
 /// Whether the bytes start with a custom modifier (II.23.2.7).
 pub fn has_modifier(bytes: &[u8]) -> bool

@@ -1,4 +1,4 @@
-use schema::{TableId, Token};
+use table_schema::{TableId, Token};
 
 /// The first byte, and the remaining bytes. If the bytes were recognised, there is one.
 pub fn byte(bytes: &[u8]) -> (u8, &[u8]) {

@@ -21,6 +21,6 @@ mod types;
 mod whole;
 
 pub use named::{NamedText, TokenNames};
-pub use schema::{SigKind, Token};
 pub use sink::TextSink;
+pub use table_schema::{SigKind, Token};
 pub use whole::write_signature;

@@ -2,8 +2,8 @@ ghost use Rattle.std.specs.Prelude.{◌≡◌};
 ghost use Rattle.signature_text.specs.Refused.{refused_after};
 
 use crate::sink::TextSink;
+use sig_grammar::{Modifier, Prefix};
 use signature_leaves::{has_prefix, prefix};
-use signature_values::{Modifier, Prefix};
 
 /// The bytes after a modifier or PINNED at the start; `None` if there is none.
 fn behind_one(bytes: &[u8]) -> Option<&[u8]> {

@@ -2,8 +2,8 @@ ghost use Rattle.std.specs.Prelude.{◌≡◌, false};
 ghost use Rattle.signature_text.specs.Refused.{refused_after};
 
 use crate::sink::TextSink;
-use schema::Token;
 use std::fmt;
+use table_schema::Token;
 
 /// Writes the names of rows.
 pub trait TokenNames {

@@ -1,7 +1,7 @@
 ghost use Rattle.std.specs.Prelude.{◌≡◌, Bool};
 ghost use Rattle.signature_text.specs.Refused.{refused_after};
 
-use schema::Token;
+use table_schema::Token;
 
 /// Takes the words of a text, one after another, until it refuses one.
 ///

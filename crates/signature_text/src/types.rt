@@ -5,11 +5,11 @@ use crate::front::{byte, index, number, sentinel};
 use crate::marks::{behind_all, marks};
 use crate::shape::shape;
 use crate::sink::TextSink;
-use signature_values::Element;
-use signature_values::element_type::{
+use sig_grammar::Element;
+use sig_grammar::element_type::{
     ARRAY, BYREF, CLASS, FNPTR, GENERICINST, MVAR, PTR, SZARRAY, TYPEDBYREF, VALUETYPE, VAR, VOID,
 };
-use signature_values::method_byte::{calling_convention, has_explicit_this, has_this, is_generic};
+use sig_grammar::method_byte::{calling_convention, has_explicit_this, has_this, is_generic};
 
 /// The name of a type that is encoded as one byte (II.7.1).
 fn element_name(element: Element) -> &'static str {

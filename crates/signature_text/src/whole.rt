@@ -1,13 +1,13 @@
 ghost use Rattle.std.specs.Prelude.{◌≡◌};
-ghost use Rattle.signature_values.specs.Syntax.{Body};
-ghost use Rattle.signature_values.specs.Spells.{Spells};
+ghost use Rattle.sig_grammar.specs.Syntax.{Body};
+ghost use Rattle.sig_grammar.specs.Spells.{Spells};
 ghost use Rattle.signature_text.specs.Refused.{refused_after};
 
 use crate::front::{byte, number};
 use crate::sink::TextSink;
 use crate::types::{listed, method, slot};
 use recogniser::recognise;
-use schema::SigKind;
+use table_schema::SigKind;
 
 /// The greatest depth to which types may nest.
 const DEPTH: u8 = 128;

@@ -3,17 +3,18 @@ use Rattle.std.proofs.Common.{◌≡◌, ◌≢◌, ◌⊎◌, inl, inr, ℕ, �
 use Rattle.std.specs.Prelude.{option_map}
 use Rattle.std.specs.List.{AllByRecursion}
 use Rattle.std.proofs.lemmas.Bool.{eqb-true, eq-eqb, ne_eqb}
-use Rattle.signature_values.specs.declared.body.Prefix.{Prefix}
-use Rattle.schema.specs.declared.column.SigKind.{SigKind}
-use Rattle.schema.specs.declared.column.SigKind.TheVariants as column
-use Rattle.signature_values.specs.Syntax.{Core, Content, Slot, Typed, Method, method, Ret, LocalVariable, local, Body, field, method_body, property, locals, instance_body, type_spec}
-use Rattle.signature_values.specs.Parts.{Part, byte, number}
-use Rattle.signature_values.specs.Grammar.{list_parts, core_parts, typed_parts, content_parts, slot_parts, ret_parts, method_parts, method_code, prefixes_parts, prefix_parts, local_parts, body_parts}
-use Rattle.signature_values.specs.Limits.{IsMethod, IsMethodKind, IsLocalWithin, IsBodyWithin, IsCoreWithin, IsTypedWithin, IsContentWithin, IsSlotWithin, IsRetWithin}
-use Rattle.signature_values.specs.Spells.{Holds}
-use Rattle.signature_values.specs.Reading.{Reader, change, both, behind, fail, number_at, many_at, counted_at, prefix_at, prefixes_at, typed_at, content_at, slot_at, ret_at, method_at}
-use Rattle.signature_values.specs.Columns.{local_from, local_at, headed_at, property_from, method_or, field_or, property_or, body_at}
-use Rattle.signature_values.proofs.Readers.{IsBytes, Front, Front-append, Front-split, Takes, Reads, IfSome-bind, IfSome-map, IfSome-cond, front_byte, behind_byte, change_reads}
+use Rattle.sig_grammar.specs.declared.body.Prefix.{Prefix}
+use Rattle.table_schema.specs.declared.column.SigKind.{SigKind}
+use Rattle.table_schema.specs.declared.column.SigKind.TheVariants as column
+use Rattle.sig_grammar.specs.Syntax.{Core, Content, Slot, Typed, Method, method, Ret, LocalVariable, local, Body, field, method_body, property, locals, instance_body, type_spec}
+use Rattle.sig_grammar.specs.Parts.{Part, byte, number}
+use Rattle.sig_grammar.specs.Grammar.{list_parts, core_parts, typed_parts, content_parts, slot_parts, ret_parts, method_parts, method_code, prefixes_parts, prefix_parts, local_parts, body_parts}
+use Rattle.sig_grammar.specs.Limits.{IsMethod, IsMethodKind, IsLocalWithin, IsBodyWithin, IsCoreWithin, IsTypedWithin, IsContentWithin, IsSlotWithin, IsRetWithin}
+use Rattle.sig_grammar.specs.Spells.{Holds}
+use Rattle.sig_grammar.specs.Reading.{Reader, change, both, behind, fail, number_at, many_at, counted_at, prefix_at, prefixes_at, typed_at, content_at, slot_at, ret_at, method_at}
+use Rattle.sig_grammar.specs.Columns.{local_from, local_at, headed_at, property_from, method_or, field_or, property_or, body_at}
+use Rattle.signature_values.proofs.Readers.{IsBytes, Front, Front-append, Front-split, Takes, Reads, front_byte, behind_byte, change_reads}
+use Rattle.sig_grammar.proofs.OptionLemmas.{IfSome-bind, IfSome-map, IfSome-cond}
 use Rattle.signature_values.proofs.Numbers.{NumbersAreRead, Any, number_parts, number_reads}
 use Rattle.signature_values.proofs.Lists.{many_found, many_only, counted_parts, counted_reads, TakesMany}
 use Rattle.signature_values.proofs.Leading.{heads, begins-heads, no_prefix, prefix_leads, led_reads}

@@ -1,13 +1,13 @@
 -- The first byte of each value.
 use Rattle.std.proofs.Common.{◌≡◌, ℕ, Bool, true, false, cond, eqb, not, Option, Some, None, List, [], ◌∷◌, refl, sym, ◌∙◌, IfSome}
 use Rattle.std.proofs.lemmas.Bool.{eqb-true}
-use Rattle.signature_values.specs.declared.element.Element.{Element}
-use Rattle.signature_values.specs.declared.element.Element.TheVariants.{Boolean, Char, I1, U1, I2, U2, I4, U4, I8, U8, R4, R8, String, I, U, Object}
-use Rattle.signature_values.specs.Syntax.{Core, simple, Content, typed_ref, plain, by_ref, Slot, slot}
-use Rattle.signature_values.specs.ElementTypes.{element_code}
-use Rattle.signature_values.specs.Grammar.{core_parts, content_parts, slot_parts}
-use Rattle.signature_values.specs.Reading.{Reader, element_of, pick, behind, head_is}
-use Rattle.signature_values.proofs.Readers.{IfSome-cond}
+use Rattle.sig_grammar.specs.declared.element.Element.{Element}
+use Rattle.sig_grammar.specs.declared.element.Element.TheVariants.{Boolean, Char, I1, U1, I2, U2, I4, U4, I8, U8, R4, R8, String, I, U, Object}
+use Rattle.sig_grammar.specs.Syntax.{Core, simple, Content, typed_ref, plain, by_ref, Slot, slot}
+use Rattle.sig_grammar.specs.ElementTypes.{element_code}
+use Rattle.sig_grammar.specs.Grammar.{core_parts, content_parts, slot_parts}
+use Rattle.sig_grammar.specs.Reading.{Reader, element_of, pick, behind, head_is}
+use Rattle.sig_grammar.proofs.OptionLemmas.{IfSome-cond}
 use Rattle.signature_values.proofs.Leading.{begins, heads, no_modifier, no_prefix}
 
 abbrev HasCode : ℕ → Element → Type 0

@@ -2,14 +2,15 @@
 use Rattle.std.proofs.Common.{◌≡◌, ℕ, ◌≤◌, true, eqb, Option, Some, None, List, [], ◌∷◌, ◌++◌, refl, ap, ◌∙◌, IfSome}
 use Rattle.std.specs.Prelude.{⊤}
 use Rattle.std.proofs.lemmas.Bool.{eqb-true}
-use Rattle.signature_values.specs.declared.types.Modifier.{Modifier}
-use Rattle.signature_values.specs.Syntax.{Core, Typed, typed, Content, typed_ref, plain, by_ref, Slot, slot, Ret, some_ret, void_ret}
-use Rattle.signature_values.specs.Parts.{Part, byte}
-use Rattle.signature_values.specs.Grammar.{core_parts, typed_parts, content_parts, slot_parts, ret_parts, modifier_parts, modifiers_parts}
-use Rattle.signature_values.specs.Limits.{IsCoreWithin, IsTypedWithin, IsContentWithin, IsSlotWithin, IsRetWithin}
-use Rattle.signature_values.specs.Reading.{Reader, change, both, behind, modifier_at, modifiers_at, typed_at, void_or, target_at, content_at, slot_at, ret_at, ret_from}
+use Rattle.sig_grammar.specs.declared.types.Modifier.{Modifier}
+use Rattle.sig_grammar.specs.Syntax.{Core, Typed, typed, Content, typed_ref, plain, by_ref, Slot, slot, Ret, some_ret, void_ret}
+use Rattle.sig_grammar.specs.Parts.{Part, byte}
+use Rattle.sig_grammar.specs.Grammar.{core_parts, typed_parts, content_parts, slot_parts, ret_parts, modifier_parts, modifiers_parts}
+use Rattle.sig_grammar.specs.Limits.{IsCoreWithin, IsTypedWithin, IsContentWithin, IsSlotWithin, IsRetWithin}
+use Rattle.sig_grammar.specs.Reading.{Reader, change, both, behind, modifier_at, modifiers_at, typed_at, void_or, target_at, content_at, slot_at, ret_at, ret_from}
 use Rattle.signature_values.proofs.Numbers.{NumbersAreRead}
-use Rattle.signature_values.proofs.Readers.{IsBytes, Front, Takes, Reads, IfSome-map, IfSome-cond, front_byte, behind_byte, change_reads}
+use Rattle.signature_values.proofs.Readers.{IsBytes, Front, Takes, Reads, front_byte, behind_byte, change_reads}
+use Rattle.sig_grammar.proofs.OptionLemmas.{IfSome-map, IfSome-cond}
 use Rattle.signature_values.proofs.Leading.{heads, begins-heads, no_modifier, modifier_leads, led_reads}
 use Rattle.signature_values.proofs.Codes.{no, core_no_modifier, core_no_void, core_no_ref, core_no_by_ref, content_no_modifier, content_no_void, behind_other}
 

@@ -4,21 +4,22 @@ use Rattle.std.specs.Prelude.{ℤ}
 use Rattle.std.specs.List.{AllByRecursion}
 use Rattle.std.proofs.lemmas.Bool.{eqb-true, eqb-false}
 use Rattle.std.proofs.Math.Dec.{eqb-suc-zero}
-use Rattle.schema.specs.declared.token.Token.{Token}
-use Rattle.signature_values.specs.declared.element.Element.{Element}
-use Rattle.signature_values.specs.declared.types.Modifier.{Modifier}
-use Rattle.signature_values.specs.Syntax.{Core, simple, void_pointer, pointer, vector, array, class, value, var, mvar, instance, function, Typed, Types, no_types, type_then, ArrayShape, Method, method, Content, typed_ref, plain, by_ref, slot, Ret, some_ret, void_ret}
-use Rattle.signature_values.specs.Views.{types_from}
-use Rattle.signature_values.specs.ElementTypes.{element_code}
-use Rattle.signature_values.specs.Parts.{Part, byte, number, index}
-use Rattle.signature_values.specs.Grammar.{named_code, core_parts, typed_parts, types_parts, shape_parts, method_parts, count_types}
-use Rattle.signature_values.specs.Limits.{core_depth, types_depth, content_depth, ret_depth, method_depth, IsCore, AreTypes, IsArrayShape, IsCoreWithin, IsTypedWithin}
-use Rattle.signature_values.specs.Reading.{Reader, change, both, deep, number_at, signed_at, index_at, typed_at, target_at, pointer_to, named_at, instance_at, instance_from, counted_at, counted_within, shape_at, shape_from, shape_with, array_at, array_from, method_at, core_by, core_or, core_at, element_of}
-use Rattle.signature_values.proofs.Readers.{IsBytes, Front, Front-append, Front-split, Takes, Reads, IfSome-bind, IfSome-map, IfSome-cond, front_byte, behind_byte}
+use Rattle.table_schema.specs.declared.token.Token.{Token}
+use Rattle.sig_grammar.specs.declared.element.Element.{Element}
+use Rattle.sig_grammar.specs.declared.types.Modifier.{Modifier}
+use Rattle.sig_grammar.specs.Syntax.{Core, simple, void_pointer, pointer, vector, array, class, value, var, mvar, instance, function, Typed, Types, no_types, type_then, ArrayShape, Method, method, Content, typed_ref, plain, by_ref, slot, Ret, some_ret, void_ret}
+use Rattle.sig_grammar.specs.Views.{types_from}
+use Rattle.sig_grammar.specs.ElementTypes.{element_code}
+use Rattle.sig_grammar.specs.Parts.{Part, byte, number, index}
+use Rattle.sig_grammar.specs.Grammar.{named_code, core_parts, typed_parts, types_parts, shape_parts, method_parts, count_types}
+use Rattle.sig_grammar.specs.Limits.{core_depth, types_depth, content_depth, ret_depth, method_depth, IsCore, AreTypes, IsArrayShape, IsCoreWithin, IsTypedWithin}
+use Rattle.sig_grammar.specs.Reading.{Reader, change, both, deep, number_at, signed_at, index_at, typed_at, target_at, pointer_to, named_at, instance_at, instance_from, counted_at, counted_within, shape_at, shape_from, shape_with, array_at, array_from, method_at, core_by, core_or, core_at, element_of}
+use Rattle.signature_values.proofs.Readers.{IsBytes, Front, Front-append, Front-split, Takes, Reads, front_byte, behind_byte}
+use Rattle.sig_grammar.proofs.OptionLemmas.{IfSome-bind, IfSome-map, IfSome-cond}
 use Rattle.signature_values.proofs.Numbers.{NumbersAreRead, Any, number_parts, number_reads, index_parts, index_reads}
 use Rattle.signature_values.proofs.Lists.{both_reads, counted_reads, counted_parts, within_reads, AtMost}
 use Rattle.signature_values.proofs.Numbers.{signed_parts, signed_reads}
-use Rattle.signature_values.proofs.FromLists.{count-types_from, parts-types_from, types_good}
+use Rattle.sig_grammar.proofs.FromLists.{count-types_from, parts-types_from, types_good}
 use Rattle.signature_values.proofs.Codes.{element_found, element_again}
 use Rattle.signature_values.proofs.Contents.{typed_reads, target_reads, target_parts, TargetGood}
 use Rattle.signature_values.proofs.Methods.{method_reads, IsMethodOf}

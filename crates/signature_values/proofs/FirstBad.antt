@@ -3,9 +3,9 @@ use Rattle.std.proofs.Common.{◌≡◌, ℕ, ◌↔◌, true, false, ltb, leb, 
 use Rattle.std.specs.Prelude.{slice_index}
 use Rattle.std.specs.List.{AllByRecursion}
 use Rattle.std.proofs.lemmas.Bool.{and_parts, cases_Bool, ltb-true, leb-true, lt-ltb, le-leb}
-use Rattle.schema.specs.declared.token.Token.{Token}
-use Rattle.schema.specs.Tables.{table_number}
-use Rattle.signature_values.specs.Spells.{HasRow, has_row, first_bad}
+use Rattle.table_schema.specs.declared.token.Token.{Token}
+use Rattle.table_schema.specs.Tables.{table_number}
+use Rattle.sig_grammar.specs.Spells.{HasRow, has_row, first_bad}
 
 module _ (counts : List ℕ) where
   tested : (token : Token) → has_row counts token ≡ true → HasRow counts token

@@ -2,14 +2,15 @@
 use Rattle.std.proofs.Common.{◌≡◌, ℕ, zero, suc, ◌<◌, ◌≤◌, Bool, true, false, cond, eqb, not, ◌||◌, ◌&&◌, Option, Some, None, List, [], ◌∷◌, ◌++◌, length, refl, ap, subst, arith, IfSome, length-append}
 use Rattle.std.specs.Prelude.{option_map}
 use Rattle.std.proofs.lemmas.Bool.{eqb-true}
-use Rattle.schema.specs.declared.token.Token.{Token}
-use Rattle.signature_values.specs.declared.types.Modifier.{Modifier}
-use Rattle.signature_values.specs.declared.body.Prefix.{Prefix}
-use Rattle.signature_values.specs.declared.body.Prefix.TheVariants.{Mod, Pinned}
-use Rattle.signature_values.specs.Parts.{Part, byte, number, signed, index}
-use Rattle.signature_values.specs.Grammar.{list_parts, modifier_parts, prefix_parts}
-use Rattle.signature_values.specs.Reading.{Reader, Optional, items_then, leading_within, leading_at, index_at, modifier_after, modifier_at, prefix_of, prefix_at, both}
-use Rattle.signature_values.proofs.Readers.{IsBytes, Front, Front-append, Front-split, Takes, Reads, IfSome-bind, IfSome-map, IfSome-cond}
+use Rattle.table_schema.specs.declared.token.Token.{Token}
+use Rattle.sig_grammar.specs.declared.types.Modifier.{Modifier}
+use Rattle.sig_grammar.specs.declared.body.Prefix.{Prefix}
+use Rattle.sig_grammar.specs.declared.body.Prefix.TheVariants.{Mod, Pinned}
+use Rattle.sig_grammar.specs.Parts.{Part, byte, number, signed, index}
+use Rattle.sig_grammar.specs.Grammar.{list_parts, modifier_parts, prefix_parts}
+use Rattle.sig_grammar.specs.Reading.{Reader, Optional, items_then, leading_within, leading_at, index_at, modifier_after, modifier_at, prefix_of, prefix_at, both}
+use Rattle.signature_values.proofs.Readers.{IsBytes, Front, Front-append, Front-split, Takes, Reads}
+use Rattle.sig_grammar.proofs.OptionLemmas.{IfSome-bind, IfSome-map, IfSome-cond}
 use Rattle.signature_values.proofs.Numbers.{NumbersAreRead, Any, index_parts, index_reads}
 
 -- the first byte passes the test

@@ -3,10 +3,11 @@ use Rattle.std.proofs.Common.{◌≡◌, ℕ, zero, suc, ◌≤◌, cond, ltb, O
 use Rattle.std.specs.Prelude.{option_map}
 use Rattle.std.specs.List.{AllByRecursion}
 use Rattle.std.proofs.lemmas.Bool.{ltb-false, le-ltb}
-use Rattle.signature_values.specs.Parts.{Part, number}
-use Rattle.signature_values.specs.Grammar.{list_parts}
-use Rattle.signature_values.specs.Reading.{Reader, number_at, both, many_at, counted_at, counted_within}
-use Rattle.signature_values.proofs.Readers.{IsBytes, Front, Front-append, Front-split, Takes, Reads, IfSome-bind, IfSome-map, IfSome-cond}
+use Rattle.sig_grammar.specs.Parts.{Part, number}
+use Rattle.sig_grammar.specs.Grammar.{list_parts}
+use Rattle.sig_grammar.specs.Reading.{Reader, number_at, both, many_at, counted_at, counted_within}
+use Rattle.signature_values.proofs.Readers.{IsBytes, Front, Front-append, Front-split, Takes, Reads}
+use Rattle.sig_grammar.proofs.OptionLemmas.{IfSome-bind, IfSome-map, IfSome-cond}
 use Rattle.signature_values.proofs.Numbers.{NumbersAreRead, Any, number_parts, number_reads}
 
 module _ {A B : Type 0} (r : Reader A) (q : Reader B) (parts : A → List Part) (more : B → List Part) (Good : A → Type 0) (Fine : B → Type 0)

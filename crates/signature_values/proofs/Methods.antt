@@ -3,16 +3,17 @@ use Rattle.std.proofs.Common.{◌≡◌, ℕ, zero, suc, ◌+◌, ◌*◌, ◌/�
 use Rattle.std.specs.Prelude.{⊤, option_map, option_and_then}
 use Rattle.std.specs.List.{AllByRecursion}
 use Rattle.std.proofs.lemmas.Bool.{eqb-true, ltb-true, lt-ltb, and_parts, or_cases}
-use Rattle.signature_values.specs.Syntax.{Core, Slot, Slots, no_slots, slot_then, Ret, Method, method}
-use Rattle.signature_values.specs.Views.{slots_from}
-use Rattle.signature_values.specs.Parts.{Part, number}
-use Rattle.signature_values.specs.Grammar.{core_parts, slot_parts, slots_parts, ret_parts, method_parts, generic_parts, method_code, flag, count_slots}
-use Rattle.signature_values.specs.Limits.{slots_depth, method_depth, AreSlots, IsMethod, IsMethodKind, IsSentinel, HasOwnSentinel, IsCoreWithin, IsSlotWithin, IsRetWithin}
-use Rattle.signature_values.specs.Reading.{Reader, number_at, head_is, slot_at, ret_at, params_at, generic_at, takes_sentinel, is_method_code, method_from, method_at}
-use Rattle.signature_values.proofs.Readers.{IsBytes, Front, Front-append, Front-split, Takes, Reads, IfSome-bind, IfSome-map, IfSome-cond, front_byte, behind_byte}
+use Rattle.sig_grammar.specs.Syntax.{Core, Slot, Slots, no_slots, slot_then, Ret, Method, method}
+use Rattle.sig_grammar.specs.Views.{slots_from}
+use Rattle.sig_grammar.specs.Parts.{Part, number}
+use Rattle.sig_grammar.specs.Grammar.{core_parts, slot_parts, slots_parts, ret_parts, method_parts, generic_parts, method_code, flag, count_slots}
+use Rattle.sig_grammar.specs.Limits.{slots_depth, method_depth, AreSlots, IsMethod, IsMethodKind, IsSentinel, HasOwnSentinel, IsCoreWithin, IsSlotWithin, IsRetWithin}
+use Rattle.sig_grammar.specs.Reading.{Reader, number_at, head_is, slot_at, ret_at, params_at, generic_at, takes_sentinel, is_method_code, method_from, method_at}
+use Rattle.signature_values.proofs.Readers.{IsBytes, Front, Front-append, Front-split, Takes, Reads, front_byte, behind_byte}
+use Rattle.sig_grammar.proofs.OptionLemmas.{IfSome-bind, IfSome-map, IfSome-cond}
 use Rattle.signature_values.proofs.Numbers.{NumbersAreRead, Any, number_parts, number_reads}
 use Rattle.signature_values.proofs.Leading.{begins-heads}
-use Rattle.signature_values.proofs.FromLists.{count-slots_from, slots_good}
+use Rattle.sig_grammar.proofs.FromLists.{count-slots_from, slots_good}
 use Rattle.signature_values.proofs.Codes.{no, slot_no_sentinel, no_head}
 use Rattle.signature_values.proofs.Contents.{slot_reads, ret_reads}
 

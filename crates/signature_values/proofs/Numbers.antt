@@ -1,18 +1,16 @@
 -- Packed numbers and type indexes are read as they are encoded.
-use Rattle.std.proofs.Common.{◌≡◌, ℕ, ◌/◌, ◌%◌, ◌<◌, ◌≤◌, Option, Some, None, List, [], ◌∷◌, ◌++◌, length, take, drop, get_or, ◌^◌, refl, sym, ap, ◌∙◌, subst, arith, IfSome}
-use Rattle.std.specs.Prelude.{⊤, ℤ, option_map, option_and_then, slice_get}
+use Rattle.std.proofs.Common.{◌≡◌, ℕ, ◌<◌, ◌≤◌, Option, Some, List, [], ◌∷◌, ◌++◌, length, take, drop, get_or, ◌^◌, refl, sym, ap, ◌∙◌, subst, IfSome}
+use Rattle.std.specs.Prelude.{⊤, ℤ, option_map}
 use Rattle.std.proofs.lemmas.List.{take-append-drop}
-use Rattle.std.proofs.lemmas.Option.{slice_get_within}
 use Rattle.std.proofs.Math.Seq.{drop-append_seam}
 use Rattle.packed.specs.Front as front
 use Rattle.packed.specs.Packed.{IsPacked, IsPackedSigned}
-use Rattle.schema.specs.declared.token.Token.{Token}
-use Rattle.schema.specs.declared.table.TableId.{TableId}
-use Rattle.schema.specs.declared.coded.Coded.TheVariants.{TypeDefOrRef}
-use Rattle.schema.specs.CodedIndexes.{tables_of, IsCoded}
-use Rattle.signature_values.specs.Parts.{Part, number, signed, index, SpellsPart}
-use Rattle.signature_values.specs.Reading.{split, number_at, signed_at, token_in, token_of, index_at}
-use Rattle.signature_values.proofs.Readers.{IsBytes, IsBytes-each, IsBytes-rest, Takes, Reads, IfSome-bind, IfSome-map}
+use Rattle.table_schema.specs.declared.token.Token.{Token}
+use Rattle.sig_grammar.specs.Parts.{Part, number, signed, index, SpellsPart}
+use Rattle.sig_grammar.specs.Reading.{split, number_at, signed_at, token_of, index_at}
+use Rattle.signature_values.proofs.Readers.{IsBytes, IsBytes-each, IsBytes-rest, Takes, Reads}
+use Rattle.sig_grammar.proofs.OptionLemmas.{IfSome-bind, IfSome-map}
+use Rattle.sig_grammar.proofs.Indexes.{Names, token_found, token_again}
 
 abbrev pub Any : {A : Type 0} → A → Type 0
 Any x = ⊤
@@ -64,28 +62,6 @@ signed_reads known = record {
 
 abbrev pub index_parts : Token → List Part
 index_parts t = index t ∷ []
-
--- the number encodes the token
-abbrev pub Names : ℕ → Token → Type 0
-Names n t = IsCoded TypeDefOrRef n t.table t.row
-
-token_from : (n : ℕ) (o : Option (Option TableId)) → slice_get (tables_of TypeDefOrRef) (n % 4) ≡ o → IfSome (option_and_then (token_in n) o) (Names n)
-token_from n None e = tt
-token_from n (Some None) e = tt
-token_from n (Some (Some table)) e = record { tag = n % 4; listed = e; equal = omega arith }
-
-pub token_found : (n : ℕ) → IfSome (token_of n) (Names n)
-unfolding token_of
-token_found n = token_from n (slice_get (tables_of TypeDefOrRef) (n % 4)) refl
-
-pub token_again : (n : ℕ) (t : Token) → Names n t → token_of n ≡ Some t
-unfolding token_of
-token_again n t is =
-    let few : is.tag < 3 = slice_get_within (tables_of TypeDefOrRef) is.tag (Some t.table) is.listed in
-    let equal = is.equal in
-    let tag : n % 4 ≡ is.tag = omega arith in
-    let row : n / 4 ≡ t.row = omega arith in
-    rw (tag, is.listed, row) refl
 
 pub index_reads : NumbersAreRead → Reads index_at index_parts (λ t. Any t)
 unfolding index_at

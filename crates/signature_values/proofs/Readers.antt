@@ -1,8 +1,9 @@
 -- What each reader must satisfy: it reads what is encoded, and what it reads is encoded so.
-use Rattle.std.proofs.Common.{◌≡◌, ℕ, zero, suc, ◌<◌, Bool, true, false, cond, Option, Some, None, List, [], ◌∷◌, ◌++◌, get_or, ◌^◌, refl, sym, ap, subst, arith, IfSome}
-use Rattle.std.specs.Prelude.{⊤, option_map, option_and_then}
-use Rattle.signature_values.specs.Parts.{Part, byte, SpellsPart, SpellsParts}
-use Rattle.signature_values.specs.Reading.{Reader, change}
+use Rattle.std.proofs.Common.{◌≡◌, ℕ, zero, suc, ◌<◌, Some, List, [], ◌∷◌, ◌++◌, get_or, ◌^◌, refl, sym, ap, subst, arith, IfSome}
+use Rattle.std.specs.Prelude.{⊤}
+use Rattle.sig_grammar.specs.Parts.{Part, byte, SpellsPart, SpellsParts}
+use Rattle.sig_grammar.specs.Reading.{Reader, change}
+use Rattle.sig_grammar.proofs.OptionLemmas.{IfSome-map}
 
 abbrev pub IsBytes : List ℕ → Type 0
 IsBytes [] = ⊤
@@ -54,20 +55,6 @@ pub record Takes {A : Type 0} (parts : A → List Part) (Good : A → Type 0) (b
 pub record Reads {A : Type 0} (r : Reader A) (parts : A → List Part) (Good : A → Type 0) : Type 0 where
   pub found : (b : List ℕ) → IsBytes b → IfSome (r b) (Takes parts Good b)
   pub only : (b rest : List ℕ) (v : A) → Good v → Front (parts v) b rest → r b ≡ Some (v, rest)
-
--- ---- a fact about the value in an option, step by step
-
-pub IfSome-bind : {A B : Type 0} (P : A → Type 0) (Q : B → Type 0) (f : A → Option B) (o : Option A) → IfSome o P → ((x : A) → P x → IfSome (f x) Q) → IfSome (option_and_then f o) Q
-IfSome-bind P Q f None h k = tt
-IfSome-bind P Q f (Some x) h k = k x h
-
-pub IfSome-map : {A B : Type 0} (P : A → Type 0) (Q : B → Type 0) (f : A → B) (o : Option A) → IfSome o P → ((x : A) → P x → Q (f x)) → IfSome (option_map f o) Q
-IfSome-map P Q f None h k = tt
-IfSome-map P Q f (Some x) h k = k x h
-
-pub IfSome-cond : {A : Type 0} (Q : A → Type 0) (b : Bool) (x y : Option A) → (b ≡ true → IfSome x Q) → (b ≡ false → IfSome y Q) → IfSome (cond b x y) Q
-IfSome-cond Q true x y h k = h refl
-IfSome-cond Q false x y h k = k refl
 
 -- the first byte, and the bytes after it
 pub front_byte : (c : ℕ) (ps : List Part) (b rest : List ℕ) → Front (byte c ∷ ps) b rest → (tail : List ℕ) × (b ≡ c ∷ tail) × Front ps tail rest

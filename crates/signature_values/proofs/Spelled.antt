@@ -5,23 +5,23 @@ use Rattle.std.specs.List.{AllByRecursion, position_or_len}
 use Rattle.std.proofs.lemmas.Int.{ints}
 use Rattle.std.proofs.lemmas.Bool.{lt-ltb}
 use Rattle.packed.specs.Packed.{IsPacked, IsPackedSigned, FitsBits, fits_bits, short_unsigned, short_signed, signed_bits, one_byte, two_bytes, four_bytes}
-use Rattle.schema.specs.declared.token.Token.{Token}
-use Rattle.schema.specs.declared.table.TableId.{TableId}
-use Rattle.schema.specs.declared.table.TableId.TheVariants.{TypeDef, TypeRef, TypeSpec}
-use Rattle.schema.specs.declared.coded.Coded.TheVariants.{TypeDefOrRef}
-use Rattle.schema.specs.CodedIndexes.{tables_of, IsCoded}
-use Rattle.schema.specs.declared.column.SigKind.{SigKind}
-use Rattle.signature_values.specs.declared.element.Element.{Element}
-use Rattle.signature_values.specs.declared.element.Element.TheVariants.{Boolean, Char, I1, U1, I2, U2, I4, U4, I8, U8, R4, R8, String, I, U, Object}
-use Rattle.signature_values.specs.declared.types.Modifier.{Modifier}
-use Rattle.signature_values.specs.declared.body.Prefix.{Prefix}
-use Rattle.signature_values.specs.declared.body.Prefix.TheVariants.{Mod, Pinned}
-use Rattle.signature_values.specs.ElementTypes.{element_code}
-use Rattle.signature_values.specs.Syntax.{Core, simple, void_pointer, pointer, vector, array, class, value, var, mvar, instance, function, Typed, typed, Types, no_types, type_then, Content, typed_ref, plain, by_ref, Slot, slot, Slots, no_slots, slot_then, Ret, some_ret, void_ret, Method, method, ArrayShape, LocalVariable, local, Body, field, method_body, property, locals, instance_body, type_spec}
-use Rattle.signature_values.specs.Parts.{Part, byte, number, signed, index, IsIndex, SpellsPart, SpellsParts, short_part, is_table, index_number, HasSpelling, part_tokens}
-use Rattle.signature_values.specs.Grammar.{list_parts, modifier_parts, modifiers_parts, numbers_parts, bounds_parts, shape_parts, named_code, flag, method_code, generic_parts, core_parts, typed_parts, types_parts, content_parts, slot_parts, slots_parts, ret_parts, method_parts, prefix_parts, prefixes_parts, local_parts, body_parts}
-use Rattle.signature_values.specs.Limits.{IsMethodKind, IsCore, IsTyped, AreTypes, IsContent, IsSlot, AreSlots, IsRet, IsMethod, IsTypedWithin, IsSlotWithin, IsLocalWithin, IsBodyWithin}
-use Rattle.signature_values.specs.Spells.{Spells, IsSpellable, tokens}
+use Rattle.table_schema.specs.declared.token.Token.{Token}
+use Rattle.table_schema.specs.declared.table.TableId.{TableId}
+use Rattle.table_schema.specs.declared.table.TableId.TheVariants.{TypeDef, TypeRef, TypeSpec}
+use Rattle.table_schema.specs.declared.coded.Coded.TheVariants.{TypeDefOrRef}
+use Rattle.table_schema.specs.CodedIndexes.{tables_of, IsCoded}
+use Rattle.table_schema.specs.declared.column.SigKind.{SigKind}
+use Rattle.sig_grammar.specs.declared.element.Element.{Element}
+use Rattle.sig_grammar.specs.declared.element.Element.TheVariants.{Boolean, Char, I1, U1, I2, U2, I4, U4, I8, U8, R4, R8, String, I, U, Object}
+use Rattle.sig_grammar.specs.declared.types.Modifier.{Modifier}
+use Rattle.sig_grammar.specs.declared.body.Prefix.{Prefix}
+use Rattle.sig_grammar.specs.declared.body.Prefix.TheVariants.{Mod, Pinned}
+use Rattle.sig_grammar.specs.ElementTypes.{element_code}
+use Rattle.sig_grammar.specs.Syntax.{Core, simple, void_pointer, pointer, vector, array, class, value, var, mvar, instance, function, Typed, typed, Types, no_types, type_then, Content, typed_ref, plain, by_ref, Slot, slot, Slots, no_slots, slot_then, Ret, some_ret, void_ret, Method, method, ArrayShape, LocalVariable, local, Body, field, method_body, property, locals, instance_body, type_spec}
+use Rattle.sig_grammar.specs.Parts.{Part, byte, number, signed, index, IsIndex, SpellsPart, SpellsParts, short_part, is_table, index_number, HasSpelling, part_tokens}
+use Rattle.sig_grammar.specs.Grammar.{list_parts, modifier_parts, modifiers_parts, numbers_parts, bounds_parts, shape_parts, named_code, flag, method_code, generic_parts, core_parts, typed_parts, types_parts, content_parts, slot_parts, slots_parts, ret_parts, method_parts, prefix_parts, prefixes_parts, local_parts, body_parts}
+use Rattle.sig_grammar.specs.Limits.{IsMethodKind, IsCore, IsTyped, AreTypes, IsContent, IsSlot, AreSlots, IsRet, IsMethod, IsTypedWithin, IsSlotWithin, IsLocalWithin, IsBodyWithin}
+use Rattle.sig_grammar.specs.Spells.{Spells, IsSpellable, tokens}
 use Rattle.signature_values.proofs.Methods.{kind_lt}
 
 -- ---- each byte part of the grammar is a byte

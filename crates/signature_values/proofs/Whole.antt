@@ -8,18 +8,18 @@ use Rattle.std.proofs.lemmas.Bool.{and_parts}
 use Rattle.std.proofs.lemmas.Int.{ints}
 use Rattle.std.proofs.lemmas.Option.{slice_get_within}
 use Rattle.packed.specs.Packed.{IsPacked, IsPackedSigned, FitsBits, fits_bits, short_unsigned, short_signed, signed_bits, one_byte, two_bytes, four_bytes}
-use Rattle.schema.specs.declared.coded.Coded.TheVariants.{TypeDefOrRef}
-use Rattle.schema.specs.CodedIndexes.{tables_of}
-use Rattle.signature_values.specs.Syntax.{Body}
-use Rattle.signature_values.specs.Parts.{Part, byte, number, signed, index, SpellsPart, SpellsParts, short_part, index_number, HasSpelling}
-use Rattle.signature_values.specs.Grammar.{body_parts}
-use Rattle.signature_values.specs.Spells.{Holds, Spells, IsSpellable, short}
-use Rattle.signature_values.specs.Reading.{Reader, core_at}
-use Rattle.signature_values.specs.Columns.{body_at}
+use Rattle.table_schema.specs.declared.coded.Coded.TheVariants.{TypeDefOrRef}
+use Rattle.table_schema.specs.CodedIndexes.{tables_of}
+use Rattle.sig_grammar.specs.Syntax.{Body}
+use Rattle.sig_grammar.specs.Parts.{Part, byte, number, signed, index, SpellsPart, SpellsParts, short_part, index_number, HasSpelling}
+use Rattle.sig_grammar.specs.Grammar.{body_parts}
+use Rattle.sig_grammar.specs.Spells.{Holds, Spells, IsSpellable, short}
+use Rattle.sig_grammar.specs.Reading.{Reader, core_at}
+use Rattle.sig_grammar.specs.Columns.{body_at}
 use Rattle.signature_values.proofs.Numbers.{NumbersAreRead}
 use Rattle.signature_values.proofs.Readers.{IsBytes, Front-whole, Front-from_whole, Takes, Reads}
 use Rattle.signature_values.proofs.Cores.{core_reads}
-use Rattle.schema.specs.declared.column.SigKind.{SigKind}
+use Rattle.table_schema.specs.declared.column.SigKind.{SigKind}
 use Rattle.signature_values.proofs.Bodies.{body_reads, IsHeld}
 
 -- ---- the canonical encoding of each part is an encoding

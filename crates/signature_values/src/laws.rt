@@ -1,14 +1,12 @@
-ghost use Rattle.std.specs.Prelude.{◌≡◌, ◌^◌, ◌<◌, ◌⊎◌, ◌↔◌, ◌∷◌, ◌++◌, ℕ, List, [], length, get_or, Some, None, IfSome};
+ghost use Rattle.std.specs.Prelude.{◌≡◌, ◌^◌, ◌<◌, ◌⊎◌, ◌↔◌, ◌∷◌, ◌++◌, ℕ, List, [], length, get_or, Some, None};
 ghost use Rattle.std.specs.List.{AllByRecursion};
-ghost use Rattle.schema.specs.declared.column.SigKind.{SigKind};
-ghost use Rattle.schema.specs.declared.coded.Coded.TheVariants.{TypeDefOrRef};
-ghost use Rattle.schema.specs.declared.table.TableId.TheVariants.{TypeDef, TypeRef, TypeSpec};
-ghost use Rattle.schema.specs.declared.token.Token.{Token};
-ghost use Rattle.schema.specs.CodedIndexes.{IsCoded};
-ghost use Rattle.signature_values.specs.Syntax.{Body};
-ghost use Rattle.signature_values.specs.Spells.{Holds, Spells, IsSpellable, HasRow, short, tokens, first_bad};
-ghost use Rattle.signature_values.specs.Reading.{core_at, token_of};
-ghost use Rattle.signature_values.specs.Columns.{body_at};
+ghost use Rattle.table_schema.specs.declared.column.SigKind.{SigKind};
+ghost use Rattle.table_schema.specs.declared.table.TableId.TheVariants.{TypeDef, TypeRef, TypeSpec};
+ghost use Rattle.table_schema.specs.declared.token.Token.{Token};
+ghost use Rattle.sig_grammar.specs.Syntax.{Body};
+ghost use Rattle.sig_grammar.specs.Spells.{Holds, Spells, IsSpellable, HasRow, short, tokens, first_bad};
+ghost use Rattle.sig_grammar.specs.Reading.{core_at};
+ghost use Rattle.sig_grammar.specs.Columns.{body_at};
 
 use packed::numbers_are_read;
 
@@ -51,10 +49,4 @@ pub fn first_bad_is_first()
     ensures none { (counts : List ℕ) (tokens : List Token) → (first_bad counts tokens ≡ None) ↔ AllByRecursion (HasRow counts) tokens }
     ensures some { (counts : List ℕ) (tokens : List Token) (bad : Token) → first_bad counts tokens ≡ Some bad
         → (before behind : List Token) × (tokens ≡ before ++ bad ∷ behind) × AllByRecursion (HasRow counts) before × ¬ HasRow counts bad }
-{}
-
-/// The token that is read from a type index is the token that the index encodes.
-pub fn indexes_are_read()
-    ensures found { (number : ℕ) → IfSome (token_of number) (λ token. IsCoded TypeDefOrRef number token.table token.row) }
-    ensures only { (number : ℕ) (token : Token) → IsCoded TypeDefOrRef number token.table token.row → token_of number ≡ Some token }
 {}

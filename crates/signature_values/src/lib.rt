@@ -14,19 +14,14 @@
 //! ```
 #![tactic(auto)]
 
-mod body;
-mod element;
-pub mod element_type;
-mod index;
 mod laws;
-pub mod method_byte;
-mod types;
 
-pub use body::{FieldSig, InstanceSig, Local, LocalsSig, Prefix, PropertySig, SigBody};
-pub use element::Element;
-pub use index::{names_row, token_of_index};
 pub use laws::{
-    first_bad_is_first, indexes_are_read, indexes_name_types, shortest_spells, signatures_are_read,
+    first_bad_is_first, indexes_name_types, shortest_spells, signatures_are_read,
     spelled_is_spellable,
 };
-pub use types::{Core, MethodSig, Modifier, Ret, Shape, Slot, SlotKind, TypeSig};
+pub use sig_grammar::{
+    Core, Element, FieldSig, InstanceSig, Local, LocalsSig, MethodSig, Modifier, Prefix,
+    PropertySig, Ret, Shape, SigBody, Slot, SlotKind, TypeSig, element_type, indexes_are_read,
+    method_byte, names_row, token_of_index,
+};

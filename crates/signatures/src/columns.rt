@@ -1,13 +1,13 @@
 ghost use Rattle.std.specs.Prelude.{◌↔◌, IsTrue, false};
-ghost use Rattle.signature_values.specs.Limits.{HasOwnSentinel};
-ghost use Rattle.signature_values.specs.Spells.{Holds};
-ghost use Rattle.signature_values.specs.Views.{body_of, method_of};
+ghost use Rattle.sig_grammar.specs.Limits.{HasOwnSentinel};
+ghost use Rattle.sig_grammar.specs.Spells.{Holds};
+ghost use Rattle.sig_grammar.specs.Views.{body_of, method_of};
 
-use schema::SigKind;
-use signature_values::{MethodSig, SigBody};
+use sig_grammar::{MethodSig, SigBody};
+use table_schema::SigKind;
 
 /// Whether the method has no SENTINEL of its own (II.23.2.1).
-#[tactic(auto, using(signature_values::proofs::ViewLemmas::view_method))]
+#[tactic(auto, using(sig_grammar::proofs::ViewLemmas::view_method))]
 fn has_no_sentinel(method: &MethodSig) -> bool
     ensures { IsTrue result ↔ HasOwnSentinel false (method_of method.now) }
 {

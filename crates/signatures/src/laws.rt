@@ -1,7 +1,7 @@
 ghost use Rattle.std.specs.Prelude.{◌≡◌, ◌↔◌, IsTrue};
-ghost use Rattle.schema.specs.declared.column.SigKind.{SigKind};
-ghost use Rattle.signature_values.specs.Syntax.{Body};
-ghost use Rattle.signature_values.specs.Spells.{Holds, Spells, IsSpellable, short};
+ghost use Rattle.table_schema.specs.declared.column.SigKind.{SigKind};
+ghost use Rattle.sig_grammar.specs.Syntax.{Body};
+ghost use Rattle.sig_grammar.specs.Spells.{Holds, Spells, IsSpellable, short};
 
 use crate::signature::Signature;
 use signature_values::{shortest_spells, signatures_are_read};

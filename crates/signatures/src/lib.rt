@@ -20,9 +20,9 @@ mod signature;
 pub use decoder::SigError;
 pub use laws::{encoded_is_decoded, equality_is_tested};
 pub use recogniser::{index_of_first_bad, recognise, recognise_first_bad};
-pub use schema::{SigKind, Token};
-pub use signature::{Signature, decode, encode, shortest_spelling};
-pub use signature_values::{
+pub use sig_grammar::{
     Core, Element, FieldSig, InstanceSig, Local, LocalsSig, MethodSig, Modifier, Prefix,
     PropertySig, Ret, Shape, SigBody, Slot, SlotKind, TypeSig,
 };
+pub use signature::{Signature, decode, encode, shortest_spelling};
+pub use table_schema::{SigKind, Token};

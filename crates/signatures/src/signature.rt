@@ -1,8 +1,8 @@
 ghost use Rattle.std.specs.Prelude.{◌≡◌, ◌↔◌, ◌<◌, ◌^◌, IsTrue, IfOk, IsOk, IsErrOf, MatchResult, length};
 ghost use Rattle.std.specs.Cmp.{partial_equiv_from_equiv};
-ghost use Rattle.signature_values.specs.Syntax.{Body};
-ghost use Rattle.signature_values.specs.Views.{body_of};
-ghost use Rattle.signature_values.specs.Spells.{Holds, Spells, IsSpellable, short, tokens, first_bad as first_bad_of};
+ghost use Rattle.sig_grammar.specs.Syntax.{Body};
+ghost use Rattle.sig_grammar.specs.Views.{body_of};
+ghost use Rattle.sig_grammar.specs.Spells.{Holds, Spells, IsSpellable, short, tokens, first_bad as first_bad_of};
 ghost use Rattle.decoder.specs.declared.error.SigError.TheVariants.{Bad};
 ghost use Rattle.copier.specs.Same.{is_same_body};
 ghost use Rattle.copier.proofs.TestLaws.{same_bodies_equiv};
@@ -11,10 +11,11 @@ use crate::columns::holds;
 use copier::{copy_body, first_bad, is_same};
 use decoder::{SigError, decode_body};
 use encoder::{encode_body, spelled_len};
-use schema::{SigKind, Token};
-use signature_values::{SigBody, spelled_is_spellable};
+use sig_grammar::SigBody;
+use signature_values::spelled_is_spellable;
 use std::alloc::{AllocError, Global};
 use std::marker::Model;
+use table_schema::{SigKind, Token};
 
 /// A signature that has an encoding (II.23.2).
 ///
@@ -25,15 +26,15 @@ pub struct Signature {
 }
 
 impl Model for Signature {
-    ghost use Rattle.signature_values.specs.Syntax.{Body};
-    ghost use Rattle.signature_values.specs.Code.{body_code};
+    ghost use Rattle.sig_grammar.specs.Syntax.{Body};
+    ghost use Rattle.sig_grammar.specs.Code.{body_code};
 
     ghost Value = { Body };
 
     ghost coded = { body_code };
 
-    ghost use Rattle.signature_values.specs.Views.{body_of};
-    ghost use Rattle.signature_values.specs.Spells.{IsSpellable};
+    ghost use Rattle.sig_grammar.specs.Views.{body_of};
+    ghost use Rattle.sig_grammar.specs.Spells.{IsSpellable};
 
     ghost view = { λ s. body_of s.body };
 

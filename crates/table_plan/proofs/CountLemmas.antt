@@ -4,9 +4,9 @@ use Rattle.std.specs.Prelude.{sum_by}
 use Rattle.std.proofs.Math.Nat.{mul-le-mul_left, mul-le-mul_right}
 use Rattle.std.proofs.lemmas.List.{drop_all}
 use Rattle.std.proofs.lemmas.List.Sums.{sum_by-drop_more}
-use Rattle.schema.specs.declared.table.TableId.{TableId}
-use Rattle.schema.specs.declared.table.TableId.TheVariants.{Module}
-use Rattle.schema.specs.Tables.{tables}
+use Rattle.table_schema.specs.declared.table.TableId.{TableId}
+use Rattle.table_schema.specs.declared.table.TableId.TheVariants.{Module}
+use Rattle.table_schema.specs.Tables.{tables}
 use Rattle.metadata.specs.Metadata.{Metadata}
 use Rattle.plan.specs.Numbered.{numbers_in}
 

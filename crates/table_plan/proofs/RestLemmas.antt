@@ -1,12 +1,12 @@
 -- The remaining columns, rows and tables; a heap that is too long stays too long.
 use Rattle.std.proofs.Common.{◌≡◌, ℕ, ◌+◌, ◌<◌, List, length, get_or, drop, sym, ap, subst, ◌∙◌}
 use Rattle.std.proofs.lemmas.List.{drop_more}
-use Rattle.schema.specs.declared.column.Column.{Column}
-use Rattle.schema.specs.declared.table.TableId.{TableId}
-use Rattle.schema.specs.declared.table.TableId.TheVariants.{Module}
-use Rattle.schema.specs.Tables.{tables}
-use Rattle.schema.specs.Columns.{columns_of}
-use Rattle.schema.specs.CellColumns.{is_padding}
+use Rattle.table_schema.specs.declared.column.Column.{Column}
+use Rattle.table_schema.specs.declared.table.TableId.{TableId}
+use Rattle.table_schema.specs.declared.table.TableId.TheVariants.{Module}
+use Rattle.table_schema.specs.Tables.{tables}
+use Rattle.table_schema.specs.Columns.{columns_of}
+use Rattle.table_schema.specs.CellColumns.{is_padding}
 use Rattle.metadata.specs.Cell.{Cell}
 use Rattle.metadata.specs.Metadata.{Metadata, rows_of}
 use Rattle.plan.specs.Numbered.{Numbered, IsOver, with_cell, with_next_cell, with_row, with_rows, with_tables}

@@ -1,13 +1,13 @@
 ghost use Rattle.std.specs.Prelude.{◌≡◌, ◌^◌, ◌<◌, ◌⊎◌, Err, IfOk, length};
-ghost use Rattle.heaps.specs.declared.pool_error.PoolError.TheVariants.{Full};
-ghost use Rattle.heaps.specs.TextHeap.{text_heap};
+ghost use Rattle.heap_pools.specs.declared.pool_error.PoolError.TheVariants.{Full};
+ghost use Rattle.heap_pools.specs.TextHeap.{text_heap};
 ghost use Rattle.metadata.specs.Valid.{IsValid};
 ghost use Rattle.canonical.specs.Pools.{pools_of};
 ghost use Rattle.plan.specs.Numbered.{IsNumbering, IsTooLong};
 
 use crate::numbers::numbers_of;
 use crate::texts::text_pool;
-use heaps::{PoolError, TextPool};
+use heap_pools::{PoolError, TextPool};
 use plan::{Numbering, cells_can_be_numbered, numberings_are_of_models};
 use std::alloc::Global;
 use tables::Tables;

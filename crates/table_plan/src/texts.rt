@@ -1,15 +1,15 @@
 ghost use Rattle.std.specs.Prelude.{◌≡◌, ◌<◌, ◌^◌, ◌++◌, Err, OnOk, IfOk, length, map, flat_map};
-ghost use Rattle.heaps.specs.declared.pool_error.PoolError.TheVariants.{Full};
-ghost use Rattle.heaps.specs.TextHeap.{text_heap, text_index};
-ghost use Rattle.heaps.specs.Uses.{bytes_of};
+ghost use Rattle.heap_pools.specs.declared.pool_error.PoolError.TheVariants.{Full};
+ghost use Rattle.heap_pools.specs.TextHeap.{text_heap, text_index};
+ghost use Rattle.heap_pools.specs.Uses.{bytes_of};
 ghost use Rattle.cells.specs.Said.{said, all_said};
 ghost use Rattle.metadata.specs.Valid.{IsValid};
 ghost use Rattle.canonical.specs.Pools.{texts_of, used, pools_of};
 
-use heaps::{PoolError, TextPool};
+use heap_pools::{PoolError, TextPool};
 use plan::cells_can_be_numbered;
-use schema::{TableId, tables_stand};
 use std::alloc::{AllocError, Global};
+use table_schema::{TableId, tables_stand};
 use tables::{Cell, Row, Tables};
 
 /// Adds the text of a cell, if it is a text.

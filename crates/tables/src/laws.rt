@@ -1,11 +1,11 @@
 ghost use Rattle.std.specs.Prelude.{◌≡◌, ◌≢◌, ◌↔◌, ◌∷◌, ◌++◌, [], IsTrue, List, length};
-ghost use Rattle.schema.specs.declared.table.TableId.{TableId as Table};
+ghost use Rattle.table_schema.specs.declared.table.TableId.{TableId as Table};
 ghost use Rattle.metadata.specs.Cell.{Cell};
 ghost use Rattle.metadata.specs.Metadata.{Metadata, rows_of};
 ghost use Rattle.tables.specs.Push.{with_row};
 
 use crate::tables::Tables;
-use schema::tables_stand;
+use table_schema::tables_stand;
 
 /// `==` is true of two tables if and only if their versions, user bytes and cells are equal.
 pub fn equality_is_tested()

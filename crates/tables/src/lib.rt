@@ -18,6 +18,6 @@ mod tables;
 
 pub use cells::{Bytes, Cell, Signature, Text};
 pub use laws::{equality_is_tested, rows_are_added};
-pub use schema::{TableId, Token};
 pub use table_rows::Row;
+pub use table_schema::{TableId, Token};
 pub use tables::Tables;

@@ -1,15 +1,15 @@
 ghost use Rattle.std.specs.Prelude.{◌≡◌, ◌≤◌, ◌-◌, ◌+◌, ◌^◌, ◌<◌, IfOk, OnOk, OnErr, IfErr, [], length, string_bytes};
-ghost use Rattle.schema.specs.declared.table.TableId.{TableId};
+ghost use Rattle.table_schema.specs.declared.table.TableId.{TableId};
 ghost use Rattle.cells.specs.Said.{all_said};
 ghost use Rattle.metadata.specs.Metadata.{rows_of, row_of, count_in};
 ghost use Rattle.tables.specs.Push.{with_row};
 
 use crate::table_rows::{Row, Rows};
 use cells::{Bytes, Cell, Text};
-use schema::TableId;
 use std::alloc::{AllocError, Global};
 use std::array;
 use std::marker::Model;
+use table_schema::TableId;
 
 /// A version, user bytes, and the rows of 38 tables (II.22). They need not be valid.
 ///

@@ -1,11 +1,11 @@
 ghost use Rattle.std.specs.Prelude.{◌≡◌, ◌≤◌, ◌↔◌, Some, IsSome, IfSome, Contains};
-ghost use Rattle.schema.specs.CodedIndexes.{tables_of};
+ghost use Rattle.table_schema.specs.CodedIndexes.{tables_of};
 ghost use Rattle.metadata.specs.Metadata.{Metadata, row_of};
 ghost use Rattle.records.specs.Listed.{IsOneOf};
 
 use crate::rows_read::ReadRows;
 use records::{CodedRow, lists};
-use schema::Token;
+use table_schema::Token;
 
 /// The record of a row that exists, of a table that its coded index lists.
 fn coded_row_at<'m, R: CodedRow<'m, S::Form>, S: ReadRows<'m>>(source: &S, token: Token) -> R

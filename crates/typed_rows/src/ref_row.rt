@@ -2,7 +2,7 @@ ghost use Rattle.typed_rows.specs.RefRows.{HoldsAt, SaysAt};
 
 use opening::{CellRef, TableId, Token};
 use records::Row;
-use schema::SigKind;
+use table_schema::SigKind;
 
 /// The cells of a row. They borrow from the bytes that were opened.
 #[derive(Clone, Copy, Debug)]

@@ -1,5 +1,5 @@
 ghost use Rattle.std.specs.Prelude.{◌≤◌, ◌<◌, ℕ, slice_get};
-ghost use Rattle.schema.specs.CellColumns.{cell_count};
+ghost use Rattle.table_schema.specs.CellColumns.{cell_count};
 ghost use Rattle.metadata.specs.Metadata.{Metadata, row_of, cell_in};
 ghost use Rattle.metadata.specs.Model.{IsModel};
 ghost use Rattle.opening.specs.Views.{row_count};
@@ -11,7 +11,7 @@ use crate::ref_row::RefRow;
 use metadata::{models_are_read, models_of_roots_are_valid};
 use opening::{CellRef, TableId, View};
 use records::{blobs_say_signatures, cells_have_kinds, valid_rows_are_of_kinds};
-use schema::{cell_count, columns_stand};
+use table_schema::{cell_count, columns_stand};
 
 /// The values of a row's cells, by their indexes.
 fn values_of<'a>(view: &View<'a>, table: TableId, row: u32) -> [CellRef<'a>; 9]

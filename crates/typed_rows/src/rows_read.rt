@@ -7,12 +7,12 @@ use crate::ref_row::RefRow;
 use crate::row_values::cells_of;
 use opening::View;
 use records::Row;
-use schema::TableId;
+use table_schema::TableId;
 
 /// A reference to what holds the rows of one metadata. The parts of a row live as long as what it is read from.
 pub trait ReadRows<'m> {
     ghost use Rattle.std.specs.Prelude.{◌≡◌, ◌≤◌, ℕ, List};
-    ghost use Rattle.schema.specs.declared.table.TableId.{TableId as Table};
+    ghost use Rattle.table_schema.specs.declared.table.TableId.{TableId as Table};
     ghost use Rattle.metadata.specs.Cell.{Cell as TheCell};
     ghost use Rattle.metadata.specs.Metadata.{Metadata, row_of};
     ghost use Rattle.records.specs.Kinds.{kinds_of};

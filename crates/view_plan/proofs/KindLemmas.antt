@@ -1,11 +1,11 @@
 -- Which cells are texts, by the kinds of their columns.
 use Rattle.std.proofs.Common.{◌≡◌, ℕ, Bool, List, [], length, get_or, refl, sym, ap, subst, ◌∙◌, arith}
-use Rattle.schema.specs.declared.table.TableId.{TableId}
-use Rattle.schema.specs.declared.column.Column.{Column}
-use Rattle.schema.specs.declared.column.ColumnKind.{ColumnKind}
-use Rattle.schema.specs.declared.column.ColumnKind.TheVariants as kind
-use Rattle.schema.specs.Columns.{columns_of, column_at, col}
-use Rattle.schema.specs.CellColumns.{column_of}
+use Rattle.table_schema.specs.declared.table.TableId.{TableId}
+use Rattle.table_schema.specs.declared.column.Column.{Column}
+use Rattle.table_schema.specs.declared.column.ColumnKind.{ColumnKind}
+use Rattle.table_schema.specs.declared.column.ColumnKind.TheVariants as kind
+use Rattle.table_schema.specs.Columns.{columns_of, column_at, col}
+use Rattle.table_schema.specs.CellColumns.{column_of}
 use Rattle.metadata.specs.Cell.{Cell, Number, Text, Bytes, Guid, Ref, Start, Sig}
 use Rattle.metadata.specs.Kinds.{IsOfKind}
 use Rattle.metadata.specs.Metadata.{Metadata}

@@ -8,9 +8,9 @@ use Rattle.std.proofs.lemmas.Slice.Eq.{bytes_eq-Decides}
 use Rattle.std.proofs.lemmas.Map.Views.{Contains-from_any, list_any-from_Contains}
 use Rattle.std.proofs.lemmas.List.Elements.{Contains-append_left, Contains-append_right}
 use Rattle.indexmap.specs.IndexMap.{insert_entry}
-use Rattle.schema.specs.declared.column.SigKind.{SigKind}
-use Rattle.heaps.specs.Distinct.{is_among, pooled}
-use Rattle.heaps.specs.BlobHeap.{blob_index}
+use Rattle.table_schema.specs.declared.column.SigKind.{SigKind}
+use Rattle.heap_pools.specs.Distinct.{is_among, pooled}
+use Rattle.heap_pools.specs.BlobHeap.{blob_index}
 use Rattle.plan.specs.Numbered.{Numbered, with_blob}
 use Rattle.view_plan.specs.Known.{IsPooledAt, IsKnown}
 

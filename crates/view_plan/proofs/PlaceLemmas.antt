@@ -4,18 +4,18 @@ use Rattle.std.specs.List.{range_with_len}
 use Rattle.std.proofs.lemmas.Bool.{cases_Bool}
 use Rattle.std.proofs.lemmas.List.{drop_more, drop_all, get_or-map}
 use Rattle.std.proofs.lemmas.List.FromFn.{get_or-range_with_len}
-use Rattle.schema.specs.declared.table.TableId.{TableId}
-use Rattle.schema.specs.declared.table.TableId.TheVariants.{Module}
-use Rattle.schema.specs.Tables.{tables, position_of}
-use Rattle.schema.specs.declared.column.Column.{Column}
-use Rattle.schema.specs.declared.column.ColumnKind.{ColumnKind}
-use Rattle.schema.specs.declared.column.ColumnKind.TheVariants as kind
-use Rattle.schema.specs.Columns.{columns_of, column_at, col}
+use Rattle.table_schema.specs.declared.table.TableId.{TableId}
+use Rattle.table_schema.specs.declared.table.TableId.TheVariants.{Module}
+use Rattle.table_schema.specs.Tables.{tables, position_of}
+use Rattle.table_schema.specs.declared.column.Column.{Column}
+use Rattle.table_schema.specs.declared.column.ColumnKind.{ColumnKind}
+use Rattle.table_schema.specs.declared.column.ColumnKind.TheVariants as kind
+use Rattle.table_schema.specs.Columns.{columns_of, column_at, col}
 use Rattle.metadata.specs.Cell.{Cell, Number}
 use Rattle.metadata.specs.Metadata.{Metadata, rows_of}
 use Rattle.metadata.specs.Valid.{kind_at}
 use Rattle.plan.specs.Numbered.{Numbered, with_cell, with_next_cell, with_row, with_rows, with_tables}
-use Rattle.schema.specs.CellColumns.{is_padding, indexes_from, cell_columns, cell_count, column_of}
+use Rattle.table_schema.specs.CellColumns.{is_padding, indexes_from, cell_columns, cell_count, column_of}
 use Rattle.view_plan.specs.Places.{IsPlaceOf}
 
 -- before the first column

@@ -1,10 +1,10 @@
 -- The signature blobs met so far, with the indexes of their canonical encodings (ECMA-335 II.23.2 and II.24.2.4).
 use Rattle.std.specs.Prelude.{◌≡◌, ℕ, List, [], ◌⊎◌, Contains}
 use Rattle.std.specs.List.{AllByRecursion}
-use Rattle.schema.specs.declared.column.SigKind.{SigKind}
-use Rattle.heaps.specs.BlobHeap.{blob_index}
-use Rattle.signature_values.specs.Syntax.{Body}
-use Rattle.signature_values.specs.Spells.{Spells, short}
+use Rattle.table_schema.specs.declared.column.SigKind.{SigKind}
+use Rattle.heap_pools.specs.BlobHeap.{blob_index}
+use Rattle.sig_grammar.specs.Syntax.{Body}
+use Rattle.sig_grammar.specs.Spells.{Spells, short}
 use Rattle.view_plan.specs.declared.gathering.Gathering.TheInside.{Inside}
 
 -- the blob is in the pool already, at this index

@@ -1,8 +1,8 @@
 -- The cells of a row that are left, by its columns (ECMA-335 II.22).
 use Rattle.std.specs.Prelude.{◌≡◌, ℕ, drop}
-use Rattle.schema.specs.declared.table.TableId.{TableId}
-use Rattle.schema.specs.Columns.{columns_of}
-use Rattle.schema.specs.CellColumns.{indexes_from, cell_columns}
+use Rattle.table_schema.specs.declared.table.TableId.{TableId}
+use Rattle.table_schema.specs.Columns.{columns_of}
+use Rattle.table_schema.specs.CellColumns.{indexes_from, cell_columns}
 
 -- the cells from index `place` on are those of the columns from `index` on
 abbrev pub IsPlaceOf : TableId → ℕ → ℕ → Type 0

@@ -1,20 +1,20 @@
 ghost use Rattle.std.specs.Prelude.{◌≡◌, ◌^◌, ◌<◌, ◌↔◌, Err, IfOk, IfSome, OnOk, OnErr, length};
-ghost use Rattle.heaps.specs.declared.pool_error.PoolError.TheVariants.{Full};
-ghost use Rattle.heaps.specs.Distinct.{pooled};
-ghost use Rattle.heaps.specs.BlobHeap.{blob_heap, blob_index};
-ghost use Rattle.heaps.specs.GuidHeap.{guid_heap, guid_index, pooled_guid};
-ghost use Rattle.signature_values.specs.Syntax.{Body};
-ghost use Rattle.signature_values.specs.Spells.{Spells, short};
+ghost use Rattle.heap_pools.specs.declared.pool_error.PoolError.TheVariants.{Full};
+ghost use Rattle.heap_pools.specs.Distinct.{pooled};
+ghost use Rattle.heap_pools.specs.BlobHeap.{blob_heap, blob_index};
+ghost use Rattle.heap_pools.specs.GuidHeap.{guid_heap, guid_index, pooled_guid};
+ghost use Rattle.sig_grammar.specs.Syntax.{Body};
+ghost use Rattle.sig_grammar.specs.Spells.{Spells, short};
 ghost use Rattle.plan.specs.Numbered.{none_numbered, with_blob, with_guid, with_number, with_text};
 ghost use Rattle.view_plan.specs.Known.{IsKnown};
 
 use crate::shortest::shortest;
-use heaps::{PoolError, indexes_stay};
+use heap_pools::{PoolError, indexes_stay};
 use indexmap::IndexMap;
 use plan::Numbering;
-use schema::SigKind;
 use std::alloc::{AllocError, Global};
 use std::marker::Model;
+use table_schema::SigKind;
 
 /// The numbers of cells in place, and the signature blobs that were met in columns of one kind, each with the index of
 /// its canonical encoding.

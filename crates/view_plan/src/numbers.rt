@@ -1,8 +1,8 @@
 ghost use Rattle.std.specs.Prelude.{◌≡◌, ◌≤◌, ◌<◌, ◌+◌, Err, OnOk, IfOk, List, [], drop, length};
-ghost use Rattle.heaps.specs.declared.pool_error.PoolError.TheVariants.{Full};
-ghost use Rattle.schema.specs.Tables.{tables as all_tables};
-ghost use Rattle.schema.specs.Columns.{columns_of, column_at};
-ghost use Rattle.schema.specs.CellColumns.{is_padding, cell_count};
+ghost use Rattle.heap_pools.specs.declared.pool_error.PoolError.TheVariants.{Full};
+ghost use Rattle.table_schema.specs.Tables.{tables as all_tables};
+ghost use Rattle.table_schema.specs.Columns.{columns_of, column_at};
+ghost use Rattle.table_schema.specs.CellColumns.{is_padding, cell_count};
 ghost use Rattle.metadata.specs.Cell.{Cell as Says};
 ghost use Rattle.metadata.specs.Metadata.{Metadata, rows_of, row_of, cell_in};
 ghost use Rattle.metadata.specs.Valid.{kind_at};
@@ -15,12 +15,12 @@ ghost use Rattle.plan.specs.Numbered.{Numbered, CanBeNumbered, IsOver, none_numb
 ghost use Rattle.view_plan.specs.Places.{IsPlaceOf};
 
 use crate::gathering::Gathering;
-use heaps::PoolError;
+use heap_pools::PoolError;
 use metadata::{models_are_read, models_of_roots_are_valid};
 use opening::{CellRef, View};
 use plan::{Numbering, cells_can_be_numbered, heaps_stay_too_long, row_number};
-use schema::{ColumnKind, TableId, column_of_cell, columns, columns_stand, tables_stand};
 use std::alloc::Global;
+use table_schema::{ColumnKind, TableId, column_of_cell, columns, columns_stand, tables_stand};
 
 /// The number of a signature blob in a column of a kind. Its canonical encoding is pooled.
 fn signature_number<'a>(

@@ -1,6 +1,6 @@
 ghost use Rattle.std.specs.Prelude.{◌≡◌, ◌^◌, ◌<◌, ◌⊎◌, Err, IfOk, length, map};
-ghost use Rattle.heaps.specs.declared.pool_error.PoolError.TheVariants.{Full};
-ghost use Rattle.heaps.specs.TextHeap.{text_heap, text_index};
+ghost use Rattle.heap_pools.specs.declared.pool_error.PoolError.TheVariants.{Full};
+ghost use Rattle.heap_pools.specs.TextHeap.{text_heap, text_index};
 ghost use Rattle.metadata.specs.Metadata.{Metadata};
 ghost use Rattle.metadata.specs.Model.{IsModel};
 ghost use Rattle.canonical.specs.Pools.{texts_of, used, pools_of};
@@ -8,7 +8,7 @@ ghost use Rattle.plan.specs.Numbered.{IsNumbering, IsTooLong};
 
 use crate::numbers::numbers_of;
 use crate::texts::used_texts;
-use heaps::{PoolError, TextPool};
+use heap_pools::{PoolError, TextPool};
 use metadata::models_of_roots_are_valid;
 use opening::View;
 use plan::{Numbering, cells_can_be_numbered, numberings_are_of_models};

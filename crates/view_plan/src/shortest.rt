@@ -1,10 +1,10 @@
 ghost use Rattle.std.specs.Prelude.{◌≡◌, ◌^◌, ◌<◌, IfOk, length};
-ghost use Rattle.signature_values.specs.Syntax.{Body};
-ghost use Rattle.signature_values.specs.Spells.{Spells, short};
+ghost use Rattle.sig_grammar.specs.Syntax.{Body};
+ghost use Rattle.sig_grammar.specs.Spells.{Spells, short};
 
-use schema::SigKind;
 use signatures::{SigError, shortest_spelling};
 use std::alloc::{AllocError, Global};
+use table_schema::SigKind;
 
 /// The canonical encoding of the signature that a blob encodes in a column of a kind (II.23.2).
 pub fn shortest(alloc: Global, blob: &[u8], kind: SigKind) -> Result<Vec<u8>, AllocError>

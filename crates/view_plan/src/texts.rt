@@ -1,6 +1,6 @@
 ghost use Rattle.std.specs.Prelude.{◌≡◌, ◌≤◌, ◌<◌, ◌++◌, OnOk, IfOk, flat_map};
-ghost use Rattle.schema.specs.CellColumns.{cell_count};
-ghost use Rattle.heaps.specs.Uses.{bytes_of};
+ghost use Rattle.table_schema.specs.CellColumns.{cell_count};
+ghost use Rattle.heap_pools.specs.Uses.{bytes_of};
 ghost use Rattle.metadata.specs.Metadata.{Metadata, rows_of, row_of, cell_in};
 ghost use Rattle.metadata.specs.Model.{IsModel};
 ghost use Rattle.opening.specs.Views.{row_count};
@@ -8,8 +8,8 @@ ghost use Rattle.canonical.specs.Pools.{texts_of, used};
 
 use metadata::{models_are_read, models_of_roots_are_valid};
 use opening::{CellRef, View};
-use schema::{ColumnKind, TableId, cell_count, column_of_cell, columns, tables_stand};
 use std::alloc::{AllocError, Global};
+use table_schema::{ColumnKind, TableId, cell_count, column_of_cell, columns, tables_stand};
 
 /// Adds the text of a cell, if it is a text. No other column is read.
 fn add_cell<'a>(

@@ -6,7 +6,7 @@ ghost use Rattle.root_plan.specs.declared.plan_error.PlanError.TheVariants.{TooL
 ghost use Rattle.root_plan.specs.Planned.{ArePooled, IsRootPlan};
 
 use crate::outline::outline_of;
-use heaps::TextPool;
+use heap_pools::TextPool;
 use opening::View;
 use plan::Numbering;
 use root_plan::{PlanError, RootPlan, streams_are_within_roots};

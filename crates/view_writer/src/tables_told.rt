@@ -1,6 +1,6 @@
 ghost use Rattle.std.specs.Prelude.{◌≡◌, slice_index};
-ghost use Rattle.schema.specs.declared.table.TableId.{TableId as Table};
-ghost use Rattle.schema.specs.Tables.{tables, table_number};
+ghost use Rattle.table_schema.specs.declared.table.TableId.{TableId as Table};
+ghost use Rattle.table_schema.specs.Tables.{tables, table_number};
 ghost use Rattle.schema.specs.LaidOut.{bits_of};
 ghost use Rattle.metadata.specs.Metadata.{Metadata};
 ghost use Rattle.metadata.specs.Model.{IsModel};
@@ -11,7 +11,8 @@ use canonical::sorted_bits_tell_order;
 use metadata::models_of_roots_are_valid;
 use opening::View;
 use root_plan::bit;
-use schema::{TableId, bits_are_known, key, tables_stand};
+use schema::bits_are_known;
+use table_schema::{TableId, key, tables_stand};
 
 /// The row count of each table, by table number.
 pub fn counts(view: &View) -> [u32; 45]

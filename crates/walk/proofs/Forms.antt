@@ -1,26 +1,26 @@
 -- The effect of each form of a value on a sink, from the effect of its parts.
 use Rattle.std.proofs.Common.{◌≡◌, ◌∙◌, ℕ, Bool, Some, None, Result, Ok, Err, Vec, Global, List, [], ◌∷◌, ◌++◌, length, map, ap, sym, refl}
 use Rattle.std.specs.declared.boxed.Box.{Box}
-use Rattle.schema.specs.declared.token.Token.{Token}
-use Rattle.signature_values.specs.declared.element.Element.{Element}
-use Rattle.signature_values.specs.declared.types.Modifier.{Modifier}
-use Rattle.signature_values.specs.declared.types.Shape.{Shape}
-use Rattle.signature_values.specs.declared.types.TypeSig.{TypeSig, out-TypeSig}
-use Rattle.signature_values.specs.declared.types.MethodSig.{MethodSig, out-MethodSig}
-use Rattle.signature_values.specs.declared.types.Slot.{Slot, out-Slot}
-use Rattle.signature_values.specs.declared.types.Core as cores
-use Rattle.signature_values.specs.declared.types.SlotKind as kinds
-use Rattle.signature_values.specs.declared.types.Ret as rets
-use Rattle.signature_values.specs.Syntax as sig
-use Rattle.signature_values.specs.ElementTypes.{element_code, VOID, PTR, BYREF, CLASS, VALUETYPE, VAR, ARRAY, GENERICINST, TYPEDBYREF, FNPTR, SZARRAY, MVAR}
-use Rattle.signature_values.specs.Parts.{byte, number, index}
-use Rattle.signature_values.specs.Grammar.{modifiers_parts, generic_parts, named_code, method_code, count_types, count_slots}
-use Rattle.signature_values.specs.Views.{core_of, type_of, types_from, content_of, slot_of, slots_from, ret_of, method_of, shape_of}
+use Rattle.table_schema.specs.declared.token.Token.{Token}
+use Rattle.sig_grammar.specs.declared.element.Element.{Element}
+use Rattle.sig_grammar.specs.declared.types.Modifier.{Modifier}
+use Rattle.sig_grammar.specs.declared.types.Shape.{Shape}
+use Rattle.sig_grammar.specs.declared.types.TypeSig.{TypeSig, out-TypeSig}
+use Rattle.sig_grammar.specs.declared.types.MethodSig.{MethodSig, out-MethodSig}
+use Rattle.sig_grammar.specs.declared.types.Slot.{Slot, out-Slot}
+use Rattle.sig_grammar.specs.declared.types.Core as cores
+use Rattle.sig_grammar.specs.declared.types.SlotKind as kinds
+use Rattle.sig_grammar.specs.declared.types.Ret as rets
+use Rattle.sig_grammar.specs.Syntax as sig
+use Rattle.sig_grammar.specs.ElementTypes.{element_code, VOID, PTR, BYREF, CLASS, VALUETYPE, VAR, ARRAY, GENERICINST, TYPEDBYREF, FNPTR, SZARRAY, MVAR}
+use Rattle.sig_grammar.specs.Parts.{byte, number, index}
+use Rattle.sig_grammar.specs.Grammar.{modifiers_parts, generic_parts, named_code, method_code, count_types, count_slots}
+use Rattle.sig_grammar.specs.Views.{core_of, type_of, types_from, content_of, slot_of, slots_from, ret_of, method_of, shape_of}
 use Rattle.walk.specs.Run.{then, run}
 use Rattle.walk.specs.Items.{Item, part, parts_items, demand, is_call, core_items, first_items, typed_items, types_items, content_items, slot_items, slots_items, ret_items, method_items, leaf_items, shape_items}
 use Rattle.walk.proofs.Steps.{run_last, run_both}
 use Rattle.walk.proofs.Loops.{slots_count}
-use Rattle.signature_values.proofs.ViewLemmas.{view_simple, view_void_pointer, view_pointer, view_vector, view_array, view_class, view_value, view_var, view_mvar, view_instance, view_function, view_type, view_typed_ref, view_plain, view_by_ref, view_slot, view_some_ret, view_void_ret, view_method}
+use Rattle.sig_grammar.proofs.ViewLemmas.{view_simple, view_void_pointer, view_pointer, view_vector, view_array, view_class, view_value, view_var, view_mvar, view_instance, view_function, view_type, view_typed_ref, view_plain, view_by_ref, view_slot, view_some_ret, view_void_ret, view_method}
 
 module _ {S : Type 0} (step : Item → S → Result S S) where
   -- both lists, after a step that may have stopped

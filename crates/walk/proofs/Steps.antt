@@ -1,6 +1,6 @@
 -- One item after another.
 use Rattle.std.proofs.Common.{◌≡◌, ◌∙◌, Bool, true, false, Option, None, refl, ap, sym, Result, Ok, Err, List, [], ◌∷◌, ◌++◌}
-use Rattle.signature_values.specs.Parts.{Part}
+use Rattle.sig_grammar.specs.Parts.{Part}
 use Rattle.walk.specs.Run.{after, then, run}
 use Rattle.walk.specs.Items.{Item, part, broken, parts_items, demand}
 

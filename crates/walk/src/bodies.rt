@@ -1,5 +1,5 @@
 ghost use Rattle.std.specs.Prelude.{◌≡◌, map};
-ghost use Rattle.signature_values.specs.Views.{slot_of, local_of, body_of};
+ghost use Rattle.sig_grammar.specs.Views.{slot_of, local_of, body_of};
 ghost use Rattle.walk.specs.Run.{after, run};
 ghost use Rattle.walk.specs.Items.{local_items, locals_items, body_items};
 
@@ -8,8 +8,8 @@ use crate::sink::PartSink;
 use crate::types::{
     bit, visit_content, visit_method, visit_params, visit_ret, visit_slot, visit_types,
 };
-use signature_values::method_byte::HASTHIS;
-use signature_values::{Local, SigBody};
+use sig_grammar::method_byte::HASTHIS;
+use sig_grammar::{Local, SigBody};
 
 /// Visits a local variable (II.23.2.6).
 #[tactic(auto, using(crate::proofs::Steps::steps))]

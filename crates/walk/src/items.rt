@@ -1,12 +1,12 @@
 ghost use Rattle.std.specs.Prelude.{◌≡◌};
-ghost use Rattle.signature_values.specs.Views.{shape_of};
-ghost use Rattle.signature_values.specs.Grammar.{modifier_parts, modifiers_parts, prefix_parts, prefixes_parts, numbers_parts, bounds_parts, shape_parts};
+ghost use Rattle.sig_grammar.specs.Views.{shape_of};
+ghost use Rattle.sig_grammar.specs.Grammar.{modifier_parts, modifiers_parts, prefix_parts, prefixes_parts, numbers_parts, bounds_parts, shape_parts};
 ghost use Rattle.walk.specs.Run.{after, run};
 ghost use Rattle.walk.specs.Items.{parts_items, demand, is_shape, shape_items};
 
 use crate::sink::PartSink;
-use signature_values::element_type::{CMOD_OPT, CMOD_REQD, PINNED};
-use signature_values::{Modifier, Prefix, Shape};
+use sig_grammar::element_type::{CMOD_OPT, CMOD_REQD, PINNED};
+use sig_grammar::{Modifier, Prefix, Shape};
 
 /// Reports to the sink that the value is broken, if the condition does not hold.
 pub fn visit_demand<S: PartSink>(sink: &mut S, holds: bool) -> Option<()>

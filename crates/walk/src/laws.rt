@@ -1,7 +1,7 @@
 ghost use Rattle.std.specs.Prelude.{◌≡◌, ◌↔◌, ℕ, true};
-ghost use Rattle.signature_values.specs.Grammar.{body_parts};
-ghost use Rattle.signature_values.specs.Limits.{IsBodyWithin};
-ghost use Rattle.signature_values.specs.Syntax.{Body};
+ghost use Rattle.sig_grammar.specs.Grammar.{body_parts};
+ghost use Rattle.sig_grammar.specs.Limits.{IsBodyWithin};
+ghost use Rattle.sig_grammar.specs.Syntax.{Body};
 ghost use Rattle.walk.specs.Items.{body_items, kept, unbroken};
 
 /// The parts that the traversal passes are the parts of the grammar, in encoded order. It reports a broken

@@ -19,5 +19,5 @@ mod types;
 
 pub use bodies::visit_body;
 pub use laws::items_are_parts;
-pub use signature_values::SigBody;
+pub use sig_grammar::SigBody;
 pub use sink::PartSink;

@@ -1,9 +1,9 @@
 ghost use Rattle.std.specs.Prelude.{◌≡◌, Result};
-ghost use Rattle.signature_values.specs.Parts.{byte, number, signed, index};
+ghost use Rattle.sig_grammar.specs.Parts.{byte, number, signed, index};
 ghost use Rattle.walk.specs.Run.{after};
 ghost use Rattle.walk.specs.Items.{Item, part, broken};
 
-use schema::Token;
+use table_schema::Token;
 
 /// Takes the parts of a signature, one after another, until it stops.
 ///

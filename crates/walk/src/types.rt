@@ -1,17 +1,17 @@
 ghost use Rattle.std.specs.Prelude.{◌≡◌, ◌-◌, nat_lt, map};
-ghost use Rattle.signature_values.specs.Views.{core_of, type_of, types_from, content_of, slot_of, slots_from, ret_of, method_of};
-ghost use Rattle.signature_values.specs.Grammar.{flag, method_code, named_code, count_slots, generic_parts};
+ghost use Rattle.sig_grammar.specs.Views.{core_of, type_of, types_from, content_of, slot_of, slots_from, ret_of, method_of};
+ghost use Rattle.sig_grammar.specs.Grammar.{flag, method_code, named_code, count_slots, generic_parts};
 ghost use Rattle.walk.specs.Run.{after, run};
 ghost use Rattle.walk.specs.Items.{parts_items, level, leaf_items, core_items, first_items, typed_items, types_items, content_items, slot_items, slots_items, ret_items, method_items, may_stand, is_call, stands_at, param_items};
 
 use crate::items::{visit_demand, visit_modifiers, visit_shape};
 use crate::sink::PartSink;
-use signature_values::element_type::{
+use sig_grammar::element_type::{
     ARRAY, BYREF, CLASS, FNPTR, GENERICINST, MVAR, PTR, SENTINEL, SZARRAY, TYPEDBYREF, VALUETYPE,
     VAR, VOID,
 };
-use signature_values::method_byte::{EXPLICITTHIS, GENERIC, HASTHIS};
-use signature_values::{Core, MethodSig, Ret, Slot, SlotKind, TypeSig};
+use sig_grammar::method_byte::{EXPLICITTHIS, GENERIC, HASTHIS};
+use sig_grammar::{Core, MethodSig, Ret, Slot, SlotKind, TypeSig};
 
 /// The byte that says whether a generic type is a value type or a class.
 fn named_byte(value: bool) -> u16

@@ -1,6 +1,6 @@
 ghost use Rattle.std.specs.Prelude.{◌≡◌, slice_index};
-ghost use Rattle.schema.specs.declared.table.TableId.{TableId as Table};
-ghost use Rattle.schema.specs.Tables.{tables, table_number};
+ghost use Rattle.table_schema.specs.declared.table.TableId.{TableId as Table};
+ghost use Rattle.table_schema.specs.Tables.{tables, table_number};
 ghost use Rattle.schema.specs.LaidOut.{bits_of};
 ghost use Rattle.metadata.specs.Metadata.{count_in};
 ghost use Rattle.metadata.specs.Valid.{IsValid};
@@ -9,7 +9,8 @@ ghost use Rattle.canonical.specs.TableStream.{is_sorted as is_sorted_in};
 use canonical::sorted_bits_tell_order;
 use owned_model::Model;
 use root_plan::bit;
-use schema::{TableId, bits_are_known, key, tables_stand};
+use schema::bits_are_known;
+use table_schema::{TableId, key, tables_stand};
 
 /// The row count of each table, by table number.
 pub fn counts(model: &Model) -> [u32; 45]

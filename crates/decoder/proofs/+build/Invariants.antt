@@ -1,6 +1,6 @@
 use Rattle.std.proofs.Common.{◌≡◌, ◌+◌, ◌*◌, ◌-◌, map, length}
-use Rattle.signature_values.specs.Reading.{many_at, typed_at, core_at, params_at}
-use Rattle.signature_values.specs.Views.{type_of, slot_of}
+use Rattle.sig_grammar.specs.Reading.{many_at, typed_at, core_at, params_at}
+use Rattle.sig_grammar.specs.Views.{type_of, slot_of}
 use Rattle.decoder.proofs.Items.{with_front}
 use Rattle.decoder.proofs.Parameters.{with_params, still}
 use Rattle.decoder.proofs.+build.Given as goal

@@ -1,8 +1,7 @@
 //! Tests of `user_heap`: user strings and their flags.
 
-use heaps::user_string;
+use heaps::{UserHeap, user_string};
 use std::test::Fail;
-use user_heap::UserHeap;
 
 #[test]
 fn pushes_user_strings(rt: HostRuntime) -> Result<(), Fail> {

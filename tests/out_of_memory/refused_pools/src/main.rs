@@ -1,4 +1,4 @@
-//! Every call of `packed`, `heaps`, `user_heap`, `rows` and `signatures` that has an answer for want of memory, once
+//! Every call of `packed`, `heaps`, `rows` and `signatures` that has an answer for want of memory, once
 //! and, where it gives that answer, once more.
 
 mod module_row;

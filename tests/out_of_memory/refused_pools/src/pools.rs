@@ -1,6 +1,5 @@
-use heaps::{BlobPool, GuidPool, PoolError, TextPool, guid_text};
+use heaps::{BlobPool, GuidPool, PoolError, TextPool, UserHeap, guid_text};
 use one_refusal::{Run, Stop, kept};
-use user_heap::UserHeap;
 
 /// The planned heap of the texts below: one that another ends with stands in it.
 const TEXTS: [u8; 11] = *b"\0Name\0Game\0";

@@ -1,8 +1,8 @@
 use Rattle.std.proofs.Common.{List, get_or, ap, ◌∙◌, arith}
 use Rattle.std.proofs.lemmas.Result.{err_from_is_err_and}
 use Rattle.packed.proofs.DemandLemmas.{before_none, before_more, before_all, before_fails}
-use Rattle.schema.specs.declared.table.TableId.{TableId}
-use Rattle.schema.specs.declared.table.TableId.TheVariants.{Module}
+use Rattle.table_schema.specs.declared.table.TableId.{TableId}
+use Rattle.table_schema.specs.declared.table.TableId.TheVariants.{Module}
 use Rattle.metadata.specs.Demands.{demands_of_cells, demands_of_table_at}
 use Rattle.checks.proofs.cell_checks.check_cells.Goals as goal
 

@@ -1,7 +1,7 @@
 use Rattle.std.proofs.Common.{List, length, ap, arith}
 use Rattle.std.proofs.lemmas.Result.{err_from_is_err_and}
 use Rattle.packed.proofs.DemandLemmas.{before_none, before_more, before_all, before_fails}
-use Rattle.schema.specs.declared.column.Column.{Column}
+use Rattle.table_schema.specs.declared.column.Column.{Column}
 use Rattle.metadata.specs.Demands.{demands_of_row}
 use Rattle.checks.proofs.cell_checks.check_row.Goals as goal
 

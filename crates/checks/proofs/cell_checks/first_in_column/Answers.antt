@@ -1,5 +1,5 @@
 use Rattle.std.proofs.Common.{inl, inr}
-use Rattle.schema.specs.declared.column.ColumnKind.TheVariants as kind
+use Rattle.table_schema.specs.declared.column.ColumnKind.TheVariants as kind
 use Rattle.checks.proofs.Columns.{passed_stands, plain_stands}
 use Rattle.checks.proofs.cell_checks.first_in_column.Goals as goal
 

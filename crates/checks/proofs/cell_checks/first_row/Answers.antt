@@ -1,5 +1,5 @@
 use Rattle.std.proofs.Common.{List, length, ap, ◌∙◌, arith}
-use Rattle.schema.specs.declared.column.Column.{Column}
+use Rattle.table_schema.specs.declared.column.Column.{Column}
 use Rattle.metadata.specs.Demands.{demands_of_cell}
 use Rattle.checks.proofs.Columns.{meets_more, rows_stand}
 use Rattle.checks.proofs.cell_checks.first_row.Goals as goal

@@ -1,5 +1,5 @@
 use Rattle.std.proofs.Common.{◌≡◌, ℕ, ◌≤◌, ◌<◌, false, Ok}
-use Rattle.schema.specs.declared.column.ColumnKind.TheVariants as kind
+use Rattle.table_schema.specs.declared.column.ColumnKind.TheVariants as kind
 use Rattle.metadata.specs.Source.{number_of}
 use Rattle.checks.specs.Columns.{IsChecked}
 use Rattle.checks.proofs.cell_checks.first_without_text.Given as goal

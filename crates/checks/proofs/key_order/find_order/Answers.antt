@@ -1,6 +1,6 @@
 use Rattle.std.proofs.Common.{List, slice_index_or, ap, arith, ◌∙◌, length-set}
-use Rattle.schema.specs.declared.table.TableId.{TableId}
-use Rattle.schema.specs.declared.table.TableId.TheVariants.{Module}
+use Rattle.table_schema.specs.declared.table.TableId.{TableId}
+use Rattle.table_schema.specs.declared.table.TableId.TheVariants.{Module}
 use Rattle.checks.proofs.OrderLemmas.{told_more}
 use Rattle.checks.proofs.key_order.find_order.Goals as goal
 

@@ -1,6 +1,6 @@
 use Rattle.std.proofs.Common.{◌≡◌, ℕ, Option, Some, sym, ◌∙◌, subst}
 use Rattle.packed.specs.Demand.{AllHold}
-use Rattle.schema.specs.Columns.{key_of}
+use Rattle.table_schema.specs.Columns.{key_of}
 use Rattle.metadata.specs.Rules.{is_said_sorted}
 use Rattle.metadata.specs.Demands.{demands_of_order_by}
 use Rattle.checks.proofs.Orders.{order_met}

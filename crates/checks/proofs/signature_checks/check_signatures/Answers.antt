@@ -2,8 +2,8 @@ use Rattle.packed.proofs.DemandLemmas.{before_none, before_more, before_all}
 use Rattle.std.proofs.Common.{◌≡◌, List, get_or, ap, arith}
 use Rattle.std.proofs.lemmas.Result.{err_from_is_err_and}
 use Rattle.metadata.specs.Demands.{demands_of_signatures_at, demands_of_signatures}
-use Rattle.schema.specs.declared.table.TableId.{TableId}
-use Rattle.schema.specs.declared.table.TableId.TheVariants.{Module}
+use Rattle.table_schema.specs.declared.table.TableId.{TableId}
+use Rattle.table_schema.specs.declared.table.TableId.TheVariants.{Module}
 use Rattle.metadata.specs.Rows.{table_at}
 use Rattle.checks.specs.Budgets.{FailsWithin}
 use Rattle.checks.specs.Signatures.{table_bytes_at, signature_bytes}

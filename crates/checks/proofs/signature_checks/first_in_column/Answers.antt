@@ -1,6 +1,6 @@
 use Rattle.std.proofs.Common.{rules, ℕ, Option, Some, None, IfSome, ◌∙◌, ap, sym, refl}
-use Rattle.schema.specs.declared.column.Column.{Column}
-use Rattle.schema.specs.declared.column.ColumnKind.TheVariants as kind
+use Rattle.table_schema.specs.declared.column.Column.{Column}
+use Rattle.table_schema.specs.declared.column.ColumnKind.TheVariants as kind
 use Rattle.checks.specs.Signatures.{column_bytes}
 use Rattle.checks.proofs.Columns.{passed_spells, none_asked}
 use Rattle.checks.proofs.Spending.{spends_any}

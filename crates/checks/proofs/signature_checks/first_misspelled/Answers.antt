@@ -1,5 +1,5 @@
 use Rattle.std.proofs.Common.{◌≡◌, ℕ, ◌+◌, ◌-◌, List, length, Ok, sym, ap, ◌∙◌, subst, inl, inr, arith}
-use Rattle.schema.specs.declared.column.ColumnKind.TheVariants as kind
+use Rattle.table_schema.specs.declared.column.ColumnKind.TheVariants as kind
 use Rattle.metadata.specs.Source.{number_of}
 use Rattle.checks.specs.Columns.{IsSpelled}
 use Rattle.checks.specs.Passed.{no_slots}

@@ -1,6 +1,6 @@
 use Rattle.std.proofs.Common.{List, length, ap, arith}
-use Rattle.schema.specs.declared.column.Column.{Column}
-use Rattle.schema.specs.Columns.{columns_of}
+use Rattle.table_schema.specs.declared.column.Column.{Column}
+use Rattle.table_schema.specs.Columns.{columns_of}
 use Rattle.metadata.specs.Demands.{demands_of_signature}
 use Rattle.checks.specs.Signatures.{column_bytes, table_bytes}
 use Rattle.checks.proofs.Columns.{meets_more, rows_spell}

@@ -1,5 +1,5 @@
 use Rattle.std.proofs.Common.{◌<◌, ◌≤◌, ℕ, List, sym, subst, ◌∙◌, arith}
-use Rattle.schema.specs.declared.table.TableId.TheVariants.{TypeDef}
+use Rattle.table_schema.specs.declared.table.TableId.TheVariants.{TypeDef}
 use Rattle.metadata.specs.Metadata.{cell_in}
 use Rattle.metadata.specs.Model.{IsModel}
 use Rattle.metadata.specs.Placed.{source_of}

@@ -1,6 +1,6 @@
 use Rattle.std.proofs.Common.{◌≡◌, ℕ, List, sym, subst}
 use Rattle.std.proofs.lemmas.Option.{same_Some}
-use Rattle.schema.specs.declared.table.TableId.{TableId}
+use Rattle.table_schema.specs.declared.table.TableId.{TableId}
 use Rattle.metadata.specs.Model.{IsModel}
 use Rattle.clim_c.specs.Told.{TellsCell}
 use Rattle.clim_c.proofs.shown.clim_cell_at.Goals as goal

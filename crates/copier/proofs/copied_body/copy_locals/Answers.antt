@@ -1,4 +1,4 @@
-use Rattle.signature_values.specs.Views.{local_of}
+use Rattle.sig_grammar.specs.Views.{local_of}
 use Rattle.copier.proofs.Made.{copied_next, copied_all}
 use Rattle.copier.proofs.copied_body.copy_locals.Goals as goal
 

@@ -1,5 +1,5 @@
 use Rattle.std.proofs.Common.{◌≡◌, map, take}
-use Rattle.signature_values.specs.Views.{local_of}
+use Rattle.sig_grammar.specs.Views.{local_of}
 use Rattle.copier.proofs.copied_body.copy_locals.Given as goal
 
 abbrev pub invariant-loop-local : goal.invariant-loop-local

@@ -1,10 +1,10 @@
 use Rattle.std.proofs.Common.{◌≡◌, ◌∙◌, map, sym, ap}
-use Rattle.signature_values.specs.declared.types.TypeSig.{out-TypeSig}
-use Rattle.signature_values.specs.declared.types.Slot.{out-Slot}
-use Rattle.signature_values.specs.declared.types.MethodSig.{out-MethodSig}
-use Rattle.signature_values.specs.Views.{core_of, type_of, slot_of, slots_from}
-use Rattle.signature_values.specs.Syntax as sig
-use Rattle.signature_values.proofs.ViewLemmas.{view_type, view_slot, view_method}
+use Rattle.sig_grammar.specs.declared.types.TypeSig.{out-TypeSig}
+use Rattle.sig_grammar.specs.declared.types.Slot.{out-Slot}
+use Rattle.sig_grammar.specs.declared.types.MethodSig.{out-MethodSig}
+use Rattle.sig_grammar.specs.Views.{core_of, type_of, slot_of, slots_from}
+use Rattle.sig_grammar.specs.Syntax as sig
+use Rattle.sig_grammar.proofs.ViewLemmas.{view_type, view_slot, view_method}
 use Rattle.copier.proofs.Made.{copied_next, copied_all, made_type, made_slot, made_method}
 use Rattle.copier.proofs.copied_types.+copies.Goals as goal
 

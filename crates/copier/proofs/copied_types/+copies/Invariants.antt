@@ -1,5 +1,5 @@
 use Rattle.std.proofs.Common.{◌≡◌, map, take}
-use Rattle.signature_values.specs.Views.{type_of, slot_of}
+use Rattle.sig_grammar.specs.Views.{type_of, slot_of}
 use Rattle.copier.proofs.copied_types.+copies.Given as goal
 
 abbrev pub invariant-copy_slots-loop-slot : goal.invariant-copy_slots-loop-slot

@@ -1,5 +1,5 @@
 use Rattle.std.proofs.Common.{refl}
-use Rattle.signature_values.specs.Views.{body_of}
+use Rattle.sig_grammar.specs.Views.{body_of}
 use Rattle.copier.proofs.Found.{first_found}
 use Rattle.copier.proofs.row_checker.first_bad.Goals as goal
 

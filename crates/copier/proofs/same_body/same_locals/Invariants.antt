@@ -1,4 +1,4 @@
-use Rattle.signature_values.specs.Views.{local_of}
+use Rattle.sig_grammar.specs.Views.{local_of}
 use Rattle.copier.proofs.SameLemmas.{SameFrom}
 use Rattle.copier.proofs.same_body.same_locals.Given as goal
 

@@ -1,6 +1,6 @@
 use Rattle.std.proofs.Common.{◌∙◌, ap}
-use Rattle.signature_values.specs.Views.{core_of}
-use Rattle.signature_values.proofs.ViewLemmas.{view_vector, view_function}
+use Rattle.sig_grammar.specs.Views.{core_of}
+use Rattle.sig_grammar.proofs.ViewLemmas.{view_vector, view_function}
 use Rattle.copier.proofs.SameLemmas.{of_another_form, shown_as}
 use Rattle.copier.proofs.same_types.+same.Goals as goal
 

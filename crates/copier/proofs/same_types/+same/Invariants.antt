@@ -1,4 +1,4 @@
-use Rattle.signature_values.specs.Views.{type_of, slot_of}
+use Rattle.sig_grammar.specs.Views.{type_of, slot_of}
 use Rattle.copier.proofs.SameLemmas.{SameFrom}
 use Rattle.copier.proofs.same_types.+same.Given as goal
 

@@ -1,6 +1,6 @@
 use Rattle.std.proofs.Common.{[], refl}
-use Rattle.signature_values.specs.Reading.{core_at}
-use Rattle.signature_values.specs.Columns.{body_at}
+use Rattle.sig_grammar.specs.Reading.{core_at}
+use Rattle.sig_grammar.specs.Columns.{body_at}
 use Rattle.decoder.proofs.Cores.{fails_end, body_end}
 use Rattle.decoder.proofs.Items.{failed}
 use Rattle.decoder.proofs.columns.body.Goals as goal

@@ -1,8 +1,8 @@
 use Rattle.std.proofs.Common.{List, refl}
-use Rattle.signature_values.specs.Syntax.{Slot}
-use Rattle.signature_values.specs.Views.{slot_of}
-use Rattle.signature_values.specs.Reading.{change, many_at, core_at, slot_at, both}
-use Rattle.signature_values.specs.Columns.{property_from, headed_at}
+use Rattle.sig_grammar.specs.Syntax.{Slot}
+use Rattle.sig_grammar.specs.Views.{slot_of}
+use Rattle.sig_grammar.specs.Reading.{change, many_at, core_at, slot_at, both}
+use Rattle.sig_grammar.specs.Columns.{property_from, headed_at}
 use Rattle.decoder.proofs.Parameters.{many_is, many_fails}
 use Rattle.decoder.proofs.Cores.{fails_change}
 use Rattle.decoder.proofs.columns.property.Goals as goal

@@ -1,9 +1,9 @@
 use Rattle.std.proofs.Common.{◌∙◌, map, Option, List, ℕ, sym, subst}
 use Rattle.std.proofs.lemmas.List.{map-append}
-use Rattle.signature_values.specs.Syntax.{LocalVariable}
-use Rattle.signature_values.specs.Reading.{core_at}
-use Rattle.signature_values.specs.Columns.{local_at}
-use Rattle.signature_values.specs.Views.{local_of}
+use Rattle.sig_grammar.specs.Syntax.{LocalVariable}
+use Rattle.sig_grammar.specs.Reading.{core_at}
+use Rattle.sig_grammar.specs.Columns.{local_at}
+use Rattle.sig_grammar.specs.Views.{local_of}
 use Rattle.decoder.specs.Gives.{Fails}
 use Rattle.decoder.proofs.Items.{failed, many_next, many_bad, many_end}
 use Rattle.decoder.proofs.columns.variables.Goals as goal

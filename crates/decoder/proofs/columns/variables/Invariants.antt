@@ -1,7 +1,7 @@
 use Rattle.std.proofs.Common.{◌≡◌, ◌-◌, map}
-use Rattle.signature_values.specs.Reading.{many_at, core_at}
-use Rattle.signature_values.specs.Columns.{local_at}
-use Rattle.signature_values.specs.Views.{local_of}
+use Rattle.sig_grammar.specs.Reading.{many_at, core_at}
+use Rattle.sig_grammar.specs.Columns.{local_at}
+use Rattle.sig_grammar.specs.Views.{local_of}
 use Rattle.decoder.proofs.Items.{with_front}
 use Rattle.decoder.proofs.columns.variables.Given as goal
 

@@ -1,6 +1,6 @@
 use Rattle.std.proofs.Common.{◌≡◌, ◌∙◌, sym, Option, List, ℕ, subst, false}
-use Rattle.signature_values.specs.declared.types.Modifier.{Modifier}
-use Rattle.signature_values.specs.Reading.{starts_modifier}
+use Rattle.sig_grammar.specs.declared.types.Modifier.{Modifier}
+use Rattle.sig_grammar.specs.Reading.{starts_modifier}
 use Rattle.decoder.specs.Gives.{Fails}
 use Rattle.decoder.proofs.Items.{failed, modifiers_next, modifiers_end, modifiers_bad, modifier_shorter}
 use Rattle.decoder.proofs.Leaves.{given}

@@ -1,5 +1,5 @@
 use Rattle.std.proofs.Common.{◌≡◌, length}
-use Rattle.signature_values.specs.Reading.{modifiers_at}
+use Rattle.sig_grammar.specs.Reading.{modifiers_at}
 use Rattle.decoder.proofs.Items.{with_front}
 use Rattle.decoder.proofs.modifiers.modifiers.Given as goal
 

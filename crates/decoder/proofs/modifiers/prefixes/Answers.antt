@@ -1,6 +1,6 @@
 use Rattle.std.proofs.Common.{◌≡◌, ◌∙◌, sym, Option, List, ℕ, subst, false}
-use Rattle.signature_values.specs.declared.body.Prefix.{Prefix}
-use Rattle.signature_values.specs.Reading.{starts_prefix}
+use Rattle.sig_grammar.specs.declared.body.Prefix.{Prefix}
+use Rattle.sig_grammar.specs.Reading.{starts_prefix}
 use Rattle.decoder.specs.Gives.{Fails}
 use Rattle.decoder.proofs.Items.{failed, prefixes_next, prefixes_end, prefixes_bad, prefix_shorter}
 use Rattle.decoder.proofs.Leaves.{given}

@@ -1,5 +1,5 @@
 use Rattle.std.proofs.Common.{◌∙◌, sym, ℕ, Option, List, subst}
-use Rattle.signature_values.specs.Reading.{number_at}
+use Rattle.sig_grammar.specs.Reading.{number_at}
 use Rattle.decoder.specs.Gives.{Fails}
 use Rattle.decoder.proofs.Items.{failed, many_next, many_bad, many_end}
 use Rattle.decoder.proofs.shape.numbers.Goals as goal

@@ -1,5 +1,5 @@
 use Rattle.std.proofs.Common.{◌≡◌, ◌-◌}
-use Rattle.signature_values.specs.Reading.{many_at, number_at}
+use Rattle.sig_grammar.specs.Reading.{many_at, number_at}
 use Rattle.decoder.proofs.Items.{with_front}
 use Rattle.decoder.proofs.shape.numbers.Given as goal
 

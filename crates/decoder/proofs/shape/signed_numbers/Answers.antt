@@ -1,6 +1,6 @@
 use Rattle.std.proofs.Common.{◌∙◌, sym, ℕ, ℤ, SFits, w32, Option, List, subst, rules}
 use Rattle.std.proofs.lemmas.Int.{to_z-of_z}
-use Rattle.signature_values.specs.Reading.{signed_at}
+use Rattle.sig_grammar.specs.Reading.{signed_at}
 use Rattle.decoder.specs.Gives.{Fails}
 use Rattle.decoder.proofs.Items.{failed, many_next, many_bad, many_end}
 use Rattle.decoder.proofs.shape.signed_numbers.Goals as goal

@@ -1,5 +1,5 @@
 use Rattle.std.proofs.Common.{◌≡◌, ◌-◌}
-use Rattle.signature_values.specs.Reading.{many_at, signed_at}
+use Rattle.sig_grammar.specs.Reading.{many_at, signed_at}
 use Rattle.decoder.proofs.Items.{with_front}
 use Rattle.decoder.proofs.shape.signed_numbers.Given as goal
 

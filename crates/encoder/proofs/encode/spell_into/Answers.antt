@@ -1,6 +1,6 @@
 use Rattle.std.proofs.Common.{◌∙◌, ◌-◌, ◌≤◌, length, ap, arith}
-use Rattle.signature_values.specs.Views.{body_of}
-use Rattle.signature_values.specs.Spells.{short}
+use Rattle.sig_grammar.specs.Views.{body_of}
+use Rattle.sig_grammar.specs.Spells.{short}
 use Rattle.encoder.specs.Written.{Written}
 use Rattle.encoder.proofs.Filled.{body_filled}
 use Rattle.encoder.proofs.encode.spell_into.Goals as goal

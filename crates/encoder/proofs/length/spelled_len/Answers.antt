@@ -1,5 +1,5 @@
 use Rattle.std.proofs.Common.{arith, refl}
-use Rattle.signature_values.specs.Views.{body_of}
+use Rattle.sig_grammar.specs.Views.{body_of}
 use Rattle.encoder.proofs.Measured.{refused, measured}
 use Rattle.encoder.proofs.length.spelled_len.Goals as goal
 

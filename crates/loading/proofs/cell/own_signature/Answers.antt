@@ -1,8 +1,8 @@
 use Rattle.std.proofs.Common.{◌≡◌, List, ℕ, Err, refl, ap, subst}
 use Rattle.std.proofs.lemmas.Grind.{not_there}
-use Rattle.schema.specs.declared.column.ColumnKind.{ColumnKind}
-use Rattle.schema.specs.declared.column.ColumnKind.TheVariants.{Signature}
-use Rattle.schema.specs.declared.column.SigKind.{SigKind}
+use Rattle.table_schema.specs.declared.column.ColumnKind.{ColumnKind}
+use Rattle.table_schema.specs.declared.column.ColumnKind.TheVariants.{Signature}
+use Rattle.table_schema.specs.declared.column.SigKind.{SigKind}
 use Rattle.metadata.specs.Cell.{Cell as Says}
 use Rattle.reading.specs.Shown.{ShowsSignature}
 use Rattle.loading.proofs.cell.own_signature.Goals as goal

@@ -1,5 +1,5 @@
 use Rattle.std.proofs.Common.{ap}
-use Rattle.schema.specs.CellColumns.{column_of}
+use Rattle.table_schema.specs.CellColumns.{column_of}
 use Rattle.metadata.specs.Valid.{kind_at}
 use Rattle.metadata.specs.KeyOrder.{key_number}
 use Rattle.metadata.proofs.KeyLemmas.{KeysKnown}

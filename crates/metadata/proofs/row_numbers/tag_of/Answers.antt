@@ -1,6 +1,6 @@
 use Rattle.std.proofs.Common.{length, None, sym, arith}
 use Rattle.std.proofs.lemmas.List.Sums.{position_or_len_is}
-use Rattle.signature_values.specs.Parts.{is_table}
+use Rattle.sig_grammar.specs.Parts.{is_table}
 use Rattle.metadata.proofs.row_numbers.tag_of.Goals as goal
 
 pub returns-clause-value : goal.returns-clause-value

@@ -1,5 +1,5 @@
 use Rattle.std.proofs.Common.{◌≡◌, ℕ, ◌<◌, false, None, slice_index_or}
-use Rattle.signature_values.specs.Parts.{is_table}
+use Rattle.sig_grammar.specs.Parts.{is_table}
 use Rattle.metadata.proofs.row_numbers.tag_of.Given as goal
 
 abbrev pub invariant-loop-tag : goal.invariant-loop-tag

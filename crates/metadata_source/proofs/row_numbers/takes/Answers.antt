@@ -1,7 +1,7 @@
 use Rattle.std.proofs.Common.{◌↔◌, IsTrue, List, Option, Some, sym, subst}
 use Rattle.std.specs.Prelude.{Contains}
-use Rattle.schema.specs.declared.table.TableId.{TableId}
-use Rattle.schema.specs.declared.column.ColumnKind.{ColumnKind}
+use Rattle.table_schema.specs.declared.table.TableId.{TableId}
+use Rattle.table_schema.specs.declared.column.ColumnKind.{ColumnKind}
 use Rattle.metadata.specs.Cell.{Ref}
 use Rattle.metadata.specs.Kinds.{IsOfKind}
 use Rattle.metadata_source.proofs.row_numbers.takes.Goals as goal

@@ -1,4 +1,4 @@
-use Rattle.schema.specs.Tables.{tables}
+use Rattle.table_schema.specs.Tables.{tables}
 use Rattle.plan.specs.Numbered.{with_tables, none_numbered}
 use Rattle.plan.proofs.LawLemmas.{IndexesStay, numbered_is, over_is}
 use Rattle.plan.proofs.laws.numberings_are_of_models.Goals as goal

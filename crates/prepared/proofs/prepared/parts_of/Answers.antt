@@ -2,9 +2,9 @@ use Rattle.std.proofs.Common.{length, ap, ◌∙◌, arith}
 use Rattle.std.proofs.Math.Logic.{∥∥₁_elim}
 use Rattle.std.specs.Coded.{le_prop}
 use native.Mathlib.Nat.{ℕ_set}
-use Rattle.heaps.specs.TextHeap.{text_heap}
-use Rattle.heaps.specs.BlobHeap.{blob_heap}
-use Rattle.heaps.specs.GuidHeap.{guid_heap}
+use Rattle.heap_pools.specs.TextHeap.{text_heap}
+use Rattle.heap_pools.specs.BlobHeap.{blob_heap}
+use Rattle.heap_pools.specs.GuidHeap.{guid_heap}
 use Rattle.root_plan.specs.Planned.{planned_tables}
 use Rattle.prepared.proofs.PlannedRoots.{short, low}
 use Rattle.prepared.proofs.prepared.parts_of.Goals as goal

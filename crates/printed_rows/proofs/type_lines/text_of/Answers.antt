@@ -1,4 +1,4 @@
-use Rattle.schema.specs.declared.table.TableId.TheVariants.{TypeDef}
+use Rattle.table_schema.specs.declared.table.TableId.TheVariants.{TypeDef}
 use Rattle.opening.specs.Views.{row_count}
 use Rattle.printed_rows.proofs.TypeTexts.{not_another, place_within}
 use Rattle.printed_rows.proofs.type_lines.text_of.Goals as goal

@@ -1,6 +1,6 @@
 use Rattle.std.proofs.Common.{ℕ, Bool, List, [], ◌∷◌, ◌++◌, ap, sym, ◌∙◌}
-use Rattle.schema.specs.declared.table.TableId.{TableId}
-use Rattle.schema.specs.Tables.{tables}
+use Rattle.table_schema.specs.declared.table.TableId.{TableId}
+use Rattle.table_schema.specs.Tables.{tables}
 use Rattle.schema.specs.LaidOut.{number_bytes, bits_of, counts_bytes}
 use Rattle.canonical.specs.TableStream.{sizes_of, header_bytes}
 use Rattle.put.specs.TableHeader.{table_header, is_counted}

@@ -1,5 +1,5 @@
 use Rattle.std.proofs.Common.{ap, ◌∙◌, ltb, get_or, arith}
-use Rattle.schema.specs.declared.table.TableId.TheVariants.{Module}
+use Rattle.table_schema.specs.declared.table.TableId.TheVariants.{Module}
 use Rattle.put.specs.TableHeader.{is_counted, bit_if}
 use Rattle.put.proofs.CountLemmas.{more_bits, all_bits}
 use Rattle.put.proofs.table_header.valid.Goals as goal

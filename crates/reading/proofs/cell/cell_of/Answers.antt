@@ -1,5 +1,5 @@
 use Rattle.std.proofs.Common.{sym, ◌∙◌, ap}
-use Rattle.schema.specs.declared.column.Column.{Column}
+use Rattle.table_schema.specs.declared.column.Column.{Column}
 use Rattle.reading.proofs.ShownLemmas.{text_there, text_shown, blob_there, blob_shown, signature_there, signature_shown, coded_shown}
 use Rattle.reading.proofs.cell.cell_of.Goals as goal
 

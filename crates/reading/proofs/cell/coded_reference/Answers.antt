@@ -1,6 +1,6 @@
 use Rattle.std.proofs.Common.{Some, ◌∙◌, ap}
 use Rattle.std.proofs.lemmas.Option.{same_Some}
-use Rattle.schema.specs.declared.token.Token.{Token}
+use Rattle.table_schema.specs.declared.token.Token.{Token}
 use Rattle.reading.proofs.cell.coded_reference.Goals as goal
 
 pub unreachable-requires : goal.unreachable-requires

@@ -1,6 +1,6 @@
 use Rattle.std.proofs.Common.{sym, ◌∙◌, ap}
-use Rattle.schema.specs.Columns.{column_at}
-use Rattle.schema.specs.CellColumns.{column_of}
+use Rattle.table_schema.specs.Columns.{column_at}
+use Rattle.table_schema.specs.CellColumns.{column_of}
 use Rattle.metadata.specs.Cell.{Start}
 use Rattle.metadata.specs.Metadata.{cell_in}
 use Rattle.metadata.specs.Source.{number_of}

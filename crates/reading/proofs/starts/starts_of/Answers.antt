@@ -1,7 +1,7 @@
 use Rattle.std.proofs.Common.{◌≡◌, ℕ, zero, suc, ◌-◌, ◌≤◌, List, length, slice_index, refl, ap, sym, ◌∙◌, arith, inl, inr}
 use Rattle.std.proofs.lemmas.Bool.{cases_eq}
-use Rattle.schema.specs.Columns.{column_at}
-use Rattle.schema.specs.CellColumns.{column_of}
+use Rattle.table_schema.specs.Columns.{column_at}
+use Rattle.table_schema.specs.CellColumns.{column_of}
 use Rattle.metadata.specs.Cell.{Start}
 use Rattle.metadata.specs.Metadata.{cell_in}
 use Rattle.metadata.specs.Source.{rows_in, number_of}

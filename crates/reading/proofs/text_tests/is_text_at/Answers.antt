@@ -1,7 +1,7 @@
 use Rattle.std.proofs.Common.{◌≡◌, ℕ, List, IsTrue, ◌↔◌, sym, ◌∙◌, ap, subst}
-use Rattle.heaps.specs.Entries.{IsText}
-use Rattle.schema.specs.Columns.{column_at}
-use Rattle.schema.specs.CellColumns.{column_of}
+use Rattle.heap_entries.specs.Entries.{IsText}
+use Rattle.table_schema.specs.Columns.{column_at}
+use Rattle.table_schema.specs.CellColumns.{column_of}
 use Rattle.metadata.specs.Metadata.{cell_in}
 use Rattle.metadata.specs.Source.{number_of}
 use Rattle.metadata.specs.Starts.{start_of}

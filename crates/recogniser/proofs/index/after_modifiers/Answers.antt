@@ -1,5 +1,5 @@
 use Rattle.std.proofs.Common.{◌≡◌, ◌∙◌, sym, false}
-use Rattle.signature_values.specs.Reading.{starts_modifier}
+use Rattle.sig_grammar.specs.Reading.{starts_modifier}
 use Rattle.recogniser.proofs.Items.{modifier_shorter, modifiers_next, modifiers_bad, modifiers_end}
 use Rattle.recogniser.proofs.index.after_modifiers.Goals as goal
 

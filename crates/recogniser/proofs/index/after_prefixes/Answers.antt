@@ -1,5 +1,5 @@
 use Rattle.std.proofs.Common.{◌≡◌, ◌∙◌, sym, false}
-use Rattle.signature_values.specs.Reading.{starts_prefix}
+use Rattle.sig_grammar.specs.Reading.{starts_prefix}
 use Rattle.recogniser.proofs.Items.{prefix_shorter, prefixes_next, prefixes_bad, prefixes_end}
 use Rattle.recogniser.proofs.index.after_prefixes.Goals as goal
 

@@ -1,7 +1,7 @@
 use Rattle.std.proofs.Common.{◌≡◌, ◌↔◌, ℕ, Bool, false, IsTrue, Some, List, slice_index_or, ap, arith, ◌∙◌, length-set}
-use Rattle.schema.specs.declared.table.TableId.{TableId}
-use Rattle.schema.specs.declared.table.TableId.TheVariants.{Module}
-use Rattle.schema.specs.Columns.{key_of}
+use Rattle.table_schema.specs.declared.table.TableId.{TableId}
+use Rattle.table_schema.specs.declared.table.TableId.TheVariants.{Module}
+use Rattle.table_schema.specs.Columns.{key_of}
 use Rattle.metadata.specs.KeyOrder.{IsKeyOrdered}
 use Rattle.refusals.proofs.CountLemmas.{known_more}
 use Rattle.refusals.proofs.order.find_order.Goals as goal

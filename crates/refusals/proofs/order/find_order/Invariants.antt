@@ -1,7 +1,7 @@
 use Rattle.std.proofs.Common.{◌≡◌, ◌<◌, ◌↔◌, ℕ, IsTrue, Some, false, slice_index_or, length}
-use Rattle.schema.specs.declared.table.TableId.{TableId}
-use Rattle.schema.specs.Tables.{table_number, position_of}
-use Rattle.schema.specs.Columns.{key_of}
+use Rattle.table_schema.specs.declared.table.TableId.{TableId}
+use Rattle.table_schema.specs.Tables.{table_number, position_of}
+use Rattle.table_schema.specs.Columns.{key_of}
 use Rattle.metadata.specs.KeyOrder.{IsKeyOrdered}
 use Rattle.refusals.proofs.order.find_order.Given as goal
 

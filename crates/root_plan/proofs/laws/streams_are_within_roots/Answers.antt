@@ -1,8 +1,8 @@
 use Rattle.std.proofs.Common.{◌^◌, ◌<◌, length, inl, inr, refl}
 use Rattle.root.specs.declared.kind.Kind.TheVariants.{Strings, Guids, Blobs}
-use Rattle.heaps.specs.TextHeap.{text_heap}
-use Rattle.heaps.specs.BlobHeap.{blob_heap}
-use Rattle.heaps.specs.GuidHeap.{guid_heap}
+use Rattle.heap_pools.specs.TextHeap.{text_heap}
+use Rattle.heap_pools.specs.BlobHeap.{blob_heap}
+use Rattle.heap_pools.specs.GuidHeap.{guid_heap}
 use Rattle.metadata.specs.Metadata.{Metadata}
 use Rattle.canonical.specs.Pools.{pools_of}
 use Rattle.canonical.specs.Canonical.{canonical}

@@ -1,5 +1,5 @@
-use Rattle.schema.specs.declared.column.ColumnKind.TheVariants as kind
-use Rattle.schema.specs.Columns.{col}
+use Rattle.table_schema.specs.declared.column.ColumnKind.TheVariants as kind
+use Rattle.table_schema.specs.Columns.{col}
 use Rattle.schema.proofs.FieldLemmas.{low_bytes, low_row, fields_fit, length-fields_of, field_at}
 use Rattle.schema.proofs.field_laws.low_bytes_stand.Goals as goal
 

@@ -2,9 +2,9 @@ use Rattle.std.proofs.Common.{◌∙◌, ap, sym, subst, refl, arith, get_or, Li
 use Rattle.std.proofs.lemmas.Result.{err_from_is_err_and}
 use Rattle.packed.specs.Demand.{AllHold, FirstToFail}
 use Rattle.packed.proofs.DemandLemmas.{before_none, before_more, before_all, before_fails}
-use Rattle.schema.specs.declared.table.TableId.{TableId}
-use Rattle.schema.specs.declared.table.TableId.TheVariants.{Module}
-use Rattle.schema.specs.Tables.{tables}
+use Rattle.table_schema.specs.declared.table.TableId.{TableId}
+use Rattle.table_schema.specs.declared.table.TableId.TheVariants.{Module}
+use Rattle.table_schema.specs.Tables.{tables}
 use Rattle.schema.specs.Header.{has_bit, valid_of, count_in}
 use Rattle.schema.specs.Demands.{demands_of_count, demands_of_position}
 use Rattle.schema.proofs.PlaceLemmas.{number_kept}

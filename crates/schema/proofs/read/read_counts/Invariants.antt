@@ -1,8 +1,8 @@
 use Rattle.std.proofs.Common.{◌≡◌, ℕ, ◌+◌, ◌*◌, ◌<◌, ◌≤◌, length, get_or, take}
 use Rattle.std.specs.List.{count_by}
 use Rattle.packed.specs.Demand.{HoldBefore}
-use Rattle.schema.specs.declared.table.TableId.TheVariants.{Module}
-use Rattle.schema.specs.Tables.{tables}
+use Rattle.table_schema.specs.declared.table.TableId.TheVariants.{Module}
+use Rattle.table_schema.specs.Tables.{tables}
 use Rattle.schema.specs.Sizes.{header_size}
 use Rattle.schema.specs.Header.{has_bit, valid_of, count_in}
 use Rattle.schema.specs.Demands.{demands_of_position}

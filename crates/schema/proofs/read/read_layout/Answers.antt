@@ -4,7 +4,7 @@ use Rattle.std.specs.List.{count_by}
 use Rattle.packed.specs.declared.code.FaultCode.TheVariants.{TablesShort}
 use Rattle.packed.specs.Demand.{demands_from, fault}
 use Rattle.packed.proofs.DemandLemmas.{all_append, fails_front, fails_back}
-use Rattle.schema.specs.Tables.{tables}
+use Rattle.table_schema.specs.Tables.{tables}
 use Rattle.schema.specs.Sizes.{header_size}
 use Rattle.schema.specs.Places.{tables_end}
 use Rattle.schema.specs.Header.{has_bit, sizes_of}

@@ -1,6 +1,6 @@
 use Rattle.std.proofs.Common.{◌≡◌, ◌∙◌, ap, subst, inl, inr, arith, rules, ℕ}
 use Rattle.std.specs.List.{count_by}
-use Rattle.schema.specs.Tables.{tables}
+use Rattle.table_schema.specs.Tables.{tables}
 use Rattle.schema.specs.Header.{has_bit, valid_of}
 use Rattle.schema.specs.Demands.{NamesTables}
 use Rattle.schema.proofs.read.read_valid.Goals as goal

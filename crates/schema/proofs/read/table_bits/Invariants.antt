@@ -1,5 +1,5 @@
 use Rattle.std.proofs.Common.{◌≡◌, ◌≤◌, ◌*◌, ◌^◌, take}
-use Rattle.schema.specs.Tables.{tables}
+use Rattle.table_schema.specs.Tables.{tables}
 use Rattle.schema.specs.LaidOut.{bits_of}
 use Rattle.schema.specs.Header.{has_bit}
 use Rattle.schema.proofs.read.table_bits.Given as goal

@@ -1,5 +1,5 @@
 use Rattle.std.proofs.Common.{◌≡◌, ◌∙◌, false, sym, rules}
-use Rattle.signature_values.specs.Reading.{starts_modifier}
+use Rattle.sig_grammar.specs.Reading.{starts_modifier}
 use Rattle.signature_items.proofs.Arms.{ret_void}
 use Rattle.signature_items.proofs.types.ret.Goals as goal
 

@@ -1,5 +1,5 @@
 use Rattle.std.proofs.Common.{◌≡◌, ◌∙◌, false, sym, rules}
-use Rattle.signature_values.specs.Reading.{starts_modifier}
+use Rattle.sig_grammar.specs.Reading.{starts_modifier}
 use Rattle.signature_items.proofs.Arms.{target_void}
 use Rattle.signature_items.proofs.types.target.Goals as goal
 

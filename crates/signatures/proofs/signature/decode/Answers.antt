@@ -1,4 +1,4 @@
-use Rattle.signature_values.specs.Views.{body_of}
+use Rattle.sig_grammar.specs.Views.{body_of}
 use Rattle.signatures.proofs.signature.decode.Goals as goal
 
 pub invariant_of-result : goal.invariant_of-result

@@ -1,5 +1,5 @@
 use Rattle.std.proofs.Common.{◌≡◌, ◌+◌, Err, drop, sym, subst, ◌∙◌, rules}
-use Rattle.heaps.specs.declared.pool_error.PoolError.TheVariants.{Full}
+use Rattle.heap_pools.specs.declared.pool_error.PoolError.TheVariants.{Full}
 use Rattle.plan.specs.Numbered.{IsOver, with_row}
 use Rattle.table_plan.proofs.RestLemmas.{row_at}
 use Rattle.table_plan.proofs.numbers.put_row.Goals as goal

@@ -1,7 +1,7 @@
 use Rattle.std.proofs.Common.{◌≡◌, ◌+◌, Err, drop, sym, ap, subst, ◌∙◌, rules}
 use Rattle.std.specs.List.{AllByRecursion}
 use Rattle.std.proofs.lemmas.List.{drop_all, drop_more}
-use Rattle.heaps.specs.declared.pool_error.PoolError.TheVariants.{Full}
+use Rattle.heap_pools.specs.declared.pool_error.PoolError.TheVariants.{Full}
 use Rattle.cells.specs.Said.{all_said}
 use Rattle.plan.specs.Numbered.{CanBeNumbered, IsOver, with_row, with_rows}
 use Rattle.table_plan.proofs.RestLemmas.{rows_at, over_rows_at}

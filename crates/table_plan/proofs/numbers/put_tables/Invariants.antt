@@ -1,5 +1,5 @@
 use Rattle.std.proofs.Common.{◌≡◌, drop}
-use Rattle.schema.specs.Tables.{tables}
+use Rattle.table_schema.specs.Tables.{tables}
 use Rattle.plan.specs.Numbered.{with_tables}
 use Rattle.table_plan.proofs.numbers.put_tables.Given as goal
 

@@ -1,6 +1,6 @@
 use Rattle.std.proofs.Common.{◌≡◌, ◌++◌, drop}
 use Rattle.std.specs.Prelude.{flat_map}
-use Rattle.heaps.specs.Uses.{bytes_of}
+use Rattle.heap_pools.specs.Uses.{bytes_of}
 use Rattle.canonical.specs.Pools.{texts_of}
 use Rattle.table_plan.proofs.texts.add_rows.Given as goal
 

@@ -1,6 +1,6 @@
 use Rattle.std.proofs.Common.{List, ℕ, All, sym, ap, subst, ◌∙◌}
-use Rattle.heaps.specs.Entries.{HasNoNul}
-use Rattle.heaps.specs.Uses.{bytes_of}
+use Rattle.heap_entries.specs.Entries.{HasNoNul}
+use Rattle.heap_pools.specs.Uses.{bytes_of}
 use Rattle.table_plan.proofs.texts.text_pool.Goals as goal
 
 pub plan-requires : goal.plan-requires

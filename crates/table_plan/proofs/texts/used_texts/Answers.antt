@@ -1,7 +1,7 @@
 use Rattle.std.proofs.Common.{◌<◌, List, length, get_or, ap, ◌∙◌, arith}
-use Rattle.schema.specs.declared.table.TableId.{TableId}
-use Rattle.schema.specs.declared.table.TableId.TheVariants.{Module}
-use Rattle.schema.specs.Tables.{position_of}
+use Rattle.table_schema.specs.declared.table.TableId.{TableId}
+use Rattle.table_schema.specs.declared.table.TableId.TheVariants.{Module}
+use Rattle.table_schema.specs.Tables.{position_of}
 use Rattle.canonical.specs.Pools.{texts_of}
 use Rattle.table_plan.proofs.TextLemmas.{position_at, next_rows, no_rows}
 use Rattle.table_plan.proofs.texts.used_texts.Goals as goal

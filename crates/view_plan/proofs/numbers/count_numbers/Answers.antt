@@ -1,6 +1,6 @@
 use Rattle.std.proofs.Common.{ℕ, ◌≤◌, ◌*◌, ap, length, get_or, arith}
 use Rattle.std.proofs.Math.Nat.{mul-le-mul_left, mul-le-mul_right}
-use Rattle.schema.specs.declared.table.TableId.TheVariants.{Module}
+use Rattle.table_schema.specs.declared.table.TableId.TheVariants.{Module}
 use Rattle.view_plan.proofs.numbers.count_numbers.Goals as goal
 
 -- a table with at most 9 columns and 0xFFFFFF rows has at most 150994935 numbers

@@ -1,6 +1,6 @@
 use Rattle.std.proofs.Common.{◌≡◌, Err, ap, subst, ◌∙◌}
-use Rattle.heaps.specs.declared.pool_error.PoolError.TheVariants.{Full}
-use Rattle.schema.specs.Tables.{tables}
+use Rattle.heap_pools.specs.declared.pool_error.PoolError.TheVariants.{Full}
+use Rattle.table_schema.specs.Tables.{tables}
 use Rattle.plan.specs.Numbered.{IsOver, with_tables}
 use Rattle.view_plan.proofs.numbers.numbers_of.Goals as goal
 

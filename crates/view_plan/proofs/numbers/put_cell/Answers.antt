@@ -1,9 +1,9 @@
 use Rattle.std.proofs.Common.{◌≡◌, ◌≤◌, Err, get_or, sym, ap, ◌∙◌, rules, arith}
 use Rattle.std.proofs.Math.Logic.{∥∥₁_map}
-use Rattle.heaps.specs.declared.pool_error.PoolError.TheVariants.{Full}
-use Rattle.schema.specs.declared.column.ColumnKind.{ColumnKind}
-use Rattle.schema.specs.declared.column.ColumnKind.TheVariants as kind
-use Rattle.schema.specs.Columns.{col}
+use Rattle.heap_pools.specs.declared.pool_error.PoolError.TheVariants.{Full}
+use Rattle.table_schema.specs.declared.column.ColumnKind.{ColumnKind}
+use Rattle.table_schema.specs.declared.column.ColumnKind.TheVariants as kind
+use Rattle.table_schema.specs.Columns.{col}
 use Rattle.metadata.specs.Metadata.{count_in, cell_in}
 use Rattle.metadata.specs.Valid.{kind_at, nullable_at}
 use Rattle.canonical.specs.Numbers.{cell_number}

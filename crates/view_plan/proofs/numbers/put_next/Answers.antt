@@ -1,10 +1,10 @@
 use Rattle.std.proofs.Common.{◌≡◌, ℕ, ◌+◌, ◌<◌, false, List, Err, get_or, drop, sym, ap, subst, ◌∙◌, rules, arith}
-use Rattle.heaps.specs.declared.pool_error.PoolError.TheVariants.{Full}
-use Rattle.schema.specs.declared.column.Column.{Column}
-use Rattle.schema.specs.declared.column.ColumnKind.TheVariants as kind
-use Rattle.schema.specs.declared.table.TableId.{TableId}
-use Rattle.schema.specs.Columns.{column_at, columns_of, col}
-use Rattle.schema.specs.CellColumns.{is_padding, cell_count}
+use Rattle.heap_pools.specs.declared.pool_error.PoolError.TheVariants.{Full}
+use Rattle.table_schema.specs.declared.column.Column.{Column}
+use Rattle.table_schema.specs.declared.column.ColumnKind.TheVariants as kind
+use Rattle.table_schema.specs.declared.table.TableId.{TableId}
+use Rattle.table_schema.specs.Columns.{column_at, columns_of, col}
+use Rattle.table_schema.specs.CellColumns.{is_padding, cell_count}
 use Rattle.metadata.specs.Metadata.{row_of}
 use Rattle.opening.specs.Views.{row_count}
 use Rattle.plan.specs.Numbered.{IsOver}

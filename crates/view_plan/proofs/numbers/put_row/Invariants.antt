@@ -1,5 +1,5 @@
 use Rattle.std.proofs.Common.{◌≡◌, drop}
-use Rattle.schema.specs.Columns.{columns_of}
+use Rattle.table_schema.specs.Columns.{columns_of}
 use Rattle.metadata.specs.Metadata.{Metadata, row_of}
 use Rattle.metadata.specs.Model.{IsModel}
 use Rattle.plan.specs.Numbered.{with_row}

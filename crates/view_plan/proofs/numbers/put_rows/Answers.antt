@@ -1,6 +1,6 @@
 use Rattle.std.proofs.Common.{◌≡◌, ℕ, ◌+◌, ◌-◌, ◌<◌, ◌≤◌, [], Err, length, get_or, drop, ap, subst, ◌∙◌, rules, arith}
-use Rattle.heaps.specs.declared.pool_error.PoolError.TheVariants.{Full}
-use Rattle.schema.specs.Columns.{columns_of}
+use Rattle.heap_pools.specs.declared.pool_error.PoolError.TheVariants.{Full}
+use Rattle.table_schema.specs.Columns.{columns_of}
 use Rattle.metadata.specs.Metadata.{rows_of}
 use Rattle.plan.specs.Numbered.{Numbered, IsOver, with_row, with_rows}
 use Rattle.view_plan.proofs.PlaceLemmas.{rows_left, rows_done}

@@ -1,9 +1,9 @@
 use Rattle.std.proofs.Common.{◌≡◌, List, ℕ, refl, subst}
 use Rattle.std.proofs.lemmas.Grind.{not_there}
 use Rattle.std.proofs.Math.Logic.{∥∥₁_map}
-use Rattle.schema.specs.declared.column.ColumnKind.{ColumnKind}
-use Rattle.schema.specs.declared.column.ColumnKind.TheVariants.{Signature}
-use Rattle.schema.specs.declared.column.SigKind.{SigKind}
+use Rattle.table_schema.specs.declared.column.ColumnKind.{ColumnKind}
+use Rattle.table_schema.specs.declared.column.ColumnKind.TheVariants.{Signature}
+use Rattle.table_schema.specs.declared.column.SigKind.{SigKind}
 use Rattle.metadata.specs.Cell.{Cell as Says}
 use Rattle.reading.specs.Shown.{ShowsSignature}
 use Rattle.view_plan.proofs.numbers.signature_number.Goals as goal

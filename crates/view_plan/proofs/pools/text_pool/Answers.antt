@@ -2,10 +2,10 @@ use Rattle.std.proofs.Common.{◌≡◌, ◌≢◌, ℕ, List, [], All, get_or, 
 use Rattle.std.proofs.lemmas.Grind.{not_there}
 use Rattle.std.proofs.lemmas.List.Elements.{All-get_or, All-from_get_or}
 use Rattle.std.proofs.lemmas.Result.{IfOk-weaker}
-use Rattle.heaps.specs.Entries.{HasNoNul}
-use Rattle.heaps.specs.TextHeap.{holders, text_index}
-use Rattle.heaps.specs.TextPlan.{TextPlan}
-use Rattle.heaps.specs.Uses.{bytes_of}
+use Rattle.heap_entries.specs.Entries.{HasNoNul}
+use Rattle.heap_pools.specs.TextHeap.{holders, text_index}
+use Rattle.heap_pools.specs.TextPlan.{TextPlan}
+use Rattle.heap_pools.specs.Uses.{bytes_of}
 use Rattle.canonical.specs.Pools.{texts_of, used, pools_of}
 use Rattle.view_plan.proofs.pools.text_pool.Goals as goal
 

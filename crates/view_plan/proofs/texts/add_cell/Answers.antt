@@ -1,6 +1,6 @@
 use Rattle.std.proofs.Common.{ℕ, ◌≤◌, ◌++◌, List, [], ◌∷◌, sym, ap, ◌∙◌, append-nil, arith}
 use Rattle.std.proofs.lemmas.List.{map-append}
-use Rattle.heaps.specs.Uses.{bytes_of}
+use Rattle.heap_pools.specs.Uses.{bytes_of}
 use Rattle.metadata.specs.Metadata.{count_in, cell_in}
 use Rattle.metadata.specs.Valid.{kind_at, nullable_at}
 use Rattle.opening.specs.Views.{row_count}

@@ -1,5 +1,5 @@
 use Rattle.std.proofs.Common.{◌<◌, ◌≤◌, length, arith}
-use Rattle.heaps.specs.Uses.{bytes_of}
+use Rattle.heap_pools.specs.Uses.{bytes_of}
 use Rattle.metadata.specs.Cell.{Number}
 use Rattle.metadata.specs.Metadata.{row_of}
 use Rattle.opening.specs.Views.{row_count}

@@ -1,6 +1,6 @@
 use Rattle.std.proofs.Common.{◌≡◌, ℕ, ◌+◌, ◌-◌, ◌<◌, ◌≤◌, [], ◌++◌, length, get_or, ap, ◌∙◌, arith}
 use Rattle.std.specs.Prelude.{flat_map}
-use Rattle.heaps.specs.Uses.{bytes_of}
+use Rattle.heap_pools.specs.Uses.{bytes_of}
 use Rattle.metadata.specs.Metadata.{rows_of}
 use Rattle.canonical.specs.Pools.{texts_of}
 use Rattle.view_plan.proofs.FlatLemmas.{next_flat, whole_flat}

@@ -1,6 +1,6 @@
 use Rattle.std.proofs.Common.{◌≡◌, ◌++◌, take}
 use Rattle.std.specs.Prelude.{flat_map}
-use Rattle.heaps.specs.Uses.{bytes_of}
+use Rattle.heap_pools.specs.Uses.{bytes_of}
 use Rattle.metadata.specs.Metadata.{Metadata, rows_of}
 use Rattle.metadata.specs.Model.{IsModel}
 use Rattle.canonical.specs.Pools.{texts_of}

@@ -1,9 +1,9 @@
 use Rattle.std.proofs.Common.{◌≡◌, ℕ, ◌<◌, ◌≤◌, List, [], ◌++◌, length, get_or, ap, ◌∙◌, arith}
 use Rattle.std.specs.Prelude.{flat_map}
-use Rattle.schema.specs.declared.table.TableId.{TableId}
-use Rattle.schema.specs.declared.table.TableId.TheVariants.{Module}
-use Rattle.schema.specs.Tables.{position_of}
-use Rattle.heaps.specs.Uses.{bytes_of}
+use Rattle.table_schema.specs.declared.table.TableId.{TableId}
+use Rattle.table_schema.specs.declared.table.TableId.TheVariants.{Module}
+use Rattle.table_schema.specs.Tables.{position_of}
+use Rattle.heap_pools.specs.Uses.{bytes_of}
 use Rattle.canonical.specs.Pools.{texts_of, used}
 use Rattle.view_plan.proofs.FlatLemmas.{next_flat, whole_flat}
 use Rattle.view_plan.proofs.PlaceLemmas.{position_at}

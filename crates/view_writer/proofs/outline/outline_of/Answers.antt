@@ -1,7 +1,7 @@
 use Rattle.std.proofs.Common.{◌≡◌, List, ℕ, sym, ap, ◌∙◌, arith, length}
 use Rattle.std.proofs.Math.Logic.{∥∥₁_elim}
 use Rattle.std.specs.Coded.{le_prop}
-use Rattle.schema.specs.declared.table.TableId.{TableId}
+use Rattle.table_schema.specs.declared.table.TableId.{TableId}
 use Rattle.metadata.specs.Metadata.{Metadata, count_in}
 use Rattle.metadata.specs.Source.{rows_in}
 use Rattle.metadata.specs.Placed.{source_of}

@@ -1,5 +1,5 @@
 use Rattle.std.proofs.Common.{◌≡◌, map, drop}
-use Rattle.signature_values.specs.Views.{local_of}
+use Rattle.sig_grammar.specs.Views.{local_of}
 use Rattle.walk.specs.Run.{run}
 use Rattle.walk.specs.Items.{locals_items}
 use Rattle.walk.proofs.bodies.visit_locals.Given as goal

@@ -1,6 +1,6 @@
 use Rattle.std.proofs.Common.{◌≡◌, [], ◌∷◌, ◌∙◌, sym, ap, get_or, rules, w32, to_z, of_z}
 use Rattle.std.specs.Prelude.{ℤ, pos}
-use Rattle.signature_values.specs.Parts.{signed}
+use Rattle.sig_grammar.specs.Parts.{signed}
 use Rattle.walk.specs.Items.{part}
 use Rattle.walk.proofs.Steps.{run_last}
 use Rattle.walk.proofs.Loops.{goes_by, stops_by, list_next}

@@ -1,6 +1,6 @@
 use Rattle.std.proofs.Common.{◌≡◌, drop, [], ◌∷◌}
-use Rattle.signature_values.specs.Parts.{signed}
-use Rattle.signature_values.specs.Grammar.{list_parts}
+use Rattle.sig_grammar.specs.Parts.{signed}
+use Rattle.sig_grammar.specs.Grammar.{list_parts}
 use Rattle.walk.specs.Run.{run}
 use Rattle.walk.specs.Items.{parts_items}
 use Rattle.walk.proofs.items.visit_bounds.Given as goal

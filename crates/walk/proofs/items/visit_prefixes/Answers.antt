@@ -1,4 +1,4 @@
-use Rattle.signature_values.specs.Grammar.{prefix_parts}
+use Rattle.sig_grammar.specs.Grammar.{prefix_parts}
 use Rattle.walk.proofs.Loops.{goes_by, stops_by, list_next}
 use Rattle.walk.proofs.items.visit_prefixes.Goals as goal
 

@@ -1,5 +1,5 @@
 use Rattle.std.proofs.Common.{◌≡◌, drop}
-use Rattle.signature_values.specs.Grammar.{list_parts, prefix_parts}
+use Rattle.sig_grammar.specs.Grammar.{list_parts, prefix_parts}
 use Rattle.walk.specs.Run.{run}
 use Rattle.walk.specs.Items.{parts_items}
 use Rattle.walk.proofs.items.visit_prefixes.Given as goal

@@ -1,5 +1,5 @@
 use Rattle.std.proofs.Common.{[], ◌∷◌, ◌∙◌, sym}
-use Rattle.signature_values.specs.Parts.{number}
+use Rattle.sig_grammar.specs.Parts.{number}
 use Rattle.walk.specs.Items.{part}
 use Rattle.walk.proofs.Steps.{run_last}
 use Rattle.walk.proofs.Loops.{goes_by, stops_by, list_next}

@@ -1,5 +1,5 @@
 use Rattle.std.proofs.Common.{◌≡◌, map, drop}
-use Rattle.signature_values.specs.Views.{type_of, types_from, slot_of, slots_from}
+use Rattle.sig_grammar.specs.Views.{type_of, types_from, slot_of, slots_from}
 use Rattle.walk.specs.Run.{run}
 use Rattle.walk.specs.Items.{types_items, slots_items, behind}
 use Rattle.walk.proofs.types.+walk.Given as goal

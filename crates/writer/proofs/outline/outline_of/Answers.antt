@@ -1,5 +1,5 @@
 use Rattle.std.proofs.Common.{ap, ◌∙◌, arith, length}
-use Rattle.heaps.specs.Fill.{filled}
+use Rattle.heap_entries.specs.Fill.{filled}
 use Rattle.writer.proofs.FillLemmas.{filled_is}
 use Rattle.writer.proofs.outline.outline_of.Goals as goal
 

@@ -1,7 +1,7 @@
 use Rattle.std.proofs.Common.{◌<◌, arith, ◌∙◌, ap, get_or, List, length, length-set}
-use Rattle.schema.specs.declared.table.TableId.{TableId}
-use Rattle.schema.specs.declared.table.TableId.TheVariants.{Module}
-use Rattle.schema.specs.Tables.{table_number}
+use Rattle.table_schema.specs.declared.table.TableId.{TableId}
+use Rattle.table_schema.specs.declared.table.TableId.TheVariants.{Module}
+use Rattle.table_schema.specs.Tables.{table_number}
 use Rattle.metadata.specs.Metadata.{count_in}
 use Rattle.writer.proofs.CountLemmas.{TheyStand, table_kept, tables_kept}
 use Rattle.writer.proofs.tables_told.counts.Goals as goal

@@ -1,5 +1,5 @@
 use Rattle.std.proofs.Common.{◌≡◌, ◌+◌, drop}
-use Rattle.schema.specs.Tables.{tables}
+use Rattle.table_schema.specs.Tables.{tables}
 use Rattle.schema.specs.LaidOut.{bits_of}
 use Rattle.canonical.specs.TableStream.{is_sorted}
 use Rattle.writer.proofs.tables_told.sorted.Given as goal

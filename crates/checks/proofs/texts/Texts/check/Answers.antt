@@ -3,7 +3,7 @@ use Rattle.std.proofs.lemmas.Bool.{cases_eq}
 use Rattle.std.proofs.lemmas.Nat.{div-add-mod', mod_below, mul-le}
 use Rattle.std.proofs.lemmas.Result.{err_from_is_err_and}
 use Rattle.packed.specs.Demand.{Answers}
-use Rattle.heaps.specs.Demands.{at_place, demands_of_text}
+use Rattle.heap_entries.specs.Demands.{at_place, demands_of_text}
 use Rattle.checks.proofs.texts.Texts.check.Goals as goal
 use Rattle.checks.proofs.texts.Texts.check.Goals.{else-known-ne0-via-then-known-ne0+else-known-index, else-known-ne0-via-else-known-ne0}
 

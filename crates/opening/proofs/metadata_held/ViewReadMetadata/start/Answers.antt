@@ -1,5 +1,5 @@
 use Rattle.std.proofs.Common.{◌≡◌, ℕ, subst}
-use Rattle.schema.specs.declared.table.TableId.{TableId}
+use Rattle.table_schema.specs.declared.table.TableId.{TableId}
 use Rattle.metadata.specs.Cell.{Start}
 use Rattle.metadata.specs.Metadata.{cell_in}
 use Rattle.metadata_source.specs.MemberLists.{owner_of}

@@ -1,5 +1,5 @@
 use Rattle.std.proofs.Common.{◌≡◌, ◌+◌, ◌≤◌, ◌++◌, length, drop}
-use Rattle.schema.specs.Tables.{tables}
+use Rattle.table_schema.specs.Tables.{tables}
 use Rattle.schema.specs.LaidOut.{counts_bytes}
 use Rattle.put.specs.TableHeader.{is_counted}
 use Rattle.put.proofs.writer.Writer.put_counts.Given as goal

@@ -1,6 +1,6 @@
 use Rattle.std.proofs.Common.{◌≡◌, ◌<◌, ◌≤◌, length, get_or, subst, arith}
-use Rattle.schema.specs.declared.column.ColumnKind.TheVariants as kind
-use Rattle.schema.specs.Columns.{columns_of, col}
+use Rattle.table_schema.specs.declared.column.ColumnKind.TheVariants as kind
+use Rattle.table_schema.specs.Columns.{columns_of, col}
 use Rattle.schema.specs.Sizes.{Sizes, width_of}
 use Rattle.schema.specs.LaidOut.{number_bytes}
 use Rattle.put.specs.Written.{Puts}

@@ -1,5 +1,5 @@
 use Rattle.std.proofs.Common.{drop}
-use Rattle.schema.specs.Columns.{columns_of}
+use Rattle.table_schema.specs.Columns.{columns_of}
 use Rattle.schema.specs.LaidOut.{row_bytes}
 use Rattle.put.proofs.RowLemmas.{IsPutting}
 use Rattle.put.proofs.writer.Writer.put_row.Given as goal

@@ -1,5 +1,5 @@
 use Rattle.std.proofs.Common.{◌≡◌, ◌+◌, ◌-◌, ◌*◌, length, take, drop, ap, ◌∙◌, arith}
-use Rattle.schema.specs.Columns.{columns_of}
+use Rattle.table_schema.specs.Columns.{columns_of}
 use Rattle.schema.specs.Sizes.{Sizes, count_of}
 use Rattle.put.proofs.RowLemmas.{here_fits, put_next, put_all, next_row, no_row, fewer}
 use Rattle.put.proofs.writer.Writer.put_rows.Goals as goal

@@ -1,5 +1,5 @@
 use Rattle.std.proofs.Common.{◌≡◌, ◌*◌, ◌-◌, length}
-use Rattle.schema.specs.Columns.{columns_of}
+use Rattle.table_schema.specs.Columns.{columns_of}
 use Rattle.schema.specs.Sizes.{count_of}
 use Rattle.schema.specs.LaidOut.{rows_bytes}
 use Rattle.put.specs.Flat.{rows_in, table_in}

@@ -1,6 +1,6 @@
 use Rattle.std.proofs.Common.{◌≡◌, length, drop}
 use Rattle.std.specs.Prelude.{sum_by}
-use Rattle.schema.specs.Tables.{tables}
+use Rattle.table_schema.specs.Tables.{tables}
 use Rattle.put.specs.Flat.{cells_of}
 use Rattle.put.proofs.RowLemmas.{IsPutting}
 use Rattle.put.proofs.TableLemmas.{bytes_in}

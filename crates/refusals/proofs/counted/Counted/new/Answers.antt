@@ -1,7 +1,7 @@
 use Rattle.std.proofs.Common.{◌≡◌, ℕ, List, slice_index_or, ap, arith, ◌∙◌, length-set}
 use Rattle.packed.proofs.DemandLemmas.{before_more}
-use Rattle.schema.specs.declared.table.TableId.{TableId}
-use Rattle.schema.specs.declared.table.TableId.TheVariants.{Module}
+use Rattle.table_schema.specs.declared.table.TableId.{TableId}
+use Rattle.table_schema.specs.declared.table.TableId.TheVariants.{Module}
 use Rattle.metadata.specs.Metadata.{count_in}
 use Rattle.metadata.specs.Refusals.{refusals_of_count}
 use Rattle.refusals.proofs.CountLemmas.{known_more, few_rows}

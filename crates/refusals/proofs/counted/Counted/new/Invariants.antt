@@ -1,7 +1,7 @@
 use Rattle.std.proofs.Common.{◌≡◌, ◌<◌, length, slice_index}
 use Rattle.packed.specs.Demand.{HoldBefore}
-use Rattle.schema.specs.declared.table.TableId.{TableId}
-use Rattle.schema.specs.Tables.{table_number, position_of}
+use Rattle.table_schema.specs.declared.table.TableId.{TableId}
+use Rattle.table_schema.specs.Tables.{table_number, position_of}
 use Rattle.metadata.specs.Metadata.{count_in}
 use Rattle.metadata.specs.Refusals.{refusals_of_count}
 use Rattle.refusals.proofs.counted.Counted.new.Given as goal

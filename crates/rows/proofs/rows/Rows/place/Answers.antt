@@ -1,5 +1,5 @@
 use Rattle.std.proofs.Common.{◌≡◌, ◌∙◌, ◌<◌, length, sym, subst, rules, arith}
-use Rattle.schema.specs.Tables.{position_of, tables}
+use Rattle.table_schema.specs.Tables.{position_of, tables}
 use Rattle.schema.specs.Places.{cell_start}
 use Rattle.schema.specs.LaidOut.{StandsAt, number_bytes, number_in}
 use Rattle.schema.specs.Cells.{cell_width}

@@ -1,10 +1,10 @@
 use Rattle.std.proofs.Common.{◌≡◌, ◌≤◌, ℕ, ◌<◌, length, take, get_or, arith, ◌∙◌, sym, refl, ap, length-set, List, false}
 use Rattle.std.proofs.lemmas.List.{take_all}
-use Rattle.schema.specs.declared.column.ColumnKind.TheVariants.{U8}
-use Rattle.schema.specs.declared.column.Column.{Column}
+use Rattle.table_schema.specs.declared.column.ColumnKind.TheVariants.{U8}
+use Rattle.table_schema.specs.declared.column.Column.{Column}
 use Rattle.schema.specs.Places.{columns_width}
 use Rattle.schema.specs.Kept.{sizes_kept}
-use Rattle.schema.proofs.TableFacts.{columns_few}
+use Rattle.table_schema.proofs.TableFacts.{columns_few}
 use Rattle.schema.proofs.PlaceLemmas.{columns_width_more, no_columns_width, number_kept}
 use Rattle.schema.proofs.header.Header.place.Goals as goal
 

@@ -1,6 +1,6 @@
 use Rattle.std.proofs.Common.{[], false, arith}
 use Rattle.schema.specs.declared.place.Place.{Place}
-use Rattle.schema.specs.declared.column.ColumnKind.TheVariants.{U8}
+use Rattle.table_schema.specs.declared.column.ColumnKind.TheVariants.{U8}
 use Rattle.schema.specs.Kept.{sizes_kept}
 use Rattle.schema.proofs.PlaceLemmas.{place_kept, cell_at, cell_within}
 use Rattle.schema.proofs.layout.Layout.cell_start.Goals as goal

@@ -1,8 +1,8 @@
 use Rattle.std.proofs.Common.{◌≡◌, ℕ, ◌+◌, ◌-◌, ◌≤◌, ◌∙◌, [], ap, get_or, arith, false}
 use Rattle.schema.specs.declared.place.Place.{Place}
-use Rattle.schema.specs.declared.column.Column.{Column}
-use Rattle.schema.specs.declared.column.ColumnKind.TheVariants.{U8}
-use Rattle.schema.specs.Columns.{columns_of}
+use Rattle.table_schema.specs.declared.column.Column.{Column}
+use Rattle.table_schema.specs.declared.column.ColumnKind.TheVariants.{U8}
+use Rattle.table_schema.specs.Columns.{columns_of}
 use Rattle.schema.specs.Sizes.{Sizes, width_of}
 use Rattle.schema.specs.Kept.{sizes_kept}
 use Rattle.schema.proofs.PlaceLemmas.{place_kept, columns_width_more, width_known}

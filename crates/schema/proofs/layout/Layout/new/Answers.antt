@@ -1,6 +1,6 @@
 use Rattle.std.proofs.Common.{◌*◌, ◌≤◌, ◌<◌, get_or, arith, ◌∙◌, refl, length-set, mul-le-mul}
-use Rattle.schema.specs.declared.table.TableId.TheVariants.{Module}
-use Rattle.schema.specs.Tables.{tables}
+use Rattle.table_schema.specs.declared.table.TableId.TheVariants.{Module}
+use Rattle.table_schema.specs.Tables.{tables}
 use Rattle.schema.specs.Kept.{IsPlace, sizes_kept}
 use Rattle.schema.proofs.PlaceLemmas.{no_tables_size, item_kept, next_start, start_at}
 use Rattle.schema.proofs.layout.Layout.new.Goals as goal

@@ -1,5 +1,5 @@
 use Rattle.std.proofs.Common.{◌≡◌, ◌≤◌, ◌*◌, ◌+◌, take, length}
-use Rattle.schema.specs.Tables.{tables}
+use Rattle.table_schema.specs.Tables.{tables}
 use Rattle.schema.specs.Places.{tables_size}
 use Rattle.schema.specs.Kept.{sizes_kept, AreFirstPlaces}
 use Rattle.schema.proofs.layout.Layout.new.Given as goal

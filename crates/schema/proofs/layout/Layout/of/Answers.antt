@@ -1,11 +1,11 @@
 use Rattle.std.proofs.Common.{◌≡◌, ℕ, ◌∙◌, ap, refl, arith, get_or, ltb, lt-ltb, le-ltb, List, length-set}
 use Rattle.std.specs.List.{count_by}
 use Rattle.std.proofs.lemmas.List.{take_all}
-use Rattle.schema.specs.declared.table.TableId.{TableId}
-use Rattle.schema.specs.declared.table.TableId.TheVariants.{Module}
-use Rattle.schema.specs.Tables.{table_number, tables}
+use Rattle.table_schema.specs.declared.table.TableId.{TableId}
+use Rattle.table_schema.specs.declared.table.TableId.TheVariants.{Module}
+use Rattle.table_schema.specs.Tables.{table_number, tables}
 use Rattle.schema.specs.Sizes.{Sizes, header_size, sizes_by_number, count_of}
-use Rattle.schema.proofs.TableFacts.{length-tables}
+use Rattle.table_schema.proofs.TableFacts.{length-tables}
 use Rattle.schema.proofs.PlaceLemmas.{number_kept}
 use Rattle.schema.proofs.HeaderLemmas.{place_set, place_clear, counts_are, count_is, same_sizes}
 use Rattle.schema.proofs.layout.Layout.of.Goals as goal

@@ -1,7 +1,7 @@
 use Rattle.std.proofs.Common.{◌≡◌, ◌⊎◌, ℕ, List, [], Contains, sym, ap, subst, ◌∙◌}
-use Rattle.heaps.specs.Distinct.{pooled}
-use Rattle.heaps.specs.BlobHeap.{blob_index}
-use Rattle.signature_values.specs.Spells.{short}
+use Rattle.heap_pools.specs.Distinct.{pooled}
+use Rattle.heap_pools.specs.BlobHeap.{blob_index}
+use Rattle.sig_grammar.specs.Spells.{short}
 use Rattle.plan.specs.Numbered.{Numbered}
 use Rattle.view_plan.proofs.KnownLemmas.{pooled_there, pooled_again}
 use Rattle.view_plan.proofs.gathering.Gathering.put_signature.Goals as goal

@@ -1,0 +1,30 @@
+-- What an index of a GUID names in its heap.
+use Rattle.std.proofs.Common.{◌≡◌, ℕ, ◌+◌, ◌-◌, ◌*◌, ◌<◌, ◌≤◌, List, ◌++◌, length, take, drop, Option, Some, None, sym, ap, ◌∙◌, arith, length-append}
+use Rattle.std.proofs.lemmas.List.{take-append-drop, drop_at, take_at, length-take-le}
+use Rattle.heap_entries.specs.Entries.{IsGuidEntry, IsGuid}
+
+-- the sixteen bytes at the offset of an entry are that entry
+pub guid_stands : (heap : List ℕ) (number start : ℕ) (rest guid : List ℕ) → start ≡ 16 * (number - 1) → start ≤ length heap → rest ≡ drop start heap → 16 ≤ length rest → guid ≡ take 16 rest → IsGuidEntry heap number guid
+guid_stands heap number start rest guid at within behind enough is = record {
+  before = take start heap;
+  after = drop 16 rest;
+  whole = sym (take-append-drop start heap) ∙ ap (λ l. take start heap ++ l) (sym behind ∙ sym (take-append-drop 16 rest) ∙ ap (λ g. g ++ drop 16 rest) (sym is));
+  at = length-take-le start heap within ∙ at;
+  long = ap length is ∙ length-take-le 16 rest enough;
+}
+
+-- an entry ends within the heap, and is the sixteen bytes at its offset
+pub guid_within : (heap : List ℕ) (number : ℕ) (guid : List ℕ) → IsGuidEntry heap number guid → 16 * (number - 1) + 16 ≤ length heap
+guid_within heap number guid e = omega (arith, ap length e.whole, length-append e.before (guid ++ e.after), length-append guid e.after, e.at, e.long)
+
+pub guid_is : (heap : List ℕ) (number start : ℕ) (guid : List ℕ) → start ≡ 16 * (number - 1) → IsGuidEntry heap number guid → take 16 (drop start heap) ≡ guid
+guid_is heap number start guid at e = ap (take 16) (ap (drop start) e.whole ∙ drop_at e.before (guid ++ e.after) start (e.at ∙ sym at)) ∙ take_at guid e.after 16 e.long
+
+-- an index above 0 has at most one GUID, that of its entry
+pub only_guid : (heap : List ℕ) (index start : ℕ) (found : List ℕ) (guid : Option (List ℕ)) → 0 < index → start ≡ 16 * (index - 1) → found ≡ take 16 (drop start heap) → IsGuid heap index guid → Some found ≡ guid
+only_guid heap index start found None some at is null = absurd (omega (arith, null))
+only_guid heap index start found (Some guid) some at is entry = ap Some (is ∙ guid_is heap index start guid at entry.1)
+
+pub no_guid : (heap : List ℕ) (index : ℕ) (guid : Option (List ℕ)) → 0 < index → length heap < 16 * (index - 1) + 16 → IsGuid heap index guid → ⊥
+no_guid heap index None some short null = omega (arith, null)
+no_guid heap index (Some guid) some short entry = omega (arith, guid_within heap index guid entry.1)

@@ -1,0 +1,65 @@
+-- The offset of a GUID in its heap.
+use Rattle.std.proofs.Common.{◌≡◌, ℕ, ◌+◌, ◌*◌, ◌^◌, ◌<◌, ◌≤◌, Bool, true, false, not, true≢false, ◌↔◌, IsTrue, nat_eq, All, List, [], ◌∷◌, ◌++◌, length, refl, sym, arith, ⊎_elim, length-append, subst}
+use Rattle.std.proofs.lemmas.List.Elements.{All-head, All-tail, All-cons, All-nil, All-append}
+use Rattle.std.proofs.lemmas.Bool.{cases_Bool, cases_lt}
+use Rattle.std.specs.Cmp.Lexicographic.{pointwise}
+use Rattle.indexmap.specs.IndexSet.{insert_key}
+use Rattle.heap_pools.specs.Distinct.{is_among, pooled}
+use Rattle.heap_pools.specs.GuidHeap.{guid_heap}
+use Rattle.heap_pools.proofs.DistinctLemmas.{pooled_there, pooled_new}
+
+-- the length of a heap of GUIDs
+pub length-guid_heap : (guids : List (List ℕ)) → All (λ guid. length guid ≡ 16) guids → length (guid_heap guids) ≡ 16 * length guids
+length-guid_heap [] h = refl
+length-guid_heap (guid ∷ guids) h =
+    let sixteen = All-head (λ g. length g ≡ 16) guid guids h in
+    let rest = length-guid_heap guids (All-tail (λ g. length g ≡ 16) guid guids h) in
+    omega (arith, length-append guid (guid_heap guids))
+
+-- a new GUID is appended
+pub sixteen_more : (guids : List (List ℕ)) (guid : List ℕ) → All (λ g. length g ≡ 16) guids → length guid ≡ 16 → All (λ g. length g ≡ 16) (guids ++ guid ∷ [])
+sixteen_more guids guid h sixteen = All-append (λ g. length g ≡ 16) guids (guid ∷ []) h (All-cons (λ g. length g ≡ 16) guid [] sixteen (All-nil (λ g. length g ≡ 16)))
+
+-- the heap with a GUID is longer than 2^30 bytes if and only if the GUID is new and there are 2^26 already
+pub fits_there : (guids : List (List ℕ)) (guid : List ℕ) → All (λ g. length g ≡ 16) guids → length guids ≤ 2 ^ 26 → is_among guids guid ≡ true → length (guid_heap (pooled guids guid)) ≤ 2 ^ 30
+fits_there guids guid h few there = rw (pooled_there guids guid there) (omega (arith, length-guid_heap guids h))
+
+pub long_new : (guids : List (List ℕ)) (guid : List ℕ) → All (λ g. length g ≡ 16) guids → length guid ≡ 16 → is_among guids guid ≡ false → length (guid_heap (pooled guids guid)) ≡ 16 * length guids + 16
+long_new guids guid h sixteen new =
+    rw (pooled_new guids guid (omega arith) new) (omega (arith, length-guid_heap (guids ++ guid ∷ []) (sixteen_more guids guid h sixteen), length-append guids (guid ∷ [])))
+
+module _ (guids : List (List ℕ)) (guid : List ℕ) (h : All (λ g. length g ≡ 16) guids) (few : length guids ≤ 2 ^ 26) (sixteen : length guid ≡ 16) where
+  pub full_at_most : length guids ≡ 2 ^ 26 → (there : Bool) → there ≡ is_among guids guid → IsTrue (not there) ↔ (2 ^ 30 < length (guid_heap (pooled guids guid)))
+  full_at_most most true is = (λ no_more. absurd (true≢false (sym no_more)), λ long. absurd (omega (arith, fits_there guids guid h few (sym is))))
+  full_at_most most false is = (λ _. omega (arith, long_new guids guid h sixteen (sym is)), λ _. refl)
+
+  -- with fewer entries there is room
+  pub room_below : length guids < 2 ^ 26 → 2 ^ 30 < length (guid_heap (pooled guids guid)) → ⊥
+  room_below less long = ⊎_elim
+      (λ (e : is_among guids guid ≡ true). omega (arith, fits_there guids guid h few e))
+      (λ (e : is_among guids guid ≡ false). omega (arith, long_new guids guid h sixteen e))
+      (cases_Bool (is_among guids guid))
+
+  -- adding a GUID when there is room keeps the two facts
+  pub pooled_sixteen : All (λ g. length g ≡ 16) (pooled guids guid)
+  pooled_sixteen = ⊎_elim
+      (λ (e : is_among guids guid ≡ true). subst (All (λ g. length g ≡ 16)) (sym (pooled_there guids guid e)) h)
+      (λ (e : is_among guids guid ≡ false). subst (All (λ g. length g ≡ 16)) (sym (pooled_new guids guid (omega arith) e)) (sixteen_more guids guid h sixteen))
+      (cases_Bool (is_among guids guid))
+
+  pub pooled_fits : (2 ^ 30 < length (guid_heap (pooled guids guid)) → ⊥) → length (pooled guids guid) ≤ 2 ^ 26
+  pooled_fits room = ⊎_elim
+      (λ (lt : 2 ^ 30 < length (guid_heap (pooled guids guid))). absurd (room lt))
+      (λ (le : length (guid_heap (pooled guids guid)) ≤ 2 ^ 30). omega (arith, length-guid_heap (pooled guids guid) pooled_sixteen))
+      (cases_lt (2 ^ 30) (length (guid_heap (pooled guids guid))))
+
+  -- the keys with the GUID, as the set returns them
+  pub inserted_is : insert_key (pointwise nat_eq) guids guid ≡ pooled guids guid
+  inserted_is = ⊎_elim
+      (λ (e : is_among guids guid ≡ true). rw (pooled_there guids guid e, e) refl)
+      (λ (e : is_among guids guid ≡ false). rw (pooled_new guids guid (omega arith) e, e) refl)
+      (cases_Bool (is_among guids guid))
+
+-- a heap within the limit has room for its own entries
+pub fits_itself : (guids : List (List ℕ)) → All (λ g. length g ≡ 16) guids → length guids ≤ 2 ^ 26 → 2 ^ 30 < length (guid_heap guids) → ⊥
+fits_itself guids h few long = omega (arith, length-guid_heap guids h)

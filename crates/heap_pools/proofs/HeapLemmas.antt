@@ -1,0 +1,84 @@
+-- The heap of the flagged texts, extended by one use index.
+use Rattle.std.proofs.Common.{◌≡◌, ℕ, zero, suc, ◌+◌, ◌<◌, ◌≤◌, Bool, true, false, List, [], ◌∷◌, ◌++◌, length, take, drop, get_or, slice_index_or, refl, sym, ap, subst, ◌∙◌, ⊎_elim, true≢false, arith, length-append, add-one}
+use Rattle.std.proofs.lemmas.Bool.{cases_lt, false≢true}
+use Rattle.std.proofs.lemmas.List.{append_assoc, get_or_push, get_or_append_left, drop_at, take_at}
+use Rattle.heap_pools.specs.TextHeap.{ended}
+use Rattle.heap_pools.specs.Ranking.{used_at, flagged}
+use Rattle.heap_pools.proofs.PlanLemmas.{flagged_split}
+
+pub ended-append : (a b : List (List ℕ)) → ended (a ++ b) ≡ ended a ++ ended b
+ended-append [] b = refl
+ended-append (t ∷ a) b = ap (λ l. t ++ 0 ∷ l) (ended-append a b) ∙ sym (append_assoc t (0 ∷ ended a) (ended b))
+
+pub ended_push : (a : List (List ℕ)) (t : List ℕ) → ended (a ++ t ∷ []) ≡ (ended a ++ t) ++ 0 ∷ []
+ended_push a t = ended-append a (t ∷ []) ∙ sym (append_assoc (ended a) t (0 ∷ []))
+
+flagged_yes : (texts : List (List ℕ)) (flags : List Bool) (p : ℕ) → p < length texts → slice_index_or flags p false ≡ true → flagged (take (suc p) texts) (take (suc p) flags) ≡ flagged (take p texts) (take p flags) ++ used_at texts p ∷ []
+flagged_yes [] flags p h e = absurd (omega arith)
+flagged_yes (t ∷ ts) [] p h e = absurd (false≢true e)
+flagged_yes (t ∷ ts) (true ∷ fs) zero h e = refl
+flagged_yes (t ∷ ts) (false ∷ fs) zero h e = absurd (false≢true e)
+flagged_yes (t ∷ ts) (true ∷ fs) (suc p) h e = ap (λ l. t ∷ l) (flagged_yes ts fs p (omega arith) e)
+flagged_yes (t ∷ ts) (false ∷ fs) (suc p) h e = flagged_yes ts fs p (omega arith) e
+
+flagged_no : (texts : List (List ℕ)) (flags : List Bool) (p : ℕ) → p < length texts → p < length flags → slice_index_or flags p false ≡ false → flagged (take (suc p) texts) (take (suc p) flags) ≡ flagged (take p texts) (take p flags)
+flagged_no [] flags p h k e = absurd (omega arith)
+flagged_no (t ∷ ts) [] p h k e = absurd (omega arith)
+flagged_no (t ∷ ts) (true ∷ fs) zero h k e = absurd (true≢false e)
+flagged_no (t ∷ ts) (false ∷ fs) zero h k e = refl
+flagged_no (t ∷ ts) (true ∷ fs) (suc p) h k e = ap (λ l. t ∷ l) (flagged_no ts fs p (omega arith) (omega arith) e)
+flagged_no (t ∷ ts) (false ∷ fs) (suc p) h k e = flagged_no ts fs p (omega arith) (omega arith) e
+
+module _ (texts : List (List ℕ)) (flags : List Bool) (p : ℕ) (in_texts : p < length texts) where
+  pub ended_yes : (heap : List ℕ) → slice_index_or flags p false ≡ true → heap ≡ 0 ∷ ended (flagged (take p texts) (take p flags)) → (heap ++ used_at texts p) ++ 0 ∷ [] ≡ 0 ∷ ended (flagged (take (p + 1) texts) (take (p + 1) flags))
+  ended_yes heap e is =
+      ap (λ l. (l ++ used_at texts p) ++ 0 ∷ []) is ∙ ap (λ l. 0 ∷ l) (sym (ended_push (flagged (take p texts) (take p flags)) (used_at texts p)))
+      ∙ ap (λ l. 0 ∷ ended l) (sym (flagged_yes texts flags p in_texts e)) ∙ ap (λ n. 0 ∷ ended (flagged (take n texts) (take n flags))) (sym (add-one p))
+
+  pub ended_no : (heap : List ℕ) → p < length flags → slice_index_or flags p false ≡ false → heap ≡ 0 ∷ ended (flagged (take p texts) (take p flags)) → heap ≡ 0 ∷ ended (flagged (take (p + 1) texts) (take (p + 1) flags))
+  ended_no heap h e is = is ∙ ap (λ l. 0 ∷ ended l) (sym (flagged_no texts flags p in_texts h e)) ∙ ap (λ n. 0 ∷ ended (flagged (take n texts) (take n flags))) (sym (add-one p))
+
+  -- the lengths of these heaps
+  pub length_yes : slice_index_or flags p false ≡ true → length (ended (flagged (take (p + 1) texts) (take (p + 1) flags))) ≡ length (ended (flagged (take p texts) (take p flags))) + length (used_at texts p) + 1
+  length_yes e =
+      let heap = 0 ∷ ended (flagged (take p texts) (take p flags)) in
+      let more = ap length (ended_yes heap e refl) in
+      omega (arith, more, length-append (heap ++ used_at texts p) (0 ∷ []), length-append heap (used_at texts p))
+
+  pub length_no : p < length flags → slice_index_or flags p false ≡ false → length (ended (flagged (take (p + 1) texts) (take (p + 1) flags))) ≡ length (ended (flagged (take p texts) (take p flags)))
+  length_no h e = let same = ap length (ended_no (0 ∷ ended (flagged (take p texts) (take p flags))) h e refl) in omega arith
+
+  pub ended_total : slice_index_or flags p false ≡ true → length (ended (flagged (take p texts) (take p flags))) + length (used_at texts p) + 1 ≤ length (ended (flagged texts flags))
+  ended_total e =
+      let s = flagged_split texts flags p in_texts e in
+      let a = ap (λ l. length (ended l)) s.1 in
+      let b = ap length (ended-append (flagged (take p texts) (take p flags)) (used_at texts p ∷ s.0)) in
+      omega (arith, length-append (ended (flagged (take p texts) (take p flags))) (ended (used_at texts p ∷ s.0)), length-append (used_at texts p) (0 ∷ ended s.0))
+
+-- one more number at the end of a list of a function's values
+pub values_more : (f : ℕ → ℕ) (xs : List ℕ) (i x : ℕ) → length xs ≡ i → x ≡ f i → ((k : ℕ) → k < i → get_or xs k 0 ≡ f k) → (k : ℕ) → k < i + 1 → get_or (xs ++ x ∷ []) k 0 ≡ f k
+values_more f xs i x long new old k h = ⊎_elim
+    (λ (lt : k < i). get_or_append_left xs (x ∷ []) 0 k (omega arith) ∙ old k lt)
+    (λ (ge : i ≤ k). let e : i ≡ k = omega arith in get_or_push xs x 0 k (long ∙ e) ∙ new ∙ ap f e)
+    (cases_lt k i)
+
+-- one more number at the end of a list of numbers that are related to their indexes
+pub related_more : (R : ℕ → ℕ → Type 0) (xs : List ℕ) (i x : ℕ) → length xs ≡ i → R i x → ((k : ℕ) → k < i → R k (get_or xs k 0)) → (k : ℕ) → k < i + 1 → R k (get_or (xs ++ x ∷ []) k 0)
+related_more R xs i x long new old k h = ⊎_elim
+    (λ (lt : k < i). subst (R k) (sym (get_or_append_left xs (x ∷ []) 0 k (omega arith))) (old k lt))
+    (λ (ge : i ≤ k).
+    let e : i ≡ k = omega arith in
+    subst (λ n. R n (get_or (xs ++ x ∷ []) n 0)) e (subst (R i) (sym (get_or_push xs x 0 i long)) new))
+    (cases_lt k i)
+
+-- a text at the end of an entry is at its index in the heap
+pub stands_in : (before : List (List ℕ)) (entry : List ℕ) (after : List (List ℕ)) (front text : List ℕ) → entry ≡ front ++ text
+    → take (length text) (drop (1 + length (ended before) + length front) (0 ∷ ended (before ++ entry ∷ after))) ≡ text
+stands_in before entry after front text e =
+    let parts : 0 ∷ ended (before ++ entry ∷ after) ≡ ((0 ∷ ended before) ++ front) ++ (text ++ 0 ∷ ended after) =
+    ap (λ l. 0 ∷ l) (ended-append before (entry ∷ after)) ∙ ap (λ l. 0 ∷ (ended before ++ (l ++ 0 ∷ ended after))) e
+    ∙ ap (λ l. 0 ∷ (ended before ++ l)) (append_assoc front text (0 ∷ ended after)) ∙ sym (append_assoc (0 ∷ ended before) front (text ++ 0 ∷ ended after)) in
+    let long : length ((0 ∷ ended before) ++ front) ≡ 1 + length (ended before) + length front = omega (arith, length-append (0 ∷ ended before) front) in
+    ap (λ l. take (length text) (drop (1 + length (ended before) + length front) l)) parts
+    ∙ ap (take (length text)) (drop_at ((0 ∷ ended before) ++ front) (text ++ 0 ∷ ended after) (1 + length (ended before) + length front) long)
+    ∙ take_at text (0 ∷ ended after) (length text) refl

@@ -1,0 +1,134 @@
+-- Values in lists, and in the list of the distinct ones.
+use Rattle.std.proofs.Common.{◌≡◌, ℕ, zero, suc, ◌<◌, Bool, true, false, ◌||◌, cond, true≢false, List, [], ◌∷◌, ◌++◌, length, filter, Contains, refl, sym, ap, subst, ◌∙◌, ◌⊎◌, inl, inr, ⊎_elim, arith, append_assoc}
+use Rattle.std.specs.List.{list_any}
+use Rattle.std.specs.Str.{bytes_eq}
+use Rattle.std.specs.Cmp.Lexicographic.{same_text}
+use Rattle.std.proofs.lemmas.Bool.{cases_Bool, false≢true}
+use Rattle.std.proofs.lemmas.Cmp.{nat_list_eq_equiv}
+use Rattle.std.proofs.lemmas.List.{append-nil}
+use Rattle.std.proofs.lemmas.List.Folds.{list_any-append}
+use Rattle.heap_pools.specs.Distinct.{is_among, first_uses, distinct, pooled}
+
+-- a list contains a value
+abbrev pub IsIn : {X : Type 0} → X → List X → Type 0
+IsIn x [] = ⊥
+IsIn x (y ∷ ys) = (y ≡ x) ⊎ IsIn x ys
+
+pub in_from_contains : {X : Type 0} (xs : List X) (x : X) → Contains xs x → IsIn x xs
+in_from_contains [] x (k, h, e) = absurd (omega arith)
+in_from_contains (y ∷ ys) x (zero, h, e) = inl e
+in_from_contains (y ∷ ys) x (suc k, h, e) = inr (in_from_contains ys x (k, omega arith, e))
+
+pub contains_from_in : {X : Type 0} (xs : List X) (x : X) → IsIn x xs → Contains xs x
+contains_from_in [] x h = absurd h
+contains_from_in (y ∷ ys) x (inl e) = (0, omega arith, e)
+contains_from_in (y ∷ ys) x (inr h) = let rest = contains_from_in ys x h in (suc rest.0, omega (arith, rest.1), rest.2)
+
+or_true : (b : Bool) → (b || true) ≡ true
+or_true true = refl
+or_true false = refl
+
+or_false : (b : Bool) → (b || false) ≡ b
+or_false true = refl
+or_false false = refl
+
+pub in_any : {X : Type 0} (test : X → Bool) (x : X) (xs : List X) → IsIn x xs → test x ≡ true → list_any test xs ≡ true
+in_any test x [] h t = absurd h
+in_any test x (z ∷ zs) (inl e) t = ap (λ b. b || list_any test zs) (ap test e ∙ t)
+in_any test x (z ∷ zs) (inr h) t = ap (λ b. test z || b) (in_any test x zs h t) ∙ or_true (test z)
+
+pub any_in : {X : Type 0} (test : X → Bool) (xs : List X) → list_any test xs ≡ true → (x : X) × IsIn x xs × (test x ≡ true)
+any_in test [] h = absurd (false≢true h)
+any_in test (z ∷ zs) h = ⊎_elim
+    (λ (e : test z ≡ true). (z, inl refl, e))
+    (λ (e : test z ≡ false). let rest = any_in test zs (sym (ap (λ b. b || list_any test zs) e) ∙ h) in (rest.0, inr rest.1, rest.2))
+    (cases_Bool (test z))
+
+pub in_filter : {X : Type 0} (test : X → Bool) (x : X) (xs : List X) → IsIn x xs → test x ≡ true → IsIn x (filter test xs)
+in_filter test x [] h t = absurd h
+in_filter test x (z ∷ zs) (inl e) t = subst (λ b. IsIn x (cond b (z ∷ filter test zs) (filter test zs))) (sym (ap test e ∙ t)) (inl e)
+in_filter test x (z ∷ zs) (inr h) t = ⊎_elim
+    (λ (e : test z ≡ true). subst (λ b. IsIn x (cond b (z ∷ filter test zs) (filter test zs))) (sym e) (inr (in_filter test x zs h t)))
+    (λ (e : test z ≡ false). subst (λ b. IsIn x (cond b (z ∷ filter test zs) (filter test zs))) (sym e) (in_filter test x zs h t))
+    (cases_Bool (test z))
+
+pub among_in : (values : List (List ℕ)) (value : List ℕ) → IsIn value values → is_among values value ≡ true
+among_in values value h = in_any (bytes_eq value) value values h (nat_list_eq_equiv.refl value)
+
+-- a value that is in the list before it is not added again
+pub among_push : (before : List (List ℕ)) (value x : List ℕ) → is_among (before ++ value ∷ []) x ≡ (is_among before x || bytes_eq x value)
+among_push before value x = list_any-append (bytes_eq x) before (value ∷ []) ∙ ap (λ b. is_among before x || b) (or_false (bytes_eq x value))
+
+or_of_false : (a b : Bool) → a ≡ false → b ≡ false → (a || b) ≡ false
+or_of_false a b e f = ap (λ c. c || b) e ∙ f
+
+-- the first use of each value is among the first uses
+first_use : (before used : List (List ℕ)) (x : List ℕ) → IsIn x used → is_among before x ≡ false → IsIn x (first_uses before used)
+first_use before [] x h none = absurd h
+first_use before (value ∷ values) x h none = ⊎_elim
+    (λ (e : bytes_eq x value ≡ true).
+    let same : value ≡ x = sym (same_text x value (sym e)) in
+    subst (λ b. IsIn x (cond b (first_uses (before ++ value ∷ []) values) (value ∷ first_uses (before ++ value ∷ []) values))) (sym (ap (is_among before) same ∙ none)) (inl same))
+    (λ (e : bytes_eq x value ≡ false).
+    let later : IsIn x values = ⊎_elim (λ (same : value ≡ x). absurd (true≢false (sym (nat_list_eq_equiv.refl x) ∙ ap (bytes_eq x) (sym same) ∙ e))) (λ (l : IsIn x values). l) h in
+    let more = first_use (before ++ value ∷ []) values x later (among_push before value x ∙ or_of_false _ _ none e) in
+    ⊎_elim
+    (λ (t : is_among before value ≡ true). subst (λ b. IsIn x (cond b (first_uses (before ++ value ∷ []) values) (value ∷ first_uses (before ++ value ∷ []) values))) (sym t) more)
+    (λ (f : is_among before value ≡ false). subst (λ b. IsIn x (cond b (first_uses (before ++ value ∷ []) values) (value ∷ first_uses (before ++ value ∷ []) values))) (sym f) (inr more))
+    (cases_Bool (is_among before value)))
+    (cases_Bool (bytes_eq x value))
+
+nothing_like : (x : List ℕ) → 0 < length x → is_among ([] ∷ []) x ≡ false
+nothing_like [] h = absurd (omega arith)
+nothing_like (b ∷ bs) h = refl
+
+pub in_distinct : (used : List (List ℕ)) (x : List ℕ) → IsIn x used → 0 < length x → IsIn x (distinct used)
+in_distinct used x h some = first_use ([] ∷ []) used x h (nothing_like x some)
+
+-- a value is in `before` or the first uses if and only if it is in `before` or the values
+among_known : (before rest : List (List ℕ)) (value x : List ℕ) → is_among before value ≡ true → is_among ((before ++ value ∷ []) ++ rest) x ≡ is_among (before ++ rest) x
+among_known before rest value x known =
+    let left = list_any-append (bytes_eq x) (before ++ value ∷ []) rest in
+    let right = list_any-append (bytes_eq x) before rest in
+    let same : (is_among before x || bytes_eq x value) ≡ is_among before x = ⊎_elim
+    (λ (e : bytes_eq x value ≡ true).
+    let there : is_among before x ≡ true = ap (is_among before) (same_text x value (sym e)) ∙ known in
+    ap (λ b. b || bytes_eq x value) there ∙ sym there)
+    (λ (e : bytes_eq x value ≡ false). ap (λ b. is_among before x || b) e ∙ or_false (is_among before x))
+    (cases_Bool (bytes_eq x value)) in
+    left ∙ ap (λ b. b || is_among rest x) (among_push before value x ∙ same) ∙ sym right
+
+pub among_first_uses : (before used : List (List ℕ)) (x : List ℕ) → is_among (before ++ first_uses before used) x ≡ is_among (before ++ used) x
+among_first_uses before [] x = refl
+among_first_uses before (value ∷ values) x =
+    let more = among_first_uses (before ++ value ∷ []) values x in
+    let rest = first_uses (before ++ value ∷ []) values in
+    let moved = ap (λ (l : List (List ℕ)). is_among l x) (append_assoc before (value ∷ []) values) in
+    ⊎_elim
+    (λ (t : is_among before value ≡ true).
+    ap (λ b. is_among (before ++ cond b rest (value ∷ rest)) x) t ∙ sym (among_known before rest value x t) ∙ more ∙ moved)
+    (λ (f : is_among before value ≡ false).
+    ap (λ b. is_among (before ++ cond b rest (value ∷ rest)) x) f ∙ sym (ap (λ (l : List (List ℕ)). is_among l x) (append_assoc before (value ∷ []) rest)) ∙ more ∙ moved)
+    (cases_Bool (is_among before value))
+
+-- one more value
+first_uses-push : (before used : List (List ℕ)) (x : List ℕ) → first_uses before (used ++ x ∷ []) ≡ cond (is_among (before ++ used) x) (first_uses before used) (first_uses before used ++ x ∷ [])
+first_uses-push before [] x = ap (λ (l : List (List ℕ)). cond (is_among l x) [] (x ∷ [])) (sym (append-nil before))
+first_uses-push before (value ∷ values) x =
+    let more = first_uses-push (before ++ value ∷ []) values x in
+    let rest = first_uses (before ++ value ∷ []) values in
+    let test : is_among ((before ++ value ∷ []) ++ values) x ≡ is_among (before ++ value ∷ values) x = ap (λ (l : List (List ℕ)). is_among l x) (append_assoc before (value ∷ []) values) in
+    let all : first_uses (before ++ value ∷ []) (values ++ x ∷ []) ≡ cond (is_among (before ++ value ∷ values) x) rest (rest ++ x ∷ []) = more ∙ ap (λ b. cond b rest (rest ++ x ∷ [])) test in
+    ap (λ (l : List (List ℕ)). cond (is_among before value) l (value ∷ l)) all
+    ∙ both (is_among before value) (is_among (before ++ value ∷ values) x) rest value x
+  where
+    both : (a b : Bool) (rest : List (List ℕ)) (value x : List ℕ) → cond a (cond b rest (rest ++ x ∷ [])) (value ∷ cond b rest (rest ++ x ∷ [])) ≡ cond b (cond a rest (value ∷ rest)) (cond a rest (value ∷ rest) ++ x ∷ [])
+    both true true rest value x = refl
+    both true false rest value x = refl
+    both false true rest value x = refl
+    both false false rest value x = refl
+
+pub distinct-push : (used : List (List ℕ)) (value : List ℕ) → distinct (used ++ value ∷ []) ≡ pooled (distinct used) value
+distinct-push used value =
+    first_uses-push ([] ∷ []) used value
+    ∙ ap (λ b. cond b (distinct used) (distinct used ++ value ∷ [])) (sym (among_first_uses ([] ∷ []) used value))

@@ -1,0 +1,42 @@
+-- The heap of user strings, its lengths and its padding.
+use Rattle.std.proofs.Common.{◌≡◌, ℕ, zero, suc, ◌+◌, ◌-◌, ◌%◌, ◌*◌, ◌<◌, ◌≤◌, max, List, [], ◌∷◌, ◌++◌, length, take, flat_map, replicate, refl, ap, arith, length-append}
+use Rattle.packed.specs.Packed.{short_unsigned}
+use Rattle.heap_entries.specs.Fill.{filled}
+use Rattle.heap_pools.specs.FirstByte.{begun}
+use Rattle.heap_entries.specs.Units.{unit_bytes}
+use Rattle.heap_pools.specs.UserEntries.{last_byte, user_length, user_entry}
+use Rattle.heap_pools.proofs.FirstByteLemmas.{length-begun}
+
+pub length-units : (units : List ℕ) (last : ℕ) → length (flat_map unit_bytes units ++ last ∷ []) ≡ 2 * length units + 1
+length-units [] last = refl
+length-units (unit ∷ units) last = omega (arith, length-units units last)
+
+pub length-user_entry : (units : List ℕ) → length (user_entry units) ≡ length (short_unsigned (user_length units)) + user_length units
+unfolding user_entry
+length-user_entry units =
+    omega (arith, length-append (short_unsigned (user_length units)) (flat_map unit_bytes units ++ last_byte units ∷ []), length-units units (last_byte units))
+
+-- the offset of a pushed user string, and the length of the heap with it
+pub pushed_lengths : (bytes heap units : List ℕ) (len start used : ℕ) → len ≡ length bytes → start ≡ max len 1 → begun bytes ≡ heap → used ≡ length (short_unsigned (user_length units))
+    → (start ≡ length heap) × (length (heap ++ user_entry units) ≡ start + (used + user_length units))
+pushed_lengths bytes heap units len start used long at is counts =
+    let entry = length-user_entry units in
+    let first = length-begun bytes in
+    let same = ap length is in
+    let both = length-append heap (user_entry units) in
+    (omega arith, omega arith)
+
+pub take_zeros : (k : ℕ) → k ≤ 4 → take {A = ℕ} k (0 ∷ 0 ∷ 0 ∷ 0 ∷ []) ≡ replicate {A = ℕ} k 0
+take_zeros zero h = refl
+take_zeros (suc zero) h = refl
+take_zeros (suc (suc zero)) h = refl
+take_zeros (suc (suc (suc zero))) h = refl
+take_zeros (suc (suc (suc (suc zero)))) h = refl
+take_zeros (suc (suc (suc (suc (suc k))))) h = absurd (omega arith)
+
+-- zeros up to the next multiple of four
+pub filled_is : (bytes : List ℕ) (n : ℕ) → max (length bytes) 1 ≤ n → n < max (length bytes) 1 + 4 → n % 4 ≡ 0 → bytes ++ replicate {A = ℕ} (n - length bytes) 0 ≡ filled (begun bytes)
+filled_is [] n low high multiple = let four : n ≡ 4 = omega arith in rw four refl
+filled_is (byte ∷ bytes) n low high multiple =
+    let fill : n - length (byte ∷ bytes) ≡ (4 - length (byte ∷ bytes) % 4) % 4 = omega arith in
+    ap (λ k. (byte ∷ bytes) ++ replicate {A = ℕ} k 0) fill

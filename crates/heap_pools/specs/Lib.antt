@@ -1,0 +1,15 @@
+pub mod BlobHeap
+pub mod BlobPoolView
+pub mod Distinct
+pub mod Ending
+pub mod EndingOrder
+pub mod FirstByte
+pub mod GuidHeap
+pub mod GuidPoolView
+pub mod Ranking
+pub mod TextHeap
+pub mod TextPlan
+pub mod TextPoolView
+pub mod UserEntries
+pub mod UserHeap
+pub mod Uses

@@ -1,0 +1,56 @@
+ghost use Rattle.std.specs.Prelude.{◌≡◌, ◌<◌, ◌≤◌, ◌^◌, ◌++◌, ◌∷◌, [], ◌⊎◌, ℕ, List, length, All, Contains, IsUtf8, Option, Some};
+ghost use Rattle.heap_pools.specs.BlobHeap.{blob_heap, blob_index};
+ghost use Rattle.heap_pools.specs.Distinct.{distinct, pooled};
+ghost use Rattle.heap_entries.specs.Entries.{HasNoNul, IsBlob, IsGuid, IsText, IsUserString};
+ghost use Rattle.heap_pools.specs.GuidHeap.{given, guid_heap, guid_index, pooled_guid};
+ghost use Rattle.heap_pools.specs.TextHeap.{holders, text_heap, text_index};
+ghost use Rattle.heap_pools.specs.UserEntries.{last_byte, user_entry, user_length};
+
+/// In the planned heap, the text at the index of a used text is this text. More bytes may follow the heap.
+pub fn used_text_is_found()
+    ensures { (used : List (List ℕ)) (text rest : List ℕ) → Contains used text → HasNoNul text → IsUtf8 text
+        → IsText (text_heap (holders used) ++ rest) (text_index (holders used) text) text }
+{}
+
+/// In the heap, the blob at the index of a pooled blob is this blob. More bytes may follow the heap.
+pub fn pooled_blob_is_found()
+    ensures { (entries : List (List ℕ)) (blob rest : List ℕ) → (blob ≡ []) ⊎ Contains entries blob → length blob < 2 ^ 29
+        → IsBlob (blob_heap entries ++ rest) (blob_index entries blob) blob }
+{}
+
+/// In the heap, the GUID at the index of a pooled GUID is this GUID. More bytes may follow the heap.
+pub fn pooled_guid_is_found()
+    ensures { (entries : List (List ℕ)) (guid rest : List ℕ) → Contains entries guid → All (λ entry. length entry ≡ 16) entries
+        → IsGuid (guid_heap entries ++ rest) (guid_index entries (Some guid)) (Some guid) }
+{}
+
+/// The user string at the offset at which one was pushed is this one, whatever bytes follow.
+pub fn pushed_string_is_found()
+    ensures { (heap units rest : List ℕ) → 0 < length heap → user_length units < 2 ^ 29
+        → IsUserString (heap ++ (user_entry units ++ rest)) (length heap) (record { units = units; flag = Some (last_byte units) }) }
+{}
+
+/// Adding values one after another gives the distinct ones; more uses only append entries. Each non-empty
+/// value is among them, and adding it again changes nothing. Null GUIDs have no entry.
+pub fn pooled_are_distinct()
+    ensures more { (used : List (List ℕ)) (value : List ℕ) → distinct (used ++ value ∷ []) ≡ pooled (distinct used) value }
+    ensures guid { (used : List (List ℕ)) (guid : Option (List ℕ)) → distinct (used ++ given guid) ≡ pooled_guid (distinct used) guid }
+    ensures each { (used : List (List ℕ)) (value : List ℕ) → Contains used value → 0 < length value → Contains (distinct used) value }
+    ensures again { (used : List (List ℕ)) (value : List ℕ) → Contains used value → pooled (distinct used) value ≡ distinct used }
+    ensures front { (used more : List (List ℕ)) → (rest : List (List ℕ)) × (distinct (used ++ more) ≡ distinct used ++ rest) }
+{}
+
+/// The index of a blob or a GUID does not change when its pool grows.
+pub fn indexes_stay()
+    ensures blob { (entries more : List (List ℕ)) (blob : List ℕ) → (blob ≡ []) ⊎ Contains entries blob
+        → blob_index (entries ++ more) blob ≡ blob_index entries blob }
+    ensures guid { (entries more : List (List ℕ)) (guid : List ℕ) → Contains entries guid
+        → guid_index (entries ++ more) (Some guid) ≡ guid_index entries (Some guid) }
+{}
+
+/// The heap of the first uses is not longer than the heap of all uses.
+pub fn heaps_grow()
+    ensures texts { (used more : List (List ℕ)) → length (text_heap (holders used)) ≤ length (text_heap (holders (used ++ more))) }
+    ensures blobs { (used more : List (List ℕ)) → length (blob_heap (distinct used)) ≤ length (blob_heap (distinct (used ++ more))) }
+    ensures guids { (used more : List (List ℕ)) → length (guid_heap (distinct used)) ≤ length (guid_heap (distinct (used ++ more))) }
+{}

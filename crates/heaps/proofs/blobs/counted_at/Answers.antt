@@ -1,7 +1,0 @@
-use Rattle.std.proofs.Common.{◌∙◌}
-use Rattle.heaps.proofs.BlobLemmas.{counted_behind}
-use Rattle.heaps.proofs.blobs.counted_at.Goals as goal
-
-pub returns-in_err-len-clause-only : goal.returns-in_err-len-clause-only
-returns-in_err-len-clause-only c = rw c.from_residual.ensures (λ bytes is.
-    c.in_err-len.ensures.only _ is.count _ (c.split_at.ensures.back ∙ counted_behind c.args.heap.now c.args.start bytes is) is.counts)

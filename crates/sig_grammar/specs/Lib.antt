@@ -1,0 +1,10 @@
+pub mod Code
+pub mod Columns
+pub mod ElementTypes
+pub mod Grammar
+pub mod Limits
+pub mod Parts
+pub mod Reading
+pub mod Spells
+pub mod Syntax
+pub mod Views

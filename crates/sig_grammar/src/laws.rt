@@ -1,0 +1,11 @@
+ghost use Rattle.std.specs.Prelude.{◌≡◌, ℕ, Some, IfSome};
+ghost use Rattle.table_schema.specs.declared.coded.Coded.TheVariants.{TypeDefOrRef};
+ghost use Rattle.table_schema.specs.declared.token.Token.{Token};
+ghost use Rattle.table_schema.specs.CodedIndexes.{IsCoded};
+ghost use Rattle.sig_grammar.specs.Reading.{token_of};
+
+/// The token that is read from a type index is the token that the index encodes.
+pub fn indexes_are_read()
+    ensures found { (number : ℕ) → IfSome (token_of number) (λ token. IsCoded TypeDefOrRef number token.table token.row) }
+    ensures only { (number : ℕ) (token : Token) → IsCoded TypeDefOrRef number token.table token.row → token_of number ≡ Some token }
+{}

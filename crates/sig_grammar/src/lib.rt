@@ -1,0 +1,28 @@
+//! The grammar of signatures (ECMA-335 II.23.2), and their values as Rust types.
+//!
+//! A [`SigBody`] is a whole signature: of a field, a method, a property, local variables, the arguments of a generic
+//! method, or a type. The definitions in `specs/` say which bytes spell which value in which kind of column, what its
+//! shortest spelling is, and which rows of type tables it names, in the order of the spelling. [`element_type`] and
+//! [`Element`] have the bytes of element types, [`method_byte`] the first byte of a method, [`token_of_index`] the row
+//! that an index names, and [`names_row`] says whether there is one. The laws of the grammar are in the crate
+//! `signature_values`.
+//!
+//! ```text
+//! // 06 08: a field of a 4-byte integer
+//! SigBody::Field(FieldSig(Slot { mods, kind: SlotKind::Plain(Core::Simple(Element::I4)) }))
+//! ```
+#![tactic(auto)]
+
+mod body;
+mod element;
+pub mod element_type;
+mod index;
+mod laws;
+pub mod method_byte;
+mod types;
+
+pub use body::{FieldSig, InstanceSig, Local, LocalsSig, Prefix, PropertySig, SigBody};
+pub use element::Element;
+pub use index::{names_row, token_of_index};
+pub use laws::indexes_are_read;
+pub use types::{Core, MethodSig, Modifier, Ret, Shape, Slot, SlotKind, TypeSig};

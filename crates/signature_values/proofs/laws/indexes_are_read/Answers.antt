@@ -1,8 +1,0 @@
-use Rattle.signature_values.proofs.Numbers.{token_found, token_again}
-use Rattle.signature_values.proofs.laws.indexes_are_read.Goals as goal
-
-pub returns-clause-found : goal.returns-clause-found
-returns-clause-found c = token_found
-
-pub returns-clause-only : goal.returns-clause-only
-returns-clause-only c = token_again

@@ -1,0 +1,145 @@
+-- The columns that have cells.
+use Rattle.std.proofs.Common.{◌≡◌, ◌≢◌, ℕ, zero, suc, ◌+◌, ◌<◌, Bool, true, false, cond, List, [], ◌∷◌, length, get_or, slice_index, refl, subst, arith}
+use Rattle.table_schema.specs.declared.table.TableId.{TableId}
+use Rattle.table_schema.specs.declared.table.TableId.TheVariants.{Module, TypeRef, TypeDef, Field, MethodDef, Param, InterfaceImpl, MemberRef, Constant, CustomAttribute, FieldMarshal, DeclSecurity, ClassLayout, FieldLayout, StandAloneSig, EventMap, Event, PropertyMap, Property, MethodSemantics, MethodImpl, ModuleRef, TypeSpec, ImplMap, FieldRVA, Assembly, AssemblyProcessor, AssemblyOS, AssemblyRef, AssemblyRefProcessor, AssemblyRefOS, File, ExportedType, ManifestResource, NestedClass, GenericParam, MethodSpec, GenericParamConstraint}
+use Rattle.table_schema.specs.declared.column.Column.{Column}
+use Rattle.table_schema.specs.declared.column.ColumnKind.TheVariants as kind
+use Rattle.table_schema.specs.Columns.{columns_of, column_at, col}
+use Rattle.table_schema.specs.CellColumns.{is_padding, indexes_from, cell_columns, cell_count, column_of}
+
+-- an index in the list, whether or not one more is put before it
+listed_behind : (padding : Bool) (first : ℕ) (rest : List ℕ) (index : ℕ) → (k : ℕ) × (k < length rest) × (get_or rest k 0 ≡ index)
+    → (k : ℕ) × (k < length (cond padding rest (first ∷ rest))) × (get_or (cond padding rest (first ∷ rest)) k 0 ≡ index)
+listed_behind true first rest index there = there
+listed_behind false first rest index there = (suc there.0, omega (arith, there.1), there.2)
+
+-- each column that is not padding is in the list
+column_listed : (index : ℕ) (columns : List Column) (i : ℕ) (d : Column) → i < length columns → is_padding (get_or columns i d).kind ≡ false
+    → (k : ℕ) × (k < length (indexes_from index columns)) × (get_or (indexes_from index columns) k 0 ≡ index + i)
+column_listed index [] i d within cell = absurd (omega arith)
+column_listed index (column ∷ columns) zero d within cell = rw cell (0, omega arith, omega arith)
+column_listed index (column ∷ columns) (suc i) d within cell =
+    let rest = column_listed (index + 1) columns i d (omega arith) cell in
+    listed_behind (is_padding column.kind) index (indexes_from (index + 1) columns) (index + suc i) (rest.0, rest.1, omega (arith, rest.2))
+
+-- an index in the list is that of a column that is not padding
+record IsListed (columns : List Column) (index listed : ℕ) (d : Column) : Type 0 where
+  i : ℕ
+  is : listed ≡ index + i
+  within : i < length columns
+  cell : is_padding (get_or columns i d).kind ≡ false
+
+listed_more : (column : Column) (columns : List Column) (index listed : ℕ) (d : Column) → IsListed columns (index + 1) listed d
+    → IsListed (column ∷ columns) index listed d
+listed_more column columns index listed d there =
+    record { i = suc there.i; is = omega (arith, there.is); within = omega (arith, there.within); cell = there.cell }
+
+listed_at : (column : Column) (columns : List Column) (index : ℕ) (d : Column) (padding : Bool) → is_padding column.kind ≡ padding
+    → ((k : ℕ) → k < length (indexes_from (index + 1) columns) → IsListed columns (index + 1) (get_or (indexes_from (index + 1) columns) k 0) d)
+    → (k : ℕ) → k < length (cond padding (indexes_from (index + 1) columns) (index ∷ indexes_from (index + 1) columns))
+    → IsListed (column ∷ columns) index (get_or (cond padding (indexes_from (index + 1) columns) (index ∷ indexes_from (index + 1) columns)) k 0) d
+listed_at column columns index d true is rest k within = listed_more column columns index _ d (rest k within)
+listed_at column columns index d false is rest zero within = record { i = 0; is = omega arith; within = omega arith; cell = is }
+listed_at column columns index d false is rest (suc k) within = listed_more column columns index _ d (rest k (omega arith))
+
+listed_is : (index : ℕ) (columns : List Column) (k : ℕ) (d : Column) → k < length (indexes_from index columns)
+    → IsListed columns index (get_or (indexes_from index columns) k 0) d
+listed_is index [] k d within = absurd (omega arith)
+listed_is index (column ∷ columns) k d within =
+    listed_at column columns index d (is_padding column.kind) refl (λ j below. listed_is (index + 1) columns j d below) k within
+
+-- the column of a cell is one of the table's columns, and not padding
+pub cell_column : (table : TableId) (place : ℕ) → place < cell_count table
+    → (column_of table place < length (columns_of table)) × (is_padding (column_at table (column_of table place)).kind ≡ false)
+unfolding cell_columns
+cell_column table place below =
+    let listed = listed_is 0 (columns_of table) place (col kind.U8) below in
+    let is : listed.i ≡ column_of table place = omega (arith, listed.is) in
+    (omega (arith, listed.within), subst (λ (i : ℕ). is_padding (column_at table i).kind ≡ false) is listed.cell)
+
+-- each column of a table that is not padding has a cell
+pub column_cell : (table : TableId) (column : ℕ) → column < length (columns_of table) → is_padding (column_at table column).kind ≡ false
+    → (place : ℕ) × (place < cell_count table) × (column_of table place ≡ column)
+unfolding cell_columns
+column_cell table column within cell =
+    let there = column_listed 0 (columns_of table) column (col kind.U8) within cell in
+    (there.0, there.1, omega (arith, there.2))
+
+-- no column is padding
+abbrev pub has_all_cells : List Column → Bool
+has_all_cells [] = true
+has_all_cells (column ∷ columns) = cond (is_padding column.kind) false (has_all_cells columns)
+
+cond_true : (b rest : Bool) → cond b false rest ≡ true → (b ≡ false) × (rest ≡ true)
+cond_true true rest e = absurd cc
+cond_true false rest e = (refl, e)
+
+index_at : (i : ℕ) (columns : List Column) → has_all_cells columns ≡ true → (k : ℕ) → k < length columns → slice_index (indexes_from i columns) k ≡ i + k
+index_at i [] e k h = absurd (omega arith)
+index_at i (column ∷ columns) e zero h = let h2 = cond_true (is_padding column.kind) (has_all_cells columns) e in rw (h2.0) (omega arith)
+index_at i (column ∷ columns) e (suc k) h =
+    let h2 = cond_true (is_padding column.kind) (has_all_cells columns) e in
+    let next = index_at (i + 1) columns h2.1 k (omega arith) in
+    rw (h2.0) (omega arith)
+
+indexes_long : (i : ℕ) (columns : List Column) → has_all_cells columns ≡ true → length (indexes_from i columns) ≡ length columns
+indexes_long i [] e = refl
+indexes_long i (column ∷ columns) e =
+    let h2 = cond_true (is_padding column.kind) (has_all_cells columns) e in
+    let next = indexes_long (i + 1) columns h2.1 in
+    rw (h2.0) (omega arith)
+
+only_constant : (table : TableId) → table ≢ Constant → has_all_cells (columns_of table) ≡ true
+only_constant Module other = refl
+only_constant TypeRef other = refl
+only_constant TypeDef other = refl
+only_constant Field other = refl
+only_constant MethodDef other = refl
+only_constant Param other = refl
+only_constant InterfaceImpl other = refl
+only_constant MemberRef other = refl
+only_constant Constant other = absurd (other refl)
+only_constant CustomAttribute other = refl
+only_constant FieldMarshal other = refl
+only_constant DeclSecurity other = refl
+only_constant ClassLayout other = refl
+only_constant FieldLayout other = refl
+only_constant StandAloneSig other = refl
+only_constant EventMap other = refl
+only_constant Event other = refl
+only_constant PropertyMap other = refl
+only_constant Property other = refl
+only_constant MethodSemantics other = refl
+only_constant MethodImpl other = refl
+only_constant ModuleRef other = refl
+only_constant TypeSpec other = refl
+only_constant ImplMap other = refl
+only_constant FieldRVA other = refl
+only_constant Assembly other = refl
+only_constant AssemblyProcessor other = refl
+only_constant AssemblyOS other = refl
+only_constant AssemblyRef other = refl
+only_constant AssemblyRefProcessor other = refl
+only_constant AssemblyRefOS other = refl
+only_constant File other = refl
+only_constant ExportedType other = refl
+only_constant ManifestResource other = refl
+only_constant NestedClass other = refl
+only_constant GenericParam other = refl
+only_constant MethodSpec other = refl
+only_constant GenericParamConstraint other = refl
+
+-- each column of a table other than Constant has a cell
+pub same_column : (table : TableId) → table ≢ Constant → (cell : ℕ) → cell < cell_count table → (cell ≡ column_of table cell) × (cell < length
+    (columns_of table))
+unfolding cell_columns
+same_column table other cell within =
+    let all = only_constant table other in
+    let long = indexes_long 0 (columns_of table) all in
+    let is = index_at 0 (columns_of table) all cell (omega arith) in
+    (omega arith, omega arith)
+
+-- a table other than Constant has a cell for each column
+pub same_count : (table : TableId) → table ≢ Constant → length (columns_of table) ≡ cell_count table
+unfolding cell_columns
+same_count table other = let long = indexes_long 0 (columns_of table) (only_constant table other) in omega (arith, long)

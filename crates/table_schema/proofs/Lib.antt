@@ -1,0 +1,4 @@
+pub mod CellColumnLemmas
+pub mod CodedLemmas
+pub mod TableFacts
+pub mod TableOrder

@@ -1,2 +1,0 @@
-pub mod FirstByteLemmas
-pub mod HeapLemmas
