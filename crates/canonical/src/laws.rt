@@ -13,7 +13,7 @@ use heap_pools::{
 };
 use metadata::roots_have_models;
 use schema::{bits_are_known, numbers_are_spelled};
-use signature_values::shortest_spells;
+use sig_values::shortest_spells;
 use table_schema::{columns_stand, tables_stand, tags_fit};
 
 /// The canonical root of a valid model has this model, if the root has at most 2^30 bytes.

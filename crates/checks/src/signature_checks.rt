@@ -16,7 +16,7 @@ use crate::passed::Passed;
 use heap_entries::{blob, entries_are_one};
 use packed::{Fault, FaultCode, numbers_are_read};
 use reading::{Source, column_at};
-use recogniser::recognise_first_bad;
+use sig_recogniser::recognise_first_bad;
 use table_schema::{ColumnKind, SigKind, TableId, columns};
 
 /// Checks that each signature blob encodes a signature, and that the rows of its type indexes exist (II.23.2).

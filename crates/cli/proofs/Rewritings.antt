@@ -6,10 +6,10 @@ use Rattle.metadata.specs.Metadata.{Metadata}
 use Rattle.metadata.specs.Model.{IsModel}
 use Rattle.canonical.specs.Canonical.{canonical}
 use Rattle.opening.specs.Views.{HasModel}
-use Rattle.prepared.specs.Errors.{MatchError}
-use Rattle.prepared.specs.declared.error.WriteError.{WriteError}
-use Rattle.prepared.specs.declared.error.WriteError.TheVariants.{TooLarge}
-use Rattle.reports.specs.Checked.{IsOpened}
+use Rattle.root_plan.specs.Errors.{MatchError}
+use Rattle.root_plan.specs.declared.error.WriteError.{WriteError}
+use Rattle.root_plan.specs.declared.error.WriteError.TheVariants.{TooLarge}
+use Rattle.cli_reports.specs.Checked.{IsOpened}
 use Rattle.cli.specs.Rewritten.{IsRewritten, IsTooLong}
 
 module _ (bare : Bool) (bytes root : List ℕ) (opened : IsOpened bare bytes root) (has : HasModel root) where

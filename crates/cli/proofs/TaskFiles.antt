@@ -2,13 +2,13 @@
 use Rattle.std.proofs.Common.{◌≡◌, ℕ, List, Result, Ok, Err, Option, Some, None, ap, sym, subst}
 use Rattle.std.specs.Prelude.{IsSome}
 use Rattle.std.specs.Borrow.{Bor}
-use Rattle.command_line.specs.declared.asked.Ask.{Ask}
-use Rattle.command_line.specs.declared.asked.Subcommand.{Subcommand}
-use Rattle.command_line.specs.declared.asked.Subcommand.TheVariants as word
+use Rattle.cli_arguments.specs.declared.asked.Ask.{Ask}
+use Rattle.cli_arguments.specs.declared.asked.Subcommand.{Subcommand}
+use Rattle.cli_arguments.specs.declared.asked.Subcommand.TheVariants as word
 use Rattle.cli.specs.declared.task.Task.{Task}
 use Rattle.cli.specs.declared.task.Task.TheVariants as task
-use Rattle.reports.specs.declared.report.Report.{Report}
-use Rattle.command_line.specs.Asked.{HasFile}
+use Rattle.cli_reports.specs.declared.report.Report.{Report}
+use Rattle.cli_arguments.specs.Asked.{HasFile}
 use Rattle.cli.specs.Tasks.{IsTask, IsExplainTask}
 
 abbrev result_or : {T E : Type 0} → Result T E → T → T

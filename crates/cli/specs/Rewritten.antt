@@ -5,9 +5,9 @@ use Rattle.packed.specs.Demand.{FirstToFail, fault}
 use Rattle.metadata.specs.Metadata.{Metadata}
 use Rattle.metadata.specs.Model.{IsModel}
 use Rattle.canonical.specs.Canonical.{canonical}
-use Rattle.printed_faults.specs.declared.failure.Failure.{Failure}
-use Rattle.printed_faults.specs.declared.failure.Failure.TheVariants as failed
-use Rattle.reports.specs.Checked.{IsOpened, IsWhole, demands_of}
+use Rattle.cli_faults.specs.declared.failure.Failure.{Failure}
+use Rattle.cli_faults.specs.declared.failure.Failure.TheVariants as failed
+use Rattle.cli_reports.specs.Checked.{IsOpened, IsWhole, demands_of}
 
 -- the bytes have a model with this property
 abbrev HasModelWith : Bool → List ℕ → (Metadata → Type 0) → Type 0

@@ -3,12 +3,12 @@ use Rattle.std.specs.Prelude.{◌≡◌, ℕ, List, Option, Some, None, Result, 
 use Rattle.std.specs.Borrow.{Bor}
 use Rattle.std.specs.Str.Parse.{digits_value}
 use Rattle.packed.specs.declared.code.FaultCode.{FaultCode}
-use Rattle.command_line.specs.declared.asked.Ask.{Ask}
-use Rattle.command_line.specs.declared.asked.Subcommand.{Subcommand}
-use Rattle.command_line.specs.declared.asked.Subcommand.TheVariants as word
-use Rattle.printed_faults.specs.declared.failure.Failure.{Failure}
-use Rattle.printed_faults.specs.declared.failure.Failure.TheVariants as failed
-use Rattle.reports.specs.declared.report.Report.TheVariants as report
+use Rattle.cli_arguments.specs.declared.asked.Ask.{Ask}
+use Rattle.cli_arguments.specs.declared.asked.Subcommand.{Subcommand}
+use Rattle.cli_arguments.specs.declared.asked.Subcommand.TheVariants as word
+use Rattle.cli_faults.specs.declared.failure.Failure.{Failure}
+use Rattle.cli_faults.specs.declared.failure.Failure.TheVariants as failed
+use Rattle.cli_reports.specs.declared.report.Report.TheVariants as report
 use Rattle.cli.specs.declared.task.Task.{Task}
 use Rattle.cli.specs.declared.task.Task.TheVariants as task
 use Rattle.cli.specs.Numbers.{IsHexNumber, NamesCode}

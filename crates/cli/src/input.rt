@@ -1,8 +1,8 @@
 //! Reads the file to work on.
 ghost use Rattle.std.specs.Prelude.{IfErr};
-ghost use Rattle.printed_faults.specs.Status.{IsUnread};
+ghost use Rattle.cli_faults.specs.Status.{IsUnread};
 
-use printed_faults::Failure;
+use cli_faults::Failure;
 use std::fs::OpenFile;
 use std::io::Read;
 use std::rt::Files;

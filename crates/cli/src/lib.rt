@@ -16,5 +16,5 @@ mod program;
 mod rewrite_file;
 mod task;
 
-pub use command_line::{Ask, Subcommand, ask};
+pub use cli_arguments::{Ask, Subcommand, ask};
 pub use program::{go, refuse_words};

@@ -5,7 +5,7 @@ ghost use Rattle.std.specs.Str.Parse.{digits_value};
 ghost use Rattle.packed.specs.declared.code.FaultCode.{FaultCode as Demanded};
 ghost use Rattle.cli.specs.Numbers.{IsHexNumber, IsCodeNumber, NamesCode};
 
-use explanations::code_of_number;
+use cli_faults::code_of_number;
 use packed::FaultCode;
 
 /// The number with these one to eight hexadecimal digits, in either case; `None` for any other argument.

@@ -1,16 +1,16 @@
 ghost use Rattle.std.specs.Prelude.{◌≡◌, ◌≢◌, ◌≤◌, IfErr, IfOk};
 ghost use Rattle.std.specs.IoError.{error_kind};
 ghost use Rattle.std.specs.declared.io.ErrorKind.TheVariants as cause;
-ghost use Rattle.command_line.specs.Asked.{HasFile, HasSecond};
-ghost use Rattle.reports.specs.Stops.{status_of_stop};
+ghost use Rattle.cli_arguments.specs.Asked.{HasFile, HasSecond};
+ghost use Rattle.cli_reports.specs.Stops.{status_of_stop};
 
 use crate::input::read_file;
 use crate::rewrite_file::rewrite;
 use crate::task::{Task, task_of};
 use clap::error::ErrorKind;
-use command_line::{Ask, ask};
-use printed_faults::{Failure, printed};
-use reports::{Report, Stop, check_within, explain, print_report};
+use cli_arguments::{Ask, ask};
+use cli_faults::{Failure, printed};
+use cli_reports::{Report, Stop, check_within, explain, print_report};
 use std::alloc::Global;
 use std::io;
 use std::io::{BufWriter, Write};

@@ -1,13 +1,12 @@
 //! `clim rewrite`: the canonical root of a file.
 ghost use Rattle.std.specs.Prelude.{IfOk, IfErr};
 ghost use Rattle.cli.specs.Rewritten.{IsRewritten, TellsUnwritten};
-ghost use Rattle.printed_faults.specs.Status.{IsUnwritten};
+ghost use Rattle.cli_faults.specs.Status.{IsUnwritten};
 
 use packed::{Fault, FaultCode};
-use prepared::{Prepared, WriteError};
-use printed_faults::{Failure, printed};
-use reports::open;
-use sinks::Counted;
+use root_plan::{Counted, Prepared, WriteError};
+use cli_faults::{Failure, printed};
+use cli_reports::open;
 use std::alloc::Global;
 use std::io::{BufWriter, Write};
 use std::rt::Files;

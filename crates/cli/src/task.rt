@@ -1,12 +1,12 @@
 //! What the arguments ask the program to do.
-ghost use Rattle.command_line.specs.Asked.{HasSecond};
+ghost use Rattle.cli_arguments.specs.Asked.{HasSecond};
 ghost use Rattle.cli.specs.Tasks.{IsTask, IsExplainTask};
 
 use crate::numbers::{code_of, token_of};
-use command_line::{Ask, Subcommand};
+use cli_arguments::{Ask, Subcommand};
 use packed::FaultCode;
-use printed_faults::Failure;
-use reports::Report;
+use cli_faults::Failure;
+use cli_reports::Report;
 
 /// What to do.
 #[derive(Clone, Copy, Debug, PartialEq, Eq)]

@@ -3,9 +3,9 @@ ghost use Rattle.packed.specs.Codes.{name_of};
 ghost use Rattle.table_schema.specs.declared.table.TableId.{TableId as Table};
 ghost use Rattle.table_schema.specs.Tables.{table_number, table_name};
 ghost use Rattle.table_schema.specs.CellColumns.{cell_count, column_of};
-ghost use Rattle.column_names.specs.ColumnNames.{column_names_of};
+ghost use Rattle.schema.specs.ColumnNames.{column_names_of};
 
-use column_names::column_names;
+use schema::column_names;
 use opening::{Fault, TableId};
 use table_schema::{cell_count, column_of_cell};
 

@@ -6,8 +6,8 @@ use Rattle.table_schema.specs.declared.table.TableId.TheVariants.{Module}
 use Rattle.table_schema.specs.Tables.{tables, position_of}
 use Rattle.metadata.specs.Cell.{Cell}
 use Rattle.metadata.specs.Metadata.{Metadata, rows_of}
-use Rattle.cells.specs.declared.cell.Cell.{Cell as Owned}
-use Rattle.cells.specs.Said.{said, all_said}
+use Rattle.tables.specs.declared.cell.Cell.{Cell as Owned}
+use Rattle.tables.specs.Said.{said, all_said}
 use Rattle.tables.specs.Push.{with_row}
 use Rattle.loading.specs.Filled.{with_rows}
 

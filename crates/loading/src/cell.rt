@@ -4,10 +4,10 @@ ghost use Rattle.metadata.specs.Cell.{Cell as Says};
 ghost use Rattle.metadata.specs.Metadata.{Metadata, cell_in};
 ghost use Rattle.metadata.specs.Model.{IsModel};
 ghost use Rattle.reading.specs.Shown.{Shows, ShowsSignature};
-ghost use Rattle.cells.specs.Said.{said};
+ghost use Rattle.tables.specs.Said.{said};
 ghost use Rattle.opening.specs.Views.{HasModel, row_count};
 
-use cells::{Bytes, Cell, ColumnKind, Text};
+use tables::{Bytes, Cell, ColumnKind, Text};
 use opening::{CellRef, TableId, View};
 use signatures::{SigError, decode};
 use std::alloc::{AllocError, Global};

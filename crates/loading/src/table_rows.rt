@@ -1,18 +1,17 @@
 ghost use Rattle.std.specs.Prelude.{◌≡◌, ◌≤◌, [], IfOk, OnOk, length};
 ghost use Rattle.table_schema.specs.declared.table.TableId.{TableId as Table};
-ghost use Rattle.cells.specs.Said.{all_said};
+ghost use Rattle.tables.specs.Said.{all_said};
 ghost use Rattle.metadata.specs.Metadata.{Metadata, rows_of, row_of};
 ghost use Rattle.metadata.specs.Model.{IsModel};
 ghost use Rattle.opening.specs.Views.{row_count};
 ghost use Rattle.loading.specs.Filled.{with_rows};
 
 use crate::cell::load_cell;
-use cells::Cell;
+use tables::{Cell, Tables};
 use metadata::models_are_read;
 use opening::View;
 use std::alloc::{AllocError, Global};
 use table_schema::{TableId, cell_count, tables_stand};
-use tables::Tables;
 
 /// Loads the cells of a row.
 fn load_row(alloc: Global, view: &View, table: TableId, row: u32) -> Result<Vec<Cell>, AllocError>

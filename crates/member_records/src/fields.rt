@@ -2,7 +2,7 @@ ghost use Rattle.std.specs.Prelude.{◌≡◌, [], ◌∷◌, IfOk};
 ghost use Rattle.table_schema.specs.declared.table.TableId.TheVariants as table;
 ghost use Rattle.table_schema.specs.declared.column.SigKind.TheVariants as column;
 ghost use Rattle.metadata.specs.Cell.{Number, Text, Bytes, Ref, Sig};
-ghost use Rattle.cells.specs.Said.{all_said};
+ghost use Rattle.tables.specs.Said.{all_said};
 
 use records::{
     Cell, FieldValue, FromRow, IsSignature, Record, Row, SigKind, Signature, TableId, Token,

@@ -30,7 +30,7 @@ use heap_entries::entries_are_one;
 use pe::images_are_read;
 use root::roots_are_read;
 use schema::{cells_stand, numbers_are_read, streams_are_read};
-use signature_values::{signatures_are_read, spelled_is_spellable};
+use sig_values::{signatures_are_read, spelled_is_spellable};
 use table_schema::{cells_have_columns, columns_stand, tables_stand, tags_fit};
 
 /// A list of bytes satisfies all rules for a root if and only if it has a model. It has at most one model.

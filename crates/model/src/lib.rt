@@ -54,16 +54,15 @@ pub use opening::{
 pub use heaps::{HeapFault, PoolError, Units, UserHeap, UserString, guid_text, user_string};
 
 // The kinds of columns, and their names.
-pub use column_names::column_names;
-pub use schema::{Coded, Column, ColumnKind, cell_count, columns, key};
+pub use schema::{Coded, Column, ColumnKind, cell_count, column_names, columns, key};
 
 // Models that own their memory.
 pub use loading::{LoadError, ToModel, load_image, load_root};
 pub use owned_model::{Bytes, Cell, Model, Refusal, Row, Tables, Text};
 
 // Signatures in place: item by item, and in the notation of ILAsm.
-pub use signature_items::{Item, Items, MethodHead};
-pub use signature_text::{NamedText, TextSink, TokenNames, write_signature};
+pub use sig_items::{Item, Items, MethodHead};
+pub use sig_text::{NamedText, TextSink, TokenNames, write_signature};
 
 // Signatures and their values.
 pub use signatures::{

@@ -1,11 +1,11 @@
 ghost use Rattle.std.specs.Prelude.{◌≡◌, ◌≤◌};
-ghost use Rattle.cells.specs.Said.{said};
+ghost use Rattle.tables.specs.Said.{said};
 ghost use Rattle.metadata.specs.Metadata.{Metadata, count_in};
 ghost use Rattle.metadata.specs.Valid.{row_in};
 ghost use Rattle.metadata.specs.KeyOrder.{key_in, key_number};
 
 use crate::valid_model::Model;
-use cells::Cell;
+use tables::Cell;
 use metadata::row_number;
 use metadata_source::{MemberList, ReadMetadata};
 use table_schema::{ColumnKind, TableId, column_of_cell, columns};

@@ -5,9 +5,9 @@ use Rattle.table_schema.specs.declared.column.ColumnKind.{ColumnKind}
 use Rattle.table_schema.specs.declared.column.ColumnKind.TheVariants as kind
 use Rattle.metadata.specs.Cell.{Cell}
 use Rattle.metadata.specs.Kinds.{IsOfKind}
-use Rattle.cells.specs.declared.cell.Cell.{Cell as Owned}
-use Rattle.cells.specs.declared.cell.Cell.TheVariants as cell
-use Rattle.cells.specs.Said.{said, all_said}
+use Rattle.tables.specs.declared.cell.Cell.{Cell as Owned}
+use Rattle.tables.specs.declared.cell.Cell.TheVariants as cell
+use Rattle.tables.specs.Said.{said, all_said}
 use Rattle.records.specs.Kinds.{AreOfKinds}
 use Rattle.records.specs.Shapes.{shape_of, IsOfShape, AreHeld, AreSaid}
 

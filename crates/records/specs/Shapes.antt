@@ -4,8 +4,8 @@ use Rattle.table_schema.specs.declared.column.SigKind.{SigKind}
 use Rattle.table_schema.specs.declared.column.ColumnKind.{ColumnKind}
 use Rattle.table_schema.specs.declared.column.ColumnKind.TheVariants as kind
 use Rattle.metadata.specs.Cell.{Cell}
-use Rattle.cells.specs.declared.cell.Cell.{Cell as Owned}
-use Rattle.cells.specs.declared.cell.Cell.TheVariants as cell
+use Rattle.tables.specs.declared.cell.Cell.{Cell as Owned}
+use Rattle.tables.specs.declared.cell.Cell.TheVariants as cell
 
 -- the shape of a cell; a signature is encoded in a column of some kind
 pub data Shape : Type 0 where

@@ -1,9 +1,9 @@
 ghost use Rattle.std.specs.Prelude.{◌≡◌, Some, option_map, slice_get};
-ghost use Rattle.cells.specs.Said.{said};
+ghost use Rattle.tables.specs.Said.{said};
 ghost use Rattle.records.specs.Shapes.{IsOfShape};
 
 use crate::row::Row;
-use cells::{Cell, Signature, Token};
+use tables::{Cell, Signature, Token};
 use table_schema::SigKind;
 
 /// A row of owned cells.

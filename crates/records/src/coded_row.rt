@@ -3,7 +3,7 @@ ghost use Rattle.table_schema.specs.declared.table.TableId.{TableId as Table};
 ghost use Rattle.table_schema.specs.declared.coded.Coded.{Coded as Index};
 ghost use Rattle.table_schema.specs.CodedIndexes.{tables_of};
 ghost use Rattle.metadata.specs.Cell.{Cell as TheCell};
-ghost use Rattle.cells.specs.Said.{all_said};
+ghost use Rattle.tables.specs.Said.{all_said};
 ghost use Rattle.records.specs.Kinds.{kinds_of, AreOfKinds};
 ghost use Rattle.records.specs.Listed.{IsOneOf};
 ghost use Rattle.records.specs.Shapes.{AreHeld, AreSaid};
@@ -11,7 +11,7 @@ ghost use Rattle.records.specs.Shapes.{AreHeld, AreSaid};
 use crate::cell_row::CellRow;
 use crate::kinds::is_row_of;
 use crate::row::Row;
-use cells::Cell;
+use tables::Cell;
 use table_schema::{Coded, TableId};
 
 /// A row that a coded index names, as a record of one of the tables that the index lists (II.24.2.6).

@@ -1,8 +1,8 @@
 ghost use Rattle.std.specs.Prelude.{◌≡◌, IfOk, map};
-ghost use Rattle.cells.specs.Said.{said, all_said};
+ghost use Rattle.tables.specs.Said.{said, all_said};
 ghost use Rattle.records.specs.Values.{told};
 
-use cells::{Bytes, Cell, Signature, Text, Token};
+use tables::{Bytes, Cell, Signature, Text, Token};
 use std::alloc::{AllocError, Global};
 
 /// The content of a record's field, borrowed, by the kind of its column (II.22).

@@ -2,13 +2,13 @@ ghost use Rattle.std.specs.Prelude.{◌≡◌, [], ◌∷◌, IfOk};
 ghost use Rattle.table_schema.specs.declared.table.TableId.TheVariants as table;
 ghost use Rattle.table_schema.specs.declared.column.SigKind.TheVariants as column;
 ghost use Rattle.metadata.specs.Cell.{Number, Text, Ref, Sig};
-ghost use Rattle.cells.specs.Said.{all_said};
+ghost use Rattle.tables.specs.Said.{all_said};
 
 use crate::field_value::{FieldValue, owned_cells};
 use crate::record::{FromRow, Record};
 use crate::row::Row;
 use crate::signature::IsSignature;
-use cells::{Cell, Signature, Token};
+use tables::{Cell, Signature, Token};
 use std::alloc::{AllocError, Global};
 use table_schema::{SigKind, TableId};
 

@@ -1,8 +1,8 @@
 ghost use Rattle.std.specs.Prelude.{◌↔◌, IsTrue};
-ghost use Rattle.cells.specs.Said.{all_said};
+ghost use Rattle.tables.specs.Said.{all_said};
 ghost use Rattle.records.specs.Kinds.{kinds_in, kinds_of, AreOfKinds};
 
-use cells::Cell;
+use tables::Cell;
 use table_schema::{Column, ColumnKind, TableId, columns};
 
 /// Whether there is a cell of the right kind for each column except padding, and no other cell.

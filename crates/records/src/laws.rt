@@ -8,15 +8,15 @@ ghost use Rattle.sig_grammar.specs.Syntax.{Body};
 ghost use Rattle.sig_grammar.specs.Spells.{Spells};
 ghost use Rattle.metadata.specs.Cell.{Cell as TheCell};
 ghost use Rattle.metadata.specs.Metadata.{Metadata, row_of};
-ghost use Rattle.cells.specs.declared.cell.Cell.{Cell as Owned};
-ghost use Rattle.cells.specs.Said.{said, all_said};
+ghost use Rattle.tables.specs.declared.cell.Cell.{Cell as Owned};
+ghost use Rattle.tables.specs.Said.{said, all_said};
 ghost use Rattle.metadata.specs.Lookups.{HasRow};
 ghost use Rattle.metadata.specs.Valid.{IsValid};
 ghost use Rattle.records.specs.Kinds.{kinds_of, AreOfKinds};
 ghost use Rattle.records.specs.Shapes.{IsOfShape, AreHeld, AreSaid};
 ghost use Rattle.records.specs.Signatures.{spelled};
 
-use signature_values::signatures_are_read;
+use sig_values::signatures_are_read;
 
 /// A blob that encodes a signature in a column of a kind has this signature as its content there (II.23.2).
 pub fn blobs_say_signatures()

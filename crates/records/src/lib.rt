@@ -24,7 +24,7 @@ mod signature;
 mod types;
 
 pub use cell_row::CellRow;
-pub use cells::{Bytes, Cell, Signature, Text, Token};
+pub use tables::{Bytes, Cell, Signature, Text, Token};
 pub use coded_row::{CodedRow, coded_row_of, lists};
 pub use field_value::{FieldValue, owned_cells};
 pub use generics::{GenericParam, GenericParamConstraint, MethodSpec};

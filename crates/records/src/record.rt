@@ -1,14 +1,14 @@
 ghost use Rattle.std.specs.Prelude.{◌≡◌, ◌↔◌, List, IsSome, IfSome, IfOk};
 ghost use Rattle.table_schema.specs.declared.table.TableId.{TableId as Table};
 ghost use Rattle.metadata.specs.Cell.{Cell as TheCell};
-ghost use Rattle.cells.specs.Said.{all_said};
+ghost use Rattle.tables.specs.Said.{all_said};
 ghost use Rattle.records.specs.Kinds.{kinds_of, AreOfKinds};
 ghost use Rattle.records.specs.Shapes.{AreHeld, AreSaid};
 
 use crate::cell_row::CellRow;
 use crate::kinds::is_row_of;
 use crate::row::Row;
-use cells::Cell;
+use tables::Cell;
 use std::alloc::{AllocError, Global};
 use table_schema::TableId;
 

@@ -2,7 +2,7 @@ ghost use Rattle.table_schema.specs.declared.column.SigKind.{SigKind as Kind};
 ghost use Rattle.sig_grammar.specs.Syntax.{Body};
 ghost use Rattle.records.specs.Signatures.{spelled};
 
-use cells::Signature;
+use tables::Signature;
 
 /// A signature (II.23.2), or a value that stands for one in a column of a kind.
 pub trait IsSignature: Copy + Drop {

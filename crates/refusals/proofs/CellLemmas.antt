@@ -14,9 +14,9 @@ use Rattle.metadata.specs.Kinds.{IsOfKind, IsStorable}
 use Rattle.metadata.specs.Metadata.{Metadata, cell_in}
 use Rattle.metadata.specs.Valid.{MayRefer, kind_at, nullable_at}
 use Rattle.metadata.specs.Refusals.{refusals_of_cell}
-use Rattle.cells.specs.declared.cell.Cell.{Cell}
-use Rattle.cells.specs.declared.cell.Cell.TheVariants.{Number}
-use Rattle.cells.specs.Said.{said, all_said}
+use Rattle.tables.specs.declared.cell.Cell.{Cell}
+use Rattle.tables.specs.declared.cell.Cell.TheVariants.{Number}
+use Rattle.tables.specs.Said.{said, all_said}
 
 said_or : (found : Option Cell) → said (unwrap_or found (Number 0)) ≡ unwrap_or (option_map said found) (says.Number 0)
 said_or None = refl

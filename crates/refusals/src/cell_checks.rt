@@ -1,7 +1,7 @@
 ghost use Rattle.std.specs.Prelude.{◌≡◌, ◌≤◌, ◌<◌, ◌↔◌, IsTrue, length};
 ghost use Rattle.packed.specs.Demand.{Answers, demands_from};
 ghost use Rattle.table_schema.specs.CellColumns.{cell_count};
-ghost use Rattle.cells.specs.Said.{said, all_said};
+ghost use Rattle.tables.specs.Said.{said, all_said};
 ghost use Rattle.metadata.specs.Kinds.{IsOfKind, IsStorable};
 ghost use Rattle.metadata.specs.Metadata.{row_of, count_in, cell_in};
 ghost use Rattle.metadata.specs.Valid.{MayRefer, IsWithinMembers};
@@ -9,7 +9,7 @@ ghost use Rattle.metadata.specs.Refusals.{refusals_of_cell, refusals_of_row, ref
 
 use crate::column::column_at;
 use crate::counted::Counted;
-use cells::Cell;
+use tables::Cell;
 use metadata::Refusal;
 use packed::FaultCode;
 use table_schema::{ColumnKind, TableId, cell_count};

@@ -4,12 +4,11 @@ ghost use Rattle.metadata.specs.Metadata.{count_in};
 ghost use Rattle.metadata.specs.Rows.{table_at};
 ghost use Rattle.metadata.specs.Refusals.{refusals_of_count};
 
-use cells::Cell;
+use tables::{Cell, Tables};
 use metadata::Refusal;
 use packed::FaultCode;
 use std::marker::Model;
 use table_schema::{TableId, tables_stand};
-use tables::Tables;
 
 /// The greatest number of rows of a table (II.22).
 const ROW_LIMIT: usize = 0xFF_FFFF;
@@ -42,7 +41,7 @@ impl<'a> Counted<'a> {
     ghost use Rattle.packed.specs.Demand.{Answers};
     ghost use Rattle.table_schema.specs.declared.table.TableId.{TableId as Table};
     ghost use Rattle.table_schema.specs.Tables.{table_number};
-    ghost use Rattle.cells.specs.Said.{said, all_said};
+    ghost use Rattle.tables.specs.Said.{said, all_said};
     ghost use Rattle.metadata.specs.Cell.{Number as NumberCell};
     ghost use Rattle.metadata.specs.Metadata.{row_of, count_in, cell_in};
     ghost use Rattle.metadata.specs.Refusals.{refusals_of_counts};

@@ -1,10 +1,10 @@
 ghost use Rattle.std.specs.Prelude.{◌≡◌, unwrap_or, option_map};
 ghost use Rattle.std.specs.Option.{option_copied};
-ghost use Rattle.cells.specs.Said.{said};
+ghost use Rattle.tables.specs.Said.{said};
 ghost use Rattle.metadata.specs.Cell.{Number as NumberCell};
 ghost use Rattle.metadata.specs.KeyOrder.{key_number};
 
-use cells::Cell;
+use tables::Cell;
 use metadata::row_number;
 use table_schema::ColumnKind;
 

@@ -1,14 +1,14 @@
 ghost use Rattle.std.specs.Prelude.{◌≡◌, ◌≤◌, ◌-◌, unwrap_or, option_map};
 ghost use Rattle.std.specs.Option.{option_copied};
 ghost use Rattle.packed.specs.Demand.{Answers, demands_from};
-ghost use Rattle.cells.specs.Said.{said};
+ghost use Rattle.tables.specs.Said.{said};
 ghost use Rattle.metadata.specs.Cell.{Number as NumberCell};
 ghost use Rattle.metadata.specs.Metadata.{count_in, cell_in};
 ghost use Rattle.metadata.specs.Valid.{start_in};
 ghost use Rattle.metadata.specs.Refusals.{refusals_of_start, refusals_of_run, refusals_of_runs};
 
 use crate::counted::Counted;
-use cells::Cell;
+use tables::Cell;
 use metadata::Refusal;
 use packed::FaultCode;
 use table_schema::TableId;

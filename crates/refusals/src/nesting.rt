@@ -2,14 +2,14 @@ ghost use Rattle.std.specs.Prelude.{◌≡◌, ◌≤◌, unwrap_or, option_map}
 ghost use Rattle.std.specs.Option.{option_copied};
 ghost use Rattle.packed.specs.Demand.{Answers};
 ghost use Rattle.table_schema.specs.declared.table.TableId.TheVariants.{NestedClass};
-ghost use Rattle.cells.specs.Said.{said};
+ghost use Rattle.tables.specs.Said.{said};
 ghost use Rattle.metadata.specs.Cell.{Number as NumberCell};
 ghost use Rattle.metadata.specs.Metadata.{count_in};
 ghost use Rattle.metadata.specs.Valid.{row_in};
 ghost use Rattle.metadata.specs.Refusals.{refusals_of_nesting_in, refusals_of_nesting};
 
 use crate::counted::Counted;
-use cells::Cell;
+use tables::Cell;
 use metadata::Refusal;
 use packed::FaultCode;
 use table_schema::TableId;

@@ -1,14 +1,14 @@
 ghost use Rattle.std.specs.Prelude.{◌≡◌, ◌≤◌, ◌<◌, ◌↔◌, IsTrue};
 ghost use Rattle.packed.specs.Demand.{Answers, demands_from};
 ghost use Rattle.table_schema.specs.CellColumns.{cell_count};
-ghost use Rattle.cells.specs.Said.{said};
+ghost use Rattle.tables.specs.Said.{said};
 ghost use Rattle.metadata.specs.Metadata.{count_in};
 ghost use Rattle.metadata.specs.Valid.{NamesTypes};
 ghost use Rattle.metadata.specs.Refusals.{refusals_of_signature, refusals_of_signatures_in, refusals_of_signatures};
 
 use crate::column::column_at;
 use crate::counted::Counted;
-use cells::Cell;
+use tables::Cell;
 use metadata::Refusal;
 use packed::FaultCode;
 use table_schema::{TableId, cell_count};

@@ -8,7 +8,7 @@ use Rattle.root.specs.declared.kind.Kind.TheVariants.{Tables, Strings, UserStrin
 use Rattle.heap_entries.specs.Fill.{filled}
 use Rattle.metadata.specs.Metadata.{Metadata}
 use Rattle.canonical.specs.Canonical.{canonical, stream}
-use Rattle.put.specs.Heading.{held, heading, kinds_in_order}
+use Rattle.root_writer.specs.Heading.{held, heading, kinds_in_order}
 
 -- streams without bytes add nothing
 pub held_sum : (size : Kind → ℕ) (kinds : List Kind) → sum_by size (filter (λ kind. ltb 0 (size kind)) kinds) ≡ sum_by size kinds

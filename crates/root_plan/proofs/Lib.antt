@@ -2,3 +2,4 @@ pub mod LengthLemmas
 pub mod StandLemmas
 pub mod TableLemmas
 pub mod PlanLemmas
+pub mod PlannedRoots

@@ -12,15 +12,15 @@ use Rattle.metadata.specs.Metadata.{Metadata, count_in}
 use Rattle.canonical.specs.Numbers.{numbers}
 use Rattle.canonical.specs.TableStream.{is_sorted, sizes_of, header_bytes, table_stream}
 use Rattle.canonical.specs.Canonical.{canonical, stream}
-use Rattle.put.specs.Heading.{size_of}
-use Rattle.put.specs.Written.{fill}
-use Rattle.put.specs.declared.sizes.StreamSizes.{StreamSizes}
+use Rattle.root_writer.specs.Heading.{size_of}
+use Rattle.root_writer.specs.Written.{fill}
+use Rattle.root_writer.specs.declared.sizes.StreamSizes.{StreamSizes}
 use Rattle.heap_entries.specs.Fill.{filled}
 use Rattle.heap_pools.specs.TextPlan.{TextPlan}
 use Rattle.heap_pools.specs.TextHeap.{text_heap}
 use Rattle.heap_pools.specs.BlobHeap.{blob_heap}
 use Rattle.heap_pools.specs.GuidHeap.{guid_heap}
-use Rattle.plan.specs.Numbered.{Numbered}
+use Rattle.root_writer.specs.Numbered.{Numbered}
 use Rattle.root_plan.specs.declared.heap_lens.HeapLens.{HeapLens}
 use Rattle.root_plan.specs.declared.tables_plan.TablesPlan.{TablesPlan}
 use Rattle.root_plan.specs.Planned.{ArePooled, AreHeapLens, IsTablesPlan}

@@ -16,7 +16,7 @@ use Rattle.schema.specs.LaidOut.{number_bytes, row_bytes, rows_bytes, tables_byt
 use Rattle.metadata.specs.Metadata.{Metadata, count_in}
 use Rattle.canonical.specs.Numbers.{numbers}
 use Rattle.canonical.specs.TableStream.{has_rows, sizes_of, header_bytes}
-use Rattle.put.specs.Flat.{cells_of, rows_in, table_in, tables_in}
+use Rattle.root_writer.specs.Flat.{cells_of, rows_in, table_in, tables_in}
 use Rattle.root_plan.proofs.StandLemmas.{TheyStand}
 
 -- ---- rows

@@ -1,2 +1,6 @@
+pub mod Counted
+pub mod Failures
 pub mod Outlined
 pub mod Planned
+pub mod Errors
+pub mod Prepared

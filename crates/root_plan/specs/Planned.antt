@@ -13,11 +13,11 @@ use Rattle.canonical.specs.Pools.{pools_of, texts_stream, blobs_stream, guids_st
 use Rattle.canonical.specs.Numbers.{numbers}
 use Rattle.canonical.specs.TableStream.{sizes_of, header_bytes, table_stream}
 use Rattle.canonical.specs.Canonical.{canonical, stream}
-use Rattle.put.specs.Flat.{cells_of, tables_in}
-use Rattle.put.specs.Heading.{size_of, held, heading_size}
-use Rattle.put.specs.TableHeader.{table_header}
-use Rattle.put.specs.Written.{fill}
-use Rattle.plan.specs.Numbered.{Numbered, IsNumbering}
+use Rattle.root_writer.specs.Flat.{cells_of, tables_in}
+use Rattle.root_writer.specs.Heading.{size_of, held, heading_size}
+use Rattle.root_writer.specs.TableHeader.{table_header}
+use Rattle.root_writer.specs.Written.{fill}
+use Rattle.root_writer.specs.Numbered.{Numbered, IsNumbering}
 use Rattle.root_plan.specs.declared.heap_lens.HeapLens.{HeapLens}
 use Rattle.root_plan.specs.declared.tables_plan.TablesPlan.{TablesPlan}
 use Rattle.root_plan.specs.declared.planned.RootPlan.{RootPlan}

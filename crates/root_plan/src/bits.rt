@@ -1,5 +1,5 @@
 ghost use Rattle.std.specs.Prelude.{◌≡◌};
-ghost use Rattle.put.specs.TableHeader.{bit_if};
+ghost use Rattle.root_writer.specs.TableHeader.{bit_if};
 
 use table_schema::TableId;
 

@@ -9,7 +9,7 @@ ghost use Rattle.root_plan.specs.Planned.{AreHeapLens};
 
 use crate::stream_lens::filled_len;
 use heap_pools::TextPool;
-use plan::Numbering;
+use root_writer::Numbering;
 
 /// The lengths of the heap streams in bytes, padded to a multiple of four.
 #[derive(Clone, Copy)]

@@ -4,9 +4,9 @@ ghost use Rattle.heap_pools.specs.TextHeap.{text_heap};
 ghost use Rattle.metadata.specs.Metadata.{Metadata};
 ghost use Rattle.canonical.specs.Pools.{pools_of};
 ghost use Rattle.canonical.specs.Canonical.{canonical, stream};
-ghost use Rattle.plan.specs.Numbered.{IsTooLong};
+ghost use Rattle.root_writer.specs.Numbered.{IsTooLong};
 
-use put::canonical_roots_are_put;
+use root_writer::canonical_roots_are_put;
 
 /// A stream of a canonical root, with its padding, is not longer than the root. So if a heap of a model exceeds 2^30
 /// bytes, its canonical root does too.

@@ -2,7 +2,7 @@ ghost use Rattle.std.specs.Prelude.{◌≡◌, ◌+◌, ◌^◌, ◌<◌, ◌≤
 ghost use Rattle.root.specs.declared.kind.Kind.{Kind as TheKind};
 ghost use Rattle.metadata.specs.Metadata.{Metadata};
 ghost use Rattle.canonical.specs.Canonical.{canonical, stream};
-ghost use Rattle.put.specs.Heading.{size_of, held, heading_size};
+ghost use Rattle.root_writer.specs.Heading.{size_of, held, heading_size};
 ghost use Rattle.root_plan.specs.declared.plan_error.PlanError.TheVariants.{TooLarge};
 ghost use Rattle.root_plan.specs.Outlined.{Describes};
 ghost use Rattle.root_plan.specs.Planned.{AreHeapLens, ArePooled, IsRootPlan, IsTablesPlan};
@@ -14,8 +14,7 @@ use crate::plan_error::PlanError;
 use crate::stream_lens::{filled_len, root_len};
 use crate::tables_plan::TablesPlan;
 use heap_pools::TextPool;
-use plan::Numbering;
-use put::StreamSizes;
+use root_writer::{Numbering, StreamSizes};
 
 /// The plan of the canonical root of a model, made before a byte of it is written.
 #[derive(Drop)]

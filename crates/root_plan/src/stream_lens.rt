@@ -3,9 +3,9 @@ ghost use Rattle.root.specs.declared.kind.Kind.{Kind as TheKind};
 ghost use Rattle.heap_entries.specs.Fill.{filled};
 ghost use Rattle.metadata.specs.Metadata.{Metadata};
 ghost use Rattle.canonical.specs.Canonical.{canonical, stream};
-ghost use Rattle.put.specs.Heading.{size_of, held, heading_size};
+ghost use Rattle.root_writer.specs.Heading.{size_of, held, heading_size};
 
-use put::{HeldKinds, StreamSizes, canonical_roots_are_put, heading_len};
+use root_writer::{HeldKinds, StreamSizes, canonical_roots_are_put, heading_len};
 
 /// The largest length of a stream, and of a root, in bytes.
 const STREAM_LIMIT: usize = 1 << 30;

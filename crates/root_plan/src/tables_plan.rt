@@ -3,14 +3,13 @@ ghost use Rattle.table_schema.specs.Tables.{tables};
 ghost use Rattle.metadata.specs.Metadata.{Metadata};
 ghost use Rattle.canonical.specs.Numbers.{numbers};
 ghost use Rattle.canonical.specs.TableStream.{sizes_of, table_stream};
-ghost use Rattle.put.specs.Flat.{cells_of};
-ghost use Rattle.plan.specs.Numbered.{flat};
+ghost use Rattle.root_writer.specs.Flat.{cells_of};
+ghost use Rattle.root_writer.specs.Numbered.{flat};
 ghost use Rattle.root_plan.specs.Outlined.{Describes};
 ghost use Rattle.root_plan.specs.Planned.{IsTablesPlan, planned_tables};
 
 use crate::outline::Outline;
-use plan::numbers_are_put;
-use put::table_headers_are_put;
+use root_writer::{numbers_are_put, table_headers_are_put};
 use schema::{Layout, widths_follow_from_counts};
 use table_schema::{TableId, tables_stand};
 

@@ -5,3 +5,4 @@ pub mod Kept
 pub mod LaidOut
 pub mod Places
 pub mod Sizes
+pub mod ColumnNames

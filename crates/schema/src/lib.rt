@@ -7,6 +7,8 @@
 //! fault of the first broken rule. A layout has the widths and offsets ready, so it does not search
 //! for them. Nothing here allocates.
 //!
+//! [`column_names`] returns the names of the columns of a table, as the standard writes them.
+//!
 //! ```text
 //! let layout = Layout::read(stream)?;
 //! layout.count(TableId::TypeDef) == 3 && layout.row_width(TableId::TypeDef) == 14
@@ -19,20 +21,16 @@ mod field_laws;
 mod header;
 mod laws;
 mod layout;
+mod name_lists;
 mod place;
 mod read;
 mod read_laws;
 
 pub use bit_laws::bits_are_known;
 pub use field_laws::{low_bytes_stand, widths_follow_from_counts};
-pub use laws::{
-    cells_stand, numbers_are_spelled, stream_is_one, tables_end_within, widths_are_known,
-};
+pub use laws::{cells_stand, numbers_are_spelled, stream_is_one, tables_end_within, widths_are_known};
 pub use layout::Layout;
+pub use name_lists::column_names;
 pub use packed::{Fault, FaultCode};
 pub use read_laws::{numbers_are_read, streams_are_read};
-pub use table_schema::{
-    Coded, Column, ColumnKind, SigKind, TableId, Token, cell_count, cells_have_columns,
-    column_of_cell, columns, columns_stand, join, key, split, tables_stand, tags_fit,
-    tokens_are_in_order,
-};
+pub use table_schema::{Coded, Column, ColumnKind, SigKind, TableId, Token, cell_count, cells_have_columns, column_of_cell, columns, columns_stand, join, key, split, tables_stand, tags_fit, tokens_are_in_order};

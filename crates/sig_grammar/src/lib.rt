@@ -5,7 +5,7 @@
 //! shortest spelling is, and which rows of type tables it names, in the order of the spelling. [`element_type`] and
 //! [`Element`] have the bytes of element types, [`method_byte`] the first byte of a method, [`token_of_index`] the row
 //! that an index names, and [`names_row`] says whether there is one. The laws of the grammar are in the crate
-//! `signature_values`.
+//! `sig_values`.
 //!
 //! ```text
 //! // 06 08: a field of a 4-byte integer

@@ -4,7 +4,7 @@ ghost use Rattle.sig_grammar.specs.Syntax.{Body};
 ghost use Rattle.sig_grammar.specs.Spells.{Holds, Spells, IsSpellable, short};
 
 use crate::signature::Signature;
-use signature_values::{shortest_spells, signatures_are_read};
+use sig_values::{shortest_spells, signatures_are_read};
 
 /// The bytes that [`encode`](crate::encode) writes decode to the same signature. In each kind of column that
 /// holds the signature, its canonical encoding encodes it and no other.
@@ -22,5 +22,5 @@ pub fn encoded_is_decoded()
 pub fn equality_is_tested()
     ensures { (first second : Body) → IsTrue (⟦<Signature as PartialEq>⟧.eq first second) ↔ (first ≡ second) }
 {
-    copier::equality_is_tested();
+    sig_copier::equality_is_tested();
 }

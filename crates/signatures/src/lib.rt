@@ -17,9 +17,9 @@ mod columns;
 mod laws;
 mod signature;
 
-pub use decoder::SigError;
+pub use sig_decoder::SigError;
 pub use laws::{encoded_is_decoded, equality_is_tested};
-pub use recogniser::{index_of_first_bad, recognise, recognise_first_bad};
+pub use sig_recogniser::{index_of_first_bad, recognise, recognise_first_bad};
 pub use sig_grammar::{
     Core, Element, FieldSig, InstanceSig, Local, LocalsSig, MethodSig, Modifier, Prefix,
     PropertySig, Ret, Shape, SigBody, Slot, SlotKind, TypeSig,

@@ -8,7 +8,7 @@ use Rattle.table_schema.specs.declared.table.TableId.{TableId}
 use Rattle.table_schema.specs.declared.table.TableId.TheVariants.{Module}
 use Rattle.table_schema.specs.Tables.{tables}
 use Rattle.metadata.specs.Metadata.{Metadata}
-use Rattle.plan.specs.Numbered.{numbers_in}
+use Rattle.root_writer.specs.Numbered.{numbers_in}
 
 -- a table with at most 9 columns and 0xFFFFFF rows has at most 150994935 numbers
 pub cells_low : (columns count : ℕ) → columns ≤ 9 → count ≤ 0xFFFFFF → columns * count ≤ 150994935

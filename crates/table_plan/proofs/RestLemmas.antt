@@ -9,7 +9,7 @@ use Rattle.table_schema.specs.Columns.{columns_of}
 use Rattle.table_schema.specs.CellColumns.{is_padding}
 use Rattle.metadata.specs.Cell.{Cell}
 use Rattle.metadata.specs.Metadata.{Metadata, rows_of}
-use Rattle.plan.specs.Numbered.{Numbered, IsOver, with_cell, with_next_cell, with_row, with_rows, with_tables}
+use Rattle.root_writer.specs.Numbered.{Numbered, IsOver, with_cell, with_next_cell, with_row, with_rows, with_tables}
 
 pub row_at : (indexes : List ℕ) (columns : List Column) (i : ℕ) (d : Column) (cells : List Cell) (so_far whole : Numbered) → i < length columns
     → with_row indexes (drop i columns) cells so_far ≡ whole

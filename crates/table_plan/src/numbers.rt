@@ -4,13 +4,13 @@ ghost use Rattle.heap_pools.specs.declared.pool_error.PoolError.TheVariants.{Ful
 ghost use Rattle.table_schema.specs.declared.table.TableId.{TableId as Table};
 ghost use Rattle.table_schema.specs.Tables.{tables as all_tables};
 ghost use Rattle.table_schema.specs.CellColumns.{is_padding};
-ghost use Rattle.cells.specs.Said.{said, all_said};
+ghost use Rattle.tables.specs.Said.{said, all_said};
 ghost use Rattle.metadata.specs.Cell.{Cell as Says};
 ghost use Rattle.metadata.specs.Metadata.{rows_of, count_in};
-ghost use Rattle.plan.specs.Numbered.{Numbered, CanBeNumbered, IsOver, with_cell, with_next_cell, with_row, with_rows, with_tables, none_numbered, numbers_in};
+ghost use Rattle.root_writer.specs.Numbered.{Numbered, CanBeNumbered, IsOver, with_cell, with_next_cell, with_row, with_rows, with_tables, none_numbered, numbers_in};
 
 use heap_pools::PoolError;
-use plan::{Numbering, heaps_stay_too_long, row_number};
+use root_writer::{Numbering, heaps_stay_too_long, row_number};
 use signatures::encode;
 use std::alloc::Global;
 use table_schema::{Column, ColumnKind, TableId, columns, columns_stand};

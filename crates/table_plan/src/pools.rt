@@ -3,12 +3,12 @@ ghost use Rattle.heap_pools.specs.declared.pool_error.PoolError.TheVariants.{Ful
 ghost use Rattle.heap_pools.specs.TextHeap.{text_heap};
 ghost use Rattle.metadata.specs.Valid.{IsValid};
 ghost use Rattle.canonical.specs.Pools.{pools_of};
-ghost use Rattle.plan.specs.Numbered.{IsNumbering, IsTooLong};
+ghost use Rattle.root_writer.specs.Numbered.{IsNumbering, IsTooLong};
 
 use crate::numbers::numbers_of;
 use crate::texts::text_pool;
 use heap_pools::{PoolError, TextPool};
-use plan::{Numbering, cells_can_be_numbered, numberings_are_of_models};
+use root_writer::{Numbering, cells_can_be_numbered, numberings_are_of_models};
 use std::alloc::Global;
 use tables::Tables;
 

@@ -2,12 +2,12 @@ ghost use Rattle.std.specs.Prelude.{◌≡◌, ◌<◌, ◌^◌, ◌++◌, Err, 
 ghost use Rattle.heap_pools.specs.declared.pool_error.PoolError.TheVariants.{Full};
 ghost use Rattle.heap_pools.specs.TextHeap.{text_heap, text_index};
 ghost use Rattle.heap_pools.specs.Uses.{bytes_of};
-ghost use Rattle.cells.specs.Said.{said, all_said};
+ghost use Rattle.tables.specs.Said.{said, all_said};
 ghost use Rattle.metadata.specs.Valid.{IsValid};
 ghost use Rattle.canonical.specs.Pools.{texts_of, used, pools_of};
 
 use heap_pools::{PoolError, TextPool};
-use plan::cells_can_be_numbered;
+use root_writer::cells_can_be_numbered;
 use std::alloc::{AllocError, Global};
 use table_schema::{TableId, tables_stand};
 use tables::{Cell, Row, Tables};

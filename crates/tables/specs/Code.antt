@@ -5,10 +5,10 @@ use Rattle.std.specs.Coded.{Coded, code_by, coded×, coded_ℕ, coded_list}
 use Rattle.metadata.specs.Cell.{Cell}
 use Rattle.metadata.specs.Cell as says
 use Rattle.metadata.specs.Metadata.{Metadata}
-use Rattle.cells.specs.contracts.cell.Cell as owned
-use Rattle.cells.specs.declared.cell.Cell.{Cell as Owned}
-use Rattle.cells.specs.declared.cell.Cell.TheVariants.{Number, Text, Bytes, Guid, Ref, Start, Sig}
-use Rattle.cells.specs.Said.{said}
+use Rattle.tables.specs.contracts.cell.Cell as owned
+use Rattle.tables.specs.declared.cell.Cell.{Cell as Owned}
+use Rattle.tables.specs.declared.cell.Cell.TheVariants.{Number, Text, Bytes, Guid, Ref, Start, Sig}
+use Rattle.tables.specs.Said.{said}
 
 -- the cell with this content
 abbrev pub saying : Cell → Owned

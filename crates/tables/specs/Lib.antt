@@ -1,3 +1,4 @@
+pub mod Said
 pub mod Code
 pub mod Push
 pub mod Same

@@ -4,8 +4,8 @@ use Rattle.std.specs.Ordering.{on}
 use Rattle.std.specs.Cmp.{IsEquivalence}
 use Rattle.std.specs.Cmp.Lexicographic.{pointwise, lists_equiv}
 use Rattle.std.proofs.lemmas.Cmp.{on_equiv}
-use Rattle.cells.specs.contracts.cell.CellPartialEq.TheImpl.{eq-value}
-use Rattle.cells.specs.contracts.cell.CellEq.TheImpl.Laws.{laws-law}
+use Rattle.tables.specs.contracts.cell.CellPartialEq.TheImpl.{eq-value}
+use Rattle.tables.specs.contracts.cell.CellEq.TheImpl.Laws.{laws-law}
 use Rattle.metadata.specs.Cell.{Cell}
 use Rattle.tables.specs.Code.{saying}
 

@@ -11,7 +11,7 @@ use table_schema::tables_stand;
 pub fn equality_is_tested()
     ensures { (first second : Metadata) → IsTrue (⟦<Tables as PartialEq>⟧.eq first second) ↔ (first ≡ second) }
 {
-    cells::equality_is_tested();
+    crate::cell_laws::equality_is_tested();
 }
 
 /// A row that is added follows the other rows of its table, and no other table changes.

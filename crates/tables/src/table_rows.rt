@@ -1,10 +1,10 @@
 ghost use Rattle.std.specs.Prelude.{◌≡◌, ◌∷◌, ◌++◌, [], IfErr, OnOk, OnErr};
 ghost use Rattle.std.specs.Cmp.{partial_equiv_from_equiv};
 ghost use Rattle.std.specs.Cmp.Lexicographic.{pointwise};
-ghost use Rattle.cells.specs.Said.{all_said};
+ghost use Rattle.tables.specs.Said.{all_said};
 ghost use Rattle.tables.specs.Same.{is_same_cell, rows_equiv, tables_equiv};
 
-use cells::Cell;
+use crate::cell::Cell;
 use std::alloc::{AllocError, Global};
 use std::marker::Model;
 
@@ -23,7 +23,7 @@ impl Model for Row {
 
     ghost coded = { row_code };
 
-    ghost use Rattle.cells.specs.Said.{all_said};
+    ghost use Rattle.tables.specs.Said.{all_said};
 
     ghost view = { λ r. all_said r.inner.items };
 }

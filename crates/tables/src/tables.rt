@@ -1,11 +1,13 @@
 ghost use Rattle.std.specs.Prelude.{◌≡◌, ◌≤◌, ◌-◌, ◌+◌, ◌^◌, ◌<◌, IfOk, OnOk, OnErr, IfErr, [], length, string_bytes};
 ghost use Rattle.table_schema.specs.declared.table.TableId.{TableId};
-ghost use Rattle.cells.specs.Said.{all_said};
+ghost use Rattle.tables.specs.Said.{all_said};
 ghost use Rattle.metadata.specs.Metadata.{rows_of, row_of, count_in};
 ghost use Rattle.tables.specs.Push.{with_row};
 
 use crate::table_rows::{Row, Rows};
-use cells::{Bytes, Cell, Text};
+use crate::bytes::Bytes;
+use crate::cell::Cell;
+use crate::text::Text;
 use std::alloc::{AllocError, Global};
 use std::array;
 use std::marker::Model;

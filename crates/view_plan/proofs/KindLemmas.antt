@@ -12,7 +12,7 @@ use Rattle.metadata.specs.Metadata.{Metadata}
 use Rattle.metadata.specs.Valid.{IsValidCell, kind_at}
 use Rattle.canonical.specs.Numbers.{cell_number}
 use Rattle.canonical.specs.Pools.{texts_of}
-use Rattle.plan.specs.Numbered.{Numbered, IsOver, pools_in, with_cell, with_number, with_text, with_values}
+use Rattle.root_writer.specs.Numbered.{Numbered, IsOver, pools_in, with_cell, with_number, with_text, with_values}
 
 only_text : (k : ColumnKind) (text : List ℕ) → IsOfKind k (Text text) → k ≡ kind.Text
 only_text kind.U8 text of = absurd of

@@ -11,7 +11,7 @@ use Rattle.indexmap.specs.IndexMap.{insert_entry}
 use Rattle.table_schema.specs.declared.column.SigKind.{SigKind}
 use Rattle.heap_pools.specs.Distinct.{is_among, pooled}
 use Rattle.heap_pools.specs.BlobHeap.{blob_index}
-use Rattle.plan.specs.Numbered.{Numbered, with_blob}
+use Rattle.root_writer.specs.Numbered.{Numbered, with_blob}
 use Rattle.view_plan.specs.Known.{IsPooledAt, IsKnown}
 
 -- ---- pools

@@ -14,7 +14,7 @@ use Rattle.table_schema.specs.Columns.{columns_of, column_at, col}
 use Rattle.metadata.specs.Cell.{Cell, Number}
 use Rattle.metadata.specs.Metadata.{Metadata, rows_of}
 use Rattle.metadata.specs.Valid.{kind_at}
-use Rattle.plan.specs.Numbered.{Numbered, with_cell, with_next_cell, with_row, with_rows, with_tables}
+use Rattle.root_writer.specs.Numbered.{Numbered, with_cell, with_next_cell, with_row, with_rows, with_tables}
 use Rattle.table_schema.specs.CellColumns.{is_padding, indexes_from, cell_columns, cell_count, column_of}
 use Rattle.view_plan.specs.Places.{IsPlaceOf}
 

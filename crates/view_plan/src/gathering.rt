@@ -5,13 +5,13 @@ ghost use Rattle.heap_pools.specs.BlobHeap.{blob_heap, blob_index};
 ghost use Rattle.heap_pools.specs.GuidHeap.{guid_heap, guid_index, pooled_guid};
 ghost use Rattle.sig_grammar.specs.Syntax.{Body};
 ghost use Rattle.sig_grammar.specs.Spells.{Spells, short};
-ghost use Rattle.plan.specs.Numbered.{none_numbered, with_blob, with_guid, with_number, with_text};
+ghost use Rattle.root_writer.specs.Numbered.{none_numbered, with_blob, with_guid, with_number, with_text};
 ghost use Rattle.view_plan.specs.Known.{IsKnown};
 
 use crate::shortest::shortest;
 use heap_pools::{PoolError, indexes_stay};
 use indexmap::IndexMap;
-use plan::Numbering;
+use root_writer::Numbering;
 use std::alloc::{AllocError, Global};
 use std::marker::Model;
 use table_schema::SigKind;
@@ -27,7 +27,7 @@ pub struct Gathering<'a> {
 }
 
 impl<'a> Model for Gathering<'a> {
-    ghost use Rattle.plan.specs.Numbered.{Numbered};
+    ghost use Rattle.root_writer.specs.Numbered.{Numbered};
     ghost use Rattle.view_plan.specs.Known.{AreKnown};
 
     ghost Value = { Numbered };

@@ -11,14 +11,14 @@ ghost use Rattle.canonical.specs.Numbers.{cell_number};
 ghost use Rattle.canonical.specs.Pools.{texts_of};
 ghost use Rattle.reading.specs.Shown.{Shows, ShowsSignature};
 ghost use Rattle.opening.specs.Views.{row_count};
-ghost use Rattle.plan.specs.Numbered.{Numbered, CanBeNumbered, IsOver, none_numbered, with_values, with_cell, with_next_cell, with_row, with_rows, with_tables, pools_in};
+ghost use Rattle.root_writer.specs.Numbered.{Numbered, CanBeNumbered, IsOver, none_numbered, with_values, with_cell, with_next_cell, with_row, with_rows, with_tables, pools_in};
 ghost use Rattle.view_plan.specs.Places.{IsPlaceOf};
 
 use crate::gathering::Gathering;
 use heap_pools::PoolError;
 use metadata::{models_are_read, models_of_roots_are_valid};
 use opening::{CellRef, View};
-use plan::{Numbering, cells_can_be_numbered, heaps_stay_too_long, row_number};
+use root_writer::{Numbering, cells_can_be_numbered, heaps_stay_too_long, row_number};
 use std::alloc::Global;
 use table_schema::{ColumnKind, TableId, column_of_cell, columns, columns_stand, tables_stand};
 

@@ -4,14 +4,14 @@ ghost use Rattle.heap_pools.specs.TextHeap.{text_heap, text_index};
 ghost use Rattle.metadata.specs.Metadata.{Metadata};
 ghost use Rattle.metadata.specs.Model.{IsModel};
 ghost use Rattle.canonical.specs.Pools.{texts_of, used, pools_of};
-ghost use Rattle.plan.specs.Numbered.{IsNumbering, IsTooLong};
+ghost use Rattle.root_writer.specs.Numbered.{IsNumbering, IsTooLong};
 
 use crate::numbers::numbers_of;
 use crate::texts::used_texts;
 use heap_pools::{PoolError, TextPool};
 use metadata::models_of_roots_are_valid;
 use opening::View;
-use plan::{Numbering, cells_can_be_numbered, numberings_are_of_models};
+use root_writer::{Numbering, cells_can_be_numbered, numberings_are_of_models};
 use std::alloc::Global;
 
 /// The strings heap of the canonical root, planned from the texts of all cells, and their indexes in order of use

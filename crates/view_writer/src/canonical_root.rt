@@ -2,12 +2,12 @@ ghost use Rattle.std.specs.Prelude.{◌≡◌, ◌^◌, ◌<◌, ◌≤◌, ⊤,
 ghost use Rattle.metadata.specs.Metadata.{Metadata};
 ghost use Rattle.metadata.specs.Model.{IsModel};
 ghost use Rattle.canonical.specs.Canonical.{canonical};
-ghost use Rattle.prepared.specs.Errors.{MatchError};
+ghost use Rattle.root_plan.specs.Errors.{MatchError};
 
 use crate::planned::plan_of;
 use metadata::models_of_roots_are_valid;
 use opening::View;
-use prepared::{Prepared, WriteError, make};
+use root_plan::{Prepared, WriteError, make};
 use std::alloc::Global;
 
 /// Makes the canonical root of a view's one model, if it has at most `limit` bytes. The bytes are those that `prepare`

@@ -8,7 +8,7 @@ ghost use Rattle.root_plan.specs.Planned.{ArePooled, IsRootPlan};
 use crate::outline::outline_of;
 use heap_pools::TextPool;
 use opening::View;
-use plan::Numbering;
+use root_writer::Numbering;
 use root_plan::{PlanError, RootPlan, streams_are_within_roots};
 use std::alloc::Global;
 use view_plan::pools_of_view;

@@ -16,7 +16,7 @@ use Rattle.metadata.specs.Metadata.{Metadata}
 use Rattle.metadata.specs.Valid.{IsValid}
 use Rattle.metadata.specs.KeyOrder.{IsKeyOrdered}
 use Rattle.canonical.specs.TableStream.{is_by_key, table_keys, is_sorted}
-use Rattle.put.specs.TableHeader.{bit_if}
+use Rattle.root_writer.specs.TableHeader.{bit_if}
 
 -- ---- counts
 

@@ -1,10 +1,10 @@
 ghost use Rattle.std.specs.Prelude.{◌≡◌, ◌^◌, ◌<◌, ◌≤◌, ⊤, IfOk, IfErr, length};
 ghost use Rattle.canonical.specs.Canonical.{canonical};
-ghost use Rattle.prepared.specs.Errors.{MatchError};
+ghost use Rattle.root_plan.specs.Errors.{MatchError};
 
 use crate::planned::plan_of;
 use owned_model::Model;
-use prepared::{Prepared, WriteError, make};
+use root_plan::{Prepared, WriteError, make};
 use std::alloc::Global;
 
 /// Makes the canonical root of a model, if it has at most `limit` bytes.

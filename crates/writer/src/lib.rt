@@ -23,6 +23,5 @@ mod roots;
 mod tables_told;
 
 pub use canonical_root::prepare;
-pub use prepared::{Prepared, WriteError};
+pub use root_plan::{Counted, Prepared, Sink, WriteError};
 pub use roots::{write_root, write_root_to, write_root_within};
-pub use sinks::{Counted, Sink};

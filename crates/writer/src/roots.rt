@@ -3,13 +3,12 @@ ghost use Rattle.std.specs.Io.KnownBytes.{Appends};
 ghost use Rattle.metadata.specs.Metadata.{Metadata};
 ghost use Rattle.metadata.specs.Model.{IsModel};
 ghost use Rattle.canonical.specs.Canonical.{canonical};
-ghost use Rattle.prepared.specs.Errors.{MatchError};
+ghost use Rattle.root_plan.specs.Errors.{MatchError};
 
 use crate::canonical_root::prepare;
 use canonical::{canonical_root_has_its_model, canonical_root_is_one};
 use owned_model::Model;
-use prepared::WriteError;
-use sinks::Sink;
+use root_plan::{Sink, WriteError};
 use std::alloc::Global;
 
 /// The largest length of a root in bytes.

@@ -1,7 +1,7 @@
 //! Signatures of the usual shapes, and how long they take to recognise.
 use crate::next;
 use anyhow::Result;
-use recogniser::{SigKind, recognise};
+use sig_recogniser::{SigKind, recognise};
 use std::alloc::{AllocError, Global};
 use std::time::Instant;
 

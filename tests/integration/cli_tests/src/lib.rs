@@ -9,13 +9,11 @@ pub use named::file_named;
 #[cfg(test)]
 mod cli;
 #[cfg(test)]
-mod command_line;
+mod cli_arguments;
 #[cfg(test)]
-mod explanations;
+mod cli_faults;
 #[cfg(test)]
-mod printed_rows;
-#[cfg(test)]
-mod reports;
+mod cli_reports;
 #[cfg(test)]
 mod runs;
 #[cfg(test)]

@@ -1,13 +1,9 @@
 //! Tests of the crates that read and make the parts of a file, by their public calls: headers, heaps, tables and
 //! signatures, and the cells and tables in memory of which models are made. The tests of a crate are in the module of
-//! its name; `signatures` has those of `encoder`, `decoder` and `copier` too.
+//! its name; `signatures` has those of `sig_encoder`, `sig_decoder` and `sig_copier` too.
 
 #[cfg(test)]
-mod cells;
-#[cfg(test)]
 mod cli_header;
-#[cfg(test)]
-mod column_names;
 #[cfg(test)]
 mod filled;
 #[cfg(test)]
@@ -23,8 +19,6 @@ mod packed;
 #[cfg(test)]
 mod pe;
 #[cfg(test)]
-mod recogniser;
-#[cfg(test)]
 mod refusals;
 #[cfg(test)]
 mod root;
@@ -33,9 +27,11 @@ mod rows;
 #[cfg(test)]
 mod schema;
 #[cfg(test)]
-mod signature_items;
+mod sig_items;
 #[cfg(test)]
-mod signature_text;
+mod sig_recogniser;
+#[cfg(test)]
+mod sig_text;
 #[cfg(test)]
 mod signatures;
 #[cfg(test)]

@@ -2,4 +2,5 @@
 //! of a table stream. The columns of all tables are compared with the standard in `column_names`.
 
 mod coded_lists;
+mod column_names;
 mod layouts;

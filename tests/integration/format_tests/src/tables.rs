@@ -1,5 +1,7 @@
 //! Tests of `tables`: tables that are filled row by row, and whether they are equal.
 
+mod cells;
+
 use crate::filled::row_cells;
 use owned_model::{TableId, Tables};
 use sample_tables::Written::{self, NoGuid, NoRow, Number, Text};

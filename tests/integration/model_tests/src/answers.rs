@@ -1,5 +1,4 @@
 use crate::form::Form;
-use cells::Cell;
 use loading::{LoadError, ToModel, load_image, load_root};
 use opening::{CellRef, Fault, View, open_image, open_root};
 use owned_model::{Model, Tables};
@@ -9,6 +8,7 @@ use schema::{ColumnKind, TableId, cell_count, column_of_cell, columns};
 use signatures::decode;
 use std::alloc::Global;
 use std::test::Fail;
+use tables::Cell;
 
 /// The view of the bytes.
 fn open(form: Form, bytes: &[u8]) -> Result<View<'_>, Fault> {

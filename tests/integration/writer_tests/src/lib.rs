@@ -6,9 +6,9 @@
 #[cfg(test)]
 mod heaps;
 #[cfg(test)]
-mod scripted;
+mod root_plan;
 #[cfg(test)]
-mod sinks;
+mod scripted;
 #[cfg(test)]
 mod view_writer;
 #[cfg(test)]

@@ -1,6 +1,6 @@
 use Rattle.std.proofs.Common.{◌≤◌, ◌<◌, length, ap, ◌∙◌, arith}
 use Rattle.std.proofs.lemmas.List.{take_all}
-use Rattle.cells.specs.Said.{all_said}
+use Rattle.tables.specs.Said.{all_said}
 use Rattle.metadata.specs.Cell.{Number}
 use Rattle.metadata.specs.Metadata.{row_of}
 use Rattle.opening.specs.Views.{row_count}

@@ -1,5 +1,5 @@
 use Rattle.std.proofs.Common.{◌≡◌, take}
-use Rattle.cells.specs.Said.{all_said}
+use Rattle.tables.specs.Said.{all_said}
 use Rattle.metadata.specs.Metadata.{Metadata, row_of}
 use Rattle.metadata.specs.Model.{IsModel}
 use Rattle.loading.proofs.table_rows.load_row.Given as goal

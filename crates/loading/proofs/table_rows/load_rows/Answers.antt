@@ -1,7 +1,7 @@
 use Rattle.std.proofs.Common.{◌≡◌, ℕ, ◌+◌, ◌-◌, ◌≤◌, ◌<◌, List, [], length, take, get_or, ap, ◌∙◌, arith}
 use Rattle.std.proofs.lemmas.List.{take_all}
 use Rattle.table_schema.specs.Tables.{position_of}
-use Rattle.cells.specs.Said.{all_said}
+use Rattle.tables.specs.Said.{all_said}
 use Rattle.metadata.specs.Cell.{Cell}
 use Rattle.metadata.specs.Metadata.{Metadata, rows_of}
 use Rattle.tables.specs.Push.{with_row}

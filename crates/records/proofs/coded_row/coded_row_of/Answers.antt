@@ -1,5 +1,5 @@
 use Rattle.std.proofs.Common.{rules}
-use Rattle.cells.specs.Said.{all_said}
+use Rattle.tables.specs.Said.{all_said}
 use Rattle.records.specs.Kinds.{kinds_of, AreOfKinds}
 use Rattle.records.proofs.RowLemmas.{cells_are_said}
 use Rattle.records.proofs.coded_row.coded_row_of.Goals as goal

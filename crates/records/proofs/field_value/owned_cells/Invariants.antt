@@ -1,6 +1,6 @@
 use Rattle.std.proofs.Common.{◌≡◌, ◌++◌, drop}
 use Rattle.std.specs.Prelude.{map}
-use Rattle.cells.specs.Said.{all_said}
+use Rattle.tables.specs.Said.{all_said}
 use Rattle.records.specs.Values.{told}
 use Rattle.records.proofs.field_value.owned_cells.Given as goal
 

@@ -1,4 +1,4 @@
-use Rattle.cells.specs.Said.{said}
+use Rattle.tables.specs.Said.{said}
 use Rattle.refusals.proofs.CellLemmas.{cell_index}
 use Rattle.refusals.proofs.cell_checks.check_cell.Goals as goal
 

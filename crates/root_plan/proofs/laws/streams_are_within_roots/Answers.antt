@@ -6,7 +6,7 @@ use Rattle.heap_pools.specs.GuidHeap.{guid_heap}
 use Rattle.metadata.specs.Metadata.{Metadata}
 use Rattle.canonical.specs.Pools.{pools_of}
 use Rattle.canonical.specs.Canonical.{canonical}
-use Rattle.plan.specs.Numbered.{IsTooLong}
+use Rattle.root_writer.specs.Numbered.{IsTooLong}
 use Rattle.root_plan.proofs.LengthLemmas.{ArePut, within, over}
 use Rattle.root_plan.proofs.laws.streams_are_within_roots.Goals as goal
 

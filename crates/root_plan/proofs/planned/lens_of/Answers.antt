@@ -3,8 +3,8 @@ use Rattle.root.specs.declared.kind.Kind.{Kind}
 use Rattle.root.specs.declared.kind.Kind.TheVariants.{Tables}
 use Rattle.metadata.specs.Metadata.{Metadata}
 use Rattle.canonical.specs.Canonical.{stream}
-use Rattle.put.specs.Heading.{size_of}
-use Rattle.put.specs.declared.sizes.StreamSizes.{StreamSizes}
+use Rattle.root_writer.specs.Heading.{size_of}
+use Rattle.root_writer.specs.declared.sizes.StreamSizes.{StreamSizes}
 use Rattle.root_plan.specs.Outlined.{Describes}
 use Rattle.root_plan.specs.Planned.{AreHeapLens, IsTablesPlan}
 use Rattle.root_plan.proofs.PlanLemmas.{sizes_are, tables_over}

@@ -1,7 +1,7 @@
 use Rattle.std.proofs.Common.{◌≡◌, ℕ, List, ap, sym, ◌∙◌, arith, length}
 use Rattle.root.specs.declared.kind.Kind.{Kind}
 use Rattle.root.specs.declared.kind.Kind.TheVariants.{Tables, Strings, UserStrings, Guids, Blobs}
-use Rattle.put.specs.Heading.{size_of, held, heading, heading_size}
+use Rattle.root_writer.specs.Heading.{size_of, held, heading, heading_size}
 use Rattle.root_plan.proofs.LengthLemmas.{five_sum, root_long}
 use Rattle.root_plan.proofs.stream_lens.root_len.Goals as goal
 

@@ -1,7 +1,7 @@
 use Rattle.std.proofs.Common.{◌≡◌, ◌≤◌, ◌*◌, ap, ◌∙◌, get_or, length, arith}
 use Rattle.table_schema.specs.declared.table.TableId.TheVariants.{Module}
 use Rattle.table_schema.specs.Columns.{columns_of}
-use Rattle.plan.specs.Numbered.{numbers_in}
+use Rattle.root_writer.specs.Numbered.{numbers_in}
 use Rattle.table_plan.proofs.CountLemmas.{cells_low, more_numbers, all_numbers}
 use Rattle.table_plan.proofs.numbers.count_numbers.Goals as goal
 

@@ -1,7 +1,7 @@
 use Rattle.std.proofs.Common.{◌≡◌, ◌+◌, ◌*◌, ◌≤◌, drop}
 use Rattle.std.specs.Prelude.{sum_by}
 use Rattle.table_schema.specs.Tables.{tables}
-use Rattle.plan.specs.Numbered.{numbers_in}
+use Rattle.root_writer.specs.Numbered.{numbers_in}
 use Rattle.table_plan.proofs.numbers.count_numbers.Given as goal
 
 -- together with the numbers of the tables that are left this is the whole

@@ -1,6 +1,6 @@
 use Rattle.std.proofs.Common.{◌≡◌, ◌+◌, Err, drop, sym, subst, ◌∙◌, rules}
 use Rattle.heap_pools.specs.declared.pool_error.PoolError.TheVariants.{Full}
-use Rattle.plan.specs.Numbered.{IsOver, with_row}
+use Rattle.root_writer.specs.Numbered.{IsOver, with_row}
 use Rattle.table_plan.proofs.RestLemmas.{row_at}
 use Rattle.table_plan.proofs.numbers.put_row.Goals as goal
 

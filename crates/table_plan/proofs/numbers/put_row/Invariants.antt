@@ -1,7 +1,7 @@
 use Rattle.std.proofs.Common.{◌≡◌, drop}
 use Rattle.std.specs.List.{AllByRecursion}
-use Rattle.cells.specs.Said.{all_said}
-use Rattle.plan.specs.Numbered.{CanBeNumbered, with_row}
+use Rattle.tables.specs.Said.{all_said}
+use Rattle.root_writer.specs.Numbered.{CanBeNumbered, with_row}
 use Rattle.table_plan.proofs.numbers.put_row.Given as goal
 
 -- together with the columns that are left this is the whole row

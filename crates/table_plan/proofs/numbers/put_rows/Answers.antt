@@ -2,8 +2,8 @@ use Rattle.std.proofs.Common.{◌≡◌, ◌+◌, Err, drop, sym, ap, subst, ◌
 use Rattle.std.specs.List.{AllByRecursion}
 use Rattle.std.proofs.lemmas.List.{drop_all, drop_more}
 use Rattle.heap_pools.specs.declared.pool_error.PoolError.TheVariants.{Full}
-use Rattle.cells.specs.Said.{all_said}
-use Rattle.plan.specs.Numbered.{CanBeNumbered, IsOver, with_row, with_rows}
+use Rattle.tables.specs.Said.{all_said}
+use Rattle.root_writer.specs.Numbered.{CanBeNumbered, IsOver, with_row, with_rows}
 use Rattle.table_plan.proofs.RestLemmas.{rows_at, over_rows_at}
 use Rattle.table_plan.proofs.numbers.put_rows.Goals as goal
 

@@ -1,6 +1,6 @@
 use Rattle.std.proofs.Common.{◌≡◌, drop}
 use Rattle.std.specs.List.{AllByRecursion}
-use Rattle.plan.specs.Numbered.{CanBeNumbered, with_rows}
+use Rattle.root_writer.specs.Numbered.{CanBeNumbered, with_rows}
 use Rattle.table_plan.proofs.numbers.put_rows.Given as goal
 
 -- together with the rows that are left these are all rows

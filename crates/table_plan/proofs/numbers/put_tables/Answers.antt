@@ -4,7 +4,7 @@ use Rattle.heap_pools.specs.declared.pool_error.PoolError.TheVariants.{Full}
 use Rattle.table_schema.specs.declared.table.TableId.{TableId}
 use Rattle.table_schema.specs.declared.table.TableId.TheVariants.{Module}
 use Rattle.table_schema.specs.Tables.{tables}
-use Rattle.plan.specs.Numbered.{IsOver, with_rows, with_tables}
+use Rattle.root_writer.specs.Numbered.{IsOver, with_rows, with_tables}
 use Rattle.table_plan.proofs.RestLemmas.{tables_at, over_tables_at}
 use Rattle.table_plan.proofs.numbers.put_tables.Goals as goal
 

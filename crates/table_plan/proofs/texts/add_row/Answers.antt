@@ -1,6 +1,6 @@
 use Rattle.std.proofs.Common.{refl}
 use Rattle.std.specs.Prelude.{flat_map}
-use Rattle.cells.specs.Said.{said, all_said}
+use Rattle.tables.specs.Said.{said, all_said}
 use Rattle.canonical.specs.Pools.{texts_of}
 use Rattle.table_plan.proofs.TextLemmas.{next_values, no_values}
 use Rattle.table_plan.proofs.texts.add_row.Goals as goal

@@ -1,7 +1,7 @@
 use Rattle.std.proofs.Common.{◌≡◌, ◌++◌, drop}
 use Rattle.std.specs.Prelude.{flat_map}
 use Rattle.heap_pools.specs.Uses.{bytes_of}
-use Rattle.cells.specs.Said.{all_said}
+use Rattle.tables.specs.Said.{all_said}
 use Rattle.canonical.specs.Pools.{texts_of}
 use Rattle.table_plan.proofs.texts.add_row.Given as goal
 

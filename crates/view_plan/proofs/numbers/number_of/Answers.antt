@@ -7,7 +7,7 @@ use Rattle.metadata.specs.Cell.{Cell as Says, Ref, Text}
 use Rattle.reading.specs.Shown.{Shows}
 use Rattle.reading.specs.declared.cell_ref.CellRef.{CellRef}
 use Rattle.canonical.specs.Pools.{texts_of}
-use Rattle.plan.specs.Numbered.{CanBeNumbered}
+use Rattle.root_writer.specs.Numbered.{CanBeNumbered}
 use Rattle.view_plan.proofs.numbers.number_of.Goals as goal
 
 pub unreachable-requires : goal.unreachable-requires

@@ -1,7 +1,7 @@
 use Rattle.std.proofs.Common.{◌≡◌, Err, ap, subst, ◌∙◌}
 use Rattle.heap_pools.specs.declared.pool_error.PoolError.TheVariants.{Full}
 use Rattle.table_schema.specs.Tables.{tables}
-use Rattle.plan.specs.Numbered.{IsOver, with_tables}
+use Rattle.root_writer.specs.Numbered.{IsOver, with_tables}
 use Rattle.view_plan.proofs.numbers.numbers_of.Goals as goal
 
 pub returns-in-Ok-clause-ok : goal.returns-in-Ok-clause-ok

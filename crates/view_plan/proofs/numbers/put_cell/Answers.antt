@@ -9,7 +9,7 @@ use Rattle.metadata.specs.Valid.{kind_at, nullable_at}
 use Rattle.canonical.specs.Numbers.{cell_number}
 use Rattle.reading.specs.Shown.{Shows}
 use Rattle.opening.specs.Views.{row_count}
-use Rattle.plan.specs.Numbered.{Numbered, pools_in, with_number, with_values}
+use Rattle.root_writer.specs.Numbered.{Numbered, pools_in, with_number, with_values}
 use Rattle.view_plan.proofs.KindLemmas.{kind_seen, next_other, next_text, no_texts, over_other}
 use Rattle.view_plan.proofs.numbers.put_cell.Goals as goal
 

@@ -7,7 +7,7 @@ use Rattle.table_schema.specs.Columns.{column_at, columns_of, col}
 use Rattle.table_schema.specs.CellColumns.{is_padding, cell_count}
 use Rattle.metadata.specs.Metadata.{row_of}
 use Rattle.opening.specs.Views.{row_count}
-use Rattle.plan.specs.Numbered.{IsOver}
+use Rattle.root_writer.specs.Numbered.{IsOver}
 use Rattle.view_plan.proofs.PlaceLemmas.{unpadded, cell_place, next_cell, few_cells}
 use Rattle.view_plan.proofs.numbers.put_next.Goals as goal
 

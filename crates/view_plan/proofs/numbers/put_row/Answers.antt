@@ -1,7 +1,7 @@
 use Rattle.std.proofs.Common.{◌≡◌, ◌+◌, ◌<◌, ◌≤◌, Err, length, drop, refl, sym, ap, subst, ◌∙◌, rules, arith}
 use Rattle.heap_pools.specs.declared.pool_error.PoolError.TheVariants.{Full}
 use Rattle.table_schema.specs.Columns.{columns_of}
-use Rattle.plan.specs.Numbered.{IsOver, with_row}
+use Rattle.root_writer.specs.Numbered.{IsOver, with_row}
 use Rattle.view_plan.proofs.PlaceLemmas.{first_place, row_left, row_done}
 use Rattle.view_plan.proofs.numbers.put_row.Goals as goal
 

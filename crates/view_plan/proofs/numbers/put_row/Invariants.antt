@@ -2,7 +2,7 @@ use Rattle.std.proofs.Common.{◌≡◌, drop}
 use Rattle.table_schema.specs.Columns.{columns_of}
 use Rattle.metadata.specs.Metadata.{Metadata, row_of}
 use Rattle.metadata.specs.Model.{IsModel}
-use Rattle.plan.specs.Numbered.{with_row}
+use Rattle.root_writer.specs.Numbered.{with_row}
 use Rattle.view_plan.specs.Places.{IsPlaceOf}
 use Rattle.view_plan.proofs.numbers.put_row.Given as goal
 

@@ -2,7 +2,7 @@ use Rattle.std.proofs.Common.{◌≡◌, drop}
 use Rattle.table_schema.specs.Columns.{columns_of}
 use Rattle.metadata.specs.Metadata.{Metadata, rows_of}
 use Rattle.metadata.specs.Model.{IsModel}
-use Rattle.plan.specs.Numbered.{with_rows}
+use Rattle.root_writer.specs.Numbered.{with_rows}
 use Rattle.view_plan.proofs.numbers.put_rows.Given as goal
 
 -- together with the rows that are left these are all rows

@@ -2,7 +2,7 @@ use Rattle.std.proofs.Common.{◌≡◌, drop}
 use Rattle.table_schema.specs.Tables.{tables}
 use Rattle.metadata.specs.Metadata.{Metadata}
 use Rattle.metadata.specs.Model.{IsModel}
-use Rattle.plan.specs.Numbered.{with_tables}
+use Rattle.root_writer.specs.Numbered.{with_tables}
 use Rattle.view_plan.proofs.numbers.put_tables.Given as goal
 
 -- together with the tables that are left these are all tables

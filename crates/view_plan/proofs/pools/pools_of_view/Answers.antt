@@ -1,5 +1,5 @@
 use Rattle.std.proofs.Common.{sym, subst, ◌∙◌}
-use Rattle.plan.specs.Numbered.{Numbered, IsNumbering}
+use Rattle.root_writer.specs.Numbered.{Numbered, IsNumbering}
 use Rattle.view_plan.proofs.pools.pools_of_view.Goals as goal
 
 pub returns-clause-pools : goal.returns-clause-pools

@@ -3,7 +3,7 @@ use Rattle.std.proofs.Math.Logic.{∥∥₁_elim}
 use Rattle.std.specs.Coded.{le_prop}
 use Rattle.table_schema.specs.declared.table.TableId.TheVariants.{Module}
 use Rattle.canonical.specs.TableStream.{is_sorted}
-use Rattle.put.specs.TableHeader.{bit_if}
+use Rattle.root_writer.specs.TableHeader.{bit_if}
 use Rattle.view_writer.proofs.CountLemmas.{more_bits, all_bits}
 use Rattle.view_writer.proofs.tables_told.sorted.Goals as goal
 

@@ -1,7 +1,7 @@
 use Rattle.std.proofs.Common.{ap, ◌∙◌, get_or, arith}
 use Rattle.table_schema.specs.declared.table.TableId.TheVariants.{Module}
 use Rattle.canonical.specs.TableStream.{is_sorted}
-use Rattle.put.specs.TableHeader.{bit_if}
+use Rattle.root_writer.specs.TableHeader.{bit_if}
 use Rattle.writer.proofs.CountLemmas.{more_bits, all_bits}
 use Rattle.writer.proofs.tables_told.sorted.Goals as goal
 

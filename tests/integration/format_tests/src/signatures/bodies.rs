@@ -1,6 +1,6 @@
 use crate::signatures::values::{array, integer, method, plain, specified, type_ref, vectors};
-use encoder::{spell_into, spelled_len};
 use schema::{TableId, Token};
+use sig_encoder::{spell_into, spelled_len};
 use signatures::{Core, SigBody, Signature};
 use std::process::Abort;
 use std::test::Fail;

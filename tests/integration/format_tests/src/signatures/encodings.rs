@@ -1,8 +1,8 @@
 use crate::signatures::blobs::{BODIES, CORES};
-use copier::{copy_body, is_same};
-use encoder::{encode_body, spelled_len};
-use recogniser::recognise;
 use schema::SigKind;
+use sig_copier::{copy_body, is_same};
+use sig_encoder::{encode_body, spelled_len};
+use sig_recogniser::recognise;
 use signatures::{Signature, decode, encode};
 use std::alloc::Global;
 use std::process::Abort;

@@ -1,6 +1,6 @@
-use crate::form::Form;
 use crate::answers::{has_cell, model_in, text_in};
-use cells::{Bytes, Cell};
+use crate::form::Form;
+use tables::{Bytes, Cell};
 use sample_roots::{
     ALL_SORTED, NAMES_APART, NAMES_SHARED, NO_ROWS, OF_ASSEMBLY, OF_MODULE, ONE_MODULE,
     OTHERS_SORTED, RootBuilder, TWO_TYPES, changed, root_of_attributes, root_of_implementation,

@@ -1,7 +1,7 @@
-use crate::form::Form;
 use crate::answers::{fault_of_root, has_cell, model_in, text_in};
-use cells::Cell;
+use crate::form::Form;
 use loading::load_root;
+use tables::Cell;
 use sample_roots::{
     FIELD, ONE_MODULE, RootBuilder, TWO_TYPES, changed, root_of_long_text, root_of_params,
     root_of_starts, type_row,

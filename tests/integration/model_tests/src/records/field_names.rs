@@ -1,8 +1,8 @@
 use crate::records::standard::standard_names;
-use cells::Cell;
 use schema::{ColumnKind, TableId, columns};
 use std::alloc::Global;
 use std::test::Fail;
+use tables::Cell;
 
 /// Whether a capital stands at a place of a name.
 fn is_capital(name: &[u8], place: usize) -> bool {

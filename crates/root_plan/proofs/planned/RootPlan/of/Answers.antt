@@ -2,7 +2,7 @@ use Rattle.std.proofs.Common.{ℕ, ◌+◌, List, length, ap, ◌∙◌, arith}
 use Rattle.std.specs.Prelude.{sum_by}
 use Rattle.root.specs.declared.kind.Kind.{Kind}
 use Rattle.metadata.specs.Metadata.{Metadata}
-use Rattle.put.specs.Heading.{size_of, held, heading_size}
+use Rattle.root_writer.specs.Heading.{size_of, held, heading_size}
 use Rattle.root_plan.specs.Outlined.{Describes}
 use Rattle.root_plan.specs.Planned.{ArePooled, AreHeapLens, IsTablesPlan, planned_tables}
 use Rattle.root_plan.proofs.PlanLemmas.{lens_are}

@@ -6,8 +6,8 @@ use Rattle.schema.specs.LaidOut.{tables_bytes}
 use Rattle.metadata.specs.Metadata.{Metadata, count_in}
 use Rattle.canonical.specs.Numbers.{numbers}
 use Rattle.canonical.specs.TableStream.{sizes_of}
-use Rattle.put.specs.TableHeader.{table_header}
-use Rattle.plan.specs.Numbered.{flat}
+use Rattle.root_writer.specs.TableHeader.{table_header}
+use Rattle.root_writer.specs.Numbered.{flat}
 use Rattle.root_plan.specs.Outlined.{Describes}
 use Rattle.root_plan.specs.Planned.{IsTablesPlan}
 use Rattle.root_plan.proofs.StandLemmas.{TheyStand}

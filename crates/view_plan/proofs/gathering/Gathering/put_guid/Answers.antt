@@ -1,5 +1,5 @@
 use Rattle.view_plan.proofs.KnownLemmas.{known_kept, same_blobs}
-use Rattle.plan.specs.Numbered.{with_guid}
+use Rattle.root_writer.specs.Numbered.{with_guid}
 use Rattle.view_plan.proofs.gathering.Gathering.put_guid.Goals as goal
 
 pub invariant_of-self : goal.invariant_of-self

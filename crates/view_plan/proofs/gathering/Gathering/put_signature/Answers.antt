@@ -2,7 +2,7 @@ use Rattle.std.proofs.Common.{◌≡◌, ◌⊎◌, ℕ, List, [], Contains, sym
 use Rattle.heap_pools.specs.Distinct.{pooled}
 use Rattle.heap_pools.specs.BlobHeap.{blob_index}
 use Rattle.sig_grammar.specs.Spells.{short}
-use Rattle.plan.specs.Numbered.{Numbered}
+use Rattle.root_writer.specs.Numbered.{Numbered}
 use Rattle.view_plan.proofs.KnownLemmas.{pooled_there, pooled_again}
 use Rattle.view_plan.proofs.gathering.Gathering.put_signature.Goals as goal
 

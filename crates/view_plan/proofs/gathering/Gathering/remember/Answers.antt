@@ -1,7 +1,7 @@
 use Rattle.std.proofs.Common.{◌≡◌, ℕ, List, [], Bor, nat_eq, refl, sym, ap, subst, ◌∙◌, rules}
 use Rattle.std.specs.Cmp.Lexicographic.{pointwise, same_text}
 use Rattle.table_schema.specs.declared.column.SigKind.{SigKind}
-use Rattle.plan.specs.Numbered.{Numbered}
+use Rattle.root_writer.specs.Numbered.{Numbered}
 use Rattle.view_plan.specs.Known.{IsKnown}
 use Rattle.view_plan.specs.declared.gathering.Gathering.TheInside.{Inside}
 use Rattle.view_plan.proofs.KnownLemmas.{Met, AllKnown, known_inserted}

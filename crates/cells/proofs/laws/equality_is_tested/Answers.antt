@@ -1,5 +1,0 @@
-use Rattle.cells.proofs.CellLemmas.{cell_decides}
-use Rattle.cells.proofs.laws.equality_is_tested.Goals as goal
-
-pub returns : goal.returns
-returns c = cell_decides c.equality_is_tested.ensures

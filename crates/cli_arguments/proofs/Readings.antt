@@ -1,0 +1,80 @@
+-- What the getters of `clap`'s matches return, if the matches are those of the arguments.
+use Rattle.std.proofs.Common.{◌≡◌, ◌↔◌, ◌∙◌, ℕ, Result, Ok, Err, Bool, true, false, IsTrue, List, ap, ap₂, sym, Option, Some, None, refl, codes, is_some, subst}
+use Rattle.std.specs.Prelude.{if◌then◌else◌, option_map, unwrap_or, IsSome}
+use Rattle.std.specs.Option.{option_eq}
+use mathlib.Core.Bool.{beq}
+use Rattle.std.specs.Str.{bytes_eq}
+use Rattle.std.specs.Str.Parse.{ParsesBool, ParsesUnsigned}
+use Rattle.std.proofs.lemmas.Slice.Eq.{bytes_eq-Decides}
+use Rattle.clap.specs.Words.{Row, Text, ReadsOne, subcommand_name_of, subcommand_rows_of}
+use Rattle.clap.specs.declared.ArgMatches.{ArgMatches}
+use Rattle.clap.specs.declared.ArgMatches.TheViews.{out-ArgMatches}
+use Rattle.cli_arguments.specs.Asked.{IsCountOf, name_of, subcommand_named}
+use Rattle.cli_arguments.specs.declared.asked.Subcommand.{Subcommand}
+use Rattle.cli_arguments.specs.declared.asked.Subcommand.TheVariants.{Root, Check, Show, Types, Token, Rewrite, Explain}
+
+option_map_map : {A B C : Type 0} (f : B → C) (g : A → B) (o : Option A) → option_map f (option_map g o) ≡ option_map (λ x. f (g x)) o
+option_map_map f g None = refl
+option_map_map f g (Some x) = refl
+
+both_parts : (o : Option (Text × List Row)) (name : Text) (rows : List Row) → option_map (λ p. p.0) o ≡ Some name → option_map (λ p. p.1) o ≡ Some rows
+    → o ≡ Some (name, rows)
+both_parts None name rows e f = cc
+both_parts (Some p) name rows e f =
+    ap₂ (λ (n : Text) (rs : List Row). Some (n, rs)) (ap (λ o. unwrap_or o name) e) (ap (λ o. unwrap_or o rows) f)
+
+-- the subcommand that was found, by its name and by its rows
+pub rows_met : (m : ArgMatches) (name : Text) (rows : List Row) → subcommand_name_of m ≡ Some name
+    → option_map (λ p. p.1) (subcommand_rows_of m) ≡ Some rows → subcommand_rows_of m ≡ Some (name, rows)
+rows_met m name rows named given = both_parts (subcommand_rows_of m) name rows (option_map_map _ _ (out-ArgMatches m).subcommand ∙ named) given
+
+-- an argument that is the name of a subcommand, or else of one of the following ones
+named_by : (word : Text) (found : Bool) (t : Subcommand) (rest : Option Subcommand) (s : Subcommand) → (found ≡ true → word ≡ name_of t)
+    → (rest ≡ Some s → word ≡ name_of s) → (if found then Some t else rest) ≡ Some s → word ≡ name_of s
+named_by word true t rest s is later e = subst (λ (u : Subcommand). word ≡ name_of u) (ap (λ o. unwrap_or o t) e) (is refl)
+named_by word false t rest s is later e = later e
+
+-- the argument is the name of the subcommand that it selects
+pub named_back : (word : Text) (s : Subcommand) → subcommand_named word ≡ Some s → word ≡ name_of s
+named_back word s e =
+    named_by word (bytes_eq word (name_of Root)) Root _ s (bytes_eq-Decides word (name_of Root)).0
+    (named_by word (bytes_eq word (name_of Check)) Check _ s (bytes_eq-Decides word (name_of Check)).0
+    (named_by word (bytes_eq word (name_of Show)) Show _ s (bytes_eq-Decides word (name_of Show)).0
+    (named_by word (bytes_eq word (name_of Types)) Types _ s (bytes_eq-Decides word (name_of Types)).0
+    (named_by word (bytes_eq word (name_of Token)) Token _ s (bytes_eq-Decides word (name_of Token)).0
+    (named_by word (bytes_eq word (name_of Rewrite)) Rewrite _ s (bytes_eq-Decides word (name_of Rewrite)).0
+    (named_by word (bytes_eq word (name_of Explain)) Explain _ s (bytes_eq-Decides word (name_of Explain)).0
+    (λ none. cc))))))) e
+
+-- a flag is read as true if and only if its text is `true`
+flag_reads : (E : Type 0) (o : Option Text) (r : Option Bool) → (o ≡ None → r ≡ None)
+    → ((t : Text) → o ≡ Some t → ReadsOne {E = E} ParsesBool t r) → (r ≡ Some true) ↔ (o ≡ Some (codes "true"))
+flag_reads E None r none value = ((λ is. let nothing = none refl in cc), (λ is. cc))
+flag_reads E (Some t) None none value =
+    ((λ is. cc), (λ is. absurd ((value t refl).1.0 (ap (λ o. unwrap_or o t) is))))
+flag_reads E (Some t) (Some true) none value = ((λ _. ap Some (value t refl)), (λ _. refl))
+flag_reads E (Some t) (Some false) none value =
+    ((λ is. cc), (λ is. let word = value t refl in let other = ap (λ o. unwrap_or o t) is in cc))
+
+-- the number of bytes that a getter returns
+pub count_is : (E : Type 0) (gives : List ℕ → Result ℕ E → Type 0) → ((t : Text) (r : Result ℕ E) → gives t r → ParsesUnsigned 64 10 t r) → (o : Option Text) (r : Option ℕ)
+    → (o ≡ None → r ≡ None) → ((t : Text) → o ≡ Some t → ReadsOne gives t r) → IsCountOf o r
+count_is E gives parses None r none value = none refl
+count_is E gives parses (Some t) (Some number) none value = parses t (Ok number) (value t refl)
+count_is E gives parses (Some t) None none value = let e = value t refl in parses t (Err e.0) e.1
+
+equals_true : (r : Option Bool) → IsTrue (option_eq beq r (Some true)) ↔ (r ≡ Some true)
+equals_true None = ((λ h. cc), (λ e. cc))
+equals_true (Some true) = ((λ h. refl), (λ e. refl))
+equals_true (Some false) = ((λ h. cc), (λ e. cc))
+
+pub flag_is : (E : Type 0) (o : Option Text) (r : Option Bool) (b : Bool) → b ≡ option_eq beq r (Some true) → (o ≡ None → r ≡ None)
+    → ((t : Text) → o ≡ Some t → ReadsOne {E = E} ParsesBool t r) → IsTrue b ↔ (o ≡ Some (codes "true"))
+flag_is E o r b is none value =
+    let eq = equals_true r in
+    let reads = flag_reads E o r none value in
+    ((λ h. reads.0 (eq.0 (subst IsTrue is h))), (λ h. subst IsTrue (sym is) (eq.1 (reads.1 h))))
+
+pub some_mapped : {A B : Type 0} (f : A → B) (o : Option A) (p : Option B) → option_map f o ≡ p → is_some p ≡ true → IsSome o
+some_mapped f None p e h = let nothing : is_some p ≡ false = ap is_some (sym e) in cc
+some_mapped f (Some x) p e h = refl

@@ -1,0 +1,332 @@
+-- If `clap` accepts the arguments, each value that the subcommand needs is there.
+use Rattle.std.proofs.Common.{◌≡◌, ◌≢◌, ◌<◌, ◌&&◌, ◌||◌, ◌∙◌, ℕ, Bool, true, false, cond, not, List, [], ◌∷◌, length, subst, ap, sym, Option, Some, None, is_some, arith, refl, codes}
+use Rattle.std.specs.Prelude.{find, option_map, unwrap_or, if◌then◌else◌, IsSome}
+use Rattle.std.specs.Str.{bytes_eq}
+use Rattle.std.specs.List.{list_any}
+use Rattle.std.specs.Option.{option_map_or}
+use Rattle.clap.specs.Walk.{Row, Rule, Text, answers_to, first_of, nothing_held, reading_by, stop_after, used, values_or_missing, walk, with_values, without, finished}
+use Rattle.clap.specs.Simple.{App, Shape, argument_words, built, built_leaf, entered, inherited, filled, label_of, names_of, rows_at, subcommand_of, with_index}
+use Rattle.clap.specs.Kinds.{check_kinds}
+use Rattle.clap.specs.Takes.{is_given}
+use Rattle.clap.specs.Words.{with_rule}
+use Rattle.clap.specs.Faults.{entered_fault, fault_of, level_fault, use_fault}
+use Rattle.clap.specs.declared.parser.matches.ValueSource.TheVariants.{CommandLine}
+use Rattle.clap.proofs.OnLiterals.{clap_on_literals}
+use Rattle.std.proofs.lemmas.Slice.Eq.{bytes_eq-Decides}
+use Rattle.cli_arguments.specs.Asked.{name_of, subcommand_named}
+use Rattle.cli_arguments.specs.declared.asked.Subcommand.TheVariants.{Root, Check, Show, Types, Token, Rewrite, Explain}
+use Rattle.cli_arguments.specs.declared.asked.Subcommand.{Subcommand}
+use Rattle.cli_arguments.specs.CommandLine.{bare, budget, check, clim, code, explain, file, reader, second}
+use Rattle.cli_arguments.proofs.NoHelp.{StopsElsewhere, is_help, stops_elsewhere}
+use Rattle.cli_arguments.proofs.Filled.{AllFill, Fills, IsFilled, below_none, check_none, filled_with, filled_without, first_none, given_has_value, level_filled}
+
+-- an argument whose new use replaces an earlier one, with at least one value
+set_fills : (a : Rule) → ((values : List Text) (rows : List Row) → used a values rows
+    ≡ with_values a.id (reading_by a) CommandLine (values_or_missing a values) (without a.id rows))
+    → ((again : Bool) (values : List Text) (rows : List Row) → use_fault again a values rows ≡ [] → 0 < length (values_or_missing a values))
+    → Fills a
+set_fills a replaces some again values rows none f =
+    subst IsFilled (sym (replaces values rows)) (go (values_or_missing a values) (some again values rows none))
+  where
+    go : (given : List Text) → 0 < length given → IsFilled (with_values a.id (reading_by a) CommandLine given (without a.id rows))
+    go [] lt = absurd (omega arith)
+    go (v ∷ vs) lt = filled_with a.id (reading_by a) CommandLine v vs (without a.id rows) (filled_without a.id rows f)
+
+-- the arguments of a subcommand, as `clap` completes them
+abbrev built_value : ℕ → Rule → Rule
+built_value index a = with_index index (filled a)
+
+abbrev built_bare : Rule
+built_bare = with_index 2 (filled bare)
+
+-- the values that a subcommand needs, by its name
+abbrev pub values_in : Text → List Text
+values_in name =
+    if bytes_eq name (name_of Explain) then []
+    else codes "FILE" ∷ (if bytes_eq name (name_of Token) || bytes_eq name (name_of Rewrite) then codes "second" ∷ [] else [])
+
+abbrev AllGiven : List Text → List Row → Type 0
+AllGiven [] rows = Unit {0}
+AllGiven (id ∷ ids) rows = (is_given id rows ≡ true) × AllGiven ids rows
+
+-- each of the values is there
+abbrev pub AllThere : List Text → List Row → Type 0
+AllThere [] rows = Unit {0}
+AllThere (id ∷ ids) rows = (is_some (first_of id rows) ≡ true) × AllThere ids rows
+
+all_there : (ids : List Text) (rows : List Row) → IsFilled rows → AllGiven ids rows → AllThere ids rows
+all_there [] rows f given = tt
+all_there (id ∷ ids) rows f given = (given_has_value id rows given.0 f, all_there ids rows f given.1)
+
+-- each use of a subcommand's arguments gives a value, and it requires those that it needs
+pub record IsReady (s : Shape) : Type 0 where
+  pub fills : AllFill s.rules
+  pub values : List Text
+  pub takes : values_in s.name ≡ values
+  pub known : IsSome (subcommand_named s.name)
+  pub needs : (rows : List Row) → list_any (λ a. a.required && not (is_given a.id rows)) s.rules ≡ false → AllGiven values rows
+
+-- the subcommands that a test finds are ready
+abbrev pub AllReady : (Shape → Bool) → List Shape → Type 0
+AllReady p [] = Unit {0}
+AllReady p (s ∷ rest) = (p s ≡ true → IsReady s) × AllReady p rest
+
+found_ready : (p : Shape → Bool) (subs : List Shape) (s : Shape) → find p subs ≡ Some s → AllReady p subs → IsReady s
+found_ready p [] s e ready = cc
+found_ready p (x ∷ xs) s e ready = go (p x) refl e (λ rest. found_ready p xs s rest ready.1)
+  where
+    go : (b : Bool) → p x ≡ b → cond b (Some x) (find p xs) ≡ Some s → (find p xs ≡ Some s → IsReady s) → IsReady s
+    go true is same rest = subst IsReady (ap (λ o. unwrap_or o x) same) (ready.0 is)
+    go false is later rest = rest later
+
+file_value : (again : Bool) (values : List Text) (rows : List Row) → use_fault again (built_value 1 file) values rows ≡ [] → 0 < length (values_or_missing (built_value 1 file) values)
+file_value again [] rows none = cc
+file_value again (v ∷ vs) rows none = omega arith
+
+second_value : (again : Bool) (values : List Text) (rows : List Row) → use_fault again (built_value 2 second) values rows ≡ [] → 0 < length (values_or_missing (built_value 2 second) values)
+second_value again [] rows none = cc
+second_value again (v ∷ vs) rows none = omega arith
+
+code_value : (again : Bool) (values : List Text) (rows : List Row) → use_fault again (built_value 1 code) values rows ≡ [] → 0 < length (values_or_missing (built_value 1 code) values)
+code_value again [] rows none = cc
+code_value again (v ∷ vs) rows none = omega arith
+
+budget_value : (again : Bool) (values : List Text) (rows : List Row) → use_fault again (built_value 2 budget) values rows ≡ [] → 0 < length (values_or_missing (built_value 2 budget) values)
+budget_value again [] rows none = cc
+budget_value again (v ∷ vs) rows none = omega arith
+
+bare_value : (values : List Text) → 0 < length (values_or_missing built_bare values)
+bare_value [] = omega arith
+bare_value (v ∷ vs) = omega arith
+
+file_fills : Fills (built_value 1 file)
+file_fills = set_fills (built_value 1 file) (λ values rows. refl) file_value
+
+second_fills : Fills (built_value 2 second)
+second_fills = set_fills (built_value 2 second) (λ values rows. refl) second_value
+
+budget_fills : Fills (built_value 2 budget)
+budget_fills = set_fills (built_value 2 budget) (λ values rows. refl) budget_value
+
+code_fills : Fills (built_value 1 code)
+code_fills = set_fills (built_value 1 code) (λ values rows. refl) code_value
+
+bare_fills : Fills built_bare
+bare_fills = set_fills built_bare (λ values rows. refl) (λ again values rows none. bare_value values)
+
+needed : (given others : Bool) → (not given || others) ≡ false → given ≡ true
+needed true others e = refl
+needed false others e = cc
+
+not_needed : (given others : Bool) → (not given || others) ≡ false → others ≡ false
+not_needed true others e = e
+not_needed false others e = cc
+
+-- the values that each subcommand needs
+root_takes : values_in (codes "root") ≡ codes "FILE" ∷ []
+unfolding clap_on_literals
+root_takes = refl
+
+check_takes : values_in (codes "check") ≡ codes "FILE" ∷ []
+unfolding clap_on_literals
+check_takes = refl
+
+show_takes : values_in (codes "show") ≡ codes "FILE" ∷ []
+unfolding clap_on_literals
+show_takes = refl
+
+types_takes : values_in (codes "types") ≡ codes "FILE" ∷ []
+unfolding clap_on_literals
+types_takes = refl
+
+pub token_takes : values_in (codes "token") ≡ codes "FILE" ∷ codes "second" ∷ []
+unfolding clap_on_literals
+token_takes = refl
+
+pub rewrite_takes : values_in (codes "rewrite") ≡ codes "FILE" ∷ codes "second" ∷ []
+unfolding clap_on_literals
+rewrite_takes = refl
+
+explain_takes : values_in (codes "explain") ≡ []
+unfolding clap_on_literals
+explain_takes = refl
+
+root_known : IsSome (subcommand_named (codes "root"))
+unfolding clap_on_literals
+root_known = refl
+
+check_known : IsSome (subcommand_named (codes "check"))
+unfolding clap_on_literals
+check_known = refl
+
+show_known : IsSome (subcommand_named (codes "show"))
+unfolding clap_on_literals
+show_known = refl
+
+types_known : IsSome (subcommand_named (codes "types"))
+unfolding clap_on_literals
+types_known = refl
+
+token_known : IsSome (subcommand_named (codes "token"))
+unfolding clap_on_literals
+token_known = refl
+
+rewrite_known : IsSome (subcommand_named (codes "rewrite"))
+unfolding clap_on_literals
+rewrite_known = refl
+
+explain_known : IsSome (subcommand_named (codes "explain"))
+unfolding clap_on_literals
+explain_known = refl
+
+-- a subcommand that reads a file, as `clap` completes it
+abbrev built_reader : Text → Shape
+built_reader name = built_leaf (inherited (built clim).top (reader name).top)
+
+reader_ready : (name : Text) → values_in name ≡ codes "FILE" ∷ [] → IsSome (subcommand_named name) → IsReady (built_reader name)
+reader_ready name takes known = record {
+  fills = (file_fills, (bare_fills, ((λ again values rows none f. f), tt)));
+  values = codes "FILE" ∷ [];
+  takes = takes;
+  known = known;
+  needs = λ rows all. (needed (is_given (codes "FILE") rows) _ all, tt);
+}
+
+check_ready : IsReady (built_leaf (inherited (built clim).top check.top))
+check_ready = record {
+  fills = (file_fills, (bare_fills, (budget_fills, ((λ again values rows none f. f), tt))));
+  values = codes "FILE" ∷ [];
+  takes = check_takes;
+  known = check_known;
+  needs = λ rows all. (needed (is_given (codes "FILE") rows) _ all, tt);
+}
+
+-- one with a second value besides the file
+abbrev built_second : Text → Shape
+built_second name = built_leaf (inherited (built clim).top (with_rule (reader name) second).top)
+
+second_ready : (name : Text) → values_in name ≡ codes "FILE" ∷ codes "second" ∷ [] → IsSome (subcommand_named name) → IsReady (built_second name)
+second_ready name takes known = record {
+  fills = (file_fills, (bare_fills, (second_fills, ((λ again values rows none f. f), tt))));
+  values = codes "FILE" ∷ codes "second" ∷ [];
+  takes = takes;
+  known = known;
+  needs = λ rows all. (
+    needed (is_given (codes "FILE") rows) _ all,
+    (needed (is_given (codes "second") rows) _ (not_needed (is_given (codes "FILE") rows) _ all), tt),
+  );
+}
+
+explain_ready : IsReady (built_leaf (inherited (built clim).top explain.top))
+explain_ready = record {
+  fills = (code_fills, ((λ again values rows none f. f), tt));
+  values = [];
+  takes = explain_takes;
+  known = explain_known;
+  needs = λ rows all. tt;
+}
+
+-- an argument that selects `help` is `help`
+answers_help : (word : Text) → answers_to word (codes "help", []) ≡ true → is_help word ≡ true
+answers_help word is = go (bytes_eq (codes "help") word) (bytes_eq-Decides (codes "help") word).0 is
+  where
+    go : (b : Bool) → (b ≡ true → codes "help" ≡ word) → (b || false) ≡ true → is_help word ≡ true
+    go true same is = (bytes_eq-Decides word (codes "help")).1 (sym (same refl))
+    go false same is = cc
+
+-- each subcommand that an argument other than `help` selects is ready
+clim_ready : (word : Text) → is_help word ≡ false → AllReady (λ s. answers_to word (label_of s)) (built clim).subs
+clim_ready word other = (
+  (λ is. reader_ready (codes "root") root_takes root_known),
+  (
+    (λ is. check_ready),
+    (
+      (λ is. reader_ready (codes "show") show_takes show_known),
+      (
+        (λ is. reader_ready (codes "types") types_takes types_known),
+        (
+          (λ is. second_ready (codes "token") token_takes token_known),
+          (
+            (λ is. second_ready (codes "rewrite") rewrite_takes rewrite_known),
+            ((λ is. explain_ready), ((λ is. let help = answers_help word is in cc), tt)),
+          ),
+        ),
+      ),
+    ),
+  ),
+)
+
+-- the first value of a subcommand other than `explain` is its file
+pub file_first : (s : Subcommand) (rows : List Row) → s ≢ Explain → AllThere (values_in (name_of s)) rows → is_some (first_of (codes "FILE") rows) ≡ true
+file_first Root rows other there = (subst (λ (ids : List Text). AllThere ids rows) root_takes there).0
+file_first Check rows other there = (subst (λ (ids : List Text). AllThere ids rows) check_takes there).0
+file_first Show rows other there = (subst (λ (ids : List Text). AllThere ids rows) show_takes there).0
+file_first Types rows other there = (subst (λ (ids : List Text). AllThere ids rows) types_takes there).0
+file_first Token rows other there = (subst (λ (ids : List Text). AllThere ids rows) token_takes there).0
+file_first Rewrite rows other there = (subst (λ (ids : List Text). AllThere ids rows) rewrite_takes there).0
+file_first Explain rows other there = absurd (other refl)
+
+-- all required values are there
+none_wanted : (wants_help wants_subcommand negates any : Bool) → check_kinds wants_help wants_subcommand (not (negates && false) && any) ≡ [] → any ≡ false
+none_wanted false false true false e = refl
+none_wanted false false false false e = refl
+none_wanted true wants_subcommand negates any e = cc
+none_wanted false true negates any e = cc
+none_wanted false false true true e = cc
+none_wanted false false false true e = cc
+
+-- each subcommand of a command is ready if an argument other than `help` selects it
+abbrev IsWholeApp : App → Type 0
+IsWholeApp a = (word : Text) → is_help word ≡ false → AllReady (λ s. answers_to word (label_of s)) a.subs
+
+entered_has_values : (a : App) (stop : Option (Text × List Text)) (name : Text) (rows : List Row) → IsWholeApp a → StopsElsewhere stop
+    → entered_fault a stop ≡ [] → entered a stop ≡ Some (name, rows) → AllThere (values_in name) rows
+entered_has_values a None name rows ready elsewhere none e = cc
+entered_has_values a (Some p) name rows ready elsewhere none e = go (find (λ s. answers_to p.0 (label_of s)) a.subs) refl none e
+  where
+    go : (o : Option Shape) → find (λ s. answers_to p.0 (label_of s)) a.subs ≡ o
+        → option_map_or (λ s. level_fault s [] nothing_held p.1 false []) o [] ≡ []
+        → option_map (λ s. rows_at s p.1) o ≡ Some (name, rows) → AllThere (values_in name) rows
+    go None found free is = cc
+    go (Some s) found free is =
+        let own = found_ready _ a.subs s found (ready p.0 elsewhere) in
+        let same : finished s.rules (walk s.rules [] nothing_held p.1).held ≡ rows =
+        ap (λ (o : Option (Text × List Row)). (unwrap_or o (name, rows)).1) is in
+        let named : s.name ≡ name = ap (λ (o : Option (Text × List Row)). (unwrap_or o (name, rows)).0) is in
+        let given = own.needs _ (none_wanted _ _ s.subcommand_negates_reqs _ (check_none s [] nothing_held p.1 false [] free)) in
+        let there = all_there own.values _ (level_filled s [] nothing_held p.1 false [] free own.fills tt) given in
+        subst (λ (rs : List Row). AllThere (values_in name) rs) same
+        (subst (λ (ids : List Text). AllThere ids (finished s.rules (walk s.rules [] nothing_held p.1).held)) (sym own.takes ∙ ap values_in named) there)
+
+-- where the walk over the program's own arguments stops
+abbrev stop_in : List Text → Option (Text × List Text)
+stop_in words = stop_after (built clim).top.rules (names_of (built clim)) (argument_words clim words)
+
+stops : (words : List Text) → fault_of clim words ≡ [] → StopsElsewhere (stop_in words)
+stops words none =
+    stops_elsewhere (built clim).top (names_of (built clim)) refl nothing_held (argument_words clim words) (first_none _ _ none)
+
+-- the arguments have each value that the subcommand needs, if `clap` accepts them
+pub has_values : (words : List Text) (name : Text) (rows : List Row) → fault_of clim words ≡ [] → subcommand_of clim words ≡ Some (name, rows)
+    → AllThere (values_in name) rows
+has_values words name rows none is =
+    let a : App = built clim in
+    entered_has_values a (stop_in words) name rows clim_ready (stops words none)
+    (below_none a.top (names_of a) nothing_held (argument_words clim words) (is_some (entered a (stop_in words))) (entered_fault a (stop_in words)) none) is
+
+-- the arguments name a known subcommand, if `clap` accepts them
+pub is_known : (words : List Text) (name : Text) (rows : List Row) → fault_of clim words ≡ [] → subcommand_of clim words ≡ Some (name, rows)
+    → IsSome (subcommand_named name)
+is_known words name rows none is = go (built clim) (stop_in words) clim_ready (stops words none) is
+  where
+    go : (a : App) (stop : Option (Text × List Text)) → IsWholeApp a → StopsElsewhere stop → entered a stop ≡ Some (name, rows)
+        → IsSome (subcommand_named name)
+    go a None ready elsewhere e = cc
+    go a (Some p) ready elsewhere e = met (find (λ s. answers_to p.0 (label_of s)) a.subs) refl e
+      where
+        met : (o : Option Shape) → find (λ s. answers_to p.0 (label_of s)) a.subs ≡ o → option_map (λ s. rows_at s p.1) o ≡ Some (name, rows)
+            → IsSome (subcommand_named name)
+        met None found e = cc
+        met (Some s) found e =
+            let named : s.name ≡ name = ap (λ (o : Option (Text × List Row)). (unwrap_or o (name, rows)).0) e in
+            subst (λ (n : Text). IsSome (subcommand_named n)) named (found_ready _ a.subs s found (ready p.0 elsewhere)).known

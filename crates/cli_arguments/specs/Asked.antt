@@ -1,0 +1,59 @@
+-- What the arguments of a command line ask for, by what `clap` gives for them.
+use Rattle.std.specs.Prelude.{◌≡◌, ◌≢◌, ◌↔◌, ℕ, ◌<◌, ◌^◌, IsTrue, IsSome, MatchOption, List, Option, Some, None, codes, if◌then◌else◌, option_map}
+use Rattle.std.specs.Str.{bytes_eq}
+use Rattle.std.specs.Option.{SomeIff}
+use Rattle.std.specs.Str.Parse.{IsNumeral, digits_value, without_leading_plus}
+use Rattle.clap.specs.Words.{Row, Text, first_of, one_of, subcommand_of}
+use Rattle.cli_arguments.specs.CommandLine.{clim}
+use Rattle.cli_arguments.specs.declared.asked.Ask.{Ask}
+use Rattle.cli_arguments.specs.declared.asked.Subcommand.{Subcommand}
+use Rattle.cli_arguments.specs.declared.asked.Subcommand.TheVariants.{Root, Check, Show, Types, Token, Rewrite, Explain}
+
+-- the name of a subcommand
+abbrev pub name_of : Subcommand → Text
+name_of Root = codes "root"
+name_of Check = codes "check"
+name_of Show = codes "show"
+name_of Types = codes "types"
+name_of Token = codes "token"
+name_of Rewrite = codes "rewrite"
+name_of Explain = codes "explain"
+
+-- the subcommand with this name
+abbrev pub subcommand_named : Text → Option Subcommand
+subcommand_named word =
+    if bytes_eq word (name_of Root) then Some Root
+    else if bytes_eq word (name_of Check) then Some Check
+    else if bytes_eq word (name_of Show) then Some Show
+    else if bytes_eq word (name_of Types) then Some Types
+    else if bytes_eq word (name_of Token) then Some Token
+    else if bytes_eq word (name_of Rewrite) then Some Rewrite
+    else if bytes_eq word (name_of Explain) then Some Explain
+    else None
+
+-- decimal digits of a number of 64 bits, with or without a leading plus sign
+abbrev pub IsByteCount : List ℕ → Type 0
+IsByteCount word = IsNumeral 10 (without_leading_plus word) × (digits_value 10 (without_leading_plus word) < 2 ^ 64)
+
+-- the number that the argument denotes; `None` if there is no argument, or it does not denote one
+abbrev pub IsCountOf : Option Text → Option ℕ → Type 0
+IsCountOf given number = MatchOption given (number ≡ None) (λ word. SomeIff number (IsByteCount word) (digits_value 10 (without_leading_plus word)))
+
+-- the arguments name the subcommand, and give it this flag and these values
+pub record Gives (words : List Text) (ask : Ask) : Type 0 where
+  -- the values that `clap` gives for each argument of the subcommand
+  pub rows : List Row
+  pub subcommand : subcommand_of clim words ≡ Some (name_of ask.subcommand, rows)
+  pub bare : IsTrue ask.bare ↔ (one_of (codes "bare") rows ≡ Some (codes "true"))
+  pub file : option_map (λ word. word.now) ask.file ≡ first_of (codes "FILE") rows
+  pub second : option_map (λ word. word.now) ask.second ≡ first_of (codes "second") rows
+  pub budget : IsCountOf (one_of (codes "budget") rows) ask.budget
+  pub code : option_map (λ word. word.now) ask.code ≡ first_of (codes "CODE") rows
+
+-- there is a file, if the subcommand reads one
+abbrev pub HasFile : Ask → Type 0
+HasFile ask = ask.subcommand ≢ Explain → IsSome ask.file
+
+-- there is a second value, if the subcommand has one
+abbrev pub HasSecond : Ask → Type 0
+HasSecond ask = (ask.subcommand ≡ Token → IsSome ask.second) × (ask.subcommand ≡ Rewrite → IsSome ask.second)

@@ -1,0 +1,78 @@
+//! The command line, and what its arguments ask for.
+ghost use Rattle.std.specs.Prelude.{◌≡◌, IfOk, IsOkAnd, map};
+ghost use Rattle.clap.specs.Words.{AddsSubcommand, FailsBy, app_of, fault_of};
+ghost use Rattle.cli_arguments.specs.Asked.{Gives, HasFile, HasSecond};
+ghost use Rattle.cli_arguments.specs.CommandLine.{clim};
+
+use crate::asked::{Ask, Subcommand};
+use crate::subcommands::{
+    check_file, explain_fault, print_root, print_token, print_types, rewrite_file, show_tables,
+};
+use clap::{Command, Error};
+use std::alloc::{AllocError, Global};
+
+/// Parses the arguments of a command line, the program name first.
+///
+/// # Errors
+///
+/// The error that `clap` makes for arguments that the command line does not accept, and for a request for help or the
+/// version (`use_stderr` distinguishes them). Out of memory has the kind `OutOfMemory`. `Display` gives the text for
+/// the user.
+pub fn ask<'a>(alloc: Global, words: &'a [&'a str]) -> Result<Ask<'a>, Error>
+    ensures given { IfOk result (Gives (map (λ word. word.now) words.entry.now)) }
+    ensures file { IfOk result HasFile }
+    ensures second { IfOk result HasSecond }
+    ensures refused { FailsBy (fault_of clim (map (λ word. word.now) words.entry.now)) result }
+{
+    let matches = command(alloc)?.try_get_matches_from(words)?;
+    let (name, given) = matches.subcommand().unwrap();
+    Ok(Ask {
+        subcommand: Subcommand::named(name).unwrap(),
+        bare: given.get_one::<bool>("bare") == Some(true),
+        file: given.get_str("FILE"),
+        second: given.get_str("second"),
+        budget: given.get_one::<u64>("budget"),
+        code: given.get_str("CODE"),
+    })
+}
+
+/// The command line as `clap` parses it and shows it in help.
+fn command<'a>(alloc: Global) -> Result<Command<'a>, AllocError>
+    ensures { IfOk result (λ command. app_of command ≡ clim) }
+{
+    let program = Command::new(alloc, "clim")
+        .about("Read, check and rewrite the metadata of .NET assemblies (ECMA-335, Partition II)")
+        .version("0.1.0")
+        .after_help(STATUSES)
+        .subcommand_required(true);
+    let program = with(Ok(program), print_root::command(alloc));
+    let program = with(program, check_file::command(alloc));
+    let program = with(program, show_tables::command(alloc));
+    let program = with(program, print_types::command(alloc));
+    let program = with(program, print_token::command(alloc));
+    let program = with(program, rewrite_file::command(alloc));
+    with(program, explain_fault::command(alloc))
+}
+
+/// A command with one more subcommand. Fails only if out of memory.
+fn with<'a>(
+    command: Result<Command<'a>, AllocError>,
+    subcommand: Result<Command<'a>, AllocError>,
+) -> Result<Command<'a>, AllocError>
+    ensures { IfOk result (λ made. IsOkAnd command.entry (λ base. IsOkAnd subcommand.entry (λ added. AddsSubcommand base added made))) }
+{
+    match (command, subcommand) {
+        (Ok(command), Ok(subcommand)) => command.subcommand(subcommand),
+        _ => Err(AllocError),
+    }
+}
+
+const STATUSES: &str = "\
+'clim <COMMAND> --help' has examples of each command. 'clim explain CODE' explains a fault.
+
+Exit status:
+  0  success
+  1  FILE breaks a rule of the standard, printed as 'fault LAYER CODE at OFFSET: NAME';
+     or FILE has nothing that HEX names; or its canonical root has more than 2^30 bytes
+  2  usage error; FILE was not read
+  3  I/O error, out of memory, or budget spent";

@@ -1,0 +1,56 @@
+ghost use Rattle.std.specs.Prelude.{◌≡◌, None, Some};
+ghost use Rattle.cli_arguments.specs.Asked.{subcommand_named};
+
+/// What the arguments of a command line ask for.
+#[derive(Clone, Copy, Debug, PartialEq, Eq)]
+pub struct Ask<'a> {
+    /// What to do.
+    pub subcommand: Subcommand,
+    /// Whether the file is a metadata root instead of a PE file.
+    pub bare: bool,
+    /// The path of the file to read. `explain` has none.
+    pub file: Option<&'a str>,
+    /// The argument after the file: the token of `token`, the output path of `rewrite`.
+    pub second: Option<&'a str>,
+    /// The largest number of signature blob bytes that `check` may check, if given.
+    pub budget: Option<u64>,
+    /// The number of the fault to `explain`, as it was given.
+    pub code: Option<&'a str>,
+}
+
+/// The subcommands of the program.
+#[derive(Clone, Copy, Debug, PartialEq, Eq)]
+pub enum Subcommand {
+    /// `root`: print the CLI header, and the version and the stream headers of the metadata root.
+    Root,
+    /// `check`: check the file against the rules of the standard.
+    Check,
+    /// `show`: print each row of each table.
+    Show,
+    /// `types`: print the types, with the number of their fields and methods.
+    Types,
+    /// `token`: print the row or the user string that a token names.
+    Token,
+    /// `rewrite`: write the canonical metadata root of the file.
+    Rewrite,
+    /// `explain`: explain a fault, or list all.
+    Explain,
+}
+
+impl Subcommand {
+    /// The subcommand with this name.
+    pub fn named(word: &str) -> Option<Subcommand>
+        ensures { result ≡ subcommand_named word.now }
+    {
+        match word {
+            "root" => Some(Subcommand::Root),
+            "check" => Some(Subcommand::Check),
+            "show" => Some(Subcommand::Show),
+            "types" => Some(Subcommand::Types),
+            "token" => Some(Subcommand::Token),
+            "rewrite" => Some(Subcommand::Rewrite),
+            "explain" => Some(Subcommand::Explain),
+            _ => None,
+        }
+    }
+}

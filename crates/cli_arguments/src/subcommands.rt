@@ -1,0 +1,67 @@
+//! The arguments of each subcommand and its help, one module for each.
+ghost use Rattle.std.specs.Prelude.{◌≡◌, IfOk, false};
+ghost use Rattle.clap.specs.Words.{app_of, rule_of};
+ghost use Rattle.clap.specs.declared.Command.TheViews.{out-Command as fields_of};
+ghost use Rattle.cli_arguments.specs.CommandLine as line;
+
+use clap::{Arg, ArgAction, Command};
+use std::alloc::{AllocError, Global};
+
+pub(crate) mod check_file;
+pub(crate) mod explain_fault;
+pub(crate) mod print_root;
+pub(crate) mod print_token;
+pub(crate) mod print_types;
+pub(crate) mod rewrite_file;
+pub(crate) mod show_tables;
+
+/// The arguments of a subcommand that reads a file, and its help: what it does and what it prints.
+fn reader<'a>(
+    alloc: Global,
+    name: &'a str,
+    about: &'a str,
+    output: &'a str,
+) -> Result<Command<'a>, AllocError>
+    ensures app { IfOk result (λ command. app_of command ≡ line.reader name.now) }
+    ensures local { IfOk result (λ command. (fields_of command).has_globals ≡ false) }
+{
+    Command::new(alloc, name)
+        .about(about)
+        .after_help(output)
+        .arg(file(alloc))?
+        .arg(bare(alloc))
+}
+
+/// `FILE`, the path of the file to read.
+fn file<'a>(alloc: Global) -> Arg<'a>
+    ensures rule { rule_of result ≡ line.file }
+    ensures local { result.global ≡ false }
+{
+    Arg::new(alloc, "FILE")
+        .required(true)
+        .action(ArgAction::Set)
+        .help("The file to read")
+}
+
+/// `--bare`, the flag for a metadata root.
+fn bare<'a>(alloc: Global) -> Arg<'a>
+    ensures rule { rule_of result ≡ line.bare }
+    ensures local { result.global ≡ false }
+{
+    Arg::new(alloc, "bare")
+        .long("bare")
+        .action(ArgAction::SetTrue)
+        .help("FILE is a metadata root, not a PE file")
+}
+
+/// The value after the file; help shows it with this name.
+fn second<'a>(alloc: Global, name: &'a str, help: &'a str) -> Arg<'a>
+    ensures rule { rule_of result ≡ line.second }
+    ensures local { result.global ≡ false }
+{
+    Arg::new(alloc, "second")
+        .value_name(name)
+        .required(true)
+        .action(ArgAction::Set)
+        .help(help)
+}

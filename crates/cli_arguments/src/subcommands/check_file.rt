@@ -1,0 +1,59 @@
+//! `clim check`: checks a file against the rules of the standard.
+ghost use Rattle.std.specs.Prelude.{◌≡◌, IfOk, false};
+ghost use Rattle.clap.specs.Words.{app_of, rule_of};
+ghost use Rattle.clap.specs.declared.Command.TheViews.{out-Command as fields_of};
+ghost use Rattle.cli_arguments.specs.CommandLine as line;
+
+use crate::subcommands::reader;
+use clap::{Arg, ArgAction, Command, value_parser};
+use std::alloc::{AllocError, Global};
+
+/// The arguments of the subcommand and its help.
+pub(crate) fn command<'a>(alloc: Global) -> Result<Command<'a>, AllocError>
+    ensures app { IfOk result (λ command. app_of command ≡ line.check) }
+    ensures local { IfOk result (λ command. (fields_of command).has_globals ≡ false) }
+{
+    reader(
+        alloc,
+        "check",
+        "Check a file against the rules of the standard",
+        OUTPUT,
+    )?
+    .arg(budget(alloc))
+}
+
+/// `--budget N`, the largest number of signature blob bytes to check.
+fn budget<'a>(alloc: Global) -> Arg<'a>
+    ensures rule { rule_of result ≡ line.budget }
+    ensures local { result.global ≡ false }
+{
+    Arg::new(alloc, "budget")
+        .long("budget")
+        .value_name("N")
+        .value_parser(value_parser!(u64))
+        .action(ArgAction::Set)
+        .help("Check at most N bytes of signatures, or stop with exit status 3")
+}
+
+const OUTPUT: &str = "\
+Prints 'ok' if FILE breaks no rule. Otherwise prints only the first fault, to standard error. The rules are
+those that 'clim explain' lists from 101 to 801, except 508 to 510. OFFSET is an offset in FILE. LAYER is one
+of these, with the sections whose rules it checks:
+  1  the headers of the PE file (II.25.2, II.25.3)
+  2  the CLI header (II.25.3.3)
+  3  the metadata root and its stream headers (II.24.2.1, II.24.2.2)
+  4  the table stream (II.24.2.6)
+  5  a cell, and the heaps (II.22, II.24.2.3 to II.24.2.6)
+  6  the order of rows, members and nested types (II.22)
+  7  a signature (II.23.2)
+  8  the entry point (II.25.3.3)
+'clim explain CODE' explains a fault. 'clim explain' lists all faults.
+
+Signature blobs may overlap, so the check of a FILE of a few kilobytes can take long. '--budget N' limits the
+number of signature bytes to check. A check that needs more ends with 'error: budget spent' and exit status 3.
+
+Examples:
+  $ clim check one_module.dll
+  ok
+  $ clim check --bare one_module.root
+  ok";

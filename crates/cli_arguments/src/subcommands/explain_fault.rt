@@ -1,0 +1,44 @@
+//! `clim explain`: what faults mean.
+ghost use Rattle.std.specs.Prelude.{◌≡◌, IfOk, false};
+ghost use Rattle.clap.specs.Words.{app_of, rule_of};
+ghost use Rattle.clap.specs.declared.Command.TheViews.{out-Command as fields_of};
+ghost use Rattle.cli_arguments.specs.CommandLine as line;
+
+use clap::{Arg, ArgAction, Command};
+use std::alloc::{AllocError, Global};
+
+/// The arguments of the subcommand and its help.
+pub(crate) fn command<'a>(alloc: Global) -> Result<Command<'a>, AllocError>
+    ensures app { IfOk result (λ command. app_of command ≡ line.explain) }
+    ensures local { IfOk result (λ command. (fields_of command).has_globals ≡ false) }
+{
+    Command::new(alloc, "explain")
+        .about("Explain a fault, or list all faults")
+        .after_help(OUTPUT)
+        .arg(code(alloc))
+}
+
+/// `CODE`, the number of the fault; optional.
+fn code<'a>(alloc: Global) -> Arg<'a>
+    ensures rule { rule_of result ≡ line.code }
+    ensures local { result.global ≡ false }
+{
+    Arg::new(alloc, "CODE")
+        .action(ArgAction::Set)
+        .help("The number of the fault; without it, list all faults")
+}
+
+const OUTPUT: &str = "\
+The first line has the number of the fault, its name and what is wrong. The items after it are the rule,
+the section of ECMA-335, what OFFSET points to, and the usual cause if it is known. Without CODE there is
+one line for each fault.
+
+Examples:
+  $ clim explain 504
+  504 BadGuid: no GUID at an index into '#GUID'
+
+  - Rule: An index into '#GUID' is 0 for null, or the number of a 16-byte entry within the heap,
+    counted from 1.
+  - Section: II.24.2.5
+  - Offset: The cell with the index.
+  - Usual cause: An index that counts bytes instead of entries.";

@@ -1,0 +1,36 @@
+//! `clim token`: the row or the user string that a token names.
+ghost use Rattle.std.specs.Prelude.{◌≡◌, IfOk, false};
+ghost use Rattle.clap.specs.Words.{app_of};
+ghost use Rattle.clap.specs.declared.Command.TheViews.{out-Command as fields_of};
+ghost use Rattle.cli_arguments.specs.CommandLine as line;
+
+use crate::subcommands::{reader, second};
+use clap::Command;
+use std::alloc::{AllocError, Global};
+
+/// The arguments of the subcommand and its help.
+pub(crate) fn command<'a>(alloc: Global) -> Result<Command<'a>, AllocError>
+    ensures app { IfOk result (λ command. app_of command ≡ line.token) }
+    ensures local { IfOk result (λ command. (fields_of command).has_globals ≡ false) }
+{
+    reader(
+        alloc,
+        "token",
+        "Print the row or the user string that a token names",
+        OUTPUT,
+    )?
+    .arg(second(alloc, "HEX", "The token: one to eight hexadecimal digits"))
+}
+
+const OUTPUT: &str = "\
+The high byte of HEX is the number of a table, and the other bytes are a row (ECMA-335, III.1.9). The output
+is the line of that row in 'clim show'. If the high byte is 70, HEX names an offset in the user strings
+(II.24.2.4). The output is then 'user TEXT FLAG'. In TEXT, a backslash and a unit that is not printable ASCII
+become \\u and four hexadecimal digits. FLAG is the last byte. For an entry of no bytes the output is 'user'.
+FILE is checked first, as by 'clim check'.
+
+Examples:
+  $ clim token --bare one_module.root 00000001
+  1: 0 \"a.dll\" {03020100-0504-0706-0809-0a0b0c0d0e0f} null null
+  $ clim token --bare one_module.root 70000000
+  user";

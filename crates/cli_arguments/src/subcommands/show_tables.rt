@@ -1,0 +1,34 @@
+//! `clim show`: the rows of all tables.
+ghost use Rattle.std.specs.Prelude.{◌≡◌, IfOk, false};
+ghost use Rattle.clap.specs.Words.{app_of};
+ghost use Rattle.clap.specs.declared.Command.TheViews.{out-Command as fields_of};
+ghost use Rattle.cli_arguments.specs.CommandLine as line;
+
+use crate::subcommands::reader;
+use clap::Command;
+use std::alloc::{AllocError, Global};
+
+/// The arguments of the subcommand and its help.
+pub(crate) fn command<'a>(alloc: Global) -> Result<Command<'a>, AllocError>
+    ensures app { IfOk result (λ command. app_of command ≡ line.show) }
+    ensures local { IfOk result (λ command. (fields_of command).has_globals ≡ false) }
+{
+    reader(alloc, "show", "Print the rows of all tables", OUTPUT)
+}
+
+const OUTPUT: &str = "\
+For each table that has rows (ECMA-335, II.22) there is a line 'table NN NAME COUNT', with the number NN of the
+table in hexadecimal. Then there is a line for each row: its number and its cells. A cell is one of these:
+  \"..\"  a text; a quote, a backslash and a byte that is not printable ASCII become \\x and two hexadecimal
+        digits
+  <..>  bytes in hexadecimal, or a signature in its canonical encoding (II.23.2)
+  {..}  a GUID
+  +N    the row N where a run of members starts
+  null  no GUID, or no row
+  a decimal number, or the token of a row in eight hexadecimal digits
+FILE is checked first, as by 'clim check'.
+
+Examples:
+  $ clim show --bare one_module.root
+  table 00 Module 1
+  1: 0 \"a.dll\" {03020100-0504-0706-0809-0a0b0c0d0e0f} null null";

@@ -1,0 +1,39 @@
+-- The exit code of the process, and the failures that a step can end with.
+use Rattle.std.specs.Prelude.{◌≡◌, ◌↔◌, ℕ, List}
+use Rattle.std.specs.declared.io.ErrorKind.{ErrorKind}
+use Rattle.std.specs.declared.io.ErrorKind.TheVariants as cause
+use Rattle.cli_faults.specs.declared.failure.Failure.{Failure}
+use Rattle.cli_faults.specs.declared.failure.Failure.TheVariants.{Fault, NoSuchRow, NoToken, NoCode, CannotRead, CannotWriteOutput, CannotWriteFile, OutOfMemory}
+
+-- the exit code of a failure
+abbrev pub status_of : Failure → ℕ
+status_of (Fault found) = 1
+status_of NoSuchRow = 1
+status_of (NoToken word) = 2
+status_of (NoCode word) = 2
+status_of (CannotRead file) = 3
+status_of CannotWriteOutput = 3
+status_of (CannotWriteFile file) = 3
+status_of OutOfMemory = 3
+
+-- the output could not be written, or memory ran out
+abbrev pub IsOutput : Failure → Type 0
+IsOutput CannotWriteOutput = Unit {0}
+IsOutput OutOfMemory = Unit {0}
+IsOutput _ = ⊥
+
+-- this file could not be read, or memory ran out
+abbrev pub IsUnread : List ℕ → Failure → Type 0
+IsUnread file (CannotRead word) = word.now ≡ file
+IsUnread file OutOfMemory = Unit {0}
+IsUnread file _ = ⊥
+
+-- this file could not be written, or memory ran out
+abbrev pub IsUnwritten : List ℕ → Failure → Type 0
+IsUnwritten file (CannotWriteFile word) = word.now ≡ file
+IsUnwritten file OutOfMemory = Unit {0}
+IsUnwritten file _ = ⊥
+
+-- `OutOfMemory` is reported if and only if the error is of that kind
+abbrev pub TellsKind : ErrorKind → Failure → Type 0
+TellsKind kind failure = (kind ≡ cause.OutOfMemory) ↔ (failure ≡ OutOfMemory)

@@ -1,0 +1,140 @@
+//! Why the program failed, and the line that reports it.
+ghost use Rattle.std.specs.Prelude.{◌≡◌, ◌↔◌, IfErr, IsOk, Some};
+ghost use Rattle.std.specs.IoError.{error_kind};
+ghost use Rattle.cli_faults.specs.Status.{IsOutput, TellsKind};
+ghost use Rattle.cli_faults.specs.Texts.{failure_text};
+ghost use Rattle.cli_faults.specs.declared.failure.Failure.TheVariants.{Fault};
+
+use packed::Fault;
+use std::io::ErrorKind;
+use std::{fmt, io};
+
+/// Why the program could not do what it was asked to do. `Display` gives the line for standard error, without the line
+/// feed: for a fault `fault LAYER CODE at OFFSET: NAME`.
+#[derive(Clone, Copy, Debug, PartialEq, Eq)]
+pub enum Failure<'a> {
+    /// The file breaks a rule of the standard.
+    Fault(Fault),
+    /// The token names no row and no user string in the file.
+    NoSuchRow,
+    /// The argument is not a token.
+    NoToken(&'a str),
+    /// The argument is not the number of a fault.
+    NoCode(&'a str),
+    /// The file with this path could not be opened or read to its end.
+    CannotRead(&'a str),
+    /// The output could not be written, or not completely.
+    CannotWriteOutput,
+    /// The file with this path could not be created, truncated or written to its end.
+    CannotWriteFile(&'a str),
+    /// Out of memory.
+    OutOfMemory,
+}
+
+impl<'a> Failure<'a> {
+    ghost use Rattle.std.specs.Prelude.{◌≡◌};
+    ghost use Rattle.std.specs.IoError.{error_kind};
+    ghost use Rattle.cli_faults.specs.Status.{status_of, IsOutput, IsUnread, IsUnwritten, TellsKind};
+
+    /// The failure for an error on reading the file: out of memory if the error is of that kind, else that the file
+    /// cannot be read.
+    pub fn of_reading(error: &io::Error, file: &'a str) -> Failure<'a>
+        ensures told { IsUnread file.now result }
+        ensures kind { TellsKind (error_kind error.now) result }
+    {
+        match error.kind() {
+            ErrorKind::OutOfMemory => Failure::OutOfMemory,
+            _ => Failure::CannotRead(file),
+        }
+    }
+
+    /// The failure for an error on opening the file to write: out of memory if the error is of that kind, else that the
+    /// file cannot be written.
+    pub fn of_opening(error: &io::Error, file: &'a str) -> Failure<'a>
+        ensures told { IsUnwritten file.now result }
+        ensures kind { TellsKind (error_kind error.now) result }
+    {
+        match error.kind() {
+            ErrorKind::OutOfMemory => Failure::OutOfMemory,
+            _ => Failure::CannotWriteFile(file),
+        }
+    }
+
+    /// The failure for an error on writing the output: out of memory if the error is of that kind, else that the output
+    /// cannot be written. A buffer that cannot be allocated is out of memory.
+    pub fn of_printing(error: &io::Error) -> Failure<'a>
+        ensures told { IsOutput result }
+        ensures kind { TellsKind (error_kind error.now) result }
+    {
+        match error.kind() {
+            ErrorKind::OutOfMemory => Failure::OutOfMemory,
+            _ => Failure::CannotWriteOutput,
+        }
+    }
+
+    /// The exit code of the process: 1 for a fault or a token that names nothing, 2 for a usage error, 3 for an I/O
+    /// error or out of memory.
+    pub fn status(&self) -> u8
+        ensures { result ≡ status_of self.now }
+    {
+        match self {
+            Failure::Fault(_) | Failure::NoSuchRow => 1,
+            Failure::NoToken(_) | Failure::NoCode(_) => 2,
+            Failure::CannotRead(_)
+            | Failure::CannotWriteOutput
+            | Failure::CannotWriteFile(_)
+            | Failure::OutOfMemory => 3,
+        }
+    }
+}
+
+/// Converts the result of printing.
+///
+/// # Errors
+///
+/// The error of the writer as a failure: out of memory if it is of that kind, else that the output cannot be written.
+pub fn printed(outcome: io::Result<()>) -> Result<(), Failure<'static>>
+    ensures ok { IsOk result ↔ IsOk outcome }
+    ensures told { IfErr result IsOutput }
+    ensures kind { IfErr outcome (λ error. IfErr result (TellsKind (error_kind error))) }
+{
+    match outcome {
+        Ok(()) => Ok(()),
+        Err(error) => Err(Failure::of_printing(&error)),
+    }
+}
+
+impl From<Fault> for Failure<'_> {
+    ghost from_gives = { λ fault failure. failure ≡ Fault fault };
+
+    fn from(fault: Fault) -> Self {
+        Failure::Fault(fault)
+    }
+}
+
+impl fmt::Display for Failure<'_> {
+    ghost output = { λ failure. Some (failure_text failure) };
+
+    fn fmt<W: fmt::Write>(&self, f: &mut fmt::Formatter<W>) -> fmt::Result {
+        match self {
+            Failure::Fault(fault) => write!(f, "{fault}"),
+            Failure::NoSuchRow => write!(f, "no such row"),
+            Failure::NoToken(word) => {
+                write!(
+                    f,
+                    "error: HEX is one to eight hexadecimal digits, not '{word}'"
+                )
+            }
+            Failure::NoCode(word) => {
+                write!(
+                    f,
+                    "error: CODE is the number of a fault, which 'clim explain' lists, not '{word}'"
+                )
+            }
+            Failure::CannotRead(file) => write!(f, "error: cannot read {file}"),
+            Failure::CannotWriteOutput => write!(f, "error: cannot write output"),
+            Failure::CannotWriteFile(file) => write!(f, "error: cannot write {file}"),
+            Failure::OutOfMemory => write!(f, "error: out of memory"),
+        }
+    }
+}

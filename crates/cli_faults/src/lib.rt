@@ -1,0 +1,32 @@
+//! Reports faults: why a run of `clim` failed, its exit code, and what each fault and rule means.
+//!
+//! A [`Failure`] is the result of a run that failed. Its `Display` is the line for standard error, and
+//! [`Failure::status`] is the exit code. [`explain`] returns the texts of a rule, [`code_of_number`] the rule with a
+//! number, and [`all_codes`] all rules. [`print_explanation`] and [`print_list`] print what faults mean. Nothing here
+//! allocates.
+//!
+//! ```text
+//! let code = code_of_number(501)?;
+//! let told = explain(code);                // told.summary is "no NUL ends the text of an index into '#Strings'"
+//! let failure = Failure::from(fault);      // displayed as "fault 7 701 at 2114: BadSignature"
+//! failure.status() == 1
+//! printed(print_list(&mut out))?;          // Failure::CannotWriteOutput if the device is full
+//! ```
+#![tactic(auto)]
+
+mod cell_faults;
+mod explained;
+mod explanation_lines;
+mod failure;
+mod file_faults;
+mod numbered;
+mod order_faults;
+mod other_faults;
+mod stream_faults;
+mod table_faults;
+
+pub use explained::{Explanation, explain};
+pub use explanation_lines::{print_explanation, print_list};
+pub use failure::{Failure, printed};
+pub use numbered::{all_codes, code_of_number};
+pub use packed::FaultCode;

@@ -1,0 +1,60 @@
+//! `clim check`: checks a file against the rules of the standard.
+ghost use Rattle.std.specs.Prelude.{IfErr, OnOk};
+ghost use Rattle.cli_reports.specs.Checked.{IsWhole, demands_of, signature_bytes_of};
+ghost use Rattle.cli_reports.specs.Stops.{StopLeavesOutput, StopsWithin};
+ghost use Rattle.cli_reports.specs.Reported.{LeavesOutput, TellsFault};
+
+use crate::opened::{open, open_within};
+use crate::stop::Stop;
+use opening::BoundedError;
+use cli_faults::{Failure, printed};
+use std::alloc::Global;
+use std::io;
+use std::io::{BufWriter, Write};
+
+/// Prints `ok` if the bytes break no rule.
+pub(crate) fn run<W: Write>(
+    alloc: Global,
+    bytes: &[u8],
+    bare: bool,
+    out: &mut W,
+) -> Result<(), Failure<'static>>
+    ensures found { OnOk result (IsWhole bare bytes.now) }
+    ensures first { IfErr result (TellsFault (IsWhole bare bytes.now) (demands_of bare bytes.now)) }
+    ensures untouched { IfErr result (LeavesOutput out.old out.new) }
+{
+    open(bytes, bare)?;
+    printed(print(alloc, out))
+}
+
+/// Prints `ok` if the bytes break no rule. It checks at most `budget` bytes of signature blobs (II.23.2).
+///
+/// The bytes are those of a metadata root if they are `bare`, else of a file.
+///
+/// # Errors
+///
+/// `Failed` with the fault of the first rule that fails, or if memory runs out or the output cannot be written.
+/// `BudgetSpent` if more bytes of blobs must be checked; then all rules before signatures hold.
+pub fn check_within<W: Write>(
+    alloc: Global,
+    bytes: &[u8],
+    bare: bool,
+    budget: u64,
+    out: &mut W,
+) -> Result<(), Stop<'static>>
+    ensures found { OnOk result (IsWhole bare bytes.now) }
+    ensures first { IfErr result (StopsWithin budget (signature_bytes_of bare bytes.now) (IsWhole bare bytes.now) (demands_of bare bytes.now)) }
+    ensures untouched { IfErr result (StopLeavesOutput out.old out.new) }
+{
+    match open_within(bytes, bare, budget) {
+        Ok(_) => Ok(printed(print(alloc, out))?),
+        Err(BoundedError::Fault(fault)) => Err(Stop::Failed(Failure::Fault(fault))),
+        Err(BoundedError::BudgetSpent) => Err(Stop::BudgetSpent),
+    }
+}
+
+fn print<W: Write>(alloc: Global, out: &mut W) -> io::Result<()> {
+    let mut out = BufWriter::new(alloc, out)?;
+    writeln!(out, "ok")?;
+    out.flush()
+}

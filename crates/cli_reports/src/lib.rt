@@ -1,0 +1,34 @@
+//! Prints what `clim` reports about a file: its headers, whether it breaks a rule, its rows, its types, and what a
+//! token names. It also prints what a fault means.
+//!
+//! [`print_report`] opens the bytes in place and prints a [`Report`] on them. Its contract says what is true of the
+//! bytes if it prints, and what it reports otherwise. The form of the output is covered by tests. Rows, types and user
+//! strings are printed one per line. Each line is written in pieces, so the writer should have a buffer.
+//!
+//! ```text
+//! print_report(rt.alloc(), Report::Types, false, &file, &mut out)?; // a line for each type of a file
+//! check_within(rt.alloc(), &root, true, 1 << 20, &mut out)?; // checks at most 2^20 bytes of signatures
+//! ```
+#![tactic(auto)]
+
+mod check_file;
+mod existing;
+mod explain_fault;
+mod opened;
+mod print_root;
+mod print_token;
+mod print_types;
+mod report;
+mod row_lines;
+mod show_tables;
+mod shown;
+mod stop;
+mod table_lines;
+mod type_lines;
+mod user_string_line;
+
+pub use check_file::check_within;
+pub use explain_fault::explain;
+pub use opened::open;
+pub use report::{Report, print_report};
+pub use stop::Stop;

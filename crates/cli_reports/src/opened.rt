@@ -1,0 +1,43 @@
+//! Opens the bytes that were read.
+ghost use Rattle.std.specs.Prelude.{◌<◌, ◌≤◌, IfOk, IfErr, IsErrOf, IsOk};
+ghost use Rattle.cli_reports.specs.Checked.{IsWhole, IsOpened, demands_of, signature_bytes_of};
+ghost use Rattle.opening.specs.Views.{HasModel};
+ghost use Rattle.opening.specs.Within.{HoldBeforeSignatures, TellsFirst};
+ghost use Rattle.packed.specs.Demand.{FirstToFail};
+
+use opening::{BoundedError, View, open_image, open_image_within, open_root, open_root_within};
+use packed::Fault;
+
+/// Opens the metadata of a file, or of a metadata root if the bytes are `bare`. It does not allocate.
+///
+/// # Errors
+///
+/// The fault of the first rule that fails, with its offset in these bytes.
+pub fn open(bytes: &[u8], bare: bool) -> Result<View<'_>, Fault>
+    ensures found { IfOk result (λ _. IsWhole bare bytes.now) }
+    ensures root { IfOk result (λ view. IsOpened bare bytes.now view) }
+    ensures model { IfOk result (λ view. HasModel view) }
+    ensures only { IsWhole bare bytes.now → IsOk result }
+    ensures first { IfErr result (FirstToFail (demands_of bare bytes.now)) }
+{
+    if bare {
+        return open_root(bytes);
+    }
+    let (_, view) = open_image(bytes)?;
+    Ok(view)
+}
+
+/// The same, but at most `budget` bytes of signature blobs are checked.
+pub(crate) fn open_within(bytes: &[u8], bare: bool, budget: u64) -> Result<View<'_>, BoundedError>
+    ensures found { IfOk result (λ _. IsWhole bare bytes.now) }
+    ensures only { IsWhole bare bytes.now → signature_bytes_of bare bytes.now ≤ budget → IsOk result }
+    ensures first { IfErr result (TellsFirst (demands_of bare bytes.now)) }
+    ensures spent { IsErrOf result BoundedError.BudgetSpent → budget < signature_bytes_of bare bytes.now }
+    ensures before { IsErrOf result BoundedError.BudgetSpent → HoldBeforeSignatures (demands_of bare bytes.now) }
+{
+    if bare {
+        return open_root_within(bytes, budget);
+    }
+    let (_, view) = open_image_within(bytes, budget)?;
+    Ok(view)
+}

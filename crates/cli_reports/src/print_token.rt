@@ -1,0 +1,108 @@
+//! `clim token`: the row or the user string that a token names.
+ghost use Rattle.std.specs.Prelude.{◌≡◌, ◌≤◌, IfOk, IfErr, OnOk};
+ghost use Rattle.heap_entries.specs.Fill.{filled};
+ghost use Rattle.opening.specs.Views.{HasModel, row_count};
+ghost use Rattle.cli_reports.specs.Reported.{HasString, IsMet, IsNamed, LeavesOutput, TellsNoString, TellsNone, TellsUnnamed};
+ghost use Rattle.cli_reports.specs.declared.report.Report.TheVariants as report;
+
+use crate::opened::open;
+use heap_entries::{UserString, user_string};
+use opening::{Token, View};
+use cli_faults::{Failure, printed};
+use crate::existing::existing_row;
+use crate::row_lines::print_row;
+use std::alloc::{AllocError, Global};
+use std::io;
+use std::io::{BufWriter, Write};
+
+/// The high byte of a token that names an offset in `#US` (III.1.9).
+const USER_STRINGS: u32 = 0x70;
+
+/// The number of row numbers in a token, with that of null: the high byte is the table.
+const ROWS: u32 = 1 << 24;
+
+/// Prints what a token names.
+pub(crate) fn run<W: Write>(
+    alloc: Global,
+    bytes: &[u8],
+    bare: bool,
+    number: u32,
+    out: &mut W,
+) -> Result<(), Failure<'static>>
+    ensures found { OnOk result (IsMet (report.Token number) bare bytes.now) }
+    ensures first { IfErr result (TellsNone bare bytes.now number) }
+    ensures untouched { IfErr result (LeavesOutput out.old out.new) }
+{
+    let view = open(bytes, bare)?;
+    print_named(alloc, &view, number, out)
+}
+
+/// Prints what a number names in a view.
+#[tactic(auto, using(crate::proofs::Tokens::string_named, crate::proofs::Tokens::string_unnamed, crate::proofs::Tokens::row_named, crate::proofs::Tokens::output_unnamed, crate::proofs::Tokens::none_named))]
+fn print_named<W: Write>(
+    alloc: Global,
+    view: &View<'_>,
+    number: u32,
+    out: &mut W,
+) -> Result<(), Failure<'static>>
+    requires { HasModel view.now }
+    ensures found { OnOk result (IsNamed view.now number) }
+    ensures none { IfErr result (TellsUnnamed view.now number) }
+    ensures untouched { IfErr result (LeavesOutput out.old out.new) }
+{
+    if number / ROWS == USER_STRINGS {
+        return print_string_at(alloc, view, number % ROWS, out);
+    }
+    match existing_row(view, number) {
+        Some(token) => printed(print(alloc, view, token, out)),
+        None => Err(Failure::NoSuchRow),
+    }
+}
+
+fn print<W: Write>(alloc: Global, view: &View<'_>, token: Token, out: &mut W) -> io::Result<()>
+    requires first { 1 ≤ token.row }
+    requires last { token.row ≤ row_count view.now token.table }
+{
+    let mut out = BufWriter::new(alloc, out)?;
+    print_row(alloc, view, token.table, token.row, &mut out)?;
+    out.flush()
+}
+
+/// Prints the user string at an offset in the model's `#US` heap.
+fn print_string_at<W: Write>(
+    alloc: Global,
+    view: &View<'_>,
+    offset: u32,
+    out: &mut W,
+) -> Result<(), Failure<'static>>
+    ensures found { OnOk result (HasString view.now offset) }
+    ensures none { IfErr result (TellsNoString view.now offset) }
+    ensures untouched { IfErr result (LeavesOutput out.old out.new) }
+{
+    let user = filled_copy(alloc, view.user()).map_err(|_| Failure::OutOfMemory)?;
+    let Ok(string) = user_string(&user, offset) else {
+        return Err(Failure::NoSuchRow);
+    };
+    printed(print_user_string(alloc, &string, out))
+}
+
+/// A copy of bytes, padded with zeros to a multiple of four.
+fn filled_copy(alloc: Global, bytes: &[u8]) -> Result<Vec<u8>, AllocError>
+    ensures { IfOk result (λ copy. copy.items ≡ filled bytes.now) }
+{
+    let fill = (4 - bytes.len() % 4) % 4;
+    let mut copy = Vec::with_capacity(alloc, bytes.len() + fill)?;
+    copy.extend_from_slice(bytes)?;
+    copy.resize(bytes.len() + fill, 0)?;
+    Ok(copy)
+}
+
+fn print_user_string<W: Write>(
+    alloc: Global,
+    string: &UserString<'_>,
+    out: &mut W,
+) -> io::Result<()> {
+    let mut out = BufWriter::new(alloc, out)?;
+    crate::user_string_line::print_user_string(string, &mut out)?;
+    out.flush()
+}

@@ -1,0 +1,33 @@
+//! `clim types`: the types of a file.
+ghost use Rattle.std.specs.Prelude.{IfErr, OnOk};
+ghost use Rattle.cli_reports.specs.Checked.{IsWhole, demands_of};
+ghost use Rattle.cli_reports.specs.Reported.{LeavesOutput, TellsFault};
+
+use crate::opened::open;
+use opening::View;
+use cli_faults::{Failure, printed};
+use crate::type_lines::print_types;
+use std::alloc::Global;
+use std::io;
+use std::io::{BufWriter, Write};
+
+/// Prints a line for each type.
+pub(crate) fn run<W: Write>(
+    alloc: Global,
+    bytes: &[u8],
+    bare: bool,
+    out: &mut W,
+) -> Result<(), Failure<'static>>
+    ensures found { OnOk result (IsWhole bare bytes.now) }
+    ensures first { IfErr result (TellsFault (IsWhole bare bytes.now) (demands_of bare bytes.now)) }
+    ensures untouched { IfErr result (LeavesOutput out.old out.new) }
+{
+    let view = open(bytes, bare)?;
+    printed(print(alloc, &view, out))
+}
+
+fn print<W: Write>(alloc: Global, view: &View<'_>, out: &mut W) -> io::Result<()> {
+    let mut out = BufWriter::new(alloc, out)?;
+    print_types(view, &mut out)?;
+    out.flush()
+}

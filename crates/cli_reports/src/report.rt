@@ -1,0 +1,53 @@
+//! What can be printed of a file.
+ghost use Rattle.std.specs.Prelude.{IfErr, OnOk};
+ghost use Rattle.cli_reports.specs.Reported.{IsMet, LeavesOutput, Tells};
+
+use crate::{check_file, print_root, print_token, print_types, show_tables};
+use cli_faults::Failure;
+use std::alloc::Global;
+use std::io::Write;
+
+/// What to print of a file.
+#[derive(Clone, Copy, Debug, PartialEq, Eq)]
+pub enum Report {
+    /// The CLI header, the version and the stream headers (II.25.3.3, II.24.2.1).
+    Root,
+    /// `ok`, if no rule is broken.
+    Check,
+    /// The rows of all tables (II.22).
+    Show,
+    /// The types, one per line (II.22.37).
+    Types,
+    /// The row or the user string that this token names.
+    Token(u32),
+}
+
+/// Prints a report on the bytes of a metadata root if they are `bare`, else of a file. Nothing is printed before all
+/// rules that the report needs are checked.
+///
+/// # Errors
+///
+/// The fault of the first rule that fails; `NoSuchRow` if a token names nothing; out of memory, or the output cannot be
+/// written.
+pub fn print_report<W: Write>(
+    alloc: Global,
+    report: Report,
+    bare: bool,
+    bytes: &[u8],
+    out: &mut W,
+) -> Result<(), Failure<'static>>
+    // If it prints, the bytes meet the rules that the report needs.
+    ensures met { OnOk result (IsMet report bare bytes.now) }
+    // Otherwise it reports the first rule that fails, or that a token names nothing.
+    ensures first { IfErr result (Tells report bare bytes.now) }
+    // In these cases nothing is printed.
+    ensures untouched { IfErr result (LeavesOutput out.old out.new) }
+{
+    match report {
+        Report::Root => print_root::run(alloc, bytes, bare, out),
+        Report::Check => check_file::run(alloc, bytes, bare, out),
+        Report::Show => show_tables::run(alloc, bytes, bare, out),
+        Report::Types => print_types::run(alloc, bytes, bare, out),
+        Report::Token(number) => print_token::run(alloc, bytes, bare, number, out),
+    }
+}

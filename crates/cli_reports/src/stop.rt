@@ -1,0 +1,50 @@
+//! Why the program stopped early.
+ghost use Rattle.std.specs.Prelude.{◌≡◌, Some};
+ghost use Rattle.cli_reports.specs.Stops.{stop_text};
+ghost use Rattle.cli_reports.specs.declared.stop.Stop.TheVariants.{Failed};
+
+use cli_faults::Failure;
+use std::fmt;
+
+/// Why the program stopped early. `Display` gives the line for standard error, without the line feed.
+#[derive(Clone, Copy, Debug, PartialEq, Eq)]
+pub enum Stop<'a> {
+    /// It failed.
+    Failed(Failure<'a>),
+    /// The budget was spent before all signatures were checked.
+    BudgetSpent,
+}
+
+impl Stop<'_> {
+    ghost use Rattle.std.specs.Prelude.{◌≡◌};
+    ghost use Rattle.cli_reports.specs.Stops.{status_of_stop};
+
+    /// The exit code of the process: that of the failure, or 3 if the budget was spent.
+    pub fn status(&self) -> u8
+        ensures { result ≡ status_of_stop self.now }
+    {
+        match self {
+            Stop::Failed(failure) => failure.status(),
+            Stop::BudgetSpent => 3,
+        }
+    }
+}
+
+impl<'a> From<Failure<'a>> for Stop<'a> {
+    ghost from_gives = { λ failure stop. stop ≡ Failed failure };
+
+    fn from(failure: Failure<'a>) -> Self {
+        Stop::Failed(failure)
+    }
+}
+
+impl fmt::Display for Stop<'_> {
+    ghost output = { λ stop. Some (stop_text stop) };
+
+    fn fmt<W: fmt::Write>(&self, f: &mut fmt::Formatter<W>) -> fmt::Result {
+        match self {
+            Stop::Failed(failure) => write!(f, "{failure}"),
+            Stop::BudgetSpent => f.write_str("error: budget spent"),
+        }
+    }
+}

@@ -1,5 +1,0 @@
-use Rattle.copier.proofs.TestLaws.{body_decides}
-use Rattle.copier.proofs.same_body.equality_is_tested.Goals as goal
-
-pub returns : goal.returns
-returns c = body_decides

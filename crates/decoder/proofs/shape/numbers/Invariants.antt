@@ -1,7 +1,0 @@
-use Rattle.std.proofs.Common.{◌≡◌, ◌-◌}
-use Rattle.sig_grammar.specs.Reading.{many_at, number_at}
-use Rattle.decoder.proofs.Items.{with_front}
-use Rattle.decoder.proofs.shape.numbers.Given as goal
-
-abbrev pub invariant-loop-done : goal.invariant-loop-done
-invariant-loop-done l = with_front l.all.items (many_at number_at (l.count - l.done) l.rest) ≡ many_at number_at l.count l.bytes

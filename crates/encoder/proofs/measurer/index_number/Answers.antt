@@ -1,6 +1,0 @@
-use Rattle.std.proofs.Common.{sym}
-use Rattle.encoder.proofs.Indexes.{code_none}
-use Rattle.encoder.proofs.measurer.index_number.Goals as goal
-
-pub returns-in_err-number : goal.returns-in_err-number
-returns-in_err-number c = rw c.from_residual.ensures (sym (code_none c.args.token c.in_err-number.ensures.only))

@@ -1,2 +1,0 @@
-pub mod Signatures
-pub mod TypeTexts

@@ -1,5 +1,0 @@
-use Rattle.put.proofs.PutsLemmas.{puts_then}
-use Rattle.put.proofs.writer.Writer.put_table_stream.Goals as goal
-
-pub returns : goal.returns
-returns c = puts_then (puts_then c.put_table_header.ensures c.put_tables.ensures) c.put_fill.ensures

@@ -1,5 +1,0 @@
-pub mod Written
-pub mod Heading
-pub mod TableHeader
-pub mod Flat
-pub mod Root

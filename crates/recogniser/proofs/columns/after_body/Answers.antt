@@ -1,8 +1,0 @@
-use Rattle.std.proofs.Common.{sym}
-use Rattle.recogniser.specs.Skips.{skip_core}
-use Rattle.recogniser.proofs.Loops.{skip_body_end}
-use Rattle.recogniser.proofs.columns.after_body.Goals as goal
-
-pub returns-in_err-first : goal.returns-in_err-first
-returns-in_err-first c =
-    rw c.from_residual.ensures (sym (skip_body_end c.args.counts.now c.args.kind (skip_core c.args.counts.now c.args.depth) c.args.rest.bytes.now c.args.rest.bad c.in_err-first.ensures))

@@ -1,7 +1,0 @@
-use Rattle.std.proofs.lemmas.Result.{IfErr-weaker}
-use Rattle.reports.proofs.Outcomes.{tells_output}
-use Rattle.reports.proofs.show_tables.run.Goals as goal
-
-pub returns-clause-first : goal.returns-clause-first
-returns-clause-first g c = IfErr-weaker c.printed.result _ _ (λ failure is. tells_output _ failure is c.in_ok-view.ensures.found)
-    c.printed.ensures.told

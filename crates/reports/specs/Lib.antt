@@ -1,4 +1,0 @@
-pub mod Checked
-pub mod Heads
-pub mod Reported
-pub mod Stops

@@ -1,0 +1,12 @@
+pub mod CountLemmas
+pub mod HeadingLemmas
+pub mod HeldLemmas
+pub mod PutsLemmas
+pub mod RootLemmas
+pub mod RowLemmas
+pub mod TableLemmas
+pub mod FlatLemmas
+pub mod LawLemmas
+pub mod OverLemmas
+pub mod PositionLemmas
+pub mod ReadyLemmas

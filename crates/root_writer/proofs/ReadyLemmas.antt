@@ -1,0 +1,120 @@
+-- The cells of a valid model can be numbered.
+use Rattle.std.proofs.Common.{◌≡◌, ℕ, ◌+◌, ◌-◌, ◌<◌, ◌≤◌, Bool, List, [], ◌∷◌, ◌++◌, length, get_or, Some, None, sym, ap, subst, ◌∙◌, arith}
+use Rattle.std.specs.Prelude.{flat_map}
+use Rattle.std.specs.List.{All, AllByRecursion}
+use Rattle.std.proofs.lemmas.List.Elements.{All-from_get_or, All-from_recursion, recursion_from_All}
+use Rattle.table_schema.specs.declared.table.TableId.{TableId}
+use Rattle.table_schema.specs.declared.column.ColumnKind.{ColumnKind}
+use Rattle.table_schema.specs.declared.column.ColumnKind.TheVariants as kind
+use Rattle.table_schema.specs.declared.table.TableId.TheVariants.{Module}
+use Rattle.table_schema.specs.Tables.{tables}
+use Rattle.table_schema.specs.CellColumns.{cell_count}
+use Rattle.heap_entries.specs.Entries.{HasNoNul}
+use Rattle.sig_grammar.specs.Syntax.{Body}
+use Rattle.metadata.specs.Cell.{Cell, Number, Text, Bytes, Guid, Ref, Start, Sig}
+use Rattle.metadata.specs.Lookups.{HasRow}
+use Rattle.metadata.specs.Metadata.{Metadata, rows_of, count_in, cell_in}
+use Rattle.metadata.specs.Valid.{IsValid, IsValidCell, kind_at, nullable_at}
+use Rattle.canonical.specs.Pools.{used, texts_of}
+use Rattle.root_writer.proofs.PositionLemmas.{position_at}
+use Rattle.root_writer.specs.Numbered.{CanBeNumbered}
+
+-- ---- cells
+
+sig_ready : (model : Metadata) (k : ColumnKind) (nullable : Bool) (signature : Body) → IsValidCell model k nullable (Sig signature) → CanBeNumbered (Sig signature)
+sig_ready model (kind.Signature column) nullable signature valid = valid.held.1.limit
+sig_ready model kind.U8 nullable signature valid = absurd valid.of_kind
+sig_ready model kind.U16 nullable signature valid = absurd valid.of_kind
+sig_ready model kind.U32 nullable signature valid = absurd valid.of_kind
+sig_ready model kind.Padding nullable signature valid = absurd valid.of_kind
+sig_ready model kind.Text nullable signature valid = absurd valid.of_kind
+sig_ready model kind.Guid nullable signature valid = absurd valid.of_kind
+sig_ready model kind.Blob nullable signature valid = absurd valid.of_kind
+sig_ready model (kind.Row table) nullable signature valid = absurd valid.of_kind
+sig_ready model (kind.Coded coded) nullable signature valid = absurd valid.of_kind
+sig_ready model (kind.List member) nullable signature valid = absurd valid.of_kind
+
+cell_ready : (model : Metadata) (k : ColumnKind) (nullable : Bool) (cell : Cell) → ((table : TableId) → count_in model table ≤ 0xFFFFFF)
+    → IsValidCell model k nullable cell → CanBeNumbered cell
+cell_ready model k nullable (Number number) few valid = tt
+cell_ready model k nullable (Text text) few valid = tt
+cell_ready model k nullable (Bytes blob) few valid = valid.storable
+cell_ready model k nullable (Guid guid) few valid = tt
+cell_ready model k nullable (Ref None) few valid = tt
+cell_ready model k nullable (Ref (Some token)) few valid = omega (arith, valid.refers.1, few token.table)
+cell_ready model k nullable (Start start) few valid = tt
+cell_ready model k nullable (Sig signature) few valid = sig_ready model k nullable signature valid
+
+cell_text : (model : Metadata) (k : ColumnKind) (nullable : Bool) (cell : Cell) → IsValidCell model k nullable cell → AllByRecursion HasNoNul (texts_of cell)
+cell_text model k nullable (Number number) valid = tt
+cell_text model k nullable (Text text) valid = (valid.storable.0, tt)
+cell_text model k nullable (Bytes blob) valid = tt
+cell_text model k nullable (Guid guid) valid = tt
+cell_text model k nullable (Ref reference) valid = tt
+cell_text model k nullable (Start start) valid = tt
+cell_text model k nullable (Sig signature) valid = tt
+
+-- ---- rows
+
+-- what holds for each cell of a table, by row and index, holds for all its cells
+pub each_cell : (model : Metadata) → IsValid model → (P : Cell → Type 0) (table : TableId)
+    → ((k place : ℕ) → k < length (rows_of model table) → place < length (get_or (rows_of model table) k [])
+    → IsValidCell model (kind_at table place) (nullable_at table place) (get_or (get_or (rows_of model table) k []) place (Number 0))
+    → P (get_or (get_or (rows_of model table) k []) place (Number 0)))
+    → AllByRecursion (AllByRecursion P) (rows_of model table)
+each_cell model valid P table each =
+    let rows = rows_of model table in
+    recursion_from_All (AllByRecursion P) rows (All-from_get_or (AllByRecursion P) rows [] (λ k below.
+    let row = get_or rows k [] in
+    let back : k + 1 - 1 ≡ k = omega arith in
+    let there : (1 ≤ k + 1) × (k + 1 ≤ count_in model table) = (omega arith, omega (arith, below)) in
+    let long : length row ≡ cell_count table = ap (λ (i : ℕ). length (get_or rows i [])) (sym back) ∙ valid.long table (k + 1) there in
+    recursion_from_All P row (All-from_get_or P row (Number 0) (λ place within.
+    each k place below within (
+    subst (λ (i : ℕ). IsValidCell model (kind_at table place) (nullable_at table place) (get_or (get_or rows i []) place (Number 0))) back
+    (valid.cells table (k + 1) place there (omega (arith, long, within))))))))
+
+pub rows_ready : (model : Metadata) → IsValid model → (table : TableId) → AllByRecursion (AllByRecursion CanBeNumbered) (rows_of model table)
+rows_ready model valid table =
+    each_cell model valid CanBeNumbered table (λ k place row cell good.
+    cell_ready model (kind_at table place) (nullable_at table place) (get_or (get_or (rows_of model table) k []) place (Number 0)) valid.few good)
+
+pub ready_at : (model : Metadata) → IsValid model → (table : TableId) (row place : ℕ) → HasRow model table row → place < cell_count table
+    → CanBeNumbered (cell_in model table row place)
+ready_at model valid table row place there within =
+    cell_ready model (kind_at table place) (nullable_at table place) (cell_in model table row place) valid.few (valid.cells table row place there within)
+
+-- ---- what holds for all used values
+
+and_append : {Y : Type 0} (P : Y → Type 0) (xs ys : List Y) → AllByRecursion P xs → AllByRecursion P ys → AllByRecursion P (xs ++ ys)
+and_append P [] ys a b = b
+and_append P (x ∷ xs) ys a b = (a.0, and_append P xs ys a.1 b)
+
+all_flat : {X Y : Type 0} (P : Y → Type 0) (Q : X → Type 0) (f : X → List Y) → ((x : X) → Q x → AllByRecursion P (f x)) → (xs : List X)
+    → AllByRecursion Q xs → AllByRecursion P (flat_map f xs)
+all_flat P Q f each [] all = tt
+all_flat P Q f each (x ∷ xs) all = and_append P (f x) (flat_map f xs) (each x all.0) (all_flat P Q f each xs all.1)
+
+-- what holds for the cells of each table holds for those of all tables
+pub all_tables : (model : Metadata) → length tables ≡ 38 → IsValid model → (P : Cell → Type 0)
+    → ((table : TableId) → AllByRecursion (AllByRecursion P) (rows_of model table)) → AllByRecursion (AllByRecursion (AllByRecursion P)) model.tables
+all_tables model count valid P each =
+    recursion_from_All (AllByRecursion (AllByRecursion P)) model.tables (All-from_get_or (AllByRecursion (AllByRecursion P)) model.tables [] (λ k below.
+    subst (λ (i : ℕ). AllByRecursion (AllByRecursion P) (get_or model.tables i [])) (position_at count k (omega (arith, below, valid.tables)))
+    (each (get_or tables k Module))))
+
+pub all_used : (values : Cell → List (List ℕ)) (model : Metadata) (P : List ℕ → Type 0)
+    → AllByRecursion (AllByRecursion (AllByRecursion (λ cell. AllByRecursion P (values cell)))) model.tables → AllByRecursion P (used values model)
+unfolding used
+all_used values model P all =
+    let has = λ (cell : Cell). AllByRecursion P (values cell) in
+    all_flat P (AllByRecursion (AllByRecursion has)) (flat_map (flat_map values))
+    (λ rows in_rows. all_flat P (AllByRecursion has) (flat_map values) (λ cells in_row. all_flat P has values (λ cell h. h) cells in_row) rows in_rows)
+    model.tables all
+
+pub no_nul : (model : Metadata) → length tables ≡ 38 → IsValid model → All HasNoNul (used texts_of model)
+no_nul model count valid =
+    let has = λ (cell : Cell). AllByRecursion HasNoNul (texts_of cell) in
+    All-from_recursion HasNoNul (used texts_of model) (all_used texts_of model HasNoNul (all_tables model count valid has (λ table.
+    each_cell model valid has table (λ k place row cell good.
+    cell_text model (kind_at table place) (nullable_at table place) (get_or (get_or (rows_of model table) k []) place (Number 0)) good))))

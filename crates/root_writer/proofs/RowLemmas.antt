@@ -1,0 +1,66 @@
+-- The bytes of a row, column by column.
+use Rattle.std.proofs.Common.{◌≡◌, ℕ, zero, suc, ◌+◌, ◌-◌, ◌*◌, ◌/◌, ◌<◌, ◌≤◌, List, [], ◌∷◌, ◌++◌, length, get_or, take, drop, add-one, refl, sym, ap, ◌∙◌, append-nil, append_assoc, length-append, length-drop, arith}
+use Rattle.std.proofs.lemmas.List.{drop_all, drop_more}
+use Rattle.table_schema.specs.declared.column.Column.{Column}
+use Rattle.schema.specs.Sizes.{Sizes, width_of}
+use Rattle.schema.specs.LaidOut.{number_bytes, row_bytes, rows_bytes}
+use Rattle.root_writer.specs.Flat.{rows_in}
+use Rattle.root_writer.specs.Written.{Written, Puts}
+
+-- the bytes left to write complete the whole, and there is room for them
+pub record IsPutting (start now : Written) (left all : List ℕ) : Type 0 where
+  pub whole : now.bytes ++ left ≡ start.bytes ++ all
+  pub left_room : length left ≤ now.room
+  pub all_room : start.room + length start.bytes ≤ now.room + length now.bytes
+
+pub here_fits : (start now : Written) (here rest left all : List ℕ) → left ≡ here ++ rest → IsPutting start now left all → length here ≤ now.room
+here_fits start now here rest left all split putting = omega (arith, ap length split, length-append here rest, putting.left_room)
+
+pub put_next : (start now next : Written) (here rest left all : List ℕ) → left ≡ here ++ rest → Puts now next here → IsPutting start now left all
+    → IsPutting start next rest all
+put_next start now next here rest left all split puts putting = record {
+  whole = ap (λ list. list ++ rest) puts.bytes ∙ append_assoc now.bytes here rest ∙ ap (λ list. now.bytes ++ list) (sym split) ∙ putting.whole;
+  left_room = omega (arith, ap length split, length-append here rest, putting.left_room, puts.room);
+  all_room = omega (arith, ap length puts.bytes, length-append now.bytes here, puts.room, putting.all_room);
+}
+
+pub put_all : (start now : Written) (left all : List ℕ) → left ≡ [] → IsPutting start now left all → Puts start now all
+put_all start now left all none putting =
+    let whole : now.bytes ≡ start.bytes ++ all = sym (append-nil now.bytes) ∙ ap (λ list. now.bytes ++ list) (sym none) ∙ putting.whole in
+    record {
+      bytes = whole;
+      room = omega (arith, ap length whole, length-append start.bytes all, putting.all_room);
+    }
+
+pub length-number_bytes : (width number : ℕ) → length (number_bytes width number) ≡ width
+length-number_bytes zero number = refl
+length-number_bytes (suc width) number = ap suc (length-number_bytes width (number / 256))
+
+pub row_more : (sizes : Sizes) (columns : List Column) (numbers : List ℕ) (i : ℕ) (d : Column) → i < length columns → i < length numbers
+    → row_bytes sizes (drop i columns) (drop i numbers)
+    ≡ number_bytes (width_of sizes (get_or columns i d)) (get_or numbers i 0) ++ row_bytes sizes (drop (i + 1) columns) (drop (i + 1) numbers)
+row_more sizes columns numbers i d more_columns more_numbers =
+    ap (λ list. row_bytes sizes list (drop i numbers)) (drop_more columns i d more_columns)
+    ∙ ap (row_bytes sizes (get_or columns i d ∷ drop (i + 1) columns)) (drop_more numbers i 0 more_numbers)
+
+pub row_end : (sizes : Sizes) (columns : List Column) (numbers : List ℕ) (i : ℕ) → length columns ≤ i → row_bytes sizes (drop i columns) (drop i numbers) ≡ []
+row_end sizes columns numbers i past = ap (λ list. row_bytes sizes list (drop i numbers)) (drop_all i columns past)
+
+-- the next row of the remaining ones
+pub next_row : (sizes : Sizes) (columns : List Column) (width left next : ℕ) (numbers here rest : List ℕ) → left ≡ next + 1
+    → here ≡ take width numbers → rest ≡ drop width numbers
+    → rows_bytes sizes columns (rows_in width left numbers) ≡ row_bytes sizes columns here ++ rows_bytes sizes columns (rows_in width next rest)
+next_row sizes columns width left next numbers here rest more front back =
+    ap (λ count. rows_bytes sizes columns (rows_in width count numbers)) (more ∙ add-one next)
+    ∙ ap (λ list. row_bytes sizes columns list ++ rows_bytes sizes columns (rows_in width next (drop width numbers))) (sym front)
+    ∙ ap (λ list. row_bytes sizes columns here ++ rows_bytes sizes columns (rows_in width next list)) (sym back)
+
+pub no_row : (sizes : Sizes) (columns : List Column) (width left : ℕ) (numbers : List ℕ) → left ≡ 0 → rows_bytes sizes columns (rows_in width left numbers) ≡ []
+no_row sizes columns width left numbers none = ap (λ count. rows_bytes sizes columns (rows_in width count numbers)) none
+
+less : (total width next : ℕ) → total ≡ width * (next + 1) → total - width ≡ width * next
+less total width next all = omega arith
+
+-- the number of numbers after a row
+pub fewer : (width next : ℕ) (numbers rest : List ℕ) → rest ≡ drop width numbers → length numbers ≡ width * (next + 1) → length rest ≡ width * next
+fewer width next numbers rest back all = ap length back ∙ length-drop width numbers ∙ less (length numbers) width next all

@@ -1,0 +1,40 @@
+//! Numbers the cells of a canonical root, and writes its bytes in sequence (ECMA-335 II.24.2).
+//!
+//! A [`Numbering`] receives the cells in order of table, row and column. It pools GUIDs and blobs, signatures in their
+//! canonical encoding, and keeps one number per column. The strings heap is planned first, and each text receives the
+//! next of its indexes, so no text is looked up. The cells of a valid model give the pools and numbers of its canonical
+//! root ([`numberings_are_of_models`]). `table_plan` numbers the cells of owned tables, and `view_plan` those of a root
+//! that is read in place.
+//!
+//! A [`Writer`] has room for all bytes before it writes the first one, so only [`Writer::with_room`] can fail. Its
+//! calls write what `canonical` defines for a root ([`canonical_roots_are_put`]). They need the sizes of the streams, the
+//! row counts, and the numbers of the cells as one list ([`numbers_are_put`]).
+//!
+//! ```text
+//! let mut writer = Writer::with_room(alloc, len)?;
+//! writer.put_root(&parts);    // the version, sizes, layout, numbers and heaps: a `RootParts`
+//! let bytes = writer.into_bytes();
+//! ```
+#![tactic(auto)]
+
+mod heading;
+mod held;
+mod laws;
+mod numbering;
+mod numbering_laws;
+mod references;
+mod root_parts;
+mod sizes;
+mod table_header;
+mod table_rows;
+mod writer;
+
+pub use heading::heading_len;
+pub use held::HeldKinds;
+pub use laws::{canonical_roots_are_put, parts_are_canonical, table_headers_are_put};
+pub use numbering::Numbering;
+pub use numbering_laws::{cells_can_be_numbered, heaps_stay_too_long, numberings_are_of_models, numbers_are_put};
+pub use references::row_number;
+pub use root_parts::RootParts;
+pub use sizes::StreamSizes;
+pub use writer::Writer;

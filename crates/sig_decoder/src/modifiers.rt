@@ -1,0 +1,36 @@
+ghost use Rattle.std.specs.Prelude.{◌≡◌};
+ghost use Rattle.sig_grammar.specs.Reading.{modifiers_at, prefixes_at};
+ghost use Rattle.sig_decoder.specs.Gives.{Gives};
+
+use crate::error::SigError;
+use sig_grammar::{Modifier, Prefix};
+use sig_recogniser::{has_modifier, has_prefix, modifier, prefix};
+use std::alloc::Global;
+
+/// Builds the modifiers at the start.
+pub fn modifiers(alloc: Global, bytes: &[u8]) -> Result<(Vec<Modifier>, &[u8]), SigError>
+    ensures { Gives (λ x. (x.0.items, x.1.now)) result (modifiers_at bytes.now) }
+{
+    let mut all = Vec::new(alloc);
+    let mut rest = bytes;
+    while has_modifier(rest) {
+        let (one, next) = modifier(rest).ok_or(SigError::Bad)?;
+        all.push(one)?;
+        rest = next;
+    }
+    Ok((all, rest))
+}
+
+/// Builds the modifiers and PINNED at the start.
+pub fn prefixes(alloc: Global, bytes: &[u8]) -> Result<(Vec<Prefix>, &[u8]), SigError>
+    ensures { Gives (λ x. (x.0.items, x.1.now)) result (prefixes_at bytes.now) }
+{
+    let mut all = Vec::new(alloc);
+    let mut rest = bytes;
+    while has_prefix(rest) {
+        let (one, next) = prefix(rest).ok_or(SigError::Bad)?;
+        all.push(one)?;
+        rest = next;
+    }
+    Ok((all, rest))
+}

@@ -1,0 +1,8 @@
+use Rattle.std.proofs.Common.{◌≡◌, drop}
+use Rattle.sig_grammar.specs.Grammar.{list_parts, prefix_parts}
+use Rattle.sig_encoder.specs.Run.{run}
+use Rattle.sig_encoder.specs.Items.{parts_items}
+use Rattle.sig_encoder.proofs.items.visit_prefixes.Given as goal
+
+abbrev pub invariant-loop-prefix : goal.invariant-loop-prefix
+invariant-loop-prefix g l = run g.S.PartSink.step (parts_items (list_parts prefix_parts (drop l.prefix-index l.prefixes))) l.sink ≡ run g.S.PartSink.step (parts_items (list_parts prefix_parts l.prefixes)) l.fn.sink

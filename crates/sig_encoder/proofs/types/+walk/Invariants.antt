@@ -1,0 +1,14 @@
+use Rattle.std.proofs.Common.{◌≡◌, map, drop}
+use Rattle.sig_grammar.specs.Views.{type_of, types_from, slot_of, slots_from}
+use Rattle.sig_encoder.specs.Run.{run}
+use Rattle.sig_encoder.specs.Items.{types_items, slots_items, behind}
+use Rattle.sig_encoder.proofs.types.+walk.Given as goal
+
+abbrev pub invariant-visit_types-loop-of : goal.invariant-visit_types-loop-of
+invariant-visit_types-loop-of g l =
+    run g.S.PartSink.step (types_items (types_from (map type_of (drop l.of-index l.types))) l.depth) l.sink ≡ run g.S.PartSink.step (types_items (types_from (map type_of l.types)) l.depth) l.fn.sink
+
+abbrev pub invariant-visit_params-loop-place : goal.invariant-visit_params-loop-place
+invariant-visit_params-loop-place g l =
+    run g.S.PartSink.step (slots_items (slots_from (map slot_of (drop l.place l.params))) (behind l.sentinel l.place) l.depth) l.sink
+    ≡ run g.S.PartSink.step (slots_items (slots_from (map slot_of l.params)) l.sentinel l.depth) l.fn.sink

@@ -1,0 +1,4 @@
+pub mod Run
+pub mod Items
+pub mod Lengths
+pub mod Written

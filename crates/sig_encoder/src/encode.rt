@@ -1,0 +1,38 @@
+ghost use Rattle.std.specs.Prelude.{◌≡◌, ◌+◌, ◌≤◌, ◌++◌, IfOk, length, vec_len, vec_capacity};
+ghost use Rattle.sig_grammar.specs.Views.{body_of};
+ghost use Rattle.sig_grammar.specs.Spells.{IsSpellable, short};
+
+use crate::length::{DEPTH, spelled_len};
+use crate::writer::Writer;
+use sig_grammar::SigBody;
+use std::alloc::{AllocError, Global};
+use crate::laws::items_are_parts;
+use crate::bodies::visit_body;
+
+/// Appends the canonical encoding of a signature (II.23.2) to the bytes. The signature has an encoding, and
+/// the vector has the capacity for it. So this does not allocate and cannot fail.
+pub fn spell_into(bytes: Vec<u8>, body: &SigBody) -> Vec<u8>
+    requires spellable { IsSpellable (body_of body.now) }
+    requires room { vec_len bytes + length (short (body_of body.now)) ≤ vec_capacity bytes }
+    ensures { result.items ≡ bytes.items ++ short (body_of body.now) }
+{
+    items_are_parts();
+    let left = bytes.capacity() - bytes.len();
+    let mut writer = Writer { bytes, left };
+    let _ = visit_body(&mut writer, body, DEPTH);
+    writer.bytes
+}
+
+/// The canonical encoding of a signature that has one (II.23.2): each number and each index in its shortest
+/// form. [`spelled_len`] says whether a signature has one.
+///
+/// # Errors
+///
+/// Fails only if it is out of memory. There is one allocation, with the length of the encoding.
+pub fn encode_body(alloc: Global, body: &SigBody) -> Result<Vec<u8>, AllocError>
+    requires { IsSpellable (body_of body.now) }
+    ensures { IfOk result (λ bytes. bytes.items ≡ short (body_of body.now)) }
+{
+    let bytes = Vec::with_capacity(alloc, spelled_len(body).unwrap())?;
+    Ok(spell_into(bytes, body))
+}

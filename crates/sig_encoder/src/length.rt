@@ -1,0 +1,31 @@
+ghost use Rattle.std.specs.Prelude.{◌≡◌, ◌↔◌, IfSome, IsSome, length};
+ghost use Rattle.sig_grammar.specs.Views.{body_of};
+ghost use Rattle.sig_grammar.specs.Spells.{IsSpellable, short};
+
+use crate::measurer::Measurer;
+use sig_grammar::SigBody;
+use crate::laws::items_are_parts;
+use crate::bodies::visit_body;
+
+/// The greatest depth to which types may nest.
+pub(crate) const DEPTH: u8 = 128;
+
+/// The largest number of bytes of a blob.
+const ROOM: usize = (1 << 29) - 1;
+
+/// The number of bytes of a signature's canonical encoding (II.23.2); `None` if no bytes encode it.
+///
+/// A signature has an encoding if and only if all of this holds. The grammar knows the kind of each method, and
+/// allows each SENTINEL and each array shape. Types nest at most 128 deep. Unsigned numbers and lower bounds fit
+/// 29 bits. Each index names TypeDef, TypeRef or TypeSpec, and a row below 2^27. The canonical encoding has fewer
+/// than 2^29 bytes. This function makes one traversal, at most 128 types deep, and does not allocate. It stops
+/// when one of these conditions fails.
+pub fn spelled_len(body: &SigBody) -> Option<usize>
+    ensures spellable { IsSome result ↔ IsSpellable (body_of body.now) }
+    ensures length { IfSome result (λ count. count ≡ length (short (body_of body.now))) }
+{
+    items_are_parts();
+    let mut measurer = Measurer { left: ROOM };
+    visit_body(&mut measurer, body, DEPTH)?;
+    Some(ROOM - measurer.left)
+}

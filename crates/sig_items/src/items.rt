@@ -1,0 +1,101 @@
+ghost use Rattle.std.specs.Prelude.{◌≡◌, IfSome, IsSomeAnd};
+ghost use Rattle.sig_grammar.specs.Syntax.{Body};
+ghost use Rattle.sig_grammar.specs.Spells.{Spells};
+ghost use Rattle.sig_items.specs.ItemsOf.{items_of};
+ghost use Rattle.sig_items.specs.Places.{place_at, place_depth};
+ghost use Rattle.sig_items.specs.Steps.{told, IsWithin};
+
+use crate::bodies::body;
+use crate::follow::followed;
+use crate::frames::Frames;
+use crate::item::Item;
+use crate::methods::method;
+use crate::place::Place;
+use crate::shape::{low_bound, low_count, shape, size};
+use crate::step::Step;
+use crate::types::{local, marked, ret, slot, target, typed};
+use sig_recogniser::recognise;
+use sig_values::signatures_are_read;
+use std::marker::Model;
+use table_schema::SigKind;
+
+/// The first item at a position.
+#[tactic(auto, using(crate::proofs::Heads::place_method))]
+fn first_item(place: Place, bytes: &[u8]) -> Option<Step<'_>>
+    ensures told { told result ≡ place_at place bytes.now }
+    ensures within { IfSome result (IsWithin (place_depth place)) }
+{
+    match place {
+        Place::Body(kind) => body(bytes, kind),
+        Place::Method { depth } => method(bytes, true, depth),
+        Place::Typed { depth } => typed(bytes, depth),
+        Place::Target { depth } => target(bytes, depth),
+        Place::Slot { depth } => slot(bytes, depth),
+        Place::Ret { depth } => ret(bytes, depth),
+        Place::Local { depth } => local(bytes, depth),
+        Place::Marked { depth } => marked(bytes, depth),
+        Place::Shape => shape(bytes),
+        Place::Sizes { further, rank } => size(bytes, further, rank),
+        Place::LowCount { rank } => low_count(bytes, rank),
+        Place::LowBounds { further } => low_bound(bytes, further),
+    }
+}
+
+/// The items of a signature (II.23.2), in encoded order, read from its bytes. It does not allocate.
+///
+/// Contracts see the list of the items that remain.
+#[derive(Drop)]
+pub struct Items<'a> {
+    bytes: &'a [u8],
+    place: Option<Place>,
+    frames: Frames,
+}
+
+impl<'a> Model for Items<'a> {
+    ghost use Rattle.std.specs.Prelude.{List};
+    ghost use Rattle.sig_items.specs.declared.item.Item.{Item};
+    ghost use Rattle.sig_items.specs.Steps.{items_left, IsReady};
+
+    ghost Value = { List Item };
+
+    ghost view = { λ s. items_left s.place s.frames s.bytes.now };
+
+    ghost invariant = { λ s. IsReady s.place s.frames s.bytes.now };
+}
+
+impl<'a> Items<'a> {
+    /// The items of the signature that all the bytes together encode, in a column of this kind; `None` if they
+    /// encode none. The row of a type index need not exist.
+    pub fn of(bytes: &'a [u8], kind: SigKind) -> Option<Items<'a>>
+        ensures found { IfSome result (λ items. (signature : Body) × Spells kind signature bytes.now × (items ≡ items_of signature)) }
+        ensures only { (signature : Body) → Spells kind signature bytes.now → IsSomeAnd result (λ items. items ≡ items_of signature) }
+    {
+        signatures_are_read();
+        if !recognise(bytes, kind) {
+            return None;
+        }
+        Some(Items {
+            bytes,
+            place: Some(Place::Body(kind)),
+            frames: Frames::new(),
+        })
+    }
+}
+
+impl<'a> Iterator for Items<'a> {
+    ghost use Rattle.std.specs.Iterator.{YieldsFirst, item_count};
+
+    type Item = Item;
+
+    ghost next_gives = { YieldsFirst (λ s. s) };
+
+    ghost remaining = { item_count (λ s. s) };
+
+    /// The next item; `None` after the last. It reads only the bytes of that item.
+    fn next(&mut self) -> Option<Item> {
+        let step = first_item(self.place?, self.bytes)?;
+        self.place = followed(&mut self.frames, step);
+        self.bytes = step.rest;
+        Some(step.item)
+    }
+}

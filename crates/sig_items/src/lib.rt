@@ -1,0 +1,27 @@
+//! Iterates over the items of signatures (ECMA-335 II.23.2). It does not allocate.
+//!
+//! [`Items`] reads the bytes of a blob that encode a signature. It returns one [`Item`] at a time, in
+//! encoded order: heads with their counts, types, modifiers, shapes. Each step reads the bytes of one item
+//! and otherwise takes constant time. A fixed array holds what remains to be read, because types nest
+//! at most 128 deep. The grammar is that of `sig_values`.
+//!
+//! ```text
+//! // a field of a 4-byte integer
+//! Items::of(&[0x06, 0x08], SigKind::Field)? // gives Item::Field, Item::Simple(Element::I4)
+//! ```
+#![tactic(auto)]
+
+mod bodies;
+mod follow;
+mod frames;
+mod item;
+mod items;
+mod methods;
+mod place;
+mod shape;
+mod step;
+mod types;
+
+pub use item::{Item, MethodHead};
+pub use items::Items;
+pub use table_schema::{SigKind, Token};

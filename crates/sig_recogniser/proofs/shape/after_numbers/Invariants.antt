@@ -1,0 +1,6 @@
+use Rattle.std.proofs.Common.{◌≡◌, ◌-◌}
+use Rattle.sig_recogniser.specs.Skips.{left, skip_many, skip_number}
+use Rattle.sig_recogniser.proofs.shape.after_numbers.Given as goal
+
+abbrev pub invariant-loop-done : goal.invariant-loop-done
+invariant-loop-done l = skip_many skip_number (l.count - l.done) (left l.rest) ≡ skip_many skip_number l.count (left l.fn.rest)

@@ -1,0 +1,67 @@
+ghost use Rattle.std.specs.Prelude.{◌≡◌, option_map, ◌∷◌, []};
+ghost use Rattle.std.specs.List.{flat_map};
+ghost use Rattle.sig_grammar.specs.Parts.{part_tokens};
+ghost use Rattle.sig_grammar.specs.Grammar.{prefix_parts};
+ghost use Rattle.sig_recogniser.specs.Skips.{left, noted, skip_index, skip_modifiers, skip_prefixes};
+
+use crate::rest::Rest;
+use sig_grammar::{Prefix, names_row};
+use crate::items::{has_modifier, has_prefix, modifier, prefix};
+use crate::front::index;
+use table_schema::Token;
+
+/// The first token without a row, after one more token.
+fn first_bad(bad: Option<Token>, token: Token, counts: &[u32; 45]) -> Option<Token>
+    ensures { result ≡ noted counts.now bad (token ∷ []) }
+{
+    if bad.is_some() || names_row(token, counts) {
+        return bad;
+    }
+    Some(token)
+}
+
+/// The same, after one more modifier or PINNED.
+fn first_bad_with(bad: Option<Token>, prefix: Prefix, counts: &[u32; 45]) -> Option<Token>
+    ensures { result ≡ noted counts.now bad (flat_map part_tokens (prefix_parts prefix)) }
+{
+    match prefix {
+        Prefix::Mod(modifier) => first_bad(bad, modifier.of, counts),
+        Prefix::Pinned => bad,
+    }
+}
+
+/// The remainder after a type index (II.23.2.8).
+#[tactic(auto, unfolding(crate::specs::Skips::skip_index))]
+pub fn after_index<'a>(rest: Rest<'a>, counts: &[u32; 45]) -> Option<Rest<'a>>
+    ensures { option_map left result ≡ skip_index counts.now (left rest.entry) }
+{
+    let (token, bytes) = index(rest.bytes)?;
+    let bad = first_bad(rest.bad, token, counts);
+    Some(Rest { bytes, bad })
+}
+
+/// The remainder after the modifiers at the start (II.23.2.7).
+pub fn after_modifiers<'a>(rest: Rest<'a>, counts: &[u32; 45]) -> Option<Rest<'a>>
+    ensures { option_map left result ≡ skip_modifiers counts.now (left rest.entry) }
+{
+    let mut rest = rest;
+    while has_modifier(rest.bytes) {
+        let (modifier, bytes) = modifier(rest.bytes)?;
+        let bad = first_bad(rest.bad, modifier.of, counts);
+        rest = Rest { bytes, bad };
+    }
+    Some(rest)
+}
+
+/// The remainder after the modifiers and PINNED at the start (II.23.2.6).
+pub fn after_prefixes<'a>(rest: Rest<'a>, counts: &[u32; 45]) -> Option<Rest<'a>>
+    ensures { option_map left result ≡ skip_prefixes counts.now (left rest.entry) }
+{
+    let mut rest = rest;
+    while has_prefix(rest.bytes) {
+        let (prefix, bytes) = prefix(rest.bytes)?;
+        let bad = first_bad_with(rest.bad, prefix, counts);
+        rest = Rest { bytes, bad };
+    }
+    Some(rest)
+}

@@ -1,0 +1,62 @@
+ghost use Rattle.std.specs.Prelude.{◌≡◌, IsTrue, ◌↔◌, IfSome, Some};
+ghost use Rattle.sig_grammar.specs.Syntax.{Body};
+ghost use Rattle.sig_grammar.specs.Spells.{Spells, tokens, first_bad};
+
+use crate::columns::after_body;
+use crate::rest::Rest;
+use sig_values::signatures_are_read;
+use table_schema::{SigKind, Token};
+
+/// The greatest depth to which types may nest.
+const DEPTH: u8 = 128;
+
+/// The least number of bytes that is too large for a blob.
+const TOO_MANY: usize = 1 << 29;
+
+/// Tables without rows, for recognition alone, which ignores rows.
+const NO_ROWS: [u32; 45] = [0; 45];
+
+/// The first type index, in encoded order, whose row does not exist in its table (II.23.2.8). All the bytes
+/// together encode the signature, in a column of this kind. `Some(None)` means that each row exists, and
+/// `None` that the bytes encode no such signature.
+///
+/// `counts` gives the number of rows of each table by table number. One pass, and it does not allocate. It
+/// returns what [`recognise`] and [`index_of_first_bad`] return in two passes.
+pub fn recognise_first_bad(bytes: &[u8], kind: SigKind, counts: &[u32; 45]) -> Option<Option<Token>>
+    ensures found { IfSome result (λ bad. (signature : Body) × Spells kind signature bytes.now × (bad ≡ first_bad counts.now (tokens signature))) }
+    ensures only { (signature : Body) → Spells kind signature bytes.now → result ≡ Some (first_bad counts.now (tokens signature)) }
+{
+    signatures_are_read();
+    if bytes.len() >= TOO_MANY {
+        return None;
+    }
+    let rest = after_body(Rest { bytes, bad: None }, kind, DEPTH, counts)?;
+    if !rest.bytes.is_empty() {
+        return None;
+    }
+    Some(rest.bad)
+}
+
+/// Whether all the bytes together encode a signature that a column of this kind holds.
+///
+/// One pass, and it does not allocate. Packed numbers may be longer than necessary. Types nest at most 128
+/// deep. 2^29 bytes or more encode nothing. The row of a type index need not exist.
+pub fn recognise(bytes: &[u8], kind: SigKind) -> bool
+    ensures spelled { IsTrue result ↔ ((signature : Body) × Spells kind signature bytes.now) }
+    // No bytes encode two signatures.
+    ensures one { (first second : Body) → Spells kind first bytes.now → Spells kind second bytes.now → first ≡ second }
+{
+    signatures_are_read();
+    recognise_first_bad(bytes, kind, &NO_ROWS).is_some()
+}
+
+/// The first type index, in encoded order, whose row does not exist in its table (II.23.2.8); `None` if
+/// each row exists.
+///
+/// `counts` gives the number of rows of each table by table number. One pass, and it does not allocate.
+pub fn index_of_first_bad(bytes: &[u8], kind: SigKind, counts: &[u32; 45]) -> Option<Token>
+    requires { (signature : Body) × Spells kind signature bytes.now }
+    ensures { (signature : Body) → Spells kind signature bytes.now → result ≡ first_bad counts.now (tokens signature) }
+{
+    recognise_first_bad(bytes, kind, counts)?
+}

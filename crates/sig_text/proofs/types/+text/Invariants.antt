@@ -1,0 +1,26 @@
+use Rattle.std.proofs.Common.{◌≡◌, ◌+◌, ◌*◌}
+use Rattle.sig_text.proofs.types.+text.Given as goal
+
+abbrev pub decreases-core : goal.decreases-core
+decreases-core g l = 8 * l.depth
+
+abbrev pub decreases-content : goal.decreases-content
+decreases-content g l = 8 * l.depth + 1
+
+abbrev pub decreases-slot : goal.decreases-slot
+decreases-slot g l = 8 * l.depth + 2
+
+abbrev pub decreases-around : goal.decreases-around
+decreases-around g l = 8 * l.depth + 3
+
+abbrev pub decreases-listed : goal.decreases-listed
+decreases-listed g l = 8 * l.depth + 3
+
+abbrev pub decreases-instance : goal.decreases-instance
+decreases-instance g l = 8 * l.depth + 4
+
+abbrev pub decreases-method : goal.decreases-method
+decreases-method g l = 8 * l.depth + 4
+
+abbrev pub invariant-listed-loop-done : goal.invariant-listed-loop-done
+invariant-listed-loop-done g l = g.S.TextSink.refused l.sink ≡ g.S.TextSink.refused l.fn.sink

@@ -1,0 +1,21 @@
+use Rattle.sig_values.proofs.Numbers.{NumbersAreRead}
+use Rattle.sig_values.proofs.Readers.{IsBytes-from_each}
+use Rattle.sig_values.proofs.Whole.{spelled_read, read_spelled, one_signature}
+use Rattle.sig_values.proofs.laws.signatures_are_read.Goals as goal
+
+known : goal.After-numbers_are_read → NumbersAreRead
+known c = record {
+  unsigned_found = c.numbers_are_read.ensures.unsigned;
+  unsigned_again = c.numbers_are_read.ensures.unsigned_only;
+  signed_found = c.numbers_are_read.ensures.signed;
+  signed_again = c.numbers_are_read.ensures.signed_only;
+}
+
+pub returns-clause-read : goal.returns-clause-read
+returns-clause-read c = spelled_read (known c)
+
+pub returns-clause-spelled : goal.returns-clause-spelled
+returns-clause-spelled c = λ kind signature bytes each limit read. read_spelled (known c) kind signature bytes (IsBytes-from_each bytes each) limit read
+
+pub returns-clause-one : goal.returns-clause-one
+returns-clause-one c = one_signature (known c)

@@ -1,9 +1,0 @@
-use Rattle.std.proofs.Common.{◌≡◌, drop, [], ◌∷◌}
-use Rattle.sig_grammar.specs.Parts.{signed}
-use Rattle.sig_grammar.specs.Grammar.{list_parts}
-use Rattle.walk.specs.Run.{run}
-use Rattle.walk.specs.Items.{parts_items}
-use Rattle.walk.proofs.items.visit_bounds.Given as goal
-
-abbrev pub invariant-loop-bound : goal.invariant-loop-bound
-invariant-loop-bound g l = run g.S.PartSink.step (parts_items (list_parts (λ z. signed z ∷ []) (drop l.bound-index l.low))) l.sink ≡ run g.S.PartSink.step (parts_items (list_parts (λ z. signed z ∷ []) l.low)) l.fn.sink

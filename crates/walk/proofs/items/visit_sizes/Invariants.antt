@@ -1,9 +1,0 @@
-use Rattle.std.proofs.Common.{◌≡◌, drop, [], ◌∷◌}
-use Rattle.sig_grammar.specs.Parts.{number}
-use Rattle.sig_grammar.specs.Grammar.{list_parts}
-use Rattle.walk.specs.Run.{run}
-use Rattle.walk.specs.Items.{parts_items}
-use Rattle.walk.proofs.items.visit_sizes.Given as goal
-
-abbrev pub invariant-loop-size : goal.invariant-loop-size
-invariant-loop-size g l = run g.S.PartSink.step (parts_items (list_parts (λ n. number n ∷ []) (drop l.size-index l.sizes))) l.sink ≡ run g.S.PartSink.step (parts_items (list_parts (λ n. number n ∷ []) l.sizes)) l.fn.sink

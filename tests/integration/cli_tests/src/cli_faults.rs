@@ -1,0 +1,74 @@
+//! Tests of `cli_faults`: what `clim explain` prints.
+
+use crate::runs::answer;
+use std::test::Fail;
+
+#[test]
+fn explains_a_fault(rt: HostRuntime) -> Result<(), Fail> {
+    let guid = "\
+504 BadGuid: no GUID at an index into '#GUID'
+
+- Rule: An index into '#GUID' is 0 for null, or the number of a 16-byte entry within the heap,
+  counted from 1.
+- Section: II.24.2.5
+- Offset: The cell with the index.
+- Usual cause: An index that counts bytes instead of entries.
+";
+    let limit = "\
+101 TooLong: the input has more than 2^30 bytes
+
+- Rule: A file, or a root with '--bare', has at most 2^30 bytes. This limit is clim's own.
+- Offset: 0, the first byte.
+";
+    for (code, told) in [("504", guid), ("101", limit)] {
+        let (status, out, err) = answer(&rt, &["clim", "explain", code])?;
+        assert_eq!(rt; status, 0);
+        assert_eq!(rt; out.as_str(), told);
+        assert!(rt; err.is_empty());
+    }
+    Ok(())
+}
+
+/// Each line of the list is the first line of what is told of its fault.
+#[test]
+fn lists_all_faults(rt: HostRuntime) -> Result<(), Fail> {
+    let (status, list, err) = answer(&rt, &["clim", "explain"])?;
+    assert_eq!(rt; status, 0);
+    assert!(rt; err.is_empty());
+    assert!(rt;
+        list.starts_with("101 TooLong: the input has more than 2^30 bytes\n102 DosHeader: ")
+    );
+    assert!(rt; list.ends_with("\n901 TooLarge: the canonical root is too long\n"));
+    let mut count = 0u32;
+    for line in list.lines() {
+        count = count.saturating_add(1);
+        let code = line.get(..3).ok_or("no number")?;
+        let (status, out, _) = answer(&rt, &["clim", "explain", code])?;
+        assert_eq!(rt; status, 0, "{code}");
+        assert_eq!(rt; out.lines().next(), Some(line));
+        assert!(rt; out.contains("\n\n- Rule: "));
+        assert!(rt; out.contains("\n- Offset: "));
+        for told in out.lines() {
+            assert!(rt; told.len() <= 100, "{told}");
+        }
+    }
+    assert_eq!(rt; count, 45);
+    Ok(())
+}
+
+#[test]
+fn refuses_what_is_no_fault(rt: HostRuntime) -> Result<(), Fail> {
+    for code in [
+        "", "50", "5010", "+50", "0501", "500", "999", "0x1", "BadGuid", "\u{e9}1",
+    ] {
+        let (status, out, err) = answer(&rt, &["clim", "explain", code])?;
+        assert_eq!(rt; status, 2, "{code}");
+        assert!(rt; out.is_empty());
+        assert!(rt;
+            err.starts_with(
+                "error: CODE is the number of a fault, which 'clim explain' lists, not '"
+            )
+        );
+    }
+    Ok(())
+}
