@@ -103,16 +103,16 @@ pub enum Implementation<'m> {
 }
 
 impl<'m, W: Row<'m>> CodedRow<'m, W> for Implementation<'m> {
-    ghost use Rattle.assembly_records.specs.declared.named_types.Implementation.TheVariants as a_place;
+    ghost use Rattle.assembly_records.specs.declared.named_types.Implementation.TheVariants as a_cell_index;
 
     ghost index = { coded.Implementation };
 
-    ghost table_of = { elim [ a_place.File r ↦ table.File | a_place.AssemblyRef r ↦ table.AssemblyRef | a_place.ExportedType r ↦ table.ExportedType ] };
+    ghost table_of = { elim [ a_cell_index.File r ↦ table.File | a_cell_index.AssemblyRef r ↦ table.AssemblyRef | a_cell_index.ExportedType r ↦ table.ExportedType ] };
 
     ghost fields = { elim [
-      | a_place.File r ↦ ⟦<File<'m> as FromRow<'m, W>>⟧.fields r
-      | a_place.AssemblyRef r ↦ ⟦<AssemblyRef<'m> as FromRow<'m, W>>⟧.fields r
-      | a_place.ExportedType r ↦ ⟦<ExportedType<'m> as FromRow<'m, W>>⟧.fields r
+      | a_cell_index.File r ↦ ⟦<File<'m> as FromRow<'m, W>>⟧.fields r
+      | a_cell_index.AssemblyRef r ↦ ⟦<AssemblyRef<'m> as FromRow<'m, W>>⟧.fields r
+      | a_cell_index.ExportedType r ↦ ⟦<ExportedType<'m> as FromRow<'m, W>>⟧.fields r
     ] };
 
     fn coded_id() -> Coded

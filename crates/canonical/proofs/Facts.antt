@@ -6,7 +6,7 @@ use Rattle.table_schema.specs.declared.table.TableId.{TableId}
 use Rattle.table_schema.specs.declared.table.TableId.TheVariants.{Module}
 use Rattle.table_schema.specs.declared.coded.Coded.{Coded}
 use Rattle.table_schema.specs.declared.column.SigKind.{SigKind}
-use Rattle.table_schema.specs.Tables.{tables, position_of, table_number}
+use Rattle.table_schema.specs.Tables.{tables, table_index_of, table_number}
 use Rattle.table_schema.specs.Columns.{columns_of, column_at, key_of, IsReference, MayBeNull}
 use Rattle.table_schema.specs.CodedIndexes.{tables_of, tag_bits}
 use Rattle.schema.specs.LaidOut.{number_bytes, bits_of}
@@ -17,28 +17,28 @@ use Rattle.heap_entries.specs.Entries.{HasNoNul, IsBlob, IsGuid, IsText}
 use Rattle.heap_pools.specs.GuidHeap.{guid_heap, guid_index}
 use Rattle.heap_pools.specs.TextHeap.{holders, text_heap, text_index}
 use Rattle.sig_grammar.specs.Syntax.{Body}
-use Rattle.sig_grammar.specs.Spells.{Holds, Spells, IsSpellable, short}
+use Rattle.sig_grammar.specs.Encodes.{Holds, Encodes, IsEncodable, short}
 
 pub record Facts : Type 0 where
-  pub text : (used : List (List ℕ)) (text rest : List ℕ) → Contains used text → HasNoNul text → IsUtf8 text
-      → IsText (text_heap (holders used) ++ rest) (text_index (holders used) text) text
-  pub blob : (entries : List (List ℕ)) (blob rest : List ℕ) → (blob ≡ []) ⊎ Contains entries blob → length blob < 2 ^ 29
-      → IsBlob (blob_heap entries ++ rest) (blob_index entries blob) blob
-  pub guid : (entries : List (List ℕ)) (guid rest : List ℕ) → Contains entries guid → All (λ entry. length entry ≡ 16) entries
-      → IsGuid (guid_heap entries ++ rest) (guid_index entries (Some guid)) (Some guid)
+  pub text : (used : List (List ℕ)) (text tail : List ℕ) → Contains used text → HasNoNul text → IsUtf8 text
+      → IsText (text_heap (holders used) ++ tail) (text_index (holders used) text) text
+  pub blob : (entries : List (List ℕ)) (blob tail : List ℕ) → (blob ≡ []) ⊎ Contains entries blob → length blob < 2 ^ 29
+      → IsBlob (blob_heap entries ++ tail) (blob_index entries blob) blob
+  pub guid : (entries : List (List ℕ)) (guid tail : List ℕ) → Contains entries guid → All (λ entry. length entry ≡ 16) entries
+      → IsGuid (guid_heap entries ++ tail) (guid_index entries (Some guid)) (Some guid)
   pub pooled : (used : List (List ℕ)) (value : List ℕ) → Contains used value → 0 < length value → Contains (distinct used) value
   pub count : length tables ≡ 38
-  pub position : (table : TableId) → position_of table < 38
-  pub stand : (table : TableId) → get_or tables (position_of table) Module ≡ table
-  pub rise : (lower higher : TableId) → position_of lower < position_of higher → table_number lower < table_number higher
+  pub table_index : (table : TableId) → table_index_of table < 38
+  pub stand : (table : TableId) → get_or tables (table_index_of table) Module ≡ table
+  pub rise : (lower higher : TableId) → table_index_of lower < table_index_of higher → table_number lower < table_number higher
   pub key : (table : TableId) (column : ℕ) → key_of table ≡ Some column → column < length (columns_of table)
   pub reference : (table : TableId) (column : ℕ) → key_of table ≡ Some column → IsReference (column_at table column)
   pub null : (table : TableId) (column : ℕ) → column < length (columns_of table) → (column_at table column).nullable ≡ true → MayBeNull (column_at table column)
   pub few : (coded : Coded) → length (tables_of coded) ≤ 2 ^ tag_bits coded
   pub narrow : (coded : Coded) → 2 ^ tag_bits coded * 2 ^ (16 - tag_bits coded) ≡ 2 ^ 16
   pub wide : (coded : Coded) → 2 ^ tag_bits coded * 2 ^ 24 ≤ 2 ^ 32
-  pub spelled : (width number : ℕ) → number < 256 ^ width → IsNumber width (number_bytes width number) number
-  pub spells : (kind : SigKind) (signature : Body) → Holds kind signature → IsSpellable signature → Spells kind signature (short signature)
+  pub encoded : (width number : ℕ) → number < 256 ^ width → IsNumber width (number_bytes width number) number
+  pub encodes : (kind : SigKind) (signature : Body) → Holds kind signature → IsEncodable signature → Encodes kind signature (short signature)
   pub set : (test : TableId → Bool) (table : TableId) → has_bit (bits_of test tables) table ≡ test table
   pub low : (test : TableId → Bool) → bits_of test tables < 2 ^ 64
 
@@ -52,12 +52,12 @@ count_up_at from zero k below = absurd (omega arith)
 count_up_at from (suc n) zero below = omega arith
 count_up_at from (suc n) (suc k) below = count_up_at (suc from) n k (omega arith) ∙ omega arith
 
-positions : map position_of tables ≡ count_up 0 38
+table_indexes : map table_index_of tables ≡ count_up 0 38
 unfolding tables
-positions = refl
+table_indexes = refl
 
 -- a table is found by its index
-pub position_at : length tables ≡ 38 → (k : ℕ) → k < 38 → position_of (get_or tables k Module) ≡ k
-position_at count k below =
-    sym (get_or-map position_of tables k Module 0 (omega (arith, count))) ∙ ap (λ (l : List ℕ). get_or l k 0) positions ∙ count_up_at 0 38 k below
+pub table_index_at : length tables ≡ 38 → (k : ℕ) → k < 38 → table_index_of (get_or tables k Module) ≡ k
+table_index_at count k below =
+    sym (get_or-map table_index_of tables k Module 0 (omega (arith, count))) ∙ ap (λ (l : List ℕ). get_or l k 0) table_indexes ∙ count_up_at 0 38 k below
     ∙ omega arith

@@ -7,12 +7,12 @@ use Rattle.table_schema.specs.declared.table.TableId.{TableId}
 use Rattle.table_schema.specs.declared.token.Token.{Token}
 use Rattle.table_schema.specs.declared.column.ColumnKind.{ColumnKind}
 use Rattle.table_schema.specs.declared.column.ColumnKind.TheVariants as kind
-use Rattle.table_schema.specs.Tables.{position_of}
+use Rattle.table_schema.specs.Tables.{table_index_of}
 use Rattle.table_schema.specs.Columns.{column_at}
 use Rattle.table_schema.specs.CellColumns.{cell_count, column_of}
 use Rattle.table_schema.specs.CodedIndexes.{tables_of}
 use Rattle.sig_grammar.specs.Syntax.{Body}
-use Rattle.sig_grammar.specs.Spells.{Holds, IsSpellable, tokens}
+use Rattle.sig_grammar.specs.Encodes.{Holds, IsEncodable, tokens}
 use Rattle.metadata.specs.Cell.{Cell, Number, Text, Bytes, Guid, Ref, Start, Sig}
 use Rattle.metadata.specs.Kinds.{IsTo}
 use Rattle.metadata.specs.Metadata.{Metadata, rows_of, row_of, count_in, cell_in}
@@ -20,7 +20,7 @@ use Rattle.metadata.specs.Rows.{table_at, AreFrom}
 use Rattle.metadata.specs.Valid as valid
 use Rattle.metadata.specs.Valid.{IsValid}
 use Rattle.canonical.proofs.Lists.{are_from}
-use Rattle.canonical.proofs.Facts.{Facts, position_at}
+use Rattle.canonical.proofs.Facts.{Facts, table_index_at}
 
 -- ---- cells
 
@@ -47,15 +47,15 @@ IsValidCell model kind.Text nullable cell = (text : List ℕ) × HasNoNul text �
 IsValidCell model kind.Guid nullable cell = (guid : Option (List ℕ)) × IfSome guid (λ bytes. length bytes ≡ 16) × (cell ≡ Guid guid)
 IsValidCell model kind.Blob nullable cell = (blob : List ℕ) × (length blob < 2 ^ 29) × (cell ≡ Bytes blob)
 IsValidCell model (kind.Signature column) nullable cell =
-    (signature : Body) × Holds column signature × IsSpellable signature × AllByRecursion (HasRow model) (tokens signature) × (cell ≡ Sig signature)
+    (signature : Body) × Holds column signature × IsEncodable signature × AllByRecursion (HasRow model) (tokens signature) × (cell ≡ Sig signature)
 IsValidCell model (kind.Row table) nullable cell = MayRefer model nullable (λ other. other ≡ table) cell
 IsValidCell model (kind.Coded coded) nullable cell = MayRefer model nullable (λ table. Contains (tables_of coded) (Some table)) cell
 IsValidCell model (kind.List member) nullable cell = (start : ℕ) × (start ≤ count_in model member + 1) × (cell ≡ Start start)
 
 -- the cell can be at this index of a row
 abbrev pub IsValidAt : Metadata → TableId → ℕ → Cell → Type 0
-IsValidAt model table place cell =
-    IsValidCell model (column_at table (column_of table place)).kind (column_at table (column_of table place)).nullable cell
+IsValidAt model table cell_index cell =
+    IsValidCell model (column_at table (column_of table cell_index)).kind (column_at table (column_of table cell_index)).nullable cell
 
 -- the row has the number of cells of its table, each fit for its column
 unfoldable pub IsValidRow : Metadata → TableId → List Cell → Type 0
@@ -63,7 +63,7 @@ IsValidRow model table cells = AreFrom (IsValidAt model table) 0 (cell_count tab
 
 -- the rows of the table at this index are valid
 abbrev pub AreValidRows : Metadata → ℕ → List (List Cell) → Type 0
-AreValidRows model position rows = AllByRecursion (IsValidRow model (table_at position)) rows
+AreValidRows model table_index rows = AllByRecursion (IsValidRow model (table_at table_index)) rows
 
 -- ---- the cells of a valid model are valid
 
@@ -108,11 +108,11 @@ module _ (facts : Facts) (model : Metadata) (valid : IsValid model) where
   pub row_long : (table : TableId) (row : ℕ) → 1 ≤ row → row ≤ count_in model table → length (row_of model table row) ≡ cell_count table
   row_long table row first last = valid.long table row (first, last)
 
-  pub cell_valid : (table : TableId) (row place : ℕ) → 1 ≤ row → row ≤ count_in model table → place < cell_count table
-      → IsValidAt model table place (cell_in model table row place)
-  cell_valid table row place first last below =
-      let column = column_at table (column_of table place) in
-      held_cell model column.kind column.nullable (cell_in model table row place) (valid.cells table row place (first, last) below)
+  pub cell_valid : (table : TableId) (row cell_index : ℕ) → 1 ≤ row → row ≤ count_in model table → cell_index < cell_count table
+      → IsValidAt model table cell_index (cell_in model table row cell_index)
+  cell_valid table row cell_index first last below =
+      let column = column_at table (column_of table cell_index) in
+      held_cell model column.kind column.nullable (cell_in model table row cell_index) (valid.cells table row cell_index (first, last) below)
 
   row_valid : (table : TableId) (row : ℕ) → 1 ≤ row → row ≤ count_in model table → IsValidRow model table (row_of model table row)
   unfolding IsValidRow
@@ -133,5 +133,5 @@ module _ (facts : Facts) (model : Metadata) (valid : IsValid model) where
   tables_valid =
       are_from (AreValidRows model) 0 38 model.tables [] valid.tables
       (λ k j below e.
-      let same : position_of (table_at j) ≡ k = position_at facts.count j (omega arith) ∙ omega arith in
+      let same : table_index_of (table_at j) ≡ k = table_index_at facts.count j (omega arith) ∙ omega arith in
       subst (λ i. AllByRecursion (IsValidRow model (table_at j)) (get_or model.tables i [])) same (table_valid (table_at j)))

@@ -13,7 +13,7 @@ IsIn x (y ∷ ys) = (y ≡ x) ⊎ IsIn x ys
 pub contains_from_in : {X : Type 0} (xs : List X) (x : X) → IsIn x xs → Contains xs x
 contains_from_in [] x h = absurd h
 contains_from_in (y ∷ ys) x (inl e) = (0, omega arith, e)
-contains_from_in (y ∷ ys) x (inr h) = let rest = contains_from_in ys x h in (suc rest.0, omega (arith, rest.1), rest.2)
+contains_from_in (y ∷ ys) x (inr h) = let tail = contains_from_in ys x h in (suc tail.0, omega (arith, tail.1), tail.2)
 
 pub in_from_contains : {X : Type 0} (xs : List X) (x : X) → Contains xs x → IsIn x xs
 in_from_contains [] x (k, h, e) = absurd (omega arith)

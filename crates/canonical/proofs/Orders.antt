@@ -20,9 +20,9 @@ use Rattle.metadata.specs.Metadata.{Metadata, rows_of, count_in, cell_in}
 use Rattle.metadata.specs.Source.{number_of}
 use Rattle.table_schema.specs.CellColumns.{is_padding, cell_columns, cell_count, column_of}
 use Rattle.metadata.specs.Rows.{table_at}
-use Rattle.metadata.specs.Lookups.{IsKeyPlace}
+use Rattle.metadata.specs.Lookups.{IsKeyCell}
 use Rattle.metadata.specs.KeyOrder.{key_number, key_in, IsKeyOrdered}
-use Rattle.metadata.specs.Rules.{is_said_sorted, IsByKey, AreByKey, AreNested}
+use Rattle.metadata.specs.RowRules.{is_said_sorted, IsByKey, AreByKey, AreNested}
 use Rattle.canonical.specs.Pools.{Pools, pools_of}
 use Rattle.canonical.specs.Numbers.{cell_number, numbers_by}
 use Rattle.canonical.specs.TableStream.{rises, is_by_key, table_keys, is_sorted, sizes_of}
@@ -32,7 +32,7 @@ use Rattle.canonical.proofs.Facts.{Facts}
 use Rattle.canonical.proofs.Widths.{count_is, row_fits, coded_fits, tag_found}
 use Rattle.canonical.proofs.Stands.{IsWithin}
 use Rattle.canonical.proofs.Starts.{rises_at, rises_from}
-use Rattle.canonical.proofs.Rows.{cells_of, placed, has_place}
+use Rattle.canonical.proofs.Rows.{cells_of, located, has_cell_index}
 use Rattle.canonical.proofs.Tables.{source_of, number_at}
 
 -- ---- the number of a reference fits its column
@@ -97,55 +97,55 @@ keys_long model table key =
     length-map (table_keys model table) (λ (numbers : List ℕ). slice_index numbers key) ∙ length-map (rows_of model table) (numbers_by key_number (columns_of table))
 
 module _ (facts : Facts) (model : Metadata) (valid : IsValid model) where
-  key_at : (table : TableId) (key place row : ℕ) → key_of table ≡ Some key → IsKeyPlace table place → 1 ≤ row → row ≤ count_in model table
-      → get_or (keys_of model table key) (row - 1) 0 ≡ key_in model table place row
+  key_at : (table : TableId) (key cell_index row : ℕ) → key_of table ≡ Some key → IsKeyCell table cell_index → 1 ≤ row → row ≤ count_in model table
+      → get_or (keys_of model table key) (row - 1) 0 ≡ key_in model table cell_index row
   unfolding cell_columns
-  key_at table key place row is at first last =
+  key_at table key cell_index row is at first last =
       let cells = cells_of model table row in
-      let here = placed key_number (columns_of table) cells 0 place (col kind.U8) (Number 0) at.within (row_long facts model valid table row first last) in
-      let same : column_of table place ≡ key = cc in
-      let index : here.index ≡ column_of table place = omega (arith, here.at) in
-      let number : get_or (numbers_by key_number (columns_of table) cells) (column_of table place) 0 ≡ key_in model table place row =
-      subst (λ i. get_or (numbers_by key_number (columns_of table) cells) i 0 ≡ key_number (column_at table i).kind (cell_in model table row place)) index
+      let here = located key_number (columns_of table) cells 0 cell_index (col kind.U8) (Number 0) at.within (row_long facts model valid table row first last) in
+      let same : column_of table cell_index ≡ key = cc in
+      let index : here.index ≡ column_of table cell_index = omega (arith, here.at) in
+      let number : get_or (numbers_by key_number (columns_of table) cells) (column_of table cell_index) 0 ≡ key_in model table cell_index row =
+      subst (λ i. get_or (numbers_by key_number (columns_of table) cells) i 0 ≡ key_number (column_at table i).kind (cell_in model table row cell_index)) index
       here.number in
       let many = length-map (rows_of model table) (numbers_by key_number (columns_of table)) in
       let row_is : get_or (table_keys model table) (row - 1) [] ≡ numbers_by key_number (columns_of table) cells =
       get_or-map (numbers_by key_number (columns_of table)) (rows_of model table) (row - 1) [] [] (omega arith) in
       get_or-map (λ (r : List ℕ). slice_index r key) (table_keys model table) (row - 1) [] 0 (omega (arith, many))
       ∙ ap (λ (r : List ℕ). slice_index r key) row_is
-      ∙ subst (λ i. get_or (numbers_by key_number (columns_of table) cells) i 0 ≡ key_in model table place row) same number
+      ∙ subst (λ i. get_or (numbers_by key_number (columns_of table) cells) i 0 ≡ key_in model table cell_index row) same number
 
-  key_place : (table : TableId) (key : ℕ) → key_of table ≡ Some key → (place : ℕ) × IsKeyPlace table place
+  key_cell : (table : TableId) (key : ℕ) → key_of table ≡ Some key → (cell_index : ℕ) × IsKeyCell table cell_index
   unfolding cell_columns
-  key_place table key is =
+  key_cell table key is =
       let reference = facts.reference table key is in
-      let place = has_place (columns_of table) 0 key key (col kind.U8) (facts.key table key is) (not_padding (column_at table key) reference) (omega arith) in
-      (place.place, record { within = place.below; key = is ∙ ap (λ (c : ℕ). Some c) (sym place.at) })
+      let cell_index = has_cell_index (columns_of table) 0 key key (col kind.U8) (facts.key table key is) (not_padding (column_at table key) reference) (omega arith) in
+      (cell_index.cell_index, record { within = cell_index.below; key = is ∙ ap (λ (c : ℕ). Some c) (sym cell_index.at) })
 
   -- the Sorted bit of a table is set if and only if its keys are in order
-  pub order_told : (table : TableId) (key : ℕ) → key_of table ≡ Some key → is_sorted model table ≡ true → IsKeyOrdered model table
-  order_told table key is sorted = λ place row at second last.
+  pub order_reported : (table : TableId) (key : ℕ) → key_of table ≡ Some key → is_sorted model table ≡ true → IsKeyOrdered model table
+  order_reported table key is sorted = λ cell_index row at second last.
       let up = rises_at (keys_of model table key) (row - 1 - 1) (sym (ap (is_by_key (table_keys model table)) is) ∙ sorted)
       (omega (arith, keys_long model table key)) in
       let back : row - 1 - 1 + 1 ≡ row - 1 = omega arith in
-      let low = key_at table key place (row - 1) is at (omega arith) (omega arith) in
-      let high = key_at table key place row is at (omega arith) last in
+      let low = key_at table key cell_index (row - 1) is at (omega arith) (omega arith) in
+      let high = key_at table key cell_index row is at (omega arith) last in
       let here = rw back at up in
       omega (arith, low, high, here)
 
-  pub order_tells : (table : TableId) (key : ℕ) → key_of table ≡ Some key → IsKeyOrdered model table → is_sorted model table ≡ true
-  order_tells table key is ordered =
-      let place = key_place table key is in
+  pub order_reports : (table : TableId) (key : ℕ) → key_of table ≡ Some key → IsKeyOrdered model table → is_sorted model table ≡ true
+  order_reports table key is ordered =
+      let cell_index = key_cell table key is in
       ap (is_by_key (table_keys model table)) is ∙ rises_from (keys_of model table key) (λ i below.
       let many = keys_long model table key in
       let first : i + 1 - 1 ≡ i = omega arith in
       let second : i + 2 - 1 ≡ i + 1 = omega arith in
-      let low = subst (λ (k : ℕ). get_or (keys_of model table key) k 0 ≡ key_in model table place.0 (i + 1)) first
-      (key_at table key place.0 (i + 1) is place.1 (omega arith) (omega arith)) in
-      let high = subst (λ (k : ℕ). get_or (keys_of model table key) k 0 ≡ key_in model table place.0 (i + 2)) second
-      (key_at table key place.0 (i + 2) is place.1 (omega arith) (omega arith)) in
-      let up = subst (λ (k : ℕ). key_in model table place.0 k ≤ key_in model table place.0 (i + 2)) second
-      (ordered place.0 (i + 2) place.1 (omega arith) (omega arith)) in
+      let low = subst (λ (k : ℕ). get_or (keys_of model table key) k 0 ≡ key_in model table cell_index.0 (i + 1)) first
+      (key_at table key cell_index.0 (i + 1) is cell_index.1 (omega arith) (omega arith)) in
+      let high = subst (λ (k : ℕ). get_or (keys_of model table key) k 0 ≡ key_in model table cell_index.0 (i + 2)) second
+      (key_at table key cell_index.0 (i + 2) is cell_index.1 (omega arith) (omega arith)) in
+      let up = subst (λ (k : ℕ). key_in model table cell_index.0 k ≤ key_in model table cell_index.0 (i + 2)) second
+      (ordered cell_index.0 (i + 2) cell_index.1 (omega arith) (omega arith)) in
       rw (low, high) up)
 
 module _ (facts : Facts) (model : Metadata) (valid : IsValid model) (within : IsWithin model) where
@@ -154,16 +154,16 @@ module _ (facts : Facts) (model : Metadata) (valid : IsValid model) (within : Is
       → number_of (source_of model) table row key ≡ get_or (keys_of model table key) (row - 1) 0
   unfolding cell_columns number_of
   key_value table key row is first last =
-      let place = key_place facts model valid table key is in
-      let same : column_of table place.0 ≡ key = let e = place.1.key in cc in
-      let column = column_at table (column_of table place.0) in
-      let cell = cell_in model table row place.0 in
-      let reference = facts.reference table (column_of table place.0) place.1.key in
-      let good = cell_valid facts model valid table row place.0 first last place.1.within in
+      let cell_index = key_cell facts model valid table key is in
+      let same : column_of table cell_index.0 ≡ key = let e = cell_index.1.key in cc in
+      let column = column_at table (column_of table cell_index.0) in
+      let cell = cell_in model table row cell_index.0 in
+      let reference = facts.reference table (column_of table cell_index.0) cell_index.1.key in
+      let good = cell_valid facts model valid table row cell_index.0 first last cell_index.1.within in
       let fits = reference_fits facts model within column cell reference good in
-      let value = number_at facts model valid table row place.0 first last place.1.within ∙ mod-eq_of_lt fits ∙ column_key (pools_of model) model column cell reference good in
-      subst (λ (c : ℕ). number_of (source_of model) table row c ≡ key_in model table place.0 row) same value
-      ∙ sym (key_at facts model valid table key place.0 row is place.1 first last)
+      let value = number_at facts model valid table row cell_index.0 first last cell_index.1.within ∙ mod-eq_of_lt fits ∙ column_key (pools_of model) model column cell reference good in
+      subst (λ (c : ℕ). number_of (source_of model) table row c ≡ key_in model table cell_index.0 row) same value
+      ∙ sym (key_at facts model valid table key cell_index.0 row is cell_index.1 first last)
 
   said_sorted : (table : TableId) → is_said_sorted (source_of model) table ≡ is_sorted model table
   unfolding sizes_of
@@ -182,7 +182,7 @@ module _ (facts : Facts) (model : Metadata) (valid : IsValid model) (within : Is
       (rw back at up)
 
   pub are_by_key : AreByKey (source_of model)
-  are_by_key = λ position below. by_key (table_at position) (key_of (table_at position)) refl
+  are_by_key = λ table_index below. by_key (table_at table_index) (key_of (table_at table_index)) refl
 
   -- ---- nested types
 
@@ -191,16 +191,16 @@ module _ (facts : Facts) (model : Metadata) (valid : IsValid model) (within : Is
   row_number_is nullable table cell (inl null) = rw (null.1) refl
   row_number_is nullable table cell (inr is) = rw (is.3) refl
 
-  nested_value : (row place : ℕ) → 1 ≤ row → row ≤ count_in model NestedClass → place < cell_count NestedClass
-      → (column_at NestedClass (column_of NestedClass place)).kind ≡ kind.Row TypeDef
-      → number_of (source_of model) NestedClass row (column_of NestedClass place) ≡ row_in (cell_in model NestedClass row place)
-  nested_value row place first last below is =
-      let column = column_at NestedClass (column_of NestedClass place) in
-      let cell = cell_in model NestedClass row place in
+  nested_value : (row cell_index : ℕ) → 1 ≤ row → row ≤ count_in model NestedClass → cell_index < cell_count NestedClass
+      → (column_at NestedClass (column_of NestedClass cell_index)).kind ≡ kind.Row TypeDef
+      → number_of (source_of model) NestedClass row (column_of NestedClass cell_index) ≡ row_in (cell_in model NestedClass row cell_index)
+  nested_value row cell_index first last below is =
+      let column = column_at NestedClass (column_of NestedClass cell_index) in
+      let cell = cell_in model NestedClass row cell_index in
       let good : IsValidCell model (kind.Row TypeDef) column.nullable cell =
-      subst (λ k. IsValidCell model k column.nullable cell) is (cell_valid facts model valid NestedClass row place first last below) in
+      subst (λ k. IsValidCell model k column.nullable cell) is (cell_valid facts model valid NestedClass row cell_index first last below) in
       let fits = row_reference_fits facts model within column.nullable TypeDef cell good in
-      number_at facts model valid NestedClass row place first last below
+      number_at facts model valid NestedClass row cell_index first last below
       ∙ ap (λ k. cell_number (pools_of model) k cell % 256 ^ kind_width (sizes_of model) k) is
       ∙ mod-eq_of_lt fits
       ∙ row_number_is column.nullable TypeDef cell good

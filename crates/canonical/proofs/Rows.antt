@@ -7,7 +7,7 @@ use Rattle.table_schema.specs.declared.table.TableId.{TableId}
 use Rattle.table_schema.specs.declared.table.TableId.TheVariants.{Module}
 use Rattle.table_schema.specs.declared.column.Column.{Column}
 use Rattle.table_schema.specs.declared.column.ColumnKind.{ColumnKind}
-use Rattle.table_schema.specs.Tables.{tables, position_of}
+use Rattle.table_schema.specs.Tables.{tables, table_index_of}
 use Rattle.table_schema.specs.Columns.{columns_of}
 use Rattle.schema.specs.Sizes.{Sizes, width_of}
 use Rattle.schema.specs.LaidOut.{number_bytes, row_bytes, rows_bytes, tables_bytes, FitRow, FitRows, FitTables, number_in}
@@ -21,11 +21,11 @@ use Rattle.canonical.proofs.Facts.{Facts}
 
 -- ---- one number per column
 
-length-with_next : (b : Bool) (number : Cell → ℕ) (rest : List Cell → List ℕ) (n : ℕ) → ((cells : List Cell) → length (rest cells) ≡ n) → (cells : List Cell)
-    → length (with_next b number rest cells) ≡ suc n
-length-with_next true number rest n h cells = ap suc (h cells)
-length-with_next false number rest n h [] = ap suc (h [])
-length-with_next false number rest n h (cell ∷ cells) = ap suc (h cells)
+length-with_next : (b : Bool) (number : Cell → ℕ) (tail : List Cell → List ℕ) (n : ℕ) → ((cells : List Cell) → length (tail cells) ≡ n) → (cells : List Cell)
+    → length (with_next b number tail cells) ≡ suc n
+length-with_next true number tail n h cells = ap suc (h cells)
+length-with_next false number tail n h [] = ap suc (h [])
+length-with_next false number tail n h (cell ∷ cells) = ap suc (h cells)
 
 pub length-numbers_by : (value : ColumnKind → Cell → ℕ) (columns : List Column) (cells : List Cell) → length (numbers_by value columns cells) ≡ length columns
 length-numbers_by value [] cells = refl
@@ -52,11 +52,11 @@ low_split width number =
     let p = 256 ^ width in
     let q = number / 256 in
     let some : 0 < p = one-le-pow width 256 (omega arith) in
-    let rest = div-add-mod' q p in
+    let tail = div-add-mod' q p in
     let whole = div-add-mod' number 256 in
     let less = mod_below q p some in
     let moved : q / p * (p * 256) ≡ q / p * p * 256 = sym (mul_assoc (q / p) p 256) in
-    let is : number ≡ q / p * (p * 256) + (q % p * 256 + number % 256) = omega (arith, rest, whole, moved) in
+    let is : number ≡ q / p * (p * 256) + (q % p * 256 + number % 256) = omega (arith, tail, whole, moved) in
     let fits : q % p * 256 + number % 256 < p * 256 = omega (arith, less) in
     ap (λ n. number % n) (pow-suc 256 width) ∙ ap (λ n. n % (p * 256)) is ∙ mod-mul-add (q / p) (p * 256) (q % p * 256 + number % 256) fits
 
@@ -64,15 +64,15 @@ low_first : (width number : ℕ) → number % 256 ^ suc width % 256 ≡ number %
 low_first width number = ap (λ n. n % 256) (low_split width number)
     ∙ mod-mul-add (number / 256 % 256 ^ width) 256 (number % 256) (mod_below number 256 (omega arith))
 
-low_rest : (width number : ℕ) → number % 256 ^ suc width / 256 ≡ number / 256 % 256 ^ width
-low_rest width number = ap (λ n. n / 256) (low_split width number)
+low_tail : (width number : ℕ) → number % 256 ^ suc width / 256 ≡ number / 256 % 256 ^ width
+low_tail width number = ap (λ n. n / 256) (low_split width number)
     ∙ div-mul-add (number / 256 % 256 ^ width) 256 (number % 256) (mod_below number 256 (omega arith))
 
 low_bytes : (width number : ℕ) → number_bytes width (number % 256 ^ width) ≡ number_bytes width number
 low_bytes zero number = refl
 low_bytes (suc width) number =
     ap (λ n. n ∷ number_bytes width (number % 256 ^ suc width / 256)) (low_first width number)
-    ∙ ap (λ l. number % 256 ∷ l) (ap (number_bytes width) (low_rest width number) ∙ low_bytes width (number / 256))
+    ∙ ap (λ l. number % 256 ∷ l) (ap (number_bytes width) (low_tail width number) ∙ low_bytes width (number / 256))
 
 row_low : (sizes : Sizes) (columns : List Column) (row : List ℕ) → row_bytes sizes columns (fields_of sizes columns row) ≡ row_bytes sizes columns row
 row_low sizes [] row = refl
@@ -153,12 +153,12 @@ pub number_is : Facts → (model : Metadata) (table : TableId) (row column : ℕ
     (get_or (columns_of table) column none)
 unfolding fields
 number_is facts model table row column none first last below =
-    let low : position_of table < length tables = omega (arith, facts.position table, facts.count) in
+    let low : table_index_of table < length tables = omega (arith, facts.table_index table, facts.count) in
     let rows = rows_of model table in
     let here : row - 1 < length rows = omega arith in
     let many : row - 1 < length (table_numbers model table) = omega (arith, length-map rows (numbers_of (pools_of model) (columns_of table))) in
-    let one : get_or (map (table_fields model) tables) (position_of table) [] ≡ table_fields model table =
-    get_or-map (table_fields model) tables (position_of table) Module [] low ∙ ap (table_fields model) (facts.stand table) in
+    let one : get_or (map (table_fields model) tables) (table_index_of table) [] ≡ table_fields model table =
+    get_or-map (table_fields model) tables (table_index_of table) Module [] low ∙ ap (table_fields model) (facts.stand table) in
     let two : get_or (table_fields model table) (row - 1) [] ≡ fields_of (sizes_of model) (columns_of table) (get_or (table_numbers model table) (row - 1) []) =
     get_or-map (fields_of (sizes_of model) (columns_of table)) (table_numbers model table) (row - 1) [] [] many in
     let three : get_or (table_numbers model table) (row - 1) [] ≡ numbers_of (pools_of model) (columns_of table) (cells_of model table row) =
@@ -171,55 +171,55 @@ number_is facts model table row column none first last below =
 -- ---- the number of each cell
 
 -- the number of the cell at an index is in the column of that cell
-pub record IsPlaced (value : ColumnKind → Cell → ℕ) (row indexes : List ℕ) (columns : List Column) (cells : List Cell) (from place : ℕ) (none : Column)
+pub record IsLocated (value : ColumnKind → Cell → ℕ) (row indexes : List ℕ) (columns : List Column) (cells : List Cell) (from cell_index : ℕ) (none : Column)
     (no_cell : Cell) : Type 0 where
   pub index : ℕ
-  pub at : get_or indexes place 0 ≡ from + index
+  pub at : get_or indexes cell_index 0 ≡ from + index
   pub below : index < length columns
-  pub number : get_or row index 0 ≡ value (get_or columns index none).kind (get_or cells place no_cell)
+  pub number : get_or row index 0 ≡ value (get_or columns index none).kind (get_or cells cell_index no_cell)
 
-place_next : (value : ColumnKind → Cell → ℕ) (column : Column) (columns : List Column) (from place : ℕ) (none : Column) (no_cell : Cell)
-    → ((cells : List Cell) (place : ℕ) → place < length (indexes_from (from + 1) columns) → length cells ≡ length (indexes_from (from + 1) columns)
-    → IsPlaced value (numbers_by value columns cells) (indexes_from (from + 1) columns) columns cells (from + 1) place none no_cell)
-    → (b : Bool) (cells : List Cell) → place < length (cond b (indexes_from (from + 1) columns) (from ∷ indexes_from (from + 1) columns))
+cell_index_next : (value : ColumnKind → Cell → ℕ) (column : Column) (columns : List Column) (from cell_index : ℕ) (none : Column) (no_cell : Cell)
+    → ((cells : List Cell) (cell_index : ℕ) → cell_index < length (indexes_from (from + 1) columns) → length cells ≡ length (indexes_from (from + 1) columns)
+    → IsLocated value (numbers_by value columns cells) (indexes_from (from + 1) columns) columns cells (from + 1) cell_index none no_cell)
+    → (b : Bool) (cells : List Cell) → cell_index < length (cond b (indexes_from (from + 1) columns) (from ∷ indexes_from (from + 1) columns))
     → length cells ≡ length (cond b (indexes_from (from + 1) columns) (from ∷ indexes_from (from + 1) columns))
-    → IsPlaced value (with_next b (value column.kind) (numbers_by value columns) cells)
-    (cond b (indexes_from (from + 1) columns) (from ∷ indexes_from (from + 1) columns)) (column ∷ columns) cells from place none no_cell
-place_next value column columns from place none no_cell next true cells below long =
-    let rest = next cells place below long in
-    record { index = suc rest.index; at = rest.at ∙ omega arith; below = omega (arith, rest.below); number = rest.number }
-place_next value column columns from place none no_cell next false [] below long = absurd (omega arith)
-place_next value column columns from zero none no_cell next false (cell ∷ cells) below long =
+    → IsLocated value (with_next b (value column.kind) (numbers_by value columns) cells)
+    (cond b (indexes_from (from + 1) columns) (from ∷ indexes_from (from + 1) columns)) (column ∷ columns) cells from cell_index none no_cell
+cell_index_next value column columns from cell_index none no_cell next true cells below long =
+    let tail = next cells cell_index below long in
+    record { index = suc tail.index; at = tail.at ∙ omega arith; below = omega (arith, tail.below); number = tail.number }
+cell_index_next value column columns from cell_index none no_cell next false [] below long = absurd (omega arith)
+cell_index_next value column columns from zero none no_cell next false (cell ∷ cells) below long =
     record { index = 0; at = omega arith; below = omega arith; number = refl }
-place_next value column columns from (suc place) none no_cell next false (cell ∷ cells) below long =
-    let rest = next cells place (omega arith) (omega arith) in
-    record { index = suc rest.index; at = rest.at ∙ omega arith; below = omega (arith, rest.below); number = rest.number }
+cell_index_next value column columns from (suc cell_index) none no_cell next false (cell ∷ cells) below long =
+    let tail = next cells cell_index (omega arith) (omega arith) in
+    record { index = suc tail.index; at = tail.at ∙ omega arith; below = omega (arith, tail.below); number = tail.number }
 
-pub placed : (value : ColumnKind → Cell → ℕ) (columns : List Column) (cells : List Cell) (from place : ℕ) (none : Column) (no_cell : Cell)
-    → place < length (indexes_from from columns) → length cells ≡ length (indexes_from from columns)
-    → IsPlaced value (numbers_by value columns cells) (indexes_from from columns) columns cells from place none no_cell
-placed value [] cells from place none no_cell below long = absurd (omega arith)
-placed value (column ∷ columns) cells from place none no_cell below long =
-    place_next value column columns from place none no_cell (λ rest k l e. placed value columns rest (from + 1) k none no_cell l e) (is_padding column.kind)
+pub located : (value : ColumnKind → Cell → ℕ) (columns : List Column) (cells : List Cell) (from cell_index : ℕ) (none : Column) (no_cell : Cell)
+    → cell_index < length (indexes_from from columns) → length cells ≡ length (indexes_from from columns)
+    → IsLocated value (numbers_by value columns cells) (indexes_from from columns) columns cells from cell_index none no_cell
+located value [] cells from cell_index none no_cell below long = absurd (omega arith)
+located value (column ∷ columns) cells from cell_index none no_cell below long =
+    cell_index_next value column columns from cell_index none no_cell (λ tail k l e. located value columns tail (from + 1) k none no_cell l e) (is_padding column.kind)
     cells below long
 
 -- ---- a column that has a cell
 
-pub record HasPlace (indexes : List ℕ) (column : ℕ) : Type 0 where
-  pub place : ℕ
-  pub below : place < length indexes
-  pub at : get_or indexes place 0 ≡ column
+pub record HasCellIndex (indexes : List ℕ) (column : ℕ) : Type 0 where
+  pub cell_index : ℕ
+  pub below : cell_index < length indexes
+  pub at : get_or indexes cell_index 0 ≡ column
 
-has_place_next : (indexes : List ℕ) (b : Bool) (from column : ℕ) → HasPlace indexes column → HasPlace (cond b indexes (from ∷ indexes)) column
-has_place_next indexes true from column has = has
-has_place_next indexes false from column has = record { place = suc has.place; below = omega (arith, has.below); at = has.at }
+has_cell_index_next : (indexes : List ℕ) (b : Bool) (from column : ℕ) → HasCellIndex indexes column → HasCellIndex (cond b indexes (from ∷ indexes)) column
+has_cell_index_next indexes true from column has = has
+has_cell_index_next indexes false from column has = record { cell_index = suc has.cell_index; below = omega (arith, has.below); at = has.at }
 
-pub has_place : (columns : List Column) (from i j : ℕ) (none : Column) → i < length columns → is_padding (get_or columns i none).kind ≡ false → j ≡ from + i
-    → HasPlace (indexes_from from columns) j
-has_place [] from i j none below plain e = absurd (omega arith)
-has_place (column ∷ columns) from zero j none below plain e =
+pub has_cell_index : (columns : List Column) (from i j : ℕ) (none : Column) → i < length columns → is_padding (get_or columns i none).kind ≡ false → j ≡ from + i
+    → HasCellIndex (indexes_from from columns) j
+has_cell_index [] from i j none below plain e = absurd (omega arith)
+has_cell_index (column ∷ columns) from zero j none below plain e =
     let same : from ≡ j = omega arith in
-    subst (λ b. HasPlace (cond b (indexes_from (from + 1) columns) (from ∷ indexes_from (from + 1) columns)) j) (sym plain)
-    (record { place = 0; below = omega arith; at = same })
-has_place (column ∷ columns) from (suc i) j none below plain e =
-    has_place_next (indexes_from (from + 1) columns) (is_padding column.kind) from j (has_place columns (from + 1) i j none (omega arith) plain (omega arith))
+    subst (λ b. HasCellIndex (cond b (indexes_from (from + 1) columns) (from ∷ indexes_from (from + 1) columns)) j) (sym plain)
+    (record { cell_index = 0; below = omega arith; at = same })
+has_cell_index (column ∷ columns) from (suc i) j none below plain e =
+    has_cell_index_next (indexes_from (from + 1) columns) (is_padding column.kind) from j (has_cell_index columns (from + 1) i j none (omega arith) plain (omega arith))

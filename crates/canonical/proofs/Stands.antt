@@ -18,7 +18,7 @@ use Rattle.heap_pools.specs.TextHeap.{text_index}
 use Rattle.heap_pools.specs.BlobHeap.{blob_index}
 use Rattle.heap_pools.specs.GuidHeap.{guid_index}
 use Rattle.sig_grammar.specs.Parts.{is_table}
-use Rattle.sig_grammar.specs.Spells.{short, tokens}
+use Rattle.sig_grammar.specs.Encodes.{short, tokens}
 use Rattle.metadata.specs.Cell.{Cell}
 use Rattle.metadata.specs.Cell.{Number, Start}
 use Rattle.metadata.specs.Metadata.{Metadata, count_in}
@@ -174,11 +174,11 @@ stands facts model within numbers kind.Blob nullable start cell here null starts
 stands facts model within numbers (kind.Signature column) nullable start cell here null starts valid =
     let signature = valid.0 in
     let e = valid.4 in
-    let spells = facts.spells column signature valid.1 valid.2 in (
+    let encodes = facts.encodes column signature valid.1 valid.2 in (
       short signature,
       signature,
-      rw e (blob_stands facts model within (short signature) (here.blobs (short signature) (rw e (inl refl))) spells.limit),
-      spells,
+      rw e (blob_stands facts model within (short signature) (here.blobs (short signature) (rw e (inl refl))) encodes.limit),
+      encodes,
       all_weaker (HasRow model) (IsThere (source_with model numbers)) (there facts model within numbers) (tokens signature) valid.3,
       e,
     )

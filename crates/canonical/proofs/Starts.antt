@@ -28,7 +28,7 @@ start_found value start end row zero are =
     step (value row) (start row) end (are.low row (omega arith) (omega arith))
     (either (value row) (start row) end end (λ e. sym e) (are.is row (omega arith) (omega arith)))
 start_found value start end row (suc n) are =
-    let rest = start_found value start end (row + 1) n (record {
+    let tail = start_found value start end (row + 1) n (record {
       is = λ r l h. are.is r (omega arith) (omega arith);
       low = λ r l h. are.low r (omega arith) (omega arith);
       high = λ r l h. are.high r (omega arith) (omega arith);
@@ -37,7 +37,7 @@ start_found value start end row (suc n) are =
     let up = are.rises row (omega arith) (omega arith) in
     let high = are.high (row + 1) (omega arith) (omega arith) in
     step (value row) (start row) (start_from value end (row + 1) (suc n)) (are.low row (omega arith) (omega arith))
-    (either (value row) (start row) end (start_from value end (row + 1) (suc n)) (λ e. rest ∙ omega (arith, e, up, high))
+    (either (value row) (start row) end (start_from value end (row + 1) (suc n)) (λ e. tail ∙ omega (arith, e, up, high))
     (are.is row (omega arith) (omega arith)))
 
 pub rises_at : (numbers : List ℕ) (i : ℕ) → rises numbers ≡ true → i + 1 < length numbers → get_or numbers i 0 ≤ get_or numbers (i + 1) 0
@@ -57,8 +57,8 @@ rises_from [] each = refl
 rises_from (a ∷ []) each = refl
 rises_from (a ∷ b ∷ numbers) each =
     let low : a ≤ b = each 0 (omega arith) in
-    let told : leb a b ≡ true = grind (arith, nat_tests) in
-    both_is (leb a b) (rises (b ∷ numbers)) told (rises_from (b ∷ numbers) (λ i below.
+    let reported : leb a b ≡ true = grind (arith, nat_tests) in
+    both_is (leb a b) (rises (b ∷ numbers)) reported (rises_from (b ∷ numbers) (λ i below.
     let next : suc i + 1 ≡ suc (i + 1) = omega arith in
     let up = each (suc i) (omega arith) in
     rw next at up))

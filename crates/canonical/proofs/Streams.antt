@@ -7,13 +7,13 @@ use Rattle.std.proofs.lemmas.Bool.{cases_Bool, cases_lt, false≢true}
 use Rattle.std.proofs.lemmas.List.{append_assoc, length-replicate, drop_at, take_at, get_or_past}
 use Rattle.std.proofs.lemmas.List.Folds.{find-append}
 use Rattle.std.proofs.lemmas.List.Elements.{All-from_recursion}
-use Rattle.packed.specs.Places.{part}
+use Rattle.packed.specs.CellIndexes.{part}
 use Rattle.root.specs.declared.kind.Kind.{Kind}
 use Rattle.root.specs.declared.kind.Kind.TheVariants.{Tables, Strings, UserStrings, Guids, Blobs}
 use Rattle.root.specs.Streams.{Header, stream_name, named}
 use Rattle.root.specs.Root.{IsStreamName, IsHeader, AreHeaders, AllMeet}
 use Rattle.schema.specs.LaidOut.{number_bytes}
-use Rattle.heap_entries.specs.Fill.{filled}
+use Rattle.heap_entries.specs.Padding.{zero_padded}
 use Rattle.canonical.specs.Canonical.{ended, stream_header, directory}
 use Rattle.canonical.proofs.Lists.{IsIn, from_filter}
 use Rattle.canonical.proofs.Facts.{Facts}
@@ -21,24 +21,24 @@ use Rattle.canonical.proofs.Widths.{both_true}
 
 -- ---- padding
 
-fill_few : (n : ℕ) → (4 - n % 4) % 4 < 4
-fill_few n = omega arith
+padding_few : (n : ℕ) → (4 - n % 4) % 4 < 4
+padding_few n = omega arith
 
-fill_is : (n : ℕ) → (n + (4 - n % 4) % 4) % 4 ≡ 0
-fill_is n = omega arith
+padding_is : (n : ℕ) → (n + (4 - n % 4) % 4) % 4 ≡ 0
+padding_is n = omega arith
 
 pub length_zeros : (n : ℕ) → length (replicate {A = ℕ} n 0) ≡ n
 length_zeros n = length-replicate {A = ℕ} n 0
 
-pub length-filled : (bytes : List ℕ) → length (filled bytes) % 4 ≡ 0
-length-filled bytes = rw (length-append bytes (replicate ((4 - length bytes % 4) % 4) 0), length_zeros ((4 - length bytes % 4) % 4)) (fill_is (length bytes))
+pub length-zero_padded : (bytes : List ℕ) → length (zero_padded bytes) % 4 ≡ 0
+length-zero_padded bytes = rw (length-append bytes (replicate ((4 - length bytes % 4) % 4) 0), length_zeros ((4 - length bytes % 4) % 4)) (padding_is (length bytes))
 
 -- the zeros after the NUL of a text
-abbrev pub fill_of : List ℕ → List ℕ
-fill_of text = replicate ((4 - length (text ++ 0 ∷ []) % 4) % 4) 0
+abbrev pub padding_of : List ℕ → List ℕ
+padding_of text = replicate ((4 - length (text ++ 0 ∷ []) % 4) % 4) 0
 
-pub ended_is : (text : List ℕ) → ended text ≡ text ++ 0 ∷ fill_of text
-ended_is text = append_assoc text (0 ∷ []) (fill_of text)
+pub ended_is : (text : List ℕ) → ended text ≡ text ++ 0 ∷ padding_of text
+ended_is text = append_assoc text (0 ∷ []) (padding_of text)
 
 -- ---- the five names
 
@@ -119,8 +119,8 @@ not_in test x [] none h = absurd h
 not_in test x (z ∷ zs) none h = ⊎_elim
     (λ (t : test z ≡ true). absurd (false≢true (sym (ap (λ b. not (b || list_any test zs)) t) ∙ none)))
     (λ (f : test z ≡ false).
-    let rest : not (list_any test zs) ≡ true = sym (ap (λ b. not (b || list_any test zs)) f) ∙ none in
-    ⊎_elim (λ (e : z ≡ x). ap test (sym e) ∙ f) (λ (l : IsIn x zs). not_in test x zs rest l) h)
+    let tail : not (list_any test zs) ≡ true = sym (ap (λ b. not (b || list_any test zs)) f) ∙ none in
+    ⊎_elim (λ (e : z ≡ x). ap test (sym e) ∙ f) (λ (l : IsIn x zs). not_in test x zs tail l) h)
     (cases_Bool (test z))
 
 apart_from : (kinds : List Kind) → are_apart kinds ≡ true → AreApart kinds
@@ -156,63 +156,63 @@ in_all Blobs = inr (inr (inr (inr (inl refl))))
 
 module _ (facts : Facts) (streams : Kind → List ℕ) where
   abbrev pub headers_of : ℕ → ℕ → List Kind → List Header
-  headers_of place offset [] = []
-  headers_of place offset (kind ∷ kinds) =
-      record { place = place; offset = offset; size = length (streams kind); name = stream_name kind }
-      ∷ headers_of (place + length (stream_header streams offset kind)) (offset + length (streams kind)) kinds
+  headers_of cell_index offset [] = []
+  headers_of cell_index offset (kind ∷ kinds) =
+      record { cell_index = cell_index; offset = offset; size = length (streams kind); name = stream_name kind }
+      ∷ headers_of (cell_index + length (stream_header streams offset kind)) (offset + length (streams kind)) kinds
 
   abbrev pub contents : List Kind → List ℕ
   contents kinds = flat_map streams kinds
 
-  header_is : (place offset : ℕ) (kind : Kind) → offset < 2 ^ 32 → length (streams kind) < 2 ^ 32
-      → IsHeader (stream_header streams offset kind) (record { place = place; offset = offset; size = length (streams kind); name = stream_name kind })
-  header_is place offset kind low small =
+  header_is : (cell_index offset : ℕ) (kind : Kind) → offset < 2 ^ 32 → length (streams kind) < 2 ^ 32
+      → IsHeader (stream_header streams offset kind) (record { cell_index = cell_index; offset = offset; size = length (streams kind); name = stream_name kind })
+  header_is cell_index offset kind low small =
       let name = stream_name kind in
-      let front = number_bytes 4 offset ++ number_bytes 4 (length (streams kind)) in
+      let prefix = number_bytes 4 offset ++ number_bytes 4 (length (streams kind)) in
       record {
         offset_bytes = number_bytes 4 offset;
         size_bytes = number_bytes 4 (length (streams kind));
-        fill = fill_of name;
-        whole = ap (λ l. front ++ l) (ended_is name) ∙ sym (append_assoc front name (0 ∷ fill_of name));
-        offset = facts.spelled 4 offset low;
-        size = facts.spelled 4 (length (streams kind)) small;
+        padding = padding_of name;
+        whole = ap (λ l. prefix ++ l) (ended_is name) ∙ sym (append_assoc prefix name (0 ∷ padding_of name));
+        offset = facts.encoded 4 offset low;
+        size = facts.encoded 4 (length (streams kind)) small;
         name = name_is kind;
-        filled = record {
-          fewer = rw (length_zeros ((4 - length (name ++ 0 ∷ []) % 4) % 4)) (fill_few (length (name ++ 0 ∷ [])));
-          multiple = rw (length_zeros ((4 - length (name ++ 0 ∷ []) % 4) % 4), ← length-append name (0 ∷ [])) (fill_is (length (name ++ 0 ∷ [])));
+        zero_padded = record {
+          fewer = rw (length_zeros ((4 - length (name ++ 0 ∷ []) % 4) % 4)) (padding_few (length (name ++ 0 ∷ [])));
+          multiple = rw (length_zeros ((4 - length (name ++ 0 ∷ []) % 4) % 4), ← length-append name (0 ∷ [])) (padding_is (length (name ++ 0 ∷ [])));
         };
       }
 
-  pub are_headers : (place offset : ℕ) (kinds : List Kind) → offset + length (contents kinds) < 2 ^ 32
-      → AreHeaders place (directory streams offset kinds) (headers_of place offset kinds)
-  are_headers place offset [] small = refl
-  are_headers place offset (kind ∷ kinds) small =
+  pub are_headers : (cell_index offset : ℕ) (kinds : List Kind) → offset + length (contents kinds) < 2 ^ 32
+      → AreHeaders cell_index (directory streams offset kinds) (headers_of cell_index offset kinds)
+  are_headers cell_index offset [] small = refl
+  are_headers cell_index offset (kind ∷ kinds) small =
       let long = length-append (streams kind) (contents kinds) in (
         stream_header streams offset kind,
         directory streams (offset + length (streams kind)) kinds,
         refl,
         refl,
-        header_is place offset kind (omega arith) (omega (arith, long)),
-        are_headers (place + length (stream_header streams offset kind)) (offset + length (streams kind)) kinds (omega (arith, long)),
+        header_is cell_index offset kind (omega arith) (omega (arith, long)),
+        are_headers (cell_index + length (stream_header streams offset kind)) (offset + length (streams kind)) kinds (omega (arith, long)),
       )
 
-  pub length-headers_of : (place offset : ℕ) (kinds : List Kind) → length (headers_of place offset kinds) ≡ length kinds
-  length-headers_of place offset [] = refl
-  length-headers_of place offset (kind ∷ kinds) =
-      ap suc (length-headers_of (place + length (stream_header streams offset kind)) (offset + length (streams kind)) kinds)
+  pub length-headers_of : (cell_index offset : ℕ) (kinds : List Kind) → length (headers_of cell_index offset kinds) ≡ length kinds
+  length-headers_of cell_index offset [] = refl
+  length-headers_of cell_index offset (kind ∷ kinds) =
+      ap suc (length-headers_of (cell_index + length (stream_header streams offset kind)) (offset + length (streams kind)) kinds)
 
   -- ---- a stream is found again
 
   abbrev pub found_in : List ℕ → Kind → Option Header → List ℕ
   found_in root kind found = unwrap_or (option_map (λ header. part root header.offset header.size) found) []
 
-  pub stream_found : (kind : Kind) (root before : List ℕ) (place offset : ℕ) (kinds : List Kind) → root ≡ before ++ contents kinds → length before ≡ offset
-      → IsIn kind kinds ⊎ (streams kind ≡ []) → found_in root kind (named (stream_name kind) (headers_of place offset kinds)) ≡ streams kind
-  stream_found kind root before place offset [] e at (inl h) = absurd h
-  stream_found kind root before place offset [] e at (inr none) = sym none
-  stream_found kind root before place offset (first ∷ kinds) e at here =
-      let header : Header = record { place = place; offset = offset; size = length (streams first); name = stream_name first } in
-      let others = headers_of (place + length (stream_header streams offset first)) (offset + length (streams first)) kinds in
+  pub stream_found : (kind : Kind) (root before : List ℕ) (cell_index offset : ℕ) (kinds : List Kind) → root ≡ before ++ contents kinds → length before ≡ offset
+      → IsIn kind kinds ⊎ (streams kind ≡ []) → found_in root kind (named (stream_name kind) (headers_of cell_index offset kinds)) ≡ streams kind
+  stream_found kind root before cell_index offset [] e at (inl h) = absurd h
+  stream_found kind root before cell_index offset [] e at (inr none) = sym none
+  stream_found kind root before cell_index offset (first ∷ kinds) e at here =
+      let header : Header = record { cell_index = cell_index; offset = offset; size = length (streams first); name = stream_name first } in
+      let others = headers_of (cell_index + length (stream_header streams offset first)) (offset + length (streams first)) kinds in
       ⊎_elim
       (λ (t : bytes_eq (stream_name first) (stream_name kind) ≡ true).
       let stands : part root offset (length (streams first)) ≡ streams first =
@@ -222,7 +222,7 @@ module _ (facts : Facts) (streams : Kind → List ℕ) where
       ap (λ b. found_in root kind (cond b (Some header) (named (stream_name kind) others))) t ∙ stands ∙ ap streams (same_kind first kind t))
       (λ (f : bytes_eq (stream_name first) (stream_name kind) ≡ false).
       ap (λ b. found_in root kind (cond b (Some header) (named (stream_name kind) others))) f
-      ∙ stream_found kind root (before ++ streams first) (place + length (stream_header streams offset first)) (offset + length (streams first)) kinds
+      ∙ stream_found kind root (before ++ streams first) (cell_index + length (stream_header streams offset first)) (offset + length (streams first)) kinds
       (e ∙ sym (append_assoc before (streams first) (contents kinds)))
       (length-append before (streams first) ∙ ap (λ n. n + length (streams first)) at)
       (later first f here))
@@ -234,17 +234,17 @@ module _ (facts : Facts) (streams : Kind → List ℕ) where
       later first f (inl (inr h)) = inl h
       later first f (inr none) = inr none
 
-  pub is_named : (kind : Kind) (place offset : ℕ) (kinds : List Kind) → IsIn kind kinds → IsSome (named (stream_name kind) (headers_of place offset kinds))
-  is_named kind place offset [] h = absurd h
-  is_named kind place offset (first ∷ kinds) h =
-      let header : Header = record { place = place; offset = offset; size = length (streams first); name = stream_name first } in
-      let others = headers_of (place + length (stream_header streams offset first)) (offset + length (streams first)) kinds in
+  pub is_named : (kind : Kind) (cell_index offset : ℕ) (kinds : List Kind) → IsIn kind kinds → IsSome (named (stream_name kind) (headers_of cell_index offset kinds))
+  is_named kind cell_index offset [] h = absurd h
+  is_named kind cell_index offset (first ∷ kinds) h =
+      let header : Header = record { cell_index = cell_index; offset = offset; size = length (streams first); name = stream_name first } in
+      let others = headers_of (cell_index + length (stream_header streams offset first)) (offset + length (streams first)) kinds in
       ⊎_elim
       (λ (t : bytes_eq (stream_name first) (stream_name kind) ≡ true). subst (λ b. IsSome (cond b (Some header) (named (stream_name kind) others))) (sym t)
       refl)
       (λ (f : bytes_eq (stream_name first) (stream_name kind) ≡ false).
       subst (λ b. IsSome (cond b (Some header) (named (stream_name kind) others))) (sym f)
-      (is_named kind (place + length (stream_header streams offset first)) (offset + length (streams first)) kinds
+      (is_named kind (cell_index + length (stream_header streams offset first)) (offset + length (streams first)) kinds
       (⊎_elim (λ (same : first ≡ kind). absurd (false≢true (sym f ∙ ap (λ k. bytes_eq (stream_name k) (stream_name kind)) same ∙ name_itself kind)))
       (λ (l : IsIn kind kinds). l) h)))
       (cases_Bool (bytes_eq (stream_name first) (stream_name kind)))
@@ -257,17 +257,17 @@ module _ (facts : Facts) (streams : Kind → List ℕ) where
       find-append (λ (h : Header). bytes_eq h.name name) headers (header ∷ [])
       ∙ ap (λ o. option_or o (cond (bytes_eq header.name name) (Some header) None)) none ∙ ap (λ b. cond b (Some header) None) other
 
-  pub all_meet : (size : ℕ) (earlier : List Header) (place offset : ℕ) (kinds : List Kind) → AreApart kinds
+  pub all_meet : (size : ℕ) (earlier : List Header) (cell_index offset : ℕ) (kinds : List Kind) → AreApart kinds
       → ((kind : Kind) → IsIn kind kinds → named (stream_name kind) earlier ≡ None)
-      → offset + length (contents kinds) ≤ size → AllMeet size earlier (headers_of place offset kinds)
-  all_meet size earlier place offset [] apart fresh ends = tt
-  all_meet size earlier place offset (kind ∷ kinds) apart fresh ends =
+      → offset + length (contents kinds) ≤ size → AllMeet size earlier (headers_of cell_index offset kinds)
+  all_meet size earlier cell_index offset [] apart fresh ends = tt
+  all_meet size earlier cell_index offset (kind ∷ kinds) apart fresh ends =
       let long = length-append (streams kind) (contents kinds) in
-      let header : Header = record { place = place; offset = offset; size = length (streams kind); name = stream_name kind } in (
+      let header : Header = record { cell_index = cell_index; offset = offset; size = length (streams kind); name = stream_name kind } in (
         (λ other e. omega (arith, long)),
         (λ other e. ap (λ name. named name earlier) (sym e) ∙ fresh kind (inl refl)),
         compressed kind,
-        all_meet size (earlier ++ header ∷ []) (place + length (stream_header streams offset kind)) (offset + length (streams kind)) kinds apart.1
+        all_meet size (earlier ++ header ∷ []) (cell_index + length (stream_header streams offset kind)) (offset + length (streams kind)) kinds apart.1
             (λ other h. named_push (stream_name other) earlier header (fresh other (inr h)) (apart.0 other h)) (omega (arith, long)),
       )
 

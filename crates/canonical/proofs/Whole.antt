@@ -10,7 +10,7 @@ use Rattle.root.specs.declared.kind.Kind.TheVariants.{Tables, Strings, UserStrin
 use Rattle.root.specs.Streams.{Header}
 use Rattle.root.specs.Root.{signature, IsVersion, AreHeaders, IsRoot}
 use Rattle.packed.specs.Number.{IsNumber}
-use Rattle.heap_entries.specs.Fill.{filled}
+use Rattle.heap_entries.specs.Padding.{zero_padded}
 use Rattle.heap_pools.specs.Distinct.{is_among, first_uses, distinct}
 use Rattle.table_schema.specs.declared.table.TableId.{TableId}
 use Rattle.table_schema.specs.declared.column.ColumnKind.{ColumnKind}
@@ -25,13 +25,13 @@ use Rattle.metadata.specs.Metadata.{Metadata, count_in}
 use Rattle.metadata.specs.Source.{Source}
 use Rattle.table_schema.specs.CellColumns.{cell_count, column_of}
 use Rattle.metadata.specs.Rows.{table_at, AreTables}
-use Rattle.metadata.specs.Rules.{AreByKey, AreOwned, AreNested}
+use Rattle.metadata.specs.RowRules.{AreByKey, AreOwned, AreNested}
 use Rattle.metadata.specs.Streams.{stream_in, source_in}
 use Rattle.metadata.specs.Model.{IsModel}
 use Rattle.canonical.specs.Pools.{used, guids_of}
 use Rattle.canonical.specs.Numbers.{numbers}
 use Rattle.canonical.specs.TableStream.{has_rows, is_sorted, sizes_of, header_bytes, table_stream}
-use Rattle.canonical.specs.Canonical.{stream, streams_of, ended, directory, front, first_offset, root_of, canonical}
+use Rattle.canonical.specs.Canonical.{stream, streams_of, ended, directory, prefix, first_offset, root_of, canonical}
 use Rattle.metadata.specs.Valid.{IsValid}
 use Rattle.canonical.proofs.Held.{MayRefer, IsValidCell, IsValidAt, IsValidRow, AreValidRows, tables_valid}
 use Rattle.canonical.proofs.Lists.{IsIn, all_flat_map, all_from, all_weaker, in_filter, length-filter_le}
@@ -41,7 +41,7 @@ use Rattle.canonical.proofs.Stands.{IsWithin}
 use Rattle.canonical.proofs.Rows.{fields, tables_low, fit_tables, counts_are}
 use Rattle.canonical.proofs.Tables.{source_of, tables_stand, are_owned}
 use Rattle.canonical.proofs.Orders.{are_by_key, are_nested}
-use Rattle.canonical.proofs.Streams.{length_zeros, length-filled, fill_of, ended_is, AreApart, all_kinds, filter_apart, in_all, headers_of, contents, are_headers, length-headers_of, stream_found, is_named, all_meet, directory_long, within}
+use Rattle.canonical.proofs.Streams.{length_zeros, length-zero_padded, padding_of, ended_is, AreApart, all_kinds, filter_apart, in_all, headers_of, contents, are_headers, length-headers_of, stream_found, is_named, all_meet, directory_long, within}
 
 -- ---- each GUID of a valid model has 16 bytes
 
@@ -75,20 +75,20 @@ long_cell model (kind.List member) nullable cell valid = rw (valid.2) tt
 all_first_uses : (P : List ℕ → Type 0) (before values : List (List ℕ)) → AllByRecursion P values → AllByRecursion P (first_uses before values)
 all_first_uses P before [] all = tt
 all_first_uses P before (value ∷ values) all =
-    let rest = all_first_uses P (before ++ value ∷ []) values all.1 in
+    let tail = all_first_uses P (before ++ value ∷ []) values all.1 in
     ⊎_elim
     (λ (t : is_among before value ≡ true). subst (λ b. AllByRecursion P
-    (cond b (first_uses (before ++ value ∷ []) values) (value ∷ first_uses (before ++ value ∷ []) values))) (sym t) rest)
+    (cond b (first_uses (before ++ value ∷ []) values) (value ∷ first_uses (before ++ value ∷ []) values))) (sym t) tail)
     (λ (f : is_among before value ≡ false). subst (λ b. AllByRecursion P
-    (cond b (first_uses (before ++ value ∷ []) values) (value ∷ first_uses (before ++ value ∷ []) values))) (sym f) (all.0, rest))
+    (cond b (first_uses (before ++ value ∷ []) values) (value ∷ first_uses (before ++ value ∷ []) values))) (sym f) (all.0, tail))
     (cases_Bool (is_among before value))
 
 module _ (facts : Facts) (model : Metadata) (valid : IsValid model) where
   long_row : (table : TableId) (cells : List Cell) → IsValidRow model table cells → AllByRecursion HasLong cells
   unfolding IsValidRow
   long_row table cells row =
-      all_from (IsValidAt model table) HasLong (λ place cell v. long_cell model (column_at table (column_of table place)).kind
-      (column_at table (column_of table place)).nullable cell v)
+      all_from (IsValidAt model table) HasLong (λ cell_index cell v. long_cell model (column_at table (column_of table cell_index)).kind
+      (column_at table (column_of table cell_index)).nullable cell v)
       0 (cell_count table) cells row
 
   long_used : AllByRecursion IsLong (used guids_of model)
@@ -121,13 +121,13 @@ laid_out : Facts → (model : Metadata) → IsValid model → IsLaidOut (table_s
 unfolding table_stream header_bytes
 laid_out facts model valid =
     let body = header_bytes model ++ tables_bytes (sizes_of model) tables (numbers model) in
-    let rest = replicate ((4 - length body % 4) % 4) 0 in
+    let tail = replicate ((4 - length body % 4) % 4) 0 in
     record {
       reserved = 0 ∷ 0 ∷ 0 ∷ 0 ∷ [];
       reserved_byte = 1;
       counted = has_rows model;
-      rest = rest;
-      whole = ap (λ l. header_bytes model ++ l ++ rest) (sym (tables_low model));
+      tail = tail;
+      whole = ap (λ l. header_bytes model ++ l ++ tail) (sym (tables_low model));
       reserved_long = refl;
       heap_sizes_low = heap_sizes_low model;
       sorted_low = sorted_is facts model;
@@ -143,7 +143,7 @@ laid_out facts model valid =
 ended_short : (version : List ℕ) → length version ≤ 254 → length (ended version) ≤ 258
 ended_short version short = omega (
   arith,
-  length-append (version ++ 0 ∷ []) (fill_of version),
+  length-append (version ++ 0 ∷ []) (padding_of version),
   length_zeros ((4 - length (version ++ 0 ∷ []) % 4) % 4),
   length-append version (0 ∷ []),
 )
@@ -155,20 +155,20 @@ module _ (facts : Facts) (version : List ℕ) (streams : Kind → List ℕ) (kin
   headers : List Header
   headers = headers_of facts streams (20 + length (ended version)) offset kinds
 
-  before_long : length (front version (length kinds) ++ directory streams offset kinds) ≡ offset
+  before_long : length (prefix version (length kinds) ++ directory streams offset kinds) ≡ offset
   unfolding offset
-  before_long = length-append (front version (length kinds)) (directory streams offset kinds)
-      ∙ ap (λ n. length (front version (length kinds)) + n) (directory_long facts streams offset 0 kinds)
+  before_long = length-append (prefix version (length kinds)) (directory streams offset kinds)
+      ∙ ap (λ n. length (prefix version (length kinds)) + n) (directory_long facts streams offset 0 kinds)
 
   root_long : length (root_of version streams kinds) ≡ offset + length (contents facts streams kinds)
   unfolding root_of offset
-  root_long = length-append (front version (length kinds) ++ directory streams offset kinds) (contents facts streams kinds)
+  root_long = length-append (prefix version (length kinds) ++ directory streams offset kinds) (contents facts streams kinds)
       ∙ ap (λ n. n + length (contents facts streams kinds)) before_long
 
   find_stream : (kind : Kind) → IsIn kind kinds ⊎ (streams kind ≡ []) → stream_in (root_of version streams kinds) headers kind ≡ streams kind
   unfolding root_of offset headers
   find_stream kind here =
-      stream_found facts streams kind (root_of version streams kinds) (front version (length kinds) ++ directory streams offset kinds)
+      stream_found facts streams kind (root_of version streams kinds) (prefix version (length kinds) ++ directory streams offset kinds)
       (20 + length (ended version)) offset kinds refl before_long here
 
   is_root : IsVersion version → length kinds ≤ 5 → AreApart kinds → IsIn Tables kinds → length (root_of version streams kinds) ≤ 2 ^ 30
@@ -182,21 +182,21 @@ module _ (facts : Facts) (version : List ℕ) (streams : Kind → List ℕ) (kin
       record {
         ignored = 1 ∷ 0 ∷ 1 ∷ 0 ∷ 0 ∷ 0 ∷ 0 ∷ 0 ∷ [];
         length_bytes = number_bytes 4 (length (ended version));
-        padding = fill_of version;
+        padding = padding_of version;
         flags = 0 ∷ 0 ∷ [];
         count_bytes = number_bytes 2 (length kinds);
         directory = directory streams offset kinds;
-        rest = contents facts streams kinds;
+        tail = contents facts streams kinds;
         whole = ap (λ v. signature ++ (1 ∷ 0 ∷ 1 ∷ 0 ∷ 0 ∷ 0 ∷ 0 ∷ 0 ∷ []) ++ number_bytes 4 (length (ended version)) ++ v ++ (0 ∷ 0 ∷ []) ++ number_bytes 2
             (length kinds)
             ++ directory streams offset kinds ++ contents facts streams kinds) is_ended;
         ignored_long = refl;
         version_long = subst (λ v. IsNumber 4 (number_bytes 4 (length (ended version))) (length v)) is_ended
-            (facts.spelled 4 (length (ended version)) (omega (arith, short)));
-        version_filled = subst (λ v. length v % 4 ≡ 0) is_ended (length-filled (version ++ 0 ∷ []));
+            (facts.encoded 4 (length (ended version)) (omega (arith, short)));
+        version_padded = subst (λ v. length v % 4 ≡ 0) is_ended (length-zero_padded (version ++ 0 ∷ []));
         version_is = is;
         flags_long = refl;
-        count = subst (IsNumber 2 (number_bytes 2 (length kinds))) (sym count) (facts.spelled 2 (length kinds) (omega (arith, few)));
+        count = subst (IsNumber 2 (number_bytes 2 (length kinds))) (sym count) (facts.encoded 2 (length kinds) (omega (arith, few)));
         headers_are = subst (λ v. AreHeaders (20 + length v) (directory streams offset kinds) headers) is_ended
             (are_headers facts streams (20 + length (ended version)) offset kinds (omega (arith, long, small)));
         headers_meet = all_meet facts streams (length (root_of version streams kinds)) [] (20 + length (ended version)) offset kinds apart (λ kind h. refl)
@@ -258,11 +258,11 @@ module _ (facts : Facts) (model : Metadata) (valid : IsValid model) (small : len
   same_source : source_in (canonical model) root_headers (sizes_of model) (fields model) ≡ source_of model
   same_source = λ i. record { sizes = sizes_of model; numbers = fields model; texts = find Strings i; blobs = find Blobs i; guids = find Guids i }
 
-  user_is : model.user ≡ filled (stream_in (canonical model) root_headers UserStrings)
+  user_is : model.user ≡ zero_padded (stream_in (canonical model) root_headers UserStrings)
   user_is =
       let whole : model.user ++ replicate ((4 - length model.user % 4) % 4) 0 ≡ model.user =
-      ap (λ n. model.user ++ replicate {A = ℕ} ((4 - n) % 4) 0) valid.user.filled ∙ append-nil model.user in
-      sym whole ∙ ap filled (sym (find UserStrings))
+      ap (λ n. model.user ++ replicate {A = ℕ} ((4 - n) % 4) 0) valid.user.zero_padded ∙ append-nil model.user in
+      sym whole ∙ ap zero_padded (sym (find UserStrings))
 
   -- the canonical root has the model
   pub is_model : IsModel (canonical model) model

@@ -10,7 +10,7 @@ use Rattle.packed.specs.Packed.{IsPacked}
 use Rattle.table_schema.specs.declared.table.TableId.{TableId}
 use Rattle.table_schema.specs.declared.table.TableId.TheVariants.{Module}
 use Rattle.table_schema.specs.declared.coded.Coded.{Coded}
-use Rattle.table_schema.specs.Tables.{tables, position_of, table_number}
+use Rattle.table_schema.specs.Tables.{tables, table_index_of, table_number}
 use Rattle.table_schema.specs.CodedIndexes.{tables_of, tag_bits}
 use Rattle.schema.specs.Sizes.{Sizes, count_of, narrow_or_wide, heap_width, is_below, coded_width}
 use Rattle.heap_entries.specs.Entries.{IsText, IsBlob, IsGuid}
@@ -117,8 +117,8 @@ module _ (model : Metadata) where
   pub count_is : Facts → (table : TableId) → count_of (sizes_of model) table ≡ count_in model table
   unfolding sizes_of
   count_is facts table =
-      let below : position_of table < length tables = omega (arith, facts.position table, facts.count) in
-      get_or-map (count_in model) tables (position_of table) Module 0 below ∙ ap (count_in model) (facts.stand table)
+      let below : table_index_of table < length tables = omega (arith, facts.table_index table, facts.count) in
+      get_or-map (count_in model) tables (table_index_of table) Module 0 below ∙ ap (count_in model) (facts.stand table)
 
 -- ---- rows
 
@@ -140,14 +140,14 @@ both_true false b h = absurd (true≢false (sym h))
 
 pub same_table : Facts → (a b : TableId) → table_number a ≡ table_number b → a ≡ b
 same_table facts a b e = ⊎_elim
-    (λ (l : position_of a < position_of b). absurd (omega (arith, facts.rise a b l)))
-    (λ (h : position_of b ≤ position_of a). ⊎_elim
-    (λ (l : position_of b < position_of a). absurd (omega (arith, facts.rise b a l)))
-    (λ (k : position_of a ≤ position_of b).
-    let same : position_of a ≡ position_of b = omega arith in
+    (λ (l : table_index_of a < table_index_of b). absurd (omega (arith, facts.rise a b l)))
+    (λ (h : table_index_of b ≤ table_index_of a). ⊎_elim
+    (λ (l : table_index_of b < table_index_of a). absurd (omega (arith, facts.rise b a l)))
+    (λ (k : table_index_of a ≤ table_index_of b).
+    let same : table_index_of a ≡ table_index_of b = omega arith in
     sym (facts.stand a) ∙ ap (λ n. get_or tables n Module) same ∙ facts.stand b)
-    (cases_lt (position_of b) (position_of a)))
-    (cases_lt (position_of a) (position_of b))
+    (cases_lt (table_index_of b) (table_index_of a)))
+    (cases_lt (table_index_of a) (table_index_of b))
 
 below_listed : (sizes : Sizes) (limit : ℕ) (listed : List (Option TableId)) (tag : ℕ) (table : TableId)
     → list_all (is_below sizes limit) listed ≡ true → slice_get listed tag ≡ Some (Some table) → count_of sizes table < limit

@@ -5,7 +5,7 @@ use Rattle.root.specs.declared.kind.Kind.TheVariants.{Tables, Strings, UserStrin
 use Rattle.root.specs.Streams.{stream_name}
 use Rattle.root.specs.Root.{signature}
 use Rattle.schema.specs.LaidOut.{number_bytes}
-use Rattle.heap_entries.specs.Fill.{filled}
+use Rattle.heap_entries.specs.Padding.{zero_padded}
 use Rattle.metadata.specs.Metadata.{Metadata}
 use Rattle.canonical.specs.Pools.{texts_stream, blobs_stream, guids_stream}
 use Rattle.canonical.specs.TableStream.{table_stream}
@@ -24,7 +24,7 @@ streams_of model = filter (λ kind. nat_lt 0 (length (stream model kind))) (Tabl
 
 -- a text with its terminating NUL, padded with zeros to a multiple of four
 abbrev pub ended : List ℕ → List ℕ
-ended text = filled (text ++ 0 ∷ [])
+ended text = zero_padded (text ++ 0 ∷ [])
 
 -- the header of a stream at an offset: Offset, Size, Name (II.24.2.2)
 abbrev pub stream_header : (Kind → List ℕ) → ℕ → Kind → List ℕ
@@ -37,18 +37,18 @@ directory streams offset (kind ∷ kinds) = stream_header streams offset kind ++
 
 -- the root header: Signature, MajorVersion 1, MinorVersion 1, Reserved 0, Length, Version, Flags 0 and Streams
 -- (II.24.2.1)
-abbrev pub front : List ℕ → ℕ → List ℕ
-front version count =
+abbrev pub prefix : List ℕ → ℕ → List ℕ
+prefix version count =
     signature ++ (1 ∷ 0 ∷ 1 ∷ 0 ∷ 0 ∷ 0 ∷ 0 ∷ 0 ∷ []) ++ number_bytes 4 (length (ended version)) ++ ended version ++ (0 ∷ 0 ∷ []) ++ number_bytes 2 count
 
 -- the offset of the first stream, after the root header and all stream headers; their length does not depend on offsets
 abbrev pub first_offset : List ℕ → (Kind → List ℕ) → List Kind → ℕ
-first_offset version streams kinds = length (front version (length kinds)) + length (directory streams 0 kinds)
+first_offset version streams kinds = length (prefix version (length kinds)) + length (directory streams 0 kinds)
 
 -- the root header, the stream headers and the bytes of the streams, without gaps
 unfoldable pub root_of : List ℕ → (Kind → List ℕ) → List Kind → List ℕ
 root_of version streams kinds =
-    front version (length kinds) ++ directory streams (first_offset version streams kinds) kinds ++ flat_map streams kinds
+    prefix version (length kinds) ++ directory streams (first_offset version streams kinds) kinds ++ flat_map streams kinds
 
 -- the canonical root of a model
 abbrev pub canonical : Metadata → List ℕ

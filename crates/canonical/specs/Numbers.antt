@@ -8,7 +8,7 @@ use Rattle.table_schema.specs.Columns.{columns_of}
 use Rattle.heap_pools.specs.TextHeap.{text_index}
 use Rattle.heap_pools.specs.BlobHeap.{blob_index}
 use Rattle.heap_pools.specs.GuidHeap.{guid_index}
-use Rattle.sig_grammar.specs.Spells.{short}
+use Rattle.sig_grammar.specs.Encodes.{short}
 use Rattle.metadata.specs.Cell.{Cell}
 use Rattle.metadata.specs.Cell.{Number, Text, Bytes, Guid, Ref, Start, Sig}
 use Rattle.metadata.specs.Metadata.{Metadata, rows_of}
@@ -29,9 +29,9 @@ cell_number pools kind (Sig signature) = blob_index pools.blobs (short signature
 
 -- the number of the next cell, and the numbers of the following ones; padding has no cell, and its number is 0
 abbrev pub with_next : Bool → (Cell → ℕ) → (List Cell → List ℕ) → List Cell → List ℕ
-with_next true number rest cells = 0 ∷ rest cells
-with_next false number rest [] = 0 ∷ rest []
-with_next false number rest (cell ∷ cells) = number cell ∷ rest cells
+with_next true number tail cells = 0 ∷ tail cells
+with_next false number tail [] = 0 ∷ tail []
+with_next false number tail (cell ∷ cells) = number cell ∷ tail cells
 
 -- the numbers of a row, one per column; `number` gives the number of a cell in a column of a kind
 abbrev pub numbers_by : (ColumnKind → Cell → ℕ) → List Column → List Cell → List ℕ

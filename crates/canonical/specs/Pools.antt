@@ -2,12 +2,12 @@
 use Rattle.std.specs.Prelude.{ℕ, List, [], ◌∷◌, flat_map, Some}
 use Rattle.metadata.specs.Cell.{Cell}
 use Rattle.metadata.specs.Cell.{Text, Bytes, Guid, Sig}
-use Rattle.heap_entries.specs.Fill.{filled}
+use Rattle.heap_entries.specs.Padding.{zero_padded}
 use Rattle.heap_pools.specs.Distinct.{distinct}
 use Rattle.heap_pools.specs.TextHeap.{holders, text_heap}
 use Rattle.heap_pools.specs.BlobHeap.{blob_heap}
 use Rattle.heap_pools.specs.GuidHeap.{guid_heap}
-use Rattle.sig_grammar.specs.Spells.{short}
+use Rattle.sig_grammar.specs.Encodes.{short}
 use Rattle.metadata.specs.Metadata.{Metadata}
 
 -- the texts that a cell uses (II.24.2.3)
@@ -42,10 +42,10 @@ pools_of model = record { texts = holders (used texts_of model); blobs = distinc
 
 -- the streams of the heaps, padded to a multiple of four (II.24.2.2)
 abbrev pub texts_stream : Metadata → List ℕ
-texts_stream model = filled (text_heap (pools_of model).texts)
+texts_stream model = zero_padded (text_heap (pools_of model).texts)
 
 abbrev pub blobs_stream : Metadata → List ℕ
-blobs_stream model = filled (blob_heap (pools_of model).blobs)
+blobs_stream model = zero_padded (blob_heap (pools_of model).blobs)
 
 abbrev pub guids_stream : Metadata → List ℕ
-guids_stream model = filled (guid_heap (pools_of model).guids)
+guids_stream model = zero_padded (guid_heap (pools_of model).guids)

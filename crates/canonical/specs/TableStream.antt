@@ -5,7 +5,7 @@ use Rattle.table_schema.specs.Tables.{tables}
 use Rattle.table_schema.specs.Columns.{columns_of, key_of}
 use Rattle.schema.specs.Sizes.{Sizes, header_size}
 use Rattle.schema.specs.LaidOut.{number_bytes, tables_bytes, bits_of, counts_bytes}
-use Rattle.heap_entries.specs.Fill.{filled}
+use Rattle.heap_entries.specs.Padding.{zero_padded}
 use Rattle.metadata.specs.Metadata.{Metadata, rows_of, count_in}
 use Rattle.metadata.specs.KeyOrder.{key_number}
 use Rattle.canonical.specs.Pools.{texts_stream, blobs_stream, guids_stream}
@@ -23,7 +23,7 @@ wide_bit stream bit = if nat_le (2 ^ 16) (length stream) then bit else 0
 abbrev pub rises : List ℕ → Bool
 rises [] = true
 rises (first ∷ []) = true
-rises (first ∷ second ∷ rest) = nat_le first second && rises (second ∷ rest)
+rises (first ∷ second ∷ tail) = nat_le first second && rises (second ∷ tail)
 
 -- the rows are in order of the key in this column, if there is a key
 abbrev pub is_by_key : List (List ℕ) → Option ℕ → Bool
@@ -55,4 +55,4 @@ header_bytes model =
 
 -- the header and the rows of all tables; a number that is too great for its column is truncated to its low bytes
 unfoldable pub table_stream : Metadata → List ℕ
-table_stream model = filled (header_bytes model ++ tables_bytes (sizes_of model) tables (numbers model))
+table_stream model = zero_padded (header_bytes model ++ tables_bytes (sizes_of model) tables (numbers model))

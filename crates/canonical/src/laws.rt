@@ -12,8 +12,8 @@ use heap_pools::{
     pooled_are_distinct, pooled_blob_is_found, pooled_guid_is_found, used_text_is_found,
 };
 use metadata::roots_have_models;
-use schema::{bits_are_known, numbers_are_spelled};
-use sig_values::shortest_spells;
+use schema::{bits_are_known, numbers_are_encoded};
+use sig_values::shortest_encodes;
 use table_schema::{columns_stand, tables_stand, tags_fit};
 
 /// The canonical root of a valid model has this model, if the root has at most 2^30 bytes.
@@ -30,14 +30,14 @@ pub fn canonical_root_has_its_model()
     columns_stand();
     tags_fit();
     bits_are_known();
-    numbers_are_spelled();
-    shortest_spells();
+    numbers_are_encoded();
+    shortest_encodes();
 }
 
 /// A valid model is the only model of its canonical root: every model of that root equals it. Two valid models with the
 /// same canonical root are equal.
 pub fn canonical_root_is_one()
-    ensures only { (model other : Metadata) → IsValid model → length (canonical model) ≤ 2 ^ 30 → IsModel (canonical model) other → model ≡ other }
+    ensures unique { (model other : Metadata) → IsValid model → length (canonical model) ≤ 2 ^ 30 → IsModel (canonical model) other → model ≡ other }
     ensures apart { (model other : Metadata) → IsValid model → IsValid other → length (canonical model) ≤ 2 ^ 30
         → length (canonical other) ≤ 2 ^ 30 → canonical model ≡ canonical other → model ≡ other }
 {
@@ -46,7 +46,7 @@ pub fn canonical_root_is_one()
 }
 
 /// The Sorted bit of a keyed table of a valid model is set if and only if the table's keys are in order.
-pub fn sorted_bits_tell_order()
+pub fn sorted_bits_report_order()
     ensures { (model : Metadata) → IsValid model → (table : Table) (key : ℕ) → key_of table ≡ Some key
         → (is_sorted model table ≡ true) ↔ IsKeyOrdered model table }
 {
@@ -58,6 +58,6 @@ pub fn sorted_bits_tell_order()
     columns_stand();
     tags_fit();
     bits_are_known();
-    numbers_are_spelled();
-    shortest_spells();
+    numbers_are_encoded();
+    shortest_encodes();
 }

@@ -12,4 +12,4 @@
 
 mod laws;
 
-pub use laws::{canonical_root_has_its_model, canonical_root_is_one, sorted_bits_tell_order};
+pub use laws::{canonical_root_has_its_model, canonical_root_is_one, sorted_bits_report_order};

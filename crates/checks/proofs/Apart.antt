@@ -9,7 +9,7 @@ use Rattle.checks.specs.Passed.{Slots, no_slots, is_kept, keep, leaves_part}
 use Rattle.checks.specs.Signatures.{sum_below}
 use Rattle.checks.specs.Walks.{Walk, LieApart, walk_one, walk_over}
 use Rattle.checks.proofs.Walks.{one_spared, one_walked, walk_none, walk_more}
-use Rattle.checks.proofs.PassedLemmas.{none_filled, slots_more}
+use Rattle.checks.proofs.PassedLemmas.{none_padded, slots_more}
 
 -- the sum over a list in which one place is set
 module _ (f : ℕ → ℕ) (xs : List ℕ) (i y : ℕ) (within : i < length xs) where
@@ -111,7 +111,7 @@ module _ (heap : ℕ) (long number : ℕ → ℕ) (rows : ℕ) (lie : LieApart h
   walked_none = record {
     part = refl;
     slots = length-replicate {A = ℕ} 1024 0;
-    are = λ k some. absurd (some (none_filled k));
+    are = λ k some. absurd (some (none_padded k));
     bytes = omega arith;
   }
 

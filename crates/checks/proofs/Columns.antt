@@ -2,82 +2,82 @@
 use Rattle.std.proofs.Common.{◌≡◌, ℕ, ◌+◌, ◌<◌, ◌≤◌, List, ◌⊎◌, inl, inr, sym, subst, arith, length}
 use Rattle.std.proofs.lemmas.Bool.{cases_eq}
 use Rattle.packed.specs.declared.fault.Fault.{Fault}
-use Rattle.packed.specs.Demand.{Demand, AllHold, HoldBefore, demands_from}
-use Rattle.packed.proofs.DemandLemmas.{all_of_each}
+use Rattle.packed.specs.Rule.{Rule, AllHold, HoldBefore, rules_from}
+use Rattle.packed.proofs.RuleLemmas.{all_of_each}
 use Rattle.table_schema.specs.declared.table.TableId.{TableId}
 use Rattle.table_schema.specs.declared.column.Column.{Column}
 use Rattle.table_schema.specs.declared.column.ColumnKind.{ColumnKind}
 use Rattle.table_schema.specs.declared.column.ColumnKind.TheVariants as kind
 use Rattle.table_schema.specs.Columns.{columns_of, column_at}
 use Rattle.metadata.specs.Source.{number_of}
-use Rattle.metadata.specs.Placed.{Placed, cell_place}
-use Rattle.metadata.specs.Demands.{demands_of_number, demands_of_cell, demands_of_row}
-use Rattle.metadata.specs.Demands.{demands_of_spelling, demands_of_signature, demands_of_signatures_in}
-use Rattle.checks.specs.Columns.{AllPass, ColumnMeets, ColumnStands, ColumnSpells}
+use Rattle.metadata.specs.SourceAt.{SourceAt, cell_offset}
+use Rattle.metadata.specs.Rules.{rules_of_number, rules_of_cell, rules_of_row}
+use Rattle.metadata.specs.Rules.{rules_of_encoding, rules_of_signature, rules_of_signatures_in}
+use Rattle.checks.specs.Columns.{AllPass, ColumnMeets, ColumnStands, ColumnEncodes}
 
 -- if the rules of all columns hold, the rules of a row hold
-row_meets : (demands : ℕ → ℕ → List (Demand Fault)) (end width row : ℕ) → ((column : ℕ) → column < width → ColumnMeets demands end column)
-    → 1 ≤ row → row < end → AllHold (demands_from (demands row) 0 width)
-row_meets demands end width row meet first before =
-    all_of_each (demands row) 0 width (λ column low high. (meet column (omega arith)).each row first before)
+row_meets : (rules : ℕ → ℕ → List (Rule Fault)) (end width row : ℕ) → ((column : ℕ) → column < width → ColumnMeets rules end column)
+    → 1 ≤ row → row < end → AllHold (rules_from (rules row) 0 width)
+row_meets rules end width row meet first before =
+    all_of_each (rules row) 0 width (λ column low high. (meet column (omega arith)).each row first before)
 
 -- one more column, whose rules hold in fewer rows
-pub meets_more : (demands : ℕ → ℕ → List (Demand Fault)) (end fewer column : ℕ) → fewer ≤ end
-    → ((earlier : ℕ) → earlier < column → ColumnMeets demands end earlier) → ColumnMeets demands fewer column
-    → (earlier : ℕ) → earlier < column + 1 → ColumnMeets demands fewer earlier
-meets_more demands end fewer column few meet here earlier within = elim (cases_eq earlier column) [
-  | inl same ↦ (let P : ℕ → Type 0 = λ c. ColumnMeets demands fewer c in subst P (sym same) here)
+pub meets_more : (rules : ℕ → ℕ → List (Rule Fault)) (end fewer column : ℕ) → fewer ≤ end
+    → ((earlier : ℕ) → earlier < column → ColumnMeets rules end earlier) → ColumnMeets rules fewer column
+    → (earlier : ℕ) → earlier < column + 1 → ColumnMeets rules fewer earlier
+meets_more rules end fewer column few meet here earlier within = elim (cases_eq earlier column) [
+  | inl same ↦ (let P : ℕ → Type 0 = λ c. ColumnMeets rules fewer c in subst P (sym same) here)
   | inr other ↦ record { each = λ row first before. (meet earlier (omega arith)).each row first (omega arith) }
 ]
 
-module _ (here : Placed) (table : TableId) (end columns : ℕ) (all : length (columns_of table) ≤ columns) where
+module _ (here : SourceAt) (table : TableId) (end columns : ℕ) (all : length (columns_of table) ≤ columns) where
   -- if the rules of all columns hold, the rules of the rows hold
-  pub rows_stand : ((column : ℕ) → column < columns → ColumnStands here table end column) → HoldBefore (demands_of_row here table) 1 end
-  unfolding demands_of_row
+  pub rows_stand : ((column : ℕ) → column < columns → ColumnStands here table end column) → HoldBefore (rules_of_row here table) 1 end
+  unfolding rules_of_row
   rows_stand stand = record {
     each = λ row first before.
-        row_meets (demands_of_cell here table) end (length (columns_of table)) row (λ column within. stand column (omega arith)) first before;
+        row_meets (rules_of_cell here table) end (length (columns_of table)) row (λ column within. stand column (omega arith)) first before;
   }
 
-  pub rows_spell : ((column : ℕ) → column < columns → ColumnSpells here table end column) → HoldBefore (demands_of_signatures_in here table) 1 end
-  unfolding demands_of_signatures_in
-  rows_spell spell = record {
+  pub rows_encode : ((column : ℕ) → column < columns → ColumnEncodes here table end column) → HoldBefore (rules_of_signatures_in here table) 1 end
+  unfolding rules_of_signatures_in
+  rows_encode encode = record {
     each = λ row first before.
-        row_meets (demands_of_signature here table) end (length (columns_of table)) row (λ column within. spell column (omega arith)) first before;
+        row_meets (rules_of_signature here table) end (length (columns_of table)) row (λ column within. encode column (omega arith)) first before;
   }
 
 -- any number passes if there is no rule
-pub none_asked : (here : Placed) (table : TableId) (column end : ℕ) → AllPass (λ number. Unit {0}) here.source table column end
+pub none_asked : (here : SourceAt) (table : TableId) (column end : ℕ) → AllPass (λ number. Unit {0}) here.source table column end
 none_asked here table column end = record { each = λ row first last. tt }
 
-module _ (here : Placed) (table : TableId) (column end : ℕ) (held : Column) (is : held ≡ column_at table column) where
+module _ (here : SourceAt) (table : TableId) (column end : ℕ) (held : Column) (is : held ≡ column_at table column) where
   -- each number of a column passes, and a number that passes obeys the rules of the column's kind, whatever its offset
   pub passed_stands : (P : ℕ → Type 0) (kind : ColumnKind) → held.kind ≡ kind → AllPass P here.source table column end
-      → ((number : ℕ) → P number → (place : ℕ) → AllHold (demands_of_number here.source kind held.nullable number place))
+      → ((number : ℕ) → P number → (offset : ℕ) → AllHold (rules_of_number here.source kind held.nullable number offset))
       → ColumnStands here table end column
-  unfolding demands_of_cell
+  unfolding rules_of_cell
   passed_stands P kind of_kind pass stands = record {
     each = λ row first last.
-        rw (← of_kind, is) at (stands (number_of here.source table row column) (pass.each row first last) (cell_place here table row column));
+        rw (← of_kind, is) at (stands (number_of here.source table row column) (pass.each row first last) (cell_offset here table row column));
   }
 
-  pub passed_spells : (P : ℕ → Type 0) (kind : ColumnKind) → held.kind ≡ kind → AllPass P here.source table column end
-      → ((number : ℕ) → P number → (place : ℕ) → AllHold (demands_of_spelling here.source kind number place))
-      → ColumnSpells here table end column
-  unfolding demands_of_signature
-  passed_spells P kind of_kind pass spells = record {
+  pub passed_encodes : (P : ℕ → Type 0) (kind : ColumnKind) → held.kind ≡ kind → AllPass P here.source table column end
+      → ((number : ℕ) → P number → (offset : ℕ) → AllHold (rules_of_encoding here.source kind number offset))
+      → ColumnEncodes here table end column
+  unfolding rules_of_signature
+  passed_encodes P kind of_kind pass encodes = record {
     each = λ row first last.
-        rw (← of_kind, is) at (spells (number_of here.source table row column) (pass.each row first last) (cell_place here table row column));
+        rw (← of_kind, is) at (encodes (number_of here.source table row column) (pass.each row first last) (cell_offset here table row column));
   }
 
   plain : (kind : ColumnKind) → held.kind ≡ kind
-      → ((number place : ℕ) → AllHold (demands_of_number here.source kind held.nullable number place)) → ColumnStands here table end column
+      → ((number offset : ℕ) → AllHold (rules_of_number here.source kind held.nullable number offset)) → ColumnStands here table end column
   plain kind of_kind all = passed_stands (λ number. Unit {0}) kind of_kind (none_asked here table column end) (λ number passed. all number)
 
   -- plain numbers have no rule
   pub plain_stands : (held.kind ≡ kind.U8) ⊎ ((held.kind ≡ kind.U16) ⊎ ((held.kind ≡ kind.U32) ⊎ (held.kind ≡ kind.Padding)))
       → ColumnStands here table end column
-  plain_stands (inl of_kind) = plain kind.U8 of_kind (λ number place. tt)
-  plain_stands (inr (inl of_kind)) = plain kind.U16 of_kind (λ number place. tt)
-  plain_stands (inr (inr (inl of_kind))) = plain kind.U32 of_kind (λ number place. tt)
-  plain_stands (inr (inr (inr of_kind))) = plain kind.Padding of_kind (λ number place. tt)
+  plain_stands (inl of_kind) = plain kind.U8 of_kind (λ number offset. tt)
+  plain_stands (inr (inl of_kind)) = plain kind.U16 of_kind (λ number offset. tt)
+  plain_stands (inr (inr (inl of_kind))) = plain kind.U32 of_kind (λ number offset. tt)
+  plain_stands (inr (inr (inr of_kind))) = plain kind.Padding of_kind (λ number offset. tt)

@@ -5,24 +5,24 @@ use Rattle.std.proofs.lemmas.List.{drop_at, take_at, get_or_append_left, get_or_
 use Rattle.heap_entries.specs.Entries.{IsEnded, IsText}
 
 module _ (heap : List ℕ) (start : ℕ) (bytes : List ℕ) (e : IsEnded heap start bytes) where
-  pub rest_is : drop start heap ≡ bytes ++ 0 ∷ e.after
-  rest_is = ap (drop start) e.whole ∙ drop_at e.before (bytes ++ 0 ∷ e.after) start e.at
+  pub tail_is : drop start heap ≡ bytes ++ 0 ∷ e.after
+  tail_is = ap (drop start) e.whole ∙ drop_at e.before (bytes ++ 0 ∷ e.after) start e.at
 
   pub ended_length : start + length bytes < length heap
   ended_length = omega (arith, ap length e.whole, length-append e.before (bytes ++ 0 ∷ e.after), length-append bytes (0 ∷ e.after), e.at)
 
   nul_behind : slice_index (drop start heap) (length bytes) ≡ 0
-  nul_behind = ap (λ l. slice_index l (length bytes)) rest_is ∙ get_or_at bytes 0 e.after 0 (length bytes) refl
+  nul_behind = ap (λ l. slice_index l (length bytes)) tail_is ∙ get_or_at bytes 0 e.after 0 (length bytes) refl
 
   none_in : (k : ℕ) → k < length bytes → slice_index (drop start heap) k ≢ 0
-  none_in k h z = e.no_nul k 0 h (sym (get_or_append_left bytes (0 ∷ e.after) 0 k h) ∙ ap (λ l. slice_index l k) (sym rest_is) ∙ z)
+  none_in k h z = e.no_nul k 0 h (sym (get_or_append_left bytes (0 ∷ e.after) 0 k h) ∙ ap (λ l. slice_index l k) (sym tail_is) ∙ z)
 
   bytes_are : (n : ℕ) → n ≡ length bytes → take n (drop start heap) ≡ bytes
-  bytes_are n h = ap (take n) rest_is ∙ take_at bytes (0 ∷ e.after) n (sym h)
+  bytes_are n h = ap (take n) tail_is ∙ take_at bytes (0 ∷ e.after) n (sym h)
 
   -- the byte at a place of them, in the heap
   pub byte_is : (k : ℕ) → k < length bytes → slice_index bytes k ≡ slice_index heap (start + k)
-  byte_is k h = sym (get_or_append_left bytes (0 ∷ e.after) 0 k h) ∙ ap (λ l. slice_index l k) (sym rest_is) ∙ get_or-drop start heap k 0
+  byte_is k h = sym (get_or_append_left bytes (0 ∷ e.after) 0 k h) ∙ ap (λ l. slice_index l k) (sym tail_is) ∙ get_or-drop start heap k 0
 
 -- one run of bytes at most is ended at a place
 ended_same : (heap : List ℕ) (start : ℕ) (a b : List ℕ) → IsEnded heap start a → IsEnded heap start b → a ≡ b

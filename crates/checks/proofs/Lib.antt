@@ -6,7 +6,7 @@ pub mod Numbers
 pub mod OrderLemmas
 pub mod Orders
 pub mod PassedLemmas
-pub mod Spellings
+pub mod Encodings
 pub mod Spending
 pub mod Starts
 pub mod Sums

@@ -7,8 +7,8 @@ use Rattle.std.proofs.lemmas.List.{get_or-replicate, get_or-set_other, get_or_pa
 use Rattle.checks.specs.Passed.{Keeps, no_slots}
 
 -- each of the empty slots holds 0
-pub none_filled : (slot : ℕ) → slice_index (replicate 1024 0) slot ≡ 0
-none_filled slot = elim (cases_lt slot 1024) [
+pub none_padded : (slot : ℕ) → slice_index (replicate 1024 0) slot ≡ 0
+none_padded slot = elim (cases_lt slot 1024) [
   | inl within ↦ get_or-replicate 1024 slot 0 0 within
   | inr past ↦ get_or_past (replicate 1024 0) slot 0 (omega (arith, length-replicate {A = ℕ} 1024 0))
 ]
@@ -26,8 +26,8 @@ slots_more P starts slot start within here before k some =
 -- empty slots keep no number
 pub none_kept : (bytes number : ℕ) → ¬ Keeps (no_slots bytes) number
 none_kept bytes number keeps =
-    let recent = none_filled (number % 1024) in
-    let long = none_filled (number / (bytes / 1024 + 1) % 1024) in
+    let recent = none_padded (number % 1024) in
+    let long = none_padded (number / (bytes / 1024 + 1) % 1024) in
     grind (arith, nat_tests)
 
 -- a property of the numbers of the rows before one, and of that row's number

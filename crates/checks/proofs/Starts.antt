@@ -4,14 +4,14 @@ use Rattle.std.proofs.Common.{refl, arith, inl, inr}
 use Rattle.std.proofs.lemmas.Bool.{cases_lt}
 use Rattle.std.proofs.lemmas.Bool.Decides.{nat_tests}
 use Rattle.packed.specs.declared.code.FaultCode.TheVariants.{BadRun}
-use Rattle.packed.specs.Demand.{demands_from, fault}
+use Rattle.packed.specs.Rule.{rules_from, fault}
 use Rattle.table_schema.specs.declared.table.TableId.{TableId}
 use Rattle.metadata.specs.Source.{Source, rows_in, number_of}
 use Rattle.metadata.specs.Starts.{start_from, start_of}
-use Rattle.metadata.specs.Placed.{Placed, cell_place}
-use Rattle.metadata.specs.Demands.{demands_of_start}
+use Rattle.metadata.specs.SourceAt.{SourceAt, cell_offset}
+use Rattle.metadata.specs.Rules.{rules_of_start}
 use Rattle.checks.specs.Runs.{IsVerdict, fault_in_row}
-use Rattle.checks.proofs.Verdicts.{first_of, verdict_unless, verdict_front, verdict_over}
+use Rattle.checks.proofs.Verdicts.{first_of, verdict_unless, verdict_prefix, verdict_over}
 
 start_none : (value : ℕ → ℕ) (end row n : ℕ) → n ≡ 0 → start_from value end row n ≡ end
 start_none value end row n e = rw e refl
@@ -22,42 +22,42 @@ unfolding start_of
 start_of_end source owner row column member past =
     start_none (λ r. number_of source owner r column) _ row (rows_in source owner + 1 - row) (omega arith)
 
-module _ (here : Placed) (owner : TableId) (column : ℕ) (member : TableId) where
+module _ (here : SourceAt) (owner : TableId) (column : ℕ) (member : TableId) where
   pick : (row : ℕ) (falls : Option ℕ) (lower : Bool) → fault_in_row here owner column (cond lower (Some (row + 1)) falls)
-      ≡ first_of (cond lower (Some (fault BadRun (cell_place here owner (row + 1) column))) None) (fault_in_row here owner column falls)
+      ≡ first_of (cond lower (Some (fault BadRun (cell_offset here owner (row + 1) column))) None) (fault_in_row here owner column falls)
   pick row falls true = refl
   pick row falls false = refl
 
   -- the rule for the start after the first
   fallen_verdict : (row next start : ℕ) → next ≡ start_of here.source owner (row + 1) column member
       → start ≡ start_of here.source owner row column member
-      → IsVerdict (demands_of_start here owner column member (row + 1))
-      (cond (ltb next start) (Some (fault BadRun (cell_place here owner (row + 1) column))) None)
-  unfolding demands_of_start
+      → IsVerdict (rules_of_start here owner column member (row + 1))
+      (cond (ltb next start) (Some (fault BadRun (cell_offset here owner (row + 1) column))) None)
+  unfolding rules_of_start
   fallen_verdict row next start after is =
       let back : row + 1 - 1 ≡ row = omega arith in
       verdict_unless (start_of here.source owner (row + 1 - 1) column member ≤ start_of here.source owner (row + 1) column member)
-      BadRun (cell_place here owner (row + 1) column) (ltb next start)
+      BadRun (cell_offset here owner (row + 1) column) (ltb next start)
       (λ t. let low : start ≤ next = grind (arith, nat_tests) in rw (back, ← is, ← after) low)
       (λ t h. let high : next < start = grind (arith, nat_tests) in let low : start ≤ next = rw (back, ← is, ← after) at h in omega arith)
 
   pub falls_step : (row count next start : ℕ) (falls found : Option ℕ) → 1 ≤ row → row ≤ count
       → next ≡ start_of here.source owner (row + 1) column member → start ≡ start_of here.source owner row column member
-      → IsVerdict (demands_from (demands_of_start here owner column member) (row + 2) (count - (row + 1))) (fault_in_row here owner column falls)
+      → IsVerdict (rules_from (rules_of_start here owner column member) (row + 2) (count - (row + 1))) (fault_in_row here owner column falls)
       → found ≡ cond (ltb row count && ltb next start) (Some (row + 1)) falls
-      → IsVerdict (demands_from (demands_of_start here owner column member) (row - 1 + 2) (count - (row - 1 + 1)))
+      → IsVerdict (rules_from (rules_of_start here owner column member) (row - 1 + 2) (count - (row - 1 + 1)))
       (fault_in_row here owner column found)
-  falls_step row count next start falls found first last after is rest e =
+  falls_step row count next start falls found first last after is tail e =
       elim (cases_lt row count) [
         | inl below ↦
             let test : ltb row count ≡ true = grind (arith, nat_tests) in
-            let place : row - 1 + 2 ≡ row + 1 = omega arith in
-            rw (e, test, place, pick row falls (ltb next start))
-            (verdict_front (demands_of_start here owner column member) (row + 1) (row + 2) (count - (row - 1 + 1)) (count - (row + 1)) _ _
-            (omega arith) (omega arith) (fallen_verdict row next start after is) rest)
+            let offset : row - 1 + 2 ≡ row + 1 = omega arith in
+            rw (e, test, offset, pick row falls (ltb next start))
+            (verdict_prefix (rules_of_start here owner column member) (row + 1) (row + 2) (count - (row - 1 + 1)) (count - (row + 1)) _ _
+            (omega arith) (omega arith) (fallen_verdict row next start after is) tail)
         | inr end ↦
             let test : ltb row count ≡ false = grind (arith, nat_tests) in
             rw (e, test)
-            (verdict_over (demands_of_start here owner column member) (row + 2) (count - (row + 1)) (row - 1 + 2) (count - (row - 1 + 1)) _
-            (omega arith) (omega arith) rest)
+            (verdict_over (rules_of_start here owner column member) (row + 2) (count - (row + 1)) (row - 1 + 2) (count - (row - 1 + 1)) _
+            (omega arith) (omega arith) tail)
       ]

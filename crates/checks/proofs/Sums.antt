@@ -5,7 +5,7 @@ use Rattle.std.proofs.lemmas.Bool.{cases_eq}
 use Rattle.std.proofs.lemmas.Bool.Decides.{nat_tests}
 use Rattle.std.proofs.lemmas.List.{length-append}
 use Rattle.std.proofs.Math.Seq.{drop-append_seam}
-use Rattle.packed.specs.Front.{unsigned_at}
+use Rattle.packed.specs.Prefix.{unsigned_at}
 use Rattle.packed.specs.Packed.{IsPacked}
 use Rattle.heap_entries.specs.Entries.{IsBlob, IsCounted}
 use Rattle.table_schema.specs.declared.table.TableId.{TableId}
@@ -37,7 +37,7 @@ sum_fewer f m (suc n) few = elim (cases_eq m (suc n)) [
 pub sum_step : (f : ℕ → ℕ) (k n : ℕ) → k < n → sum_below f k + f k ≤ sum_below f n
 sum_step f k n below = omega (arith, sum_fewer f (k + 1) n (omega arith), sum_more f k)
 
-module _ (read : (n : ℕ) (front rest : List ℕ) → IsPacked n front → unsigned_at (front ++ rest) ≡ Some (n, length front)) where
+module _ (read : (n : ℕ) (prefix tail : List ℕ) → IsPacked n prefix → unsigned_at (prefix ++ tail) ≡ Some (n, length prefix)) where
   -- the number of the bytes after a count is the count
   counted_is : (count bytes after : List ℕ) → IsPacked (length bytes) count → counted_length (count ++ (bytes ++ after)) ≡ length bytes
   unfolding counted_length
@@ -58,10 +58,10 @@ module _ (read : (n : ℕ) (front rest : List ℕ) → IsPacked n front → unsi
       ap counted_length behind ∙ counted_is at.count blob at.after at.counts
 
 -- a signature cell has the same number of bytes as the blob of its number
-pub cell_is : ((n : ℕ) (front rest : List ℕ) → IsPacked n front → unsigned_at (front ++ rest) ≡ Some (n, length front))
-    → (source : Source) (table : TableId) (column row number : ℕ) (spelled : SigKind) (blob : List ℕ) → 1 ≤ row → (column_at table column).kind ≡ kind.Signature spelled
+pub cell_is : ((n : ℕ) (prefix tail : List ℕ) → IsPacked n prefix → unsigned_at (prefix ++ tail) ≡ Some (n, length prefix))
+    → (source : Source) (table : TableId) (column row number : ℕ) (encoded : SigKind) (blob : List ℕ) → 1 ≤ row → (column_at table column).kind ≡ kind.Signature encoded
     → number ≡ number_of source table row column → IsBlob source.blobs number blob → cell_bytes source table column (row - 1) ≡ length blob
 unfolding cell_bytes
-cell_is read source table column row number spelled blob first of_kind is_number at =
+cell_is read source table column row number encoded blob first of_kind is_number at =
     let again : row - 1 + 1 ≡ row = omega arith in
     rw (of_kind, again, ← is_number) (blob_is read source.blobs number blob at)

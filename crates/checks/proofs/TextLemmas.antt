@@ -6,23 +6,23 @@ use Rattle.std.proofs.lemmas.Str.{IsUtf8-drop, IsUtf8-take, IsCharBoundary-from_
 use Rattle.std.proofs.lemmas.Bool.{false≢true}
 use Rattle.std.proofs.lemmas.Nat.{div-add-mod', mul-le}
 use Rattle.memchr.specs.Find.{IsFirstByte, is_byte}
-use Rattle.packed.specs.Demand.{AllHold, Answers}
-use Rattle.heap_entries.specs.Demands.{at_place, demands_of_text}
+use Rattle.packed.specs.Rule.{AllHold, Reports}
+use Rattle.heap_entries.specs.Rules.{at_offset, rules_of_text}
 use Rattle.heap_entries.specs.declared.fault.HeapFault.{HeapFault}
 use Rattle.heap_entries.specs.declared.fault.HeapFault.TheVariants.{BadUtf8}
 use Rattle.heap_entries.specs.Entries.{IsEnded, HasNoNul}
 use Rattle.checks.specs.Texts.{AreStarts, Reaches}
 use Rattle.checks.proofs.PassedLemmas.{slots_more}
-use Rattle.checks.proofs.Ended.{rest_is, ended_length, byte_is, no_text}
+use Rattle.checks.proofs.Ended.{tail_is, ended_length, byte_is, no_text}
 
 -- what is answered of ended bytes
 pub text_answers : (heap : List ℕ) (start : ℕ) (bytes : List ℕ) → 0 < start → IsEnded heap start bytes → IsUtf8 bytes
-    → {X : Type 0} (x : X) (place : ℕ) → Answers (demands_of_text heap start place) (at_place place (Ok x))
-text_answers heap start bytes some ended utf8 x place = (inr (bytes, ended), ((bytes, inr (some, ended, utf8)), tt))
+    → {X : Type 0} (x : X) (offset : ℕ) → Reports (rules_of_text heap start offset) (at_offset offset (Ok x))
+text_answers heap start bytes some ended utf8 x offset = (inr (bytes, ended), ((bytes, inr (some, ended, utf8)), tt))
 
 pub no_text_answers : (heap : List ℕ) (start : ℕ) (bytes : List ℕ) → 0 < start → IsEnded heap start bytes → ¬ IsUtf8 bytes
-    → (X : Type 0) (place : ℕ) → Answers (demands_of_text heap start place) (at_place {X = X} place (Err BadUtf8))
-no_text_answers heap start bytes some ended not X place =
+    → (X : Type 0) (offset : ℕ) → Reports (rules_of_text heap start offset) (at_offset {X = X} offset (Err BadUtf8))
+no_text_answers heap start bytes some ended not X offset =
     inr (inr (bytes, ended), inl (no_text heap start bytes some ended not, refl))
 
 module _ (heap : List ℕ) (start : ℕ) (text : List ℕ) (ended : IsEnded heap start text) where
@@ -52,52 +52,52 @@ module _ (heap : List ℕ) (start : ℕ) (text : List ℕ) (ended : IsEnded heap
         not (subst (λ byte. 128 ≤ byte → 192 ≤ byte) same_byte ((IsCharBoundary-from_drop text (index - start) (omega arith) utf8).1 (omega arith)))
 
   -- the bytes from a place before a text up to it, with the text behind them
-  module _ (index : ℕ) (low : index ≤ start) (front : List ℕ) (is : front ≡ take (start - index) (drop index heap)) where
-    pub longer_ended : HasNoNul front → IsEnded heap index (front ++ text)
+  module _ (index : ℕ) (low : index ≤ start) (prefix : List ℕ) (is : prefix ≡ take (start - index) (drop index heap)) where
+    pub longer_ended : HasNoNul prefix → IsEnded heap index (prefix ++ text)
     longer_ended none =
         let room = ended_length heap start text ended in
         let behind : drop (start - index) (drop index heap) ≡ text ++ 0 ∷ ended.after =
-        drop-drop (start - index) index heap ∙ ap (λ n. drop n heap) (omega arith) ∙ rest_is heap start text ended in
+        drop-drop (start - index) index heap ∙ ap (λ n. drop n heap) (omega arith) ∙ tail_is heap start text ended in
         record {
           before = take index heap;
           after = ended.after;
           whole = sym (take-append-drop index heap)
               ∙ ap (λ l. take index heap ++ l) (sym (take-append-drop (start - index) (drop index heap)) ∙ ap (λ l. l ++ drop (start - index) (drop index heap)) (sym is)
-              ∙ ap (λ l. front ++ l) behind ∙ sym (append_assoc front text (0 ∷ ended.after)));
+              ∙ ap (λ l. prefix ++ l) behind ∙ sym (append_assoc prefix text (0 ∷ ended.after)));
           at = length-take-le index heap (omega arith);
-          no_nul = All-append (λ byte. byte ≢ 0) front text none ended.no_nul;
+          no_nul = All-append (λ byte. byte ≢ 0) prefix text none ended.no_nul;
         }
 
-    pub longer_length : length (front ++ text) ≡ start - index + length text
+    pub longer_length : length (prefix ++ text) ≡ start - index + length text
     longer_length =
         let room = ended_length heap start text ended in
-        omega (arith, length-append front text, ap length is, length-take-le (start - index) (drop index heap) (omega (arith, length-drop index heap)))
+        omega (arith, length-append prefix text, ap length is, length-take-le (start - index) (drop index heap) (omega (arith, length-drop index heap)))
 
 -- bytes before UTF-8 are UTF-8 if both together are
-pub front_utf8 : (front text : List ℕ) → IsUtf8 text → IsUtf8 (front ++ text) → IsUtf8 front
-front_utf8 front text utf8 all =
-    subst IsUtf8 (take_at front text (length front) refl)
-    (IsUtf8-take (front ++ text) (length front) all (IsCharBoundary-at_seam (front ++ text) front text refl utf8))
+pub prefix_utf8 : (prefix text : List ℕ) → IsUtf8 text → IsUtf8 (prefix ++ text) → IsUtf8 prefix
+prefix_utf8 prefix text utf8 all =
+    subst IsUtf8 (take_at prefix text (length prefix) refl)
+    (IsUtf8-take (prefix ++ text) (length prefix) all (IsCharBoundary-at_seam (prefix ++ text) prefix text refl utf8))
 
 -- bytes in which no NUL is found have none
 pub none_found : (bytes : List ℕ) (found : Option ℕ) → IsFirstByte (is_byte 0) bytes found → is_some found ≡ false → HasNoNul bytes
 none_found bytes None is none = All-from_get_or (λ byte. byte ≢ 0) bytes 0 (λ k lt z. is k (omega arith) lt (eq-eqb _ 0 z))
-none_found bytes (Some place) is none = absurd (false≢true (sym none))
+none_found bytes (Some offset) is none = absurd (false≢true (sym none))
 
 -- what a check that does not fail says
-pub text_passed : {X : Type 0} (heap : List ℕ) (index : ℕ) (result : Result X HeapFault) → ((place : ℕ) → Answers (demands_of_text heap index place) (at_place place result))
-    → is_err result ≡ false → (place : ℕ) → AllHold (demands_of_text heap index place)
-text_passed heap index (Ok x) answers passes = answers
-text_passed heap index (Err found) answers passes = absurd (false≢true (sym passes))
+pub text_passed : {X : Type 0} (heap : List ℕ) (index : ℕ) (result : Result X HeapFault) → ((offset : ℕ) → Reports (rules_of_text heap index offset) (at_offset offset result))
+    → is_err result ≡ false → (offset : ℕ) → AllHold (rules_of_text heap index offset)
+text_passed heap index (Ok x) reports passes = reports
+text_passed heap index (Err found) reports passes = absurd (false≢true (sym passes))
 
 -- a text that reaches an end has endings that reach it, each from the beginning of a character
-pub ending_reaches : (heap : List ℕ) (start reach : ℕ) → Reaches heap start reach → (place end : ℕ) → start ≤ place → place < end → end ≤ reach
-    → (128 ≤ slice_index heap place → 192 ≤ slice_index heap place) → Reaches heap place end
-ending_reaches heap start reach known place end low high within begins = record {
-  text = drop (place - start) known.text;
-  ended = ending_ended heap start known.text known.ended place low (omega (arith, known.long));
-  utf8 = ending_utf8 heap start known.text known.ended place low (omega (arith, known.long)) known.utf8 begins;
-  long = omega (arith, known.long, length-drop (place - start) known.text);
+pub ending_reaches : (heap : List ℕ) (start reach : ℕ) → Reaches heap start reach → (offset end : ℕ) → start ≤ offset → offset < end → end ≤ reach
+    → (128 ≤ slice_index heap offset → 192 ≤ slice_index heap offset) → Reaches heap offset end
+ending_reaches heap start reach known offset end low high within begins = record {
+  text = drop (offset - start) known.text;
+  ended = ending_ended heap start known.text known.ended offset low (omega (arith, known.long));
+  utf8 = ending_utf8 heap start known.text known.ended offset low (omega (arith, known.long)) known.utf8 begins;
+  long = omega (arith, known.long, length-drop (offset - start) known.text);
 }
 
 -- fewer bytes are reached too

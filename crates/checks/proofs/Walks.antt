@@ -80,7 +80,7 @@ module _ (heap : ℕ) (long number : ℕ → ℕ) where
         (below_taken a b (walk_over heap long number (row - 1)).bytes bytes taken below)
 
 -- a column's walk against the bytes of its cells
-module _ (source : Source) (table : TableId) (column limit : ℕ) (spelled : SigKind) (of_kind : (column_at table column).kind ≡ kind.Signature spelled)
+module _ (source : Source) (table : TableId) (column limit : ℕ) (encoded : SigKind) (of_kind : (column_at table column).kind ≡ kind.Signature encoded)
     (last : limit ≤ rows_in source table + 1) where
   cell_long : (before : ℕ) → blob_length source.blobs (number_after source table column before) ≤ cell_bytes source table column before
   unfolding cell_bytes

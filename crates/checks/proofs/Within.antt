@@ -1,8 +1,8 @@
 -- Results within a budget, part by part.
 use Rattle.std.proofs.Common.{ℕ, ◌<◌, List, ◌++◌, arith}
 use Rattle.packed.specs.declared.fault.Fault.{Fault as First}
-use Rattle.packed.specs.Demand.{Demand, AllHold, HoldBefore, demands_from}
-use Rattle.packed.proofs.DemandLemmas.{before_fails, fails_back}
+use Rattle.packed.specs.Rule.{Rule, AllHold, HoldBefore, rules_from}
+use Rattle.packed.proofs.RuleLemmas.{before_fails, fails_back}
 use Rattle.checks.specs.declared.budget.Budget.{Budget}
 use Rattle.checks.specs.declared.budget.BoundedError.{BoundedError}
 use Rattle.checks.specs.declared.budget.BoundedError.TheVariants.{Fault, BudgetSpent}
@@ -12,14 +12,14 @@ use Rattle.checks.proofs.Before.{before_behind}
 use Rattle.checks.proofs.Spending.{part_below}
 
 -- if all parts before hold, the error of the next part is the error of all parts
-pub parts_fail : (demands : ℕ → List (Demand First)) (bytes : ℕ → ℕ) (k n : ℕ) (a b : Budget) (error : BoundedError) → HoldBefore demands 0 k → k < n
-    → Spends a b (sum_below bytes k) → HoldBeforeSignatures (demands_from demands 0 n) → FailsWithin b (bytes k) (demands k) error
-    → FailsWithin a (sum_below bytes n) (demands_from demands 0 n) error
-parts_fail demands bytes k n a b (Fault found) hold below spent before fails = before_fails demands 0 k n found hold (omega arith) (omega arith) fails
-parts_fail demands bytes k n a b BudgetSpent hold below spent before fails = (part_below bytes k n a b below spent fails.0, before)
+pub parts_fail : (rules : ℕ → List (Rule First)) (bytes : ℕ → ℕ) (k n : ℕ) (a b : Budget) (error : BoundedError) → HoldBefore rules 0 k → k < n
+    → Spends a b (sum_below bytes k) → HoldBeforeSignatures (rules_from rules 0 n) → FailsWithin b (bytes k) (rules k) error
+    → FailsWithin a (sum_below bytes n) (rules_from rules 0 n) error
+parts_fail rules bytes k n a b (Fault found) hold below spent before fails = before_fails rules 0 k n found hold (omega arith) (omega arith) fails
+parts_fail rules bytes k n a b BudgetSpent hold below spent before fails = (part_below bytes k n a b below spent fails.0, before)
 
 -- after rules that hold, the error is that of the remaining rules
-pub rest_fails : (a : Budget) (n : ℕ) (ds es : List (Demand First)) (error : BoundedError) → AllHold ds → FailsWithin a n es error
+pub tail_fails : (a : Budget) (n : ℕ) (ds es : List (Rule First)) (error : BoundedError) → AllHold ds → FailsWithin a n es error
     → FailsWithin a n (ds ++ es) error
-rest_fails a n ds es (Fault found) all fails = fails_back ds es found all fails
-rest_fails a n ds es BudgetSpent all fails = (fails.0, before_behind ds es all fails.1)
+tail_fails a n ds es (Fault found) all fails = fails_back ds es found all fails
+tail_fails a n ds es BudgetSpent all fails = (fails.0, before_behind ds es all fails.1)

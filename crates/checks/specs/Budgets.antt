@@ -3,7 +3,7 @@ use Rattle.std.specs.Prelude.{◌≡◌, ℕ, ◌+◌, ◌≤◌, ◌<◌, ⊤, 
 use Rattle.packed.specs.declared.code.FaultCode.TheVariants.{BadSignature}
 use Rattle.packed.specs.declared.fault.Fault.{Fault as First}
 use Rattle.packed.specs.Codes.{number_of_code}
-use Rattle.packed.specs.Demand.{Demand, AllHold, FirstToFail}
+use Rattle.packed.specs.Rule.{Rule, AllHold, FirstBroken}
 use Rattle.checks.specs.declared.budget.Budget.{Budget}
 use Rattle.checks.specs.declared.budget.Budget.TheVariants.{Unbounded, Left}
 use Rattle.checks.specs.declared.budget.BoundedError.{BoundedError}
@@ -27,17 +27,17 @@ Spends (Left left) Unbounded bytes = ⊥
 Spends (Left left) (Left after) bytes = left ≤ after + bytes
 
 -- each rule that comes before the rules for signatures holds: the number of its code is less than theirs
-abbrev pub HoldBeforeSignatures : List (Demand First) → Type 0
+abbrev pub HoldBeforeSignatures : List (Rule First) → Type 0
 HoldBeforeSignatures [] = ⊤
 HoldBeforeSignatures (d ∷ ds) = (d.fault.code < number_of_code BadSignature → d.holds) × HoldBeforeSignatures ds
 
 -- An error is the fault of the first broken rule, or `BudgetSpent`. The budget is spent only if it is less than
 -- all the bytes, and all rules before those of signatures hold.
-abbrev pub FailsWithin : Budget → ℕ → List (Demand First) → BoundedError → Type 0
-FailsWithin budget bytes demands (Fault found) = FirstToFail demands found
-FailsWithin budget bytes demands BudgetSpent = IsBelow budget bytes × HoldBeforeSignatures demands
+abbrev pub FailsWithin : Budget → ℕ → List (Rule First) → BoundedError → Type 0
+FailsWithin budget bytes rules (Fault found) = FirstBroken rules found
+FailsWithin budget bytes rules BudgetSpent = IsBelow budget bytes × HoldBeforeSignatures rules
 
 -- a result reports rules within a budget: it is `Ok` only if all of them hold
-abbrev pub AnswersWithin : {X : Type 0} → Budget → ℕ → List (Demand First) → Result X BoundedError → Type 0
-AnswersWithin budget bytes demands (Ok x) = AllHold demands
-AnswersWithin budget bytes demands (Err error) = FailsWithin budget bytes demands error
+abbrev pub ReportsWithin : {X : Type 0} → Budget → ℕ → List (Rule First) → Result X BoundedError → Type 0
+ReportsWithin budget bytes rules (Ok x) = AllHold rules
+ReportsWithin budget bytes rules (Err error) = FailsWithin budget bytes rules error

@@ -4,9 +4,9 @@ use Rattle.table_schema.specs.declared.table.TableId.{TableId}
 use Rattle.table_schema.specs.Tables.{table_number}
 use Rattle.table_schema.specs.Columns.{key_of}
 use Rattle.metadata.specs.Source.{Source}
-use Rattle.metadata.specs.Rules.{IsInOrder}
+use Rattle.metadata.specs.RowRules.{IsInOrder}
 
 -- whether the keys of each table with a key never decrease, by table number
-abbrev pub TellsOrder : Source → List Bool → Type 0
-TellsOrder source bits =
+abbrev pub ReportsOrder : Source → List Bool → Type 0
+ReportsOrder source bits =
     (table : TableId) (key : ℕ) → key_of table ≡ Some key → IsTrue (slice_index_or bits (table_number table) false) ↔ IsInOrder source table key

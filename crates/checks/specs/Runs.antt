@@ -2,16 +2,16 @@
 use Rattle.std.specs.Prelude.{ℕ, List, Option, Some, None}
 use Rattle.packed.specs.declared.code.FaultCode.TheVariants.{BadRun}
 use Rattle.packed.specs.declared.fault.Fault.{Fault}
-use Rattle.packed.specs.Demand.{Demand, AllHold, FirstToFail, fault}
+use Rattle.packed.specs.Rule.{Rule, AllHold, FirstBroken, fault}
 use Rattle.table_schema.specs.declared.table.TableId.{TableId}
-use Rattle.metadata.specs.Placed.{Placed, cell_place}
+use Rattle.metadata.specs.SourceAt.{SourceAt, cell_offset}
 
 -- no fault if all rules hold, else the fault of the first broken rule
-abbrev pub IsVerdict : List (Demand Fault) → Option Fault → Type 0
-IsVerdict demands None = AllHold demands
-IsVerdict demands (Some found) = FirstToFail demands found
+abbrev pub IsVerdict : List (Rule Fault) → Option Fault → Type 0
+IsVerdict rules None = AllHold rules
+IsVerdict rules (Some found) = FirstBroken rules found
 
 -- the fault of an owner's row, if there is one
-abbrev pub fault_in_row : Placed → TableId → ℕ → Option ℕ → Option Fault
+abbrev pub fault_in_row : SourceAt → TableId → ℕ → Option ℕ → Option Fault
 fault_in_row here owner column None = None
-fault_in_row here owner column (Some row) = Some (fault BadRun (cell_place here owner row column))
+fault_in_row here owner column (Some row) = Some (fault BadRun (cell_offset here owner row column))

@@ -1,12 +1,12 @@
 ghost use Rattle.std.specs.Prelude.{◌≡◌, ◌≤◌, ◌<◌, ◌+◌, ◌∷◌, [], ◌↔◌, ℕ, IsTrue, Ok, false, length};
 ghost use Rattle.packed.specs.declared.code.FaultCode.TheVariants.{BadIndex, BadList};
-ghost use Rattle.packed.specs.Demand.{Answers, HoldBefore, demand};
+ghost use Rattle.packed.specs.Rule.{Reports, HoldBefore, rule};
 ghost use Rattle.table_schema.specs.declared.column.ColumnKind.TheVariants as kind;
 ghost use Rattle.table_schema.specs.Columns.{columns_of};
 ghost use Rattle.metadata.specs.Source.{rows_in};
 ghost use Rattle.reading.specs.Codes.{code_at};
 ghost use Rattle.checks.specs.Columns.{AllPass, IsChecked, ColumnStands};
-ghost use Rattle.metadata.specs.Demands.{MayRefer, demands_of_number, demands_of_cell, demands_of_row, demands_of_table, demands_of_cells};
+ghost use Rattle.metadata.specs.Rules.{MayRefer, rules_of_number, rules_of_cell, rules_of_row, rules_of_table, rules_of_cells};
 
 use crate::column::first_refused;
 use crate::texts::Texts;
@@ -16,12 +16,12 @@ use table_schema::{Coded, Column, ColumnKind, TableId, columns};
 
 /// Checks that each number of each table stands for a cell (II.22).
 pub fn check_cells(source: &Source) -> Result<(), Fault>
-    ensures { Answers (demands_of_cells source.now) result }
+    ensures { Reports (rules_of_cells source.now) result }
 {
     let tables = TableId::all();
     let mut texts = Texts::new(source.texts());
-    for position in 0..tables.len() {
-        check_table(source, tables[position], &mut texts)?;
+    for table_index in 0..tables.len() {
+        check_table(source, tables[table_index], &mut texts)?;
     }
     Ok(())
 }
@@ -33,7 +33,7 @@ pub fn check_cells(source: &Source) -> Result<(), Fault>
 fn check_table(source: &Source, table: TableId, texts: &mut Texts) -> Result<(), Fault>
     requires { texts.old ≡ source.now.source.texts }
     ensures texts { texts.new ≡ texts.old }
-    ensures answers { Answers (demands_of_table source.now table) result }
+    ensures reports { Reports (rules_of_table source.now table) result }
 {
     check_rows(source, table, first_row(source, table, texts))
 }
@@ -42,8 +42,8 @@ fn check_table(source: &Source, table: TableId, texts: &mut Texts) -> Result<(),
 fn check_rows(source: &Source, table: TableId, first: u32) -> Result<(), Fault>
     requires first { 1 ≤ first }
     requires last { first ≤ rows_in source.now.source table + 1 }
-    requires before { HoldBefore (demands_of_row source.now table) 1 first }
-    ensures { Answers (demands_of_table source.now table) result }
+    requires before { HoldBefore (rules_of_row source.now table) 1 first }
+    ensures { Reports (rules_of_table source.now table) result }
 {
     let count = source.count(table);
     for row in first..count + 1 {
@@ -59,7 +59,7 @@ fn first_row(source: &Source, table: TableId, texts: &mut Texts) -> u32
     ensures texts { texts.new ≡ texts.old }
     ensures first { 1 ≤ result }
     ensures last { result ≤ rows_in source.now.source table + 1 }
-    ensures before { HoldBefore (demands_of_row source.now table) 1 result }
+    ensures before { HoldBefore (rules_of_row source.now table) 1 result }
 {
     let mut limit = source.count(table) + 1;
     for column in 0..columns(table).len() {
@@ -179,7 +179,7 @@ fn first_index(source: &Source, table: TableId, column: usize, limit: u32) -> u3
 fn check_row(source: &Source, table: TableId, row: u32) -> Result<(), Fault>
     requires first { 1 ≤ row }
     requires last { row ≤ rows_in source.now.source table }
-    ensures { Answers (demands_of_row source.now table row) result }
+    ensures { Reports (rules_of_row source.now table row) result }
 {
     for column in 0..columns(table).len() {
         check_cell(source, table, row, column)?;
@@ -192,7 +192,7 @@ fn check_cell(source: &Source, table: TableId, row: u32, column: usize) -> Resul
     requires first { 1 ≤ row }
     requires last { row ≤ rows_in source.now.source table }
     requires column { column < length (columns_of table) }
-    ensures { Answers (demands_of_cell source.now table row column) result }
+    ensures { Reports (rules_of_cell source.now table row column) result }
 {
     let held = column_at(table, column);
     let number = source.number(table, row, column);
@@ -204,7 +204,7 @@ fn check_cell(source: &Source, table: TableId, row: u32, column: usize) -> Resul
 
 /// Checks that the number stands for a cell of the column.
 fn check_number(source: &Source, column: Column, number: u32) -> Result<(), FaultCode>
-    ensures { (place : ℕ) → Answers (demands_of_number source.now.source column.kind column.nullable number place) (code_at place result) }
+    ensures { (offset : ℕ) → Reports (rules_of_number source.now.source column.kind column.nullable number offset) (code_at offset result) }
 {
     match column.kind {
         ColumnKind::U8 | ColumnKind::U16 | ColumnKind::U32 | ColumnKind::Padding => Ok(()),
@@ -231,7 +231,7 @@ fn check_reference(
     table: TableId,
     row: u32,
 ) -> Result<(), FaultCode>
-    ensures { (place : ℕ) → Answers (demand (MayRefer source.now.source nullable (record { table = table; row = row })) BadIndex place ∷ []) (code_at place result) }
+    ensures { (offset : ℕ) → Reports (rule (MayRefer source.now.source nullable (record { table = table; row = row })) BadIndex offset ∷ []) (code_at offset result) }
 {
     if may_refer(source, nullable, table, row) {
         Ok(())
@@ -242,7 +242,7 @@ fn check_reference(
 
 /// Checks that a coded index has a tag in use, and names a row that exists.
 fn check_coded(source: &Source, nullable: bool, coded: Coded, number: u32) -> Result<(), FaultCode>
-    ensures { (place : ℕ) → Answers (demands_of_number source.now.source (kind.Coded coded) nullable number place) (code_at place result) }
+    ensures { (offset : ℕ) → Reports (rules_of_number source.now.source (kind.Coded coded) nullable number offset) (code_at offset result) }
 {
     let Some(token) = named_by(coded, number) else {
         return Err(FaultCode::BadTag);
@@ -256,7 +256,7 @@ fn check_coded(source: &Source, nullable: bool, coded: Coded, number: u32) -> Re
 
 /// Checks that a list value is null, a row of the member table, or one more than its last row.
 fn check_list(source: &Source, member: TableId, number: u32) -> Result<(), FaultCode>
-    ensures { (place : ℕ) → Answers (demand (number ≤ rows_in source.now.source member + 1) BadList place ∷ []) (code_at place result) }
+    ensures { (offset : ℕ) → Reports (rule (number ≤ rows_in source.now.source member + 1) BadList offset ∷ []) (code_at offset result) }
 {
     if number <= source.count(member) + 1 {
         Ok(())

@@ -1,7 +1,7 @@
 ghost use Rattle.std.specs.Prelude.{◌≡◌, ◌<◌, ◌↔◌, ℕ, IsTrue, length};
 ghost use Rattle.table_schema.specs.Columns.{columns_of, key_of};
-ghost use Rattle.metadata.specs.Rules.{IsInOrder};
-ghost use Rattle.checks.specs.Orders.{TellsOrder};
+ghost use Rattle.metadata.specs.RowRules.{IsInOrder};
+ghost use Rattle.checks.specs.Orders.{ReportsOrder};
 
 use reading::Source;
 use table_schema::{TableId, columns_stand, key, tables_stand};
@@ -10,13 +10,13 @@ use table_schema::{TableId, columns_stand, key, tables_stand};
 ///
 /// Each key is read at most twice: with its own row and with the next row.
 pub fn find_order(source: &Source) -> [bool; 45]
-    ensures { TellsOrder source.now.source result }
+    ensures { ReportsOrder source.now.source result }
 {
     tables_stand();
     let tables = TableId::all();
     let mut in_order = [false; 45];
-    for position in 0..tables.len() {
-        let table = tables[position];
+    for table_index in 0..tables.len() {
+        let table = tables[table_index];
         in_order[table.number() as usize] = is_in_order(source, table);
     }
     in_order

@@ -1,8 +1,8 @@
 ghost use Rattle.std.specs.Prelude.{◌≡◌, ◌≤◌};
-ghost use Rattle.packed.specs.Demand.{Answers};
+ghost use Rattle.packed.specs.Rule.{Reports};
 ghost use Rattle.table_schema.specs.declared.table.TableId.TheVariants.{NestedClass};
 ghost use Rattle.metadata.specs.Source.{rows_in};
-ghost use Rattle.metadata.specs.Demands.{demands_of_nesting_in, demands_of_nesting};
+ghost use Rattle.metadata.specs.Rules.{rules_of_nesting_in, rules_of_nesting};
 
 use packed::{Fault, FaultCode};
 use reading::Source;
@@ -15,7 +15,7 @@ const ENCLOSING: usize = 1;
 
 /// Checks that each nested type follows its enclosing type (II.22.32).
 pub fn check_nesting(source: &Source) -> Result<(), Fault>
-    ensures { Answers (demands_of_nesting source.now) result }
+    ensures { Reports (rules_of_nesting source.now) result }
 {
     let count = source.count(TableId::NestedClass);
     for row in 1..count + 1 {
@@ -25,11 +25,11 @@ pub fn check_nesting(source: &Source) -> Result<(), Fault>
 }
 
 /// Checks that the nested type of a row follows its enclosing type.
-#[tactic(auto, unfolding(metadata::specs::Demands::demands_of_nesting_in))]
+#[tactic(auto, unfolding(metadata::specs::Rules::rules_of_nesting_in))]
 fn check_nested(source: &Source, row: u32) -> Result<(), Fault>
     requires first { 1 ≤ row }
     requires last { row ≤ rows_in source.now.source NestedClass }
-    ensures { Answers (demands_of_nesting_in source.now row) result }
+    ensures { Reports (rules_of_nesting_in source.now row) result }
 {
     let table = TableId::NestedClass;
     if source.number(table, row, ENCLOSING) < source.number(table, row, NESTED) {

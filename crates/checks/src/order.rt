@@ -1,9 +1,9 @@
 ghost use Rattle.std.specs.Prelude.{◌≡◌, ◌≤◌, ◌<◌, length};
-ghost use Rattle.packed.specs.Demand.{Answers};
+ghost use Rattle.packed.specs.Rule.{Reports};
 ghost use Rattle.table_schema.specs.Columns.{columns_of, key_of};
 ghost use Rattle.metadata.specs.Source.{rows_in};
-ghost use Rattle.checks.specs.Orders.{TellsOrder};
-ghost use Rattle.metadata.specs.Demands.{demands_of_key_in, demands_of_keys, demands_of_order_by, demands_of_order};
+ghost use Rattle.checks.specs.Orders.{ReportsOrder};
+ghost use Rattle.metadata.specs.Rules.{rules_of_key_in, rules_of_keys, rules_of_order_by, rules_of_order};
 
 use packed::{Fault, FaultCode};
 use reading::Source;
@@ -11,12 +11,12 @@ use table_schema::{TableId, columns_stand, key, tables_stand};
 
 /// Checks that each table whose `Sorted` bit is set is in order of its key (II.22). `in_order` says which are.
 pub fn check_order(source: &Source, in_order: &[bool; 45]) -> Result<(), Fault>
-    requires { TellsOrder source.now.source in_order.now }
-    ensures { Answers (demands_of_order source.now) result }
+    requires { ReportsOrder source.now.source in_order.now }
+    ensures { Reports (rules_of_order source.now) result }
 {
     let tables = TableId::all();
-    for position in 0..tables.len() {
-        check_order_of(source, tables[position], in_order)?;
+    for table_index in 0..tables.len() {
+        check_order_of(source, tables[table_index], in_order)?;
     }
     Ok(())
 }
@@ -25,8 +25,8 @@ pub fn check_order(source: &Source, in_order: &[bool; 45]) -> Result<(), Fault>
 ///
 /// Only a table that is not in order is read again, to find the first key that decreases.
 fn check_order_of(source: &Source, table: TableId, in_order: &[bool; 45]) -> Result<(), Fault>
-    requires { TellsOrder source.now.source in_order.now }
-    ensures { Answers (demands_of_order_by source.now table (key_of table)) result }
+    requires { ReportsOrder source.now.source in_order.now }
+    ensures { Reports (rules_of_order_by source.now table (key_of table)) result }
 {
     columns_stand();
     tables_stand();
@@ -45,7 +45,7 @@ fn check_order_of(source: &Source, table: TableId, in_order: &[bool; 45]) -> Res
 /// Checks that the keys of a table never decrease.
 fn check_keys(source: &Source, table: TableId, key: usize) -> Result<(), Fault>
     requires { key < length (columns_of table) }
-    ensures { Answers (demands_of_keys source.now table key) result }
+    ensures { Reports (rules_of_keys source.now table key) result }
 {
     let count = source.count(table);
     for row in 2..count + 1 {
@@ -55,12 +55,12 @@ fn check_keys(source: &Source, table: TableId, key: usize) -> Result<(), Fault>
 }
 
 /// Checks that a key is not less than the key of the row before.
-#[tactic(auto, unfolding(metadata::specs::Demands::demands_of_key_in))]
+#[tactic(auto, unfolding(metadata::specs::Rules::rules_of_key_in))]
 fn check_key(source: &Source, table: TableId, key: usize, row: u32) -> Result<(), Fault>
     requires first { 2 ≤ row }
     requires last { row ≤ rows_in source.now.source table }
     requires column { key < length (columns_of table) }
-    ensures { Answers (demands_of_key_in source.now table key row) result }
+    ensures { Reports (rules_of_key_in source.now table key row) result }
 {
     if source.number(table, row, key) < source.number(table, row - 1, key) {
         Err(source.fault(FaultCode::NotSorted, table, row, key))

@@ -49,22 +49,22 @@ impl Passed {
     pub fn has(&self, number: u32) -> bool
         ensures { result ≡ is_kept self.now number }
     {
-        let place = number as usize;
+        let offset = number as usize;
         number != 0
-            && (self.recent[place % SLOTS] == number
-                || self.long[place / self.part % SLOTS] == number)
+            && (self.recent[offset % SLOTS] == number
+                || self.long[offset / self.part % SLOTS] == number)
     }
 
     /// Keeps the number of a blob of a number of bytes, in place of others with the same slots.
     pub fn keep(&mut self, number: u32, bytes: usize)
         ensures value { self.new ≡ keep self.old number bytes }
         ensures kept { number ≢ 0 → Keeps self.new number }
-        ensures only { (other : ℕ) → Keeps self.new other → (other ≡ number) ⊎ Keeps self.old other }
+        ensures complete { (other : ℕ) → Keeps self.new other → (other ≡ number) ⊎ Keeps self.old other }
     {
-        let place = number as usize;
-        self.recent[place % SLOTS] = number;
-        if bytes >= self.part - place % self.part {
-            self.long[place / self.part % SLOTS] = number;
+        let offset = number as usize;
+        self.recent[offset % SLOTS] = number;
+        if bytes >= self.part - offset % self.part {
+            self.long[offset / self.part % SLOTS] = number;
         }
     }
 }

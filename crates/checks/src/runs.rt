@@ -1,9 +1,9 @@
 ghost use Rattle.std.specs.Prelude.{◌≡◌, ◌≤◌, ◌<◌, ◌-◌, ◌+◌, ◌&&◌, length, IfOk, IfSome, Some, nat_lt, if◌then◌else◌};
-ghost use Rattle.packed.specs.Demand.{Answers, demands_from};
+ghost use Rattle.packed.specs.Rule.{Reports, rules_from};
 ghost use Rattle.table_schema.specs.Columns.{columns_of};
 ghost use Rattle.metadata.specs.Source.{rows_in};
 ghost use Rattle.metadata.specs.Starts.{start_of};
-ghost use Rattle.metadata.specs.Demands.{demands_of_start, demands_of_run, demands_of_runs};
+ghost use Rattle.metadata.specs.Rules.{rules_of_start, rules_of_run, rules_of_runs};
 ghost use Rattle.reading.specs.KnownStarts.{IsKnownIn, AreKnown};
 ghost use Rattle.checks.specs.Runs.{IsVerdict, fault_in_row};
 
@@ -24,7 +24,7 @@ struct Walk {
 ///
 /// If each has one, it returns the starts that were kept during the check.
 pub fn check_runs(source: &Source) -> Result<KnownRuns, Fault>
-    ensures answers { Answers (demands_of_runs source.now) result }
+    ensures reports { Reports (rules_of_runs source.now) result }
     ensures known { IfOk result (AreKnown source.now.source) }
 {
     let fields = check_run(source, TableId::TypeDef, 4, TableId::Field)?;
@@ -42,7 +42,7 @@ pub fn check_runs(source: &Source) -> Result<KnownRuns, Fault>
 }
 
 /// Checks that each member has one owner, by a list column of the owners.
-#[tactic(auto, using(packed::proofs::DemandLemmas::none_from), unfolding(metadata::specs::Demands::demands_of_run))]
+#[tactic(auto, using(packed::proofs::RuleLemmas::none_from), unfolding(metadata::specs::Rules::rules_of_run))]
 fn check_run(
     source: &Source,
     owner: TableId,
@@ -51,7 +51,7 @@ fn check_run(
 ) -> Result<KnownStarts, Fault>
     requires column { column < length (columns_of owner) }
     requires members { 0 < length (columns_of member) }
-    ensures answers { Answers (demands_of_run source.now owner column member) result }
+    ensures reports { Reports (rules_of_run source.now owner column member) result }
     ensures known { IfOk result (IsKnownIn source.now.source owner column member) }
 {
     if source.count(owner) == 0 {
@@ -75,7 +75,7 @@ fn walk_owners(source: &Source, owner: TableId, column: usize, member: TableId) 
     requires column { column < length (columns_of owner) }
     ensures first { result.first ≡ start_of source.now.source owner 1 column member }
     ensures within { IfSome result.falls (λ row. (1 ≤ row) × (row ≤ rows_in source.now.source owner)) }
-    ensures falls { IsVerdict (demands_from (demands_of_start source.now owner column member) 2 (rows_in source.now.source owner - 1))
+    ensures falls { IsVerdict (rules_from (rules_of_start source.now owner column member) 2 (rows_in source.now.source owner - 1))
         (fault_in_row source.now owner column result.falls) }
     ensures known { IsKnownIn source.now.source owner column member result.known }
 {

@@ -1,13 +1,13 @@
 ghost use Rattle.std.specs.Prelude.{◌≡◌, ◌≤◌, ◌<◌, ◌+◌, ℕ, ◌-◌, Ok, length, IfOk, IfSome, OnSome, IfNone};
-ghost use Rattle.packed.specs.Demand.{Answers, HoldBefore};
+ghost use Rattle.packed.specs.Rule.{Reports, HoldBefore};
 ghost use Rattle.heap_entries.specs.Entries.{IsBlob};
 ghost use Rattle.table_schema.specs.Columns.{columns_of, column_at};
 ghost use Rattle.table_schema.specs.declared.column.ColumnKind.TheVariants as kind;
 ghost use Rattle.metadata.specs.Source.{rows_in};
-ghost use Rattle.metadata.specs.Demands.{demands_of_spelling, demands_of_signature, demands_of_signatures_in, demands_of_signatures_of, demands_of_signatures};
+ghost use Rattle.metadata.specs.Rules.{rules_of_encoding, rules_of_signature, rules_of_signatures_in, rules_of_signatures_of, rules_of_signatures};
 ghost use Rattle.reading.specs.Codes.{code_at};
-ghost use Rattle.checks.specs.Budgets.{Spends, IsBelow, AnswersWithin};
-ghost use Rattle.checks.specs.Columns.{AllPass, IsSpelled, ColumnSpells};
+ghost use Rattle.checks.specs.Budgets.{Spends, IsBelow, ReportsWithin};
+ghost use Rattle.checks.specs.Columns.{AllPass, IsEncoded, ColumnEncodes};
 ghost use Rattle.checks.specs.Signatures.{column_bytes, table_bytes, signature_bytes};
 ghost use Rattle.checks.specs.Walks.{StopsAt, walked_bytes};
 
@@ -21,12 +21,12 @@ use table_schema::{ColumnKind, SigKind, TableId, columns};
 
 /// Checks that each signature blob encodes a signature, and that the rows of its type indexes exist (II.23.2).
 pub fn check_signatures(source: &Source, budget: Budget) -> Result<(), BoundedError>
-    ensures { AnswersWithin budget (signature_bytes source.now.source) (demands_of_signatures source.now) result }
+    ensures { ReportsWithin budget (signature_bytes source.now.source) (rules_of_signatures source.now) result }
 {
     let tables = TableId::all();
     let mut left = budget;
-    for position in 0..tables.len() {
-        check_signatures_of(source, tables[position], &mut left)?;
+    for table_index in 0..tables.len() {
+        check_signatures_of(source, tables[table_index], &mut left)?;
     }
     Ok(())
 }
@@ -41,7 +41,7 @@ fn check_signatures_of(
     table: TableId,
     budget: &mut Budget,
 ) -> Result<(), BoundedError>
-    ensures answers { AnswersWithin budget.old (table_bytes source.now.source table) (demands_of_signatures_of source.now table) result }
+    ensures reports { ReportsWithin budget.old (table_bytes source.now.source table) (rules_of_signatures_of source.now table) result }
     ensures spends { IfOk result (λ _. Spends budget.old budget.new (table_bytes source.now.source table)) }
 {
     let Some(first) = first_row(source, table, budget) else {
@@ -55,8 +55,8 @@ fn check_signatures_of(
 fn check_signature_rows(source: &Source, table: TableId, first: u32) -> Result<(), Fault>
     requires first { 1 ≤ first }
     requires last { first ≤ rows_in source.now.source table + 1 }
-    requires before { HoldBefore (demands_of_signatures_in source.now table) 1 first }
-    ensures { Answers (demands_of_signatures_of source.now table) result }
+    requires before { HoldBefore (rules_of_signatures_in source.now table) 1 first }
+    ensures { Reports (rules_of_signatures_of source.now table) result }
 {
     let count = source.count(table);
     for row in first..count + 1 {
@@ -69,7 +69,7 @@ fn check_signature_rows(source: &Source, table: TableId, first: u32) -> Result<(
 /// the last row. `None` if the budget is spent. It reads column by column.
 fn first_row(source: &Source, table: TableId, budget: &mut Budget) -> Option<u32>
     ensures found { IfSome result (λ row. (1 ≤ row) × (row ≤ rows_in source.now.source table + 1)) }
-    ensures before { IfSome result (HoldBefore (demands_of_signatures_in source.now table) 1) }
+    ensures before { IfSome result (HoldBefore (rules_of_signatures_in source.now table) 1) }
     ensures spends { OnSome result (Spends budget.old budget.new (table_bytes source.now.source table)) }
     ensures spent { IfNone result (IsBelow budget.old (table_bytes source.now.source table)) }
 {
@@ -93,13 +93,13 @@ fn first_in_column(
     requires first { 1 ≤ limit }
     requires last { limit ≤ rows_in source.now.source table + 1 }
     ensures found { IfSome result (λ row. (1 ≤ row) × (row ≤ limit)) }
-    ensures spells { IfSome result (λ row. ColumnSpells source.now table row column) }
+    ensures encodes { IfSome result (λ row. ColumnEncodes source.now table row column) }
     ensures spends { OnSome result (Spends budget.old budget.new (column_bytes source.now.source table column)) }
     ensures spent { IfNone result (IsBelow budget.old (column_bytes source.now.source table column)) }
 {
     match column_at(table, column).kind {
-        ColumnKind::Signature(spelled) => {
-            first_misspelled(source, table, column, spelled, limit, budget)
+        ColumnKind::Signature(encoded) => {
+            first_not_encoded(source, table, column, encoded, limit, budget)
         }
         _ => Some(limit),
     }
@@ -109,20 +109,20 @@ fn first_in_column(
 /// none. `None` if the budget is spent.
 ///
 /// A number that is remembered is not walked again.
-fn first_misspelled(
+fn first_not_encoded(
     source: &Source,
     table: TableId,
     column: usize,
-    spelled: SigKind,
+    encoded: SigKind,
     limit: u32,
     budget: &mut Budget,
 ) -> Option<u32>
     requires column { column < length (columns_of table) }
-    requires kind { (column_at table column).kind ≡ kind.Signature spelled }
+    requires kind { (column_at table column).kind ≡ kind.Signature encoded }
     requires first { 1 ≤ limit }
     requires last { limit ≤ rows_in source.now.source table + 1 }
     ensures found { IfSome result (λ row. (1 ≤ row) × (row ≤ limit)) }
-    ensures spelled { IfSome result (AllPass (λ number. IsSpelled source.now.source (kind.Signature spelled) number (Ok tt)) source.now.source table column) }
+    ensures encoded { IfSome result (AllPass (λ number. IsEncoded source.now.source (kind.Signature encoded) number (Ok tt)) source.now.source table column) }
     // What is taken of the budget are the bytes that were walked, where a blob that is kept is not walked again.
     ensures walked { IfSome result (StopsAt source.now.source table column limit budget.old budget.new) }
     ensures spent { IfNone result (IsBelow budget.old (walked_bytes source.now.source table column (limit - 1))) }
@@ -139,7 +139,7 @@ fn first_misspelled(
             return Some(row);
         };
         budget.spend(blob.len())?;
-        match check_blob(source, spelled, blob) {
+        match check_blob(source, encoded, blob) {
             Ok(()) => accepted.keep(number, blob.len()),
             Err(_) => return Some(row),
         }
@@ -151,7 +151,7 @@ fn first_misspelled(
 fn check_signatures_in(source: &Source, table: TableId, row: u32) -> Result<(), Fault>
     requires first { 1 ≤ row }
     requires last { row ≤ rows_in source.now.source table }
-    ensures { Answers (demands_of_signatures_in source.now table row) result }
+    ensures { Reports (rules_of_signatures_in source.now table row) result }
 {
     for column in 0..columns(table).len() {
         check_signature(source, table, row, column)?;
@@ -164,11 +164,11 @@ fn check_signature(source: &Source, table: TableId, row: u32, column: usize) -> 
     requires first { 1 ≤ row }
     requires last { row ≤ rows_in source.now.source table }
     requires column { column < length (columns_of table) }
-    ensures { Answers (demands_of_signature source.now table row column) result }
+    ensures { Reports (rules_of_signature source.now table row column) result }
 {
     let held = column_at(table, column);
     let number = source.number(table, row, column);
-    match check_spelling(source, held.kind, number) {
+    match check_encoding(source, held.kind, number) {
         Ok(()) => Ok(()),
         Err(code) => Err(source.fault(code, table, row, column)),
     }
@@ -176,8 +176,8 @@ fn check_signature(source: &Source, table: TableId, row: u32, column: usize) -> 
 
 /// Checks that the blob of a number encodes a signature, if the column is of signatures, and that the rows of
 /// its type indexes exist.
-fn check_spelling(source: &Source, kind: ColumnKind, number: u32) -> Result<(), FaultCode>
-    ensures { (place : ℕ) → Answers (demands_of_spelling source.now.source kind number place) (code_at place result) }
+fn check_encoding(source: &Source, kind: ColumnKind, number: u32) -> Result<(), FaultCode>
+    ensures { (offset : ℕ) → Reports (rules_of_encoding source.now.source kind number offset) (code_at offset result) }
 {
     match kind {
         ColumnKind::Signature(column) => check_signature_at(source, column, number),
@@ -187,7 +187,7 @@ fn check_spelling(source: &Source, kind: ColumnKind, number: u32) -> Result<(), 
 
 /// Checks that the blob of a number encodes a signature, and that the rows of its type indexes exist.
 fn check_signature_at(source: &Source, column: SigKind, number: u32) -> Result<(), FaultCode>
-    ensures { (place : ℕ) → Answers (demands_of_spelling source.now.source (kind.Signature column) number place) (code_at place result) }
+    ensures { (offset : ℕ) → Reports (rules_of_encoding source.now.source (kind.Signature column) number offset) (code_at offset result) }
 {
     match blob(source.blobs(), number) {
         Ok(blob) => check_blob(source, column, blob),
@@ -197,7 +197,7 @@ fn check_signature_at(source: &Source, column: SigKind, number: u32) -> Result<(
 
 /// Checks that a blob encodes a signature, and that the rows of its type indexes exist.
 fn check_blob(source: &Source, column: SigKind, blob: &[u8]) -> Result<(), FaultCode>
-    ensures { (number : ℕ) → IsBlob source.now.source.blobs number blob.now → IsSpelled source.now.source (kind.Signature column) number result }
+    ensures { (number : ℕ) → IsBlob source.now.source.blobs number blob.now → IsEncoded source.now.source (kind.Signature column) number result }
 {
     entries_are_one();
     match recognise_first_bad(blob, column, source.counts()) {

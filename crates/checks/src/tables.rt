@@ -1,9 +1,9 @@
 ghost use Rattle.std.specs.Prelude.{IfOk, IfErr, OnOk};
-ghost use Rattle.packed.specs.Demand.{AllHold, FirstToFail};
-ghost use Rattle.metadata.specs.Demands.{demands_of_cells, demands_of_order, demands_of_runs, demands_of_nesting, demands_of_tables};
+ghost use Rattle.packed.specs.Rule.{AllHold, FirstBroken};
+ghost use Rattle.metadata.specs.Rules.{rules_of_cells, rules_of_order, rules_of_runs, rules_of_nesting, rules_of_tables};
 ghost use Rattle.reading.specs.KnownStarts.{AreKnown};
-ghost use Rattle.checks.specs.Budgets.{AnswersWithin};
-ghost use Rattle.checks.specs.Orders.{TellsOrder};
+ghost use Rattle.checks.specs.Budgets.{ReportsWithin};
+ghost use Rattle.checks.specs.Orders.{ReportsOrder};
 ghost use Rattle.checks.specs.Signatures.{signature_bytes};
 
 use crate::budget::{BoundedError, Budget};
@@ -40,8 +40,8 @@ pub struct Checked {
 /// read than the budget allows. This happens only if the signature blobs of all rows have more bytes in sum, and
 /// if all rules before those of signatures hold.
 pub fn check_tables_within(source: &Source, budget: Budget) -> Result<Checked, BoundedError>
-    ensures answers { AnswersWithin budget (signature_bytes source.now.source) (demands_of_tables source.now) result }
-    ensures order { IfOk result (λ checked. TellsOrder source.now.source checked.in_order) }
+    ensures reports { ReportsWithin budget (signature_bytes source.now.source) (rules_of_tables source.now) result }
+    ensures order { IfOk result (λ checked. ReportsOrder source.now.source checked.in_order) }
     ensures known { IfOk result (λ checked. AreKnown source.now.source checked.known) }
 {
     let checked = check_rows(source)?;
@@ -50,14 +50,14 @@ pub fn check_tables_within(source: &Source, budget: Budget) -> Result<Checked, B
 }
 
 /// Checks the rules for the rows that come before the rules for signatures.
-#[tactic(auto, using(packed::proofs::DemandLemmas::fails_front, packed::proofs::DemandLemmas::fails_back, packed::proofs::DemandLemmas::all_append), unfolding(metadata::specs::Demands::demands_of_tables))]
+#[tactic(auto, using(packed::proofs::RuleLemmas::fails_prefix, packed::proofs::RuleLemmas::fails_back, packed::proofs::RuleLemmas::all_append), unfolding(metadata::specs::Rules::rules_of_tables))]
 fn check_rows(source: &Source) -> Result<Checked, Fault>
-    ensures first { IfErr result (FirstToFail (demands_of_tables source.now)) }
-    ensures cells { OnOk result (AllHold (demands_of_cells source.now)) }
-    ensures sorted { OnOk result (AllHold (demands_of_order source.now)) }
-    ensures runs { OnOk result (AllHold (demands_of_runs source.now)) }
-    ensures nesting { OnOk result (AllHold (demands_of_nesting source.now)) }
-    ensures order { IfOk result (λ checked. TellsOrder source.now.source checked.in_order) }
+    ensures first_error { IfErr result (FirstBroken (rules_of_tables source.now)) }
+    ensures cells { OnOk result (AllHold (rules_of_cells source.now)) }
+    ensures sorted { OnOk result (AllHold (rules_of_order source.now)) }
+    ensures runs { OnOk result (AllHold (rules_of_runs source.now)) }
+    ensures nesting { OnOk result (AllHold (rules_of_nesting source.now)) }
+    ensures order { IfOk result (λ checked. ReportsOrder source.now.source checked.in_order) }
     ensures known { IfOk result (λ checked. AreKnown source.now.source checked.known) }
 {
     let in_order = find_order(source);

@@ -1,6 +1,6 @@
 ghost use Rattle.std.specs.Prelude.{◌≡◌, ◌≢◌, ◌≤◌, ◌<◌, ◌+◌, ◌*◌, ◌/◌, ◌↔◌, ℕ, IsTrue, IfOk, IfSome, length, slice_index};
-ghost use Rattle.packed.specs.Demand.{Answers};
-ghost use Rattle.heap_entries.specs.Demands.{at_place, demands_of_text};
+ghost use Rattle.packed.specs.Rule.{Reports};
+ghost use Rattle.heap_entries.specs.Rules.{at_offset, rules_of_text};
 ghost use Rattle.checks.specs.Texts.{AreStarts, Reaches};
 
 use heap_entries::{HeapFault, text};
@@ -56,7 +56,7 @@ impl<'a> Texts<'a> {
     /// Those of [`heaps::text`].
     pub fn check(&mut self, index: u32) -> Result<(), HeapFault>
         ensures heap { self.new ≡ self.old }
-        ensures answers { (place : ℕ) → Answers (demands_of_text self.old index place) (at_place place result) }
+        ensures reports { (offset : ℕ) → Reports (rules_of_text self.old index offset) (at_offset offset result) }
     {
         let start = index as usize;
         if start == 0 {
@@ -97,9 +97,9 @@ fn begins_character(byte: u8) -> bool
 fn ends_before(heap: &[u8], start: usize, end: usize) -> bool
     requires { start ≤ length heap.now }
 {
-    let (_, rest) = heap.split_at(start);
-    let len = end.saturating_sub(start).min(rest.len());
-    let (near, _) = rest.split_at(len);
+    let (_, tail) = heap.split_at(start);
+    let len = end.saturating_sub(start).min(tail.len());
+    let (near, _) = tail.split_at(len);
     memchr(0, near).is_some()
 }
 
@@ -122,7 +122,7 @@ fn check_within(heap: &[u8], index: u32, known: u32) -> Result<(), HeapFault>
     requires order { known ≤ index }
     requires first { 1 ≤ known }
     requires known { (end : ℕ) × (index < end) × Reaches heap.now known end }
-    ensures answers { (place : ℕ) → Answers (demands_of_text heap.now index place) (at_place place result) }
+    ensures reports { (offset : ℕ) → Reports (rules_of_text heap.now index offset) (at_offset offset result) }
 {
     if begins_character(heap[index as usize]) {
         Ok(())
@@ -135,7 +135,7 @@ fn check_within(heap: &[u8], index: u32, known: u32) -> Result<(), HeapFault>
 fn end_of_text(heap: &[u8], index: u32) -> Result<usize, HeapFault>
     requires { 1 ≤ index }
     ensures reaches { IfOk result (Reaches heap.now index) }
-    ensures answers { (place : ℕ) → Answers (demands_of_text heap.now index place) (at_place place result) }
+    ensures reports { (offset : ℕ) → Reports (rules_of_text heap.now index offset) (at_offset offset result) }
 {
     let text = text(heap, index)?;
     Ok(index as usize + text.len())
@@ -147,14 +147,14 @@ fn end_through(heap: &[u8], index: u32, known: u32, end: usize) -> Result<usize,
     requires order { index ≤ known }
     requires known { Reaches heap.now known end }
     ensures reaches { IfOk result (Reaches heap.now index) }
-    ensures answers { (place : ℕ) → Answers (demands_of_text heap.now index place) (at_place place result) }
+    ensures reports { (offset : ℕ) → Reports (rules_of_text heap.now index offset) (at_offset offset result) }
 {
-    let (_, rest) = heap.split_at(index as usize);
-    let (front, _) = rest.split_at((known - index) as usize);
-    if memchr(0, front).is_some() {
+    let (_, tail) = heap.split_at(index as usize);
+    let (prefix, _) = tail.split_at((known - index) as usize);
+    if memchr(0, prefix).is_some() {
         return end_of_text(heap, index);
     }
-    match basic::from_utf8(front) {
+    match basic::from_utf8(prefix) {
         Ok(_) => Ok(end),
         Err(_) => Err(HeapFault::BadUtf8),
     }
@@ -163,11 +163,11 @@ fn end_through(heap: &[u8], index: u32, known: u32, end: usize) -> Result<usize,
 /// The first place from one up to an end at which a character may begin.
 fn first_character(heap: &[u8], begin: usize, end: usize) -> Option<u32>
     requires { end ≤ length heap.now }
-    ensures { IfSome result (λ place. (begin ≤ place) × (place < end) × (128 ≤ slice_index heap.now place → 192 ≤ slice_index heap.now place)) }
+    ensures { IfSome result (λ offset. (begin ≤ offset) × (offset < end) × (128 ≤ slice_index heap.now offset → 192 ≤ slice_index heap.now offset)) }
 {
-    for place in begin..end {
-        if begins_character(heap[place]) {
-            return u32::try_from(place).ok();
+    for offset in begin..end {
+        if begins_character(heap[offset]) {
+            return u32::try_from(offset).ok();
         }
     }
     None

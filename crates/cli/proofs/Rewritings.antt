@@ -18,8 +18,8 @@ module _ (bare : Bool) (bytes root : List ℕ) (opened : IsOpened bare bytes roo
 
   pub too_long : (error : WriteError) → error ≡ TooLarge
       → ((model : Metadata) → IsModel root model → MatchError (2 ^ 30 < length (canonical model)) ⊤ (λ given. ⊥) error) → IsTooLong bare bytes
-  too_long error large told =
+  too_long error large usage_error =
       let long = λ (model : Metadata) (is : IsModel root model).
       let P : WriteError → Type 0 = λ e. MatchError (2 ^ 30 < length (canonical model)) ⊤ (λ given. ⊥) e in
-      subst P large (told model is) in
+      subst P large (usage_error model is) in
       ∥∥₁_map has (λ some. (root, some.0, opened, some.1, long some.0 some.1))

@@ -25,7 +25,7 @@ explained ask made is = go ask.code is
   where
     go : (code : Option (Bor (List ℕ))) → IsExplainTask code (Ok made) → IsExplanation made
     go None same = subst IsExplanation (ap (λ r. result_or r made) (sym same)) tt
-    go (Some given) told = subst IsExplanation (sym told.2) tt
+    go (Some given) usage_error = subst IsExplanation (sym usage_error.2) tt
 
 -- a task that is not an explanation has a file
 pub file_there : (ask : Ask) (made : Task) → ¬ IsExplanation made → HasFile ask → IsTask ask.subcommand ask (Ok made) → IsSome ask.file

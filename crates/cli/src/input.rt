@@ -19,14 +19,14 @@ pub(crate) fn read_file<'a, R: Files + AllocGlobal>(
 ) -> Result<Vec<u8>, Failure<'a>>
     ensures { IfErr result (IsUnread file.now) }
 {
-    read_front(rt, file).map_err(|error| Failure::of_reading(&error, file))
+    read_prefix(rt, file).map_err(|error| Failure::of_reading(&error, file))
 }
 
-fn read_front<R: Files + AllocGlobal>(rt: &R, path: &str) -> io::Result<Vec<u8>> {
+fn read_prefix<R: Files + AllocGlobal>(rt: &R, path: &str) -> io::Result<Vec<u8>> {
     let file = fs::open(rt, path)?;
     // Room for the reported size and one byte more, to see the end. Some files report 0, and others grow.
-    let told = file.metadata().map_or(0, |metadata| metadata.len());
-    let mut bytes = Vec::with_capacity(rt.alloc(), told.min(MOST) as usize + 1)?;
+    let usage_error = file.metadata().map_or(0, |metadata| metadata.len());
+    let mut bytes = Vec::with_capacity(rt.alloc(), usage_error.min(MOST) as usize + 1)?;
     file.take(MOST).read_to_end(&mut bytes)?;
     Ok(bytes)
 }

@@ -2,7 +2,7 @@
 ghost use Rattle.std.specs.Prelude.{◌≡◌, IfSome, Some};
 ghost use Rattle.std.specs.Option.{SomeIff};
 ghost use Rattle.std.specs.Str.Parse.{digits_value};
-ghost use Rattle.packed.specs.declared.code.FaultCode.{FaultCode as Demanded};
+ghost use Rattle.packed.specs.declared.code.FaultCode.{FaultCode as RuleCode};
 ghost use Rattle.cli.specs.Numbers.{IsHexNumber, IsCodeNumber, NamesCode};
 
 use cli_faults::code_of_number;
@@ -30,8 +30,8 @@ fn code_number_of(word: &str) -> Option<u16>
 
 /// The rule whose number the argument has, in three decimal digits; `None` for any other argument.
 pub(crate) fn code_of(word: &str) -> Option<FaultCode>
-    ensures found { IfSome result (λ code. NamesCode word.now code) }
-    ensures only { (code : Demanded) → NamesCode word.now code → result ≡ Some code }
+    ensures sound { IfSome result (λ code. NamesCode word.now code) }
+    ensures complete { (code : RuleCode) → NamesCode word.now code → result ≡ Some code }
 {
     code_of_number(code_number_of(word)?)
 }

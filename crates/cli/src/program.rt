@@ -37,7 +37,7 @@ pub fn go<R: Files + AllocGlobal, W: Write, E: Write>(
 {
     match ask(rt.alloc(), &*words) {
         Ok(ask) => status(run(rt, ask, out), err),
-        Err(told) => tell(rt.alloc(), &told, out, err),
+        Err(usage_error) => report_usage_error(rt.alloc(), &usage_error, out, err),
     }
 }
 
@@ -69,17 +69,17 @@ fn status<E: Write>(outcome: Result<(), Stop<'_>>, err: &mut E) -> u8
 }
 
 /// Reports what `clap` returned instead of matches: a usage error, or help or the version.
-fn tell<W: Write, E: Write>(alloc: Global, told: &clap::Error, out: &mut W, err: &mut E) -> u8
+fn report_usage_error<W: Write, E: Write>(alloc: Global, usage_error: &clap::Error, out: &mut W, err: &mut E) -> u8
     ensures { result ≤ 3 }
 {
-    if told.kind() == ErrorKind::OutOfMemory {
+    if usage_error.kind() == ErrorKind::OutOfMemory {
         return status(Err(Stop::Failed(Failure::OutOfMemory)), err);
     }
-    if told.use_stderr() {
-        let _ = write!(err, "{told}");
+    if usage_error.use_stderr() {
+        let _ = write!(err, "{usage_error}");
         return 2;
     }
-    status(print_told(alloc, told, out), err)
+    status(print_usage_error(alloc, usage_error, out), err)
 }
 
 /// Runs the task of the arguments. All arguments are checked before the file is read.
@@ -137,17 +137,17 @@ fn rewrite_file<'a, R: Files + AllocGlobal, W: Write>(
 }
 
 /// Prints the help or the version.
-fn print_told<W: Write>(
+fn print_usage_error<W: Write>(
     alloc: Global,
-    told: &clap::Error,
+    usage_error: &clap::Error,
     out: &mut W,
 ) -> Result<(), Stop<'static>> {
-    printed(write_told(alloc, told, out))?;
+    printed(write_usage_error(alloc, usage_error, out))?;
     Ok(())
 }
 
-fn write_told<W: Write>(alloc: Global, told: &clap::Error, out: &mut W) -> io::Result<()> {
+fn write_usage_error<W: Write>(alloc: Global, usage_error: &clap::Error, out: &mut W) -> io::Result<()> {
     let mut out = BufWriter::new(alloc, out)?;
-    write!(out, "{told}")?;
+    write!(out, "{usage_error}")?;
     out.flush()
 }

@@ -1,6 +1,6 @@
 //! `clim rewrite`: the canonical root of a file.
 ghost use Rattle.std.specs.Prelude.{IfOk, IfErr};
-ghost use Rattle.cli.specs.Rewritten.{IsRewritten, TellsUnwritten};
+ghost use Rattle.cli.specs.Rewritten.{IsRewritten, ReportsUnwritten};
 ghost use Rattle.cli_faults.specs.Status.{IsUnwritten};
 
 use packed::{Fault, FaultCode};
@@ -31,8 +31,8 @@ pub(crate) fn rewrite<'a, R: Files + AllocGlobal, W: Write>(
 
 /// The canonical root of bytes, before anything is written.
 fn canonical_root(alloc: Global, bytes: &[u8], bare: bool) -> Result<Prepared, Failure<'static>>
-    ensures found { IfOk result (IsRewritten bare bytes.now) }
-    ensures first { IfErr result (TellsUnwritten bare bytes.now) }
+    ensures sound { IfOk result (IsRewritten bare bytes.now) }
+    ensures first_error { IfErr result (ReportsUnwritten bare bytes.now) }
 {
     let view = open(bytes, bare)?;
     match prepare_view(alloc, &view, LIMIT) {

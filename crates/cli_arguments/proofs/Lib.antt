@@ -1,4 +1,4 @@
-pub mod Filled
+pub mod Supplied
 pub mod NoHelp
 pub mod ValuesGiven
 pub mod Readings

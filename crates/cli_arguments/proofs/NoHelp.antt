@@ -8,7 +8,7 @@ use Rattle.clap.specs.Simple.{Shape}
 use Rattle.clap.specs.Kinds.{Kinds, or_else}
 use Rattle.clap.specs.Faults.{other_fault, step_fault, turn_fault, walk_fault, word_fault}
 use Rattle.clap.specs.declared.error.ErrorKind.TheVariants as kind
-use Rattle.cli_arguments.proofs.Filled.{first_none, second_none}
+use Rattle.cli_arguments.proofs.Supplied.{first_none, second_none}
 
 abbrev pub is_help : Text → Bool
 is_help name = bytes_eq name (codes "help")
@@ -55,10 +55,10 @@ module _ (c : List Rule) where
       go (Some a) = tt
 
 -- a name is not `help`, since `clap` would answer that with the help
-not_help : (found disabled : Bool) (k : Kinds) (rest : Kinds) → disabled ≡ false → cond (found && not disabled) (kind.DisplayHelp ∷ rest) [] ≡ [] → found ≡ false
-not_help false disabled k rest is none = refl
-not_help true false k rest is none = cc
-not_help true true k rest is none = cc
+not_help : (found disabled : Bool) (k : Kinds) (tail : Kinds) → disabled ≡ false → cond (found && not disabled) (kind.DisplayHelp ∷ tail) [] ≡ [] → found ≡ false
+not_help false disabled k tail is none = refl
+not_help true false k tail is none = cc
+not_help true true k tail is none = cc
 
 module _ (s : Shape) (names : Names) (helps : s.disable_help_subcommand ≡ false) where
   other_enters : (o : Option Text) (waiting : Waiting) (position : ℕ) (word : Text) (h : Held) → other_fault s o word h ≡ []
@@ -94,8 +94,8 @@ module _ (s : Shape) (names : Names) (helps : s.disable_help_subcommand ≡ fals
       → StopsElsewhere (fold (walked s.rules names) w words).stopped
   unfolding walk_fault
   walk_stops w [] e stops = stops
-  walk_stops w (word ∷ rest) e stops =
-      walk_stops (walked s.rules names w word) rest (second_none (turn_fault s names w word) _ e) (turn_stops w word (first_none _ _ e) stops)
+  walk_stops w (word ∷ tail) e stops =
+      walk_stops (walked s.rules names w word) tail (second_none (turn_fault s names w word) _ e) (turn_stops w word (first_none _ _ e) stops)
 
   -- the walk over the arguments does not stop at `help`
   pub stops_elsewhere : (h : Held) (words : List Text) → walk_fault s names (walk_from h) words ≡ [] → StopsElsewhere (walk s.rules names h words).stopped

@@ -29,10 +29,10 @@ pub rows_met : (m : ArgMatches) (name : Text) (rows : List Row) → subcommand_n
 rows_met m name rows named given = both_parts (subcommand_rows_of m) name rows (option_map_map _ _ (out-ArgMatches m).subcommand ∙ named) given
 
 -- an argument that is the name of a subcommand, or else of one of the following ones
-named_by : (word : Text) (found : Bool) (t : Subcommand) (rest : Option Subcommand) (s : Subcommand) → (found ≡ true → word ≡ name_of t)
-    → (rest ≡ Some s → word ≡ name_of s) → (if found then Some t else rest) ≡ Some s → word ≡ name_of s
-named_by word true t rest s is later e = subst (λ (u : Subcommand). word ≡ name_of u) (ap (λ o. unwrap_or o t) e) (is refl)
-named_by word false t rest s is later e = later e
+named_by : (word : Text) (found : Bool) (t : Subcommand) (tail : Option Subcommand) (s : Subcommand) → (found ≡ true → word ≡ name_of t)
+    → (tail ≡ Some s → word ≡ name_of s) → (if found then Some t else tail) ≡ Some s → word ≡ name_of s
+named_by word true t tail s is later e = subst (λ (u : Subcommand). word ≡ name_of u) (ap (λ o. unwrap_or o t) e) (is refl)
+named_by word false t tail s is later e = later e
 
 -- the argument is the name of the subcommand that it selects
 pub named_back : (word : Text) (s : Subcommand) → subcommand_named word ≡ Some s → word ≡ name_of s

@@ -5,7 +5,7 @@ use Rattle.std.specs.Str.{bytes_eq}
 use Rattle.std.specs.List.{list_any}
 use Rattle.std.specs.Option.{option_map_or}
 use Rattle.clap.specs.Walk.{Row, Rule, Text, answers_to, first_of, nothing_held, reading_by, stop_after, used, values_or_missing, walk, with_values, without, finished}
-use Rattle.clap.specs.Simple.{App, Shape, argument_words, built, built_leaf, entered, inherited, filled, label_of, names_of, rows_at, subcommand_of, with_index}
+use Rattle.clap.specs.Simple.{App, Shape, argument_words, built, built_leaf, entered, inherited, supplied, label_of, names_of, rows_at, subcommand_of, with_index}
 use Rattle.clap.specs.Kinds.{check_kinds}
 use Rattle.clap.specs.Takes.{is_given}
 use Rattle.clap.specs.Words.{with_rule}
@@ -18,26 +18,26 @@ use Rattle.cli_arguments.specs.declared.asked.Subcommand.TheVariants.{Root, Chec
 use Rattle.cli_arguments.specs.declared.asked.Subcommand.{Subcommand}
 use Rattle.cli_arguments.specs.CommandLine.{bare, budget, check, clim, code, explain, file, reader, second}
 use Rattle.cli_arguments.proofs.NoHelp.{StopsElsewhere, is_help, stops_elsewhere}
-use Rattle.cli_arguments.proofs.Filled.{AllFill, Fills, IsFilled, below_none, check_none, filled_with, filled_without, first_none, given_has_value, level_filled}
+use Rattle.cli_arguments.proofs.Supplied.{AllSupply, Supplies, IsSupplied, below_none, check_none, supplied_with, supplied_without, first_none, given_has_value, level_supplied}
 
 -- an argument whose new use replaces an earlier one, with at least one value
-set_fills : (a : Rule) → ((values : List Text) (rows : List Row) → used a values rows
+set_supplies : (a : Rule) → ((values : List Text) (rows : List Row) → used a values rows
     ≡ with_values a.id (reading_by a) CommandLine (values_or_missing a values) (without a.id rows))
     → ((again : Bool) (values : List Text) (rows : List Row) → use_fault again a values rows ≡ [] → 0 < length (values_or_missing a values))
-    → Fills a
-set_fills a replaces some again values rows none f =
-    subst IsFilled (sym (replaces values rows)) (go (values_or_missing a values) (some again values rows none))
+    → Supplies a
+set_supplies a replaces some again values rows none f =
+    subst IsSupplied (sym (replaces values rows)) (go (values_or_missing a values) (some again values rows none))
   where
-    go : (given : List Text) → 0 < length given → IsFilled (with_values a.id (reading_by a) CommandLine given (without a.id rows))
+    go : (given : List Text) → 0 < length given → IsSupplied (with_values a.id (reading_by a) CommandLine given (without a.id rows))
     go [] lt = absurd (omega arith)
-    go (v ∷ vs) lt = filled_with a.id (reading_by a) CommandLine v vs (without a.id rows) (filled_without a.id rows f)
+    go (v ∷ vs) lt = supplied_with a.id (reading_by a) CommandLine v vs (without a.id rows) (supplied_without a.id rows f)
 
 -- the arguments of a subcommand, as `clap` completes them
 abbrev built_value : ℕ → Rule → Rule
-built_value index a = with_index index (filled a)
+built_value index a = with_index index (supplied a)
 
 abbrev built_bare : Rule
-built_bare = with_index 2 (filled bare)
+built_bare = with_index 2 (supplied bare)
 
 -- the values that a subcommand needs, by its name
 abbrev pub values_in : Text → List Text
@@ -54,13 +54,13 @@ abbrev pub AllThere : List Text → List Row → Type 0
 AllThere [] rows = Unit {0}
 AllThere (id ∷ ids) rows = (is_some (first_of id rows) ≡ true) × AllThere ids rows
 
-all_there : (ids : List Text) (rows : List Row) → IsFilled rows → AllGiven ids rows → AllThere ids rows
+all_there : (ids : List Text) (rows : List Row) → IsSupplied rows → AllGiven ids rows → AllThere ids rows
 all_there [] rows f given = tt
 all_there (id ∷ ids) rows f given = (given_has_value id rows given.0 f, all_there ids rows f given.1)
 
 -- each use of a subcommand's arguments gives a value, and it requires those that it needs
 pub record IsReady (s : Shape) : Type 0 where
-  pub fills : AllFill s.rules
+  pub supplies : AllSupply s.rules
   pub values : List Text
   pub takes : values_in s.name ≡ values
   pub known : IsSome (subcommand_named s.name)
@@ -69,15 +69,15 @@ pub record IsReady (s : Shape) : Type 0 where
 -- the subcommands that a test finds are ready
 abbrev pub AllReady : (Shape → Bool) → List Shape → Type 0
 AllReady p [] = Unit {0}
-AllReady p (s ∷ rest) = (p s ≡ true → IsReady s) × AllReady p rest
+AllReady p (s ∷ tail) = (p s ≡ true → IsReady s) × AllReady p tail
 
 found_ready : (p : Shape → Bool) (subs : List Shape) (s : Shape) → find p subs ≡ Some s → AllReady p subs → IsReady s
 found_ready p [] s e ready = cc
-found_ready p (x ∷ xs) s e ready = go (p x) refl e (λ rest. found_ready p xs s rest ready.1)
+found_ready p (x ∷ xs) s e ready = go (p x) refl e (λ tail. found_ready p xs s tail ready.1)
   where
     go : (b : Bool) → p x ≡ b → cond b (Some x) (find p xs) ≡ Some s → (find p xs ≡ Some s → IsReady s) → IsReady s
-    go true is same rest = subst IsReady (ap (λ o. unwrap_or o x) same) (ready.0 is)
-    go false is later rest = rest later
+    go true is same tail = subst IsReady (ap (λ o. unwrap_or o x) same) (ready.0 is)
+    go false is later tail = tail later
 
 file_value : (again : Bool) (values : List Text) (rows : List Row) → use_fault again (built_value 1 file) values rows ≡ [] → 0 < length (values_or_missing (built_value 1 file) values)
 file_value again [] rows none = cc
@@ -99,20 +99,20 @@ bare_value : (values : List Text) → 0 < length (values_or_missing built_bare v
 bare_value [] = omega arith
 bare_value (v ∷ vs) = omega arith
 
-file_fills : Fills (built_value 1 file)
-file_fills = set_fills (built_value 1 file) (λ values rows. refl) file_value
+file_supplies : Supplies (built_value 1 file)
+file_supplies = set_supplies (built_value 1 file) (λ values rows. refl) file_value
 
-second_fills : Fills (built_value 2 second)
-second_fills = set_fills (built_value 2 second) (λ values rows. refl) second_value
+second_supplies : Supplies (built_value 2 second)
+second_supplies = set_supplies (built_value 2 second) (λ values rows. refl) second_value
 
-budget_fills : Fills (built_value 2 budget)
-budget_fills = set_fills (built_value 2 budget) (λ values rows. refl) budget_value
+budget_supplies : Supplies (built_value 2 budget)
+budget_supplies = set_supplies (built_value 2 budget) (λ values rows. refl) budget_value
 
-code_fills : Fills (built_value 1 code)
-code_fills = set_fills (built_value 1 code) (λ values rows. refl) code_value
+code_supplies : Supplies (built_value 1 code)
+code_supplies = set_supplies (built_value 1 code) (λ values rows. refl) code_value
 
-bare_fills : Fills built_bare
-bare_fills = set_fills built_bare (λ values rows. refl) (λ again values rows none. bare_value values)
+bare_supplies : Supplies built_bare
+bare_supplies = set_supplies built_bare (λ values rows. refl) (λ again values rows none. bare_value values)
 
 needed : (given others : Bool) → (not given || others) ≡ false → given ≡ true
 needed true others e = refl
@@ -185,7 +185,7 @@ built_reader name = built_leaf (inherited (built clim).top (reader name).top)
 
 reader_ready : (name : Text) → values_in name ≡ codes "FILE" ∷ [] → IsSome (subcommand_named name) → IsReady (built_reader name)
 reader_ready name takes known = record {
-  fills = (file_fills, (bare_fills, ((λ again values rows none f. f), tt)));
+  supplies = (file_supplies, (bare_supplies, ((λ again values rows none f. f), tt)));
   values = codes "FILE" ∷ [];
   takes = takes;
   known = known;
@@ -194,7 +194,7 @@ reader_ready name takes known = record {
 
 check_ready : IsReady (built_leaf (inherited (built clim).top check.top))
 check_ready = record {
-  fills = (file_fills, (bare_fills, (budget_fills, ((λ again values rows none f. f), tt))));
+  supplies = (file_supplies, (bare_supplies, (budget_supplies, ((λ again values rows none f. f), tt))));
   values = codes "FILE" ∷ [];
   takes = check_takes;
   known = check_known;
@@ -207,7 +207,7 @@ built_second name = built_leaf (inherited (built clim).top (with_rule (reader na
 
 second_ready : (name : Text) → values_in name ≡ codes "FILE" ∷ codes "second" ∷ [] → IsSome (subcommand_named name) → IsReady (built_second name)
 second_ready name takes known = record {
-  fills = (file_fills, (bare_fills, (second_fills, ((λ again values rows none f. f), tt))));
+  supplies = (file_supplies, (bare_supplies, (second_supplies, ((λ again values rows none f. f), tt))));
   values = codes "FILE" ∷ codes "second" ∷ [];
   takes = takes;
   known = known;
@@ -219,7 +219,7 @@ second_ready name takes known = record {
 
 explain_ready : IsReady (built_leaf (inherited (built clim).top explain.top))
 explain_ready = record {
-  fills = (code_fills, ((λ again values rows none f. f), tt));
+  supplies = (code_supplies, ((λ again values rows none f. f), tt));
   values = [];
   takes = explain_takes;
   known = explain_known;
@@ -294,7 +294,7 @@ entered_has_values a (Some p) name rows ready elsewhere none e = go (find (λ s.
         ap (λ (o : Option (Text × List Row)). (unwrap_or o (name, rows)).1) is in
         let named : s.name ≡ name = ap (λ (o : Option (Text × List Row)). (unwrap_or o (name, rows)).0) is in
         let given = own.needs _ (none_wanted _ _ s.subcommand_negates_reqs _ (check_none s [] nothing_held p.1 false [] free)) in
-        let there = all_there own.values _ (level_filled s [] nothing_held p.1 false [] free own.fills tt) given in
+        let there = all_there own.values _ (level_supplied s [] nothing_held p.1 false [] free own.supplies tt) given in
         subst (λ (rs : List Row). AllThere (values_in name) rs) same
         (subst (λ (ids : List Text). AllThere ids (finished s.rules (walk s.rules [] nothing_held p.1).held)) (sym own.takes ∙ ap values_in named) there)
 

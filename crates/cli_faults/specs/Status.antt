@@ -35,5 +35,5 @@ IsUnwritten file OutOfMemory = Unit {0}
 IsUnwritten file _ = ⊥
 
 -- `OutOfMemory` is reported if and only if the error is of that kind
-abbrev pub TellsKind : ErrorKind → Failure → Type 0
-TellsKind kind failure = (kind ≡ cause.OutOfMemory) ↔ (failure ≡ OutOfMemory)
+abbrev pub ReportsKind : ErrorKind → Failure → Type 0
+ReportsKind kind failure = (kind ≡ cause.OutOfMemory) ↔ (failure ≡ OutOfMemory)

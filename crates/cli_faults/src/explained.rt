@@ -13,7 +13,7 @@ pub struct Explanation {
     /// The section that the rule comes from; `None` for a limit that the standard does not set.
     pub section: Option<&'static str>,
     /// What the rule says.
-    pub demand: &'static str,
+    pub rule: &'static str,
     /// Where the offset of a fault points.
     pub offset: &'static str,
     /// What usually causes such a file, if known.

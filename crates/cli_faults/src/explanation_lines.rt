@@ -35,15 +35,15 @@ fn print_heading<W: Write>(code: FaultCode, out: &mut W) -> io::Result<()> {
 ///
 /// It does not allocate. An error is that of the writer. By then the writer has a prefix of the lines.
 pub fn print_explanation<W: Write>(code: FaultCode, out: &mut W) -> io::Result<()> {
-    let told = explain(code);
+    let reported = explain(code);
     print_heading(code, out)?;
     writeln!(out)?;
-    print_item("Rule:", told.demand, out)?;
-    if let Some(section) = told.section {
+    print_item("Rule:", reported.rule, out)?;
+    if let Some(section) = reported.section {
         print_item("Section:", section, out)?;
     }
-    print_item("Offset:", told.offset, out)?;
-    if let Some(cause) = told.cause {
+    print_item("Offset:", reported.offset, out)?;
+    if let Some(cause) = reported.cause {
         print_item("Usual cause:", cause, out)?;
     }
     Ok(())

@@ -1,7 +1,7 @@
 //! Why the program failed, and the line that reports it.
 ghost use Rattle.std.specs.Prelude.{◌≡◌, ◌↔◌, IfErr, IsOk, Some};
 ghost use Rattle.std.specs.IoError.{error_kind};
-ghost use Rattle.cli_faults.specs.Status.{IsOutput, TellsKind};
+ghost use Rattle.cli_faults.specs.Status.{IsOutput, ReportsKind};
 ghost use Rattle.cli_faults.specs.Texts.{failure_text};
 ghost use Rattle.cli_faults.specs.declared.failure.Failure.TheVariants.{Fault};
 
@@ -34,13 +34,13 @@ pub enum Failure<'a> {
 impl<'a> Failure<'a> {
     ghost use Rattle.std.specs.Prelude.{◌≡◌};
     ghost use Rattle.std.specs.IoError.{error_kind};
-    ghost use Rattle.cli_faults.specs.Status.{status_of, IsOutput, IsUnread, IsUnwritten, TellsKind};
+    ghost use Rattle.cli_faults.specs.Status.{status_of, IsOutput, IsUnread, IsUnwritten, ReportsKind};
 
     /// The failure for an error on reading the file: out of memory if the error is of that kind, else that the file
     /// cannot be read.
     pub fn of_reading(error: &io::Error, file: &'a str) -> Failure<'a>
-        ensures told { IsUnread file.now result }
-        ensures kind { TellsKind (error_kind error.now) result }
+        ensures reported { IsUnread file.now result }
+        ensures kind { ReportsKind (error_kind error.now) result }
     {
         match error.kind() {
             ErrorKind::OutOfMemory => Failure::OutOfMemory,
@@ -51,8 +51,8 @@ impl<'a> Failure<'a> {
     /// The failure for an error on opening the file to write: out of memory if the error is of that kind, else that the
     /// file cannot be written.
     pub fn of_opening(error: &io::Error, file: &'a str) -> Failure<'a>
-        ensures told { IsUnwritten file.now result }
-        ensures kind { TellsKind (error_kind error.now) result }
+        ensures reported { IsUnwritten file.now result }
+        ensures kind { ReportsKind (error_kind error.now) result }
     {
         match error.kind() {
             ErrorKind::OutOfMemory => Failure::OutOfMemory,
@@ -63,8 +63,8 @@ impl<'a> Failure<'a> {
     /// The failure for an error on writing the output: out of memory if the error is of that kind, else that the output
     /// cannot be written. A buffer that cannot be allocated is out of memory.
     pub fn of_printing(error: &io::Error) -> Failure<'a>
-        ensures told { IsOutput result }
-        ensures kind { TellsKind (error_kind error.now) result }
+        ensures reported { IsOutput result }
+        ensures kind { ReportsKind (error_kind error.now) result }
     {
         match error.kind() {
             ErrorKind::OutOfMemory => Failure::OutOfMemory,
@@ -95,8 +95,8 @@ impl<'a> Failure<'a> {
 /// The error of the writer as a failure: out of memory if it is of that kind, else that the output cannot be written.
 pub fn printed(outcome: io::Result<()>) -> Result<(), Failure<'static>>
     ensures ok { IsOk result ↔ IsOk outcome }
-    ensures told { IfErr result IsOutput }
-    ensures kind { IfErr outcome (λ error. IfErr result (TellsKind (error_kind error))) }
+    ensures reported { IfErr result IsOutput }
+    ensures kind { IfErr outcome (λ error. IfErr result (ReportsKind (error_kind error))) }
 {
     match outcome {
         Ok(()) => Ok(()),

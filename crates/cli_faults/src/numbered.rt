@@ -1,6 +1,6 @@
 ghost use Rattle.std.specs.Prelude.{◌≡◌, IfSome, Some, length};
 ghost use Rattle.packed.specs.Codes.{number_of_code};
-ghost use Rattle.packed.specs.declared.code.FaultCode.{FaultCode as Demanded};
+ghost use Rattle.packed.specs.declared.code.FaultCode.{FaultCode as RuleCode};
 ghost use Rattle.cli_faults.specs.Codes.{codes_in_order};
 
 use packed::FaultCode;
@@ -64,8 +64,8 @@ pub fn all_codes() -> &'static [FaultCode]
 
 /// The rule with a number; `None` if no rule has it.
 pub fn code_of_number(number: u16) -> Option<FaultCode>
-    ensures found { IfSome result (λ code. number_of_code code ≡ number) }
-    ensures only { (code : Demanded) → number_of_code code ≡ number → result ≡ Some code }
+    ensures sound { IfSome result (λ code. number_of_code code ≡ number) }
+    ensures complete { (code : RuleCode) → number_of_code code ≡ number → result ≡ Some code }
 {
     match number {
         101 => Some(FaultCode::TooLong),

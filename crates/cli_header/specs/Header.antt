@@ -2,7 +2,7 @@
 use Rattle.std.specs.Prelude.{◌≡◌, ◌≢◌, ◌+◌, ◌≤◌, List, [], ◌∷◌}
 use Rattle.packed.specs.Fields.{Field, number, StandAt}
 use Rattle.pe.specs.Image.{Image}
-use Rattle.pe.specs.Place.{IsPlace}
+use Rattle.pe.specs.Offset.{IsFileOffset}
 use Rattle.cli_header.specs.declared.header.CliHeader.{CliHeader}
 
 -- the fields of the header in order, each with its size in bytes (II.25.3.3)
@@ -38,8 +38,8 @@ IsNamed image = (image.cli_directory.0 ≢ 0) × (image.cli_directory.1 ≢ 0)
 pub record IsCliHeader (image : Image) (header : CliHeader) : Type 0 where
   pub named : IsNamed image
   pub long : 72 ≤ image.cli_directory.1
-  pub place : IsPlace image image.cli_directory.0 72 header.place
+  pub place : IsFileOffset image image.cli_directory.0 72 header.place
   pub fields : StandAt image.bytes header.place (fields_of header)
   pub enough : 72 ≤ header.cb
-  pub root : IsPlace image header.metadata.rva header.metadata.size header.root.start
+  pub root : IsFileOffset image header.metadata.rva header.metadata.size header.root.start
   pub root_end : header.root.«end» ≡ header.root.start + header.metadata.size

@@ -1,3 +1,3 @@
-pub mod Demands
+pub mod Rules
 pub mod Header
 pub mod Said

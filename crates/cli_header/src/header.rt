@@ -1,8 +1,8 @@
 ghost use Rattle.std.specs.Prelude.{◌≡◌, ◌+◌, ◌≤◌, length, IfOk, IfErr, IsOkAnd};
-ghost use Rattle.packed.specs.Demand.{AllHold, Answers, FirstToFail};
-ghost use Rattle.cli_header.specs.Demands.{demands_of_directory, demands_of_cli_header};
+ghost use Rattle.packed.specs.Rule.{AllHold, Reports, FirstBroken};
+ghost use Rattle.cli_header.specs.Rules.{rules_of_directory, rules_of_cli_header};
 ghost use Rattle.cli_header.specs.Header.{IsCliHeader};
-ghost use Rattle.cli_header.specs.Said.{directory_at, header_place, header_of};
+ghost use Rattle.cli_header.specs.Said.{directory_at, header_offset, header_of};
 
 use crate::laws::headers_are_read;
 use packed::{Fault, FaultCode, u16_at, u32_at};
@@ -73,11 +73,11 @@ impl DataDirectory {
 
 /// The file offset of the header that the image's data directory names.
 fn find_header(pe: &Pe) -> Result<usize, Fault>
-    ensures answers { Answers (demands_of_directory pe.now) result }
-    ensures place { IfOk result (λ place. place ≡ header_place pe.now) }
+    ensures reports { Reports (rules_of_directory pe.now) result }
+    ensures place { IfOk result (λ place. place ≡ header_offset pe.now) }
     ensures within { IfOk result (λ place. place + 72 ≤ length pe.now.bytes) }
 {
-    let directory = pe.cli_directory_place() as u64;
+    let directory = pe.cli_directory_offset() as u64;
     let (rva, size) = pe.cli_directory();
     if rva == 0 || size == 0 {
         return Err(Fault::new(FaultCode::NoCliHeader, directory));
@@ -93,12 +93,12 @@ fn find_header(pe: &Pe) -> Result<usize, Fault>
 
 /// Checks all rules. Returns the header, or the fault of the first broken rule.
 fn check_cli(pe: &Pe) -> Result<CliHeader, Fault>
-    ensures answers { Answers (demands_of_cli_header pe.now) result }
+    ensures reports { Reports (rules_of_cli_header pe.now) result }
     ensures header { IfOk result (λ header. header ≡ header_of pe.now) }
 {
     let place = find_header(pe)?;
-    let (_, rest) = pe.bytes().split_at(place);
-    let (header, _) = rest.split_at(HEADER_SIZE as usize);
+    let (_, tail) = pe.bytes().split_at(place);
+    let (header, _) = tail.split_at(HEADER_SIZE as usize);
     let cb = u32_at(header, 0);
     if cb < HEADER_SIZE {
         return Err(Fault::new(FaultCode::CliSize, place as u64));
@@ -135,15 +135,15 @@ fn check_cli(pe: &Pe) -> Result<CliHeader, Fault>
 /// The fault of the first broken rule for the data directory and the header, with its offset in the file.
 pub fn read_cli(pe: &Pe) -> Result<CliHeader, Fault>
     // If it returns a header, it is the image's header.
-    ensures found { IfOk result (λ header. IsCliHeader pe.now header) }
+    ensures sound { IfOk result (λ header. IsCliHeader pe.now header) }
     // If the image has a header, it returns this header. An image has at most one.
-    ensures only { (header : CliHeader) → IsCliHeader pe.now header → IsOkAnd result (λ found. found ≡ header) }
+    ensures complete { (header : CliHeader) → IsCliHeader pe.now header → IsOkAnd result (λ found. found ≡ header) }
     // The metadata root is within the file.
     ensures root { IfOk result (λ header. (header.root.start ≤ header.root.«end») × (header.root.«end» ≤ length pe.now.bytes)) }
     // If it returns a header, all rules hold, and the header has the values of its bytes.
-    ensures all { IfOk result (λ header. AllHold (demands_of_cli_header pe.now) × (header ≡ header_of pe.now)) }
+    ensures all { IfOk result (λ header. AllHold (rules_of_cli_header pe.now) × (header ≡ header_of pe.now)) }
     // A fault is that of the first broken rule.
-    ensures first { IfErr result (FirstToFail (demands_of_cli_header pe.now)) }
+    ensures first_error { IfErr result (FirstBroken (rules_of_cli_header pe.now)) }
 {
     headers_are_read();
     check_cli(pe)

@@ -1,73 +1,73 @@
 -- The headers of a file that meets the rules for them.
 use Rattle.std.proofs.Common.{◌≡◌, ◌≤◌, ℕ, Bool, true, false, List, ◌++◌, Some, length, refl, subst, sym}
 use Rattle.packed.specs.declared.fault.Fault.{Fault}
-use Rattle.packed.specs.Demand.{Demand, AllHold, FirstToFail, raised}
+use Rattle.packed.specs.Rule.{Rule, AllHold, FirstBroken, rebased}
 use Rattle.packed.specs.Limit.{byte_limit}
-use Rattle.packed.proofs.DemandLemmas.{all_front, all_back, all_lowered}
+use Rattle.packed.proofs.RuleLemmas.{all_prefix, all_back, all_lowered}
 use Rattle.pe.specs.Image.{IsImage}
 use Rattle.pe.specs.Headers.{image_of}
-use Rattle.pe.specs.Demands.{demands_of_image}
+use Rattle.pe.specs.Rules.{rules_of_image}
 use Rattle.cli_header.specs.declared.header.CliHeader.{CliHeader}
 use Rattle.cli_header.specs.Header.{IsCliHeader}
-use Rattle.cli_header.specs.Demands.{demands_of_cli_header}
+use Rattle.cli_header.specs.Rules.{rules_of_cli_header}
 use Rattle.cli_header.specs.Said.{header_of}
-use Rattle.root.specs.Demands.{demands_of_root}
+use Rattle.root.specs.Rules.{rules_of_root}
 use Rattle.root.specs.Fields.{root_read}
 use Rattle.root.specs.Root.{IsRoot}
 use Rattle.root.specs.Streams.{RootRead}
 use Rattle.metadata.specs.Streams.{root_in}
-use Rattle.opening.specs.Heads.{demands_of_heads as demands_of_file_heads}
-use Rattle.cli_reports.specs.Heads.{AreHeads, demands_of_heads}
+use Rattle.opening.specs.Heads.{rules_of_heads as rules_of_file_heads}
+use Rattle.cli_reports.specs.Heads.{AreHeads, rules_of_heads}
 
-pub bare_fails : (bare : Bool) (file : List ℕ) (found : Fault) → bare ≡ true → FirstToFail (demands_of_root file) found → FirstToFail (demands_of_heads bare file) found
-unfolding demands_of_heads
+pub bare_fails : (bare : Bool) (file : List ℕ) (found : Fault) → bare ≡ true → FirstBroken (rules_of_root file) found → FirstBroken (rules_of_heads bare file) found
+unfolding rules_of_heads
 bare_fails true file found is first = first
 bare_fails false file found is first = cc
 
-pub file_fails : (bare : Bool) (file : List ℕ) (found : Fault) → bare ≡ false → FirstToFail (demands_of_file_heads file) found → FirstToFail (demands_of_heads bare file) found
-unfolding demands_of_heads
+pub file_fails : (bare : Bool) (file : List ℕ) (found : Fault) → bare ≡ false → FirstBroken (rules_of_file_heads file) found → FirstBroken (rules_of_heads bare file) found
+unfolding rules_of_heads
 file_fails true file found is first = cc
 file_fails false file found is first = first
 
 -- the rules for the CLI header and the root
-abbrev behind_image : List ℕ → List (Demand Fault)
+abbrev behind_image : List ℕ → List (Rule Fault)
 behind_image file =
-    demands_of_cli_header (image_of file)
-    ++ raised (header_of (image_of file)).root.start (demands_of_root (root_in file (header_of (image_of file))))
+    rules_of_cli_header (image_of file)
+    ++ rebased (header_of (image_of file)).root.start (rules_of_root (root_in file (header_of (image_of file))))
 
-abbrev behind_header : List ℕ → List (Demand Fault)
-behind_header file = raised (header_of (image_of file)).root.start (demands_of_root (root_in file (header_of (image_of file))))
+abbrev behind_header : List ℕ → List (Rule Fault)
+behind_header file = rebased (header_of (image_of file)).root.start (rules_of_root (root_in file (header_of (image_of file))))
 
-abbrev AllRootDemands : List ℕ → CliHeader → Type 0
-AllRootDemands file header = AllHold (demands_of_root (root_in file header))
+abbrev AllRootRules : List ℕ → CliHeader → Type 0
+AllRootRules file header = AllHold (rules_of_root (root_in file header))
 
-module _ (file : List ℕ) (all : AllHold (demands_of_file_heads file)) where
-  image_holds : AllHold (demands_of_image file)
-  unfolding demands_of_file_heads
-  image_holds = all_front (demands_of_image file) (behind_image file) all
+module _ (file : List ℕ) (all : AllHold (rules_of_file_heads file)) where
+  image_holds : AllHold (rules_of_image file)
+  unfolding rules_of_file_heads
+  image_holds = all_prefix (rules_of_image file) (behind_image file) all
 
-  rest_holds : AllHold (behind_image file)
-  unfolding demands_of_file_heads
-  rest_holds = all_back (demands_of_image file) (behind_image file) all
+  tail_holds : AllHold (behind_image file)
+  unfolding rules_of_file_heads
+  tail_holds = all_back (rules_of_image file) (behind_image file) all
 
-  header_holds : AllHold (demands_of_cli_header (image_of file))
-  header_holds = all_front (demands_of_cli_header (image_of file)) (behind_header file) rest_holds
+  header_holds : AllHold (rules_of_cli_header (image_of file))
+  header_holds = all_prefix (rules_of_cli_header (image_of file)) (behind_header file) tail_holds
 
-  root_holds : AllRootDemands file (header_of (image_of file))
+  root_holds : AllRootRules file (header_of (image_of file))
   root_holds =
-      all_lowered (header_of (image_of file)).root.start (demands_of_root (root_in file (header_of (image_of file))))
-      (all_back (demands_of_cli_header (image_of file)) (behind_header file) rest_holds)
+      all_lowered (header_of (image_of file)).root.start (rules_of_root (root_in file (header_of (image_of file))))
+      (all_back (rules_of_cli_header (image_of file)) (behind_header file) tail_holds)
 
 -- if all rules for the headers of a file hold, its CLI header and its root are those that were read
-pub heads_stand : (bare : Bool) (file : List ℕ) (header : CliHeader) (root : RootRead) → bare ≡ false → AllHold (demands_of_file_heads file)
+pub heads_stand : (bare : Bool) (file : List ℕ) (header : CliHeader) (root : RootRead) → bare ≡ false → AllHold (rules_of_file_heads file)
     → header ≡ header_of (image_of file) → root ≡ root_read (root_in file header)
-    → (AllHold (demands_of_image file) → IsImage file (image_of file))
-    → (AllHold (demands_of_cli_header (image_of file)) → IsCliHeader (image_of file) (header_of (image_of file)))
-    → (AllHold (demands_of_root (root_in file header)) → (length (root_in file header) ≤ byte_limit) × IsRoot (root_in file header) (root_read (root_in file header)).version (root_read (root_in file header)).headers)
+    → (AllHold (rules_of_image file) → IsImage file (image_of file))
+    → (AllHold (rules_of_cli_header (image_of file)) → IsCliHeader (image_of file) (header_of (image_of file)))
+    → (AllHold (rules_of_root (root_in file header)) → (length (root_in file header) ≤ byte_limit) × IsRoot (root_in file header) (root_read (root_in file header)).version (root_read (root_in file header)).headers)
     → AreHeads bare file (Some header) root
 heads_stand true file header root is all header_is root_is images headers roots = cc
 heads_stand false file header root is all header_is root_is images headers roots =
-    let stands = (roots (subst (AllRootDemands file) (sym header_is) (root_holds file all))).1 in
+    let stands = (roots (subst (AllRootRules file) (sym header_is) (root_holds file all))).1 in
     let P : RootRead → Type 0 = λ r. IsRoot (root_in file header) r.version r.headers in
     let Q : CliHeader → Type 0 = λ h. IsCliHeader (image_of file) h in
     (image_of file, header, images (image_holds file all), subst Q (sym header_is) (headers (header_holds file all)), refl, subst P (sym root_is) stands)

@@ -2,8 +2,8 @@
 use Rattle.std.specs.Prelude.{◌≡◌, ℕ, Bool, true, false, List}
 use Rattle.cli_header.specs.declared.header.CliHeader.{CliHeader}
 use Rattle.packed.specs.declared.fault.Fault.{Fault}
-use Rattle.packed.specs.Demand.{Demand}
-use Rattle.metadata.specs.Demands.{demands_of_file, demands_of_metadata}
+use Rattle.packed.specs.Rule.{Rule}
+use Rattle.metadata.specs.Rules.{rules_of_file, rules_of_metadata}
 use Rattle.metadata.specs.Streams.{root_in}
 use Rattle.opening.specs.Views.{HasImage, HasModel}
 use Rattle.opening.specs.Within.{signature_bytes_in, signature_bytes_in_file}
@@ -24,6 +24,6 @@ signature_bytes_of true bytes = signature_bytes_in bytes
 signature_bytes_of false bytes = signature_bytes_in_file bytes
 
 -- the rules for the bytes, in the order in which they are checked
-abbrev pub demands_of : Bool → List ℕ → List (Demand Fault)
-demands_of true bytes = demands_of_metadata 0 bytes
-demands_of false bytes = demands_of_file bytes
+abbrev pub rules_of : Bool → List ℕ → List (Rule Fault)
+rules_of true bytes = rules_of_metadata 0 bytes
+rules_of false bytes = rules_of_file bytes

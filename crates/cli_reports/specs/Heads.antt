@@ -2,15 +2,15 @@
 -- its metadata root.
 use Rattle.std.specs.Prelude.{◌≡◌, ℕ, Bool, true, false, List, Option, Some, None}
 use Rattle.packed.specs.declared.fault.Fault.{Fault}
-use Rattle.packed.specs.Demand.{Demand}
+use Rattle.packed.specs.Rule.{Rule}
 use Rattle.pe.specs.Image.{Image, IsImage}
 use Rattle.cli_header.specs.declared.header.CliHeader.{CliHeader}
 use Rattle.cli_header.specs.Header.{IsCliHeader}
 use Rattle.root.specs.Root.{IsRoot}
 use Rattle.root.specs.Streams.{RootRead}
-use Rattle.root.specs.Demands.{demands_of_root}
+use Rattle.root.specs.Rules.{rules_of_root}
 use Rattle.metadata.specs.Streams.{root_in}
-use Rattle.opening.specs.Heads.{demands_of_heads as demands_of_file_heads}
+use Rattle.opening.specs.Heads.{rules_of_heads as rules_of_file_heads}
 
 -- the bytes are a metadata root with this directory if they are bare; else they are an image with this CLI header,
 -- whose root has this directory
@@ -24,6 +24,6 @@ abbrev pub HasHeads : Bool → List ℕ → Type 0
 HasHeads bare bytes = (header : Option CliHeader) × (root : RootRead) × AreHeads bare bytes header root
 
 -- the rules for the headers, in order: for a file those for the image, the CLI header and the root
-unfoldable pub demands_of_heads : Bool → List ℕ → List (Demand Fault)
-demands_of_heads true bytes = demands_of_root bytes
-demands_of_heads false bytes = demands_of_file_heads bytes
+unfoldable pub rules_of_heads : Bool → List ℕ → List (Rule Fault)
+rules_of_heads true bytes = rules_of_root bytes
+rules_of_heads false bytes = rules_of_file_heads bytes

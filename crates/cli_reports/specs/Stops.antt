@@ -1,13 +1,13 @@
 -- Why a run stopped: its exit code, its line, and what it says about the bytes.
 use Rattle.std.specs.Prelude.{◌≡◌, ℕ, ◌<◌, List, codes}
 use Rattle.packed.specs.declared.fault.Fault.{Fault}
-use Rattle.packed.specs.Demand.{Demand}
+use Rattle.packed.specs.Rule.{Rule}
 use Rattle.cli_faults.specs.Status.{status_of}
 use Rattle.cli_faults.specs.Texts.{failure_text}
 use Rattle.opening.specs.Within.{HoldBeforeSignatures}
 use Rattle.cli_reports.specs.declared.stop.Stop.{Stop}
 use Rattle.cli_reports.specs.declared.stop.Stop.TheVariants.{Failed, BudgetSpent}
-use Rattle.cli_reports.specs.Reported.{TellsFault, LeavesOutput}
+use Rattle.cli_reports.specs.Reported.{ReportsFault, LeavesOutput}
 
 -- the exit code of a stop
 abbrev pub status_of_stop : Stop → ℕ
@@ -21,9 +21,9 @@ stop_text BudgetSpent = codes "error: budget spent"
 
 -- a failure is as without a budget; if the budget is spent, it is less than the number of signature bytes, and all
 -- rules before signatures hold
-abbrev pub StopsWithin : ℕ → ℕ → Type 0 → List (Demand Fault) → Stop → Type 0
-StopsWithin budget bytes met demands (Failed failure) = TellsFault met demands failure
-StopsWithin budget bytes met demands BudgetSpent = (budget < bytes) × HoldBeforeSignatures demands
+abbrev pub StopsWithin : ℕ → ℕ → Type 0 → List (Rule Fault) → Stop → Type 0
+StopsWithin budget bytes met rules (Failed failure) = ReportsFault met rules failure
+StopsWithin budget bytes met rules BudgetSpent = (budget < bytes) × HoldBeforeSignatures rules
 
 -- nothing was printed, unless writing the output failed or memory ran out
 abbrev pub StopLeavesOutput : {W : Type 0} → W → W → Stop → Type 0

@@ -1,8 +1,8 @@
 //! `clim check`: checks a file against the rules of the standard.
 ghost use Rattle.std.specs.Prelude.{IfErr, OnOk};
-ghost use Rattle.cli_reports.specs.Checked.{IsWhole, demands_of, signature_bytes_of};
+ghost use Rattle.cli_reports.specs.Checked.{IsWhole, rules_of, signature_bytes_of};
 ghost use Rattle.cli_reports.specs.Stops.{StopLeavesOutput, StopsWithin};
-ghost use Rattle.cli_reports.specs.Reported.{LeavesOutput, TellsFault};
+ghost use Rattle.cli_reports.specs.Reported.{LeavesOutput, ReportsFault};
 
 use crate::opened::{open, open_within};
 use crate::stop::Stop;
@@ -19,8 +19,8 @@ pub(crate) fn run<W: Write>(
     bare: bool,
     out: &mut W,
 ) -> Result<(), Failure<'static>>
-    ensures found { OnOk result (IsWhole bare bytes.now) }
-    ensures first { IfErr result (TellsFault (IsWhole bare bytes.now) (demands_of bare bytes.now)) }
+    ensures sound { OnOk result (IsWhole bare bytes.now) }
+    ensures first_error { IfErr result (ReportsFault (IsWhole bare bytes.now) (rules_of bare bytes.now)) }
     ensures untouched { IfErr result (LeavesOutput out.old out.new) }
 {
     open(bytes, bare)?;
@@ -42,8 +42,8 @@ pub fn check_within<W: Write>(
     budget: u64,
     out: &mut W,
 ) -> Result<(), Stop<'static>>
-    ensures found { OnOk result (IsWhole bare bytes.now) }
-    ensures first { IfErr result (StopsWithin budget (signature_bytes_of bare bytes.now) (IsWhole bare bytes.now) (demands_of bare bytes.now)) }
+    ensures sound { OnOk result (IsWhole bare bytes.now) }
+    ensures first_error { IfErr result (StopsWithin budget (signature_bytes_of bare bytes.now) (IsWhole bare bytes.now) (rules_of bare bytes.now)) }
     ensures untouched { IfErr result (StopLeavesOutput out.old out.new) }
 {
     match open_within(bytes, bare, budget) {

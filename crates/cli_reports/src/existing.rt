@@ -8,7 +8,7 @@ use opening::{Token, View};
 /// The token with a number (III.1.9), if it names a row of the view. `None` if no table has the number in the high
 /// byte, or the low three bytes are 0 or not a row of that table.
 pub fn existing_row(view: &View<'_>, number: u32) -> Option<Token>
-    ensures found { IfSome result (λ token. IsToken number token × (1 ≤ token.row) × (token.row ≤ row_count view.now token.table)) }
+    ensures sound { IfSome result (λ token. IsToken number token × (1 ≤ token.row) × (token.row ≤ row_count view.now token.table)) }
     ensures none { IfNone result (¬ HasTokenRow view.now number) }
 {
     let token = Token::from_u32(number)?;

@@ -1,9 +1,9 @@
 //! Opens the bytes that were read.
 ghost use Rattle.std.specs.Prelude.{◌<◌, ◌≤◌, IfOk, IfErr, IsErrOf, IsOk};
-ghost use Rattle.cli_reports.specs.Checked.{IsWhole, IsOpened, demands_of, signature_bytes_of};
+ghost use Rattle.cli_reports.specs.Checked.{IsWhole, IsOpened, rules_of, signature_bytes_of};
 ghost use Rattle.opening.specs.Views.{HasModel};
-ghost use Rattle.opening.specs.Within.{HoldBeforeSignatures, TellsFirst};
-ghost use Rattle.packed.specs.Demand.{FirstToFail};
+ghost use Rattle.opening.specs.Within.{HoldBeforeSignatures, ReportsFirst};
+ghost use Rattle.packed.specs.Rule.{FirstBroken};
 
 use opening::{BoundedError, View, open_image, open_image_within, open_root, open_root_within};
 use packed::Fault;
@@ -14,11 +14,11 @@ use packed::Fault;
 ///
 /// The fault of the first rule that fails, with its offset in these bytes.
 pub fn open(bytes: &[u8], bare: bool) -> Result<View<'_>, Fault>
-    ensures found { IfOk result (λ _. IsWhole bare bytes.now) }
+    ensures sound { IfOk result (λ _. IsWhole bare bytes.now) }
     ensures root { IfOk result (λ view. IsOpened bare bytes.now view) }
     ensures model { IfOk result (λ view. HasModel view) }
-    ensures only { IsWhole bare bytes.now → IsOk result }
-    ensures first { IfErr result (FirstToFail (demands_of bare bytes.now)) }
+    ensures complete { IsWhole bare bytes.now → IsOk result }
+    ensures first_error { IfErr result (FirstBroken (rules_of bare bytes.now)) }
 {
     if bare {
         return open_root(bytes);
@@ -29,11 +29,11 @@ pub fn open(bytes: &[u8], bare: bool) -> Result<View<'_>, Fault>
 
 /// The same, but at most `budget` bytes of signature blobs are checked.
 pub(crate) fn open_within(bytes: &[u8], bare: bool, budget: u64) -> Result<View<'_>, BoundedError>
-    ensures found { IfOk result (λ _. IsWhole bare bytes.now) }
-    ensures only { IsWhole bare bytes.now → signature_bytes_of bare bytes.now ≤ budget → IsOk result }
-    ensures first { IfErr result (TellsFirst (demands_of bare bytes.now)) }
+    ensures sound { IfOk result (λ _. IsWhole bare bytes.now) }
+    ensures complete { IsWhole bare bytes.now → signature_bytes_of bare bytes.now ≤ budget → IsOk result }
+    ensures first_error { IfErr result (ReportsFirst (rules_of bare bytes.now)) }
     ensures spent { IsErrOf result BoundedError.BudgetSpent → budget < signature_bytes_of bare bytes.now }
-    ensures before { IsErrOf result BoundedError.BudgetSpent → HoldBeforeSignatures (demands_of bare bytes.now) }
+    ensures before { IsErrOf result BoundedError.BudgetSpent → HoldBeforeSignatures (rules_of bare bytes.now) }
 {
     if bare {
         return open_root_within(bytes, budget);

@@ -1,15 +1,15 @@
 //! `clim root`: the CLI header of a PE file, and the version and the stream headers of its metadata root.
 ghost use Rattle.std.specs.Prelude.{IfOk, IfErr, OnOk};
-ghost use Rattle.cli_reports.specs.Heads.{AreHeads, HasHeads, demands_of_heads};
-ghost use Rattle.cli_reports.specs.Reported.{LeavesOutput, TellsFault};
-ghost use Rattle.packed.specs.Demand.{FirstToFail};
+ghost use Rattle.cli_reports.specs.Heads.{AreHeads, HasHeads, rules_of_heads};
+ghost use Rattle.cli_reports.specs.Reported.{LeavesOutput, ReportsFault};
+ghost use Rattle.packed.specs.Rule.{FirstBroken};
 
 use cli_header::{CliHeader, headers_are_read};
 use opening::read_heads;
 use packed::Fault;
 use pe::images_are_read;
 use cli_faults::{Failure, printed};
-use crate::shown::Shown;
+use crate::shown::Escaped;
 use root::{Root, StreamHeader, read_root, roots_are_read};
 use std::alloc::Global;
 use std::io;
@@ -23,8 +23,8 @@ pub(crate) fn run<W: Write>(
     bare: bool,
     out: &mut W,
 ) -> Result<(), Failure<'static>>
-    ensures found { OnOk result (HasHeads bare bytes.now) }
-    ensures first { IfErr result (TellsFault (HasHeads bare bytes.now) (demands_of_heads bare bytes.now)) }
+    ensures sound { OnOk result (HasHeads bare bytes.now) }
+    ensures first_error { IfErr result (ReportsFault (HasHeads bare bytes.now) (rules_of_heads bare bytes.now)) }
     ensures untouched { IfErr result (LeavesOutput out.old out.new) }
 {
     let (header, root) = heads_of(bytes, bare)?;
@@ -33,8 +33,8 @@ pub(crate) fn run<W: Write>(
 
 /// The CLI header, which a bare root does not have, and the metadata root.
 fn heads_of(bytes: &[u8], bare: bool) -> Result<(Option<CliHeader>, Root<'_>), Fault>
-    ensures found { IfOk result (λ heads. AreHeads bare bytes.now heads.0 heads.1) }
-    ensures first { IfErr result (FirstToFail (demands_of_heads bare bytes.now)) }
+    ensures sound { IfOk result (λ heads. AreHeads bare bytes.now heads.0 heads.1) }
+    ensures first_error { IfErr result (FirstBroken (rules_of_heads bare bytes.now)) }
 {
     if bare {
         return Ok((None, read_root(bytes)?));
@@ -61,7 +61,7 @@ fn print<W: Write>(
 }
 
 fn print_streams<W: Write>(root: &Root<'_>, out: &mut W) -> io::Result<()> {
-    let version = Shown(root.version());
+    let version = Escaped(root.version());
     writeln!(out, "version {version}")?;
     for header in root.headers() {
         print_stream(&header, out)?;
@@ -70,7 +70,7 @@ fn print_streams<W: Write>(root: &Root<'_>, out: &mut W) -> io::Result<()> {
 }
 
 fn print_stream<W: Write>(header: &StreamHeader<'_>, out: &mut W) -> io::Result<()> {
-    let (offset, size, name) = (header.offset, header.size, Shown(header.name));
+    let (offset, size, name) = (header.offset, header.size, Escaped(header.name));
     writeln!(out, "stream {offset} {size} {name}")
 }
 

@@ -1,8 +1,8 @@
 //! `clim token`: the row or the user string that a token names.
 ghost use Rattle.std.specs.Prelude.{◌≡◌, ◌≤◌, IfOk, IfErr, OnOk};
-ghost use Rattle.heap_entries.specs.Fill.{filled};
+ghost use Rattle.heap_entries.specs.Padding.{zero_padded};
 ghost use Rattle.opening.specs.Views.{HasModel, row_count};
-ghost use Rattle.cli_reports.specs.Reported.{HasString, IsMet, IsNamed, LeavesOutput, TellsNoString, TellsNone, TellsUnnamed};
+ghost use Rattle.cli_reports.specs.Reported.{HasString, IsMet, IsNamed, LeavesOutput, ReportsNoString, ReportsNone, ReportsUnnamed};
 ghost use Rattle.cli_reports.specs.declared.report.Report.TheVariants as report;
 
 use crate::opened::open;
@@ -29,8 +29,8 @@ pub(crate) fn run<W: Write>(
     number: u32,
     out: &mut W,
 ) -> Result<(), Failure<'static>>
-    ensures found { OnOk result (IsMet (report.Token number) bare bytes.now) }
-    ensures first { IfErr result (TellsNone bare bytes.now number) }
+    ensures sound { OnOk result (IsMet (report.Token number) bare bytes.now) }
+    ensures first_error { IfErr result (ReportsNone bare bytes.now number) }
     ensures untouched { IfErr result (LeavesOutput out.old out.new) }
 {
     let view = open(bytes, bare)?;
@@ -46,8 +46,8 @@ fn print_named<W: Write>(
     out: &mut W,
 ) -> Result<(), Failure<'static>>
     requires { HasModel view.now }
-    ensures found { OnOk result (IsNamed view.now number) }
-    ensures none { IfErr result (TellsUnnamed view.now number) }
+    ensures sound { OnOk result (IsNamed view.now number) }
+    ensures none { IfErr result (ReportsUnnamed view.now number) }
     ensures untouched { IfErr result (LeavesOutput out.old out.new) }
 {
     if number / ROWS == USER_STRINGS {
@@ -75,11 +75,11 @@ fn print_string_at<W: Write>(
     offset: u32,
     out: &mut W,
 ) -> Result<(), Failure<'static>>
-    ensures found { OnOk result (HasString view.now offset) }
-    ensures none { IfErr result (TellsNoString view.now offset) }
+    ensures sound { OnOk result (HasString view.now offset) }
+    ensures none { IfErr result (ReportsNoString view.now offset) }
     ensures untouched { IfErr result (LeavesOutput out.old out.new) }
 {
-    let user = filled_copy(alloc, view.user()).map_err(|_| Failure::OutOfMemory)?;
+    let user = padded_copy(alloc, view.user()).map_err(|_| Failure::OutOfMemory)?;
     let Ok(string) = user_string(&user, offset) else {
         return Err(Failure::NoSuchRow);
     };
@@ -87,13 +87,13 @@ fn print_string_at<W: Write>(
 }
 
 /// A copy of bytes, padded with zeros to a multiple of four.
-fn filled_copy(alloc: Global, bytes: &[u8]) -> Result<Vec<u8>, AllocError>
-    ensures { IfOk result (λ copy. copy.items ≡ filled bytes.now) }
+fn padded_copy(alloc: Global, bytes: &[u8]) -> Result<Vec<u8>, AllocError>
+    ensures { IfOk result (λ copy. copy.items ≡ zero_padded bytes.now) }
 {
-    let fill = (4 - bytes.len() % 4) % 4;
-    let mut copy = Vec::with_capacity(alloc, bytes.len() + fill)?;
+    let padding = (4 - bytes.len() % 4) % 4;
+    let mut copy = Vec::with_capacity(alloc, bytes.len() + padding)?;
     copy.extend_from_slice(bytes)?;
-    copy.resize(bytes.len() + fill, 0)?;
+    copy.resize(bytes.len() + padding, 0)?;
     Ok(copy)
 }
 

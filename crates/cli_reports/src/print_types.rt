@@ -1,7 +1,7 @@
 //! `clim types`: the types of a file.
 ghost use Rattle.std.specs.Prelude.{IfErr, OnOk};
-ghost use Rattle.cli_reports.specs.Checked.{IsWhole, demands_of};
-ghost use Rattle.cli_reports.specs.Reported.{LeavesOutput, TellsFault};
+ghost use Rattle.cli_reports.specs.Checked.{IsWhole, rules_of};
+ghost use Rattle.cli_reports.specs.Reported.{LeavesOutput, ReportsFault};
 
 use crate::opened::open;
 use opening::View;
@@ -18,8 +18,8 @@ pub(crate) fn run<W: Write>(
     bare: bool,
     out: &mut W,
 ) -> Result<(), Failure<'static>>
-    ensures found { OnOk result (IsWhole bare bytes.now) }
-    ensures first { IfErr result (TellsFault (IsWhole bare bytes.now) (demands_of bare bytes.now)) }
+    ensures sound { OnOk result (IsWhole bare bytes.now) }
+    ensures first_error { IfErr result (ReportsFault (IsWhole bare bytes.now) (rules_of bare bytes.now)) }
     ensures untouched { IfErr result (LeavesOutput out.old out.new) }
 {
     let view = open(bytes, bare)?;

@@ -1,6 +1,6 @@
 //! What can be printed of a file.
 ghost use Rattle.std.specs.Prelude.{IfErr, OnOk};
-ghost use Rattle.cli_reports.specs.Reported.{IsMet, LeavesOutput, Tells};
+ghost use Rattle.cli_reports.specs.Reported.{IsMet, LeavesOutput, Reports};
 
 use crate::{check_file, print_root, print_token, print_types, show_tables};
 use cli_faults::Failure;
@@ -39,7 +39,7 @@ pub fn print_report<W: Write>(
     // If it prints, the bytes meet the rules that the report needs.
     ensures met { OnOk result (IsMet report bare bytes.now) }
     // Otherwise it reports the first rule that fails, or that a token names nothing.
-    ensures first { IfErr result (Tells report bare bytes.now) }
+    ensures first_error { IfErr result (Reports report bare bytes.now) }
     // In these cases nothing is printed.
     ensures untouched { IfErr result (LeavesOutput out.old out.new) }
 {

@@ -1,17 +1,17 @@
 //! Texts, bytes and UTF-16 units, escaped as printable ASCII.
 ghost use Rattle.std.specs.Prelude.{◌≡◌, ◌<◌, IsTrue, Some, [], ◌∷◌};
 ghost use Rattle.std.specs.Fmt.{WritesOnOk};
-ghost use Rattle.cli_reports.specs.Shown.{is_printable, shown_byte, shown_bytes, shown_text, shown_unit};
+ghost use Rattle.cli_reports.specs.Shown.{is_printable, escaped_byte, escaped_bytes, escaped_text, escaped_unit};
 
 use std::fmt;
 
 /// A text as the program prints it: printable ASCII except `"` and `\` as it is, and any other byte as `\x` and two
 /// hexadecimal digits.
 #[derive(Clone, Copy)]
-pub struct Shown<'a>(pub &'a str);
+pub struct Escaped<'a>(pub &'a str);
 
-impl fmt::Display for Shown<'_> {
-    ghost output = { λ text. Some (shown_text text.0.now) };
+impl fmt::Display for Escaped<'_> {
+    ghost output = { λ text. Some (escaped_text text.0.now) };
 
     fn fmt<W: fmt::Write>(&self, f: &mut fmt::Formatter<W>) -> fmt::Result {
         for byte in self.0.as_bytes() {
@@ -26,7 +26,7 @@ impl fmt::Display for Shown<'_> {
 pub(crate) struct Hex<'a>(pub(crate) &'a [u8]);
 
 impl fmt::Display for Hex<'_> {
-    ghost output = { λ bytes. Some (shown_bytes bytes.0.now) };
+    ghost output = { λ bytes. Some (escaped_bytes bytes.0.now) };
 
     fn fmt<W: fmt::Write>(&self, f: &mut fmt::Formatter<W>) -> fmt::Result {
         for byte in self.0 {
@@ -39,10 +39,10 @@ impl fmt::Display for Hex<'_> {
 /// A UTF-16 unit as the program prints it: printable ASCII except `\` as it is, and any other unit as `\u` and four
 /// hexadecimal digits.
 #[derive(Clone, Copy)]
-pub(crate) struct ShownUnit(pub(crate) u16);
+pub(crate) struct EscapedUnit(pub(crate) u16);
 
-impl fmt::Display for ShownUnit {
-    ghost output = { λ unit. Some (shown_unit unit.0) };
+impl fmt::Display for EscapedUnit {
+    ghost output = { λ unit. Some (escaped_unit unit.0) };
 
     fn fmt<W: fmt::Write>(&self, f: &mut fmt::Formatter<W>) -> fmt::Result {
         let unit = self.0;
@@ -64,7 +64,7 @@ fn is_printable_unit(unit: u16) -> bool
 
 /// Writes a byte of a text, escaped if needed.
 fn write_byte<W: fmt::Write>(byte: u8, f: &mut fmt::Formatter<W>) -> fmt::Result
-    ensures { WritesOnOk W.write_str_gives f.old result (shown_byte byte) f.new }
+    ensures { WritesOnOk W.write_str_gives f.old result (escaped_byte byte) f.new }
 {
     if is_printable_unit(u16::from(byte)) && byte != b'"' {
         write_ascii(byte, f)

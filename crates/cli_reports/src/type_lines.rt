@@ -6,14 +6,14 @@ ghost use Rattle.metadata.specs.Model.{IsModel};
 ghost use Rattle.opening.specs.Views.{row_count, HasModel};
 ghost use Rattle.table_schema.specs.declared.table.TableId.TheVariants.{TypeDef};
 
-use crate::shown::Shown;
+use crate::shown::Escaped;
 use metadata::models_are_read;
 use opening::{CellRef, TableId, Token, View};
 use std::io;
 use std::io::Write;
 
 /// Prints a line for each row of TypeDef (II.22.37): its token in eight hexadecimal digits; its namespace and a dot, if
-/// it has one, and its name, both escaped as by [`Shown`]; and the number of its fields and of its methods.
+/// it has one, and its name, both escaped as by [`Escaped`]; and the number of its fields and of its methods.
 ///
 /// It does not allocate. An error is that of the writer. By then the writer has a prefix of the lines.
 pub fn print_types<W: Write>(view: &View<'_>, out: &mut W) -> io::Result<()> {
@@ -37,13 +37,13 @@ fn print_type<W: Write>(view: &View<'_>, row: u32, out: &mut W) -> io::Result<()
     write!(out, "{token}")?;
     let namespace = text_of(view, row, 2);
     if namespace.is_empty() {
-        write!(out, " {}", Shown(text_of(view, row, 1)))?;
+        write!(out, " {}", Escaped(text_of(view, row, 1)))?;
     } else {
         write!(
             out,
             " {}.{}",
-            Shown(namespace),
-            Shown(text_of(view, row, 1))
+            Escaped(namespace),
+            Escaped(text_of(view, row, 1))
         )?;
     }
     let (fields, methods) = (view.fields_of(row).len(), view.methods_of(row).len());
@@ -52,15 +52,15 @@ fn print_type<W: Write>(view: &View<'_>, row: u32, out: &mut W) -> io::Result<()
 
 /// The name of a type, which is its cell 1, or its namespace, which is its cell 2 (II.22.37).
 #[tactic(auto, unfolding(table_schema::specs::CellColumns::cell_columns))]
-fn text_of<'a>(view: &View<'a>, row: u32, place: usize) -> &'a str
+fn text_of<'a>(view: &View<'a>, row: u32, cell_index: usize) -> &'a str
     requires model { HasModel view.now }
     requires first { 1 ≤ row }
     requires last { row ≤ row_count view.now TypeDef }
-    requires place { (place ≡ 1) ⊎ (place ≡ 2) }
-    ensures { (model : Metadata) → IsModel view.now model → cell_in model TypeDef row place ≡ Text result.now }
+    requires cell_index { (cell_index ≡ 1) ⊎ (cell_index ≡ 2) }
+    ensures { (model : Metadata) → IsModel view.now model → cell_in model TypeDef row cell_index ≡ Text result.now }
 {
     models_are_read();
-    match view.cell(TableId::TypeDef, row, place) {
+    match view.cell(TableId::TypeDef, row, cell_index) {
         CellRef::Text(text) => text,
         _ => unreachable!(),
     }

@@ -1,4 +1,4 @@
-use crate::shown::ShownUnit;
+use crate::shown::EscapedUnit;
 use heap_entries::UserString;
 use std::io;
 use std::io::Write;
@@ -13,7 +13,7 @@ pub fn print_user_string<W: Write>(string: &UserString<'_>, out: &mut W) -> io::
     if let Some(flag) = string.flag() {
         write!(out, " ")?;
         for unit in string.units() {
-            write!(out, "{}", ShownUnit(unit))?;
+            write!(out, "{}", EscapedUnit(unit))?;
         }
         write!(out, " {flag}")?;
     }

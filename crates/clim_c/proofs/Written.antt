@@ -8,27 +8,27 @@ module _ {X : Type 0} where
   -- the first elements are right, and one more is written
   module _ (P : ℕ → X → Type 0) (xs : List X) (k : ℕ) (x : X) (within : k < length xs) (here : P k x)
       (before : (j : ℕ) (d : X) → j < k → P j (get_or xs j d)) where
-    by_place : (j : ℕ) (d : X) → j < k + 1 → (j < k) ⊎ (k ≤ j) → P j (get_or (set xs k x) j d)
-    by_place j d below (inl low) =
+    by_index : (j : ℕ) (d : X) → j < k + 1 → (j < k) ⊎ (k ≤ j) → P j (get_or (set xs k x) j d)
+    by_index j d below (inl low) =
         subst (λ y. P j y) (sym (get_or-set_other xs k j x d (λ e. omega (arith, low, e)))) (before j d low)
-    by_place j d below (inr high) =
+    by_index j d below (inr high) =
         let e : j ≡ k = omega (arith, below, high) in
         subst (λ i. P i (get_or (set xs k x) i d)) (sym e) (subst (λ y. P k y) (sym (get_or-set_same xs k x d within)) here)
 
     pub one_more : (j : ℕ) (d : X) → j < k + 1 → P j (get_or (set xs k x) j d)
-    one_more j d below = by_place j d below (cases_lt j k)
+    one_more j d below = by_index j d below (cases_lt j k)
 
   -- the elements after it do not change
-  pub rest_stays : (old xs : List X) (k : ℕ) (x : X) → SameFrom old xs k → SameFrom old (set xs k x) (k + 1)
-  rest_stays old xs k x same = λ j d past.
+  pub tail_stays : (old xs : List X) (k : ℕ) (x : X) → SameFrom old xs k → SameFrom old (set xs k x) (k + 1)
+  tail_stays old xs k x same = λ j d past.
       get_or-set_other xs k j x d (λ e. omega (arith, past, e)) ∙ same j d (omega (arith, past))
 
   -- the items of a list are written in order: one more of them, all of them, or only those for which there is room
-  pub next_left : (all xs left rest : List X) (k : ℕ) (x : X) → all ≡ take k xs ++ left → left ≡ x ∷ rest → k < length xs
-      → all ≡ take (k + 1) (set xs k x) ++ rest
-  next_left all xs left rest k x is first within =
-      is ∙ ap (λ (l : List X). take k xs ++ l) first ∙ sym (append_assoc (take k xs) (x ∷ []) rest)
-      ∙ sym (ap (λ (l : List X). l ++ rest) (take_more_set xs k x within))
+  pub next_left : (all xs left tail : List X) (k : ℕ) (x : X) → all ≡ take k xs ++ left → left ≡ x ∷ tail → k < length xs
+      → all ≡ take (k + 1) (set xs k x) ++ tail
+  next_left all xs left tail k x is first within =
+      is ∙ ap (λ (l : List X). take k xs ++ l) first ∙ sym (append_assoc (take k xs) (x ∷ []) tail)
+      ∙ sym (ap (λ (l : List X). l ++ tail) (take_more_set xs k x within))
 
   pub all_left : (all xs left : List X) (k room : ℕ) → all ≡ take k xs ++ left → left ≡ [] → k ≤ length xs → length xs ≡ room
       → take k xs ≡ take room all

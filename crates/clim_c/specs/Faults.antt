@@ -7,7 +7,7 @@ use Rattle.clim_c.specs.declared.fault.ClimFault.{ClimFault}
 
 -- the fault with these fields
 abbrev pub fault_of : ClimFault → Fault
-fault_of told = record { layer = told.layer; code = told.code; offset = told.offset }
+fault_of reported = record { layer = reported.layer; code = reported.code; offset = reported.offset }
 
 -- the file has some CLI header and some model (II.22 to II.25)
 abbrev pub IsWhole : List ℕ → Type 0

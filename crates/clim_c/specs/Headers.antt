@@ -5,23 +5,23 @@ use Rattle.clim_c.specs.declared.read_header.ClimDirectory.{ClimDirectory}
 use Rattle.clim_c.specs.declared.read_header.ClimHeader.{ClimHeader}
 
 abbrev pub directory_of : ClimDirectory → DataDirectory
-directory_of told = record { rva = told.rva; size = told.size }
+directory_of reported = record { rva = reported.rva; size = reported.size }
 
 -- the CLI header with these fields
 abbrev pub header_of : ClimHeader → CliHeader
-header_of told = record {
-  place = told.place;
-  cb = told.cb;
-  major_runtime_version = told.major_runtime_version;
-  minor_runtime_version = told.minor_runtime_version;
-  metadata = directory_of told.metadata;
-  flags = told.flags;
-  entry_point_token = told.entry_point_token;
-  resources = directory_of told.resources;
-  strong_name_signature = directory_of told.strong_name_signature;
-  code_manager_table = directory_of told.code_manager_table;
-  vtable_fixups = directory_of told.vtable_fixups;
-  export_address_table_jumps = directory_of told.export_address_table_jumps;
-  managed_native_header = directory_of told.managed_native_header;
-  root = record { start = told.root_start; «end» = told.root_end };
+header_of reported = record {
+  offset = reported.offset;
+  cb = reported.cb;
+  major_runtime_version = reported.major_runtime_version;
+  minor_runtime_version = reported.minor_runtime_version;
+  metadata = directory_of reported.metadata;
+  flags = reported.flags;
+  entry_point_token = reported.entry_point_token;
+  resources = directory_of reported.resources;
+  strong_name_signature = directory_of reported.strong_name_signature;
+  code_manager_table = directory_of reported.code_manager_table;
+  vtable_fixups = directory_of reported.vtable_fixups;
+  export_address_table_jumps = directory_of reported.export_address_table_jumps;
+  managed_native_header = directory_of reported.managed_native_header;
+  root = record { start = reported.root_start; «end» = reported.root_end };
 }

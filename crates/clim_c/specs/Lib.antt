@@ -1,4 +1,4 @@
 pub mod Faults
 pub mod Headers
-pub mod Told
+pub mod Reported
 pub mod LookUps

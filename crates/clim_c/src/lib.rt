@@ -19,7 +19,7 @@ mod names;
 mod opened;
 mod read_header;
 mod shown;
-mod told_cell;
+mod reported_cell;
 mod view;
 mod view_parts;
 
@@ -30,6 +30,6 @@ pub use names::{clim_cell_count, clim_column_name, clim_fault_name, clim_table_n
 pub use opened::{clim_open, clim_open_root};
 pub use read_header::{ClimDirectory, ClimHeader, clim_read_header};
 pub use shown::{clim_cell_at, clim_cells};
-pub use told_cell::ClimCell;
+pub use reported_cell::ClimCell;
 pub use view::ClimView;
 pub use view_parts::{clim_count, clim_user, clim_version};

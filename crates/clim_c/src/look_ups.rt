@@ -23,7 +23,7 @@ use table_schema::key;
 /// No type has a name that is not UTF-8.
 #[unsafe(no_mangle)]
 pub extern "C" fn clim_find_type(view: &ClimView, namespace: &[u8], name: &[u8]) -> u32
-    ensures found { 0 < result → (model : Metadata) → IsModel view.now.root.now model → IsFirstType model namespace.now name.now result }
+    ensures sound { 0 < result → (model : Metadata) → IsModel view.now.root.now model → IsFirstType model namespace.now name.now result }
     ensures none { view.now.is_open ≡ true → result ≡ 0 → (model : Metadata) → IsModel view.now.root.now model
         → (row : ℕ) → HasRow model TypeDef row → ¬ HasNames model namespace.now name.now row }
     ensures closed { view.now.is_open ≡ false → result ≡ 0 }
@@ -42,7 +42,7 @@ pub extern "C" fn clim_find_type(view: &ClimView, namespace: &[u8], name: &[u8])
 fn run_of(seen: &View, owner: TableId, row: u32, member: TableId) -> Option<Range<u32>>
     requires first { 1 ≤ row }
     requires last { row ≤ row_count seen.now owner }
-    ensures found { IfSome result (λ run. (model : Metadata) → IsModel seen.now model → IsOwned model owner member row run.start run.«end») }
+    ensures sound { IfSome result (λ run. (model : Metadata) → IsModel seen.now model → IsOwned model owner member row run.start run.«end») }
     ensures owned { IfSome result (λ run. Owns owner member) }
     ensures none { IfNone result (¬ Owns owner member) }
 {
@@ -71,7 +71,7 @@ pub extern "C" fn clim_members(
     ensures run { OnTrue result ((model : Metadata) → IsModel view.now.root.now model
         → (owning owned : Table) → table_number owning ≡ owner → table_number owned ≡ member
         → IsOwned model owning owned row first.new past.new) }
-    ensures only { view.now.is_open ≡ true → (owning owned : Table) → table_number owning ≡ owner → table_number owned ≡ member
+    ensures complete { view.now.is_open ≡ true → (owning owned : Table) → table_number owning ≡ owner → table_number owned ≡ member
         → Owns owning owned → 1 ≤ row → row ≤ row_count view.now.root.now owning → result ≡ true }
     ensures there { OnTrue result ((view.now.is_open ≡ true) × (1 ≤ row)
         × ((owning owned : Table) × (table_number owning ≡ owner) × (table_number owned ≡ member) × Owns owning owned
@@ -123,7 +123,7 @@ pub extern "C" fn clim_rows_by_key(
     key_row: u32,
     rows: &mut [u32],
 ) -> usize
-    ensures found { view.now.is_open ≡ true → (model : Metadata) → IsModel view.now.root.now model
+    ensures sound { view.now.is_open ≡ true → (model : Metadata) → IsModel view.now.root.now model
         → (known keyed : Table) → table_number known ≡ table → table_number keyed ≡ key_table → IsSome (key_of known)
         → AreFirstByKey model known (record { table = keyed; row = key_row }) (length rows.old) (take result rows.new) }
     ensures there { 0 < result → (view.now.is_open ≡ true)

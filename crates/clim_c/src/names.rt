@@ -25,7 +25,7 @@ pub extern "C" fn clim_fault_name(code: u16, name: &mut &'static [u8])
 /// The name of the table with a number (II.22); no bytes if no table has it.
 #[unsafe(no_mangle)]
 pub extern "C" fn clim_table_name(table: u8, name: &mut &'static [u8])
-    ensures found { (known : Table) → table_number known ≡ table → name.new.now ≡ table_name known }
+    ensures sound { (known : Table) → table_number known ≡ table → name.new.now ≡ table_name known }
     ensures none { ((known : Table) → table_number known ≢ table) → name.new.now ≡ [] }
 {
     *name = match TableId::from_number(table) {
@@ -37,7 +37,7 @@ pub extern "C" fn clim_table_name(table: u8, name: &mut &'static [u8])
 /// The number of cells in a row of the table with a number; 0 if no table has it.
 #[unsafe(no_mangle)]
 pub extern "C" fn clim_cell_count(table: u8) -> usize
-    ensures found { (known : Table) → table_number known ≡ table → result ≡ cell_count known }
+    ensures sound { (known : Table) → table_number known ≡ table → result ≡ cell_count known }
     ensures none { ((known : Table) → table_number known ≢ table) → result ≡ 0 }
 {
     match TableId::from_number(table) {
@@ -50,7 +50,7 @@ pub extern "C" fn clim_cell_count(table: u8) -> usize
 /// cell.
 #[unsafe(no_mangle)]
 pub extern "C" fn clim_column_name(table: u8, column: usize, name: &mut &'static [u8])
-    ensures found { (known : Table) → table_number known ≡ table → column < cell_count known
+    ensures sound { (known : Table) → table_number known ≡ table → column < cell_count known
         → name.new.now ≡ slice_index_or (column_names_of known) (column_of known column) [] }
     ensures past { (known : Table) → table_number known ≡ table → cell_count known ≤ column → name.new.now ≡ [] }
     ensures none { ((known : Table) → table_number known ≢ table) → name.new.now ≡ [] }

@@ -1,8 +1,8 @@
 ghost use Rattle.std.specs.Prelude.{◌≡◌, IsTrue, IfSome, IfNone, true, false};
 ghost use Rattle.std.specs.Bool.{OnTrue, OnFalse};
-ghost use Rattle.packed.specs.Demand.{FirstToFail};
+ghost use Rattle.packed.specs.Rule.{FirstBroken};
 ghost use Rattle.cli_header.specs.declared.header.CliHeader.{CliHeader};
-ghost use Rattle.metadata.specs.Demands.{demands_of_file, demands_of_metadata};
+ghost use Rattle.metadata.specs.Rules.{rules_of_file, rules_of_metadata};
 ghost use Rattle.metadata.specs.Streams.{root_in};
 ghost use Rattle.opening.specs.Views.{HasModel, HasImage};
 ghost use Rattle.clim_c.specs.Faults.{fault_of, IsWhole};
@@ -25,7 +25,7 @@ fn kept<'a>(view: &View<'a>) -> ClimView<'a>
 
 /// The view of a root that was opened; `None` if there is none.
 pub(crate) fn seen<'a>(view: &ClimView<'a>) -> Option<View<'a>>
-    ensures found { IfSome result (λ seen. (seen ≡ view.now.root.now) × (view.now.is_open ≡ true)) }
+    ensures sound { IfSome result (λ seen. (seen ≡ view.now.root.now) × (view.now.is_open ≡ true)) }
     ensures closed { IfNone result (view.now.is_open ≡ false) }
 {
     if view.is_open {
@@ -43,9 +43,9 @@ pub extern "C" fn clim_open_root<'a>(
     view: &mut ClimView<'a>,
     fault: &mut ClimFault,
 ) -> bool
-    ensures found { OnTrue result (HasModel root.now × (view.new.is_open ≡ true) × (view.new.root.now ≡ root.now)) }
-    ensures only { HasModel root.now → IsTrue result }
-    ensures first { OnFalse result (FirstToFail (demands_of_metadata 0 root.now) (fault_of fault.new)) }
+    ensures sound { OnTrue result (HasModel root.now × (view.new.is_open ≡ true) × (view.new.root.now ≡ root.now)) }
+    ensures complete { HasModel root.now → IsTrue result }
+    ensures first_error { OnFalse result (FirstBroken (rules_of_metadata 0 root.now) (fault_of fault.new)) }
     ensures same { OnFalse result (view.new ≡ view.old) }
     ensures quiet { OnTrue result (fault.new ≡ fault.old) }
 {
@@ -68,10 +68,10 @@ pub extern "C" fn clim_open<'a>(
     view: &mut ClimView<'a>,
     fault: &mut ClimFault,
 ) -> bool
-    ensures found { OnTrue result (view.new.is_open ≡ true) }
+    ensures sound { OnTrue result (view.new.is_open ≡ true) }
     ensures header { OnTrue result (∥ ((header : CliHeader) × HasImage file.now header × (view.new.root.now ≡ root_in file.now header)) ∥₁) }
-    ensures only { IsWhole file.now → IsTrue result }
-    ensures first { OnFalse result (FirstToFail (demands_of_file file.now) (fault_of fault.new)) }
+    ensures complete { IsWhole file.now → IsTrue result }
+    ensures first_error { OnFalse result (FirstBroken (rules_of_file file.now) (fault_of fault.new)) }
     ensures same { OnFalse result (view.new ≡ view.old) }
     ensures quiet { OnTrue result (fault.new ≡ fault.old) }
 {

@@ -17,7 +17,7 @@ pub struct ClimDirectory {
 #[derive(Clone, Copy)]
 pub struct ClimHeader {
     /// The offset of the header in the file.
-    pub place: usize,
+    pub offset: usize,
     /// The offset of the metadata root in the file.
     pub root_start: usize,
     /// The offset of the end of the metadata root in the file.

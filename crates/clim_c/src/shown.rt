@@ -7,18 +7,18 @@ ghost use Rattle.table_schema.specs.CellColumns.{cell_count};
 ghost use Rattle.metadata.specs.Metadata.{Metadata};
 ghost use Rattle.metadata.specs.Model.{IsModel};
 ghost use Rattle.opening.specs.Views.{row_count};
-ghost use Rattle.clim_c.specs.declared.told_cell.ClimCell.{ClimCell as Told};
-ghost use Rattle.clim_c.specs.Told.{Tells, TellsCell};
+ghost use Rattle.clim_c.specs.declared.reported_cell.ClimCell.{ClimCell as Reported};
+ghost use Rattle.clim_c.specs.Reported.{Reports, ReportsCell};
 
 use crate::opened::seen;
-use crate::told_cell::ClimCell;
+use crate::reported_cell::ClimCell;
 use crate::view::ClimView;
 use opening::{CellRef, TableId, View};
 use table_schema::cell_count;
 
 /// A value as a C caller receives it.
-fn told<'a>(cell: CellRef<'a>) -> ClimCell<'a>
-    ensures { Tells result cell.entry }
+fn reported<'a>(cell: CellRef<'a>) -> ClimCell<'a>
+    ensures { Reports result cell.entry }
 {
     match cell {
         CellRef::Number(number) => ClimCell::new(1, &[], number, 0, [0; 16]),
@@ -36,13 +36,13 @@ fn told<'a>(cell: CellRef<'a>) -> ClimCell<'a>
 }
 
 /// A cell of a row of a table, as a C caller receives it.
-fn told_at<'a>(seen: &View<'a>, table: TableId, row: u32, column: usize) -> ClimCell<'a>
+fn reported_at<'a>(seen: &View<'a>, table: TableId, row: u32, column: usize) -> ClimCell<'a>
     requires first { 1 ≤ row }
     requires last { row ≤ row_count seen.now table }
     requires column { column < cell_count table }
-    ensures { (model : Metadata) → IsModel seen.now model → TellsCell seen.now model table row column result }
+    ensures { (model : Metadata) → IsModel seen.now model → ReportsCell seen.now model table row column result }
 {
-    told(seen.cell(table, row, column))
+    reported(seen.cell(table, row, column))
 }
 
 /// A cell of a row, by its index in the row; rows count from 1, cells from 0. `true` if the view is open and has the
@@ -56,10 +56,10 @@ pub extern "C" fn clim_cell_at<'a>(
     cell: &mut ClimCell<'a>,
 ) -> bool
     ensures shown { OnTrue result ((model : Metadata) → IsModel view.now.root.now model
-        → (known : Table) → table_number known ≡ table → TellsCell view.now.root.now model known row column cell.new) }
+        → (known : Table) → table_number known ≡ table → ReportsCell view.now.root.now model known row column cell.new) }
     ensures there { OnTrue result ((view.now.is_open ≡ true) × (1 ≤ row)
         × ((known : Table) × (table_number known ≡ table) × (row ≤ row_count view.now.root.now known) × (column < cell_count known))) }
-    ensures only { view.now.is_open ≡ true → (known : Table) → table_number known ≡ table
+    ensures complete { view.now.is_open ≡ true → (known : Table) → table_number known ≡ table
         → 1 ≤ row → row ≤ row_count view.now.root.now known → column < cell_count known → result ≡ true }
     ensures same { OnFalse result (cell.new ≡ cell.old) }
 {
@@ -72,7 +72,7 @@ pub extern "C" fn clim_cell_at<'a>(
     if row < 1 || row > seen.count(table) || column >= cell_count(table) {
         return false;
     }
-    *cell = told_at(&seen, table, row, column);
+    *cell = reported_at(&seen, table, row, column);
     true
 }
 
@@ -87,7 +87,7 @@ pub extern "C" fn clim_cells<'a>(
     cells: &mut [ClimCell<'a>],
 ) -> usize
     ensures shown { (model : Metadata) → IsModel view.now.root.now model → (known : Table) → table_number known ≡ table
-        → (k : ℕ) (d : Told) → k < result → TellsCell view.now.root.now model known (first + k) column (slice_index_or cells.new k d) }
+        → (k : ℕ) (d : Reported) → k < result → ReportsCell view.now.root.now model known (first + k) column (slice_index_or cells.new k d) }
     ensures count { view.now.is_open ≡ true → (known : Table) → table_number known ≡ table → 1 ≤ first → column < cell_count known
         → result ≡ min (length cells.old) (row_count view.now.root.now known + 1 - first) }
     ensures there { 0 < result → (view.now.is_open ≡ true) × (1 ≤ first)
@@ -106,7 +106,7 @@ pub extern "C" fn clim_cells<'a>(
     let left = (seen.count(table) + 1).saturating_sub(first) as usize;
     let count = left.min(cells.len());
     for k in 0..count {
-        cells[k] = told_at(&seen, table, first + k as u32, column);
+        cells[k] = reported_at(&seen, table, first + k as u32, column);
     }
     count
 }

@@ -7,7 +7,7 @@ use Rattle.heap_entries.specs.UserView.{user_text}
 use Rattle.heap_entries.proofs.TextLemmas.{text_same}
 use Rattle.heap_entries.proofs.BlobLemmas.{blob_counted, counted_behind}
 use Rattle.heap_entries.proofs.GuidLemmas.{guid_is}
-use Rattle.heap_entries.proofs.UserLemmas.{spells_only}
+use Rattle.heap_entries.proofs.UserLemmas.{encodes_only}
 
 -- bytes begin with at most one packed number
 packed_one : (m n : ℕ) (a b x y : List ℕ) → IsPacked m a → IsPacked n b → a ++ x ≡ b ++ y → (m ≡ n) × (x ≡ y)
@@ -63,7 +63,7 @@ blob_one heap index a b (inl x) (inr y) = absurd (omega (arith, x.0, y.0))
 blob_one heap index a b (inr x) y = counted_one heap index a b x.1 (blob_counted heap index b x.0 y)
 
 pub user_one : (heap : List ℕ) (index : ℕ) (a b : UserText) → IsUserString heap index a → IsUserString heap index b → a ≡ b
-user_one heap index a b x y = sym (spells_only x.blob a x.spells) ∙ ap user_text (blob_one heap index x.blob y.blob x.stands y.stands) ∙ spells_only y.blob b y.spells
+user_one heap index a b x y = sym (encodes_only x.blob a x.encodes) ∙ ap user_text (blob_one heap index x.blob y.blob x.stands y.stands) ∙ encodes_only y.blob b y.encodes
 
 pub guid_one : (heap : List ℕ) (index : ℕ) (a b : Option (List ℕ)) → IsGuid heap index a → IsGuid heap index b → a ≡ b
 guid_one heap index None None x y = refl

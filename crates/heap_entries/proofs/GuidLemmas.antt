@@ -4,13 +4,13 @@ use Rattle.std.proofs.lemmas.List.{take-append-drop, drop_at, take_at, length-ta
 use Rattle.heap_entries.specs.Entries.{IsGuidEntry, IsGuid}
 
 -- the sixteen bytes at the offset of an entry are that entry
-pub guid_stands : (heap : List ℕ) (number start : ℕ) (rest guid : List ℕ) → start ≡ 16 * (number - 1) → start ≤ length heap → rest ≡ drop start heap → 16 ≤ length rest → guid ≡ take 16 rest → IsGuidEntry heap number guid
-guid_stands heap number start rest guid at within behind enough is = record {
+pub guid_stands : (heap : List ℕ) (number start : ℕ) (tail guid : List ℕ) → start ≡ 16 * (number - 1) → start ≤ length heap → tail ≡ drop start heap → 16 ≤ length tail → guid ≡ take 16 tail → IsGuidEntry heap number guid
+guid_stands heap number start tail guid at within behind enough is = record {
   before = take start heap;
-  after = drop 16 rest;
-  whole = sym (take-append-drop start heap) ∙ ap (λ l. take start heap ++ l) (sym behind ∙ sym (take-append-drop 16 rest) ∙ ap (λ g. g ++ drop 16 rest) (sym is));
+  after = drop 16 tail;
+  whole = sym (take-append-drop start heap) ∙ ap (λ l. take start heap ++ l) (sym behind ∙ sym (take-append-drop 16 tail) ∙ ap (λ g. g ++ drop 16 tail) (sym is));
   at = length-take-le start heap within ∙ at;
-  long = ap length is ∙ length-take-le 16 rest enough;
+  long = ap length is ∙ length-take-le 16 tail enough;
 }
 
 -- an entry ends within the heap, and is the sixteen bytes at its offset

@@ -23,12 +23,12 @@ swapped_is (a ∷ b ∷ c ∷ d ∷ e ∷ f ∷ g ∷ h ∷ i ∷ j ∷ k ∷ l 
 swapped_is (a ∷ b ∷ c ∷ d ∷ e ∷ f ∷ g ∷ h ∷ i ∷ j ∷ k ∷ l ∷ m ∷ n ∷ []) len = absurd (omega arith)
 swapped_is (a ∷ b ∷ c ∷ d ∷ e ∷ f ∷ g ∷ h ∷ i ∷ j ∷ k ∷ l ∷ m ∷ n ∷ o ∷ []) len = absurd (omega arith)
 swapped_is (a ∷ b ∷ c ∷ d ∷ e ∷ f ∷ g ∷ h ∷ i ∷ j ∷ k ∷ l ∷ m ∷ n ∷ o ∷ p ∷ []) len = refl
-swapped_is (a ∷ b ∷ c ∷ d ∷ e ∷ f ∷ g ∷ h ∷ i ∷ j ∷ k ∷ l ∷ m ∷ n ∷ o ∷ p ∷ q ∷ rest) len = absurd (omega arith)
+swapped_is (a ∷ b ∷ c ∷ d ∷ e ∷ f ∷ g ∷ h ∷ i ∷ j ∷ k ∷ l ∷ m ∷ n ∷ o ∷ p ∷ q ∷ tail) len = absurd (omega arith)
 
 -- a copy of a text has the same bytes, and parses to the same result
-pub copy_is : {T E : Type 0} (bytes_of : T → List ℕ) (copied : Result T E) (text spelled : List ℕ) → IfOk copied (λ t. bytes_of t ≡ text) → text ≡ spelled → IfOk copied (λ t. bytes_of t ≡ spelled)
-copy_is bytes_of (Ok t) text spelled same is = same ∙ is
-copy_is bytes_of (Err e) text spelled same is = tt
+pub copy_is : {T E : Type 0} (bytes_of : T → List ℕ) (copied : Result T E) (text encoded : List ℕ) → IfOk copied (λ t. bytes_of t ≡ text) → text ≡ encoded → IfOk copied (λ t. bytes_of t ≡ encoded)
+copy_is bytes_of (Ok t) text encoded same is = same ∙ is
+copy_is bytes_of (Err e) text encoded same is = tt
 
 pub copy_parses : {T E : Type 0} (bytes_of : T → List ℕ) (copied : Result T E) (text guid : List ℕ) → IfOk copied (λ t. bytes_of t ≡ text) → parsed text ≡ Some guid → IfOk copied (λ t. parsed (bytes_of t) ≡ Some guid)
 copy_parses bytes_of (Ok t) text guid same is = ap parsed same ∙ is

@@ -7,31 +7,31 @@ use Rattle.heap_entries.specs.Entries.{IsEnded, IsText}
 
 -- the bytes from the index up to the first NUL satisfy `IsEnded`
 pub ended_from : (heap : List ℕ) (index n : ℕ) → index ≤ length heap → n < length (drop index heap) → ((k : ℕ) → k < n → slice_index (drop index heap) k ≢ 0) → slice_index (drop index heap) n ≡ 0 → IsEnded heap index (take n (drop index heap))
-ended_from heap index n h in_rest none nul =
-    let rest = drop index heap in
+ended_from heap index n h in_tail none nul =
+    let tail = drop index heap in
     record {
       before = take index heap;
-      after = drop (n + 1) rest;
-      whole = sym (take-append-drop index heap) ∙ ap (λ l. take index heap ++ l) (sym (take-append-drop n rest) ∙ ap (λ l. take n rest ++ l) (drop_more rest n 0 in_rest ∙ ap (λ b. b ∷ drop (n + 1) rest) nul));
+      after = drop (n + 1) tail;
+      whole = sym (take-append-drop index heap) ∙ ap (λ l. take index heap ++ l) (sym (take-append-drop n tail) ∙ ap (λ l. take n tail ++ l) (drop_more tail n 0 in_tail ∙ ap (λ b. b ∷ drop (n + 1) tail) nul));
       at = length-take-le index heap (omega arith);
-      no_nul = All-from_get_or (λ byte. byte ≢ 0) (take n rest) 0 (λ k lt. let few : k < n = omega (arith, lt, length-take-le n rest (omega arith)) in λ e. none k few (sym (get_or-take n rest k 0 few) ∙ e));
+      no_nul = All-from_get_or (λ byte. byte ≢ 0) (take n tail) 0 (λ k lt. let few : k < n = omega (arith, lt, length-take-le n tail (omega arith)) in λ e. none k few (sym (get_or-take n tail k 0 few) ∙ e));
     }
 
 module _ (heap : List ℕ) (index : ℕ) (bytes : List ℕ) (e : IsEnded heap index bytes) where
-  pub rest_is : drop index heap ≡ bytes ++ 0 ∷ e.after
-  rest_is = ap (drop index) e.whole ∙ drop_at e.before (bytes ++ 0 ∷ e.after) index e.at
+  pub tail_is : drop index heap ≡ bytes ++ 0 ∷ e.after
+  tail_is = ap (drop index) e.whole ∙ drop_at e.before (bytes ++ 0 ∷ e.after) index e.at
 
   pub ended_length : index + length bytes < length heap
   ended_length = omega (arith, ap length e.whole, length-append e.before (bytes ++ 0 ∷ e.after), length-append bytes (0 ∷ e.after), e.at)
 
   pub nul_behind : slice_index (drop index heap) (length bytes) ≡ 0
-  nul_behind = ap (λ l. slice_index l (length bytes)) rest_is ∙ get_or_at bytes 0 e.after 0 (length bytes) refl
+  nul_behind = ap (λ l. slice_index l (length bytes)) tail_is ∙ get_or_at bytes 0 e.after 0 (length bytes) refl
 
   pub none_in : (k : ℕ) → k < length bytes → slice_index (drop index heap) k ≢ 0
-  none_in k h z = e.no_nul k 0 h (sym (get_or_append_left bytes (0 ∷ e.after) 0 k h) ∙ ap (λ l. slice_index l k) (sym rest_is) ∙ z)
+  none_in k h z = e.no_nul k 0 h (sym (get_or_append_left bytes (0 ∷ e.after) 0 k h) ∙ ap (λ l. slice_index l k) (sym tail_is) ∙ z)
 
   pub bytes_are : (n : ℕ) → n ≡ length bytes → take n (drop index heap) ≡ bytes
-  bytes_are n h = ap (take n) rest_is ∙ take_at bytes (0 ∷ e.after) n (sym h)
+  bytes_are n h = ap (take n) tail_is ∙ take_at bytes (0 ∷ e.after) n (sym h)
 
 -- an index has at most one sequence of bytes before its NUL
 pub ended_same : (heap : List ℕ) (index : ℕ) (a b : List ℕ) → IsEnded heap index a → IsEnded heap index b → a ≡ b

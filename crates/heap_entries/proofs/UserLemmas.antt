@@ -2,7 +2,7 @@
 use Rattle.std.proofs.Common.{◌≡◌, ℕ, suc, ◌+◌, ◌-◌, ◌*◌, ◌/◌, ◌%◌, ◌<◌, ◌≤◌, List, [], ◌∷◌, ◌++◌, length, drop, flat_map, get_or, slice_get, Option, Some, inl, inr, refl, sym, ap, subst, ◌∙◌, ⊎_elim, arith}
 use Rattle.std.proofs.lemmas.Bool.{cases_lt}
 use Rattle.std.proofs.lemmas.List.{get_or_append_left, get_or-append-add, get_or_past}
-use Rattle.heap_entries.specs.Entries.{IsCounted, IsBlob, UserText, SpellsUserText}
+use Rattle.heap_entries.specs.Entries.{IsCounted, IsBlob, UserText, EncodesUserText}
 use Rattle.heap_entries.specs.Units.{unit_bytes}
 use Rattle.heap_entries.specs.UserView.{units_in, last_of, user_text}
 
@@ -32,40 +32,40 @@ odd_parts [] h odd = absurd (omega arith)
 odd_parts (last ∷ []) h odd = (last, refl, refl)
 odd_parts (low ∷ high ∷ []) h odd = absurd (omega arith)
 odd_parts (low ∷ high ∷ byte ∷ bytes) h odd =
-    let rest = odd_parts (byte ∷ bytes) (λ i. h (suc (suc i))) (omega arith) in
+    let tail = odd_parts (byte ∷ bytes) (λ i. h (suc (suc i))) (omega arith) in
     let small = h 0 in
     let first : (low + 256 * high) % 256 ≡ low = omega arith in
     let second : (low + 256 * high) / 256 ≡ high = omega arith in
-    (rest.0, rw (first, second) (ap (λ (l : List ℕ). low ∷ high ∷ l) rest.1), rest.2)
+    (tail.0, rw (first, second) (ap (λ (l : List ℕ). low ∷ high ∷ l) tail.1), tail.2)
 
-pub spells_from : (blob : List ℕ) → AreBytes blob → (0 < length blob → length blob % 2 ≡ 1) → SpellsUserText blob (user_text blob)
-spells_from [] h odd = inl (refl, refl)
-spells_from (byte ∷ bytes) h odd =
+pub encodes_from : (blob : List ℕ) → AreBytes blob → (0 < length blob → length blob % 2 ≡ 1) → EncodesUserText blob (user_text blob)
+encodes_from [] h odd = inl (refl, refl)
+encodes_from (byte ∷ bytes) h odd =
     let parts = odd_parts (byte ∷ bytes) h (odd (omega arith)) in
     inr (units_in (byte ∷ bytes), parts.0, parts.1, ap (λ (flag : Option ℕ). record { units = units_in (byte ∷ bytes); flag = flag }) parts.2)
 
-pub spells_only : (blob : List ℕ) (string : UserText) → SpellsUserText blob string → user_text blob ≡ string
-spells_only blob string (inl none) = ap user_text none.0 ∙ sym none.1
-spells_only blob string (inr some) =
+pub encodes_only : (blob : List ℕ) (string : UserText) → EncodesUserText blob string → user_text blob ≡ string
+encodes_only blob string (inl none) = ap user_text none.0 ∙ sym none.1
+encodes_only blob string (inr some) =
     let (units, last, bytes, is) = some in
     ap user_text bytes ∙ ap (λ (u : List ℕ). record { units = u; flag = last_of (flat_map unit_bytes units ++ last ∷ []) }) (units_back units last)
     ∙ ap (λ (f : Option ℕ). record { units = units; flag = f }) (last_back units last) ∙ sym is
 
-pub spells_odd : (blob : List ℕ) (string : UserText) → SpellsUserText blob string → 0 < length blob → length blob % 2 ≡ 1
-spells_odd blob string (inl none) some = absurd (omega (arith, ap length none.0))
-spells_odd blob string (inr is) some = omega (arith, ap length is.2, length-user is.0 is.1)
+pub encodes_odd : (blob : List ℕ) (string : UserText) → EncodesUserText blob string → 0 < length blob → length blob % 2 ≡ 1
+encodes_odd blob string (inl none) some = absurd (omega (arith, ap length none.0))
+encodes_odd blob string (inr is) some = omega (arith, ap length is.2, length-user is.0 is.1)
 
 -- the bytes of a blob are bytes of its heap
 counted_bytes : (heap : List ℕ) (index : ℕ) (blob : List ℕ) → IsCounted heap index blob → AreBytes heap → AreBytes blob
 counted_bytes heap index blob e h i = ⊎_elim
     (λ (lt : i < length blob).
-    let place = length e.before + (length e.count + i) in
-    let is : get_or heap place 0 ≡ get_or blob i 0 =
-    ap (λ (l : List ℕ). get_or l place 0) e.whole
+    let offset = length e.before + (length e.count + i) in
+    let is : get_or heap offset 0 ≡ get_or blob i 0 =
+    ap (λ (l : List ℕ). get_or l offset 0) e.whole
     ∙ get_or-append-add e.before (e.count ++ (blob ++ e.after)) (length e.count + i) 0
     ∙ get_or-append-add e.count (blob ++ e.after) i 0
     ∙ get_or_append_left blob e.after 0 i lt in
-    subst (λ n. n < 256) is (h place))
+    subst (λ n. n < 256) is (h offset))
     (λ (ge : length blob ≤ i). subst (λ n. n < 256) (sym (get_or_past blob i 0 ge)) (omega arith))
     (cases_lt i (length blob))
 

@@ -12,7 +12,7 @@ use Rattle.memchr.specs.Find.{IsLastByte, is_byte}
 use Rattle.heap_entries.specs.declared.strings.Strings.TheInside.{Inside}
 use Rattle.heap_entries.specs.StringsView.{heap_of, IsWhole, IsKnown}
 use Rattle.heap_entries.specs.Entries.{IsEnded, IsText, HasNoNul}
-use Rattle.heap_entries.proofs.TextLemmas.{ended_length, nul_behind, rest_is, bytes_are}
+use Rattle.heap_entries.proofs.TextLemmas.{ended_length, nul_behind, tail_is, bytes_are}
 
 -- what is known of the whole heap as a text
 pub whole_is : (strings : Inside) (text : Bor (List ℕ)) → strings.whole ≡ Some text → IsKnown strings → (text.now ≡ heap_of strings) × IsUtf8 (heap_of strings)
@@ -39,16 +39,16 @@ utf8_is heap None is = sym (false_from_ne_true (is_utf8 heap) (λ e. is (IsUtf8-
 utf8_is heap (Some text) is = sym (is_utf8-from_IsUtf8 heap is.1)
 
 -- a character begins at the start of a text that a NUL follows
-front_boundary : (text after : List ℕ) → IsUtf8 text → IsCharBoundary (text ++ 0 ∷ after) 0
-front_boundary [] after utf8 = (omega arith, λ _ high. omega (arith, high))
-front_boundary (byte ∷ bytes) after utf8 = (omega arith, λ _ high. (IsCharBoundary-start (byte ∷ bytes) utf8).1 (omega arith) high)
+prefix_boundary : (text after : List ℕ) → IsUtf8 text → IsCharBoundary (text ++ 0 ∷ after) 0
+prefix_boundary [] after utf8 = (omega arith, λ _ high. omega (arith, high))
+prefix_boundary (byte ∷ bytes) after utf8 = (omega arith, λ _ high. (IsCharBoundary-start (byte ∷ bytes) utf8).1 (omega arith) high)
 
 module _ (heap : List ℕ) (index : ℕ) (bytes : List ℕ) (stands : IsEnded heap index bytes) where
   -- a character begins at the index of a text
   pub text_boundary : IsUtf8 bytes → IsCharBoundary heap index
   text_boundary utf8 =
-      let front = subst (λ l. IsCharBoundary l 0) (sym (rest_is heap index bytes stands)) (front_boundary bytes stands.after utf8) in
-      let at_sum : IsCharBoundary heap (index + 0) = IsCharBoundary-from_rest heap index 0 (omega (arith, ended_length heap index bytes stands)) front in
+      let prefix = subst (λ l. IsCharBoundary l 0) (sym (tail_is heap index bytes stands)) (prefix_boundary bytes stands.after utf8) in
+      let at_sum : IsCharBoundary heap (index + 0) = IsCharBoundary-from_rest heap index 0 (omega (arith, ended_length heap index bytes stands)) prefix in
       subst (IsCharBoundary heap) (omega arith) at_sum
 
   -- the NUL that follows them
@@ -66,13 +66,13 @@ module _ (heap : List ℕ) (index : ℕ) (bytes : List ℕ) (stands : IsEnded he
       subst IsUtf8 (bytes_are heap index bytes stands (end - index) (omega arith)) (IsUtf8-between heap index end utf8 (omega arith) begins end_boundary)
 
 -- bytes with a NUL have a first one, and no NUL is before it
-split_at_nul : (bytes : List ℕ) (place : ℕ) → place < length bytes → slice_index bytes place ≡ 0 → (front : List ℕ) × (back : List ℕ) × (bytes ≡ front ++ 0 ∷ back) × HasNoNul front
-split_at_nul [] place within nul = absurd (omega (arith, within))
+split_at_nul : (bytes : List ℕ) (offset : ℕ) → offset < length bytes → slice_index bytes offset ≡ 0 → (prefix : List ℕ) × (back : List ℕ) × (bytes ≡ prefix ++ 0 ∷ back) × HasNoNul prefix
+split_at_nul [] offset within nul = absurd (omega (arith, within))
 split_at_nul (byte ∷ bytes) zero within nul = ([], bytes, ap (λ b. b ∷ bytes) nul, λ i d few. absurd (omega (arith, few)))
-split_at_nul (byte ∷ bytes) (suc place) within nul = ⊎_elim
+split_at_nul (byte ∷ bytes) (suc offset) within nul = ⊎_elim
     (λ (some : 0 < byte).
-    let rest = split_at_nul bytes place (omega (arith, within)) nul in
-    (byte ∷ rest.0, rest.1, ap (λ l. byte ∷ l) rest.2, All-cons (λ b. b ≢ 0) byte rest.0 (λ is. omega (arith, some, is)) rest.3))
+    let tail = split_at_nul bytes offset (omega (arith, within)) nul in
+    (byte ∷ tail.0, tail.1, ap (λ l. byte ∷ l) tail.2, All-cons (λ b. b ≢ 0) byte tail.0 (λ is. omega (arith, some, is)) tail.3))
     (λ (low : byte ≤ 0). ([], bytes, ap (λ b. b ∷ bytes) (omega (arith, low)), λ i d few. absurd (omega (arith, few))))
     (cases_lt 0 byte)
 

@@ -40,8 +40,8 @@ pub record UserText : Type 0 where
   pub flag : Option ℕ
 
 -- the blob encodes the user string: no bytes, or two bytes for each unit and then the last byte
-abbrev pub SpellsUserText : List ℕ → UserText → Type 0
-SpellsUserText blob string =
+abbrev pub EncodesUserText : List ℕ → UserText → Type 0
+EncodesUserText blob string =
     ((blob ≡ []) × (string ≡ record { units = []; flag = None }))
     ⊎ ((units : List ℕ) × (last : ℕ) × (blob ≡ flat_map unit_bytes units ++ last ∷ []) × (string ≡ record { units = units; flag = Some last }))
 
@@ -49,7 +49,7 @@ SpellsUserText blob string =
 pub record IsUserString (heap : List ℕ) (index : ℕ) (string : UserText) : Type 0 where
   pub blob : List ℕ
   pub stands : IsBlob heap index blob
-  pub spells : SpellsUserText blob string
+  pub encodes : EncodesUserText blob string
 
 -- the sixteen bytes of an entry; entries are numbered from 1
 pub record IsGuidEntry (heap : List ℕ) (number : ℕ) (guid : List ℕ) : Type 0 where

@@ -1,6 +1,6 @@
-pub mod Demands
+pub mod Rules
 pub mod Entries
-pub mod Fill
+pub mod Padding
 pub mod GuidText
 pub mod StringsView
 pub mod Units

@@ -1,6 +1,6 @@
 ghost use Rattle.std.specs.Prelude.{◌≡◌, ℕ, List, IfOk, IsOkAnd, IfSome, IsSomeAnd};
-ghost use Rattle.packed.specs.Demand.{Answers};
-ghost use Rattle.heap_entries.specs.Demands.{at_place, demands_of_blob};
+ghost use Rattle.packed.specs.Rule.{Reports};
+ghost use Rattle.heap_entries.specs.Rules.{at_offset, rules_of_blob};
 ghost use Rattle.heap_entries.specs.Entries.{IsBlob, IsCounted};
 
 use crate::fault::HeapFault;
@@ -8,19 +8,19 @@ use packed::read_unsigned;
 
 /// The bytes after their packed length, which is at an offset.
 fn counted_at(heap: &[u8], start: usize) -> Option<&[u8]>
-    ensures found { IfSome result (λ bytes. IsCounted heap.now start bytes.now) }
-    ensures only { (bytes : List ℕ) → IsCounted heap.now start bytes → IsSomeAnd result (λ found. found.now ≡ bytes) }
+    ensures sound { IfSome result (λ bytes. IsCounted heap.now start bytes.now) }
+    ensures complete { (bytes : List ℕ) → IsCounted heap.now start bytes → IsSomeAnd result (λ found. found.now ≡ bytes) }
 {
     if start > heap.len() {
         return None;
     }
-    let (_, rest) = heap.split_at(start);
-    let (len, used) = read_unsigned(rest)?;
-    let (_, rest) = rest.split_at(used);
-    if rest.len() < len as usize {
+    let (_, tail) = heap.split_at(start);
+    let (len, used) = read_unsigned(tail)?;
+    let (_, tail) = tail.split_at(used);
+    if tail.len() < len as usize {
         return None;
     }
-    let (bytes, _) = rest.split_at(len as usize);
+    let (bytes, _) = tail.split_at(len as usize);
     Some(bytes)
 }
 
@@ -34,10 +34,10 @@ fn counted_at(heap: &[u8], start: usize) -> Option<&[u8]>
 /// `BadBlob` if there is no packed length at the index, or if fewer bytes than this length follow it.
 pub fn blob(heap: &[u8], index: u32) -> Result<&[u8], HeapFault>
     // If it returns a blob, this is the blob at the index.
-    ensures found { IfOk result (λ blob. IsBlob heap.now index blob.now) }
+    ensures sound { IfOk result (λ blob. IsBlob heap.now index blob.now) }
     // If there is a blob at the index, it returns this blob. So there is no other.
-    ensures only { (blob : List ℕ) → IsBlob heap.now index blob → IsOkAnd result (λ found. found.now ≡ blob) }
-    ensures answers { (place : ℕ) → Answers (demands_of_blob heap.now index place) (at_place place result) }
+    ensures complete { (blob : List ℕ) → IsBlob heap.now index blob → IsOkAnd result (λ found. found.now ≡ blob) }
+    ensures reports { (offset : ℕ) → Reports (rules_of_blob heap.now index offset) (at_offset offset result) }
 {
     if index == 0 {
         return Ok(&[]);

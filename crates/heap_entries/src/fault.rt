@@ -1,5 +1,5 @@
 ghost use Rattle.std.specs.Prelude.{◌≡◌};
-ghost use Rattle.heap_entries.specs.Demands.{code_of};
+ghost use Rattle.heap_entries.specs.Rules.{code_of};
 
 use packed::FaultCode;
 

@@ -1,6 +1,6 @@
 ghost use Rattle.std.specs.Prelude.{◌≡◌, ℕ, List, Option, IfOk, IsOkAnd};
-ghost use Rattle.packed.specs.Demand.{Answers};
-ghost use Rattle.heap_entries.specs.Demands.{at_place, demands_of_guid};
+ghost use Rattle.packed.specs.Rule.{Reports};
+ghost use Rattle.heap_entries.specs.Rules.{at_offset, rules_of_guid};
 ghost use Rattle.heap_entries.specs.Entries.{IsGuid};
 
 use crate::fault::HeapFault;
@@ -18,10 +18,10 @@ const GUID_LEN: usize = 16;
 /// `BadGuid` if there is no such entry.
 pub fn guid(heap: &[u8], index: u32) -> Result<Option<[u8; 16]>, HeapFault>
     // If it returns a GUID, this is the GUID at the index.
-    ensures found { IfOk result (λ guid. IsGuid heap.now index guid) }
+    ensures sound { IfOk result (λ guid. IsGuid heap.now index guid) }
     // If there is a GUID at the index, it returns this GUID. So there is no other.
-    ensures only { (guid : Option (List ℕ)) → IsGuid heap.now index guid → IsOkAnd result (λ found. found ≡ guid) }
-    ensures answers { (place : ℕ) → Answers (demands_of_guid heap.now index place) (at_place place result) }
+    ensures complete { (guid : Option (List ℕ)) → IsGuid heap.now index guid → IsOkAnd result (λ found. found ≡ guid) }
+    ensures reports { (offset : ℕ) → Reports (rules_of_guid heap.now index offset) (at_offset offset result) }
 {
     let Some(earlier) = index.checked_sub(1) else {
         return Ok(None);
@@ -30,8 +30,8 @@ pub fn guid(heap: &[u8], index: u32) -> Result<Option<[u8; 16]>, HeapFault>
     if start > heap.len() {
         return Err(HeapFault::BadGuid);
     }
-    let (_, rest) = heap.split_at(start);
-    match rest.first_chunk::<GUID_LEN>() {
+    let (_, tail) = heap.split_at(start);
+    match tail.first_chunk::<GUID_LEN>() {
         Some(guid) => Ok(Some(*guid)),
         None => Err(HeapFault::BadGuid),
     }

@@ -1,7 +1,7 @@
 ghost use Rattle.std.specs.Prelude.{◌≡◌, ℕ, List, IfOk, IsOkAnd, IfSome, IfNone, MatchOption, IsUtf8};
 ghost use Rattle.std.specs.Str.{is_utf8};
-ghost use Rattle.packed.specs.Demand.{Answers};
-ghost use Rattle.heap_entries.specs.Demands.{at_place, demands_of_text};
+ghost use Rattle.packed.specs.Rule.{Reports};
+ghost use Rattle.heap_entries.specs.Rules.{at_offset, rules_of_text};
 ghost use Rattle.heap_entries.specs.Entries.{IsEnded, IsText};
 
 use crate::fault::HeapFault;
@@ -12,15 +12,15 @@ use std::str;
 
 /// The bytes from an offset up to the next NUL.
 fn ended_at(heap: &[u8], start: usize) -> Option<&[u8]>
-    ensures found { IfSome result (λ bytes. IsEnded heap.now start bytes.now) }
+    ensures sound { IfSome result (λ bytes. IsEnded heap.now start bytes.now) }
     ensures none { IfNone result ((bytes : List ℕ) → IsEnded heap.now start bytes → ⊥) }
 {
     if start > heap.len() {
         return None;
     }
-    let (_, rest) = heap.split_at(start);
-    let len = memchr(0, rest)?;
-    let (bytes, _) = rest.split_at(len);
+    let (_, tail) = heap.split_at(start);
+    let len = memchr(0, tail)?;
+    let (bytes, _) = tail.split_at(len);
     Some(bytes)
 }
 
@@ -35,11 +35,11 @@ fn ended_at(heap: &[u8], start: usize) -> Option<&[u8]>
 /// not UTF-8.
 pub fn text(heap: &[u8], index: u32) -> Result<&str, HeapFault>
     // If it returns a text, this is the text at the index.
-    ensures found { IfOk result (λ text. IsText heap.now index text.now) }
+    ensures sound { IfOk result (λ text. IsText heap.now index text.now) }
     // If there is a text at the index, it returns this text. So there is no other.
-    ensures only { (text : List ℕ) → IsText heap.now index text → IsOkAnd result (λ found. found.now ≡ text) }
+    ensures complete { (text : List ℕ) → IsText heap.now index text → IsOkAnd result (λ found. found.now ≡ text) }
     // A fault is that of the first broken rule.
-    ensures answers { (place : ℕ) → Answers (demands_of_text heap.now index place) (at_place place result) }
+    ensures reports { (offset : ℕ) → Reports (rules_of_text heap.now index offset) (at_offset offset result) }
 {
     if index == 0 {
         return Ok("");
@@ -55,7 +55,7 @@ pub fn text(heap: &[u8], index: u32) -> Result<&str, HeapFault>
 
 /// Checks that there is a text at an index, by reading the bytes of that text.
 fn check_alone(heap: &[u8], index: u32) -> Result<(), HeapFault>
-    ensures answers { (place : ℕ) → Answers (demands_of_text heap.now index place) (at_place place result) }
+    ensures reports { (offset : ℕ) → Reports (rules_of_text heap.now index offset) (at_offset offset result) }
 {
     text(heap, index)?;
     Ok(())
@@ -144,7 +144,7 @@ impl<'a> Strings<'a> {
     ///
     /// The same as for the function [`text`].
     pub fn check(&self, index: u32) -> Result<(), HeapFault>
-        ensures answers { (place : ℕ) → Answers (demands_of_text self.now index place) (at_place place result) }
+        ensures reports { (offset : ℕ) → Reports (rules_of_text self.now index offset) (at_offset offset result) }
     {
         let Some(whole) = self.whole else {
             return check_alone(self.heap, index);
@@ -164,9 +164,9 @@ impl<'a> Strings<'a> {
     ///
     /// The same as for the function [`text`].
     pub fn text(&self, index: u32) -> Result<&'a str, HeapFault>
-        ensures found { IfOk result (λ text. IsText self.now index text.now) }
-        ensures only { (text : List ℕ) → IsText self.now index text → IsOkAnd result (λ found. found.now ≡ text) }
-        ensures answers { (place : ℕ) → Answers (demands_of_text self.now index place) (at_place place result) }
+        ensures sound { IfOk result (λ text. IsText self.now index text.now) }
+        ensures complete { (text : List ℕ) → IsText self.now index text → IsOkAnd result (λ found. found.now ≡ text) }
+        ensures reports { (offset : ℕ) → Reports (rules_of_text self.now index offset) (at_offset offset result) }
     {
         let Some(whole) = self.whole else {
             return text(self.heap, index);

@@ -1,7 +1,7 @@
 ghost use Rattle.std.specs.Prelude.{◌≡◌, ◌<◌, ◌%◌, ◌↔◌, ℕ, List, length, IfOk, IsOkAnd, IsTrue};
 ghost use Rattle.std.specs.Iterator.{YieldsFirstBy, item_count};
-ghost use Rattle.packed.specs.Demand.{Answers};
-ghost use Rattle.heap_entries.specs.Demands.{at_place, demands_of_user_string};
+ghost use Rattle.packed.specs.Rule.{Reports};
+ghost use Rattle.heap_entries.specs.Rules.{at_offset, rules_of_user_string};
 ghost use Rattle.heap_entries.specs.Entries.{IsUserString, UserText};
 
 use crate::blobs::blob;
@@ -64,22 +64,22 @@ impl<'a> Model for Units<'a> {
 impl<'a> Iterator for Units<'a> {
     type Item = u16;
 
-    ghost next_gives = { YieldsFirstBy (λ unit. unit) (λ rest. rest) };
+    ghost next_gives = { YieldsFirstBy (λ unit. unit) (λ tail. tail) };
 
-    ghost remaining = { item_count (λ rest. rest) };
+    ghost remaining = { item_count (λ tail. tail) };
 
     fn next(&mut self) -> Option<u16> {
         if self.bytes.len() < 2 {
             return None;
         }
-        let (unit, rest) = self.bytes.split_at(2);
-        self.bytes = rest;
+        let (unit, tail) = self.bytes.split_at(2);
+        self.bytes = tail;
         Some(u16_at(unit, 0))
     }
 }
 
 /// Whether the bytes of a blob are a user string: no bytes, or two bytes for each unit and one more.
-fn is_spelled(blob: &[u8]) -> bool
+fn is_encoded(blob: &[u8]) -> bool
     ensures { IsTrue result ↔ (0 < length blob.now → length blob.now % 2 ≡ 1) }
 {
     blob.is_empty() || blob.len() % 2 == 1
@@ -94,13 +94,13 @@ fn is_spelled(blob: &[u8]) -> bool
 /// `BadBlob` if there is no blob at the index. `BadUserString` if its number of bytes is even and not 0.
 pub fn user_string(heap: &[u8], index: u32) -> Result<UserString<'_>, HeapFault>
     // If it returns a user string, this is the one at the index.
-    ensures found { IfOk result (λ string. IsUserString heap.now index string) }
+    ensures sound { IfOk result (λ string. IsUserString heap.now index string) }
     // If there is a user string at the index, it returns this one. So there is no other.
-    ensures only { (string : UserText) → IsUserString heap.now index string → IsOkAnd result (λ found. found ≡ string) }
-    ensures answers { (place : ℕ) → Answers (demands_of_user_string heap.now index place) (at_place place result) }
+    ensures complete { (string : UserText) → IsUserString heap.now index string → IsOkAnd result (λ found. found ≡ string) }
+    ensures reports { (offset : ℕ) → Reports (rules_of_user_string heap.now index offset) (at_offset offset result) }
 {
     let blob = blob(heap, index)?;
-    if !is_spelled(blob) {
+    if !is_encoded(blob) {
         return Err(HeapFault::BadUserString);
     }
     Ok(UserString { blob })

@@ -36,8 +36,8 @@ blob_from-new at [] blob new = ap (λ b. cond b at 0) (nat_list_eq_equiv.refl bl
 blob_from-new at (entry ∷ entries) blob new = ⊎_elim
     (λ (e : bytes_eq blob entry ≡ true). absurd (true≢false (sym (ap (λ b. b || is_among entries blob) e) ∙ new)))
     (λ (e : bytes_eq blob entry ≡ false).
-    let rest = blob_from-new (at + length (counted entry)) entries blob (sym (ap (λ b. b || is_among entries blob) e) ∙ new) in
-    ap (λ b. cond b at (blob_from (at + length (counted entry)) (entries ++ blob ∷ []) blob)) e ∙ rest ∙ omega (arith, length-append (counted entry) (flat_map counted entries)))
+    let tail = blob_from-new (at + length (counted entry)) entries blob (sym (ap (λ b. b || is_among entries blob) e) ∙ new) in
+    ap (λ b. cond b at (blob_from (at + length (counted entry)) (entries ++ blob ∷ []) blob)) e ∙ tail ∙ omega (arith, length-append (counted entry) (flat_map counted entries)))
     (cases_Bool (bytes_eq blob entry))
 
 pub starts_from-push : (at : ℕ) (entries : List (List ℕ)) (blob : List ℕ) → starts_from at (entries ++ blob ∷ []) ≡ starts_from at entries ++ (at + length (flat_map counted entries)) ∷ []
@@ -64,8 +64,8 @@ module _ {A : Type 0} where
       let same : start ≡ at = cc in
       (ap (λ b. b || is_among (names_of entries) blob) e, same ∙ sym (ap (λ b. cond b at (blob_from (at + length (counted entry.0.items)) (names_of entries) blob)) e)))
       (λ (e : bytes_eq blob entry.0.items ≡ false).
-      let rest = lookup_there entries (at + length (counted entry.0.items)) blob start others (sym (ap (λ b. cond b (Some entry.1) (lookup (λ (key : Vec ℕ A). pointwise nat_eq blob key.items) entries)) e) ∙ found) in
-      (ap (λ b. b || is_among (names_of entries) blob) e ∙ rest.0, rest.1 ∙ sym (ap (λ b. cond b at (blob_from (at + length (counted entry.0.items)) (names_of entries) blob)) e)))
+      let tail = lookup_there entries (at + length (counted entry.0.items)) blob start others (sym (ap (λ b. cond b (Some entry.1) (lookup (λ (key : Vec ℕ A). pointwise nat_eq blob key.items) entries)) e) ∙ found) in
+      (ap (λ b. b || is_among (names_of entries) blob) e ∙ tail.0, tail.1 ∙ sym (ap (λ b. cond b at (blob_from (at + length (counted entry.0.items)) (names_of entries) blob)) e)))
       (cases_Bool (bytes_eq blob entry.0.items))
 
   pub lookup_new : (entries : List (Vec ℕ A × ℕ)) (blob : List ℕ) → (lookup (λ (key : Vec ℕ A). pointwise nat_eq blob key.items) entries ≡ None) ↔ (is_among (names_of entries) blob ≡ false)

@@ -12,9 +12,9 @@ begun-longer [] = omega arith
 begun-longer (byte ∷ bytes) = omega arith
 
 -- the old bytes of the heap are a prefix, whatever is appended
-pub take_begun : (heap rest : List ℕ) → take (length heap) (begun heap ++ rest) ≡ heap
-take_begun [] rest = refl
-take_begun (byte ∷ bytes) rest = take_at (byte ∷ bytes) rest (length (byte ∷ bytes)) refl
+pub take_begun : (heap tail : List ℕ) → take (length heap) (begun heap ++ tail) ≡ heap
+take_begun [] tail = refl
+take_begun (byte ∷ bytes) tail = take_at (byte ∷ bytes) tail (length (byte ∷ bytes)) refl
 
 pub take_begun-alone : (heap : List ℕ) → take (length heap) (begun heap) ≡ heap
 take_begun-alone [] = refl

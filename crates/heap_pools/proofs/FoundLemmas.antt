@@ -29,7 +29,7 @@ ends_longer u t ends other =
     let parts = ends_parts u t ends in
     longer parts.0 parts.1
   where
-    longer : (front : List ℕ) → u ≡ front ++ t → length t < length u
+    longer : (prefix : List ℕ) → u ≡ prefix ++ t → length t < length u
     longer [] e = absurd (true≢false (sym (nat_list_eq_equiv.refl u) ∙ ap (bytes_eq u) e ∙ other))
     longer (b ∷ bs) e = omega (arith, ap length e, length-append (b ∷ bs) t)
 
@@ -112,9 +112,9 @@ text_heap_is : (entries : List (List ℕ)) (text : List ℕ) → list_any (λ en
 text_heap_is [] text h = absurd (false≢true h)
 text_heap_is (entry ∷ entries) text h = refl
 
-pub text_found : (used : List (List ℕ)) (text rest : List ℕ) → Contains used text → HasNoNul text → IsUtf8 text → IsText (text_heap (holders used) ++ rest) (text_index (holders used) text) text
-text_found used [] rest h no_nul utf8 = inl (refl, refl)
-text_found used (byte ∷ bytes) rest h no_nul utf8 =
+pub text_found : (used : List (List ℕ)) (text tail : List ℕ) → Contains used text → HasNoNul text → IsUtf8 text → IsText (text_heap (holders used) ++ tail) (text_index (holders used) text) text
+text_found used [] tail h no_nul utf8 = inl (refl, refl)
+text_found used (byte ∷ bytes) tail h no_nul utf8 =
     let text = byte ∷ bytes in
     let some = held used text (in_from_contains used text h) (omega arith) in
     let first = first_text 1 (holders used) text some in
@@ -123,8 +123,8 @@ text_found used (byte ∷ bytes) rest h no_nul utf8 =
       omega arith,
       record {
         before = 0 ∷ first.before;
-        after = first.after ++ rest;
-        whole = ap (λ (l : List ℕ). l ++ rest) (text_heap_is (holders used) text some ∙ ap (λ (l : List ℕ). 0 ∷ l) first.whole) ∙ simp append_assoc;
+        after = first.after ++ tail;
+        whole = ap (λ (l : List ℕ). l ++ tail) (text_heap_is (holders used) text some ∙ ap (λ (l : List ℕ). 0 ∷ l) first.whole) ∙ simp append_assoc;
         at = omega arith;
         no_nul = no_nul;
       },
@@ -174,10 +174,10 @@ blob_heap_is : (entries : List (List ℕ)) (blob : List ℕ) → is_among entrie
 blob_heap_is [] blob h = absurd (false≢true h)
 blob_heap_is (entry ∷ entries) blob h = refl
 
-pub blob_found : (entries : List (List ℕ)) (blob rest : List ℕ) → (blob ≡ []) ⊎ Contains entries blob → length blob < 2 ^ 29 → IsBlob (blob_heap entries ++ rest) (blob_index entries blob) blob
+pub blob_found : (entries : List (List ℕ)) (blob tail : List ℕ) → (blob ≡ []) ⊎ Contains entries blob → length blob < 2 ^ 29 → IsBlob (blob_heap entries ++ tail) (blob_index entries blob) blob
 unfolding counted
-blob_found entries [] rest h short = inl (refl, refl)
-blob_found entries (byte ∷ bytes) rest h short =
+blob_found entries [] tail h short = inl (refl, refl)
+blob_found entries (byte ∷ bytes) tail h short =
     let blob = byte ∷ bytes in
     let there : is_among entries blob ≡ true = ⊎_elim (λ (none : blob ≡ []). cc) (λ (is : Contains entries blob). among_in entries blob (in_from_contains entries blob is)) h in
     let first = first_blob 1 entries blob there in
@@ -187,8 +187,8 @@ blob_found entries (byte ∷ bytes) rest h short =
       record {
         before = 0 ∷ first.before;
         count = short_unsigned (length blob);
-        after = first.after ++ rest;
-        whole = ap (λ (l : List ℕ). l ++ rest) (blob_heap_is entries blob there ∙ ap (λ (l : List ℕ). 0 ∷ l) first.whole) ∙ simp append_assoc;
+        after = first.after ++ tail;
+        whole = ap (λ (l : List ℕ). l ++ tail) (blob_heap_is entries blob there ∙ ap (λ (l : List ℕ). 0 ∷ l) first.whole) ∙ simp append_assoc;
         at = omega arith;
         counts = short_packed (length blob) short;
       },
@@ -196,9 +196,9 @@ blob_found entries (byte ∷ bytes) rest h short =
 
 -- user strings
 
-pub user_string_found : (heap units rest : List ℕ) → 0 < length heap → user_length units < 2 ^ 29 → IsUserString (heap ++ (user_entry units ++ rest)) (length heap) (record { units = units; flag = Some (last_byte units) })
+pub user_string_found : (heap units tail : List ℕ) → 0 < length heap → user_length units < 2 ^ 29 → IsUserString (heap ++ (user_entry units ++ tail)) (length heap) (record { units = units; flag = Some (last_byte units) })
 unfolding user_entry
-user_string_found heap units rest some short =
+user_string_found heap units tail some short =
     let blob = flat_map unit_bytes units ++ last_byte units ∷ [] in
     let long : length blob ≡ user_length units = length-units units (last_byte units) in
     record {
@@ -208,13 +208,13 @@ user_string_found heap units rest some short =
         record {
           before = heap;
           count = short_unsigned (user_length units);
-          after = rest;
-          whole = ap (λ (l : List ℕ). heap ++ l) (append_assoc (short_unsigned (user_length units)) blob rest);
+          after = tail;
+          whole = ap (λ (l : List ℕ). heap ++ l) (append_assoc (short_unsigned (user_length units)) blob tail);
           at = refl;
           counts = subst (λ n. IsPacked n (short_unsigned (user_length units))) (sym long) (short_packed (user_length units) short);
         },
       );
-      spells = inr (units, last_byte units, refl, refl);
+      encodes = inr (units, last_byte units, refl, refl);
     }
 
 -- GUIDs
@@ -251,16 +251,16 @@ first_guid (entry ∷ entries) guid h sixteen = ⊎_elim
     })
     (cases_Bool (bytes_eq guid entry))
 
-pub guid_found : (entries : List (List ℕ)) (guid rest : List ℕ) → Contains entries guid → All (λ g. length g ≡ 16) entries → IsGuid (guid_heap entries ++ rest) (guid_index entries (Some guid)) (Some guid)
-guid_found entries guid rest h sixteen =
+pub guid_found : (entries : List (List ℕ)) (guid tail : List ℕ) → Contains entries guid → All (λ g. length g ≡ 16) entries → IsGuid (guid_heap entries ++ tail) (guid_index entries (Some guid)) (Some guid)
+guid_found entries guid tail h sixteen =
     let there = among_in entries guid (in_from_contains entries guid h) in
     let first = first_guid entries guid there sixteen in
     let at = first.long in (
       omega arith,
       record {
         before = first.before;
-        after = first.after ++ rest;
-        whole = ap (λ (l : List ℕ). l ++ rest) first.whole ∙ simp append_assoc;
+        after = first.after ++ tail;
+        whole = ap (λ (l : List ℕ). l ++ tail) first.whole ∙ simp append_assoc;
         at = omega arith;
         long = subst (λ (g : List ℕ). length g ≡ 16) h.2 (sixteen h.0 guid h.1);
       },

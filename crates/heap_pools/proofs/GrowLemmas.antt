@@ -19,11 +19,11 @@ first_uses-append before (value ∷ values) more =
     ap (λ (l : List (List ℕ)). cond (is_among before value) l (value ∷ l)) next
     ∙ both (is_among before value) value (first_uses (before ++ value ∷ []) values) (first_uses (before ++ value ∷ values) more)
   where
-    both : (b : Bool) (value : List ℕ) (rest behind : List (List ℕ)) → cond b (rest ++ behind) (value ∷ (rest ++ behind)) ≡ cond b rest (value ∷ rest) ++ behind
-    both true value rest behind = refl
-    both false value rest behind = refl
+    both : (b : Bool) (value : List ℕ) (tail behind : List (List ℕ)) → cond b (tail ++ behind) (value ∷ (tail ++ behind)) ≡ cond b tail (value ∷ tail) ++ behind
+    both true value tail behind = refl
+    both false value tail behind = refl
 
-pub distinct-append : (used more : List (List ℕ)) → (rest : List (List ℕ)) × (distinct (used ++ more) ≡ distinct used ++ rest)
+pub distinct-append : (used more : List (List ℕ)) → (tail : List (List ℕ)) × (distinct (used ++ more) ≡ distinct used ++ tail)
 distinct-append used more = (first_uses (([] ∷ []) ++ used) more, first_uses-append ([] ∷ []) used more)
 
 -- a value that was used adds nothing

@@ -13,7 +13,7 @@ pub length-guid_heap : (guids : List (List ℕ)) → All (λ guid. length guid �
 length-guid_heap [] h = refl
 length-guid_heap (guid ∷ guids) h =
     let sixteen = All-head (λ g. length g ≡ 16) guid guids h in
-    let rest = length-guid_heap guids (All-tail (λ g. length g ≡ 16) guid guids h) in
+    let tail = length-guid_heap guids (All-tail (λ g. length g ≡ 16) guid guids h) in
     omega (arith, length-append guid (guid_heap guids))
 
 -- a new GUID is appended

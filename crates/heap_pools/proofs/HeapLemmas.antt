@@ -72,13 +72,13 @@ related_more R xs i x long new old k h = ⊎_elim
     (cases_lt k i)
 
 -- a text at the end of an entry is at its index in the heap
-pub stands_in : (before : List (List ℕ)) (entry : List ℕ) (after : List (List ℕ)) (front text : List ℕ) → entry ≡ front ++ text
-    → take (length text) (drop (1 + length (ended before) + length front) (0 ∷ ended (before ++ entry ∷ after))) ≡ text
-stands_in before entry after front text e =
-    let parts : 0 ∷ ended (before ++ entry ∷ after) ≡ ((0 ∷ ended before) ++ front) ++ (text ++ 0 ∷ ended after) =
+pub stands_in : (before : List (List ℕ)) (entry : List ℕ) (after : List (List ℕ)) (prefix text : List ℕ) → entry ≡ prefix ++ text
+    → take (length text) (drop (1 + length (ended before) + length prefix) (0 ∷ ended (before ++ entry ∷ after))) ≡ text
+stands_in before entry after prefix text e =
+    let parts : 0 ∷ ended (before ++ entry ∷ after) ≡ ((0 ∷ ended before) ++ prefix) ++ (text ++ 0 ∷ ended after) =
     ap (λ l. 0 ∷ l) (ended-append before (entry ∷ after)) ∙ ap (λ l. 0 ∷ (ended before ++ (l ++ 0 ∷ ended after))) e
-    ∙ ap (λ l. 0 ∷ (ended before ++ l)) (append_assoc front text (0 ∷ ended after)) ∙ sym (append_assoc (0 ∷ ended before) front (text ++ 0 ∷ ended after)) in
-    let long : length ((0 ∷ ended before) ++ front) ≡ 1 + length (ended before) + length front = omega (arith, length-append (0 ∷ ended before) front) in
-    ap (λ l. take (length text) (drop (1 + length (ended before) + length front) l)) parts
-    ∙ ap (take (length text)) (drop_at ((0 ∷ ended before) ++ front) (text ++ 0 ∷ ended after) (1 + length (ended before) + length front) long)
+    ∙ ap (λ l. 0 ∷ (ended before ++ l)) (append_assoc prefix text (0 ∷ ended after)) ∙ sym (append_assoc (0 ∷ ended before) prefix (text ++ 0 ∷ ended after)) in
+    let long : length ((0 ∷ ended before) ++ prefix) ≡ 1 + length (ended before) + length prefix = omega (arith, length-append (0 ∷ ended before) prefix) in
+    ap (λ l. take (length text) (drop (1 + length (ended before) + length prefix) l)) parts
+    ∙ ap (take (length text)) (drop_at ((0 ∷ ended before) ++ prefix) (text ++ 0 ∷ ended after) (1 + length (ended before) + length prefix) long)
     ∙ take_at text (0 ∷ ended after) (length text) refl

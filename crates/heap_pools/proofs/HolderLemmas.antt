@@ -44,9 +44,9 @@ left_in test x [] h = absurd h
 left_in test x (z ∷ zs) h = ⊎_elim
     (λ (e : test z ≡ true). ⊎_elim
     (λ (same : z ≡ x). (inl same, ap test (sym same) ∙ e))
-    (λ (later : IsIn x (filter test zs)). let rest = left_in test x zs later in (inr rest.0, rest.1))
+    (λ (later : IsIn x (filter test zs)). let tail = left_in test x zs later in (inr tail.0, tail.1))
     (subst (λ b. IsIn x (cond b (z ∷ filter test zs) (filter test zs))) e h))
-    (λ (e : test z ≡ false). let rest = left_in test x zs (subst (λ b. IsIn x (cond b (z ∷ filter test zs) (filter test zs))) e h) in (inr rest.0, rest.1))
+    (λ (e : test z ≡ false). let tail = left_in test x zs (subst (λ b. IsIn x (cond b (z ∷ filter test zs) (filter test zs))) e h) in (inr tail.0, tail.1))
     (cases_Bool (test z))
 
 or_left : (a b : Bool) → (a || b) ≡ false → a ≡ false
@@ -62,8 +62,8 @@ first_is : (before values : List (List ℕ)) (x : List ℕ) → IsIn x (first_us
 first_is before [] x h = absurd h
 first_is before (value ∷ values) x h =
     let further : IsIn x (first_uses (before ++ value ∷ []) values) → IsIn x (value ∷ values) × (is_among before x ≡ false) = λ later.
-    let rest = first_is (before ++ value ∷ []) values x later in
-    (inr rest.0, or_left _ _ (sym (among_push before value x) ∙ rest.1)) in
+    let tail = first_is (before ++ value ∷ []) values x later in
+    (inr tail.0, or_left _ _ (sym (among_push before value x) ∙ tail.1)) in
     ⊎_elim
     (λ (e : is_among before value ≡ true). further (subst (λ b. IsIn x (cond b (first_uses (before ++ value ∷ []) values) (value ∷ first_uses (before ++ value ∷ []) values))) e h))
     (λ (e : is_among before value ≡ false). ⊎_elim
@@ -88,21 +88,21 @@ module _ (used : List (List ℕ)) where
   apart_from : (before values : List (List ℕ)) → ((x : List ℕ) → IsIn x values → IsIn x used) → AreApart (filter (is_holder used) (first_uses before values))
   apart_from before [] all = tt
   apart_from before (value ∷ values) all =
-      let rest = first_uses (before ++ value ∷ []) values in
-      let more : AreApart (filter (is_holder used) rest) = apart_from (before ++ value ∷ []) values (λ x h. all x (inr h)) in
+      let tail = first_uses (before ++ value ∷ []) values in
+      let more : AreApart (filter (is_holder used) tail) = apart_from (before ++ value ∷ []) values (λ x h. all x (inr h)) in
       ⊎_elim
-      (λ (e : is_among before value ≡ true). subst (λ b. AreApart (filter (is_holder used) (cond b rest (value ∷ rest)))) (sym e) more)
-      (λ (e : is_among before value ≡ false). subst (λ b. AreApart (filter (is_holder used) (cond b rest (value ∷ rest)))) (sym e)
+      (λ (e : is_among before value ≡ true). subst (λ b. AreApart (filter (is_holder used) (cond b tail (value ∷ tail)))) (sym e) more)
+      (λ (e : is_among before value ≡ false). subst (λ b. AreApart (filter (is_holder used) (cond b tail (value ∷ tail)))) (sym e)
       (⊎_elim
-      (λ (holds : is_holder used value ≡ true). subst (λ b. AreApart (cond b (value ∷ filter (is_holder used) rest) (filter (is_holder used) rest))) (sym holds) (
+      (λ (holds : is_holder used value ≡ true). subst (λ b. AreApart (cond b (value ∷ filter (is_holder used) tail) (filter (is_holder used) tail))) (sym holds) (
         λ other text there ends_value ends_other.
-            let left = left_in (is_holder used) other rest there in
+            let left = left_in (is_holder used) other tail there in
             let first = first_is (before ++ value ∷ []) values other left.0 in
             let same = same_holder value other text holds left.1 (all value (inl refl)) (all other (inr first.0)) ends_value ends_other in
             true≢false (sym (nat_list_eq_equiv.refl other) ∙ ap (bytes_eq other) (sym same) ∙ or_right _ _ (sym (among_push before value other) ∙ first.1)),
         more,
       ))
-      (λ (not_one : is_holder used value ≡ false). subst (λ b. AreApart (cond b (value ∷ filter (is_holder used) rest) (filter (is_holder used) rest))) (sym not_one) more)
+      (λ (not_one : is_holder used value ≡ false). subst (λ b. AreApart (cond b (value ∷ filter (is_holder used) tail) (filter (is_holder used) tail))) (sym not_one) more)
       (cases_Bool (is_holder used value))))
       (cases_Bool (is_among before value))
 
@@ -115,13 +115,13 @@ record IsSplit (x : List ℕ) (xs : List (List ℕ)) : Type 0 where
 split_in : (x : List ℕ) (xs : List (List ℕ)) → IsIn x xs → IsSplit x xs
 split_in x [] h = absurd h
 split_in x (y ∷ ys) (inl e) = record { before = []; after = ys; whole = ap (λ z. z ∷ ys) e }
-split_in x (y ∷ ys) (inr h) = let rest = split_in x ys h in record { before = y ∷ rest.before; after = rest.after; whole = ap (λ l. y ∷ l) rest.whole }
+split_in x (y ∷ ys) (inr h) = let tail = split_in x ys h in record { before = y ∷ tail.before; after = tail.after; whole = ap (λ l. y ∷ l) tail.whole }
 
-in_rest : (before after : List (List ℕ)) (x y : List ℕ) → IsIn y (before ++ x ∷ after) → (x ≡ y → ⊥) → IsIn y (before ++ after)
-in_rest [] after x y (inl e) apart = absurd (apart e)
-in_rest [] after x y (inr h) apart = h
-in_rest (z ∷ before) after x y (inl e) apart = inl e
-in_rest (z ∷ before) after x y (inr h) apart = inr (in_rest before after x y h apart)
+in_tail : (before after : List (List ℕ)) (x y : List ℕ) → IsIn y (before ++ x ∷ after) → (x ≡ y → ⊥) → IsIn y (before ++ after)
+in_tail [] after x y (inl e) apart = absurd (apart e)
+in_tail [] after x y (inr h) apart = h
+in_tail (z ∷ before) after x y (inl e) apart = inl e
+in_tail (z ∷ before) after x y (inr h) apart = inr (in_tail before after x y h apart)
 
 -- texts at the ends of other texts, each at the end of a different one, take no more bytes than these
 ended_longer : (xs ys : List (List ℕ)) → AreApart xs → ((x : List ℕ) → IsIn x xs → (y : List ℕ) × IsIn y ys × (ends_with y x ≡ true)) → length (ended xs) ≤ length (ended ys)
@@ -129,31 +129,31 @@ ended_longer [] ys apart each = omega arith
 ended_longer (x ∷ xs) ys apart each =
     let found = each x (inl refl) in
     let split = split_in found.0 ys found.1 in
-    let rest : length (ended xs) ≤ length (ended (split.before ++ split.after)) = ended_longer xs (split.before ++ split.after) apart.1 (λ other h.
+    let tail : length (ended xs) ≤ length (ended (split.before ++ split.after)) = ended_longer xs (split.before ++ split.after) apart.1 (λ other h.
     let more = each other (inr h) in
-    (more.0, in_rest split.before split.after found.0 more.0 (subst (IsIn more.0) split.whole more.1) (λ same. apart.0 other found.0 h found.2 (ap (λ t. ends_with t other) same ∙ more.2)), more.2)) in
+    (more.0, in_tail split.before split.after found.0 more.0 (subst (IsIn more.0) split.whole more.1) (λ same. apart.0 other found.0 h found.2 (ap (λ t. ends_with t other) same ∙ more.2)), more.2)) in
     let longer = ends_length found.0 x found.2 in
     let all = ap (λ l. length (ended l)) split.whole in
     let parts = ap length (ended-append split.before (found.0 ∷ split.after)) in
     let others = ap length (ended-append split.before split.after) in
-    omega (arith, rest, longer, all, parts, others, length-append x (0 ∷ ended xs), length-append (ended split.before) (ended (found.0 ∷ split.after)), length-append (ended split.before) (ended split.after), length-append found.0 (0 ∷ ended split.after))
+    omega (arith, tail, longer, all, parts, others, length-append x (0 ∷ ended xs), length-append (ended split.before) (ended (found.0 ∷ split.after)), length-append (ended split.before) (ended split.after), length-append found.0 (0 ∷ ended split.after))
 
 text_heap-longer : (xs ys : List (List ℕ)) → length (ended xs) ≤ length (ended ys) → length (text_heap xs) ≤ length (text_heap ys)
 text_heap-longer [] ys h = omega arith
 text_heap-longer (x ∷ xs) [] h = absurd (omega (arith, h, length-append x (0 ∷ ended xs)))
 text_heap-longer (x ∷ xs) (y ∷ ys) h = omega (arith, h)
 
-in_front : (used more : List (List ℕ)) (x : List ℕ) → IsIn x used → IsIn x (used ++ more)
-in_front [] more x h = absurd h
-in_front (y ∷ used) more x (inl e) = inl e
-in_front (y ∷ used) more x (inr h) = inr (in_front used more x h)
+in_prefix : (used more : List (List ℕ)) (x : List ℕ) → IsIn x used → IsIn x (used ++ more)
+in_prefix [] more x h = absurd h
+in_prefix (y ∷ used) more x (inl e) = inl e
+in_prefix (y ∷ used) more x (inr h) = inr (in_prefix used more x h)
 
 pub texts_grow : (used more : List (List ℕ)) → length (text_heap (holders used)) ≤ length (text_heap (holders (used ++ more)))
 texts_grow used more = text_heap-longer (holders used) (holders (used ++ more))
     (ended_longer (holders used) (holders (used ++ more)) (apart_from used ([] ∷ []) used (λ x h. h)) (λ x h.
     let left = left_in (is_holder used) x (distinct used) h in
     let first = first_is ([] ∷ []) used x left.0 in
-    let found = any_in (λ entry. ends_with entry x) (holders (used ++ more)) (held (used ++ more) x (in_front used more x first.0) (some x first.1)) in
+    let found = any_in (λ entry. ends_with entry x) (holders (used ++ more)) (held (used ++ more) x (in_prefix used more x first.0) (some x first.1)) in
     (found.0, found.1, found.2)))
   where
     some : (x : List ℕ) → is_among ([] ∷ []) x ≡ false → 0 < length x

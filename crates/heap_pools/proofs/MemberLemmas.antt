@@ -22,7 +22,7 @@ in_from_contains (y ∷ ys) x (suc k, h, e) = inr (in_from_contains ys x (k, ome
 pub contains_from_in : {X : Type 0} (xs : List X) (x : X) → IsIn x xs → Contains xs x
 contains_from_in [] x h = absurd h
 contains_from_in (y ∷ ys) x (inl e) = (0, omega arith, e)
-contains_from_in (y ∷ ys) x (inr h) = let rest = contains_from_in ys x h in (suc rest.0, omega (arith, rest.1), rest.2)
+contains_from_in (y ∷ ys) x (inr h) = let tail = contains_from_in ys x h in (suc tail.0, omega (arith, tail.1), tail.2)
 
 or_true : (b : Bool) → (b || true) ≡ true
 or_true true = refl
@@ -41,7 +41,7 @@ pub any_in : {X : Type 0} (test : X → Bool) (xs : List X) → list_any test xs
 any_in test [] h = absurd (false≢true h)
 any_in test (z ∷ zs) h = ⊎_elim
     (λ (e : test z ≡ true). (z, inl refl, e))
-    (λ (e : test z ≡ false). let rest = any_in test zs (sym (ap (λ b. b || list_any test zs) e) ∙ h) in (rest.0, inr rest.1, rest.2))
+    (λ (e : test z ≡ false). let tail = any_in test zs (sym (ap (λ b. b || list_any test zs) e) ∙ h) in (tail.0, inr tail.1, tail.2))
     (cases_Bool (test z))
 
 pub in_filter : {X : Type 0} (test : X → Bool) (x : X) (xs : List X) → IsIn x xs → test x ≡ true → IsIn x (filter test xs)
@@ -86,29 +86,29 @@ pub in_distinct : (used : List (List ℕ)) (x : List ℕ) → IsIn x used → 0 
 in_distinct used x h some = first_use ([] ∷ []) used x h (nothing_like x some)
 
 -- a value is in `before` or the first uses if and only if it is in `before` or the values
-among_known : (before rest : List (List ℕ)) (value x : List ℕ) → is_among before value ≡ true → is_among ((before ++ value ∷ []) ++ rest) x ≡ is_among (before ++ rest) x
-among_known before rest value x known =
-    let left = list_any-append (bytes_eq x) (before ++ value ∷ []) rest in
-    let right = list_any-append (bytes_eq x) before rest in
+among_known : (before tail : List (List ℕ)) (value x : List ℕ) → is_among before value ≡ true → is_among ((before ++ value ∷ []) ++ tail) x ≡ is_among (before ++ tail) x
+among_known before tail value x known =
+    let left = list_any-append (bytes_eq x) (before ++ value ∷ []) tail in
+    let right = list_any-append (bytes_eq x) before tail in
     let same : (is_among before x || bytes_eq x value) ≡ is_among before x = ⊎_elim
     (λ (e : bytes_eq x value ≡ true).
     let there : is_among before x ≡ true = ap (is_among before) (same_text x value (sym e)) ∙ known in
     ap (λ b. b || bytes_eq x value) there ∙ sym there)
     (λ (e : bytes_eq x value ≡ false). ap (λ b. is_among before x || b) e ∙ or_false (is_among before x))
     (cases_Bool (bytes_eq x value)) in
-    left ∙ ap (λ b. b || is_among rest x) (among_push before value x ∙ same) ∙ sym right
+    left ∙ ap (λ b. b || is_among tail x) (among_push before value x ∙ same) ∙ sym right
 
 pub among_first_uses : (before used : List (List ℕ)) (x : List ℕ) → is_among (before ++ first_uses before used) x ≡ is_among (before ++ used) x
 among_first_uses before [] x = refl
 among_first_uses before (value ∷ values) x =
     let more = among_first_uses (before ++ value ∷ []) values x in
-    let rest = first_uses (before ++ value ∷ []) values in
+    let tail = first_uses (before ++ value ∷ []) values in
     let moved = ap (λ (l : List (List ℕ)). is_among l x) (append_assoc before (value ∷ []) values) in
     ⊎_elim
     (λ (t : is_among before value ≡ true).
-    ap (λ b. is_among (before ++ cond b rest (value ∷ rest)) x) t ∙ sym (among_known before rest value x t) ∙ more ∙ moved)
+    ap (λ b. is_among (before ++ cond b tail (value ∷ tail)) x) t ∙ sym (among_known before tail value x t) ∙ more ∙ moved)
     (λ (f : is_among before value ≡ false).
-    ap (λ b. is_among (before ++ cond b rest (value ∷ rest)) x) f ∙ sym (ap (λ (l : List (List ℕ)). is_among l x) (append_assoc before (value ∷ []) rest)) ∙ more ∙ moved)
+    ap (λ b. is_among (before ++ cond b tail (value ∷ tail)) x) f ∙ sym (ap (λ (l : List (List ℕ)). is_among l x) (append_assoc before (value ∷ []) tail)) ∙ more ∙ moved)
     (cases_Bool (is_among before value))
 
 -- one more value
@@ -116,17 +116,17 @@ first_uses-push : (before used : List (List ℕ)) (x : List ℕ) → first_uses 
 first_uses-push before [] x = ap (λ (l : List (List ℕ)). cond (is_among l x) [] (x ∷ [])) (sym (append-nil before))
 first_uses-push before (value ∷ values) x =
     let more = first_uses-push (before ++ value ∷ []) values x in
-    let rest = first_uses (before ++ value ∷ []) values in
+    let tail = first_uses (before ++ value ∷ []) values in
     let test : is_among ((before ++ value ∷ []) ++ values) x ≡ is_among (before ++ value ∷ values) x = ap (λ (l : List (List ℕ)). is_among l x) (append_assoc before (value ∷ []) values) in
-    let all : first_uses (before ++ value ∷ []) (values ++ x ∷ []) ≡ cond (is_among (before ++ value ∷ values) x) rest (rest ++ x ∷ []) = more ∙ ap (λ b. cond b rest (rest ++ x ∷ [])) test in
+    let all : first_uses (before ++ value ∷ []) (values ++ x ∷ []) ≡ cond (is_among (before ++ value ∷ values) x) tail (tail ++ x ∷ []) = more ∙ ap (λ b. cond b tail (tail ++ x ∷ [])) test in
     ap (λ (l : List (List ℕ)). cond (is_among before value) l (value ∷ l)) all
-    ∙ both (is_among before value) (is_among (before ++ value ∷ values) x) rest value x
+    ∙ both (is_among before value) (is_among (before ++ value ∷ values) x) tail value x
   where
-    both : (a b : Bool) (rest : List (List ℕ)) (value x : List ℕ) → cond a (cond b rest (rest ++ x ∷ [])) (value ∷ cond b rest (rest ++ x ∷ [])) ≡ cond b (cond a rest (value ∷ rest)) (cond a rest (value ∷ rest) ++ x ∷ [])
-    both true true rest value x = refl
-    both true false rest value x = refl
-    both false true rest value x = refl
-    both false false rest value x = refl
+    both : (a b : Bool) (tail : List (List ℕ)) (value x : List ℕ) → cond a (cond b tail (tail ++ x ∷ [])) (value ∷ cond b tail (tail ++ x ∷ [])) ≡ cond b (cond a tail (value ∷ tail)) (cond a tail (value ∷ tail) ++ x ∷ [])
+    both true true tail value x = refl
+    both true false tail value x = refl
+    both false true tail value x = refl
+    both false false tail value x = refl
 
 pub distinct-push : (used : List (List ℕ)) (value : List ℕ) → distinct (used ++ value ∷ []) ≡ pooled (distinct used) value
 distinct-push used value =

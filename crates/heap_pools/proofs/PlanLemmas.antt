@@ -12,7 +12,7 @@ use Rattle.heap_pools.specs.Ending.{ends_with}
 use Rattle.heap_pools.specs.EndingOrder.{ending_cmp}
 use Rattle.heap_pools.specs.Distinct.{is_among, first_uses}
 use Rattle.heap_pools.specs.TextHeap.{is_holder, ended, text_from}
-use Rattle.heap_pools.specs.Ranking.{TextUse, text_at, place_at, used_at, AreFirstUses, IsTop, IsRun, FindsHolder, flagged}
+use Rattle.heap_pools.specs.Ranking.{TextUse, text_at, use_index_at, used_at, AreFirstUses, IsTop, IsRun, FindsHolder, flagged}
 use Rattle.heap_pools.proofs.EndingLemmas.{ends_from, ends_length, ends_itself, ends_cases, ends_between, not_both, not_itself}
 
 -- the index of an element that passes a test
@@ -70,7 +70,7 @@ module _ (used : List (List ℕ)) (ranked : List TextUse) (f : AreFirstUses used
       (cases_lt to k)) (cases_lt k to)
 
   -- a used text that ends with a use's text has a use
-  use_of_used : (p k : ℕ) → p < length used → k < length ranked → ends_with (used_at used p) (text_at ranked k) ≡ true → (j : ℕ) × (j < length ranked) × (text_at ranked j ≡ used_at used p) × (place_at ranked j ≤ p)
+  use_of_used : (p k : ℕ) → p < length used → k < length ranked → ends_with (used_at used p) (text_at ranked k) ≡ true → (j : ℕ) × (j < length ranked) × (text_at ranked j ≡ used_at used p) × (use_index_at ranked j ≤ p)
   use_of_used p k hp hk h = f.firsts p hp (omega (arith, ends_length (used_at used p) (text_at ranked k) h, f.nonempty k hk))
 
   -- a top is a text that no other used text ends with
@@ -101,36 +101,36 @@ module _ (used : List (List ℕ)) (ranked : List TextUse) (f : AreFirstUses used
       by : ends_with (text_at ranked (k + 1)) (text_at ranked k) ≡ true → list_any (λ other. ends_with other (text_at ranked k) && not (bytes_eq other (text_at ranked k))) used ≡ true
       by ends =
           let apart : text_at ranked (k + 1) ≡ text_at ranked k → ⊥ = λ e. not_itself (text_at ranked k) (subst (λ t. ending_cmp (text_at ranked k) t ≡ Less) e (f.rises k (k + 1) (omega arith) next)) in
-          let here : text_at ranked (k + 1) ≡ used_at used (place_at ranked (k + 1)) = f.texts (k + 1) next in
+          let here : text_at ranked (k + 1) ≡ used_at used (use_index_at ranked (k + 1)) = f.texts (k + 1) next in
           let passes : ends_with (text_at ranked (k + 1)) (text_at ranked k) && not (bytes_eq (text_at ranked (k + 1)) (text_at ranked k)) ≡ true = ap (λ b. b && not (bytes_eq (text_at ranked (k + 1)) (text_at ranked k))) ends ∙ ap not (false_from_differ (text_at ranked (k + 1)) (text_at ranked k) apart) in
-          list_any_at (λ other. ends_with other (text_at ranked k) && not (bytes_eq other (text_at ranked k))) used (place_at ranked (k + 1)) [] (f.places (k + 1) next)
+          list_any_at (λ other. ends_with other (text_at ranked k) && not (bytes_eq other (text_at ranked k))) used (use_index_at ranked (k + 1)) [] (f.use_indexes (k + 1) next)
           (subst (λ t. ends_with t (text_at ranked k) && not (bytes_eq t (text_at ranked k)) ≡ true) here passes)
 
 -- the use index of the first use of the first holder that ends with a text
-pub record IsFirstHolder (used : List (List ℕ)) (text : List ℕ) (place : ℕ) : Type 0 where
-  pub within : place < length used
-  pub holder : is_holder used (used_at used place) ≡ true
-  pub ends : ends_with (used_at used place) text ≡ true
-  pub fresh : (p : ℕ) → p < place → used_at used p ≡ used_at used place → ⊥
-  pub least : (p : ℕ) → p < length used → is_holder used (used_at used p) ≡ true → ends_with (used_at used p) text ≡ true → place ≤ p
+pub record IsFirstHolder (used : List (List ℕ)) (text : List ℕ) (use_index : ℕ) : Type 0 where
+  pub within : use_index < length used
+  pub holder : is_holder used (used_at used use_index) ≡ true
+  pub ends : ends_with (used_at used use_index) text ≡ true
+  pub fresh : (p : ℕ) → p < use_index → used_at used p ≡ used_at used use_index → ⊥
+  pub least : (p : ℕ) → p < length used → is_holder used (used_at used p) ≡ true → ends_with (used_at used p) text ≡ true → use_index ≤ p
 
 module _ (used : List (List ℕ)) (ranked : List TextUse) (f : AreFirstUses used ranked) where
-  pub first_holder : (k place : ℕ) → k < length ranked → FindsHolder ranked k place → IsFirstHolder used (text_at ranked k) place
-  first_holder k place hk h =
+  pub first_holder : (k use_index : ℕ) → k < length ranked → FindsHolder ranked k use_index → IsFirstHolder used (text_at ranked k) use_index
+  first_holder k use_index hk h =
       let rank = h.first.rank in
       let in_ranked : rank < length ranked = omega (arith, h.first.high, h.run.high) in
-      let here : text_at ranked rank ≡ used_at used place = f.texts rank in_ranked ∙ ap (used_at used) h.first.is in
+      let here : text_at ranked rank ≡ used_at used use_index = f.texts rank in_ranked ∙ ap (used_at used) h.first.is in
       record {
-        within = subst (λ p. p < length used) h.first.is (f.places rank in_ranked);
+        within = subst (λ p. p < length used) h.first.is (f.use_indexes rank in_ranked);
         holder = subst (λ t. is_holder used t ≡ true) here (holder_from_top used ranked f rank in_ranked h.first.top);
         ends = subst (λ t. ends_with t (text_at ranked k) ≡ true) here (⊎_elim
             (λ (lt : k < rank). h.run.inside rank lt h.first.high)
             (λ (ge : rank ≤ k). let e : k ≡ rank = omega (arith, h.first.low) in subst (λ j. ends_with (text_at ranked rank) (text_at ranked j) ≡ true) (sym e) (ends_itself (text_at ranked rank)))
             (cases_lt k rank));
         fresh = λ p lt e.
-            let r = f.firsts p (omega (arith, f.places rank in_ranked, h.first.is)) (subst (λ t. 0 < length t) (here ∙ sym e) (f.nonempty rank in_ranked)) in
+            let r = f.firsts p (omega (arith, f.use_indexes rank in_ranked, h.first.is)) (subst (λ t. 0 < length t) (here ∙ sym e) (f.nonempty rank in_ranked)) in
             let one : r.0 ≡ rank = one_use used ranked f r.0 rank r.1 in_ranked (r.2 ∙ e ∙ sym here) in
-            omega (arith, r.3, ap (place_at ranked) one, h.first.is);
+            omega (arith, r.3, ap (use_index_at ranked) one, h.first.is);
         least = λ p hp holds ends.
             let r = use_of_used used ranked f p k hp hk ends in
             let ends_rank : ends_with (text_at ranked r.0) (text_at ranked k) ≡ true = ap (λ t. ends_with t (text_at ranked k)) r.2 ∙ ends in
@@ -141,7 +141,7 @@ module _ (used : List (List ℕ)) (ranked : List TextUse) (f : AreFirstUses used
       }
 
 -- the flagged texts before a use index, the one there, and those after it
-pub flagged_split : (texts : List (List ℕ)) (flags : List Bool) (p : ℕ) → p < length texts → slice_index_or flags p false ≡ true → (rest : List (List ℕ)) × (flagged texts flags ≡ flagged (take p texts) (take p flags) ++ used_at texts p ∷ rest)
+pub flagged_split : (texts : List (List ℕ)) (flags : List Bool) (p : ℕ) → p < length texts → slice_index_or flags p false ≡ true → (tail : List (List ℕ)) × (flagged texts flags ≡ flagged (take p texts) (take p flags) ++ used_at texts p ∷ tail)
 flagged_split [] flags p h e = absurd (omega arith)
 flagged_split (t ∷ ts) [] p h e = absurd (false≢true e)
 flagged_split (t ∷ ts) (true ∷ fs) zero h e = (flagged ts fs, refl)
@@ -162,13 +162,13 @@ flagged_at test (t ∷ ts) (true ∷ fs) (suc n) h = ⊎_elim
     (bool_cases (test t))
 
 -- the index of a text that is the ending of an entry, and of no entry before it
-pub text_from-entry : (at : ℕ) (before : List (List ℕ)) (entry : List ℕ) (rest : List (List ℕ)) (text : List ℕ) → list_any (λ other. ends_with other text) before ≡ false → ends_with entry text ≡ true
-    → text_from at (before ++ entry ∷ rest) text ≡ at + length (ended before) + length entry - length text
-text_from-entry at [] entry rest text none ends = ap (λ b. cond b (at + length entry - length text) (text_from (at + length entry + 1) rest text)) ends ∙ ap (λ n. n + length entry - length text) (omega arith)
-text_from-entry at (first ∷ before) entry rest text none ends = ⊎_elim
+pub text_from-entry : (at : ℕ) (before : List (List ℕ)) (entry : List ℕ) (tail : List (List ℕ)) (text : List ℕ) → list_any (λ other. ends_with other text) before ≡ false → ends_with entry text ≡ true
+    → text_from at (before ++ entry ∷ tail) text ≡ at + length (ended before) + length entry - length text
+text_from-entry at [] entry tail text none ends = ap (λ b. cond b (at + length entry - length text) (text_from (at + length entry + 1) tail text)) ends ∙ ap (λ n. n + length entry - length text) (omega arith)
+text_from-entry at (first ∷ before) entry tail text none ends = ⊎_elim
     (λ (e : ends_with first text ≡ true). absurd (true≢false (sym (ap (λ b. b || list_any (λ other. ends_with other text) before) e) ∙ none)))
-    (λ e. ap (λ b. cond b (at + length first - length text) (text_from (at + length first + 1) (before ++ entry ∷ rest) text)) e
-    ∙ text_from-entry (at + length first + 1) before entry rest text (sym (ap (λ b. b || list_any (λ other. ends_with other text) before) e) ∙ none) ends
+    (λ e. ap (λ b. cond b (at + length first - length text) (text_from (at + length first + 1) (before ++ entry ∷ tail) text)) e
+    ∙ text_from-entry (at + length first + 1) before entry tail text (sym (ap (λ b. b || list_any (λ other. ends_with other text) before) e) ∙ none) ends
     ∙ (let long : length (ended (first ∷ before)) ≡ length first + (1 + length (ended before)) = length-append first (0 ∷ ended before) ∙ ap (λ n. length first + n) (omega arith) in
     let sums : at + length first + 1 + length (ended before) ≡ at + length (ended (first ∷ before)) = omega arith in
     ap (λ n. n + length entry - length text) sums))

@@ -1,7 +1,7 @@
 -- The heap of user strings, its lengths and its padding.
 use Rattle.std.proofs.Common.{◌≡◌, ℕ, zero, suc, ◌+◌, ◌-◌, ◌%◌, ◌*◌, ◌<◌, ◌≤◌, max, List, [], ◌∷◌, ◌++◌, length, take, flat_map, replicate, refl, ap, arith, length-append}
 use Rattle.packed.specs.Packed.{short_unsigned}
-use Rattle.heap_entries.specs.Fill.{filled}
+use Rattle.heap_entries.specs.Padding.{zero_padded}
 use Rattle.heap_pools.specs.FirstByte.{begun}
 use Rattle.heap_entries.specs.Units.{unit_bytes}
 use Rattle.heap_pools.specs.UserEntries.{last_byte, user_length, user_entry}
@@ -35,8 +35,8 @@ take_zeros (suc (suc (suc (suc zero)))) h = refl
 take_zeros (suc (suc (suc (suc (suc k))))) h = absurd (omega arith)
 
 -- zeros up to the next multiple of four
-pub filled_is : (bytes : List ℕ) (n : ℕ) → max (length bytes) 1 ≤ n → n < max (length bytes) 1 + 4 → n % 4 ≡ 0 → bytes ++ replicate {A = ℕ} (n - length bytes) 0 ≡ filled (begun bytes)
-filled_is [] n low high multiple = let four : n ≡ 4 = omega arith in rw four refl
-filled_is (byte ∷ bytes) n low high multiple =
-    let fill : n - length (byte ∷ bytes) ≡ (4 - length (byte ∷ bytes) % 4) % 4 = omega arith in
-    ap (λ k. (byte ∷ bytes) ++ replicate {A = ℕ} k 0) fill
+pub padded_is : (bytes : List ℕ) (n : ℕ) → max (length bytes) 1 ≤ n → n < max (length bytes) 1 + 4 → n % 4 ≡ 0 → bytes ++ replicate {A = ℕ} (n - length bytes) 0 ≡ zero_padded (begun bytes)
+padded_is [] n low high multiple = let four : n ≡ 4 = omega arith in rw four refl
+padded_is (byte ∷ bytes) n low high multiple =
+    let padding : n - length (byte ∷ bytes) ≡ (4 - length (byte ∷ bytes) % 4) % 4 = omega arith in
+    ap (λ k. (byte ∷ bytes) ++ replicate {A = ℕ} k 0) padding

@@ -4,7 +4,7 @@ use Rattle.std.specs.declared.cmp.Ordering.TheVariants.{Less}
 use Rattle.heap_pools.specs.declared.text_plan.Span.{Span}
 use Rattle.heap_pools.specs.EndingOrder.{ending_cmp}
 use Rattle.heap_pools.specs.TextHeap.{text_heap, text_index, holders, ended}
-use Rattle.heap_pools.specs.Ranking.{used_at, IsFirstPlace}
+use Rattle.heap_pools.specs.Ranking.{used_at, IsFirstUse}
 use Rattle.heap_pools.specs.Uses.{span_at}
 
 -- the entries of the heap, the texts that were planned, and the index of each text in the order of use
@@ -13,14 +13,14 @@ pub record TextPlan : Type 0 where
   pub texts : List (List ℕ)
   pub indexes : List ℕ
 
-abbrev pub with_front : ℕ → List (List ℕ) → List (List ℕ)
-with_front byte [] = []
-with_front byte (text ∷ texts) = (byte ∷ text) ∷ texts
+abbrev pub with_prefix : ℕ → List (List ℕ) → List (List ℕ)
+with_prefix byte [] = []
+with_prefix byte (text ∷ texts) = (byte ∷ text) ∷ texts
 
 -- the texts before each NUL
 abbrev pub texts_in : List ℕ → List (List ℕ)
 texts_in [] = []
-texts_in (byte ∷ bytes) = if byte == 0 then [] ∷ texts_in bytes else with_front byte (texts_in bytes)
+texts_in (byte ∷ bytes) = if byte == 0 then [] ∷ texts_in bytes else with_prefix byte (texts_in bytes)
 
 -- the entries of a heap: the texts after its first byte
 abbrev pub entries_in : List ℕ → List (List ℕ)
@@ -47,5 +47,5 @@ pub record IsSpanOf (used : List (List ℕ)) (text : List ℕ) (span : Span) : T
 
 -- the index of each non-empty text is at the first use index of this text
 abbrev pub HasFirstIndexes : List (List ℕ) → List ℕ → Type 0
-HasFirstIndexes used indexes = (place : ℕ) → place < length used → 0 < length (used_at used place) → IsFirstPlace used place place
-    → slice_index indexes place ≡ text_index (holders used) (used_at used place)
+HasFirstIndexes used indexes = (use_index : ℕ) → use_index < length used → 0 < length (used_at used use_index) → IsFirstUse used use_index use_index
+    → slice_index indexes use_index ≡ text_index (holders used) (used_at used use_index)

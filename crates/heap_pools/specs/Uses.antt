@@ -10,7 +10,7 @@ use Rattle.heap_pools.specs.Ranking.{TextUse}
 
 -- a use as a value: the bytes of its text, without their address
 abbrev pub use_of : Use → TextUse
-use_of item = (item.text.now, item.place)
+use_of item = (item.text.now, item.use_index)
 
 abbrev pub uses_of : List Use → List TextUse
 uses_of uses = map use_of uses

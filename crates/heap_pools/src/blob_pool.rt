@@ -102,7 +102,7 @@ impl BlobPool {
 
     /// The index of a blob that is already in the pool.
     fn find(&self, blob: &[u8]) -> Option<u32>
-        ensures found { IfSome result (λ index. (is_among self.now blob.now ≡ true) × (index ≡ blob_from 1 self.now blob.now)) }
+        ensures sound { IfSome result (λ index. (is_among self.now blob.now ≡ true) × (index ≡ blob_from 1 self.now blob.now)) }
         ensures none { IfNone result (is_among self.now blob.now ≡ false) }
     {
         self.indexes.get(blob).copied()

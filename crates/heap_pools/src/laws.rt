@@ -8,26 +8,26 @@ ghost use Rattle.heap_pools.specs.UserEntries.{last_byte, user_entry, user_lengt
 
 /// In the planned heap, the text at the index of a used text is this text. More bytes may follow the heap.
 pub fn used_text_is_found()
-    ensures { (used : List (List ℕ)) (text rest : List ℕ) → Contains used text → HasNoNul text → IsUtf8 text
-        → IsText (text_heap (holders used) ++ rest) (text_index (holders used) text) text }
+    ensures { (used : List (List ℕ)) (text tail : List ℕ) → Contains used text → HasNoNul text → IsUtf8 text
+        → IsText (text_heap (holders used) ++ tail) (text_index (holders used) text) text }
 {}
 
 /// In the heap, the blob at the index of a pooled blob is this blob. More bytes may follow the heap.
 pub fn pooled_blob_is_found()
-    ensures { (entries : List (List ℕ)) (blob rest : List ℕ) → (blob ≡ []) ⊎ Contains entries blob → length blob < 2 ^ 29
-        → IsBlob (blob_heap entries ++ rest) (blob_index entries blob) blob }
+    ensures { (entries : List (List ℕ)) (blob tail : List ℕ) → (blob ≡ []) ⊎ Contains entries blob → length blob < 2 ^ 29
+        → IsBlob (blob_heap entries ++ tail) (blob_index entries blob) blob }
 {}
 
 /// In the heap, the GUID at the index of a pooled GUID is this GUID. More bytes may follow the heap.
 pub fn pooled_guid_is_found()
-    ensures { (entries : List (List ℕ)) (guid rest : List ℕ) → Contains entries guid → All (λ entry. length entry ≡ 16) entries
-        → IsGuid (guid_heap entries ++ rest) (guid_index entries (Some guid)) (Some guid) }
+    ensures { (entries : List (List ℕ)) (guid tail : List ℕ) → Contains entries guid → All (λ entry. length entry ≡ 16) entries
+        → IsGuid (guid_heap entries ++ tail) (guid_index entries (Some guid)) (Some guid) }
 {}
 
 /// The user string at the offset at which one was pushed is this one, whatever bytes follow.
 pub fn pushed_string_is_found()
-    ensures { (heap units rest : List ℕ) → 0 < length heap → user_length units < 2 ^ 29
-        → IsUserString (heap ++ (user_entry units ++ rest)) (length heap) (record { units = units; flag = Some (last_byte units) }) }
+    ensures { (heap units tail : List ℕ) → 0 < length heap → user_length units < 2 ^ 29
+        → IsUserString (heap ++ (user_entry units ++ tail)) (length heap) (record { units = units; flag = Some (last_byte units) }) }
 {}
 
 /// Adding values one after another gives the distinct ones; more uses only append entries. Each non-empty
@@ -37,7 +37,7 @@ pub fn pooled_are_distinct()
     ensures guid { (used : List (List ℕ)) (guid : Option (List ℕ)) → distinct (used ++ given guid) ≡ pooled_guid (distinct used) guid }
     ensures each { (used : List (List ℕ)) (value : List ℕ) → Contains used value → 0 < length value → Contains (distinct used) value }
     ensures again { (used : List (List ℕ)) (value : List ℕ) → Contains used value → pooled (distinct used) value ≡ distinct used }
-    ensures front { (used more : List (List ℕ)) → (rest : List (List ℕ)) × (distinct (used ++ more) ≡ distinct used ++ rest) }
+    ensures prefix { (used more : List (List ℕ)) → (tail : List (List ℕ)) × (distinct (used ++ more) ≡ distinct used ++ tail) }
 {}
 
 /// The index of a blob or a GUID does not change when its pool grows.

@@ -1,7 +1,7 @@
 ghost use Rattle.std.specs.Prelude.{◌≡◌, ◌≤◌, ◌<◌, ◌+◌, ◌^◌, ◌++◌, ◌∷◌, ◌↔◌, [], Err, length, vec_len, take, flat_map, IfOk, IfErr, OnOk, OnErr, IsTrue, if◌then◌else◌};
 ghost use Rattle.std.specs.List.{list_any};
 ghost use Rattle.heap_pools.specs.declared.pool_error.PoolError.TheVariants.{Full};
-ghost use Rattle.heap_entries.specs.Fill.{filled};
+ghost use Rattle.heap_entries.specs.Padding.{zero_padded};
 ghost use Rattle.heap_pools.specs.FirstByte.{begun};
 ghost use Rattle.heap_entries.specs.Units.{unit_bytes};
 ghost use Rattle.heap_pools.specs.UserEntries.{is_special, last_byte, user_entry, user_length};
@@ -137,7 +137,7 @@ impl UserHeap {
     ///
     /// The unchanged heap, if it is out of memory.
     pub fn padded(self) -> Result<Vec<u8>, UserHeap>
-        ensures ok { IfOk result (λ bytes. bytes.items ≡ filled self) }
+        ensures ok { IfOk result (λ bytes. bytes.items ≡ zero_padded self) }
         ensures err { IfErr result (λ heap. heap ≡ self) }
     {
         let UserHeap { mut bytes } = self;

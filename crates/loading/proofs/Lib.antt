@@ -1,3 +1,3 @@
-pub mod Filling
+pub mod Padding
 pub mod Zeros
 pub mod Refusing

@@ -1,12 +1,12 @@
 -- Bytes with padding.
 use Rattle.std.proofs.Common.{◌≡◌, ℕ, ◌+◌, ◌-◌, ◌%◌, List, ◌++◌, length, take, replicate, ap, ◌∙◌, arith}
 use Rattle.std.proofs.lemmas.List.{take_all}
-use Rattle.heap_entries.specs.Fill.{filled}
+use Rattle.heap_entries.specs.Padding.{zero_padded}
 
 -- bytes with capacity for the padding hold the bytes and the padding
 pub resized : (bytes : List ℕ) (n k : ℕ) → n ≡ length bytes + (4 - length bytes % 4) % 4 → k ≡ length bytes
-    → take n bytes ++ replicate (n - k) 0 ≡ filled bytes
+    → take n bytes ++ replicate (n - k) 0 ≡ zero_padded bytes
 resized bytes n k e f =
     let all : take n bytes ≡ bytes = take_all n bytes (omega arith) in
-    let fill : n - k ≡ (4 - length bytes % 4) % 4 = omega arith in
-    ap (λ (front : List ℕ). front ++ replicate (n - k) 0) all ∙ ap (λ (m : ℕ). bytes ++ replicate {A = ℕ} m 0) fill
+    let padding : n - k ≡ (4 - length bytes % 4) % 4 = omega arith in
+    ap (λ (prefix : List ℕ). prefix ++ replicate (n - k) 0) all ∙ ap (λ (m : ℕ). bytes ++ replicate {A = ℕ} m 0) padding

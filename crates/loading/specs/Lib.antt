@@ -1,2 +1,2 @@
-pub mod Filled
+pub mod Padded
 pub mod Refused

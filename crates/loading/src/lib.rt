@@ -12,7 +12,7 @@
 
 mod cell;
 mod error;
-mod fill;
+mod padding;
 mod load;
 mod table_rows;
 mod to_model;

@@ -2,7 +2,7 @@ ghost use Rattle.std.specs.Prelude.{◌≡◌, IfOk, IfErr};
 ghost use Rattle.cli_header.specs.declared.header.CliHeader.{CliHeader as Header};
 ghost use Rattle.metadata.specs.Metadata.{Metadata};
 ghost use Rattle.metadata.specs.Model.{IsModel, IsModelOfFile};
-ghost use Rattle.metadata.specs.Demands.{demands_of_metadata, demands_of_file};
+ghost use Rattle.metadata.specs.Rules.{rules_of_metadata, rules_of_file};
 ghost use Rattle.opening.specs.Views.{HasModel};
 ghost use Rattle.loading.specs.Refused.{IsRefused, HasHeaderAndModel};
 
@@ -21,11 +21,11 @@ use std::alloc::Global;
 /// returned only for bytes that have a model.
 pub fn load_root(alloc: Global, root: &[u8]) -> Result<Model, LoadError>
     // The loaded model is a model of the root.
-    ensures found { IfOk result (λ loaded. ∥ IsModel root.now loaded ∥₁) }
+    ensures sound { IfOk result (λ loaded. ∥ IsModel root.now loaded ∥₁) }
     // Each model of the root equals the loaded model.
-    ensures only { (model : Metadata) → IsModel root.now model → IfOk result (λ loaded. loaded ≡ model) }
+    ensures complete { (model : Metadata) → IsModel root.now model → IfOk result (λ loaded. loaded ≡ model) }
     // A fault is the first broken rule, and then there is no model. It is out of memory only if there is a model.
-    ensures refused { IfErr result (IsRefused (demands_of_metadata 0 root.now) (HasModel root.now)) }
+    ensures refused { IfErr result (IsRefused (rules_of_metadata 0 root.now) (HasModel root.now)) }
 {
     let view = open_root(root)?;
     Ok(view.model(alloc)?)
@@ -40,12 +40,12 @@ pub fn load_root(alloc: Global, root: &[u8]) -> Result<Model, LoadError>
 /// is returned only for bytes that have a model.
 pub fn load_image(alloc: Global, file: &[u8]) -> Result<(CliHeader, Model), LoadError>
     // The loaded header and model are those of the file.
-    ensures found { IfOk result (λ loaded. ∥ IsModelOfFile file.now loaded.0 loaded.1 ∥₁) }
+    ensures sound { IfOk result (λ loaded. ∥ IsModelOfFile file.now loaded.0 loaded.1 ∥₁) }
     // Each header and model of the file equal the loaded ones.
-    ensures only { (header : Header) (model : Metadata) → IsModelOfFile file.now header model
+    ensures complete { (header : Header) (model : Metadata) → IsModelOfFile file.now header model
         → IfOk result (λ loaded. (loaded.0 ≡ header) × (loaded.1 ≡ model)) }
     // A fault is the first broken rule, and then there is no model. It is out of memory only if there is a model.
-    ensures refused { IfErr result (IsRefused (demands_of_file file.now) (HasHeaderAndModel file.now)) }
+    ensures refused { IfErr result (IsRefused (rules_of_file file.now) (HasHeaderAndModel file.now)) }
 {
     let (header, view) = open_image(file)?;
     Ok((header, view.model(alloc)?))

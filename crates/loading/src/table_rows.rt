@@ -4,7 +4,7 @@ ghost use Rattle.tables.specs.Said.{all_said};
 ghost use Rattle.metadata.specs.Metadata.{Metadata, rows_of, row_of};
 ghost use Rattle.metadata.specs.Model.{IsModel};
 ghost use Rattle.opening.specs.Views.{row_count};
-ghost use Rattle.loading.specs.Filled.{with_rows};
+ghost use Rattle.loading.specs.Padded.{with_rows};
 
 use crate::cell::load_cell;
 use tables::{Cell, Tables};

@@ -2,7 +2,7 @@ ghost use Rattle.std.specs.Prelude.{◌≡◌, IfOk};
 ghost use Rattle.metadata.specs.Metadata.{Metadata};
 ghost use Rattle.metadata.specs.Model.{IsModel};
 
-use crate::fill::copy_filled;
+use crate::padding::copy_padded;
 use crate::table_rows::load_tables;
 use metadata::{models_are_read, models_of_roots_are_valid};
 use opening::View;
@@ -16,7 +16,7 @@ fn tables_of(alloc: Global, view: &View) -> Result<Tables, AllocError>
 {
     models_are_read();
     let mut tables = Tables::new(alloc, view.version())?;
-    tables.set_user(copy_filled(alloc, view.user())?);
+    tables.set_user(copy_padded(alloc, view.user())?);
     load_tables(alloc, view, &mut tables)?;
     Ok(tables)
 }
@@ -43,7 +43,7 @@ impl ToModel for View<'_> {
     /// The cost is linear in the size of the root, and in the sizes of the strings and blobs, once for each cell.
     fn model(&self, alloc: Global) -> Result<Model, AllocError>
         ensures model { (model : Metadata) → IsModel self.now model → IfOk result (λ loaded. loaded ≡ model) }
-        ensures found { IfOk result (λ loaded. ∥ IsModel self.now loaded ∥₁) }
+        ensures sound { IfOk result (λ loaded. ∥ IsModel self.now loaded ∥₁) }
     {
         models_of_roots_are_valid();
         let tables = tables_of(alloc, self)?;

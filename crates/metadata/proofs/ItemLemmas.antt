@@ -35,8 +35,8 @@ pub items_of : {X : Type 0} (P : ℕ → X → Type 0) (i n : ℕ) → ((k : ℕ
 items_of P i zero each = ([], tt)
 items_of P i (suc n) each =
     let here = each i (omega arith) (omega arith) in
-    let rest = items_of P (i + 1) n (λ k low high. each k (omega arith) (omega arith)) in
-    (here.0 ∷ rest.0, (here.1, rest.1))
+    let tail = items_of P (i + 1) n (λ k low high. each k (omega arith) (omega arith)) in
+    (here.0 ∷ tail.0, (here.1, tail.1))
 
 -- if there is at most one item for each number, there is at most one list of items
 pub items_one : {X : Type 0} (P : ℕ → X → Type 0) → ((k : ℕ) (x y : X) → P k x → P k y → x ≡ y) → (i n : ℕ) (xs ys : List X) → AreFrom P i n xs

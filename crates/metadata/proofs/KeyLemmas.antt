@@ -10,7 +10,7 @@ use Rattle.table_schema.specs.declared.token.Token.{Token}
 use Rattle.table_schema.specs.declared.coded.Coded.{Coded}
 use Rattle.table_schema.specs.declared.column.ColumnKind.{ColumnKind}
 use Rattle.table_schema.specs.declared.column.ColumnKind.TheVariants as kind
-use Rattle.table_schema.specs.Tables.{tables, position_of, table_number}
+use Rattle.table_schema.specs.Tables.{tables, table_index_of, table_number}
 use Rattle.table_schema.specs.Columns.{columns_of, column_at, key_of, IsReference}
 use Rattle.table_schema.specs.CodedIndexes.{tables_of, tag_bits, IsCoded}
 use Rattle.table_schema.specs.CellColumns.{is_padding, cell_count, column_of}
@@ -21,16 +21,16 @@ use Rattle.metadata.specs.Source.{Source, rows_in, number_of}
 use Rattle.metadata.specs.Starts.{start_of}
 use Rattle.metadata.specs.Stands.{StandsFor, Refers}
 use Rattle.metadata.specs.Rows.{IsCell}
-use Rattle.metadata.specs.Rules.{IsInOrder}
-use Rattle.metadata.specs.Lookups.{IsKeyPlace}
+use Rattle.metadata.specs.RowRules.{IsInOrder}
+use Rattle.metadata.specs.Lookups.{IsKeyCell}
 use Rattle.metadata.specs.Valid.{kind_at}
 use Rattle.metadata.specs.KeyOrder.{key_number, key_in, IsKeyOrdered}
 use Rattle.metadata.proofs.TableLemmas.{HaveCells}
 
 -- the laws of the tables
 pub record KeysKnown : Type 0 where
-  pub stand : (table : TableId) → get_or tables (position_of table) Module ≡ table
-  pub rise : (lower higher : TableId) → position_of lower < position_of higher → table_number lower < table_number higher
+  pub stand : (table : TableId) → get_or tables (table_index_of table) Module ≡ table
+  pub rise : (lower higher : TableId) → table_index_of lower < table_index_of higher → table_number lower < table_number higher
   pub key : (table : TableId) (column : ℕ) → key_of table ≡ Some column → column < length (columns_of table)
   pub reference : (table : TableId) (column : ℕ) → key_of table ≡ Some column → IsReference (column_at table column)
   pub one : (coded : Coded) (a b : ℕ) (table : TableId) → slice_get (tables_of coded) a ≡ Some (Some table)
@@ -42,56 +42,56 @@ pub record KeysKnown : Type 0 where
 
 same_table : KeysKnown → (a b : TableId) → table_number a ≡ table_number b → a ≡ b
 same_table known a b e =
-    let same : position_of a ≡ position_of b = ⊎_elim
-    (λ (l : position_of a < position_of b). let up = known.rise a b l in absurd (omega arith))
-    (λ (h : position_of b ≤ position_of a). ⊎_elim
-    (λ (l : position_of b < position_of a). let up = known.rise b a l in absurd (omega arith))
-    (λ (g : position_of a ≤ position_of b). omega arith)
-    (cases_lt (position_of b) (position_of a)))
-    (cases_lt (position_of a) (position_of b)) in
+    let same : table_index_of a ≡ table_index_of b = ⊎_elim
+    (λ (l : table_index_of a < table_index_of b). let up = known.rise a b l in absurd (omega arith))
+    (λ (h : table_index_of b ≤ table_index_of a). ⊎_elim
+    (λ (l : table_index_of b < table_index_of a). let up = known.rise b a l in absurd (omega arith))
+    (λ (g : table_index_of a ≤ table_index_of b). omega arith)
+    (cases_lt (table_index_of b) (table_index_of a)))
+    (cases_lt (table_index_of a) (table_index_of b)) in
     sym (known.stand a) ∙ ap (λ (k : ℕ). get_or tables k Module) same ∙ known.stand b
 
 -- the index is that of some table with the same number
-record IsPlaced (listed : List (Option TableId)) (table : TableId) (position : ℕ) : Type 0 where
+record IsLocated (listed : List (Option TableId)) (table : TableId) (table_index : ℕ) : Type 0 where
   other : TableId
-  at : slice_get listed position ≡ Some (Some other)
+  at : slice_get listed table_index ≡ Some (Some other)
   number : table_number table ≡ table_number other
 
-later : (first : Option TableId) (listed : List (Option TableId)) (table : TableId) (position : ℕ) → IsPlaced listed table position
-    → IsPlaced (first ∷ listed) table (1 + position)
-later first listed table position is =
-    let up : 1 + position ≡ suc position = omega arith in
+later : (first : Option TableId) (listed : List (Option TableId)) (table : TableId) (table_index : ℕ) → IsLocated listed table table_index
+    → IsLocated (first ∷ listed) table (1 + table_index)
+later first listed table table_index is =
+    let up : 1 + table_index ≡ suc table_index = omega arith in
     rw up (record { other = is.other; at = is.at; number = is.number })
 
-placed : (listed : List (Option TableId)) (table : TableId) (tag : ℕ) → slice_get listed tag ≡ Some (Some table)
-    → IsPlaced listed table (position_or_len (is_table table) listed)
-placed [] table tag e = cc
-placed (None ∷ listed) table zero e = cc
-placed (None ∷ listed) table (suc tag) e = later None listed table (position_or_len (is_table table) listed) (placed listed table tag e)
-placed (Some other ∷ listed) table tag e = ⊎_elim
+located : (listed : List (Option TableId)) (table : TableId) (tag : ℕ) → slice_get listed tag ≡ Some (Some table)
+    → IsLocated listed table (position_or_len (is_table table) listed)
+located [] table tag e = cc
+located (None ∷ listed) table zero e = cc
+located (None ∷ listed) table (suc tag) e = later None listed table (position_or_len (is_table table) listed) (located listed table tag e)
+located (Some other ∷ listed) table tag e = ⊎_elim
     (λ (t : is_table table (Some other) ≡ true).
     let equal : table_number table ≡ table_number other = grind (arith, nat_tests) in
-    subst (λ b. IsPlaced (Some other ∷ listed) table (cond (not b) (1 + position_or_len (is_table table) listed) 0)) (sym t)
+    subst (λ b. IsLocated (Some other ∷ listed) table (cond (not b) (1 + position_or_len (is_table table) listed) 0)) (sym t)
     (record { other = other; at = refl; number = equal }))
     (λ (f : is_table table (Some other) ≡ false).
-    subst (λ b. IsPlaced (Some other ∷ listed) table (cond (not b) (1 + position_or_len (is_table table) listed) 0)) (sym f)
-    (later (Some other) listed table (position_or_len (is_table table) listed) (behind tag (λ k h. placed listed table k h) e f)))
+    subst (λ b. IsLocated (Some other ∷ listed) table (cond (not b) (1 + position_or_len (is_table table) listed) 0)) (sym f)
+    (later (Some other) listed table (position_or_len (is_table table) listed) (behind tag (λ k h. located listed table k h) e f)))
     (cases_Bool (is_table table (Some other)))
   where
-    behind : (tag : ℕ) → ((k : ℕ) → slice_get listed k ≡ Some (Some table) → IsPlaced listed table (position_or_len (is_table table) listed))
+    behind : (tag : ℕ) → ((k : ℕ) → slice_get listed k ≡ Some (Some table) → IsLocated listed table (position_or_len (is_table table) listed))
         → slice_get (Some other ∷ listed) tag ≡ Some (Some table) → is_table table (Some other) ≡ false
-        → IsPlaced listed table (position_or_len (is_table table) listed)
-    behind zero rest e f =
+        → IsLocated listed table (position_or_len (is_table table) listed)
+    behind zero tail e f =
         let same : other ≡ table = cc in
         let equal = ap table_number same in
         let again : is_table table (Some other) ≡ true = grind (arith, nat_tests) in
         absurd (true≢false (sym again ∙ f))
-    behind (suc tag) rest e f = rest tag e
+    behind (suc tag) tail e f = tail tag e
 
 pub tag_is : KeysKnown → (coded : Coded) (table : TableId) (tag : ℕ) → slice_get (tables_of coded) tag ≡ Some (Some table)
     → position_or_len (is_table table) (tables_of coded) ≡ tag
 tag_is known coded table tag e =
-    let is = placed (tables_of coded) table tag e in
+    let is = located (tables_of coded) table tag e in
     let same = same_table known table is.other is.number in
     known.one coded _ tag table (is.at ∙ ap (λ (t : TableId). Some (Some t)) (sym same)) e
 
@@ -168,32 +168,32 @@ no_padding table column (inr coded) = ap is_padding coded.1
 
 module _ (known : KeysKnown) (source : Source) (model : Metadata)
     (counts : (table : TableId) → count_in model table ≡ rows_in source table)
-    (cells : (table : TableId) (row place : ℕ) → 1 ≤ row → row ≤ rows_in source table → place < cell_count table
-    → IsCell source table row place (cell_in model table row place)) where
-  pub key_is : (table : TableId) (key place row : ℕ) → key_of table ≡ Some key → IsKeyPlace table place → 1 ≤ row → row ≤ rows_in source table
-      → number_of source table row key ≡ key_in model table place row
-  key_is table key place row is at first last =
-      let same : column_of table place ≡ key = cc in
-      let stands = cells table row place first last at.within in
-      let plain = key_not_null table (column_of table place) at.key in
-      let stands_plain = subst (λ (n : Bool). StandsFor source (kind_at table place) n (start_of source table row (column_of table place))
-      (number_of source table row (column_of table place)) (cell_in model table row place)) plain stands in
-      subst (λ (c : ℕ). number_of source table row c ≡ key_in model table place row) same
-      (reference_key known source (kind_at table place) (start_of source table row (column_of table place))
-      (number_of source table row (column_of table place)) (cell_in model table row place) (known.reference table (column_of table place) at.key) stands_plain)
+    (cells : (table : TableId) (row cell_index : ℕ) → 1 ≤ row → row ≤ rows_in source table → cell_index < cell_count table
+    → IsCell source table row cell_index (cell_in model table row cell_index)) where
+  pub key_is : (table : TableId) (key cell_index row : ℕ) → key_of table ≡ Some key → IsKeyCell table cell_index → 1 ≤ row → row ≤ rows_in source table
+      → number_of source table row key ≡ key_in model table cell_index row
+  key_is table key cell_index row is at first last =
+      let same : column_of table cell_index ≡ key = cc in
+      let stands = cells table row cell_index first last at.within in
+      let plain = key_not_null table (column_of table cell_index) at.key in
+      let stands_plain = subst (λ (n : Bool). StandsFor source (kind_at table cell_index) n (start_of source table row (column_of table cell_index))
+      (number_of source table row (column_of table cell_index)) (cell_in model table row cell_index)) plain stands in
+      subst (λ (c : ℕ). number_of source table row c ≡ key_in model table cell_index row) same
+      (reference_key known source (kind_at table cell_index) (start_of source table row (column_of table cell_index))
+      (number_of source table row (column_of table cell_index)) (cell_in model table row cell_index) (known.reference table (column_of table cell_index) at.key) stands_plain)
 
   pub order_in_model : (table : TableId) (key : ℕ) → key_of table ≡ Some key → IsInOrder source table key → IsKeyOrdered model table
-  order_in_model table key is ordered = λ place row at second last.
+  order_in_model table key is ordered = λ offset row at second last.
       let here : row ≤ rows_in source table = omega (arith, counts table, last) in
-      let low = key_is table key place (row - 1) is at (omega arith) (omega arith) in
-      let high = key_is table key place row is at (omega arith) here in
+      let low = key_is table key offset (row - 1) is at (omega arith) (omega arith) in
+      let high = key_is table key offset row is at (omega arith) here in
       let up = ordered row second here in
       omega (arith, low, high, up)
 
   pub order_in_root : (table : TableId) (key : ℕ) → key_of table ≡ Some key → IsKeyOrdered model table → IsInOrder source table key
   order_in_root table key is ordered = λ row second last.
       let there = known.columns.cell table key (known.key table key is) (no_padding table key (known.reference table key is)) in
-      let at : IsKeyPlace table there.0 = record { within = there.1; key = is ∙ ap (λ (c : ℕ). Some c) (sym there.2) } in
+      let at : IsKeyCell table there.0 = record { within = there.1; key = is ∙ ap (λ (c : ℕ). Some c) (sym there.2) } in
       let low = key_is table key there.0 (row - 1) is at (omega arith) (omega arith) in
       let high = key_is table key there.0 row is at (omega arith) last in
       let up = ordered there.0 row at second (omega (arith, counts table, last)) in

@@ -1,7 +1,7 @@
 pub mod FileLemmas
 pub mod ItemLemmas
 pub mod ModelLemmas
-pub mod RuleLemmas
+pub mod RowRuleLemmas
 pub mod Sample
 pub mod StandsLemmas
 pub mod TableLemmas

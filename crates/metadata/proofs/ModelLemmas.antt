@@ -3,24 +3,24 @@ use Rattle.std.proofs.Common.{◌≡◌, ℕ, ◌+◌, ◌-◌, ◌^◌, ◌<◌
 use Rattle.std.specs.Option.{option_map}
 use Rattle.std.proofs.lemmas.Bool.{cases_lt}
 use Rattle.std.proofs.lemmas.List.{get_or-take, get_or-drop, get_or_past, length-take}
-use Rattle.packed.specs.Demand.{AllHold, raised}
-use Rattle.packed.specs.Places.{part}
-use Rattle.packed.proofs.DemandLemmas.{all_append, all_front, all_back, all_raised, all_lowered}
+use Rattle.packed.specs.Rule.{AllHold, rebased}
+use Rattle.packed.specs.Offsets.{part}
+use Rattle.packed.proofs.RuleLemmas.{all_append, all_prefix, all_back, all_rebased, all_lowered}
 use Rattle.root.specs.declared.kind.Kind.{Kind}
 use Rattle.root.specs.declared.kind.Kind.TheVariants.{Tables, UserStrings}
 use Rattle.root.specs.Streams.{Header, RootRead, named, stream_name}
 use Rattle.root.specs.Fields.{root_read}
 use Rattle.root.specs.Root.{IsRoot}
-use Rattle.root.specs.Demands.{demands_of_root}
-use Rattle.heap_entries.specs.Fill.{filled}
+use Rattle.root.specs.Rules.{rules_of_root}
+use Rattle.heap_entries.specs.Padding.{zero_padded}
 use Rattle.table_schema.specs.declared.table.TableId.{TableId}
 use Rattle.table_schema.specs.declared.table.TableId.TheVariants.{Module}
-use Rattle.table_schema.specs.Tables.{position_of, tables}
+use Rattle.table_schema.specs.Tables.{table_index_of, tables}
 use Rattle.schema.specs.Sizes.{Sizes}
 use Rattle.schema.specs.Header.{sizes_of}
 use Rattle.schema.specs.LaidOut.{IsLaidOut, IsTableStream}
 use Rattle.schema.specs.Cells.{numbers_at}
-use Rattle.schema.specs.Demands.{demands_of_stream}
+use Rattle.schema.specs.Rules.{rules_of_stream}
 use Rattle.metadata.specs.Cell.{Cell}
 use Rattle.metadata.specs.Cell.{Number}
 use Rattle.metadata.specs.Metadata.{Metadata, rows_of}
@@ -28,40 +28,40 @@ use Rattle.metadata.specs.Source.{Source, rows_in}
 use Rattle.metadata.specs.Streams.{stream_in, source_in}
 use Rattle.table_schema.specs.CellColumns.{cell_count}
 use Rattle.metadata.specs.Rows.{IsCell, IsRow, IsTable, IsTableAt, AreTables, table_at}
-use Rattle.metadata.specs.Rules.{AreByKey, AreOwned, AreNested}
+use Rattle.metadata.specs.RowRules.{AreByKey, AreOwned, AreNested}
 use Rattle.metadata.specs.Model.{IsModel}
-use Rattle.metadata.specs.Placed.{Placed, tables_in, tables_place, source_of, placed_at}
-use Rattle.metadata.specs.Demands.{demands_of_cells, demands_of_order, demands_of_runs, demands_of_nesting, demands_of_signatures, demands_of_tables, demands_of_metadata}
+use Rattle.metadata.specs.SourceAt.{SourceAt, tables_in, tables_offset, source_of, source_at}
+use Rattle.metadata.specs.Rules.{rules_of_cells, rules_of_order, rules_of_runs, rules_of_nesting, rules_of_signatures, rules_of_tables, rules_of_metadata}
 use Rattle.metadata.proofs.ItemLemmas.{items_length, item_at}
 use Rattle.metadata.proofs.StandsLemmas.{AreOne}
 use Rattle.metadata.proofs.TableLemmas.{HaveCells, tables_found, cells_met, signatures_met, tables_one}
-use Rattle.metadata.proofs.RuleLemmas.{order_found, order_met, runs_found, runs_met, nesting_found, nesting_met}
+use Rattle.metadata.proofs.RowRuleLemmas.{order_found, order_met, runs_found, runs_met, nesting_found, nesting_met}
 
 -- what is known of roots and table streams
 pub record AreRead : Type 0 where
-  pub root_demanded : (root version : List ℕ) (headers : List Header) → length root ≤ 2 ^ 30 → IsRoot root version headers → AllHold (demands_of_root root)
+  pub root_rules_hold : (root version : List ℕ) (headers : List Header) → length root ≤ 2 ^ 30 → IsRoot root version headers → AllHold (rules_of_root root)
   pub root_said : (root version : List ℕ) (headers : List Header) → length root ≤ 2 ^ 30 → IsRoot root version headers
       → root_read root ≡ record { bytes = root; version = version; headers = headers }
-  pub root_found : (root : List ℕ) → AllHold (demands_of_root root)
+  pub root_found : (root : List ℕ) → AllHold (rules_of_root root)
       → (length root ≤ 2 ^ 30) × IsRoot root (root_read root).version (root_read root).headers
-  pub stream_demanded : (stream : List ℕ) (sizes : Sizes) (numbers : List (List (List ℕ))) → IsLaidOut stream sizes numbers → AllHold (demands_of_stream stream)
+  pub stream_rules_hold : (stream : List ℕ) (sizes : Sizes) (numbers : List (List (List ℕ))) → IsLaidOut stream sizes numbers → AllHold (rules_of_stream stream)
   pub stream_said : (stream : List ℕ) (sizes : Sizes) (numbers : List (List (List ℕ))) → IsLaidOut stream sizes numbers → sizes ≡ sizes_of stream
-  pub stream_found : (stream : List ℕ) → ((k : ℕ) → slice_index stream k < 2 ^ 8) → AllHold (demands_of_stream stream) → IsTableStream stream (sizes_of stream)
+  pub stream_found : (stream : List ℕ) → ((k : ℕ) → slice_index stream k < 2 ^ 8) → AllHold (rules_of_stream stream) → IsTableStream stream (sizes_of stream)
   pub numbers_are : (stream : List ℕ) (sizes : Sizes) (numbers : List (List (List ℕ))) → IsLaidOut stream sizes numbers → numbers ≡ numbers_at stream sizes
   pub columns : HaveCells
 
 -- ---- the tables of a root
 
-pub demands_met : HaveCells → (here : Placed) (all : List (List (List Cell))) → AreTables here.source all → AreByKey here.source → AreOwned here.source
+pub rules_met : HaveCells → (here : SourceAt) (all : List (List (List Cell))) → AreTables here.source all → AreByKey here.source → AreOwned here.source
     → AreNested here.source
-    → AllHold (demands_of_tables here)
-unfolding demands_of_tables
-demands_met have here all cells ordered owned nested =
-    let order = demands_of_order here in
-    let runs = demands_of_runs here in
-    let nesting = demands_of_nesting here in
-    let signatures = demands_of_signatures here in
-    all_append (demands_of_cells here) (order ++ (runs ++ (nesting ++ signatures))) (cells_met have here all cells)
+    → AllHold (rules_of_tables here)
+unfolding rules_of_tables
+rules_met have here all cells ordered owned nested =
+    let order = rules_of_order here in
+    let runs = rules_of_runs here in
+    let nesting = rules_of_nesting here in
+    let signatures = rules_of_signatures here in
+    all_append (rules_of_cells here) (order ++ (runs ++ (nesting ++ signatures))) (cells_met have here all cells)
     (all_append order (runs ++ (nesting ++ signatures)) (order_met here ordered)
     (all_append runs (nesting ++ signatures) (runs_met here owned)
     (all_append nesting signatures (nesting_met here nested) (signatures_met have here all cells))))
@@ -74,23 +74,23 @@ pub record Fits (source : Source) : Type 0 where
   pub owned : AreOwned source
   pub nested : AreNested source
 
-pub demands_found : HaveCells → (here : Placed) → AllHold (demands_of_tables here) → Fits here.source
-unfolding demands_of_tables
-demands_found have here holds =
-    let order = demands_of_order here in
-    let runs = demands_of_runs here in
-    let nesting = demands_of_nesting here in
-    let signatures = demands_of_signatures here in
-    let behind = all_back (demands_of_cells here) (order ++ (runs ++ (nesting ++ signatures))) holds in
+pub rules_found : HaveCells → (here : SourceAt) → AllHold (rules_of_tables here) → Fits here.source
+unfolding rules_of_tables
+rules_found have here holds =
+    let order = rules_of_order here in
+    let runs = rules_of_runs here in
+    let nesting = rules_of_nesting here in
+    let signatures = rules_of_signatures here in
+    let behind = all_back (rules_of_cells here) (order ++ (runs ++ (nesting ++ signatures))) holds in
     let more = all_back order (runs ++ (nesting ++ signatures)) behind in
     let last = all_back runs (nesting ++ signatures) more in
-    let cells = tables_found have here (all_front (demands_of_cells here) (order ++ (runs ++ (nesting ++ signatures))) holds) (all_back nesting signatures last) in
+    let cells = tables_found have here (all_prefix (rules_of_cells here) (order ++ (runs ++ (nesting ++ signatures))) holds) (all_back nesting signatures last) in
     record {
       all = cells.0;
       cells = cells.1;
-      ordered = order_found here (all_front order (runs ++ (nesting ++ signatures)) behind);
-      owned = runs_found here (all_front runs (nesting ++ signatures) more);
-      nested = nesting_found here (all_front nesting signatures last);
+      ordered = order_found here (all_prefix order (runs ++ (nesting ++ signatures)) behind);
+      owned = runs_found here (all_prefix runs (nesting ++ signatures) more);
+      nested = nesting_found here (all_prefix nesting signatures last);
     }
 
 -- ---- what a model is read from
@@ -102,8 +102,8 @@ module _ (read : AreRead) (root : List ℕ) (model : Metadata) (is : IsModel roo
   pub version_read : model.version ≡ (root_read root).version
   version_read = ap (λ (d : RootRead). d.version) (sym (read.root_said root model.version is.headers is.small is.is_root))
 
-  pub user_read : model.user ≡ filled (stream_in root (root_read root).headers UserStrings)
-  user_read = is.user ∙ ap (λ (h : List Header). filled (stream_in root h UserStrings)) headers_same
+  pub user_read : model.user ≡ zero_padded (stream_in root (root_read root).headers UserStrings)
+  user_read = is.user ∙ ap (λ (h : List Header). zero_padded (stream_in root h UserStrings)) headers_same
 
   source_read : source_in root is.headers is.sizes is.numbers ≡ source_of root
   source_read =
@@ -131,26 +131,26 @@ module _ (read : AreRead) (root : List ℕ) (model : Metadata) (is : IsModel roo
   pub nested_read : AreNested (source_of root)
   nested_read = subst AreNested source_read is.nested
 
-  pub model_met : (place : ℕ) → AllHold (demands_of_metadata place root)
-  unfolding demands_of_metadata
-  model_met place =
-      let header = raised place (demands_of_root root) in
-      let stream = raised (place + tables_place root) (demands_of_stream (tables_in root)) in
-      let inside = demands_of_tables (placed_at place root) in
+  pub model_met : (offset : ℕ) → AllHold (rules_of_metadata offset root)
+  unfolding rules_of_metadata
+  model_met offset =
+      let header = rebased offset (rules_of_root root) in
+      let stream = rebased (offset + tables_offset root) (rules_of_stream (tables_in root)) in
+      let inside = rules_of_tables (source_at offset root) in
       let laid = stream_read in
-      all_append header (stream ++ inside) (all_raised place (demands_of_root root) (read.root_demanded root model.version is.headers is.small is.is_root))
+      all_append header (stream ++ inside) (all_rebased offset (rules_of_root root) (read.root_rules_hold root model.version is.headers is.small is.is_root))
       (all_append stream inside
-      (all_raised (place + tables_place root) (demands_of_stream (tables_in root)) (read.stream_demanded (tables_in root) (source_of root).sizes laid.0 laid.1))
-      (demands_met read.columns (placed_at place root) model.tables cells_read ordered_read owned_read nested_read))
+      (all_rebased (offset + tables_offset root) (rules_of_stream (tables_in root)) (read.stream_rules_hold (tables_in root) (source_of root).sizes laid.0 laid.1))
+      (rules_met read.columns (source_at offset root) model.tables cells_read ordered_read owned_read nested_read))
 
   -- the rows of a table
-  pub table_read : ((table : TableId) → position_of table < 38) → ((table : TableId) → slice_index_or tables (position_of table) Module ≡ table)
+  pub table_read : ((table : TableId) → table_index_of table < 38) → ((table : TableId) → slice_index_or tables (table_index_of table) Module ≡ table)
       → (table : TableId)
       → IsTable (source_of root) table (rows_of model table)
   unfolding IsTableAt
   table_read below stand table =
-      let rows = item_at (IsTableAt (source_of root)) 0 38 model.tables cells_read (position_of table) [] (below table) in
-      let here : 0 + position_of table ≡ position_of table = omega arith in
+      let rows = item_at (IsTableAt (source_of root)) 0 38 model.tables cells_read (table_index_of table) [] (below table) in
+      let here : 0 + table_index_of table ≡ table_index_of table = omega arith in
       subst (λ (t : TableId). IsTable (source_of root) t (rows_of model table)) (ap table_at here ∙ stand table) rows
 
 pub tables_long : AreRead → (root : List ℕ) (model : Metadata) → IsModel root model → length model.tables ≡ 38
@@ -169,26 +169,26 @@ rows_long source table rows is row first last =
     let row_stands = item_at (IsRow source table) 1 (rows_in source table) rows is (row - 1) [] (omega arith) in
     items_length (IsCell source table row) 0 (cell_count table) cells (subst (λ (r : ℕ). IsRow source table r cells) there row_stands)
 
-pub rows_cell : (source : Source) (table : TableId) (rows : List (List Cell)) → IsTable source table rows → (row place : ℕ) → 1 ≤ row
-    → row ≤ rows_in source table → place < cell_count table
-    → IsCell source table row place (slice_index_or (slice_index_or rows (row - 1) []) place (Number 0))
+pub rows_cell : (source : Source) (table : TableId) (rows : List (List Cell)) → IsTable source table rows → (row cell_index : ℕ) → 1 ≤ row
+    → row ≤ rows_in source table → cell_index < cell_count table
+    → IsCell source table row cell_index (slice_index_or (slice_index_or rows (row - 1) []) cell_index (Number 0))
 unfolding IsTable IsRow
-rows_cell source table rows is row place first last within =
+rows_cell source table rows is row cell_index first last within =
     let cells = slice_index_or rows (row - 1) [] in
     let there : 1 + (row - 1) ≡ row = omega arith in
-    let here : 0 + place ≡ place = omega arith in
+    let here : 0 + cell_index ≡ cell_index = omega arith in
     let row_stands = item_at (IsRow source table) 1 (rows_in source table) rows is (row - 1) [] (omega arith) in
     let row_is = subst (λ (r : ℕ). IsRow source table r cells) there row_stands in
-    let cell_stands = item_at (IsCell source table row) 0 (cell_count table) cells row_is place (Number 0) within in
-    subst (λ (p : ℕ). IsCell source table row p (slice_index_or cells place (Number 0))) here cell_stands
+    let cell_stands = item_at (IsCell source table row) 0 (cell_count table) cells row_is cell_index (Number 0) within in
+    subst (λ (p : ℕ). IsCell source table row p (slice_index_or cells cell_index (Number 0))) here cell_stands
 
 -- ---- bytes
 
-pub part_bytes : (bytes : List ℕ) (place count : ℕ) → ((k : ℕ) → slice_index bytes k < 2 ^ 8) → (k : ℕ) → slice_index (part bytes place count) k < 2 ^ 8
-part_bytes bytes place count each k =
+pub part_bytes : (bytes : List ℕ) (offset count : ℕ) → ((k : ℕ) → slice_index bytes k < 2 ^ 8) → (k : ℕ) → slice_index (part bytes offset count) k < 2 ^ 8
+part_bytes bytes offset count each k =
     elim (cases_lt k count) [
-      | inl below ↦ let here = each (place + k) in rw (get_or-take count (drop place bytes) k 0 below, get_or-drop place bytes k 0) here
-      | inr past ↦ rw (get_or_past (part bytes place count) k 0 (omega (arith, length-take count (drop place bytes)))) (omega arith)
+      | inl below ↦ let here = each (offset + k) in rw (get_or-take count (drop offset bytes) k 0 below, get_or-drop offset bytes k 0) here
+      | inr past ↦ rw (get_or_past (part bytes offset count) k 0 (omega (arith, length-take count (drop offset bytes)))) (omega arith)
     ]
 
 option_bytes : (bytes : List ℕ) → ((k : ℕ) → slice_index bytes k < 2 ^ 8) → (header : Option Header) (k : ℕ)
@@ -202,21 +202,21 @@ stream_bytes root headers kind each k = option_bytes root each (named (stream_na
 
 -- ---- the whole
 
-pub model_found : AreRead → (place : ℕ) (root : List ℕ) → ((k : ℕ) → slice_index root k < 2 ^ 8) → AllHold (demands_of_metadata place root)
+pub model_found : AreRead → (offset : ℕ) (root : List ℕ) → ((k : ℕ) → slice_index root k < 2 ^ 8) → AllHold (rules_of_metadata offset root)
     → (model : Metadata) × IsModel root model
-unfolding demands_of_metadata
-model_found read place root each holds =
-    let header = raised place (demands_of_root root) in
-    let stream = raised (place + tables_place root) (demands_of_stream (tables_in root)) in
-    let inside = demands_of_tables (placed_at place root) in
+unfolding rules_of_metadata
+model_found read offset root each holds =
+    let header = rebased offset (rules_of_root root) in
+    let stream = rebased (offset + tables_offset root) (rules_of_stream (tables_in root)) in
+    let inside = rules_of_tables (source_at offset root) in
     let headers = (root_read root).headers in
-    let is = read.root_found root (all_lowered place (demands_of_root root) (all_front header (stream ++ inside) holds)) in
-    let rest = all_back header (stream ++ inside) holds in
-    let stream_holds = all_lowered (place + tables_place root) (demands_of_stream (tables_in root)) (all_front stream inside rest) in
+    let is = read.root_found root (all_lowered offset (rules_of_root root) (all_prefix header (stream ++ inside) holds)) in
+    let tail = all_back header (stream ++ inside) holds in
+    let stream_holds = all_lowered (offset + tables_offset root) (rules_of_stream (tables_in root)) (all_prefix stream inside tail) in
     let laid = read.stream_found (tables_in root) (stream_bytes root headers Tables each) stream_holds in
     let sizes = sizes_of (tables_in root) in
-    let fits = demands_found read.columns (placed_at place root) (all_back stream inside rest) in (
-      record { version = (root_read root).version; user = filled (stream_in root headers UserStrings); tables = fits.all },
+    let fits = rules_found read.columns (source_at offset root) (all_back stream inside tail) in (
+      record { version = (root_read root).version; user = zero_padded (stream_in root headers UserStrings); tables = fits.all },
       record {
         small = is.0;
         headers = headers;

@@ -123,16 +123,16 @@ module _ (known : KeysKnown) where
       let P : ColumnKind → Type 0 = λ k. IsOfKind k cell in
       coded_reference coded cell (subst P is taken)
 
-  tells_reference : (k : ColumnKind) → NamesRows k → (token : Token) → 1 ≤ token.row → Takes k token → (reference : Option Token)
+  reports_reference : (k : ColumnKind) → NamesRows k → (token : Token) → 1 ≤ token.row → Takes k token → (reference : Option Token)
       → IsOfKind k (says.Ref reference) → key_number k (says.Ref reference) ≡ row_number k token → says.Ref reference ≡ says.Ref (Some token)
-  tells_reference k names token there takes None taken same = absurd (let some = number_some k names token there in omega arith)
-  tells_reference k names token there takes (Some other) taken same = ap (λ t. says.Ref (Some t)) (same_token k names other token taken takes same)
+  reports_reference k names token there takes None taken same = absurd (let some = number_some k names token there in omega arith)
+  reports_reference k names token there takes (Some other) taken same = ap (λ t. says.Ref (Some t)) (same_token k names other token taken takes same)
 
   -- a cell whose key number is that of a row is a reference to the row
-  pub tells_key : (k : ColumnKind) → NamesRows k → (token : Token) → 1 ≤ token.row → Takes k token → (cell : says.Cell) → IsOfKind k cell
+  pub reports_key : (k : ColumnKind) → NamesRows k → (token : Token) → 1 ≤ token.row → Takes k token → (cell : says.Cell) → IsOfKind k cell
       → key_number k cell ≡ row_number k token → cell ≡ says.Ref (Some token)
-  tells_key k names token there takes cell taken same =
+  reports_key k names token there takes cell taken same =
       let is = reference_there k names cell taken in
       let P : says.Cell → Type 0 = λ c. IsOfKind k c in
       let Q : says.Cell → Type 0 = λ c. key_number k c ≡ row_number k token in
-      is.1 ∙ tells_reference k names token there takes is.0 (subst P is.1 taken) (subst Q is.1 same)
+      is.1 ∙ reports_reference k names token there takes is.0 (subst P is.1 taken) (subst Q is.1 same)

@@ -1,10 +1,10 @@
 -- All rules for tables hold if and only if they are those of a valid model.
 use Rattle.std.proofs.Common.{◌≡◌, ℕ, ◌-◌, ◌<◌, ◌≤◌, ◌++◌, length, get_or, subst, arith}
-use Rattle.packed.specs.Demand.{AllHold}
-use Rattle.packed.proofs.DemandLemmas.{all_append, all_front, all_back, each_holds, all_of_each}
+use Rattle.packed.specs.Rule.{AllHold}
+use Rattle.packed.proofs.RuleLemmas.{all_append, all_prefix, all_back, each_holds, all_of_each}
 use Rattle.table_schema.specs.declared.table.TableId.{TableId}
 use Rattle.table_schema.specs.declared.table.TableId.TheVariants.{Module, TypeDef, Field, MethodDef, Param, EventMap, Event, PropertyMap, Property, NestedClass}
-use Rattle.table_schema.specs.Tables.{tables, position_of}
+use Rattle.table_schema.specs.Tables.{tables, table_index_of}
 use Rattle.table_schema.specs.CellColumns.{cell_count}
 use Rattle.metadata.specs.Metadata.{Metadata, row_of, count_in, cell_in}
 use Rattle.metadata.specs.Lookups.{HasRow}
@@ -14,40 +14,40 @@ use Rattle.metadata.specs.Refusals.{refusals_of_count, refusals_of_counts, refus
 
 -- each table is at its table index
 pub record TablesStand : Type 0 where
-  pub position : (table : TableId) → position_of table < 38
-  pub stand : (table : TableId) → get_or tables (position_of table) Module ≡ table
+  pub table_index : (table : TableId) → table_index_of table < 38
+  pub stand : (table : TableId) → get_or tables (table_index_of table) Module ≡ table
 
 each_table : TablesStand → (P : TableId → Type 0) → ((j : ℕ) → j < 38 → P (table_at j)) → (table : TableId) → P table
-each_table stands P each table = subst P (stands.stand table) (each (position_of table) (stands.position table))
+each_table stands P each table = subst P (stands.stand table) (each (table_index_of table) (stands.table_index table))
 
 -- the rules for a cell
 abbrev CellHolds : Metadata → TableId → ℕ → ℕ → Type 0
-CellHolds model table row place = AllHold (refusals_of_cell model table row place) × AllHold (refusals_of_signature model table row place)
+CellHolds model table row cell_index = AllHold (refusals_of_cell model table row cell_index) × AllHold (refusals_of_signature model table row cell_index)
 
-cell_found : (model : Metadata) (table : TableId) (row place : ℕ) → CellHolds model table row place → IsValidAt model table place (cell_in model table row place)
+cell_found : (model : Metadata) (table : TableId) (row cell_index : ℕ) → CellHolds model table row cell_index → IsValidAt model table cell_index (cell_in model table row cell_index)
 unfolding refusals_of_cell refusals_of_signature
-cell_found model table row place holds =
+cell_found model table row cell_index holds =
     record { of_kind = holds.0.0.0; storable = holds.0.0.1; refers = holds.0.1.0; within = holds.0.1.1.0; held = holds.1.0; types = holds.1.1.0 }
 
-cell_met : (model : Metadata) (table : TableId) (row place : ℕ) → IsValidAt model table place (cell_in model table row place) → CellHolds model table row place
+cell_met : (model : Metadata) (table : TableId) (row cell_index : ℕ) → IsValidAt model table cell_index (cell_in model table row cell_index) → CellHolds model table row cell_index
 unfolding refusals_of_cell refusals_of_signature
-cell_met model table row place is = (((is.of_kind, is.storable), (is.refers, (is.within, tt))), (is.held, (is.types, tt)))
+cell_met model table row cell_index is = (((is.of_kind, is.storable), (is.refers, (is.within, tt))), (is.held, (is.types, tt)))
 
 -- the properties of a table's rows
 abbrev RowsAre : Metadata → TableId → Type 0
 RowsAre model table = (row : ℕ) → HasRow model table row
-    → (length (row_of model table row) ≡ cell_count table) × ((place : ℕ) → place < cell_count table → IsValidAt model table place (cell_in model table row place))
+    → (length (row_of model table row) ≡ cell_count table) × ((cell_index : ℕ) → cell_index < cell_count table → IsValidAt model table cell_index (cell_in model table row cell_index))
 
 rows_found : (model : Metadata) (j : ℕ) → AllHold (refusals_of_table_at model j) → AllHold (refusals_of_signatures_at model j) → RowsAre model (table_at j)
 unfolding refusals_of_table_at refusals_of_row refusals_of_signatures_at refusals_of_signatures_in
-rows_found model j cells spelled row there =
+rows_found model j cells encoded row there =
     let table = table_at j in
     let here = each_holds (refusals_of_row model table) 1 (count_in model table) cells row there.0 (omega (arith, there.1)) in
-    let signed = each_holds (refusals_of_signatures_in model table) 1 (count_in model table) spelled row there.0 (omega (arith, there.1)) in (
+    let signed = each_holds (refusals_of_signatures_in model table) 1 (count_in model table) encoded row there.0 (omega (arith, there.1)) in (
       here.0,
-      λ place below. cell_found model table row place (
-        each_holds (refusals_of_cell model table row) 0 (cell_count table) here.1 place (omega arith) (omega arith),
-        each_holds (refusals_of_signature model table row) 0 (cell_count table) signed place (omega arith) (omega arith),
+      λ cell_index below. cell_found model table row cell_index (
+        each_holds (refusals_of_cell model table row) 0 (cell_count table) here.1 cell_index (omega arith) (omega arith),
+        each_holds (refusals_of_signature model table row) 0 (cell_count table) signed cell_index (omega arith) (omega arith),
       ),
     )
 
@@ -59,7 +59,7 @@ cells_met model j are =
     let row_is = are row (low, omega arith) in (
       row_is.0,
       all_of_each (refusals_of_cell model table row) 0 (cell_count table)
-          (λ place least below. (cell_met model table row place (row_is.1 place (omega arith))).0),
+          (λ cell_index least below. (cell_met model table row cell_index (row_is.1 cell_index (omega arith))).0),
     ))
 
 signatures_met : (model : Metadata) (j : ℕ) → RowsAre model (table_at j) → AllHold (refusals_of_signatures_at model j)
@@ -69,28 +69,28 @@ signatures_met model j are =
     all_of_each (refusals_of_signatures_in model table) 1 (count_in model table) (λ row low high.
     let row_is = are row (low, omega arith) in
     all_of_each (refusals_of_signature model table row) 0 (cell_count table)
-    (λ place least below. (cell_met model table row place (row_is.1 place (omega arith))).1))
+    (λ cell_index least below. (cell_met model table row cell_index (row_is.1 cell_index (omega arith))).1))
 
 -- the runs of members
 
-run_found : (model : Metadata) (owner : TableId) (place : ℕ) (member : TableId) → AllHold (refusals_of_run model owner place member)
-    → HasOwners model owner place member
+run_found : (model : Metadata) (owner : TableId) (cell_index : ℕ) (member : TableId) → AllHold (refusals_of_run model owner cell_index member)
+    → HasOwners model owner cell_index member
 unfolding refusals_of_run refusals_of_start
-run_found model owner place member holds = record {
+run_found model owner cell_index member holds = record {
   ownerless = holds.0;
   first = holds.1.0;
   rising = λ row second last.
-      (each_holds (refusals_of_start model owner place) 2 (count_in model owner - 1) holds.1.1 row second (omega arith)).0;
+      (each_holds (refusals_of_start model owner cell_index) 2 (count_in model owner - 1) holds.1.1 row second (omega arith)).0;
 }
 
-run_met : (model : Metadata) (owner : TableId) (place : ℕ) (member : TableId) → HasOwners model owner place member
-    → AllHold (refusals_of_run model owner place member)
+run_met : (model : Metadata) (owner : TableId) (cell_index : ℕ) (member : TableId) → HasOwners model owner cell_index member
+    → AllHold (refusals_of_run model owner cell_index member)
 unfolding refusals_of_run refusals_of_start
-run_met model owner place member owned = (
+run_met model owner cell_index member owned = (
   owned.ownerless,
   (
     owned.first,
-    all_of_each (refusals_of_start model owner place) 2 (count_in model owner - 1) (λ row low high. (owned.rising row low (omega arith), tt)),
+    all_of_each (refusals_of_start model owner cell_index) 2 (count_in model owner - 1) (λ row low high. (owned.rising row low (omega arith), tt)),
   ),
 )
 
@@ -108,12 +108,12 @@ module _ (stands : TablesStand) (model : Metadata) where
 
   tables_found : AllHold (refusals_of_cells model) → AllHold (refusals_of_signatures model) → (table : TableId) → RowsAre model table
   unfolding refusals_of_cells refusals_of_signatures
-  tables_found cells spelled = each_table stands (RowsAre model) (λ j below. rows_found model j
+  tables_found cells encoded = each_table stands (RowsAre model) (λ j below. rows_found model j
       (each_holds (refusals_of_table_at model) 0 38 cells j (omega arith) (omega arith))
-      (each_holds (refusals_of_signatures_at model) 0 38 spelled j (omega arith) (omega arith)))
+      (each_holds (refusals_of_signatures_at model) 0 38 encoded j (omega arith) (omega arith)))
 
   rows_are : IsValid model → (table : TableId) → RowsAre model table
-  rows_are valid table row there = (valid.long table row there, λ place below. valid.cells table row place there below)
+  rows_are valid table row there = (valid.long table row there, λ cell_index below. valid.cells table row cell_index there below)
 
   nesting_found : AllHold (refusals_of_nesting model) → (row : ℕ) → HasRow model NestedClass row → IsBehind model row
   unfolding refusals_of_nesting refusals_of_nesting_in
@@ -136,24 +136,24 @@ module _ (stands : TablesStand) (model : Metadata) where
       let behind_counts = all_back counts (cells ++ (runs ++ (nesting ++ signatures))) all.1.1 in
       let behind_cells = all_back cells (runs ++ (nesting ++ signatures)) behind_counts in
       let behind_runs = all_back runs (nesting ++ signatures) behind_cells in
-      let run_all = all_front runs (nesting ++ signatures) behind_cells in
+      let run_all = all_prefix runs (nesting ++ signatures) behind_cells in
       let run_methods = all_back fields (methods ++ (params ++ (events ++ properties))) run_all in
       let run_params = all_back methods (params ++ (events ++ properties)) run_methods in
       let run_events = all_back params (events ++ properties) run_params in
-      let rows = tables_found (all_front cells (runs ++ (nesting ++ signatures)) behind_counts) (all_back nesting signatures behind_runs) in
+      let rows = tables_found (all_prefix cells (runs ++ (nesting ++ signatures)) behind_counts) (all_back nesting signatures behind_runs) in
       record {
         version = all.0;
         user = all.1.0;
         tables = long;
-        few = few_found (all_front counts (cells ++ (runs ++ (nesting ++ signatures))) all.1.1);
+        few = few_found (all_prefix counts (cells ++ (runs ++ (nesting ++ signatures))) all.1.1);
         long = λ table row there. (rows table row there).0;
-        cells = λ table row place there below. (rows table row there).1 place below;
-        fields = run_found model TypeDef 4 Field (all_front fields (methods ++ (params ++ (events ++ properties))) run_all);
-        methods = run_found model TypeDef 5 MethodDef (all_front methods (params ++ (events ++ properties)) run_methods);
-        params = run_found model MethodDef 5 Param (all_front params (events ++ properties) run_params);
-        events = run_found model EventMap 1 Event (all_front events properties run_events);
+        cells = λ table row cell_index there below. (rows table row there).1 cell_index below;
+        fields = run_found model TypeDef 4 Field (all_prefix fields (methods ++ (params ++ (events ++ properties))) run_all);
+        methods = run_found model TypeDef 5 MethodDef (all_prefix methods (params ++ (events ++ properties)) run_methods);
+        params = run_found model MethodDef 5 Param (all_prefix params (events ++ properties) run_params);
+        events = run_found model EventMap 1 Event (all_prefix events properties run_events);
         properties = run_found model PropertyMap 1 Property (all_back events properties run_events);
-        nested = nesting_found (all_front nesting signatures behind_runs);
+        nested = nesting_found (all_prefix nesting signatures behind_runs);
       }
 
   pub valid_met : IsValid model → AllHold (refusals_of model)

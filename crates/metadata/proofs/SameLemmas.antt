@@ -3,7 +3,7 @@ use Rattle.std.proofs.Common.{◌≡◌, ℕ, zero, suc, ◌+◌, ◌-◌, ◌<�
 use Rattle.std.proofs.lemmas.List.{get_or-map}
 use Rattle.table_schema.specs.declared.table.TableId.{TableId}
 use Rattle.table_schema.specs.declared.table.TableId.TheVariants.{Module}
-use Rattle.table_schema.specs.Tables.{tables, position_of}
+use Rattle.table_schema.specs.Tables.{tables, table_index_of}
 use Rattle.metadata.specs.Cell.{Cell, Number}
 use Rattle.metadata.specs.Metadata.{Metadata, rows_of, row_of}
 use Rattle.metadata.specs.Lookups.{HasRow}
@@ -30,20 +30,20 @@ count_up_at from zero k below = absurd (omega arith)
 count_up_at from (suc n) zero below = omega arith
 count_up_at from (suc n) (suc k) below = count_up_at (suc from) n k (omega arith) ∙ omega arith
 
-positions : map position_of tables ≡ count_up 0 38
+table_indexes : map table_index_of tables ≡ count_up 0 38
 unfolding tables
-positions = refl
+table_indexes = refl
 
 -- a table is found by its table index
-pub position_at : length tables ≡ 38 → (k : ℕ) → k < 38 → position_of (table_at k) ≡ k
-position_at count k below =
-    sym (get_or-map position_of tables k Module 0 (omega (arith, count))) ∙ ap (λ (l : List ℕ). get_or l k 0) positions ∙ count_up_at 0 38 k below
+pub table_index_at : length tables ≡ 38 → (k : ℕ) → k < 38 → table_index_of (table_at k) ≡ k
+table_index_at count k below =
+    sym (get_or-map table_index_of tables k Module 0 (omega (arith, count))) ∙ ap (λ (l : List ℕ). get_or l k 0) table_indexes ∙ count_up_at 0 38 k below
     ∙ omega arith
 
-module _ (stand : (j : ℕ) → j < 38 → position_of (table_at j) ≡ j) (model other : Metadata) (same : SaysSame model other) where
+module _ (stand : (j : ℕ) → j < 38 → table_index_of (table_at j) ≡ j) (model other : Metadata) (same : SaysSame model other) where
   row_one : (table : TableId) (row : ℕ) → HasRow model table row → row_of model table row ≡ row_of other table row
   row_one table row there =
-      lists_one (Number 0) (row_of model table row) (row_of other table row) (same.long table row there) (λ place below. same.cells table row place there below)
+      lists_one (Number 0) (row_of model table row) (row_of other table row) (same.long table row there) (λ cell_index below. same.cells table row cell_index there below)
 
   rows_one : (table : TableId) → rows_of model table ≡ rows_of other table
   rows_one table =

@@ -3,7 +3,7 @@ use Rattle.std.proofs.Common.{◌≡◌, ℕ, ◌^◌, ◌≤◌, length, Bool, 
 use Rattle.std.specs.List.{slice_get}
 use Rattle.std.proofs.lemmas.Nat.{same_from_place}
 use Rattle.std.proofs.lemmas.Option.{slice_get_within}
-use Rattle.packed.specs.Demand.{AllHold}
+use Rattle.packed.specs.Rule.{AllHold}
 use Rattle.table_schema.specs.declared.table.TableId.{TableId}
 use Rattle.table_schema.specs.declared.token.Token.{Token}
 use Rattle.table_schema.specs.declared.coded.Coded.{Coded}
@@ -12,15 +12,15 @@ use Rattle.table_schema.specs.declared.column.ColumnKind.{ColumnKind}
 use Rattle.table_schema.specs.declared.column.ColumnKind.TheVariants as kind
 use Rattle.table_schema.specs.CodedIndexes.{tables_of, tag_bits, IsCoded}
 use Rattle.heap_entries.specs.Entries.{IsText, IsBlob, IsGuid}
-use Rattle.heap_entries.specs.Demands.{demands_of_text}
+use Rattle.heap_entries.specs.Rules.{rules_of_text}
 use Rattle.sig_grammar.specs.Syntax.{Body}
-use Rattle.sig_grammar.specs.Spells.{Spells}
+use Rattle.sig_grammar.specs.Encodes.{Encodes}
 use Rattle.metadata.specs.Cell.{Cell}
 use Rattle.metadata.specs.Cell.{Number, Text, Bytes, Guid, Ref, Start, Sig}
 use Rattle.metadata.specs.Source.{Source}
 use Rattle.metadata.specs.Stands.{Refers, StandsFor}
 use Rattle.table_schema.specs.CellColumns.{is_padding}
-use Rattle.metadata.specs.Demands.{MayRefer, demands_of_number, demands_of_spelling}
+use Rattle.metadata.specs.Rules.{MayRefer, rules_of_number, rules_of_encoding}
 
 -- references
 
@@ -45,75 +45,75 @@ same_token a b tables rows =
 
 -- texts
 
-text_met : (heap : List ℕ) (index place : ℕ) (text : List ℕ) → IsText heap index text → AllHold (demands_of_text heap index place)
-text_met heap index place text (inl none) = (inl none.0, ((text, inl none), tt))
-text_met heap index place text (inr some) = (inr (text, some.1), ((text, inr some), tt))
+text_met : (heap : List ℕ) (index offset : ℕ) (text : List ℕ) → IsText heap index text → AllHold (rules_of_text heap index offset)
+text_met heap index offset text (inl none) = (inl none.0, ((text, inl none), tt))
+text_met heap index offset text (inr some) = (inr (text, some.1), ((text, inr some), tt))
 
 -- numbers
 
-pub stands_found : (source : Source) (kind : ColumnKind) (nullable : Bool) (start : TableId → ℕ) (number place other : ℕ) → is_padding kind ≡ false
-    → AllHold (demands_of_number source kind nullable number place) → AllHold (demands_of_spelling source kind number other)
+pub stands_found : (source : Source) (kind : ColumnKind) (nullable : Bool) (start : TableId → ℕ) (number offset other : ℕ) → is_padding kind ≡ false
+    → AllHold (rules_of_number source kind nullable number offset) → AllHold (rules_of_encoding source kind number other)
     → (cell : Cell) × StandsFor source kind nullable start number cell
-stands_found source kind.U8 nullable start number place other cell all spelled = (Number number, refl)
-stands_found source kind.U16 nullable start number place other cell all spelled = (Number number, refl)
-stands_found source kind.U32 nullable start number place other cell all spelled = (Number number, refl)
-stands_found source kind.Padding nullable start number place other cell all spelled = absurd cc
-stands_found source kind.Text nullable start number place other cell all spelled = let text = all.1.0 in (Text text.0, (text.0, text.1, refl))
-stands_found source kind.Guid nullable start number place other cell all spelled = let guid = all.0 in (Guid guid.0, (guid.0, guid.1, refl))
-stands_found source kind.Blob nullable start number place other cell all spelled = let blob = all.0 in (Bytes blob.0, (blob.0, blob.1, refl))
-stands_found source (kind.Signature column) nullable start number place other cell all spelled =
-    let has = spelled.1.0 in (Sig has.1, (has.0, has.1, has.2, has.3, has.4, refl))
-stands_found source (kind.Row table) nullable start number place other cell all spelled =
+stands_found source kind.U8 nullable start number offset other cell all encoded = (Number number, refl)
+stands_found source kind.U16 nullable start number offset other cell all encoded = (Number number, refl)
+stands_found source kind.U32 nullable start number offset other cell all encoded = (Number number, refl)
+stands_found source kind.Padding nullable start number offset other cell all encoded = absurd cc
+stands_found source kind.Text nullable start number offset other cell all encoded = let text = all.1.0 in (Text text.0, (text.0, text.1, refl))
+stands_found source kind.Guid nullable start number offset other cell all encoded = let guid = all.0 in (Guid guid.0, (guid.0, guid.1, refl))
+stands_found source kind.Blob nullable start number offset other cell all encoded = let blob = all.0 in (Bytes blob.0, (blob.0, blob.1, refl))
+stands_found source (kind.Signature column) nullable start number offset other cell all encoded =
+    let has = encoded.1.0 in (Sig has.1, (has.0, has.1, has.2, has.3, has.4, refl))
+stands_found source (kind.Row table) nullable start number offset other cell all encoded =
     refers_found source nullable (record { table = table; row = number }) all.0
-stands_found source (kind.Coded coded) nullable start number place other cell all spelled =
+stands_found source (kind.Coded coded) nullable start number offset other cell all encoded =
     let some = all.1.0 in
     let found = refers_found source nullable some.0 some.2 in
     (found.0, (some.0, some.1, found.1))
-stands_found source (kind.List member) nullable start number place other cell all spelled = (Start (start member), (all.0, refl))
+stands_found source (kind.List member) nullable start number offset other cell all encoded = (Start (start member), (all.0, refl))
 
-pub number_met : (source : Source) (kind : ColumnKind) (nullable : Bool) (start : TableId → ℕ) (number place : ℕ) (cell : Cell)
-    → StandsFor source kind nullable start number cell → AllHold (demands_of_number source kind nullable number place)
-number_met source kind.U8 nullable start number place cell is = tt
-number_met source kind.U16 nullable start number place cell is = tt
-number_met source kind.U32 nullable start number place cell is = tt
-number_met source kind.Padding nullable start number place cell is = tt
-number_met source kind.Text nullable start number place cell is = text_met source.texts number place is.0 is.1
-number_met source kind.Guid nullable start number place cell is = ((is.0, is.1), tt)
-number_met source kind.Blob nullable start number place cell is = ((is.0, is.1), tt)
-number_met source (kind.Signature column) nullable start number place cell is = ((is.0, is.2), tt)
-number_met source (kind.Row table) nullable start number place cell is = (refers_met source nullable (record { table = table; row = number }) cell is, tt)
-number_met source (kind.Coded coded) nullable start number place cell is = ((is.0, is.1), ((is.0, is.1, refers_met source nullable is.0 cell is.2), tt))
-number_met source (kind.List member) nullable start number place cell is = (is.0, tt)
+pub number_met : (source : Source) (kind : ColumnKind) (nullable : Bool) (start : TableId → ℕ) (number offset : ℕ) (cell : Cell)
+    → StandsFor source kind nullable start number cell → AllHold (rules_of_number source kind nullable number offset)
+number_met source kind.U8 nullable start number offset cell is = tt
+number_met source kind.U16 nullable start number offset cell is = tt
+number_met source kind.U32 nullable start number offset cell is = tt
+number_met source kind.Padding nullable start number offset cell is = tt
+number_met source kind.Text nullable start number offset cell is = text_met source.texts number offset is.0 is.1
+number_met source kind.Guid nullable start number offset cell is = ((is.0, is.1), tt)
+number_met source kind.Blob nullable start number offset cell is = ((is.0, is.1), tt)
+number_met source (kind.Signature column) nullable start number offset cell is = ((is.0, is.2), tt)
+number_met source (kind.Row table) nullable start number offset cell is = (refers_met source nullable (record { table = table; row = number }) cell is, tt)
+number_met source (kind.Coded coded) nullable start number offset cell is = ((is.0, is.1), ((is.0, is.1, refers_met source nullable is.0 cell is.2), tt))
+number_met source (kind.List member) nullable start number offset cell is = (is.0, tt)
 
-pub spelling_met : (source : Source) (kind : ColumnKind) (nullable : Bool) (start : TableId → ℕ) (number place : ℕ) (cell : Cell)
-    → StandsFor source kind nullable start number cell → AllHold (demands_of_spelling source kind number place)
-spelling_met source kind.U8 nullable start number place cell is = tt
-spelling_met source kind.U16 nullable start number place cell is = tt
-spelling_met source kind.U32 nullable start number place cell is = tt
-spelling_met source kind.Padding nullable start number place cell is = tt
-spelling_met source kind.Text nullable start number place cell is = tt
-spelling_met source kind.Guid nullable start number place cell is = tt
-spelling_met source kind.Blob nullable start number place cell is = tt
-spelling_met source (kind.Signature column) nullable start number place cell is =
+pub encoding_met : (source : Source) (kind : ColumnKind) (nullable : Bool) (start : TableId → ℕ) (number offset : ℕ) (cell : Cell)
+    → StandsFor source kind nullable start number cell → AllHold (rules_of_encoding source kind number offset)
+encoding_met source kind.U8 nullable start number offset cell is = tt
+encoding_met source kind.U16 nullable start number offset cell is = tt
+encoding_met source kind.U32 nullable start number offset cell is = tt
+encoding_met source kind.Padding nullable start number offset cell is = tt
+encoding_met source kind.Text nullable start number offset cell is = tt
+encoding_met source kind.Guid nullable start number offset cell is = tt
+encoding_met source kind.Blob nullable start number offset cell is = tt
+encoding_met source (kind.Signature column) nullable start number offset cell is =
     ((is.0, is.1, is.2, is.3, tt), ((is.0, is.1, is.2, is.3, is.4), tt))
-spelling_met source (kind.Row table) nullable start number place cell is = tt
-spelling_met source (kind.Coded coded) nullable start number place cell is = tt
-spelling_met source (kind.List member) nullable start number place cell is = tt
+encoding_met source (kind.Row table) nullable start number offset cell is = tt
+encoding_met source (kind.Coded coded) nullable start number offset cell is = tt
+encoding_met source (kind.List member) nullable start number offset cell is = tt
 
 -- padding has no rules
-pub padding_met : (source : Source) (kind : ColumnKind) (nullable : Bool) (number place other : ℕ) → is_padding kind ≡ true
-    → AllHold (demands_of_number source kind nullable number place) × AllHold (demands_of_spelling source kind number other)
-padding_met source kind.U8 nullable number place other padding = absurd cc
-padding_met source kind.U16 nullable number place other padding = absurd cc
-padding_met source kind.U32 nullable number place other padding = absurd cc
-padding_met source kind.Padding nullable number place other padding = (tt, tt)
-padding_met source kind.Text nullable number place other padding = absurd cc
-padding_met source kind.Guid nullable number place other padding = absurd cc
-padding_met source kind.Blob nullable number place other padding = absurd cc
-padding_met source (kind.Signature column) nullable number place other padding = absurd cc
-padding_met source (kind.Row table) nullable number place other padding = absurd cc
-padding_met source (kind.Coded coded) nullable number place other padding = absurd cc
-padding_met source (kind.List member) nullable number place other padding = absurd cc
+pub padding_met : (source : Source) (kind : ColumnKind) (nullable : Bool) (number offset other : ℕ) → is_padding kind ≡ true
+    → AllHold (rules_of_number source kind nullable number offset) × AllHold (rules_of_encoding source kind number other)
+padding_met source kind.U8 nullable number offset other padding = absurd cc
+padding_met source kind.U16 nullable number offset other padding = absurd cc
+padding_met source kind.U32 nullable number offset other padding = absurd cc
+padding_met source kind.Padding nullable number offset other padding = (tt, tt)
+padding_met source kind.Text nullable number offset other padding = absurd cc
+padding_met source kind.Guid nullable number offset other padding = absurd cc
+padding_met source kind.Blob nullable number offset other padding = absurd cc
+padding_met source (kind.Signature column) nullable number offset other padding = absurd cc
+padding_met source (kind.Row table) nullable number offset other padding = absurd cc
+padding_met source (kind.Coded coded) nullable number offset other padding = absurd cc
+padding_met source (kind.List member) nullable number offset other padding = absurd cc
 
 -- what is known of entries, tags and signatures
 pub record AreOne : Type 0 where
@@ -121,7 +121,7 @@ pub record AreOne : Type 0 where
   pub blob : (heap : List ℕ) (index : ℕ) (blob other : List ℕ) → IsBlob heap index blob → IsBlob heap index other → blob ≡ other
   pub guid : (heap : List ℕ) (index : ℕ) (guid other : Option (List ℕ)) → IsGuid heap index guid → IsGuid heap index other → guid ≡ other
   pub few_tags : (coded : Coded) → length (tables_of coded) ≤ 2 ^ tag_bits coded
-  pub signature : (kind : SigKind) (first second : Body) (bytes : List ℕ) → Spells kind first bytes → Spells kind second bytes → first ≡ second
+  pub signature : (kind : SigKind) (first second : Body) (bytes : List ℕ) → Encodes kind first bytes → Encodes kind second bytes → first ≡ second
 
 -- a coded index refers to one row
 token_one : (coded : Coded) (number : ℕ) (a b : Token) → length (tables_of coded) ≤ 2 ^ tag_bits coded
@@ -145,7 +145,7 @@ stands_one one source kind.Guid nullable start number x y a b = a.2 ∙ ap Guid 
 stands_one one source kind.Blob nullable start number x y a b = a.2 ∙ ap Bytes (one.blob source.blobs number a.0 b.0 a.1 b.1) ∙ sym b.2
 stands_one one source (kind.Signature column) nullable start number x y a b =
     let blob = one.blob source.blobs number a.0 b.0 a.2 b.2 in
-    a.5 ∙ ap Sig (one.signature column a.1 b.1 b.0 (subst (Spells column a.1) blob a.3) b.3) ∙ sym b.5
+    a.5 ∙ ap Sig (one.signature column a.1 b.1 b.0 (subst (Encodes column a.1) blob a.3) b.3) ∙ sym b.5
 stands_one one source (kind.Row table) nullable start number x y a b = refers_one source nullable (record { table = table; row = number }) x y a b
 stands_one one source (kind.Coded coded) nullable start number x y a b =
     let named = token_one coded number a.0 b.0 (one.few_tags coded) a.1 b.1 in

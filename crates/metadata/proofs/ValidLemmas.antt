@@ -9,21 +9,21 @@ use Rattle.packed.specs.Packed.{IsPacked}
 use Rattle.root.specs.declared.kind.Kind.TheVariants.{Tables, UserStrings}
 use Rattle.root.specs.Streams.{Header, named, stream_name}
 use Rattle.heap_entries.specs.Entries.{HasNoNul, IsText, IsBlob, IsGuid}
-use Rattle.heap_entries.specs.Fill.{filled}
+use Rattle.heap_entries.specs.Padding.{zero_padded}
 use Rattle.table_schema.specs.declared.table.TableId.{TableId}
 use Rattle.table_schema.specs.declared.table.TableId.TheVariants.{Module, TypeDef, Field, MethodDef, Param, EventMap, Event, PropertyMap, Property, NestedClass}
 use Rattle.table_schema.specs.declared.token.Token.{Token}
 use Rattle.table_schema.specs.declared.column.SigKind.{SigKind}
 use Rattle.table_schema.specs.declared.column.ColumnKind.{ColumnKind}
 use Rattle.table_schema.specs.declared.column.ColumnKind.TheVariants as kind
-use Rattle.table_schema.specs.Tables.{tables, position_of}
+use Rattle.table_schema.specs.Tables.{tables, table_index_of}
 use Rattle.table_schema.specs.Columns.{columns_of, column_at}
 use Rattle.table_schema.specs.CodedIndexes.{tables_of}
 use Rattle.schema.specs.Sizes.{Sizes, count_of, kind_width, width_of}
 use Rattle.schema.specs.LaidOut.{IsLaidOut}
 use Rattle.schema.specs.Cells.{HoldsCell}
 use Rattle.sig_grammar.specs.Syntax.{Body}
-use Rattle.sig_grammar.specs.Spells.{Spells, IsSpellable, tokens}
+use Rattle.sig_grammar.specs.Encodes.{Encodes, IsEncodable, tokens}
 use Rattle.metadata.specs.Cell.{Cell}
 use Rattle.metadata.specs.Cell.{Number, Ref, Start}
 use Rattle.metadata.specs.Metadata.{Metadata, rows_of, row_of, count_in, cell_in}
@@ -33,7 +33,7 @@ use Rattle.metadata.specs.Stands.{StandsFor, Refers}
 use Rattle.metadata.specs.Streams.{stream_in, source_in}
 use Rattle.table_schema.specs.CellColumns.{cell_columns, cell_count, column_of}
 use Rattle.metadata.specs.Rows.{IsCell, IsRow, IsTable, IsTableAt}
-use Rattle.metadata.specs.Rules.{IsOwned}
+use Rattle.metadata.specs.RowRules.{IsOwned}
 use Rattle.metadata.specs.Model.{IsModel}
 use Rattle.metadata.specs.Kinds.{IsTo, IsOfKind, IsHeld}
 use Rattle.metadata.specs.Valid.{Names, IsWithinMembers, IsValidCell, IsValidAt, start_in, row_in, HasOwners, IsValid}
@@ -43,13 +43,13 @@ use Rattle.metadata.proofs.TableLemmas.{HaveCells}
 -- the laws of the crates below about roots and signatures
 pub record Known : Type 0 where
   pub count : length tables ≡ 38
-  pub position : (table : TableId) → position_of table < 38
-  pub stand : (table : TableId) → get_or tables (position_of table) Module ≡ table
+  pub table_index : (table : TableId) → table_index_of table < 38
+  pub stand : (table : TableId) → get_or tables (table_index_of table) Module ≡ table
   pub holds : (stream : List ℕ) (sizes : Sizes) (numbers : List (List (List ℕ))) → IsLaidOut stream sizes numbers
       → (table : TableId) (row column : ℕ) → 1 ≤ row → row ≤ count_of sizes table → column < length (columns_of table)
       → HoldsCell stream sizes numbers table row column
   pub columns : HaveCells
-  pub spellable : (kind : SigKind) (signature : Body) (bytes : List ℕ) → Spells kind signature bytes → IsSpellable signature
+  pub encodable : (kind : SigKind) (signature : Body) (bytes : List ℕ) → Encodes kind signature bytes → IsEncodable signature
 
 -- ---- the cell that a number represents is valid
 
@@ -76,7 +76,7 @@ valid_guid heap index (Some guid) is = is.1.long
 contains_listed : {X : Type 0} (xs : List X) (k : ℕ) (x : X) → slice_get xs k ≡ Some x → Contains xs x
 contains_listed [] k x e = cc
 contains_listed (y ∷ ys) zero x e = let same : y ≡ x = cc in (0, omega arith, same)
-contains_listed (y ∷ ys) (suc k) x e = let rest = contains_listed ys k x e in (suc rest.0, omega (arith, rest.1), rest.2)
+contains_listed (y ∷ ys) (suc k) x e = let tail = contains_listed ys k x e in (suc tail.0, omega (arith, tail.1), tail.2)
 
 module _ (known : Known) (model : Metadata) (source : Source) (counts : (table : TableId) → count_in model table ≡ rows_in source table) where
   names : (token : Token) → IsThere source token → Names model token
@@ -124,13 +124,13 @@ module _ (known : Known) (model : Metadata) (source : Source) (counts : (table :
       (record { of_kind = tt; storable = valid_blob source.blobs number stands.0 stands.1; refers = tt; within = tt; held = tt; types = tt })
   valid_cell (kind.Signature column) nullable start number cell fits starts stands =
       let signature = stands.1 in
-      let spells = stands.3 in
+      let encodes = stands.3 in
       subst (IsValidCell model (kind.Signature column) nullable) (sym stands.5) (record {
         of_kind = tt;
         storable = tt;
         refers = tt;
         within = tt;
-        held = (spells.column, known.spellable column signature stands.0 spells);
+        held = (encodes.column, known.encodable column signature stands.0 encodes);
         types = all_weaker (IsThere source) (Names model) names (tokens signature) stands.4;
       })
   valid_cell (kind.Row table) nullable start number cell fits starts stands =
@@ -162,14 +162,14 @@ start_bound value end row (suc n) low = ⊎_elim
 length_zeros : (n : ℕ) → length (replicate {A = ℕ} n 0) ≡ n
 length_zeros n = length-replicate {A = ℕ} n 0
 
-fill_is : (n : ℕ) → (n + (4 - n % 4) % 4) % 4 ≡ 0
-fill_is n = omega arith
+padding_is : (n : ℕ) → (n + (4 - n % 4) % 4) % 4 ≡ 0
+padding_is n = omega arith
 
-length-filled : (bytes : List ℕ) → length (filled bytes) % 4 ≡ 0
-length-filled bytes = rw (length-append bytes (replicate ((4 - length bytes % 4) % 4) 0), length_zeros ((4 - length bytes % 4) % 4)) (fill_is (length bytes))
+length-zero_padded : (bytes : List ℕ) → length (zero_padded bytes) % 4 ≡ 0
+length-zero_padded bytes = rw (length-append bytes (replicate ((4 - length bytes % 4) % 4) 0), length_zeros ((4 - length bytes % 4) % 4)) (padding_is (length bytes))
 
-fill_small : (bytes : List ℕ) → length bytes ≤ 2 ^ 30 → length (filled bytes) ≤ 2 ^ 30
-fill_small bytes small = omega (arith, small, length-append bytes (replicate ((4 - length bytes % 4) % 4) 0), length_zeros ((4 - length bytes % 4) % 4))
+padding_small : (bytes : List ℕ) → length bytes ≤ 2 ^ 30 → length (zero_padded bytes) ≤ 2 ^ 30
+padding_small bytes small = omega (arith, small, length-append bytes (replicate ((4 - length bytes % 4) % 4) 0), length_zeros ((4 - length bytes % 4) % 4))
 
 part_small : (root : List ℕ) (found : Option Header)
     → length (unwrap_or (option_map (λ header. take header.size (drop header.offset root)) found) []) ≤ length root
@@ -183,7 +183,7 @@ module _ (known : Known) (root : List ℕ) (model : Metadata) (is : IsModel root
   table_is : (table : TableId) → IsTable source table (rows_of model table)
   unfolding source IsTableAt
   table_is table =
-      let here = from_at (IsTableAt source) 0 38 model.tables (position_of table) (position_of table) [] is.cells (known.position table) (omega arith) in
+      let here = from_at (IsTableAt source) 0 38 model.tables (table_index_of table) (table_index_of table) [] is.cells (known.table_index table) (omega arith) in
       subst (λ t. IsTable source t (rows_of model table)) (known.stand table) here
 
   counts : (table : TableId) → count_in model table ≡ rows_in source table
@@ -199,11 +199,11 @@ module _ (known : Known) (root : List ℕ) (model : Metadata) (is : IsModel root
   unfolding IsRow
   row_long table row first last = items_length (IsCell source table row) 0 (cell_count table) (row_of model table row) (row_is table row first last)
 
-  cell_is : (table : TableId) (row place : ℕ) → 1 ≤ row → row ≤ rows_in source table → place < cell_count table
-      → IsCell source table row place (cell_in model table row place)
+  cell_is : (table : TableId) (row cell_index : ℕ) → 1 ≤ row → row ≤ rows_in source table → cell_index < cell_count table
+      → IsCell source table row cell_index (cell_in model table row cell_index)
   unfolding IsRow
-  cell_is table row place first last below =
-      from_at (IsCell source table row) 0 (cell_count table) (row_of model table row) place place (Number 0) (row_is table row first last) below (omega arith)
+  cell_is table row cell_index first last below =
+      from_at (IsCell source table row) 0 (cell_count table) (row_of model table row) cell_index cell_index (Number 0) (row_is table row first last) below (omega arith)
 
   number_fits : (table : TableId) (row column : ℕ) → 1 ≤ row → row ≤ rows_in source table → column < length (columns_of table)
       → number_of source table row column < 256 ^ width_of is.sizes (column_at table column)
@@ -212,42 +212,42 @@ module _ (known : Known) (root : List ℕ) (model : Metadata) (is : IsModel root
       (known.holds (stream_in root is.headers Tables) is.sizes is.numbers is.laid_out table row column first last below).fits
 
   -- the cell of a list column is the start of its run: a member's row, or the row after the last
-  list_is : (table : TableId) (row place : ℕ) (member : TableId) → 1 ≤ row → row ≤ rows_in source table → place < cell_count table
-      → (column_at table (column_of table place)).kind ≡ kind.List member
-      → (number_of source table row (column_of table place) ≤ rows_in source member + 1)
-      × (cell_in model table row place ≡ Start (start_of source table row (column_of table place) member))
-  list_is table row place member first last below lists =
-      subst (λ k. StandsFor source k (column_at table (column_of table place)).nullable (start_of source table row (column_of table place))
-      (number_of source table row (column_of table place)) (cell_in model table row place))
-      lists (cell_is table row place first last below)
+  list_is : (table : TableId) (row cell_index : ℕ) (member : TableId) → 1 ≤ row → row ≤ rows_in source table → cell_index < cell_count table
+      → (column_at table (column_of table cell_index)).kind ≡ kind.List member
+      → (number_of source table row (column_of table cell_index) ≤ rows_in source member + 1)
+      × (cell_in model table row cell_index ≡ Start (start_of source table row (column_of table cell_index) member))
+  list_is table row cell_index member first last below lists =
+      subst (λ k. StandsFor source k (column_at table (column_of table cell_index)).nullable (start_of source table row (column_of table cell_index))
+      (number_of source table row (column_of table cell_index)) (cell_in model table row cell_index))
+      lists (cell_is table row cell_index first last below)
 
-  start_within : (table : TableId) (row place : ℕ) (member : TableId) → 1 ≤ row → row ≤ rows_in source table → place < cell_count table
-      → (column_at table (column_of table place)).kind ≡ kind.List member
-      → start_of source table row (column_of table place) member ≤ rows_in source member + 1
+  start_within : (table : TableId) (row cell_index : ℕ) (member : TableId) → 1 ≤ row → row ≤ rows_in source table → cell_index < cell_count table
+      → (column_at table (column_of table cell_index)).kind ≡ kind.List member
+      → start_of source table row (column_of table cell_index) member ≤ rows_in source member + 1
   unfolding start_of
-  start_within table row place member first last below lists =
-      start_bound (λ r. number_of source table r (column_of table place)) (rows_in source member + 1) row (rows_in source table + 1 - row)
-      (λ r l h. (list_is table r place member (omega arith) (omega arith) below lists).0)
+  start_within table row cell_index member first last below lists =
+      start_bound (λ r. number_of source table r (column_of table cell_index)) (rows_in source member + 1) row (rows_in source table + 1 - row)
+      (λ r l h. (list_is table r cell_index member (omega arith) (omega arith) below lists).0)
 
-  cell_valid : (table : TableId) (row place : ℕ) → 1 ≤ row → row ≤ rows_in source table → place < cell_count table
-      → IsValidAt model table place (cell_in model table row place)
+  cell_valid : (table : TableId) (row cell_index : ℕ) → 1 ≤ row → row ≤ rows_in source table → cell_index < cell_count table
+      → IsValidAt model table cell_index (cell_in model table row cell_index)
   unfolding source
-  cell_valid table row place first last below =
-      let column = column_at table (column_of table place) in
-      valid_cell known model source counts column.kind column.nullable (start_of source table row (column_of table place))
-      (number_of source table row (column_of table place))
-      (cell_in model table row place)
-      (number_fits table row (column_of table place) first last (known.columns.column table place below).0)
-      (λ member lists. start_within table row place member first last below lists)
-      (cell_is table row place first last below)
+  cell_valid table row cell_index first last below =
+      let column = column_at table (column_of table cell_index) in
+      valid_cell known model source counts column.kind column.nullable (start_of source table row (column_of table cell_index))
+      (number_of source table row (column_of table cell_index))
+      (cell_in model table row cell_index)
+      (number_fits table row (column_of table cell_index) first last (known.columns.column table cell_index below).0)
+      (λ member lists. start_within table row cell_index member first last below lists)
+      (cell_is table row cell_index first last below)
 
-  has_owners : (table : TableId) (place : ℕ) (member : TableId) → place < cell_count table → (column_at table (column_of table place)).kind ≡ kind.List member
-      → IsOwned source table (column_of table place) member → HasOwners model table place member
-  has_owners table place member below lists owned =
+  has_owners : (table : TableId) (cell_index : ℕ) (member : TableId) → cell_index < cell_count table → (column_at table (column_of table cell_index)).kind ≡ kind.List member
+      → IsOwned source table (column_of table cell_index) member → HasOwners model table cell_index member
+  has_owners table cell_index member below lists owned =
       let count = counts table in
-      let start : (row : ℕ) → 1 ≤ row → row ≤ rows_in source table → start_in (cell_in model table row place)
-      ≡ start_of source table row (column_of table place) member =
-      λ row first last. ap start_in (list_is table row place member first last below lists).1 in
+      let start : (row : ℕ) → 1 ≤ row → row ≤ rows_in source table → start_in (cell_in model table row cell_index)
+      ≡ start_of source table row (column_of table cell_index) member =
+      λ row first last. ap start_in (list_is table row cell_index member first last below lists).1 in
       record {
         ownerless = λ none. counts member ∙ owned.ownerless (sym count ∙ none);
         first = λ some. start 1 (omega arith) (omega (arith, count, some)) ∙ owned.first (λ e. some (count ∙ e));
@@ -265,14 +265,14 @@ module _ (known : Known) (root : List ℕ) (model : Metadata) (is : IsModel root
   is_valid = record {
     version = is.is_root.version_is;
     user = record {
-      filled = subst (λ bytes. length bytes % 4 ≡ 0) (sym is.user) (length-filled (stream_in root is.headers UserStrings));
-      small = subst (λ bytes. length bytes ≤ 2 ^ 30) (sym is.user) (fill_small (stream_in root is.headers UserStrings)
+      zero_padded = subst (λ bytes. length bytes % 4 ≡ 0) (sym is.user) (length-zero_padded (stream_in root is.headers UserStrings));
+      small = subst (λ bytes. length bytes ≤ 2 ^ 30) (sym is.user) (padding_small (stream_in root is.headers UserStrings)
           (omega (arith, is.small, part_small root (named (stream_name UserStrings) is.headers))));
     };
     tables = items_length (IsTableAt source) 0 38 model.tables is.cells;
     few = λ table. rw (counts table) (is.laid_out.few table);
     long = λ table row there. row_long table row there.0 (omega (arith, counts table, there.1));
-    cells = λ table row place there below. cell_valid table row place there.0 (omega (arith, counts table, there.1)) below;
+    cells = λ table row cell_index there below. cell_valid table row cell_index there.0 (omega (arith, counts table, there.1)) below;
     fields = has_owners TypeDef 4 Field (lit< tt) refl is.owned.fields;
     methods = has_owners TypeDef 5 MethodDef (lit< tt) refl is.owned.methods;
     params = has_owners MethodDef 5 Param (lit< tt) refl is.owned.params;

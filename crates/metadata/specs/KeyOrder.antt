@@ -9,7 +9,7 @@ use Rattle.table_schema.specs.CodedIndexes.{tables_of, tag_bits}
 use Rattle.sig_grammar.specs.Parts.{is_table}
 use Rattle.metadata.specs.Cell.{Cell, Ref}
 use Rattle.metadata.specs.Metadata.{Metadata, count_in, cell_in}
-use Rattle.metadata.specs.Lookups.{IsKeyPlace}
+use Rattle.metadata.specs.Lookups.{IsKeyCell}
 use Rattle.metadata.specs.Valid.{kind_at}
 
 -- the number of a row in a column: for a coded index, the row in the high bits and the tag in the low bits (II.24.2.6)
@@ -24,9 +24,9 @@ key_number kind _ = 0
 
 -- the key number of a row, by the cell of the key
 abbrev pub key_in : Metadata → TableId → ℕ → ℕ → ℕ
-key_in model table place row = key_number (kind_at table place) (cell_in model table row place)
+key_in model table cell_index row = key_number (kind_at table cell_index) (cell_in model table row cell_index)
 
 -- the key numbers of a table never decrease
 abbrev pub IsKeyOrdered : Metadata → TableId → Type 0
 IsKeyOrdered model table =
-    (place row : ℕ) → IsKeyPlace table place → 2 ≤ row → row ≤ count_in model table → key_in model table place (row - 1) ≤ key_in model table place row
+    (cell_index row : ℕ) → IsKeyCell table cell_index → 2 ≤ row → row ≤ count_in model table → key_in model table cell_index (row - 1) ≤ key_in model table cell_index row

@@ -6,7 +6,7 @@ use Rattle.table_schema.specs.declared.token.Token.{Token}
 use Rattle.table_schema.specs.declared.column.ColumnKind.{ColumnKind}
 use Rattle.table_schema.specs.declared.column.ColumnKind.TheVariants as kind
 use Rattle.table_schema.specs.CodedIndexes.{tables_of}
-use Rattle.sig_grammar.specs.Spells.{Holds, IsSpellable}
+use Rattle.sig_grammar.specs.Encodes.{Holds, IsEncodable}
 use Rattle.metadata.specs.Cell.{Cell}
 use Rattle.metadata.specs.Cell as cell
 
@@ -38,5 +38,5 @@ IsStorable _ = ⊤
 
 -- a signature is of the column's kind and has an encoding (II.23.2)
 abbrev pub IsHeld : ColumnKind → Cell → Type 0
-IsHeld (kind.Signature column) (cell.Sig signature) = Holds column signature × IsSpellable signature
+IsHeld (kind.Signature column) (cell.Sig signature) = Holds column signature × IsEncodable signature
 IsHeld _ _ = ⊤

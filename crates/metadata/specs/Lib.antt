@@ -6,10 +6,10 @@ pub mod Streams
 pub mod Starts
 pub mod Stands
 pub mod Rows
-pub mod Rules
+pub mod RowRules
 pub mod Model
-pub mod Placed
-pub mod Demands
+pub mod SourceAt
+pub mod Rules
 pub mod Lookups
 pub mod Valid
 pub mod KeyOrder

@@ -14,9 +14,9 @@ HasRow model table row = (1 ≤ row) × (row ≤ count_in model table)
 
 -- The run of an owner, by its cell in the list column: from its start up to but not including the next owner's start.
 -- The run of the last owner ends with the last member.
-pub record IsRun (model : Metadata) (owner : TableId) (place : ℕ) (member : TableId) (row first past : ℕ) : Type 0 where
-  pub start : cell_in model owner row place ≡ Start first
-  pub next : row < count_in model owner → cell_in model owner (row + 1) place ≡ Start past
+pub record IsRun (model : Metadata) (owner : TableId) (cell_index : ℕ) (member : TableId) (row first past : ℕ) : Type 0 where
+  pub start : cell_in model owner row cell_index ≡ Start first
+  pub next : row < count_in model owner → cell_in model owner (row + 1) cell_index ≡ Start past
   pub last : row ≡ count_in model owner → past ≡ count_in model member + 1
 
 -- a type has these names (II.22.37)
@@ -30,10 +30,10 @@ pub record IsFirstType (model : Metadata) (namespace name : List ℕ) (row : ℕ
   pub first : (earlier : ℕ) → 1 ≤ earlier → earlier < row → ¬ HasNames model namespace name earlier
 
 -- the cell of a table's key column
-pub record IsKeyPlace (table : TableId) (place : ℕ) : Type 0 where
-  pub within : place < cell_count table
-  pub key : key_of table ≡ Some (column_of table place)
+pub record IsKeyCell (table : TableId) (cell_index : ℕ) : Type 0 where
+  pub within : cell_index < cell_count table
+  pub key : key_of table ≡ Some (column_of table cell_index)
 
 -- the key of a row is a token
 abbrev pub HasKey : Metadata → TableId → Token → ℕ → Type 0
-HasKey model table token row = (place : ℕ) × IsKeyPlace table place × (cell_in model table row place ≡ Ref (Some token))
+HasKey model table token row = (cell_index : ℕ) × IsKeyCell table cell_index × (cell_in model table row cell_index ≡ Ref (Some token))

@@ -1,7 +1,7 @@
 -- The metadata of a root: its content, independent of its encoding (ECMA-335 II.22 and II.24.2).
 use Rattle.std.specs.Prelude.{ℕ, ◌-◌, List, [], length, slice_index_or}
 use Rattle.table_schema.specs.declared.table.TableId.{TableId}
-use Rattle.table_schema.specs.Tables.{position_of}
+use Rattle.table_schema.specs.Tables.{table_index_of}
 use Rattle.metadata.specs.Cell.{Cell}
 use Rattle.metadata.specs.Cell.{Number}
 
@@ -13,7 +13,7 @@ pub record Metadata : Type 0 where
 
 -- the rows of a table
 abbrev pub rows_of : Metadata → TableId → List (List Cell)
-rows_of model table = slice_index_or model.tables (position_of table) []
+rows_of model table = slice_index_or model.tables (table_index_of table) []
 
 -- the number of rows of a table
 abbrev pub count_in : Metadata → TableId → ℕ

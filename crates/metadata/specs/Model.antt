@@ -7,7 +7,7 @@ use Rattle.pe.specs.Image as pe
 use Rattle.pe.specs.Image.{Image}
 use Rattle.cli_header.specs.declared.header.CliHeader.{CliHeader}
 use Rattle.cli_header.specs.Header.{IsCliHeader}
-use Rattle.heap_entries.specs.Fill.{filled}
+use Rattle.heap_entries.specs.Padding.{zero_padded}
 use Rattle.table_schema.specs.declared.token.Token.{Token}
 use Rattle.table_schema.specs.declared.table.TableId.{TableId}
 use Rattle.table_schema.specs.declared.table.TableId.TheVariants.{MethodDef, File}
@@ -16,7 +16,7 @@ use Rattle.schema.specs.LaidOut.{IsLaidOut}
 use Rattle.table_schema.specs.Tokens.{IsToken}
 use Rattle.metadata.specs.Metadata.{Metadata, count_in}
 use Rattle.metadata.specs.Rows.{AreTables}
-use Rattle.metadata.specs.Rules.{AreByKey, AreOwned, AreNested}
+use Rattle.metadata.specs.RowRules.{AreByKey, AreOwned, AreNested}
 use Rattle.metadata.specs.Streams.{stream_in, source_in, root_in}
 
 -- The root has this model: it is a root with the model's version; its `#~` stream encodes numbers that represent the
@@ -33,7 +33,7 @@ pub record IsModel (root : List ℕ) (model : Metadata) : Type 0 where
   pub ordered : AreByKey (source_in root headers sizes numbers)
   pub owned : AreOwned (source_in root headers sizes numbers)
   pub nested : AreNested (source_in root headers sizes numbers)
-  pub user : model.user ≡ filled (stream_in root headers UserStrings)
+  pub user : model.user ≡ zero_padded (stream_in root headers UserStrings)
 
 -- II.25.3.3.2: the entry point is 0, or the token of an existing row of MethodDef or File
 abbrev pub IsEntryPoint : ℕ → (TableId → ℕ) → Type 0

@@ -24,7 +24,7 @@ StandsIn source table row column cell =
 
 -- a cell of a row, by its index in the row
 abbrev pub IsCell : Source → TableId → ℕ → ℕ → Cell → Type 0
-IsCell source table row place cell = StandsIn source table row (column_of table place) cell
+IsCell source table row cell_index cell = StandsIn source table row (column_of table cell_index) cell
 
 unfoldable pub IsRow : Source → TableId → ℕ → List Cell → Type 0
 IsRow source table row cells = AreFrom (IsCell source table row) 0 (cell_count table) cells
@@ -34,10 +34,10 @@ IsTable source table rows = AreFrom (IsRow source table) 1 (rows_in source table
 
 -- the table with a table index
 abbrev pub table_at : ℕ → TableId
-table_at position = slice_index_or tables position Module
+table_at table_index = slice_index_or tables table_index Module
 
 unfoldable pub IsTableAt : Source → ℕ → List (List Cell) → Type 0
-IsTableAt source position rows = IsTable source (table_at position) rows
+IsTableAt source table_index rows = IsTable source (table_at table_index) rows
 
 -- the rows of all tables
 abbrev pub AreTables : Source → List (List (List Cell)) → Type 0

@@ -12,5 +12,5 @@ pub record SaysSame (model other : Metadata) : Type 0 where
   pub other_tables : length other.tables ≡ 38
   pub counts : (table : TableId) → count_in model table ≡ count_in other table
   pub long : (table : TableId) (row : ℕ) → HasRow model table row → length (row_of model table row) ≡ length (row_of other table row)
-  pub cells : (table : TableId) (row place : ℕ) → HasRow model table row → place < length (row_of model table row)
-      → cell_in model table row place ≡ cell_in other table row place
+  pub cells : (table : TableId) (row cell_index : ℕ) → HasRow model table row → cell_index < length (row_of model table row)
+      → cell_in model table row cell_index ≡ cell_in other table row cell_index

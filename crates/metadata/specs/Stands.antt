@@ -8,7 +8,7 @@ use Rattle.table_schema.specs.declared.column.ColumnKind.TheVariants as kind
 use Rattle.table_schema.specs.CodedIndexes.{IsCoded}
 use Rattle.heap_entries.specs.Entries.{IsText, IsBlob, IsGuid}
 use Rattle.sig_grammar.specs.Syntax.{Body}
-use Rattle.sig_grammar.specs.Spells.{Spells, tokens}
+use Rattle.sig_grammar.specs.Encodes.{Encodes, tokens}
 use Rattle.metadata.specs.Cell.{Cell}
 use Rattle.metadata.specs.Cell.{Number, Text, Bytes, Guid, Ref, Start, Sig}
 use Rattle.metadata.specs.Source.{Source, rows_in, IsThere}
@@ -33,7 +33,7 @@ StandsFor source kind.Text nullable start number cell = (text : List ℕ) × IsT
 StandsFor source kind.Guid nullable start number cell = (guid : Option (List ℕ)) × IsGuid source.guids number guid × (cell ≡ Guid guid)
 StandsFor source kind.Blob nullable start number cell = (blob : List ℕ) × IsBlob source.blobs number blob × (cell ≡ Bytes blob)
 StandsFor source (kind.Signature column) nullable start number cell =
-    (blob : List ℕ) × (signature : Body) × IsBlob source.blobs number blob × Spells column signature blob × HasRows source signature × (cell ≡ Sig signature)
+    (blob : List ℕ) × (signature : Body) × IsBlob source.blobs number blob × Encodes column signature blob × HasRows source signature × (cell ≡ Sig signature)
 StandsFor source (kind.Row table) nullable start number cell = Refers source nullable (record { table = table; row = number }) cell
 StandsFor source (kind.Coded coded) nullable start number cell =
     (token : Token) × IsCoded coded number token.table token.row × Refers source nullable token cell

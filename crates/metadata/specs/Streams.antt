@@ -1,6 +1,6 @@
 -- The root of a file, and the tables and heaps of a root (ECMA-335 II.24.2.2 and II.25.3.3).
 use Rattle.std.specs.Prelude.{ℕ, ◌-◌, List, [], unwrap_or}
-use Rattle.packed.specs.Places.{part}
+use Rattle.packed.specs.Offsets.{part}
 use Rattle.root.specs.declared.kind.Kind.{Kind}
 use Rattle.root.specs.declared.kind.Kind.TheVariants.{Strings, Guids, Blobs}
 use Rattle.root.specs.Streams.{Header, stream_of}

@@ -9,7 +9,7 @@ use Rattle.table_schema.specs.declared.column.ColumnKind.{ColumnKind}
 use Rattle.table_schema.specs.declared.column.ColumnKind.TheVariants as kind
 use Rattle.table_schema.specs.Columns.{column_at}
 use Rattle.table_schema.specs.CellColumns.{cell_count, column_of}
-use Rattle.sig_grammar.specs.Spells.{tokens}
+use Rattle.sig_grammar.specs.Encodes.{tokens}
 use Rattle.metadata.specs.Cell.{Cell, Ref, Start, Sig}
 use Rattle.metadata.specs.Kinds.{IsOfKind, IsStorable, IsHeld}
 use Rattle.metadata.specs.Metadata.{Metadata, row_of, count_in, cell_in}
@@ -48,14 +48,14 @@ pub record IsValidCell (model : Metadata) (kind : ColumnKind) (nullable : Bool) 
 
 -- the kind of a cell's column, by the index of the cell in its row, and whether the column allows null
 abbrev pub kind_at : TableId → ℕ → ColumnKind
-kind_at table place = (column_at table (column_of table place)).kind
+kind_at table cell_index = (column_at table (column_of table cell_index)).kind
 
 abbrev pub nullable_at : TableId → ℕ → Bool
-nullable_at table place = (column_at table (column_of table place)).nullable
+nullable_at table cell_index = (column_at table (column_of table cell_index)).nullable
 
 -- the cell is valid at an index of a row
 abbrev pub IsValidAt : Metadata → TableId → ℕ → Cell → Type 0
-IsValidAt model table place cell = IsValidCell model (kind_at table place) (nullable_at table place) cell
+IsValidAt model table cell_index cell = IsValidCell model (kind_at table cell_index) (nullable_at table cell_index) cell
 
 -- ---- the runs of members, and nested types
 
@@ -71,10 +71,10 @@ row_in _ = 0
 
 -- each member has one owner, by the starts in the owners' rows: without owners there are no members; the first start is
 -- 1; and starts never decrease
-pub record HasOwners (model : Metadata) (owner : TableId) (place : ℕ) (member : TableId) : Type 0 where
+pub record HasOwners (model : Metadata) (owner : TableId) (cell_index : ℕ) (member : TableId) : Type 0 where
   pub ownerless : count_in model owner ≡ 0 → count_in model member ≡ 0
-  pub first : count_in model owner ≢ 0 → start_in (cell_in model owner 1 place) ≡ 1
-  pub rising : (row : ℕ) → 2 ≤ row → row ≤ count_in model owner → start_in (cell_in model owner (row - 1) place) ≤ start_in (cell_in model owner row place)
+  pub first : count_in model owner ≢ 0 → start_in (cell_in model owner 1 cell_index) ≡ 1
+  pub rising : (row : ℕ) → 2 ≤ row → row ≤ count_in model owner → start_in (cell_in model owner (row - 1) cell_index) ≤ start_in (cell_in model owner row cell_index)
 
 -- a type comes after the one that it is nested in (II.22.32)
 abbrev pub IsBehind : Metadata → ℕ → Type 0
@@ -84,7 +84,7 @@ IsBehind model row = row_in (cell_in model NestedClass row 1) < row_in (cell_in 
 
 -- the bytes of `#US`: their number is a multiple of four, and at most 2^30
 pub record IsUser (user : List ℕ) : Type 0 where
-  pub filled : length user % 4 ≡ 0
+  pub zero_padded : length user % 4 ≡ 0
   pub small : length user ≤ 2 ^ 30
 
 -- A valid model: a version; user bytes; 38 tables with at most 0xFFFFFF rows each; each row has the cells of its
@@ -96,8 +96,8 @@ pub record IsValid (model : Metadata) : Type 0 where
   pub tables : length model.tables ≡ 38
   pub few : (table : TableId) → count_in model table ≤ 0xFFFFFF
   pub long : (table : TableId) (row : ℕ) → HasRow model table row → length (row_of model table row) ≡ cell_count table
-  pub cells : (table : TableId) (row place : ℕ) → HasRow model table row → place < cell_count table
-      → IsValidAt model table place (cell_in model table row place)
+  pub cells : (table : TableId) (row cell_index : ℕ) → HasRow model table row → cell_index < cell_count table
+      → IsValidAt model table cell_index (cell_in model table row cell_index)
   pub fields : HasOwners model TypeDef 4 Field
   pub methods : HasOwners model TypeDef 5 MethodDef
   pub params : HasOwners model MethodDef 5 Param

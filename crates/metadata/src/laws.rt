@@ -1,42 +1,42 @@
 ghost use Rattle.std.specs.Prelude.{◌≡◌, ◌↔◌, ℕ, ◌^◌, ◌<◌, ◌≤◌, List, Some, length, slice_index};
-ghost use Rattle.packed.specs.Demand.{AllHold};
+ghost use Rattle.packed.specs.Rule.{AllHold};
 ghost use Rattle.root.specs.Fields.{root_read};
 ghost use Rattle.root.specs.declared.kind.Kind.TheVariants.{UserStrings};
 ghost use Rattle.cli_header.specs.declared.header.CliHeader.{CliHeader};
-ghost use Rattle.heap_entries.specs.Fill.{filled};
+ghost use Rattle.heap_entries.specs.Padding.{zero_padded};
 ghost use Rattle.table_schema.specs.declared.table.TableId.{TableId as Table};
 ghost use Rattle.table_schema.specs.declared.token.Token.{Token};
 ghost use Rattle.table_schema.specs.Columns.{key_of};
 ghost use Rattle.schema.specs.LaidOut.{IsTableStream};
 ghost use Rattle.metadata.specs.Cell.{Cell, Ref};
 ghost use Rattle.metadata.specs.Kinds.{IsOfKind};
-ghost use Rattle.metadata.specs.Lookups.{IsKeyPlace};
+ghost use Rattle.metadata.specs.Lookups.{IsKeyCell};
 ghost use Rattle.metadata.specs.Metadata.{Metadata, row_of, count_in, cell_in};
 ghost use Rattle.metadata.specs.Source.{Source, rows_in, number_of};
 ghost use Rattle.metadata.specs.Streams.{stream_in};
 ghost use Rattle.table_schema.specs.CellColumns.{cell_count, column_of};
 ghost use Rattle.metadata.specs.Rows.{IsCell};
-ghost use Rattle.metadata.specs.Rules.{IsInOrder, AreByKey, AreOwned, AreNested};
+ghost use Rattle.metadata.specs.RowRules.{IsInOrder, AreByKey, AreOwned, AreNested};
 ghost use Rattle.metadata.specs.Model.{IsModel, IsModelOfFile};
-ghost use Rattle.metadata.specs.Placed.{tables_in, source_of};
+ghost use Rattle.metadata.specs.SourceAt.{tables_in, source_of};
 ghost use Rattle.metadata.specs.Valid.{IsValid, kind_at};
 ghost use Rattle.metadata.specs.KeyOrder.{key_in, key_number, row_number, IsKeyOrdered};
 ghost use Rattle.metadata.specs.Same.{SaysSame};
 ghost use Rattle.metadata.specs.Refusals.{refusals_of};
-ghost use Rattle.metadata.specs.Demands.{demands_of_metadata, demands_of_file};
+ghost use Rattle.metadata.specs.Rules.{rules_of_metadata, rules_of_file};
 
 use cli_header::headers_are_read;
 use heap_entries::entries_are_one;
 use pe::images_are_read;
 use root::roots_are_read;
 use schema::{cells_stand, numbers_are_read, streams_are_read};
-use sig_values::{signatures_are_read, spelled_is_spellable};
+use sig_values::{signatures_are_read, encoded_is_encodable};
 use table_schema::{cells_have_columns, columns_stand, tables_stand, tags_fit};
 
 /// A list of bytes satisfies all rules for a root if and only if it has a model. It has at most one model.
 pub fn roots_have_models()
-    ensures met { (place : ℕ) (root : List ℕ) (model : Metadata) → IsModel root model → AllHold (demands_of_metadata place root) }
-    ensures found { (place : ℕ) (root : List ℕ) → ((k : ℕ) → slice_index root k < 2 ^ 8) → AllHold (demands_of_metadata place root)
+    ensures met { (offset : ℕ) (root : List ℕ) (model : Metadata) → IsModel root model → AllHold (rules_of_metadata offset root) }
+    ensures sound { (offset : ℕ) (root : List ℕ) → ((k : ℕ) → slice_index root k < 2 ^ 8) → AllHold (rules_of_metadata offset root)
         → (model : Metadata) × IsModel root model }
     ensures one { (root : List ℕ) (model other : Metadata) → IsModel root model → IsModel root other → model ≡ other }
 {
@@ -52,8 +52,8 @@ pub fn roots_have_models()
 /// A list of bytes satisfies all rules for a file if and only if it has a CLI header and a model. It has at
 /// most one of each.
 pub fn files_have_models()
-    ensures met { (file : List ℕ) (header : CliHeader) (model : Metadata) → IsModelOfFile file header model → AllHold (demands_of_file file) }
-    ensures found { (file : List ℕ) → ((k : ℕ) → slice_index file k < 2 ^ 8) → AllHold (demands_of_file file)
+    ensures met { (file : List ℕ) (header : CliHeader) (model : Metadata) → IsModelOfFile file header model → AllHold (rules_of_file file) }
+    ensures sound { (file : List ℕ) → ((k : ℕ) → slice_index file k < 2 ^ 8) → AllHold (rules_of_file file)
         → (header : CliHeader) × (model : Metadata) × IsModelOfFile file header model }
     ensures one { (file : List ℕ) (header other : CliHeader) (model more : Metadata) → IsModelOfFile file header model → IsModelOfFile file other more
         → (header ≡ other) × (model ≡ more) }
@@ -67,12 +67,12 @@ pub fn files_have_models()
 /// The parts of a root's model are those that are read from the root.
 pub fn models_are_read()
     ensures version { (root : List ℕ) (model : Metadata) → IsModel root model → model.version ≡ (root_read root).version }
-    ensures user { (root : List ℕ) (model : Metadata) → IsModel root model → model.user ≡ filled (stream_in root (root_read root).headers UserStrings) }
+    ensures user { (root : List ℕ) (model : Metadata) → IsModel root model → model.user ≡ zero_padded (stream_in root (root_read root).headers UserStrings) }
     ensures stream { (root : List ℕ) (model : Metadata) → IsModel root model → IsTableStream (tables_in root) (source_of root).sizes }
     ensures count { (root : List ℕ) (model : Metadata) → IsModel root model → (table : Table) → count_in model table ≡ rows_in (source_of root) table }
-    ensures cells { (root : List ℕ) (model : Metadata) → IsModel root model → (table : Table) (row place : ℕ)
-        → 1 ≤ row → row ≤ rows_in (source_of root) table → place < cell_count table
-        → IsCell (source_of root) table row place (cell_in model table row place) }
+    ensures cells { (root : List ℕ) (model : Metadata) → IsModel root model → (table : Table) (row cell_index : ℕ)
+        → 1 ≤ row → row ≤ rows_in (source_of root) table → cell_index < cell_count table
+        → IsCell (source_of root) table row cell_index (cell_in model table row cell_index) }
     ensures tables { (root : List ℕ) (model : Metadata) → IsModel root model → length model.tables ≡ 38 }
     ensures long { (root : List ℕ) (model : Metadata) → IsModel root model → (table : Table) (row : ℕ)
         → 1 ≤ row → row ≤ rows_in (source_of root) table → length (row_of model table row) ≡ cell_count table }
@@ -88,8 +88,8 @@ pub fn models_are_read()
 
 /// A number represents at most one cell.
 pub fn cells_are_one()
-    ensures { (source : Source) (table : Table) (row place : ℕ) (cell other : Cell) → IsCell source table row place cell
-        → IsCell source table row place other → cell ≡ other }
+    ensures { (source : Source) (table : Table) (row cell_index : ℕ) (cell other : Cell) → IsCell source table row cell_index cell
+        → IsCell source table row cell_index other → cell ≡ other }
 {
     entries_are_one();
     tags_fit();
@@ -103,13 +103,13 @@ pub fn models_of_roots_are_valid()
     tables_stand();
     cells_stand();
     cells_have_columns();
-    spelled_is_spellable();
+    encoded_is_encodable();
 }
 
 /// All rules for a model with 38 tables hold if and only if it is valid.
 pub fn valid_models_are_not_refused()
     ensures met { (model : Metadata) → IsValid model → AllHold (refusals_of model) }
-    ensures found { (model : Metadata) → length model.tables ≡ 38 → AllHold (refusals_of model) → IsValid model }
+    ensures sound { (model : Metadata) → length model.tables ≡ 38 → AllHold (refusals_of model) → IsValid model }
 {
     tables_stand();
 }
@@ -118,7 +118,7 @@ pub fn valid_models_are_not_refused()
 pub fn keys_are_in_order()
     ensures order { (root : List ℕ) (model : Metadata) → IsModel root model → (table : Table) (key : ℕ) → key_of table ≡ Some key
         → IsInOrder (source_of root) table key ↔ IsKeyOrdered model table }
-    ensures numbers { (root : List ℕ) (model : Metadata) → IsModel root model → (table : Table) (cell row : ℕ) → IsKeyPlace table cell
+    ensures numbers { (root : List ℕ) (model : Metadata) → IsModel root model → (table : Table) (cell row : ℕ) → IsKeyCell table cell
         → 1 ≤ row → row ≤ rows_in (source_of root) table
         → number_of (source_of root) table row (column_of table cell) ≡ key_in model table cell row }
 {
@@ -131,7 +131,7 @@ pub fn keys_are_in_order()
 
 /// Two rows have different numbers in a key column that can refer to both.
 pub fn key_numbers_are_one()
-    ensures { (table : Table) (cell : ℕ) → IsKeyPlace table cell → (token : Token) → 1 ≤ token.row → IsOfKind (kind_at table cell) (Ref (Some token))
+    ensures { (table : Table) (cell : ℕ) → IsKeyCell table cell → (token : Token) → 1 ≤ token.row → IsOfKind (kind_at table cell) (Ref (Some token))
         → (key : Cell) → IsOfKind (kind_at table cell) key
         → (key ≡ Ref (Some token)) ↔ (key_number (kind_at table cell) key ≡ row_number (kind_at table cell) token) }
 {

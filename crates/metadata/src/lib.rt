@@ -3,7 +3,7 @@
 //!
 //! Apart from [`row_number`] there is no code here, only the definitions in `specs/` in which reading and
 //! writing meet, and their laws. `Model.antt` says which model a root and a file have, by the relations of the layers below;
-//! `Demands.antt` lists the rules, each with its code and its offset. All rules hold if and only if
+//! `Rules.antt` lists the rules, each with its code and its offset. All rules hold if and only if
 //! there is a model, and there is at most one: [`roots_have_models`], [`files_have_models`].
 //!
 //! ```text

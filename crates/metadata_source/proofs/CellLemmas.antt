@@ -6,7 +6,7 @@ use Rattle.table_schema.specs.declared.table.TableId.{TableId}
 use Rattle.table_schema.specs.declared.column.Column.{Column}
 use Rattle.table_schema.specs.Columns.{columns_of}
 use Rattle.table_schema.specs.CellColumns.{is_padding, indexes_from, cell_columns, column_of}
-use Rattle.metadata.specs.Lookups.{IsKeyPlace}
+use Rattle.metadata.specs.Lookups.{IsKeyCell}
 
 skipped : (index : ℕ) (column : Column) (columns : List Column) → is_padding column.kind ≡ true
     → indexes_from index (column ∷ columns) ≡ indexes_from (index + 1) columns
@@ -17,18 +17,18 @@ kept : (index : ℕ) (column : Column) (columns : List Column) → is_padding co
 kept index column columns e = rw e refl
 
 -- a smaller index before larger ones
-later : (index : ℕ) (rest : List ℕ) → ((k : ℕ) → k < length rest → index + 1 ≤ slice_index rest k)
-    → (k : ℕ) → k < length (index ∷ rest) → index ≤ slice_index (index ∷ rest) k
-later index rest rise zero low = omega arith
-later index rest rise (suc k) low = let h = rise k (omega arith) in omega arith
+later : (index : ℕ) (tail : List ℕ) → ((k : ℕ) → k < length tail → index + 1 ≤ slice_index tail k)
+    → (k : ℕ) → k < length (index ∷ tail) → index ≤ slice_index (index ∷ tail) k
+later index tail rise zero low = omega arith
+later index tail rise (suc k) low = let h = rise k (omega arith) in omega arith
 
-once_more : (index : ℕ) (rest : List ℕ) → ((k : ℕ) → k < length rest → index + 1 ≤ slice_index rest k)
-    → ((a b : ℕ) → a < length rest → b < length rest → slice_index rest a ≡ slice_index rest b → a ≡ b)
-    → (a b : ℕ) → a < length (index ∷ rest) → b < length (index ∷ rest) → slice_index (index ∷ rest) a ≡ slice_index (index ∷ rest) b → a ≡ b
-once_more index rest rise one zero zero low high same = refl
-once_more index rest rise one zero (suc b) low high same = let h = rise b (omega arith) in absurd (omega arith)
-once_more index rest rise one (suc a) zero low high same = let h = rise a (omega arith) in absurd (omega arith)
-once_more index rest rise one (suc a) (suc b) low high same = ap suc (one a b (omega arith) (omega arith) same)
+once_more : (index : ℕ) (tail : List ℕ) → ((k : ℕ) → k < length tail → index + 1 ≤ slice_index tail k)
+    → ((a b : ℕ) → a < length tail → b < length tail → slice_index tail a ≡ slice_index tail b → a ≡ b)
+    → (a b : ℕ) → a < length (index ∷ tail) → b < length (index ∷ tail) → slice_index (index ∷ tail) a ≡ slice_index (index ∷ tail) b → a ≡ b
+once_more index tail rise one zero zero low high same = refl
+once_more index tail rise one zero (suc b) low high same = let h = rise b (omega arith) in absurd (omega arith)
+once_more index tail rise one (suc a) zero low high same = let h = rise a (omega arith) in absurd (omega arith)
+once_more index tail rise one (suc a) (suc b) low high same = ap suc (one a b (omega arith) (omega arith) same)
 
 -- the indexes from a first one on are not smaller than it
 indexes_rise : (index : ℕ) (columns : List Column) (k : ℕ) → k < length (indexes_from index columns) → index ≤ slice_index (indexes_from index columns) k
@@ -56,7 +56,7 @@ indexes_are_one index (column ∷ columns) a b low high same =
     ]
 
 -- the key of a table has one cell
-pub key_is_one : (table : TableId) (a b : ℕ) → IsKeyPlace table a → IsKeyPlace table b → a ≡ b
+pub key_is_one : (table : TableId) (a b : ℕ) → IsKeyCell table a → IsKeyCell table b → a ≡ b
 unfolding cell_columns
 key_is_one table a b one other =
     let same : column_of table a ≡ column_of table b = same_Some (column_of table a) (column_of table b) (sym one.key ∙ other.key) in

@@ -7,7 +7,7 @@ use Rattle.table_schema.specs.declared.table.TableId.{TableId}
 use Rattle.table_schema.specs.declared.token.Token.{Token}
 use Rattle.metadata.specs.Cell as says
 use Rattle.metadata.specs.Metadata.{Metadata, count_in, cell_in}
-use Rattle.metadata.specs.Lookups.{HasRow, HasKey, IsKeyPlace}
+use Rattle.metadata.specs.Lookups.{HasRow, HasKey, IsKeyCell}
 use Rattle.metadata.specs.Kinds.{IsOfKind}
 use Rattle.metadata.specs.Valid.{IsValid, MayRefer, kind_at, nullable_at}
 use Rattle.metadata.specs.KeyOrder.{row_number, key_number, key_in, IsKeyOrdered}
@@ -20,7 +20,7 @@ use Rattle.metadata_source.proofs.RowLemmas.{that_passes, passes_that}
 module _ (f : ℕ → ℕ) where
   numbers_long : (row left : ℕ) → length (numbers_from f row left) ≡ left
   numbers_long row zero = refl
-  numbers_long row (suc left) = let rest = numbers_long (row + 1) left in omega arith
+  numbers_long row (suc left) = let tail = numbers_long (row + 1) left in omega arith
 
   number_at : (row left k d : ℕ) → k < left → slice_index_or (numbers_from f row left) k d ≡ f (row + k)
   number_at row zero k d within = absurd (omega arith)
@@ -66,8 +66,8 @@ module _ (f : ℕ → ℕ) (n : ℕ) where
       omega arith
 
 -- a number tells which cells are a token
-abbrev pub TellsKey : Metadata → TableId → ℕ → Token → ℕ → Type 0
-TellsKey model table cell token number = (row : ℕ) → HasRow model table row
+abbrev pub ReportsKey : Metadata → TableId → ℕ → Token → ℕ → Type 0
+ReportsKey model table cell token number = (row : ℕ) → HasRow model table row
     → (cell_in model table row cell ≡ says.Ref (Some token)) ↔ (key_in model table cell row ≡ number)
 
 -- no cell is a token
@@ -83,16 +83,16 @@ abbrev pub AreOne : TableId → ℕ → Token → Type 0
 AreOne table cell token = (key : says.Cell) → IsOfKind (kind_at table cell) key
     → (key ≡ says.Ref (Some token)) ↔ (key_number (kind_at table cell) key ≡ row_number (kind_at table cell) token)
 
-module _ (model : Metadata) (valid : IsValid model) (table : TableId) (cell : ℕ) (at : IsKeyPlace table cell) (token : Token) where
+module _ (model : Metadata) (valid : IsValid model) (table : TableId) (cell : ℕ) (at : IsKeyCell table cell) (token : Token) where
   -- the number of a token tells the cells that are the token
-  pub tells : (result : Option ℕ) → (Takes table cell token → AreOne table cell token)
+  pub reports : (result : Option ℕ) → (Takes table cell token → AreOne table cell token)
       → IfSome result (λ number. number ≡ row_number (kind_at table cell) token) → IfSome result (λ _. Takes table cell token)
-      → IfSome result (TellsKey model table cell token)
-  tells None one number takes = tt
-  tells (Some number) one is takes = λ row has.
-      let told = one takes (cell_in model table row cell) (valid.cells table row cell has at.within).of_kind in (
-        (λ same. told.0 same ∙ sym is),
-        (λ same. told.1 (same ∙ is)),
+      → IfSome result (ReportsKey model table cell token)
+  reports None one number takes = tt
+  reports (Some number) one is takes = λ row has.
+      let reported = one takes (cell_in model table row cell) (valid.cells table row cell has at.within).of_kind in (
+        (λ same. reported.0 same ∙ sym is),
+        (λ same. reported.1 (same ∙ is)),
       )
 
   -- a token that the column does not take is no key
@@ -108,7 +108,7 @@ module _ (model : Metadata) (valid : IsValid model) (table : TableId) (cell : �
       let P : says.Cell → Type 0 = λ c. MayRefer model (nullable_at table cell) c in
       none (subst P same (valid.cells table row cell has at.within).refers)
 
-module _ (model : Metadata) (table : TableId) (cell : ℕ) (at : IsKeyPlace table cell) (token : Token) where
+module _ (model : Metadata) (table : TableId) (cell : ℕ) (at : IsKeyCell table cell) (token : Token) where
   -- the key is in this one cell
   key_here : (row : ℕ) → HasKey model table token row → cell_in model table row cell ≡ says.Ref (Some token)
   key_here row (other, there, is) =
@@ -128,10 +128,10 @@ module _ (model : Metadata) (table : TableId) (cell : ℕ) (at : IsKeyPlace tabl
         omega arith)
 
     -- the rows whose key has the number are those with the key
-    pub rows_are : (number : ℕ) → TellsKey model table cell token number → (rows : List ℕ)
+    pub rows_are : (number : ℕ) → ReportsKey model table cell token number → (rows : List ℕ)
         → rows ≡ rows_with (all_numbers f n) number 1 (length (all_numbers f n) + 1)
         → (row : ℕ) → Contains rows row ↔ (HasRow model table row × HasKey model table token row)
-    rows_are number tells rows is row =
+    rows_are number reports rows is row =
         let long = numbers_count f n in
         let test = λ (r : ℕ). key_at (all_numbers f n) r == number in
         let P : List ℕ → Type 0 = λ l. Contains l row in (
@@ -142,12 +142,12 @@ module _ (model : Metadata) (table : TableId) (cell : ℕ) (at : IsKeyPlace tabl
               let last : row ≤ n = omega arith in
               let there : row ≤ count_in model table = omega arith in
               let equal = eqb-true (key_at (all_numbers f n) row) number passes.2 in
-              ((first, there), (cell, at, (tells row (first, there)).1 (sym (number_is f n row 0 first last ∙ keys row first last) ∙ equal)))),
+              ((first, there), (cell, at, (reports row (first, there)).1 (sym (number_is f n row 0 first last ∙ keys row first last) ∙ equal)))),
           (λ both.
               let first = both.0.0 in
               let there = both.0.1 in
               let last : row ≤ n = omega arith in
-              let equal = number_is f n row 0 first last ∙ keys row first last ∙ (tells row both.0).0 (key_here row both.1) in
+              let equal = number_is f n row 0 first last ∙ keys row first last ∙ (reports row both.0).0 (key_here row both.1) in
               subst P (sym is) (passes_that test 1 (length (all_numbers f n) + 1 - 1) row
               (first, omega arith, eq-eqb (key_at (all_numbers f n) row) number equal))),
         )

@@ -5,7 +5,7 @@ ghost use Rattle.rows.specs.Keys.{binary_digits};
 ghost use Rattle.table_schema.specs.Columns.{key_of};
 ghost use Rattle.metadata.specs.Cell.{Ref};
 ghost use Rattle.metadata.specs.Metadata.{Metadata, count_in, cell_in};
-ghost use Rattle.metadata.specs.Lookups.{HasRow, HasKey, IsKeyPlace};
+ghost use Rattle.metadata.specs.Lookups.{HasRow, HasKey, IsKeyCell};
 ghost use Rattle.metadata.specs.KeyOrder.{key_in, IsKeyOrdered};
 
 use crate::key_cells::{key_cell, kind_of};
@@ -30,7 +30,7 @@ pub fn rows_by_key<S: ReadMetadata>(
     ensures ascending { IsStrictlyIncreasing result.rows }
     ensures rows { (model : Metadata) → S.shows source.now model → (row : ℕ)
         → Contains result.rows row ↔ (HasRow model table row × HasKey model table token row) }
-    ensures found { (model : Metadata) → S.shows source.now model → IsKeyOrdered model table
+    ensures bounded { (model : Metadata) → S.shows source.now model → IsKeyOrdered model table
         → result.reads ≤ 2 * binary_digits (count_in model table) + 2 }
     ensures walked { (model : Metadata) → S.shows source.now model → ¬ IsKeyOrdered model table → result.reads ≡ 0 }
 {
@@ -53,8 +53,8 @@ pub fn rows_by_key<S: ReadMetadata>(
 
 /// The number of a key that is a token, `None` if no row has such a key.
 fn key_number<S: ReadMetadata>(source: &S, table: TableId, cell: usize, token: Token) -> Option<u32>
-    requires { IsKeyPlace table cell }
-    ensures found { (model : Metadata) → S.shows source.now model → IfSome result (λ number. (row : ℕ) → HasRow model table row
+    requires { IsKeyCell table cell }
+    ensures sound { (model : Metadata) → S.shows source.now model → IfSome result (λ number. (row : ℕ) → HasRow model table row
         → (cell_in model table row cell ≡ Ref (Some token)) ↔ (key_in model table cell row ≡ number)) }
     ensures none { (model : Metadata) → S.shows source.now model
         → IfNone result ((row : ℕ) → HasRow model table row → cell_in model table row cell ≢ Ref (Some token)) }

@@ -1,7 +1,7 @@
 ghost use Rattle.std.specs.Prelude.{◌≡◌, ◌<◌, IsSome};
 ghost use Rattle.table_schema.specs.Columns.{key_of};
 ghost use Rattle.table_schema.specs.CellColumns.{cell_count};
-ghost use Rattle.metadata.specs.Lookups.{IsKeyPlace};
+ghost use Rattle.metadata.specs.Lookups.{IsKeyCell};
 ghost use Rattle.metadata.specs.Valid.{kind_at};
 
 use table_schema::{
@@ -12,7 +12,7 @@ use table_schema::{
 /// The index of a table's key among the cells of its rows.
 pub fn key_cell(table: TableId) -> usize
     requires { IsSome (key_of table) }
-    ensures { IsKeyPlace table result }
+    ensures { IsKeyCell table result }
 {
     cells_have_columns();
     columns_stand();

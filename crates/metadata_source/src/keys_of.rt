@@ -1,4 +1,4 @@
-ghost use Rattle.metadata.specs.Lookups.{IsKeyPlace};
+ghost use Rattle.metadata.specs.Lookups.{IsKeyCell};
 ghost use Rattle.metadata_source.specs.Keys.{all_numbers};
 
 use crate::source::ReadMetadata;
@@ -14,7 +14,7 @@ pub struct KeysOf<'s, S> {
     pub table: TableId,
     /// The index of the key among the cells of a row.
     pub cell: usize,
-    ghost key: { IsKeyPlace table cell },
+    ghost key: { IsKeyCell table cell },
 }
 
 impl<'s, S: ReadMetadata> KeyNumbers for KeysOf<'s, S> {

@@ -12,7 +12,7 @@ pub trait ReadMetadata {
     ghost use Rattle.table_schema.specs.CellColumns.{cell_count};
     ghost use Rattle.metadata.specs.Cell.{Text, Start};
     ghost use Rattle.metadata.specs.Metadata.{Metadata, count_in, cell_in};
-    ghost use Rattle.metadata.specs.Lookups.{IsKeyPlace};
+    ghost use Rattle.metadata.specs.Lookups.{IsKeyCell};
     ghost use Rattle.metadata.specs.KeyOrder.{key_in, IsKeyOrdered};
     ghost use Rattle.metadata.specs.Valid.{IsValid, kind_at};
     ghost use Rattle.metadata_source.specs.MemberLists.{owner_of, cell_of};
@@ -31,7 +31,7 @@ pub trait ReadMetadata {
         ensures shown { ¬ (¬ ((model : Metadata) × shows self.now model)) }
         ensures valid { (model : Metadata) → shows self.now model → IsValid model }
         ensures rows { (model : Metadata) → shows self.now model → (table : Table) → count_in model table ≡ row_count self.now table }
-        ensures keys { (model : Metadata) → shows self.now model → (table : Table) (cell row : ℕ) → IsKeyPlace table cell
+        ensures keys { (model : Metadata) → shows self.now model → (table : Table) (cell row : ℕ) → IsKeyCell table cell
             → 1 ≤ row → row ≤ row_count self.now table → key_number self.now table cell row ≡ key_in model table cell row };
 
     /// The number of rows of a table.
@@ -55,7 +55,7 @@ pub trait ReadMetadata {
 
     /// The key number of a row, by the index of the key among its cells.
     fn key(&self, table: TableId, row: u32, cell: usize) -> u32
-        requires key { IsKeyPlace table cell }
+        requires key { IsKeyCell table cell }
         requires first { 1 ≤ row }
         requires last { row ≤ row_count self.now table }
         ensures { result ≡ key_number self.now table cell row };

@@ -17,7 +17,7 @@ const NAMESPACE: usize = 2;
 /// A type without a namespace has the empty one. The names of each type before it are compared, up to
 /// the first byte that differs.
 pub fn find_type<S: ReadMetadata>(source: &S, namespace: &str, name: &str) -> Option<u32>
-    ensures found { (model : Metadata) → S.shows source.now model → IfSome result (IsFirstType model namespace.now name.now) }
+    ensures sound { (model : Metadata) → S.shows source.now model → IfSome result (IsFirstType model namespace.now name.now) }
     ensures none { (model : Metadata) → S.shows source.now model
         → IfNone result ((row : ℕ) → HasRow model TypeDef row → ¬ HasNames model namespace.now name.now row) }
 {

@@ -1,4 +1,4 @@
 pub mod Files
 pub mod ModelReads
 pub mod Parts
-pub mod Placed
+pub mod SourceAt

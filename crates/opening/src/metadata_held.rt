@@ -1,7 +1,7 @@
 ghost use Rattle.table_schema.specs.CellColumns.{column_of};
 ghost use Rattle.metadata.specs.Source.{number_of};
 ghost use Rattle.metadata.specs.Model.{IsModel};
-ghost use Rattle.metadata.specs.Placed.{source_of};
+ghost use Rattle.metadata.specs.SourceAt.{source_of};
 ghost use Rattle.opening.specs.Views.{row_count};
 
 use crate::view::View;

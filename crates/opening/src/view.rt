@@ -1,7 +1,7 @@
 ghost use Rattle.std.specs.Prelude.{◌≡◌, ◌≤◌, ◌<◌, ◌↔◌, ◌+◌, ◌-◌, ◌*◌, ℕ, IsTrue, Some, IsSome, IfSome, IfNone, length, slice_index};
 ghost use Rattle.std.specs.List.{Contains};
 ghost use Rattle.std.specs.List.Sorted.{IsStrictlyIncreasing};
-ghost use Rattle.heap_entries.specs.Fill.{filled};
+ghost use Rattle.heap_entries.specs.Padding.{zero_padded};
 ghost use Rattle.rows.specs.Keys.{binary_digits};
 ghost use Rattle.root.specs.Fields.{root_read};
 ghost use Rattle.table_schema.specs.declared.table.TableId.{TableId as Table};
@@ -12,15 +12,15 @@ ghost use Rattle.metadata.specs.Metadata.{Metadata, count_in, cell_in};
 ghost use Rattle.metadata.specs.Cell.{Start};
 ghost use Rattle.metadata.specs.Source.{Source as TheSource, rows_in, number_of};
 ghost use Rattle.table_schema.specs.CellColumns.{cell_count, column_of};
-ghost use Rattle.metadata.specs.Rules.{IsInOrder};
+ghost use Rattle.metadata.specs.RowRules.{IsInOrder};
 ghost use Rattle.metadata.specs.KeyOrder.{IsKeyOrdered};
 ghost use Rattle.metadata.specs.Model.{IsModel};
-ghost use Rattle.metadata.specs.Placed.{source_of};
+ghost use Rattle.metadata.specs.SourceAt.{source_of};
 ghost use Rattle.metadata.specs.Lookups.{IsRun, IsFirstType, HasRow, HasNames, HasKey};
 ghost use Rattle.reading.specs.ReadFrom.{IsReadFrom, IsReadable};
 ghost use Rattle.reading.specs.KnownStarts.{AreKnown};
 ghost use Rattle.reading.specs.Shown.{ShowsCell, ShowsBlob};
-ghost use Rattle.checks.specs.Orders.{TellsOrder};
+ghost use Rattle.checks.specs.Orders.{ReportsOrder};
 ghost use Rattle.opening.specs.Views.{HasModel, AreFound, row_count, user_of};
 
 use crate::found::Found;
@@ -69,7 +69,7 @@ impl<'a> View<'a> {
         requires source { source.source ≡ source_of root.now }
         requires version { version.now ≡ (root_read root.now).version }
         requires user { user.now ≡ user_of root.now }
-        requires order { TellsOrder source.source found.in_order }
+        requires order { ReportsOrder source.source found.in_order }
         requires known { AreKnown source.source found.known }
         ensures { result ≡ root.now }
     {
@@ -130,7 +130,7 @@ impl<'a> View<'a> {
     /// The bytes of `#US`, as they are in the root (II.24.2.4).
     pub fn user(&self) -> &'a [u8]
         ensures stream { result.now ≡ user_of self.now }
-        ensures model { (model : Metadata) → IsModel self.now model → filled result.now ≡ model.user }
+        ensures model { (model : Metadata) → IsModel self.now model → zero_padded result.now ≡ model.user }
     {
         models_are_read();
         self.user
@@ -239,7 +239,7 @@ impl<'a> View<'a> {
     ///
     /// The bytes are compared in place, up to the first that differs. A type without a namespace has the empty one.
     pub fn find_type(&self, namespace: &str, name: &str) -> Option<u32>
-        ensures found { (model : Metadata) → IsModel self.now model → IfSome result (IsFirstType model namespace.now name.now) }
+        ensures sound { (model : Metadata) → IsModel self.now model → IfSome result (IsFirstType model namespace.now name.now) }
         ensures none { (model : Metadata) → IsModel self.now model
             → IfNone result ((row : ℕ) → HasRow model TypeDef row → ¬ HasNames model namespace.now name.now row) }
     {
@@ -267,7 +267,7 @@ impl<'a> View<'a> {
         ensures ascending { IsStrictlyIncreasing result.rows }
         ensures rows { (model : Metadata) → IsModel self.now model → (row : ℕ)
             → Contains result.rows row ↔ (HasRow model table row × HasKey model table token row) }
-        ensures found { (model : Metadata) → IsModel self.now model → IsKeyOrdered model table
+        ensures bounded { (model : Metadata) → IsModel self.now model → IsKeyOrdered model table
             → result.reads ≤ 2 * binary_digits (count_in model table) + 2 }
         ensures walked { (model : Metadata) → IsModel self.now model → ¬ IsKeyOrdered model table → result.reads ≡ 0 }
     {

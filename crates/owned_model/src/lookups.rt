@@ -65,7 +65,7 @@ impl Model {
     /// A type without a namespace has the empty one. The names of each type before it are compared, up to the first
     /// byte that differs.
     pub fn find_type(&self, namespace: &str, name: &str) -> Option<u32>
-        ensures found { IfSome result (IsFirstType self.now namespace.now name.now) }
+        ensures sound { IfSome result (IsFirstType self.now namespace.now name.now) }
         ensures none { IfNone result ((row : ℕ) → HasRow self.now TypeDef row → ¬ HasNames self.now namespace.now name.now row) }
     {
         metadata_source::find_type(self, namespace, name)
@@ -80,7 +80,7 @@ impl Model {
         requires { IsSome (key_of table) }
         ensures ascending { IsStrictlyIncreasing result.rows }
         ensures rows { (row : ℕ) → Contains result.rows row ↔ (HasRow self.now table row × HasKey self.now table token row) }
-        ensures found { IsKeyOrdered self.now table → result.reads ≤ 2 * binary_digits (count_in self.now table) + 2 }
+        ensures bounded { IsKeyOrdered self.now table → result.reads ≤ 2 * binary_digits (count_in self.now table) + 2 }
         ensures walked { ¬ IsKeyOrdered self.now table → result.reads ≡ 0 }
     {
         metadata_source::rows_by_key(self, table, token)

@@ -1,4 +1,4 @@
-pub mod DemandLemmas
+pub mod RuleLemmas
 mod FieldLemmas
 mod NumberLemmas
 mod PackedLemmas

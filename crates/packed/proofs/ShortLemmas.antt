@@ -5,8 +5,8 @@ use Rattle.std.proofs.lemmas.Bool.{and_parts, ltb-true, lt-ltb}
 use Rattle.std.proofs.lemmas.Int.{ints}
 use Rattle.packed.specs.Packed.{IsPacked, IsPackedSigned, FitsBits, fits_bits, half_range, short_unsigned, short_signed, signed_bits, one_byte, two_bytes, four_bytes}
 
-pub unsigned_spells : (n : ℕ) → n < 2 ^ 29 → IsPacked n (short_unsigned n)
-unsigned_spells n lt = by_test (ltb n (2 ^ 7)) (ltb n (2 ^ 14)) (λ e. ltb-true n (2 ^ 7) e) (λ e. ltb-true n (2 ^ 14) e)
+pub unsigned_encodes : (n : ℕ) → n < 2 ^ 29 → IsPacked n (short_unsigned n)
+unsigned_encodes n lt = by_test (ltb n (2 ^ 7)) (ltb n (2 ^ 14)) (λ e. ltb-true n (2 ^ 7) e) (λ e. ltb-true n (2 ^ 14) e)
   where
     by_test : (p q : Bool) → (p ≡ true → n < 2 ^ 7) → (q ≡ true → n < 2 ^ 14) → IsPacked n (cond p (one_byte n) (cond q (two_bytes n) (four_bytes n)))
     by_test true q f g = inl (f refl, refl)
@@ -56,8 +56,8 @@ fits_test w z h = let a = h.low in let b = h.high in search rules
 pub fits_both : (w : ℕ) (z : ℤ) → (fits_bits w z ≡ true) ↔ FitsBits w z
 fits_both w z = (fits_from w z, fits_test w z)
 
-pub signed_spells : (z : ℤ) → FitsBits 29 z → IsPackedSigned z (short_signed z)
-signed_spells z h = by_test (fits_bits 7 z) (fits_bits 14 z) (λ e. fits_from 7 z e) (λ e. fits_from 14 z e)
+pub signed_encodes : (z : ℤ) → FitsBits 29 z → IsPackedSigned z (short_signed z)
+signed_encodes z h = by_test (fits_bits 7 z) (fits_bits 14 z) (λ e. fits_from 7 z e) (λ e. fits_from 14 z e)
   where
     by_test : (p q : Bool) → (p ≡ true → FitsBits 7 z) → (q ≡ true → FitsBits 14 z) → IsPackedSigned z (cond p (one_byte (signed_bits 7 z)) (cond q (two_bytes (signed_bits 14 z)) (four_bytes (signed_bits 29 z))))
     by_test true q f g = let t = f refl in inl (t, (bits_seven z t, refl))

@@ -5,44 +5,44 @@ use Rattle.std.specs.Option.{IfSome, IsSomeAnd}
 use Rattle.std.proofs.lemmas.Int.{ints}
 use Rattle.std.proofs.lemmas.List.{length-take-le}
 use Rattle.std.proofs.lemmas.Bool.{eqb-true, eqb-false, eq-eqb}
-use Rattle.packed.specs.Front.{unsigned_at, signed_at, bits_of, unrotated}
+use Rattle.packed.specs.Prefix.{unsigned_at, signed_at, bits_of, unrotated}
 use Rattle.packed.specs.Packed.{IsPacked, IsOneByte, IsTwoBytes, IsFourBytes, IsPackedSigned, FitsBits, signed_bits}
 use Rattle.packed.proofs.PackedLemmas.{AreBytes, unsigned_found, unsigned_again}
 
 -- the bits n encode the number z that they decode to
-record SpellsBack (w n : ℕ) (z : ℤ) : Type 0 where
+record EncodesBack (w n : ℕ) (z : ℤ) : Type 0 where
   fits : FitsBits w z
   same : n ≡ signed_bits w z
 
 sub_below : (low half : ℕ) → low < half → pos low -ℤ pos half ≡ negsuc (half - 1 - low)
 sub_below low half lt = omega (arith, ints)
 
-back_by_test : (w n : ℕ) (p : Bool) → (p ≡ true → SpellsBack w n (pos (n / 2))) → (p ≡ false → SpellsBack w n (pos (n / 2) -ℤ pos (2 ^ (w - 1)))) → SpellsBack w n (cond p (pos (n / 2)) (pos (n / 2) -ℤ pos (2 ^ (w - 1))))
+back_by_test : (w n : ℕ) (p : Bool) → (p ≡ true → EncodesBack w n (pos (n / 2))) → (p ≡ false → EncodesBack w n (pos (n / 2) -ℤ pos (2 ^ (w - 1)))) → EncodesBack w n (cond p (pos (n / 2)) (pos (n / 2) -ℤ pos (2 ^ (w - 1))))
 back_by_test w n true h k = h refl
 back_by_test w n false h k = k refl
 
 not_even : (n : ℕ) → eqb (n % 2) 0 ≡ false → n % 2 ≡ 1
 not_even n e = let odd = eqb-false (n % 2) 0 e in omega arith
 
-back_one : (n : ℕ) → n < 2 ^ 7 → SpellsBack 7 n (unrotated 7 n)
+back_one : (n : ℕ) → n < 2 ^ 7 → EncodesBack 7 n (unrotated 7 n)
 back_one n lt =
     back_by_test 7 n (eqb (n % 2) 0)
     (λ e. let even = eqb-true (n % 2) 0 e in record { fits = record { low = omega (arith, ints); high = omega (arith, ints) }; same = omega arith })
-    (λ e. let odd = not_even n e in subst (λ (z : ℤ). SpellsBack 7 n z) (sym (sub_below (n / 2) (2 ^ 6) (omega arith)))
+    (λ e. let odd = not_even n e in subst (λ (z : ℤ). EncodesBack 7 n z) (sym (sub_below (n / 2) (2 ^ 6) (omega arith)))
     (record { fits = record { low = omega (arith, ints); high = omega (arith, ints) }; same = omega arith }))
 
-back_two : (n : ℕ) → n < 2 ^ 14 → SpellsBack 14 n (unrotated 14 n)
+back_two : (n : ℕ) → n < 2 ^ 14 → EncodesBack 14 n (unrotated 14 n)
 back_two n lt =
     back_by_test 14 n (eqb (n % 2) 0)
     (λ e. let even = eqb-true (n % 2) 0 e in record { fits = record { low = omega (arith, ints); high = omega (arith, ints) }; same = omega arith })
-    (λ e. let odd = not_even n e in subst (λ (z : ℤ). SpellsBack 14 n z) (sym (sub_below (n / 2) (2 ^ 13) (omega arith)))
+    (λ e. let odd = not_even n e in subst (λ (z : ℤ). EncodesBack 14 n z) (sym (sub_below (n / 2) (2 ^ 13) (omega arith)))
     (record { fits = record { low = omega (arith, ints); high = omega (arith, ints) }; same = omega arith }))
 
-back_four : (n : ℕ) → n < 2 ^ 29 → SpellsBack 29 n (unrotated 29 n)
+back_four : (n : ℕ) → n < 2 ^ 29 → EncodesBack 29 n (unrotated 29 n)
 back_four n lt =
     back_by_test 29 n (eqb (n % 2) 0)
     (λ e. let even = eqb-true (n % 2) 0 e in record { fits = record { low = omega (arith, ints); high = omega (arith, ints) }; same = omega arith })
-    (λ e. let odd = not_even n e in subst (λ (z : ℤ). SpellsBack 29 n z) (sym (sub_below (n / 2) (2 ^ 28) (omega arith)))
+    (λ e. let odd = not_even n e in subst (λ (z : ℤ). EncodesBack 29 n z) (sym (sub_below (n / 2) (2 ^ 28) (omega arith)))
     (record { fits = record { low = omega (arith, ints); high = omega (arith, ints) }; same = omega arith }))
 
 one_signed : (n : ℕ) (s : List ℕ) → IsOneByte n s → IsPackedSigned (unrotated 7 n) s
@@ -96,20 +96,20 @@ read_as : (w n count : ℕ) (z : ℤ) (bytes : List ℕ) → unsigned_at bytes �
 unfolding signed_at
 read_as w n count z bytes e k h = rw (e, k, h) refl
 
-pub signed_again : (z : ℤ) (front rest : List ℕ) → IsPackedSigned z front → signed_at (front ++ rest) ≡ Some (z, length front)
-signed_again z front rest (inl h) =
+pub signed_again : (z : ℤ) (prefix tail : List ℕ) → IsPackedSigned z prefix → signed_at (prefix ++ tail) ≡ Some (z, length prefix)
+signed_again z prefix tail (inl h) =
     let n = signed_bits 7 z in
-    read_as 7 n (length front) z (front ++ rest) (unsigned_again n front rest (inl h.1)) (ap (λ (t : List ℕ). bits_of (length t)) h.1.1) (again_one z h.0)
-signed_again z front rest (inr (inl h)) =
+    read_as 7 n (length prefix) z (prefix ++ tail) (unsigned_again n prefix tail (inl h.1)) (ap (λ (t : List ℕ). bits_of (length t)) h.1.1) (again_one z h.0)
+signed_again z prefix tail (inr (inl h)) =
     let n = signed_bits 14 z in
-    read_as 14 n (length front) z (front ++ rest) (unsigned_again n front rest (inr (inl h.1))) (ap (λ (t : List ℕ). bits_of (length t)) h.1.1) (again_two z h.0)
-signed_again z front rest (inr (inr h)) =
+    read_as 14 n (length prefix) z (prefix ++ tail) (unsigned_again n prefix tail (inr (inl h.1))) (ap (λ (t : List ℕ). bits_of (length t)) h.1.1) (again_two z h.0)
+signed_again z prefix tail (inr (inr h)) =
     let n = signed_bits 29 z in
-    read_as 29 n (length front) z (front ++ rest) (unsigned_again n front rest (inr (inr h.1))) (ap (λ (t : List ℕ). bits_of (length t)) h.1.1) (again_four z h.0)
+    read_as 29 n (length prefix) z (prefix ++ tail) (unsigned_again n prefix tail (inr (inr h.1))) (ap (λ (t : List ℕ). bits_of (length t)) h.1.1) (again_four z h.0)
 
-pub signed_only : (bytes front rest : List ℕ) (z : ℤ) (r : Option (ℤ × ℕ)) → r ≡ signed_at bytes → bytes ≡ front ++ rest → IsPackedSigned z front
-    → IsSomeAnd r (λ read. (read.0 ≡ z) × (read.1 ≡ length front))
-signed_only bytes front rest z r is split packed =
-    let read : r ≡ Some (z, length front) = is ∙ ap signed_at split ∙ signed_again z front rest packed in
-    let P : Option (ℤ × ℕ) → Type 0 = λ o. IsSomeAnd o (λ x. (x.0 ≡ z) × (x.1 ≡ length front)) in
+pub signed_only : (bytes prefix tail : List ℕ) (z : ℤ) (r : Option (ℤ × ℕ)) → r ≡ signed_at bytes → bytes ≡ prefix ++ tail → IsPackedSigned z prefix
+    → IsSomeAnd r (λ read. (read.0 ≡ z) × (read.1 ≡ length prefix))
+signed_only bytes prefix tail z r is split packed =
+    let read : r ≡ Some (z, length prefix) = is ∙ ap signed_at split ∙ signed_again z prefix tail packed in
+    let P : Option (ℤ × ℕ) → Type 0 = λ o. IsSomeAnd o (λ x. (x.0 ≡ z) × (x.1 ≡ length prefix)) in
     subst P (sym read) (refl, refl)

@@ -1,8 +1,8 @@
 pub mod Codes
-pub mod Demand
+pub mod Rule
 pub mod Fields
-pub mod Front
+pub mod Prefix
 pub mod Limit
 pub mod Number
 pub mod Packed
-pub mod Places
+pub mod Offsets

@@ -1,5 +1,5 @@
 ghost use Rattle.std.specs.Prelude.{◌≡◌, Some};
-ghost use Rattle.packed.specs.Demand.{fault};
+ghost use Rattle.packed.specs.Rule.{fault};
 ghost use Rattle.packed.specs.Codes.{name_of, fault_text};
 
 use crate::code::FaultCode;
@@ -19,7 +19,7 @@ pub struct Fault {
 
 impl Fault {
     ghost use Rattle.std.specs.Prelude.{◌≡◌, ◌+◌, ◌^◌, ◌<◌};
-    ghost use Rattle.packed.specs.Demand.{raise};
+    ghost use Rattle.packed.specs.Rule.{rebase};
 
     /// The fault of a rule at an offset in bytes.
     pub fn new(code: FaultCode, offset: u64) -> Fault
@@ -34,9 +34,9 @@ impl Fault {
     }
 
     /// The same fault, with `by` bytes added to its offset.
-    pub fn raised(self, by: u64) -> Fault
+    pub fn rebased(self, by: u64) -> Fault
         requires { by + self.offset < 2 ^ 64 }
-        ensures { result ≡ raise by self }
+        ensures { result ≡ rebase by self }
     {
         Fault {
             offset: by + self.offset,

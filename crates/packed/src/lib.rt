@@ -2,7 +2,7 @@
 //! and the faults that are reported for invalid bytes.
 //!
 //! A layer that reads has an ordered list of rules. It returns `Ok` if and only if all of them
-//! hold, else the [`Fault`] of the first broken rule. `specs/Demand.antt` defines this for any
+//! hold, else the [`Fault`] of the first broken rule. `specs/Rule.antt` defines this for any
 //! error type.
 //!
 //! ```text
@@ -23,7 +23,7 @@ mod unsigned;
 
 pub use code::FaultCode;
 pub use fault::Fault;
-pub use laws::{fields_are_parts, numbers_are_read, shortest_forms_spell};
+pub use laws::{fields_are_parts, numbers_are_read, shortest_forms_encode};
 pub use limit::BYTE_LIMIT;
 pub use number::{u16_at, u32_at, u64_at};
 pub use signed::{put_signed, read_signed};

@@ -1,6 +1,6 @@
 ghost use Rattle.std.specs.Prelude.{◌≡◌, ◌+◌, ◌≤◌, length};
 ghost use Rattle.packed.specs.Number.{little_endian, IsNumber};
-ghost use Rattle.packed.specs.Places.{part};
+ghost use Rattle.packed.specs.Offsets.{part};
 
 use byteorder::{ByteOrder, LittleEndian};
 

@@ -1,5 +1,5 @@
 ghost use Rattle.std.specs.Prelude.{◌≡◌, ◌≤◌, ◌^◌, ◌-◌, ◌++◌, List, ℕ, ℤ, pos, neg_ℤ, ◌≤ℤ◌, ◌<ℤ◌, ◌+ℤ◌, length, take, IfSome, IsSomeAnd, OnOk, OnErr, IsOk, ◌+◌, vec_len, vec_capacity};
-ghost use Rattle.packed.specs.Front.{signed_at, bits_of};
+ghost use Rattle.packed.specs.Prefix.{signed_at, bits_of};
 ghost use Rattle.packed.specs.Packed.{IsPackedSigned, short_signed};
 
 use crate::unsigned::{in_four_bytes, in_one_byte, in_two_bytes, read_unsigned};
@@ -17,7 +17,7 @@ fn sign_bit(count: usize) -> i32
 }
 
 /// Decodes the packed signed number at the start of the bytes.
-#[tactic(auto, unfolding(crate::specs::Front::signed_at))]
+#[tactic(auto, unfolding(crate::specs::Prefix::signed_at))]
 fn signed(bytes: &[u8]) -> Option<(i32, usize)>
     ensures { result ≡ signed_at bytes.now }
 {
@@ -34,9 +34,9 @@ fn signed(bytes: &[u8]) -> Option<(i32, usize)>
 ///
 /// Returns `None` if the bytes do not begin with a packed number.
 pub fn read_signed(bytes: &[u8]) -> Option<(i32, usize)>
-    ensures found { IfSome result (λ read. (read.1 ≤ length bytes.now) × IsPackedSigned read.0 (take read.1 bytes.now)) }
-    ensures only { (z : ℤ) (front rest : List ℕ) → bytes.now ≡ front ++ rest → IsPackedSigned z front
-        → IsSomeAnd result (λ read. (read.0 ≡ z) × (read.1 ≡ length front)) }
+    ensures sound { IfSome result (λ read. (read.1 ≤ length bytes.now) × IsPackedSigned read.0 (take read.1 bytes.now)) }
+    ensures complete { (z : ℤ) (prefix tail : List ℕ) → bytes.now ≡ prefix ++ tail → IsPackedSigned z prefix
+        → IsSomeAnd result (λ read. (read.0 ≡ z) × (read.1 ≡ length prefix)) }
     ensures value { result ≡ signed_at bytes.now }
 {
     signed(bytes)

@@ -1,5 +1,5 @@
 ghost use Rattle.std.specs.Prelude.{◌≡◌, ◌<◌, ◌≤◌, ◌^◌, ◌++◌, ◌∷◌, [], List, ℕ, length, take, IfSome, IsSomeAnd, MatchOption, OnOk, OnErr, IsOk, ◌+◌, vec_len, vec_capacity};
-ghost use Rattle.packed.specs.Front.{unsigned_at};
+ghost use Rattle.packed.specs.Prefix.{unsigned_at};
 ghost use Rattle.packed.specs.Packed.{IsPacked, one_byte, two_bytes, four_bytes, short_unsigned};
 
 use std::alloc::AllocError;
@@ -9,27 +9,27 @@ fn first(bytes: &[u8]) -> Option<(u32, &[u8])>
     ensures cases { MatchOption result (bytes.now ≡ []) (λ split. bytes.now ≡ split.0 ∷ split.1.now) }
     ensures byte { IfSome result (λ split. split.0 < 2 ^ 8) }
 {
-    let (byte, rest) = bytes.split_first()?;
-    Some((u32::from(*byte), rest))
+    let (byte, tail) = bytes.split_first()?;
+    Some((u32::from(*byte), tail))
 }
 
 /// Decodes the packed unsigned number at the start of the bytes.
-#[tactic(auto, unfolding(crate::specs::Front::unsigned_at))]
+#[tactic(auto, unfolding(crate::specs::Prefix::unsigned_at))]
 fn unsigned(bytes: &[u8]) -> Option<(u32, usize)>
     ensures { result ≡ unsigned_at bytes.now }
 {
-    let (a, rest) = first(bytes)?;
+    let (a, tail) = first(bytes)?;
     if a < 0x80 {
         return Some((a, 1));
     }
     if a < 0xC0 {
-        let (b, _) = first(rest)?;
+        let (b, _) = first(tail)?;
         return Some(((a - 0x80) * 0x100 + b, 2));
     }
     if a < 0xE0 {
-        let (b, rest) = first(rest)?;
-        let (c, rest) = first(rest)?;
-        let (d, _) = first(rest)?;
+        let (b, tail) = first(tail)?;
+        let (c, tail) = first(tail)?;
+        let (d, _) = first(tail)?;
         let high = (a - 0xC0) * 0x100_0000 + b * 0x1_0000;
         return Some((high + c * 0x100 + d, 4));
     }
@@ -41,9 +41,9 @@ fn unsigned(bytes: &[u8]) -> Option<(u32, usize)>
 ///
 /// Returns `None` if the bytes end within the number, or if the first byte is 0xE0 or more.
 pub fn read_unsigned(bytes: &[u8]) -> Option<(u32, usize)>
-    ensures found { IfSome result (λ read. (read.1 ≤ length bytes.now) × IsPacked read.0 (take read.1 bytes.now)) }
-    ensures only { (n : ℕ) (front rest : List ℕ) → bytes.now ≡ front ++ rest → IsPacked n front
-        → IsSomeAnd result (λ read. (read.0 ≡ n) × (read.1 ≡ length front)) }
+    ensures sound { IfSome result (λ read. (read.1 ≤ length bytes.now) × IsPacked read.0 (take read.1 bytes.now)) }
+    ensures complete { (n : ℕ) (prefix tail : List ℕ) → bytes.now ≡ prefix ++ tail → IsPacked n prefix
+        → IsSomeAnd result (λ read. (read.0 ≡ n) × (read.1 ≡ length prefix)) }
     ensures value { result ≡ unsigned_at bytes.now }
 {
     unsigned(bytes)

@@ -6,19 +6,19 @@ use Rattle.std.specs.Result.{IfOk, IsOkAnd}
 use Rattle.packed.specs.declared.fault.Fault.{Fault}
 use Rattle.packed.specs.Fields.{Field, literal, StandAt, AllSay, widths}
 use Rattle.packed.specs.Number.{little_endian}
-use Rattle.packed.specs.Places.{part}
-use Rattle.packed.specs.Demand.{AllHold, Answers}
-use Rattle.packed.proofs.DemandLemmas.{none_fails}
+use Rattle.packed.specs.Offsets.{part}
+use Rattle.packed.specs.Rule.{AllHold, Reports}
+use Rattle.packed.proofs.RuleLemmas.{none_fails}
 use Rattle.pe.specs.declared.section.SectionHeader.{SectionHeader}
 use Rattle.pe.specs.Image.{Image, Format, pe32, pe32_plus, magic_of, wider_by, dos_header, pe_signature, file_header, optional_header, section_header, IsImage}
-use Rattle.pe.specs.Headers.{lfanew, magic, wider, section_count, optional_header_size, directory_count, directory_place, sections_place, sections_from, image_of}
-use Rattle.pe.specs.Demands.{demands_of_image}
+use Rattle.pe.specs.Headers.{lfanew, magic, wider, section_count, optional_header_size, directory_count, directory_offset, sections_offset, sections_from, image_of}
+use Rattle.pe.specs.Rules.{rules_of_image}
 use Rattle.pe.proofs.SectionLemmas.{moved, length-sections_from, widths-sections, sections_say, sections_said}
 
 -- fields are at an offset if there is room for them and each has the value of its bytes
 pub record FieldsAreParts : Type 0 where
-  pub said : (whole : List ℕ) (place : ℕ) (fields : List Field) → StandAt whole place fields → AllSay whole place fields × (place + widths fields ≤ length whole)
-  pub stand : (whole : List ℕ) (place : ℕ) (fields : List Field) → place + widths fields ≤ length whole → AllSay whole place fields → StandAt whole place fields
+  pub said : (whole : List ℕ) (offset : ℕ) (fields : List Field) → StandAt whole offset fields → AllSay whole offset fields × (offset + widths fields ≤ length whole)
+  pub stand : (whole : List ℕ) (offset : ℕ) (fields : List Field) → offset + widths fields ≤ length whole → AllSay whole offset fields → StandAt whole offset fields
 
 -- the values of the headers from the PE signature on
 record HeadersSay (file : List ℕ) (e : ℕ) (format : Format) (count left : ℕ) (directory : ℕ × ℕ) (sections : List SectionHeader) : Type 0 where
@@ -29,7 +29,7 @@ record HeadersSay (file : List ℕ) (e : ℕ) (format : Format) (count left : �
   count_is : count ≡ little_endian (part file (e + 116 + wider_by format) 4)
   rva : directory.0 ≡ little_endian (part file (e + 232 + wider_by format) 4)
   bytes : directory.1 ≡ little_endian (part file (e + 232 + wider_by format + 4) 4)
-  rest : AllSay file (e + 24 + (216 + wider_by format + left)) (flat_map section_header sections)
+  tail : AllSay file (e + 24 + (216 + wider_by format + left)) (flat_map section_header sections)
 
 headers_say : (file : List ℕ) (e : ℕ) (format : Format) (count left : ℕ) (directory : ℕ × ℕ) (sections : List SectionHeader)
     → AllSay file e (literal pe_signature ∷ file_header (length sections) (216 + wider_by format + left) ++ optional_header format count directory left ++ flat_map section_header sections)
@@ -45,7 +45,7 @@ headers_say file e format count left directory sections says =
       count_is = says.1.1.1.1.1.1.1.1.0 ∙ moved file (e + 4 + 2 + 2 + 12 + 2 + 2 + 2 + (90 + wider_by format)) (e + 116 + wider_by format) 4 (omega arith);
       rva = says.1.1.1.1.1.1.1.1.1.1.0 ∙ moved file (e + 4 + 2 + 2 + 12 + 2 + 2 + 2 + (90 + wider_by format) + 4 + 112) (e + 232 + wider_by format) 4 (omega arith);
       bytes = says.1.1.1.1.1.1.1.1.1.1.1.0 ∙ moved file (e + 4 + 2 + 2 + 12 + 2 + 2 + 2 + (90 + wider_by format) + 4 + 112 + 4) (e + 232 + wider_by format + 4) 4 (omega arith);
-      rest = subst Said (omega arith) says.1.1.1.1.1.1.1.1.1.1.1.1.1;
+      tail = subst Said (omega arith) says.1.1.1.1.1.1.1.1.1.1.1.1.1;
     }
 
 headers_said : (file : List ℕ) (e : ℕ) (format : Format) (count left : ℕ) (directory : ℕ × ℕ) (sections : List SectionHeader)
@@ -53,7 +53,7 @@ headers_said : (file : List ℕ) (e : ℕ) (format : Format) (count left : ℕ) 
     → AllSay file e (literal pe_signature ∷ file_header (length sections) (216 + wider_by format + left) ++ optional_header format count directory left ++ flat_map section_header sections)
 headers_said file e format count left directory sections h =
     let Said : ℕ → Type 0 = λ p. AllSay file p (flat_map section_header sections) in
-    let rest : Said (e + 4 + 2 + 2 + 12 + 2 + 2 + 2 + (90 + wider_by format) + 4 + 112 + 4 + 4 + left) = subst Said (omega arith) h.rest in (
+    let tail : Said (e + 4 + 2 + 2 + 12 + 2 + 2 + 2 + (90 + wider_by format) + 4 + 112 + 4 + 4 + left) = subst Said (omega arith) h.tail in (
       h.signature,
       (
         tt,
@@ -77,7 +77,7 @@ headers_said file e format count left directory sections h =
                           h.rva ∙ moved file (e + 232 + wider_by format) (e + 4 + 2 + 2 + 12 + 2 + 2 + 2 + (90 + wider_by format) + 4 + 112) 4 (omega arith),
                           (
                             h.bytes ∙ moved file (e + 232 + wider_by format + 4) (e + 4 + 2 + 2 + 12 + 2 + 2 + 2 + (90 + wider_by format) + 4 + 112 + 4) 4 (omega arith),
-                            (tt, rest),
+                            (tt, tail),
                           ),
                         ),
                       ),
@@ -103,25 +103,25 @@ wider_is file pe32 e = rw (← e) refl
 wider_is file pe32_plus e = rw (← e) refl
 
 -- the image in a file of a format
-stands : (known : FieldsAreParts) (file : List ℕ) (format : Format) → magic_of format ≡ magic file → 216 + wider_by format ≤ optional_header_size file → AllHold (demands_of_image file) → IsImage file (image_of file)
+stands : (known : FieldsAreParts) (file : List ℕ) (format : Format) → magic_of format ≡ magic file → 216 + wider_by format ≤ optional_header_size file → AllHold (rules_of_image file) → IsImage file (image_of file)
 stands known file format form room all =
     let e : ℕ = lfanew file in
     let left : ℕ = optional_header_size file - (216 + wider_by format) in
     let wide : wider file ≡ wider_by format = wider_is file format form in
     let full : 216 + wider_by format + left ≡ optional_header_size file = omega arith in
-    let count_long : length (sections_from file (sections_place file) (section_count file)) ≡ section_count file = length-sections_from file (sections_place file) (section_count file) in
-    let Said : ℕ → Type 0 = λ p. AllSay file p (flat_map section_header (sections_from file (sections_place file) (section_count file))) in
-    let within : sections_place file + 40 * section_count file ≤ length file = all.1.1.1.1.1.1.1.0 in
+    let count_long : length (sections_from file (sections_offset file) (section_count file)) ≡ section_count file = length-sections_from file (sections_offset file) (section_count file) in
+    let Said : ℕ → Type 0 = λ p. AllSay file p (flat_map section_header (sections_from file (sections_offset file) (section_count file))) in
+    let within : sections_offset file + 40 * section_count file ≤ length file = all.1.1.1.1.1.1.1.0 in
     let long : 64 ≤ length file = all.1.0.0 in
-    let headers : HeadersSay file e format (directory_count file) left (image_of file).cli_directory (sections_from file (sections_place file) (section_count file)) = record {
+    let headers : HeadersSay file e format (directory_count file) left (image_of file).cli_directory (sections_from file (sections_offset file) (section_count file)) = record {
       signature = all.1.1.0.1;
       sections_count = count_long;
       size = full;
       magic_is = form;
       count_is = moved file (e + 116 + wider file) (e + 116 + wider_by format) 4 (omega arith);
-      rva = moved file (directory_place file) (e + 232 + wider_by format) 4 (omega arith);
-      bytes = moved file (directory_place file + 4) (e + 232 + wider_by format + 4) 4 (omega arith);
-      rest = subst Said (ap (λ (z : ℕ). e + 24 + z) (sym full)) (sections_said file (sections_place file) (section_count file));
+      rva = moved file (directory_offset file) (e + 232 + wider_by format) 4 (omega arith);
+      bytes = moved file (directory_offset file + 4) (e + 232 + wider_by format + 4) 4 (omega arith);
+      tail = subst Said (ap (λ (z : ℕ). e + 24 + z) (sym full)) (sections_said file (sections_offset file) (section_count file));
     } in
     record {
       lfanew = e;
@@ -131,32 +131,32 @@ stands known file format form room all =
       small = all.0;
       dos = known.stand file 0 (dos_header e) long (all.1.0.1, (tt, (refl, tt)));
       headers = known.stand file e _
-          (let room = headers_room file e format (directory_count file) left (image_of file).cli_directory (sections_from file (sections_place file) (section_count file)) in omega arith)
-          (headers_said file e format (directory_count file) left (image_of file).cli_directory (sections_from file (sections_place file) (section_count file)) headers);
+          (let room = headers_room file e format (directory_count file) left (image_of file).cli_directory (sections_from file (sections_offset file) (section_count file)) in omega arith)
+          (headers_said file e format (directory_count file) left (image_of file).cli_directory (sections_from file (sections_offset file) (section_count file)) headers);
       directories = all.1.1.1.1.1.1.0;
       bytes_are = refl;
-      place_is = ap (λ (w : ℕ). e + 232 + w) wide;
+      offset_is = ap (λ (w : ℕ). e + 232 + w) wide;
     }
 
 -- a file that satisfies all rules is an image
-pub image_from_demands : (known : FieldsAreParts) (file : List ℕ) → AllHold (demands_of_image file) → IsImage file (image_of file)
-image_from_demands known file all = elim all.1.1.1.1.1.0 [
+pub image_from_rules : (known : FieldsAreParts) (file : List ℕ) → AllHold (rules_of_image file) → IsImage file (image_of file)
+image_from_rules known file all = elim all.1.1.1.1.1.0 [
   | inl plain ↦ stands known file pe32 (sym plain) all.1.1.1.0.0 all
   | inr plus ↦ stands known file pe32_plus (sym plus) (all.1.1.1.1.0 plus) all
 ]
 
-same_image : (a b : Image) → a.bytes ≡ b.bytes → a.cli_directory.0 ≡ b.cli_directory.0 → a.cli_directory.1 ≡ b.cli_directory.1 → a.cli_directory_place ≡ b.cli_directory_place → a.sections ≡ b.sections → a ≡ b
-same_image a b bytes rva size place sections =
-    let make : List ℕ → ℕ → ℕ → ℕ → List SectionHeader → Image = λ f r s p l. record { bytes = f; cli_directory = (r, s); cli_directory_place = p; sections = l } in
-    ap (λ (f : List ℕ). make f a.cli_directory.0 a.cli_directory.1 a.cli_directory_place a.sections) bytes
-    ∙ ap (λ (r : ℕ). make b.bytes r a.cli_directory.1 a.cli_directory_place a.sections) rva
-    ∙ ap (λ (s : ℕ). make b.bytes b.cli_directory.0 s a.cli_directory_place a.sections) size
-    ∙ ap (λ (p : ℕ). make b.bytes b.cli_directory.0 b.cli_directory.1 p a.sections) place
-    ∙ ap (make b.bytes b.cli_directory.0 b.cli_directory.1 b.cli_directory_place) sections
+same_image : (a b : Image) → a.bytes ≡ b.bytes → a.cli_directory.0 ≡ b.cli_directory.0 → a.cli_directory.1 ≡ b.cli_directory.1 → a.cli_directory_offset ≡ b.cli_directory_offset → a.sections ≡ b.sections → a ≡ b
+same_image a b bytes rva size offset sections =
+    let make : List ℕ → ℕ → ℕ → ℕ → List SectionHeader → Image = λ f r s p l. record { bytes = f; cli_directory = (r, s); cli_directory_offset = p; sections = l } in
+    ap (λ (f : List ℕ). make f a.cli_directory.0 a.cli_directory.1 a.cli_directory_offset a.sections) bytes
+    ∙ ap (λ (r : ℕ). make b.bytes r a.cli_directory.1 a.cli_directory_offset a.sections) rva
+    ∙ ap (λ (s : ℕ). make b.bytes b.cli_directory.0 s a.cli_directory_offset a.sections) size
+    ∙ ap (λ (p : ℕ). make b.bytes b.cli_directory.0 b.cli_directory.1 p a.sections) offset
+    ∙ ap (make b.bytes b.cli_directory.0 b.cli_directory.1 b.cli_directory_offset) sections
 
 -- an image satisfies all rules and has the values of its headers
 pub record Meets (file : List ℕ) (image : Image) : Type 0 where
-  pub all : AllHold (demands_of_image file)
+  pub all : AllHold (rules_of_image file)
   pub is : image ≡ image_of file
 
 magic_cases : (file : List ℕ) (format : Format) → magic_of format ≡ magic file → 216 + wider_by format ≤ optional_header_size file
@@ -181,30 +181,30 @@ image_meets known file image h =
     let count : h.directory_count ≡ directory_count file = says.count_is ∙ moved file (lfanew file + 116 + wider_by h.format) (lfanew file + 116 + wider file) 4 (omega arith) in
     let enough = h.directories in
     let sections_long : length image.sections ≡ section_count file = says.sections_count in
-    let place = h.place_is in
+    let offset = h.offset_is in
     record {
       all = (
         h.small,
         ((long, dos.0.0), ((omega arith, says.signature), ((omega arith, omega arith), (cases.0, (cases.1, (omega arith, (omega arith, tt))))))),
       );
       is = same_image image (image_of file) h.bytes_are
-          (says.rva ∙ moved file (lfanew file + 232 + wider_by h.format) (directory_place file) 4 (omega arith))
-          (says.bytes ∙ moved file (lfanew file + 232 + wider_by h.format + 4) (directory_place file + 4) 4 (omega arith))
+          (says.rva ∙ moved file (lfanew file + 232 + wider_by h.format) (directory_offset file) 4 (omega arith))
+          (says.bytes ∙ moved file (lfanew file + 232 + wider_by h.format + 4) (directory_offset file + 4) 4 (omega arith))
           (omega arith)
-          (sections_say file _ image.sections says.rest
+          (sections_say file _ image.sections says.tail
           ∙ ap (λ (z : ℕ). sections_from file (lfanew file + 24 + z) (length image.sections)) says.size
-          ∙ ap (sections_from file (sections_place file)) sections_long);
+          ∙ ap (sections_from file (sections_offset file)) sections_long);
     }
 
 -- what the relation says of a result that reports the rules
-pub answers_found : (file : List ℕ) (r : Result Image Fault) → Answers (demands_of_image file) r → IfOk r (λ image. image ≡ image_of file)
-    → (AllHold (demands_of_image file) → IsImage file (image_of file)) → IfOk r (λ image. IsImage file image)
-answers_found file (Ok image) all is found =
+pub reports_found : (file : List ℕ) (r : Result Image Fault) → Reports (rules_of_image file) r → IfOk r (λ image. image ≡ image_of file)
+    → (AllHold (rules_of_image file) → IsImage file (image_of file)) → IfOk r (λ image. IsImage file image)
+reports_found file (Ok image) all is found =
     let P : Image → Type 0 = λ i. IsImage file i in
     subst P (sym is) (found all)
-answers_found file (Err fault) fails is found = tt
+reports_found file (Err fault) fails is found = tt
 
-pub answers_only : (file : List ℕ) (image : Image) (r : Result Image Fault) → Answers (demands_of_image file) r → IfOk r (λ found. found ≡ image_of file)
-    → AllHold (demands_of_image file) → image ≡ image_of file → IsOkAnd r (λ found. found ≡ image)
-answers_only file image (Ok found) all is meets said = is ∙ sym said
-answers_only file image (Err found) fails is meets said = absurd (none_fails (demands_of_image file) found meets fails)
+pub reports_only : (file : List ℕ) (image : Image) (r : Result Image Fault) → Reports (rules_of_image file) r → IfOk r (λ found. found ≡ image_of file)
+    → AllHold (rules_of_image file) → image ≡ image_of file → IsOkAnd r (λ found. found ≡ image)
+reports_only file image (Ok found) all is meets said = is ∙ sym said
+reports_only file image (Err found) fails is meets said = absurd (none_fails (rules_of_image file) found meets fails)

@@ -1,3 +1,3 @@
 pub mod ImageLemmas
-pub mod PlaceLemmas
+pub mod OffsetLemmas
 pub mod SectionLemmas

@@ -11,7 +11,7 @@ use Rattle.packed.specs.Fields.{Field, literal, number, ignored, StandAt}
 pub record Image : Type 0 where
   pub bytes : List ℕ
   pub cli_directory : ℕ × ℕ
-  pub cli_directory_place : ℕ
+  pub cli_directory_offset : ℕ
   pub sections : List SectionHeader
 
 -- the two formats of an image
@@ -80,4 +80,4 @@ pub record IsImage (file : List ℕ) (image : Image) : Type 0 where
       ++ flat_map section_header image.sections)
   pub directories : 15 ≤ directory_count
   pub bytes_are : image.bytes ≡ file
-  pub place_is : image.cli_directory_place ≡ lfanew + 232 + wider_by format
+  pub offset_is : image.cli_directory_offset ≡ lfanew + 232 + wider_by format

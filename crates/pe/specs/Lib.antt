@@ -1,5 +1,5 @@
 pub mod Checked
-pub mod Demands
+pub mod Rules
 pub mod Headers
 pub mod Image
-pub mod Place
+pub mod Offset

@@ -1,9 +1,9 @@
 ghost use Rattle.std.specs.Prelude.{◌≡◌, ℕ, ◌+◌, ◌≤◌, length, IfOk, IfErr, IfSome, IsOkAnd, IsSomeAnd};
-ghost use Rattle.packed.specs.Demand.{AllHold, Answers, FirstToFail};
-ghost use Rattle.pe.specs.Demands.{demands_of_image};
+ghost use Rattle.packed.specs.Rule.{AllHold, Reports, FirstBroken};
+ghost use Rattle.pe.specs.Rules.{rules_of_image};
 ghost use Rattle.pe.specs.Headers.{image_of};
 ghost use Rattle.pe.specs.Image.{Image, IsImage};
-ghost use Rattle.pe.specs.Place.{IsPlace};
+ghost use Rattle.pe.specs.Offset.{IsFileOffset};
 
 use crate::headers::{
     OPTIONAL_HEADER, check_sections, read_dos_header, read_file_header, read_optional_header,
@@ -18,8 +18,8 @@ use std::ops::Range;
 #[derive(Drop)]
 pub struct Pe<'a> {
     bytes: &'a [u8],
-    cli_directory_place: usize,
-    sections_place: usize,
+    cli_directory_offset: usize,
+    sections_offset: usize,
     section_count: usize,
 }
 
@@ -49,15 +49,15 @@ impl<'a> Pe<'a> {
     pub fn cli_directory(&self) -> (u32, u32)
         ensures { result ≡ self.now.cli_directory }
     {
-        let place = self.cli_directory_place;
-        (u32_at(self.bytes, place), u32_at(self.bytes, place + 4))
+        let offset = self.cli_directory_offset;
+        (u32_at(self.bytes, offset), u32_at(self.bytes, offset + 4))
     }
 
     /// The file offset of the CLI header's data directory: the RVA, and the size four bytes later.
-    pub fn cli_directory_place(&self) -> usize
-        ensures { result ≡ self.now.cli_directory_place }
+    pub fn cli_directory_offset(&self) -> usize
+        ensures { result ≡ self.now.cli_directory_offset }
     {
-        self.cli_directory_place
+        self.cli_directory_offset
     }
 
     /// The file span of the `n` bytes at address `rva` (II.25.3).
@@ -65,11 +65,11 @@ impl<'a> Pe<'a> {
     /// Only the first section that has all of them counts. Returns `None` if no section has them, or if
     /// the file ends before they do. It does not try a later section then.
     pub fn range(&self, rva: u32, n: u32) -> Option<Range<usize>>
-        ensures found { IfSome result (λ range. IsPlace self.now rva n range.start × (range.«end» ≡ range.start + n)) }
-        ensures only { (offset : ℕ) → IsPlace self.now rva n offset
+        ensures sound { IfSome result (λ range. IsFileOffset self.now rva n range.start × (range.«end» ≡ range.start + n)) }
+        ensures complete { (offset : ℕ) → IsFileOffset self.now rva n offset
             → IsSomeAnd result (λ range. (range.start ≡ offset) × (range.«end» ≡ offset + n)) }
     {
-        let section = find_section(self.bytes, self.sections_place, self.section_count, rva, n)?;
+        let section = find_section(self.bytes, self.sections_offset, self.section_count, rva, n)?;
         let start = section.pointer_to_raw_data as usize + (rva - section.virtual_address) as usize;
         let end = start + n as usize;
         if end > self.bytes.len() {
@@ -81,19 +81,19 @@ impl<'a> Pe<'a> {
 
 /// Checks all rules. Returns the image, or the fault of the first broken rule.
 fn check_image(bytes: &[u8]) -> Result<Pe<'_>, Fault>
-    ensures answers { Answers (demands_of_image bytes.now) result }
+    ensures reports { Reports (rules_of_image bytes.now) result }
     ensures image { IfOk result (λ image. image ≡ image_of bytes.now) }
     ensures within { IfErr result (λ fault. fault.offset ≤ length bytes.now) }
 {
     let lfanew = read_dos_header(bytes)?;
     let header = read_file_header(bytes, lfanew)?;
-    let cli_directory_place = read_optional_header(bytes, lfanew, header.optional_header_size)?;
-    let sections_place = lfanew + OPTIONAL_HEADER + header.optional_header_size;
-    check_sections(bytes, lfanew, sections_place, header.section_count)?;
+    let cli_directory_offset = read_optional_header(bytes, lfanew, header.optional_header_size)?;
+    let sections_offset = lfanew + OPTIONAL_HEADER + header.optional_header_size;
+    check_sections(bytes, lfanew, sections_offset, header.section_count)?;
     Ok(Pe {
         bytes,
-        cli_directory_place,
-        sections_place,
+        cli_directory_offset,
+        sections_offset,
         section_count: header.section_count,
     })
 }
@@ -108,13 +108,13 @@ fn check_image(bytes: &[u8]) -> Result<Pe<'_>, Fault>
 /// The fault of the first broken rule for the headers, with its offset in the file.
 pub fn read_pe(bytes: &[u8]) -> Result<Pe<'_>, Fault>
     // If it returns an image, the bytes are this image.
-    ensures found { IfOk result (λ image. IsImage bytes.now image) }
+    ensures sound { IfOk result (λ image. IsImage bytes.now image) }
     // If the bytes are an image, it returns this image. Bytes are at most one image.
-    ensures only { (image : Image) → IsImage bytes.now image → IsOkAnd result (λ found. found ≡ image) }
+    ensures complete { (image : Image) → IsImage bytes.now image → IsOkAnd result (λ found. found ≡ image) }
     // If it returns an image, all rules hold, and the image has the values of the headers.
-    ensures all { IfOk result (λ image. AllHold (demands_of_image bytes.now) × (image ≡ image_of bytes.now)) }
+    ensures all { IfOk result (λ image. AllHold (rules_of_image bytes.now) × (image ≡ image_of bytes.now)) }
     // A fault is that of the first broken rule.
-    ensures first { IfErr result (FirstToFail (demands_of_image bytes.now)) }
+    ensures first_error { IfErr result (FirstBroken (rules_of_image bytes.now)) }
     // The fault's offset is within the bytes, or at their end.
     ensures within { IfErr result (λ fault. fault.offset ≤ length bytes.now) }
 {

@@ -1,7 +1,7 @@
 ghost use Rattle.std.specs.Prelude.{◌≡◌, ◌+◌, ◌*◌, ◌≤◌, length};
 ghost use Rattle.std.specs.List.{find};
 ghost use Rattle.pe.specs.Headers.{section_at, sections_from};
-ghost use Rattle.pe.specs.Place.{has_bytes};
+ghost use Rattle.pe.specs.Offset.{has_bytes};
 
 use packed::u32_at;
 
@@ -21,17 +21,17 @@ pub struct SectionHeader {
 
 impl SectionHeader {
     ghost use Rattle.pe.specs.Headers.{section_at};
-    ghost use Rattle.pe.specs.Place.{has_bytes};
+    ghost use Rattle.pe.specs.Offset.{has_bytes};
 
     /// The section header at an offset.
-    fn read(bytes: &[u8], place: usize) -> SectionHeader
-        requires { place + 40 ≤ length bytes.now }
-        ensures { result ≡ section_at bytes.now place }
+    fn read(bytes: &[u8], offset: usize) -> SectionHeader
+        requires { offset + 40 ≤ length bytes.now }
+        ensures { result ≡ section_at bytes.now offset }
     {
         SectionHeader {
-            virtual_address: u32_at(bytes, place + 12),
-            size_of_raw_data: u32_at(bytes, place + 16),
-            pointer_to_raw_data: u32_at(bytes, place + 20),
+            virtual_address: u32_at(bytes, offset + 12),
+            size_of_raw_data: u32_at(bytes, offset + 16),
+            pointer_to_raw_data: u32_at(bytes, offset + 20),
         }
     }
 

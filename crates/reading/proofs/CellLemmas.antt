@@ -9,7 +9,7 @@ use Rattle.table_schema.specs.declared.column.ColumnKind.TheVariants as kind
 use Rattle.table_schema.specs.CodedIndexes.{IsCoded}
 use Rattle.heap_entries.specs.Entries.{IsText, IsBlob}
 use Rattle.sig_grammar.specs.Syntax.{Body}
-use Rattle.sig_grammar.specs.Spells.{Spells}
+use Rattle.sig_grammar.specs.Encodes.{Encodes}
 use Rattle.metadata.specs.Cell.{Cell}
 use Rattle.metadata.specs.Cell.{Text, Bytes, Start, Sig}
 use Rattle.metadata.specs.Source.{Source}
@@ -30,10 +30,10 @@ module _ (source : Source) (column : ColumnKind) (nullable : Bool) (start : Tabl
       (cell ≡ Bytes blob)
   blob_cell is stands = as_kind kind.Blob is stands
 
-  pub signature_cell : (spelled : SigKind) → column ≡ kind.Signature spelled → StandsFor source column nullable start number cell
-      → (blob : List ℕ) × (signature : Body) × IsBlob source.blobs number blob × Spells spelled signature blob × HasRows source signature ×
+  pub signature_cell : (encoded : SigKind) → column ≡ kind.Signature encoded → StandsFor source column nullable start number cell
+      → (blob : List ℕ) × (signature : Body) × IsBlob source.blobs number blob × Encodes encoded signature blob × HasRows source signature ×
       (cell ≡ Sig signature)
-  signature_cell spelled is stands = as_kind (kind.Signature spelled) is stands
+  signature_cell encoded is stands = as_kind (kind.Signature encoded) is stands
 
   pub coded_cell : (coded : Coded) → column ≡ kind.Coded coded → StandsFor source column nullable start number cell
       → (token : Token) × IsCoded coded number token.table token.row × Refers source nullable token cell
@@ -41,7 +41,7 @@ module _ (source : Source) (column : ColumnKind) (nullable : Bool) (start : Tabl
 
 -- a cell that is one text is another if and only if they are the same
 pub same_text : (cell : Cell) (text sought : List ℕ) (same : Bool) → cell ≡ Text text → IsTrue same ↔ (text ≡ sought) → IsTrue same ↔ (cell ≡ Text sought)
-same_text cell text sought same is told = (
-  (λ t. is ∙ ap Text (told.0 t)),
-  (λ e. told.1 (let f : Text text ≡ Text sought = sym is ∙ e in cc)),
+same_text cell text sought same is reported = (
+  (λ t. is ∙ ap Text (reported.0 t)),
+  (λ e. reported.1 (let f : Text text ≡ Text sought = sym is ∙ e in cc)),
 )

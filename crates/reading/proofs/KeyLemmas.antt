@@ -31,10 +31,10 @@ module _ (numbers : List ℕ) (number : ℕ) where
       → key_at numbers row ≢ number) → key_at numbers found ≡ number
       → rows_with numbers number first past ≡ found ∷ rows_with numbers number (found + 1) past
   with_first first past found low high none is =
-      let rest : first + (past - first) - (found + 1) ≡ past - (found + 1) = omega arith in
+      let tail : first + (past - first) - (found + 1) ≡ past - (found + 1) = omega arith in
       first_that (λ row. key_at numbers row == number) first (past - first) found low (omega arith)
       (λ row a b. fails_of row (none row a b)) (test_of found is)
-      ∙ ap (λ n. found ∷ rows_that (λ row. key_at numbers row == number) (found + 1) n) rest
+      ∙ ap (λ n. found ∷ rows_that (λ row. key_at numbers row == number) (found + 1) n) tail
 
   -- the rows with the key number if they are a run
   pub with_run : (count first past : ℕ) → 1 ≤ first → first ≤ past → past ≤ count + 1 → ((row : ℕ) → 1 ≤ row → row ≤ count

@@ -33,9 +33,9 @@ module _ (test : ℕ → Bool) where
         | inl same ↦ let whole : row + suc left - next ≡ suc left = omega arith in ap (λ n. rows_that test n (suc left)) same
             ∙ ap (λ n. rows_that test next n) (sym whole)
         | inr other ↦
-            let rest : row + 1 + left - next ≡ row + suc left - next = omega arith in
+            let tail : row + 1 + left - next ≡ row + suc left - next = omega arith in
             at_fail row left (none row (omega arith) (omega arith)) ∙ skip_that (row + 1) left next (omega arith) (omega arith)
-            (λ r a b. none r (omega arith) (omega arith)) ∙ ap (λ n. rows_that test next n) rest
+            (λ r a b. none r (omega arith) (omega arith)) ∙ ap (λ n. rows_that test next n) tail
       ]
 
   -- and at the end
@@ -43,8 +43,8 @@ module _ (test : ℕ → Bool) where
   cut_that row left zero low none = none_that row left (λ r a b. none r (omega arith) b)
   cut_that row zero (suc less) low none = absurd (omega arith)
   cut_that row (suc left) (suc less) low none =
-      let rest = cut_that (row + 1) left less (omega arith) (λ r a b. none r (omega arith) (omega arith)) in
-      ap (λ l. cond (test row) (row ∷ l) l) rest
+      let tail = cut_that (row + 1) left less (omega arith) (λ r a b. none r (omega arith) (omega arith)) in
+      ap (λ l. cond (test row) (row ∷ l) l) tail
 
   -- the first row that passes
   pub first_that : (row left found : ℕ) → row ≤ found → found < row + left → NoneBetween row found → test found ≡ true

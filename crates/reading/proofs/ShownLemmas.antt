@@ -58,12 +58,12 @@ module _ (source : Source) (table : TableId) (row column : ℕ) (number : ℕ) (
       → result ≡ blob) → (cell : Cell) → StandsIn source table row column cell → cell ≡ Bytes result
   blob_shown is_heap is_kind result only cell stands = let t = blob_of is_heap is_kind cell stands in t.2 ∙ ap Bytes (sym (only t.0 t.1))
 
-  module _ (spelled : SigKind) (is_heap : heap ≡ source.blobs) (is_kind : (column_at table column).kind ≡ kind.Signature spelled) where
+  module _ (encoded : SigKind) (is_heap : heap ≡ source.blobs) (is_kind : (column_at table column).kind ≡ kind.Signature encoded) where
     signature_of : (cell : Cell) → StandsIn source table row column cell → (blob : List ℕ) × IsBlob heap number blob × ShowsSignature
         (column_at table column).kind blob cell
     signature_of cell stands =
         let t = signature_cell source (column_at table column).kind (column_at table column).nullable (start_of source table row column)
-        (number_of source table row column) cell spelled is_kind stands in
+        (number_of source table row column) cell encoded is_kind stands in
         let P : ColumnKind → Type 0 = λ k. ShowsSignature k t.0 cell in
         (t.0, rw (is_heap, is_number) (t.2), subst P (sym is_kind) (t.1, t.3, t.5))
 

@@ -9,9 +9,9 @@ from_here : (value : ℕ → ℕ) (past row left : ℕ) → 0 < left → value r
 from_here value past row zero h other = absurd (omega arith)
 from_here value past row (suc left) h other = let test : eqb (value row) 0 ≡ false = grind (arith, nat_tests) in rw test refl
 
-from_next : (value : ℕ → ℕ) (past row left rest : ℕ) → left ≡ rest + 1 → value row ≡ 0 → start_from value past row left ≡ start_from value past (row + 1) rest
-from_next value past row zero rest e null = absurd (omega arith)
-from_next value past row (suc left) rest e null = let same : left ≡ rest = omega arith in rw (null, same) refl
+from_next : (value : ℕ → ℕ) (past row left tail : ℕ) → left ≡ tail + 1 → value row ≡ 0 → start_from value past row left ≡ start_from value past (row + 1) tail
+from_next value past row zero tail e null = absurd (omega arith)
+from_next value past row (suc left) tail e null = let same : left ≡ tail = omega arith in rw (null, same) refl
 
 from_none : (value : ℕ → ℕ) (past row left : ℕ) → left ≡ 0 → start_from value past row left ≡ past
 from_none value past row left e = rw e refl

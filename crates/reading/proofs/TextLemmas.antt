@@ -19,9 +19,9 @@ one_text (x ∷ a) (y ∷ b) c d e plain other =
     let tail : a ++ 0 ∷ c ≡ b ++ 0 ∷ d = cc in
     rw head (ap (λ l. y ∷ l) (one_text a b c d tail plain.1 other.1))
 
-same_rest : (a b c : List ℕ) → a ++ b ≡ a ++ c → b ≡ c
-same_rest [] b c e = e
-same_rest (x ∷ a) b c e = let tail : a ++ b ≡ a ++ c = cc in same_rest a b c tail
+same_tail : (a b c : List ℕ) → a ++ b ≡ a ++ c → b ≡ c
+same_tail [] b c e = e
+same_tail (x ∷ a) b c e = let tail : a ++ b ≡ a ++ c = cc in same_tail a b c tail
 
 none_nul : (bytes : List ℕ) → list_any (λ byte. byte == 0) bytes ≡ false → NoNul bytes
 none_nul [] e = tt
@@ -39,13 +39,13 @@ nul_none (x ∷ bytes) plain =
     rw test (nul_none bytes plain.1)
 
 -- the first byte
-pub first_is : (rest : List ℕ) (end : ℕ) → Some end ≡ slice_get rest 0 → (more : List ℕ) × (rest ≡ end ∷ more)
+pub first_is : (tail : List ℕ) (end : ℕ) → Some end ≡ slice_get tail 0 → (more : List ℕ) × (tail ≡ end ∷ more)
 first_is [] end e = absurd cc
-first_is (x ∷ rest) end e = (rest, let same : end ≡ x = cc in ap (λ y. y ∷ rest) (sym same))
+first_is (x ∷ tail) end e = (tail, let same : end ≡ x = cc in ap (λ y. y ∷ tail) (sym same))
 
-pub first_none : (rest : List ℕ) → slice_get rest 0 ≡ None → rest ≡ []
+pub first_none : (tail : List ℕ) → slice_get tail 0 ≡ None → tail ≡ []
 first_none [] e = refl
-first_none (x ∷ rest) e = absurd cc
+first_none (x ∷ tail) e = absurd cc
 
 not_true : (b : Bool) → IsTrue (not b) → b ≡ false
 not_true true t = absurd cc
@@ -53,20 +53,20 @@ not_true false t = refl
 
 module _ (bytes text after sought : List ℕ) (whole : bytes ≡ text ++ 0 ∷ after) (plain : HasNoNul text) where
   -- if the bytes do not start with the sought string, the string is another one
-  pub no_prefix : ((rest : List ℕ) → bytes ≢ sought ++ rest) → text ≢ sought
+  pub no_prefix : ((tail : List ℕ) → bytes ≢ sought ++ tail) → text ≢ sought
   no_prefix none same = none (0 ∷ after) (whole ∙ ap (λ l. l ++ 0 ∷ after) same)
 
-  module _ (rest : List ℕ) (found : bytes ≡ sought ++ rest) where
-    rest_is : text ≡ sought → rest ≡ 0 ∷ after
-    rest_is same = same_rest sought rest (0 ∷ after) (sym found ∙ whole ∙ ap (λ l. l ++ 0 ∷ after) same)
+  module _ (tail : List ℕ) (found : bytes ≡ sought ++ tail) where
+    tail_is : text ≡ sought → tail ≡ 0 ∷ after
+    tail_is same = same_tail sought tail (0 ∷ after) (sym found ∙ whole ∙ ap (λ l. l ++ 0 ∷ after) same)
 
-    pub no_end : rest ≡ [] → text ≢ sought
-    no_end empty same = let e = rest_is same in absurd cc
+    pub no_end : tail ≡ [] → text ≢ sought
+    no_end empty same = let e = tail_is same in absurd cc
 
-    pub other_end : (end : ℕ) (more : List ℕ) → rest ≡ end ∷ more → end ≢ 0 → text ≢ sought
-    other_end end more is other same = let e = rest_is same in let head : end ≡ 0 = cc in other head
+    pub other_end : (end : ℕ) (more : List ℕ) → tail ≡ end ∷ more → end ≢ 0 → text ≢ sought
+    other_end end more is other same = let e = tail_is same in let head : end ≡ 0 = cc in other head
 
-    pub ends : (more : List ℕ) (has : Bool) → rest ≡ 0 ∷ more → has ≡ list_any (λ byte. byte == 0) sought → IsTrue (not has) ↔ (text ≡ sought)
+    pub ends : (more : List ℕ) (has : Bool) → tail ≡ 0 ∷ more → has ≡ list_any (λ byte. byte == 0) sought → IsTrue (not has) ↔ (text ≡ sought)
     ends more has is tested = (
       (λ t. one_text text sought after more (sym whole ∙ found ∙ ap (λ l. sought ++ l) is) (recursion_from_All _ text plain)
           (none_nul sought (sym tested ∙ not_true has t))),

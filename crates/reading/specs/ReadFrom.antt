@@ -9,8 +9,8 @@ use Rattle.metadata.specs.Rows.{IsCell}
 -- the cells of the source are those of the model
 pub record IsReadFrom (source : Source) (model : Metadata) : Type 0 where
   pub count : (table : TableId) → count_in model table ≡ rows_in source table
-  pub cells : (table : TableId) (row place : ℕ) → 1 ≤ row → row ≤ rows_in source table → place < cell_count table
-      → IsCell source table row place (cell_in model table row place)
+  pub cells : (table : TableId) (row cell_index : ℕ) → 1 ≤ row → row ≤ rows_in source table → cell_index < cell_count table
+      → IsCell source table row cell_index (cell_in model table row cell_index)
 
 -- some model has the cells of the source (in the form of a double negation)
 abbrev pub IsReadable : Source → Type 0

@@ -7,7 +7,7 @@ use Rattle.table_schema.specs.Columns.{column_at}
 use Rattle.table_schema.specs.CellColumns.{column_of}
 use Rattle.heap_entries.specs.Entries.{IsBlob}
 use Rattle.sig_grammar.specs.Syntax.{Body}
-use Rattle.sig_grammar.specs.Spells.{Spells}
+use Rattle.sig_grammar.specs.Encodes.{Encodes}
 use Rattle.metadata.specs.Cell.{Cell}
 use Rattle.metadata.specs.Cell.{Number, Text, Bytes, Guid, Ref, Start, Sig}
 use Rattle.metadata.specs.Source.{Source}
@@ -16,7 +16,7 @@ use Rattle.reading.specs.declared.cell_ref.CellRef.TheVariants as seen
 
 -- the blob encodes the signature of the cell, in a column of signatures
 abbrev pub ShowsSignature : ColumnKind → List ℕ → Cell → Type 0
-ShowsSignature (kind.Signature column) blob cell = (signature : Body) × Spells column signature blob × (cell ≡ Sig signature)
+ShowsSignature (kind.Signature column) blob cell = (signature : Body) × Encodes column signature blob × (cell ≡ Sig signature)
 ShowsSignature _ blob cell = ⊥
 
 -- the value stands for the cell, in a column of a kind: a signature by its blob, any other cell directly
@@ -36,4 +36,4 @@ ShowsBlob source number _ = Unit {0}
 
 -- the value stands for the cell of a table, given by its index in the row
 abbrev pub ShowsCell : TableId → ℕ → CellRef → Cell → Type 0
-ShowsCell table place value cell = Shows (column_at table (column_of table place)).kind value cell
+ShowsCell table cell_index value cell = Shows (column_at table (column_of table cell_index)).kind value cell

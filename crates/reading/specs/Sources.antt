@@ -4,10 +4,10 @@ use Rattle.table_schema.specs.declared.table.TableId.{TableId}
 use Rattle.table_schema.specs.Tables.{table_number}
 use Rattle.schema.specs.Cells.{numbers_at}
 use Rattle.metadata.specs.Source.{rows_in}
-use Rattle.metadata.specs.Placed.{Placed}
+use Rattle.metadata.specs.SourceAt.{SourceAt}
 use Rattle.reading.specs.declared.source.Source.TheInside.{Inside}
 
-abbrev pub source_seen : Inside → Placed
+abbrev pub source_seen : Inside → SourceAt
 source_seen source = record {
   source = record {
     sizes = source.rows.sizes;
@@ -16,10 +16,10 @@ source_seen source = record {
     blobs = source.blobs.now;
     guids = source.guids.now;
   };
-  place = source.place;
+  offset = source.offset;
 }
 
 -- its counts are those of the tables, by table number
 pub record IsSource (source : Inside) : Type 0 where
   pub counts : (table : TableId) → slice_index source.counts (table_number table) ≡ rows_in (source_seen source).source table
-  pub low : source.place + length source.rows.bytes ≤ 2 ^ 32
+  pub low : source.offset + length source.rows.bytes ≤ 2 ^ 32

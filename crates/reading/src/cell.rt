@@ -66,8 +66,8 @@ fn text_at<'a>(heap: &Strings<'a>, index: u32) -> &'a str
 /// The blob at an index that has one.
 fn blob_at(heap: &[u8], index: u32) -> &[u8]
     requires { ¬ (¬ ((blob : List ℕ) × IsBlob heap.now index blob)) }
-    ensures found { IsBlob heap.now index result.now }
-    ensures only { (blob : List ℕ) → IsBlob heap.now index blob → result.now ≡ blob }
+    ensures sound { IsBlob heap.now index result.now }
+    ensures complete { (blob : List ℕ) → IsBlob heap.now index blob → result.now ≡ blob }
 {
     match blob(heap, index) {
         Ok(blob) => blob,

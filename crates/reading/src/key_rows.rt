@@ -121,7 +121,7 @@ fn next_with<K: KeyNumbers>(keys: &K, number: u32, first: u32, past: u32) -> u32
     ensures from { first ≤ result }
     ensures to { result ≤ past }
     ensures none { (row : ℕ) → first ≤ row → row < result → key_at (K.numbers keys.now) row ≢ number }
-    ensures found { result < past → key_at (K.numbers keys.now) result ≡ number }
+    ensures sound { result < past → key_at (K.numbers keys.now) result ≡ number }
 {
     for row in first..past {
         if keys.number(row) == number {

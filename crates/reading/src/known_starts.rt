@@ -41,7 +41,7 @@ impl KnownStarts {
     }
 
     /// The index of an owner's start; `None` if it is not kept.
-    fn place(&self, row: u32) -> Option<usize>
+    fn slot(&self, row: u32) -> Option<usize>
         requires { 1 ≤ row }
         ensures kept { IfSome result (λ k. row ≡ self.now.step * (k + 1)) }
         ensures other { IfNone result ((k : ℕ) → row ≢ self.now.step * (k + 1)) }
@@ -60,8 +60,8 @@ impl KnownStarts {
         ensures step { self.new.step ≡ self.old.step }
         ensures known { (start : ℕ → ℕ) (owners : ℕ) → first ≡ start row → IsKnown self.old start (row + 1) owners → IsKnown self.new start row owners }
     {
-        if let Some(place) = self.place(row) {
-            self.starts[place] = first;
+        if let Some(slot) = self.slot(row) {
+            self.starts[slot] = first;
         }
     }
 
@@ -71,8 +71,8 @@ impl KnownStarts {
         ensures known { (start : ℕ → ℕ) (owners : ℕ) → row ≤ owners → IsKnown self.now start 1 owners → IfSome result (λ first. first ≡ start row) }
         ensures there { (k : ℕ) → k < 256 → row ≡ self.now.step * (k + 1) → IsSome result }
     {
-        let place = self.place(row)?;
-        self.starts.get(place).copied()
+        let slot = self.slot(row)?;
+        self.starts.get(slot).copied()
     }
 }
 

@@ -13,13 +13,13 @@ pub struct Source<'a> {
     blobs: &'a [u8],
     guids: &'a [u8],
     counts: [u32; 45],
-    place: usize,
+    offset: usize,
 }
 
 impl<'a> Model for Source<'a> {
-    ghost use Rattle.metadata.specs.Placed.{Placed};
+    ghost use Rattle.metadata.specs.SourceAt.{SourceAt};
 
-    ghost Value = { Placed };
+    ghost Value = { SourceAt };
 
     ghost use Rattle.reading.specs.Sources.{source_seen, IsSource};
 
@@ -30,15 +30,15 @@ impl<'a> Model for Source<'a> {
 
 impl<'a> Source<'a> {
     ghost use Rattle.std.specs.Prelude.{◌≡◌, ◌≤◌, ◌<◌, ◌+◌, ◌^◌, ◌↔◌, ℕ, IsTrue, length, slice_index};
-    ghost use Rattle.packed.specs.Demand.{Answers, fault};
-    ghost use Rattle.heap_entries.specs.Demands.{demands_of_text, demands_of_blob, demands_of_guid};
+    ghost use Rattle.packed.specs.Rule.{Reports, fault};
+    ghost use Rattle.heap_entries.specs.Rules.{rules_of_text, rules_of_blob, rules_of_guid};
     ghost use Rattle.table_schema.specs.declared.table.TableId.{TableId as Table};
     ghost use Rattle.table_schema.specs.Tables.{table_number};
     ghost use Rattle.table_schema.specs.Columns.{columns_of};
     ghost use Rattle.schema.specs.Cells.{cell_width, numbers_at};
     ghost use Rattle.metadata.specs.Source.{rows_in, number_of, IsThere};
-    ghost use Rattle.metadata.specs.Rules.{is_said_sorted};
-    ghost use Rattle.metadata.specs.Placed.{cell_place};
+    ghost use Rattle.metadata.specs.RowRules.{is_said_sorted};
+    ghost use Rattle.metadata.specs.SourceAt.{cell_offset};
     ghost use Rattle.reading.specs.Codes.{code_at};
 
     /// A source whose table stream starts at this offset.
@@ -49,11 +49,11 @@ impl<'a> Source<'a> {
         strings: Strings<'a>,
         blobs: &'a [u8],
         guids: &'a [u8],
-        place: usize,
+        offset: usize,
     ) -> Source<'a>
-        requires { place + length rows.bytes ≤ 2 ^ 32 }
+        requires { offset + length rows.bytes ≤ 2 ^ 32 }
         ensures source { result.source ≡ record { sizes = rows.entry.sizes; numbers = numbers_at rows.entry.bytes rows.entry.sizes; texts = strings.entry; blobs = blobs.now; guids = guids.now } }
-        ensures place { result.place ≡ place }
+        ensures offset { result.offset ≡ offset }
     {
         let counts = rows.layout().counts();
         Source {
@@ -62,7 +62,7 @@ impl<'a> Source<'a> {
             blobs,
             guids,
             counts,
-            place,
+            offset,
         }
     }
 
@@ -102,15 +102,15 @@ impl<'a> Source<'a> {
     }
 
     /// The fault of a rule for a cell.
-    #[tactic(auto, unfolding(metadata::specs::Placed::cell_place))]
+    #[tactic(auto, unfolding(metadata::specs::SourceAt::cell_offset))]
     pub fn fault(&self, code: FaultCode, table: TableId, row: u32, column: usize) -> Fault
         requires first { 1 ≤ row }
         requires last { row ≤ rows_in self.now.source table }
         requires column { column < length (columns_of table) }
-        ensures { result ≡ fault code (cell_place self.now table row column) }
+        ensures { result ≡ fault code (cell_offset self.now table row column) }
     {
-        let place = self.place + self.rows.place(table, row, column);
-        Fault::new(code, place as u64)
+        let offset = self.offset + self.rows.place(table, row, column);
+        Fault::new(code, offset as u64)
     }
 
     /// Whether a row exists.
@@ -154,7 +154,7 @@ impl<'a> Source<'a> {
     ///
     /// The code of the rule of the heap that the index breaks.
     pub fn check_text(&self, index: u32) -> Result<(), FaultCode>
-        ensures { (place : ℕ) → Answers (demands_of_text self.now.source.texts index place) (code_at place result) }
+        ensures { (offset : ℕ) → Reports (rules_of_text self.now.source.texts index offset) (code_at offset result) }
     {
         match self.strings().check(index) {
             Ok(()) => Ok(()),
@@ -168,7 +168,7 @@ impl<'a> Source<'a> {
     ///
     /// The code of the rule of the heap that the index breaks.
     pub fn check_blob(&self, index: u32) -> Result<(), FaultCode>
-        ensures { (place : ℕ) → Answers (demands_of_blob self.now.source.blobs index place) (code_at place result) }
+        ensures { (offset : ℕ) → Reports (rules_of_blob self.now.source.blobs index offset) (code_at offset result) }
     {
         match blob(self.blobs(), index) {
             Ok(_) => Ok(()),
@@ -182,7 +182,7 @@ impl<'a> Source<'a> {
     ///
     /// The code of the rule of the heap that the number breaks.
     pub fn check_guid(&self, index: u32) -> Result<(), FaultCode>
-        ensures { (place : ℕ) → Answers (demands_of_guid self.now.source.guids index place) (code_at place result) }
+        ensures { (offset : ℕ) → Reports (rules_of_guid self.now.source.guids index offset) (code_at offset result) }
     {
         match guid(self.guids(), index) {
             Ok(_) => Ok(()),

@@ -35,8 +35,8 @@ fn is_text(heap: &[u8], index: u32, sought: &[u8]) -> bool
     if heap.len() < index as usize {
         return false;
     }
-    let (_, rest) = heap.split_at(index as usize);
-    is_before_nul(rest, sought)
+    let (_, tail) = heap.split_at(index as usize);
+    is_before_nul(tail, sought)
 }
 
 /// Whether these bytes stand before the first NUL.

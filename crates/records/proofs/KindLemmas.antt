@@ -23,28 +23,28 @@ listed _ = refl
 pub kind_count : (table : TableId) → length (kinds_of table) ≡ cell_count table
 kind_count table = ap length (listed table) ∙ length-map (cell_columns table) (λ index. (column_at table index).kind)
 
-pub kind_stands : (table : TableId) (place : ℕ) → place < cell_count table
-    → slice_get (kinds_of table) place ≡ Some (column_at table (column_of table place)).kind
-kind_stands table place below =
+pub kind_stands : (table : TableId) (cell_index : ℕ) → cell_index < cell_count table
+    → slice_get (kinds_of table) cell_index ≡ Some (column_at table (column_of table cell_index)).kind
+kind_stands table cell_index below =
     let kind_of : ℕ → ColumnKind = λ index. (column_at table index).kind in
-    ap (λ kinds. slice_get kinds place) (listed table)
-    ∙ slice_get-map kind_of (cell_columns table) place
-    ∙ ap (option_map kind_of) (slice_get-get_or (cell_columns table) place 0 below)
+    ap (λ kinds. slice_get kinds cell_index) (listed table)
+    ∙ slice_get-map kind_of (cell_columns table) cell_index
+    ∙ ap (option_map kind_of) (slice_get-get_or (cell_columns table) cell_index 0 below)
 
 -- the number of cells is the number of kinds, and each cell is of its kind
 of_kinds : (kinds : List ColumnKind) (cells : List Cell) → length cells ≡ length kinds
-    → ((place : ℕ) (kind : ColumnKind) → slice_get kinds place ≡ Some kind → IsOfKind kind (get_or cells place (Number 0))) → AreOfKinds kinds cells
+    → ((cell_index : ℕ) (kind : ColumnKind) → slice_get kinds cell_index ≡ Some kind → IsOfKind kind (get_or cells cell_index (Number 0))) → AreOfKinds kinds cells
 of_kinds [] [] long each = tt
 of_kinds [] (c ∷ cs) long each = absurd (omega (arith, long))
 of_kinds (k ∷ ks) [] long each = absurd (omega (arith, long))
-of_kinds (k ∷ ks) (c ∷ cs) long each = (each 0 k refl, of_kinds ks cs (omega (arith, long)) (λ place kind at. each (suc place) kind at))
+of_kinds (k ∷ ks) (c ∷ cs) long each = (each 0 k refl, of_kinds ks cs (omega (arith, long)) (λ cell_index kind at. each (suc cell_index) kind at))
 
 pub valid_row : (model : Metadata) → IsValid model → (table : TableId) (row : ℕ) → HasRow model table row → AreOfKinds (kinds_of table) (row_of model table row)
 valid_row model valid table row there =
-    of_kinds (kinds_of table) (row_of model table row) (valid.long table row there ∙ sym (kind_count table)) (λ place kind at.
-    let within = slice_get_within (kinds_of table) place kind at in
-    let below : place < cell_count table = omega (arith, within, kind_count table) in
-    let both = sym (kind_stands table place below) ∙ at in
-    let is : (column_at table (column_of table place)).kind ≡ kind = cc in
-    let P : ColumnKind → Type 0 = λ held. IsOfKind held (cell_in model table row place) in
-    subst P is (valid.cells table row place there below).of_kind)
+    of_kinds (kinds_of table) (row_of model table row) (valid.long table row there ∙ sym (kind_count table)) (λ cell_index kind at.
+    let within = slice_get_within (kinds_of table) cell_index kind at in
+    let below : cell_index < cell_count table = omega (arith, within, kind_count table) in
+    let both = sym (kind_stands table cell_index below) ∙ at in
+    let is : (column_at table (column_of table cell_index)).kind ≡ kind = cc in
+    let P : ColumnKind → Type 0 = λ held. IsOfKind held (cell_in model table row cell_index) in
+    subst P is (valid.cells table row cell_index there below).of_kind)

@@ -45,11 +45,11 @@ IsOfShape _ _ = ⊥
 
 -- the cells from an index on have the shapes of columns of these kinds
 abbrev pub AreHeld : (ℕ → Shape → Type 0) → ℕ → List ColumnKind → Type 0
-AreHeld Holds place [] = ⊤
-AreHeld Holds place (kind ∷ kinds) = Holds place (shape_of kind) × AreHeld Holds (place + 1) kinds
+AreHeld Holds cell_index [] = ⊤
+AreHeld Holds cell_index (kind ∷ kinds) = Holds cell_index (shape_of kind) × AreHeld Holds (cell_index + 1) kinds
 
 -- there is one cell for each kind, and these are the contents of the cells from an index on
 abbrev pub AreSaid : (ℕ → Cell → Type 0) → ℕ → List ColumnKind → List Cell → Type 0
-AreSaid Says place [] [] = ⊤
-AreSaid Says place (kind ∷ kinds) (cell ∷ cells) = Says place cell × AreSaid Says (place + 1) kinds cells
+AreSaid Says cell_index [] [] = ⊤
+AreSaid Says cell_index (kind ∷ kinds) (cell ∷ cells) = Says cell_index cell × AreSaid Says (cell_index + 1) kinds cells
 AreSaid _ _ _ _ = ⊥

@@ -11,5 +11,5 @@ read_or_none None = locals []
 read_or_none (Some found) = found.0
 
 -- the signature that a blob encodes in a column of a kind
-unfoldable pub spelled : SigKind → List ℕ → Body
-spelled column blob = read_or_none (body_at column (core_at 128) blob)
+unfoldable pub encoded : SigKind → List ℕ → Body
+encoded column blob = read_or_none (body_at column (core_at 128) blob)

@@ -5,11 +5,11 @@ use Rattle.records.specs.declared.field_value.FieldValue.{FieldValue}
 use Rattle.records.specs.declared.field_value.FieldValue.TheVariants.{Number, Text, Bytes, Guid, Ref, Start, Sig}
 
 -- the cell with the content of a field
-abbrev pub told : FieldValue → Cell
-told (Number number) = says.Number number
-told (Text text) = says.Text text.now
-told (Bytes bytes) = says.Bytes bytes.now
-told (Guid guid) = says.Guid guid
-told (Ref reference) = says.Ref reference
-told (Start row) = says.Start row
-told (Sig signature) = says.Sig signature.now
+abbrev pub reported : FieldValue → Cell
+reported (Number number) = says.Number number
+reported (Text text) = says.Text text.now
+reported (Bytes bytes) = says.Bytes bytes.now
+reported (Guid guid) = says.Guid guid
+reported (Ref reference) = says.Ref reference
+reported (Start row) = says.Start row
+reported (Sig signature) = says.Sig signature.now

@@ -16,54 +16,54 @@ pub struct CellRow<'m> {
 impl<'m> Row<'m> for CellRow<'m> {
     type Signature = &'m Signature;
 
-    ghost holds = { λ row place shape. IsOfShape (slice_get row.cells.now place) shape };
+    ghost holds = { λ row cell_index shape. IsOfShape (slice_get row.cells.now cell_index) shape };
 
-    ghost says = { λ row place cell. option_map said (slice_get row.cells.now place) ≡ Some cell };
+    ghost says = { λ row cell_index cell. option_map said (slice_get row.cells.now cell_index) ≡ Some cell };
 
-    fn number(&self, place: usize) -> u32 {
-        match &self.cells[place] {
+    fn number(&self, cell_index: usize) -> u32 {
+        match &self.cells[cell_index] {
             Cell::Number(number) => *number,
             _ => unreachable!(),
         }
     }
 
-    fn text(&self, place: usize) -> &'m str {
-        match &self.cells[place] {
+    fn text(&self, cell_index: usize) -> &'m str {
+        match &self.cells[cell_index] {
             Cell::Text(text) => text.as_str(),
             _ => unreachable!(),
         }
     }
 
-    fn bytes(&self, place: usize) -> &'m [u8] {
-        match &self.cells[place] {
+    fn bytes(&self, cell_index: usize) -> &'m [u8] {
+        match &self.cells[cell_index] {
             Cell::Bytes(bytes) => bytes.as_slice(),
             _ => unreachable!(),
         }
     }
 
-    fn guid(&self, place: usize) -> Option<[u8; 16]> {
-        match &self.cells[place] {
+    fn guid(&self, cell_index: usize) -> Option<[u8; 16]> {
+        match &self.cells[cell_index] {
             Cell::Guid(guid) => *guid,
             _ => unreachable!(),
         }
     }
 
-    fn reference(&self, place: usize) -> Option<Token> {
-        match &self.cells[place] {
+    fn reference(&self, cell_index: usize) -> Option<Token> {
+        match &self.cells[cell_index] {
             Cell::Ref(reference) => *reference,
             _ => unreachable!(),
         }
     }
 
-    fn start(&self, place: usize) -> u32 {
-        match &self.cells[place] {
+    fn start(&self, cell_index: usize) -> u32 {
+        match &self.cells[cell_index] {
             Cell::Start(row) => *row,
             _ => unreachable!(),
         }
     }
 
-    fn signature(&self, place: usize, _column: SigKind) -> &'m Signature {
-        match &self.cells[place] {
+    fn signature(&self, cell_index: usize, _column: SigKind) -> &'m Signature {
+        match &self.cells[cell_index] {
             Cell::Sig(signature) => signature,
             _ => unreachable!(),
         }

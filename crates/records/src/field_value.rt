@@ -1,6 +1,6 @@
 ghost use Rattle.std.specs.Prelude.{◌≡◌, IfOk, map};
 ghost use Rattle.tables.specs.Said.{said, all_said};
-ghost use Rattle.records.specs.Values.{told};
+ghost use Rattle.records.specs.Values.{reported};
 
 use tables::{Bytes, Cell, Signature, Text, Token};
 use std::alloc::{AllocError, Global};
@@ -26,7 +26,7 @@ pub enum FieldValue<'m> {
 
 /// The cell with this content.
 fn owned_cell(alloc: Global, value: FieldValue<'_>) -> Result<Cell, AllocError>
-    ensures { IfOk result (λ cell. said cell ≡ told value.entry) }
+    ensures { IfOk result (λ cell. said cell ≡ reported value.entry) }
 {
     Ok(match value {
         FieldValue::Number(number) => Cell::Number(number),
@@ -45,7 +45,7 @@ fn owned_cell(alloc: Global, value: FieldValue<'_>) -> Result<Cell, AllocError>
 ///
 /// Fails only if it is out of memory.
 pub fn owned_cells(alloc: Global, values: &[FieldValue<'_>]) -> Result<Vec<Cell>, AllocError>
-    ensures { IfOk result (λ cells. all_said cells.items ≡ map told values.now) }
+    ensures { IfOk result (λ cells. all_said cells.items ≡ map reported values.now) }
 {
     let mut cells = Vec::with_capacity(alloc, values.len())?;
     for value in values {

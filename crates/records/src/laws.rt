@@ -5,7 +5,7 @@ ghost use Rattle.table_schema.specs.declared.column.ColumnKind.{ColumnKind};
 ghost use Rattle.table_schema.specs.Columns.{column_at};
 ghost use Rattle.table_schema.specs.CellColumns.{cell_count, column_of};
 ghost use Rattle.sig_grammar.specs.Syntax.{Body};
-ghost use Rattle.sig_grammar.specs.Spells.{Spells};
+ghost use Rattle.sig_grammar.specs.Encodes.{Encodes};
 ghost use Rattle.metadata.specs.Cell.{Cell as TheCell};
 ghost use Rattle.metadata.specs.Metadata.{Metadata, row_of};
 ghost use Rattle.tables.specs.declared.cell.Cell.{Cell as Owned};
@@ -14,13 +14,13 @@ ghost use Rattle.metadata.specs.Lookups.{HasRow};
 ghost use Rattle.metadata.specs.Valid.{IsValid};
 ghost use Rattle.records.specs.Kinds.{kinds_of, AreOfKinds};
 ghost use Rattle.records.specs.Shapes.{IsOfShape, AreHeld, AreSaid};
-ghost use Rattle.records.specs.Signatures.{spelled};
+ghost use Rattle.records.specs.Signatures.{encoded};
 
 use sig_values::signatures_are_read;
 
 /// A blob that encodes a signature in a column of a kind has this signature as its content there (II.23.2).
 pub fn blobs_say_signatures()
-    ensures { (column : Kind) (signature : Body) (blob : List ℕ) → Spells column signature blob → spelled column blob ≡ signature }
+    ensures { (column : Kind) (signature : Body) (blob : List ℕ) → Encodes column signature blob → encoded column blob ≡ signature }
 {
     signatures_are_read();
 }
@@ -28,8 +28,8 @@ pub fn blobs_say_signatures()
 /// The kinds of a table's cells are the kinds of the columns that have a cell (II.22).
 pub fn cells_have_kinds()
     ensures count { (table : Table) → length (kinds_of table) ≡ cell_count table }
-    ensures kind { (table : Table) (place : ℕ) → place < cell_count table
-        → slice_get (kinds_of table) place ≡ Some (column_at table (column_of table place)).kind }
+    ensures kind { (table : Table) (cell_index : ℕ) → cell_index < cell_count table
+        → slice_get (kinds_of table) cell_index ≡ Some (column_at table (column_of table cell_index)).kind }
 {}
 
 /// The rows of a valid model have cells of the number and kinds of their tables (II.22).
@@ -41,7 +41,7 @@ pub fn valid_rows_are_of_kinds()
 /// Owned cells of some kinds hold what columns of these kinds hold, and all that they say is what they are.
 pub fn owned_cells_are_rows()
     ensures held { (kinds : List ColumnKind) (cells : List Owned) → AreOfKinds kinds (all_said cells)
-        → AreHeld (λ place shape. IsOfShape (slice_get cells place) shape) 0 kinds }
-    ensures only { (kinds : List ColumnKind) (cells : List Owned) (row : List TheCell) → AreOfKinds kinds (all_said cells)
-        → AreSaid (λ place cell. option_map said (slice_get cells place) ≡ Some cell) 0 kinds row → row ≡ all_said cells }
+        → AreHeld (λ cell_index shape. IsOfShape (slice_get cells cell_index) shape) 0 kinds }
+    ensures complete { (kinds : List ColumnKind) (cells : List Owned) (row : List TheCell) → AreOfKinds kinds (all_said cells)
+        → AreSaid (λ cell_index cell. option_map said (slice_get cells cell_index) ≡ Some cell) 0 kinds row → row ≡ all_said cells }
 {}

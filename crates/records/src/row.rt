@@ -18,37 +18,37 @@ pub trait Row<'m> {
     ghost says: { Self → ℕ → TheCell → Type 0 };
 
     /// A number.
-    fn number(&self, place: usize) -> u32
-        requires { holds self.now place shape.number }
-        ensures { says self.now place (Number result) };
+    fn number(&self, cell_index: usize) -> u32
+        requires { holds self.now cell_index shape.number }
+        ensures { says self.now cell_index (Number result) };
 
     /// A string of `#Strings`.
-    fn text(&self, place: usize) -> &'m str
-        requires { holds self.now place shape.text }
-        ensures { says self.now place (Text result.now) };
+    fn text(&self, cell_index: usize) -> &'m str
+        requires { holds self.now cell_index shape.text }
+        ensures { says self.now cell_index (Text result.now) };
 
     /// A blob of `#Blob`.
-    fn bytes(&self, place: usize) -> &'m [u8]
-        requires { holds self.now place shape.bytes }
-        ensures { says self.now place (Bytes result.now) };
+    fn bytes(&self, cell_index: usize) -> &'m [u8]
+        requires { holds self.now cell_index shape.bytes }
+        ensures { says self.now cell_index (Bytes result.now) };
 
     /// A GUID; `None` is null.
-    fn guid(&self, place: usize) -> Option<[u8; 16]>
-        requires { holds self.now place shape.guid }
-        ensures { says self.now place (Guid result) };
+    fn guid(&self, cell_index: usize) -> Option<[u8; 16]>
+        requires { holds self.now cell_index shape.guid }
+        ensures { says self.now cell_index (Guid result) };
 
     /// A row of a table; `None` is null.
-    fn reference(&self, place: usize) -> Option<Token>
-        requires { holds self.now place shape.reference }
-        ensures { says self.now place (Ref result) };
+    fn reference(&self, cell_index: usize) -> Option<Token>
+        requires { holds self.now cell_index shape.reference }
+        ensures { says self.now cell_index (Ref result) };
 
     /// The first row of an owner's run, in the member table, counted from 1.
-    fn start(&self, place: usize) -> u32
-        requires { holds self.now place shape.start }
-        ensures { says self.now place (Start result) };
+    fn start(&self, cell_index: usize) -> u32
+        requires { holds self.now cell_index shape.start }
+        ensures { says self.now cell_index (Start result) };
 
     /// A signature, in a column of this kind.
-    fn signature(&self, place: usize, column: SigKind) -> Self::Signature
-        requires { holds self.now place (shape.signature column) }
-        ensures { says self.now place (Sig (Self.Signature.body column result)) };
+    fn signature(&self, cell_index: usize, column: SigKind) -> Self::Signature
+        requires { holds self.now cell_index (shape.signature column) }
+        ensures { says self.now cell_index (Sig (Self.Signature.body column result)) };
 }

@@ -1,6 +1,6 @@
 ghost use Rattle.table_schema.specs.declared.column.SigKind.{SigKind as Kind};
 ghost use Rattle.sig_grammar.specs.Syntax.{Body};
-ghost use Rattle.records.specs.Signatures.{spelled};
+ghost use Rattle.records.specs.Signatures.{encoded};
 
 use tables::Signature;
 
@@ -16,5 +16,5 @@ impl IsSignature for &Signature {
 
 /// The blob of a signature. Its content is the signature that it encodes.
 impl IsSignature for &[u8] {
-    ghost body = { λ column blob. spelled column blob.now };
+    ghost body = { λ column blob. encoded column blob.now };
 }

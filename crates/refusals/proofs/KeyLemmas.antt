@@ -10,10 +10,10 @@ use Rattle.metadata.specs.KeyOrder.{key_number, key_in}
 use Rattle.metadata.specs.Valid.{kind_at}
 
 -- the key number of the current row
-pub key_here : (model : Metadata) (table : TableId) (place i : ℕ) (rows : List (List Cell)) (row : List Cell) (kind : ColumnKind) (number : ℕ)
-    → rows ≡ rows_of model table → i < length rows → row ≡ slice_index_or rows i row → kind ≡ kind_at table place
-    → number ≡ key_number kind (slice_index_or row place (Number 0)) → number ≡ key_in model table place (i + 1)
-key_here model table place i rows row kind number are within is is_kind is_number =
+pub key_here : (model : Metadata) (table : TableId) (cell_index i : ℕ) (rows : List (List Cell)) (row : List Cell) (kind : ColumnKind) (number : ℕ)
+    → rows ≡ rows_of model table → i < length rows → row ≡ slice_index_or rows i row → kind ≡ kind_at table cell_index
+    → number ≡ key_number kind (slice_index_or row cell_index (Number 0)) → number ≡ key_in model table cell_index (i + 1)
+key_here model table cell_index i rows row kind number are within is is_kind is_number =
     let back : (i + 1) - 1 ≡ i = omega arith in
     let same : slice_index_or rows i [] ≡ row = sym (get_or_read rows i row within is []) in
     is_number ∙ rw (back, ← are, same, is_kind) refl

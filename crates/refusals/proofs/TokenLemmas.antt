@@ -5,7 +5,7 @@ use Rattle.std.proofs.lemmas.Bool.Decides.{nat_tests}
 use Rattle.table_schema.specs.declared.table.TableId.{TableId}
 use Rattle.table_schema.specs.declared.token.Token.{Token}
 use Rattle.table_schema.specs.Tables.{table_number}
-use Rattle.sig_grammar.specs.Spells.{has_row, first_bad}
+use Rattle.sig_grammar.specs.Encodes.{has_row, first_bad}
 use Rattle.metadata.specs.Metadata.{Metadata, count_in}
 use Rattle.metadata.specs.Valid.{Names}
 
@@ -42,7 +42,7 @@ module _ (model : Metadata) (counts : List ℕ) (counted : (table : TableId) →
 
   pub names_where : (tokens : List Token) (found : Option Token) (none : Bool) → found ≡ first_bad counts tokens → is_some found ≡ not none
       → IsTrue none ↔ AllByRecursion (Names model) tokens
-  names_where tokens found none is_first tells = (
-    λ yes. all_there tokens (sym is_first ∙ no_some found (tells ∙ ap not yes)),
-    λ all. not_false none (sym tells ∙ ap is_some (is_first ∙ none_bad tokens all)),
+  names_where tokens found none is_first reports = (
+    λ yes. all_there tokens (sym is_first ∙ no_some found (reports ∙ ap not yes)),
+    λ all. not_false none (sym reports ∙ ap is_some (is_first ∙ none_bad tokens all)),
   )

@@ -1,7 +1,7 @@
 -- The result of checking all rules for tables.
 use Rattle.std.proofs.Common.{◌≡◌, ◌↔◌, length, Result, Ok, Err, IsOk}
-use Rattle.packed.specs.Demand.{AllHold, Answers}
-use Rattle.packed.proofs.DemandLemmas.{none_fails}
+use Rattle.packed.specs.Rule.{AllHold, Reports}
+use Rattle.packed.proofs.RuleLemmas.{none_fails}
 use Rattle.metadata.specs.declared.refusal.Refusal.{Refusal}
 use Rattle.metadata.specs.Metadata.{Metadata}
 use Rattle.metadata.specs.Valid.{IsValid}
@@ -9,7 +9,7 @@ use Rattle.metadata.specs.Refusals.{refusals_of}
 
 module _ (met : (model : Metadata) → IsValid model → AllHold (refusals_of model)) (found : (model : Metadata) → length model.tables ≡ 38
     → AllHold (refusals_of model) → IsValid model) where
-  pub valid_where : {X : Type 0} (model : Metadata) (result : Result X Refusal) → length model.tables ≡ 38 → Answers (refusals_of model) result
+  pub valid_where : {X : Type 0} (model : Metadata) (result : Result X Refusal) → length model.tables ≡ 38 → Reports (refusals_of model) result
       → IsOk result ↔ IsValid model
   valid_where model (Ok x) long all = (λ _. found model long all, λ _. search)
   valid_where model (Err refusal) long fails = (λ ok. absurd cc, λ valid. absurd (none_fails (refusals_of model) refusal (met model valid) fails))

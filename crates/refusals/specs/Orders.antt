@@ -7,6 +7,6 @@ use Rattle.metadata.specs.Metadata.{Metadata}
 use Rattle.metadata.specs.KeyOrder.{IsKeyOrdered}
 
 -- whether the keys of each table with a key never decrease, by table number
-abbrev pub TellsOrder : Metadata → List Bool → Type 0
-TellsOrder model bits =
+abbrev pub ReportsOrder : Metadata → List Bool → Type 0
+ReportsOrder model bits =
     (table : TableId) (key : ℕ) → key_of table ≡ Some key → IsTrue (slice_index_or bits (table_number table) false) ↔ IsKeyOrdered model table

@@ -1,5 +1,5 @@
 ghost use Rattle.std.specs.Prelude.{◌≡◌, ◌≤◌, ◌<◌, ◌↔◌, IsTrue, length};
-ghost use Rattle.packed.specs.Demand.{Answers, demands_from};
+ghost use Rattle.packed.specs.Rule.{Reports, rules_from};
 ghost use Rattle.table_schema.specs.CellColumns.{cell_count};
 ghost use Rattle.tables.specs.Said.{said, all_said};
 ghost use Rattle.metadata.specs.Kinds.{IsOfKind, IsStorable};
@@ -16,21 +16,21 @@ use table_schema::{ColumnKind, TableId, cell_count};
 
 /// Checks that each row has the cells of its table, and that each cell fits its column (II.22). The content
 /// of signatures is checked later.
-#[tactic(auto, using(packed::proofs::DemandLemmas::before_none, packed::proofs::DemandLemmas::before_more, packed::proofs::DemandLemmas::before_all, packed::proofs::DemandLemmas::before_fails), unfolding(metadata::specs::Refusals::refusals_of_cells, metadata::specs::Refusals::refusals_of_table_at))]
+#[tactic(auto, using(packed::proofs::RuleLemmas::before_none, packed::proofs::RuleLemmas::before_more, packed::proofs::RuleLemmas::before_all, packed::proofs::RuleLemmas::before_fails), unfolding(metadata::specs::Refusals::refusals_of_cells, metadata::specs::Refusals::refusals_of_table_at))]
 pub fn check_cells(counted: &Counted) -> Result<(), Refusal>
-    ensures { Answers (refusals_of_cells counted.now) result }
+    ensures { Reports (refusals_of_cells counted.now) result }
 {
     let tables = TableId::all();
-    for position in 0..tables.len() {
-        check_rows(counted, tables[position])?;
+    for table_index in 0..tables.len() {
+        check_rows(counted, tables[table_index])?;
     }
     Ok(())
 }
 
 /// Checks that each row of a table has its cells.
-#[tactic(auto, using(packed::proofs::DemandLemmas::before_none, packed::proofs::DemandLemmas::before_more, packed::proofs::DemandLemmas::before_all, packed::proofs::DemandLemmas::before_fails))]
+#[tactic(auto, using(packed::proofs::RuleLemmas::before_none, packed::proofs::RuleLemmas::before_more, packed::proofs::RuleLemmas::before_all, packed::proofs::RuleLemmas::before_fails))]
 fn check_rows(counted: &Counted, table: TableId) -> Result<(), Refusal>
-    ensures { Answers (demands_from (refusals_of_row counted.now table) 1 (count_in counted.now table)) result }
+    ensures { Reports (rules_from (refusals_of_row counted.now table) 1 (count_in counted.now table)) result }
 {
     let count = counted.count(table);
     for row in 1..count + 1 {
@@ -44,24 +44,24 @@ fn check_rows(counted: &Counted, table: TableId) -> Result<(), Refusal>
 fn check_row(counted: &Counted, table: TableId, row: u32) -> Result<(), Refusal>
     requires first { 1 ≤ row }
     requires last { row ≤ count_in counted.now table }
-    ensures { Answers (refusals_of_row counted.now table row) result }
+    ensures { Reports (refusals_of_row counted.now table row) result }
 {
     let cells = counted.cells(table, row);
     if cells.len() != cell_count(table) {
         return Err(Refusal::new(FaultCode::BadCell, table.number(), row, 0));
     }
-    check_places(counted, table, row, cells)
+    check_each_cell(counted, table, row, cells)
 }
 
 /// Checks that each cell of a row fits its column.
-#[tactic(auto, using(packed::proofs::DemandLemmas::before_none, packed::proofs::DemandLemmas::before_more, packed::proofs::DemandLemmas::before_all, packed::proofs::DemandLemmas::before_fails, crate::proofs::CellLemmas::item_said))]
-fn check_places(counted: &Counted, table: TableId, row: u32, cells: &[Cell]) -> Result<(), Refusal>
+#[tactic(auto, using(packed::proofs::RuleLemmas::before_none, packed::proofs::RuleLemmas::before_more, packed::proofs::RuleLemmas::before_all, packed::proofs::RuleLemmas::before_fails, crate::proofs::CellLemmas::item_said))]
+fn check_each_cell(counted: &Counted, table: TableId, row: u32, cells: &[Cell]) -> Result<(), Refusal>
     requires cells { all_said cells.now ≡ row_of counted.now table row }
     requires long { length cells.now ≡ cell_count table }
-    ensures { Answers (demands_from (refusals_of_cell counted.now table row) 0 (cell_count table)) result }
+    ensures { Reports (rules_from (refusals_of_cell counted.now table row) 0 (cell_count table)) result }
 {
-    for place in 0..cells.len() {
-        check_cell(counted, table, row, place, &cells[place])?;
+    for cell_index in 0..cells.len() {
+        check_cell(counted, table, row, cell_index, &cells[cell_index])?;
     }
     Ok(())
 }
@@ -72,23 +72,23 @@ fn check_cell(
     counted: &Counted,
     table: TableId,
     row: u32,
-    place: usize,
+    cell_index: usize,
     cell: &Cell,
 ) -> Result<(), Refusal>
-    requires place { place < cell_count table }
-    requires cell { said cell.now ≡ cell_in counted.now table row place }
-    ensures { Answers (refusals_of_cell counted.now table row place) result }
+    requires cell_index { cell_index < cell_count table }
+    requires cell { said cell.now ≡ cell_in counted.now table row cell_index }
+    ensures { Reports (refusals_of_cell counted.now table row cell_index) result }
 {
-    let column = column_at(table, place);
+    let column = column_at(table, cell_index);
     let number = table.number();
     if !is_of_column(column.kind, cell) {
-        return Err(Refusal::new(FaultCode::BadCell, number, row, place));
+        return Err(Refusal::new(FaultCode::BadCell, number, row, cell_index));
     }
     if !may_refer(counted, column.nullable, cell) {
-        return Err(Refusal::new(FaultCode::BadIndex, number, row, place));
+        return Err(Refusal::new(FaultCode::BadIndex, number, row, cell_index));
     }
     if !is_within_members(counted, column.kind, cell) {
-        return Err(Refusal::new(FaultCode::BadList, number, row, place));
+        return Err(Refusal::new(FaultCode::BadList, number, row, cell_index));
     }
     Ok(())
 }

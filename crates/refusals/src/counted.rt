@@ -1,5 +1,5 @@
 ghost use Rattle.std.specs.Prelude.{◌≡◌, ◌<◌, IfOk};
-ghost use Rattle.packed.specs.Demand.{Answers};
+ghost use Rattle.packed.specs.Rule.{Reports};
 ghost use Rattle.metadata.specs.Metadata.{count_in};
 ghost use Rattle.metadata.specs.Rows.{table_at};
 ghost use Rattle.metadata.specs.Refusals.{refusals_of_count};
@@ -38,7 +38,7 @@ impl<'a> Model for Counted<'a> {
 impl<'a> Counted<'a> {
     ghost use Rattle.std.specs.Prelude.{◌≡◌, ◌≤◌, IfOk, slice_index, unwrap_or, option_map};
     ghost use Rattle.std.specs.Option.{option_copied};
-    ghost use Rattle.packed.specs.Demand.{Answers};
+    ghost use Rattle.packed.specs.Rule.{Reports};
     ghost use Rattle.table_schema.specs.declared.table.TableId.{TableId as Table};
     ghost use Rattle.table_schema.specs.Tables.{table_number};
     ghost use Rattle.tables.specs.Said.{said, all_said};
@@ -47,17 +47,17 @@ impl<'a> Counted<'a> {
     ghost use Rattle.metadata.specs.Refusals.{refusals_of_counts};
 
     /// Counts the rows of tables. Fails if a table has too many rows.
-    #[tactic(auto, using(packed::proofs::DemandLemmas::before_none, packed::proofs::DemandLemmas::before_more, packed::proofs::DemandLemmas::before_all, packed::proofs::DemandLemmas::before_fails), unfolding(metadata::specs::Refusals::refusals_of_counts))]
+    #[tactic(auto, using(packed::proofs::RuleLemmas::before_none, packed::proofs::RuleLemmas::before_more, packed::proofs::RuleLemmas::before_all, packed::proofs::RuleLemmas::before_fails), unfolding(metadata::specs::Refusals::refusals_of_counts))]
     pub fn new(tables: &'a Tables) -> Result<Counted<'a>, Refusal>
-        ensures answers { Answers (refusals_of_counts tables.now) result }
+        ensures reports { Reports (refusals_of_counts tables.now) result }
         ensures tables { IfOk result (λ counted. counted ≡ tables.now) }
     {
         tables_stand();
         let all = TableId::all();
         let mut counts = [0; 45];
-        for position in 0..all.len() {
-            let number = all[position].number();
-            counts[number as usize] = count_rows(tables, position)?;
+        for table_index in 0..all.len() {
+            let number = all[table_index].number();
+            counts[number as usize] = count_rows(tables, table_index)?;
         }
         Ok(Counted { tables, counts })
     }
@@ -88,23 +88,23 @@ impl<'a> Counted<'a> {
 
     /// The cell with this index in a row; `None` after the last cell.
     #[tactic(auto, using(crate::proofs::CellLemmas::got_said))]
-    pub fn cell(&self, table: TableId, row: u32, place: usize) -> Option<&'a Cell>
+    pub fn cell(&self, table: TableId, row: u32, cell_index: usize) -> Option<&'a Cell>
         requires first { 1 ≤ row }
         requires last { row ≤ count_in self.now table }
-        ensures { unwrap_or (option_map said (option_copied result)) (NumberCell 0) ≡ cell_in self.now table row place }
+        ensures { unwrap_or (option_map said (option_copied result)) (NumberCell 0) ≡ cell_in self.now table row cell_index }
     {
-        self.cells(table, row).get(place)
+        self.cells(table, row).get(cell_index)
     }
 }
 
 /// The number of rows of the table with this table index, if it is within the limit.
 #[tactic(auto, unfolding(metadata::specs::Refusals::refusals_of_count))]
-fn count_rows(tables: &Tables, position: usize) -> Result<u32, Refusal>
-    requires { position < 38 }
-    ensures answers { Answers (refusals_of_count tables.now position) result }
-    ensures count { IfOk result (λ count. count ≡ count_in tables.now (table_at position)) }
+fn count_rows(tables: &Tables, table_index: usize) -> Result<u32, Refusal>
+    requires { table_index < 38 }
+    ensures reports { Reports (refusals_of_count tables.now table_index) result }
+    ensures count { IfOk result (λ count. count ≡ count_in tables.now (table_at table_index)) }
 {
-    let table = TableId::all()[position];
+    let table = TableId::all()[table_index];
     let count = tables.count(table);
     if count > ROW_LIMIT {
         return Err(Refusal::new(FaultCode::RowCount, table.number(), 0, 0));

@@ -1,6 +1,6 @@
 ghost use Rattle.std.specs.Prelude.{◌≡◌, ◌≤◌, unwrap_or, option_map};
 ghost use Rattle.std.specs.Option.{option_copied};
-ghost use Rattle.packed.specs.Demand.{Answers};
+ghost use Rattle.packed.specs.Rule.{Reports};
 ghost use Rattle.table_schema.specs.declared.table.TableId.TheVariants.{NestedClass};
 ghost use Rattle.tables.specs.Said.{said};
 ghost use Rattle.metadata.specs.Cell.{Number as NumberCell};
@@ -20,9 +20,9 @@ const NESTED: usize = 0;
 const ENCLOSING: usize = 1;
 
 /// Checks that each nested type follows its enclosing type (II.22.32).
-#[tactic(auto, using(packed::proofs::DemandLemmas::before_none, packed::proofs::DemandLemmas::before_more, packed::proofs::DemandLemmas::before_all, packed::proofs::DemandLemmas::before_fails), unfolding(metadata::specs::Refusals::refusals_of_nesting))]
+#[tactic(auto, using(packed::proofs::RuleLemmas::before_none, packed::proofs::RuleLemmas::before_more, packed::proofs::RuleLemmas::before_all, packed::proofs::RuleLemmas::before_fails), unfolding(metadata::specs::Refusals::refusals_of_nesting))]
 pub fn check_nesting(counted: &Counted) -> Result<(), Refusal>
-    ensures { Answers (refusals_of_nesting counted.now) result }
+    ensures { Reports (refusals_of_nesting counted.now) result }
 {
     let count = counted.count(TableId::NestedClass);
     for row in 1..count + 1 {
@@ -36,7 +36,7 @@ pub fn check_nesting(counted: &Counted) -> Result<(), Refusal>
 fn check_nested(counted: &Counted, row: u32) -> Result<(), Refusal>
     requires first { 1 ≤ row }
     requires last { row ≤ count_in counted.now NestedClass }
-    ensures { Answers (refusals_of_nesting_in counted.now row) result }
+    ensures { Reports (refusals_of_nesting_in counted.now row) result }
 {
     let table = TableId::NestedClass;
     let nested = row_of(counted.cell(table, row, NESTED));

@@ -1,5 +1,5 @@
 ghost use Rattle.std.specs.Prelude.{◌≡◌, ◌≤◌, ◌<◌, ◌↔◌, IsTrue};
-ghost use Rattle.packed.specs.Demand.{Answers, demands_from};
+ghost use Rattle.packed.specs.Rule.{Reports, rules_from};
 ghost use Rattle.table_schema.specs.CellColumns.{cell_count};
 ghost use Rattle.tables.specs.Said.{said};
 ghost use Rattle.metadata.specs.Metadata.{count_in};
@@ -14,21 +14,21 @@ use packed::FaultCode;
 use table_schema::{TableId, cell_count};
 
 /// Checks that each signature is one that its column holds, and that the rows of its type indexes exist (II.23.2).
-#[tactic(auto, using(packed::proofs::DemandLemmas::before_none, packed::proofs::DemandLemmas::before_more, packed::proofs::DemandLemmas::before_all, packed::proofs::DemandLemmas::before_fails), unfolding(metadata::specs::Refusals::refusals_of_signatures, metadata::specs::Refusals::refusals_of_signatures_at))]
+#[tactic(auto, using(packed::proofs::RuleLemmas::before_none, packed::proofs::RuleLemmas::before_more, packed::proofs::RuleLemmas::before_all, packed::proofs::RuleLemmas::before_fails), unfolding(metadata::specs::Refusals::refusals_of_signatures, metadata::specs::Refusals::refusals_of_signatures_at))]
 pub fn check_signatures(counted: &Counted) -> Result<(), Refusal>
-    ensures { Answers (refusals_of_signatures counted.now) result }
+    ensures { Reports (refusals_of_signatures counted.now) result }
 {
     let tables = TableId::all();
-    for position in 0..tables.len() {
-        check_table(counted, tables[position])?;
+    for table_index in 0..tables.len() {
+        check_table(counted, tables[table_index])?;
     }
     Ok(())
 }
 
 /// Checks the signatures of a table.
-#[tactic(auto, using(packed::proofs::DemandLemmas::before_none, packed::proofs::DemandLemmas::before_more, packed::proofs::DemandLemmas::before_all, packed::proofs::DemandLemmas::before_fails))]
+#[tactic(auto, using(packed::proofs::RuleLemmas::before_none, packed::proofs::RuleLemmas::before_more, packed::proofs::RuleLemmas::before_all, packed::proofs::RuleLemmas::before_fails))]
 fn check_table(counted: &Counted, table: TableId) -> Result<(), Refusal>
-    ensures { Answers (demands_from (refusals_of_signatures_in counted.now table) 1 (count_in counted.now table)) result }
+    ensures { Reports (rules_from (refusals_of_signatures_in counted.now table) 1 (count_in counted.now table)) result }
 {
     let count = counted.count(table);
     for row in 1..count + 1 {
@@ -38,37 +38,37 @@ fn check_table(counted: &Counted, table: TableId) -> Result<(), Refusal>
 }
 
 /// Checks the signatures of a row.
-#[tactic(auto, using(packed::proofs::DemandLemmas::before_none, packed::proofs::DemandLemmas::before_more, packed::proofs::DemandLemmas::before_all, packed::proofs::DemandLemmas::before_fails), unfolding(metadata::specs::Refusals::refusals_of_signatures_in))]
+#[tactic(auto, using(packed::proofs::RuleLemmas::before_none, packed::proofs::RuleLemmas::before_more, packed::proofs::RuleLemmas::before_all, packed::proofs::RuleLemmas::before_fails), unfolding(metadata::specs::Refusals::refusals_of_signatures_in))]
 fn check_row(counted: &Counted, table: TableId, row: u32) -> Result<(), Refusal>
     requires first { 1 ≤ row }
     requires last { row ≤ count_in counted.now table }
-    ensures { Answers (refusals_of_signatures_in counted.now table row) result }
+    ensures { Reports (refusals_of_signatures_in counted.now table row) result }
 {
-    for place in 0..cell_count(table) {
-        check_signature(counted, table, row, place)?;
+    for cell_index in 0..cell_count(table) {
+        check_signature(counted, table, row, cell_index)?;
     }
     Ok(())
 }
 
 /// Checks the signature in the cell with this index, if that cell is a signature.
 #[tactic(auto, unfolding(metadata::specs::Refusals::refusals_of_signature))]
-fn check_signature(counted: &Counted, table: TableId, row: u32, place: usize) -> Result<(), Refusal>
+fn check_signature(counted: &Counted, table: TableId, row: u32, cell_index: usize) -> Result<(), Refusal>
     requires first { 1 ≤ row }
     requires last { row ≤ count_in counted.now table }
-    requires place { place < cell_count table }
-    ensures { Answers (refusals_of_signature counted.now table row place) result }
+    requires cell_index { cell_index < cell_count table }
+    ensures { Reports (refusals_of_signature counted.now table row cell_index) result }
 {
-    let Some(cell) = counted.cell(table, row, place) else {
+    let Some(cell) = counted.cell(table, row, cell_index) else {
         return Ok(());
     };
-    let code = if !cell.is_held(column_at(table, place).kind) {
+    let code = if !cell.is_held(column_at(table, cell_index).kind) {
         FaultCode::BadSignature
     } else if !names_types(counted, cell) {
         FaultCode::SignatureIndex
     } else {
         return Ok(());
     };
-    Err(Refusal::new(code, table.number(), row, place))
+    Err(Refusal::new(code, table.number(), row, cell_index))
 }
 
 /// Whether the row of each type index of a signature exists.

@@ -1,5 +1,5 @@
 ghost use Rattle.std.specs.Prelude.{◌≡◌, ◌↔◌, IsOk, length};
-ghost use Rattle.packed.specs.Demand.{Answers};
+ghost use Rattle.packed.specs.Rule.{Reports};
 ghost use Rattle.metadata.specs.Valid.{IsValid};
 ghost use Rattle.metadata.specs.Refusals.{refusals_of};
 
@@ -20,17 +20,17 @@ use tables::Tables;
 /// The first rule that they break, with its code and its cell. There is an error if and only if the tables are not a
 /// valid model.
 pub fn check_tables(tables: &Tables) -> Result<(), Refusal>
-    ensures answers { Answers (refusals_of tables.now) result }
+    ensures reports { Reports (refusals_of tables.now) result }
     ensures valid { IsOk result ↔ IsValid tables.now }
 {
     valid_models_are_not_refused();
-    check_demands(tables)
+    check_rules(tables)
 }
 
 /// Checks the rules, from the first to the last.
-#[tactic(auto, using(packed::proofs::DemandLemmas::fails_front, packed::proofs::DemandLemmas::fails_back, packed::proofs::DemandLemmas::all_append), unfolding(metadata::specs::Refusals::refusals_of))]
-fn check_demands(tables: &Tables) -> Result<(), Refusal>
-    ensures answers { Answers (refusals_of tables.now) result }
+#[tactic(auto, using(packed::proofs::RuleLemmas::fails_prefix, packed::proofs::RuleLemmas::fails_back, packed::proofs::RuleLemmas::all_append), unfolding(metadata::specs::Refusals::refusals_of))]
+fn check_rules(tables: &Tables) -> Result<(), Refusal>
+    ensures reports { Reports (refusals_of tables.now) result }
     ensures tables { length tables.now.tables ≡ 38 }
 {
     if !is_version(tables.version()) {

@@ -2,29 +2,29 @@
 use Rattle.std.proofs.Common.{◌≡◌, ℕ, zero, suc, add-one, ◌+◌, ◌%◌, ◌≤◌, ◌<◌, ◌^◌, List, [], ◌∷◌, ◌++◌, length, drop, refl, sym, ap, ◌∙◌, subst, arith, append_assoc, length-append, length-drop}
 use Rattle.std.proofs.lemmas.List.{append-nil, drop_at, drop-drop, take-append-drop, length-take-le}
 use Rattle.packed.specs.Number.{little_endian}
-use Rattle.packed.specs.Places.{part}
+use Rattle.packed.specs.Offsets.{part}
 use Rattle.std.proofs.Common.{Bool, true, false, cond, Some, inl, inr, get_or}
 use Rattle.std.proofs.lemmas.Bool.{cases_lt}
 use Rattle.std.proofs.lemmas.Slice.Eq.{bytes_eq-Decides}
-use Rattle.packed.proofs.DemandLemmas.{none_fails}
+use Rattle.packed.proofs.RuleLemmas.{none_fails}
 use Rattle.std.specs.Result.{IfOk, IsOkAnd}
 use Rattle.std.proofs.Common.{Result, Ok, Err}
 use Rattle.std.proofs.lemmas.List.{drop_all, drop_more, get_or_append_left, get_or_at}
 use Rattle.std.specs.List.{find}
 use Rattle.std.specs.Str.{bytes_eq}
 use Rattle.packed.specs.declared.fault.Fault.{Fault}
-use Rattle.packed.specs.Demand.{AllHold, Answers, demands_from, HoldBefore}
-use Rattle.packed.proofs.DemandLemmas.{all_front, all_back, all_append, before_none, before_more, before_all, before_of_all, before_fewer}
+use Rattle.packed.specs.Rule.{AllHold, Reports, rules_from, HoldBefore}
+use Rattle.packed.proofs.RuleLemmas.{all_prefix, all_back, all_append, before_none, before_more, before_all, before_of_all, before_fewer}
 use Rattle.root.specs.declared.kind.Kind.{Kind}
 use Rattle.std.specs.Prelude.{IsSome}
 use Rattle.root.specs.declared.kind.Kind.TheVariants.{Tables}
 use Rattle.root.specs.Streams.{Header, RootRead, named, stream_name}
 use Rattle.root.specs.Root.{signature, IsHeader, AreHeaders, EndsWithin, IsNew, IsCompressed, AllMeet, IsRoot}
-use Rattle.root.specs.Fields.{before_nul, root_read, version_length, version_of, header_count, header_at, header_length, header_place, headers_before}
+use Rattle.root.specs.Fields.{before_nul, root_read, version_length, version_of, header_count, header_at, header_length, header_offset, headers_before}
 use Rattle.root.specs.Shown.{AllShow}
-use Rattle.root.specs.Demands.{HasSignature, HasVersion, HasHeader, demands_of_front, demands_of_header, demands_of_tables, demands_of_root}
+use Rattle.root.specs.Rules.{HasSignature, HasVersion, HasHeader, rules_of_root_header, rules_of_header, rules_of_tables, rules_of_root}
 use Rattle.root.proofs.NulLemmas.{before_nul-text}
-use Rattle.root.proofs.HeaderLemmas.{part_at, header_tells, header_stands}
+use Rattle.root.proofs.HeaderLemmas.{part_at, header_reports, header_stands}
 use Rattle.root.proofs.WalkLemmas.{shows_from_all}
 
 -- a part and the bytes after it
@@ -43,19 +43,19 @@ joined a b c d e f g h r r1 r2 r3 r4 r5 r6 p0 p1 p2 p3 p4 p5 p6 =
     ∙ simp append_assoc
 
 -- one more header after others
-are_push : (place : ℕ) (bytes : List ℕ) (headers : List Header) (front : List ℕ) (header : Header)
-    → AreHeaders place bytes headers → header.place ≡ place + length bytes → IsHeader front header → AreHeaders place (bytes ++ front) (headers ++ header ∷ [])
-are_push place bytes [] front header none at is =
+are_push : (place : ℕ) (bytes : List ℕ) (headers : List Header) (root_header : List ℕ) (header : Header)
+    → AreHeaders place bytes headers → header.place ≡ place + length bytes → IsHeader root_header header → AreHeaders place (bytes ++ root_header) (headers ++ header ∷ [])
+are_push place bytes [] root_header header none at is =
     let long : length bytes ≡ 0 = rw none refl in
-    (front, [], rw none (sym (append-nil front)), omega arith, is, refl)
-are_push place bytes (h ∷ headers) front header some at is =
+    (root_header, [], rw none (sym (append-nil root_header)), omega arith, is, refl)
+are_push place bytes (h ∷ headers) root_header header some at is =
     let long : length bytes ≡ length some.0 + length some.1 = rw some.2 (length-append some.0 some.1) in (
       some.0,
-      some.1 ++ front,
-      rw some.2 (append_assoc some.0 some.1 front),
+      some.1 ++ root_header,
+      rw some.2 (append_assoc some.0 some.1 root_header),
       some.3,
       some.4,
-      are_push (place + length some.0) some.1 headers front header some.5 (omega arith) is,
+      are_push (place + length some.0) some.1 headers root_header header some.5 (omega arith) is,
     )
 
 meet_push : (size : ℕ) (earlier headers : List Header) (header : Header)
@@ -70,19 +70,19 @@ meet_push size earlier (h ∷ headers) header all within new compressed =
 -- the bytes of the first `count` headers
 directory_bytes : List ℕ → ℕ → List ℕ
 directory_bytes root zero = []
-directory_bytes root (suc count) = directory_bytes root count ++ part root (header_place root count) (header_length (header_at root (header_place root count)))
+directory_bytes root (suc count) = directory_bytes root count ++ part root (header_offset root count) (header_length (header_at root (header_offset root count)))
 
 record IsDirectory (root : List ℕ) (count : ℕ) : Type 0 where
-  long : header_place root 0 + length (directory_bytes root count) ≡ header_place root count
-  split : drop (header_place root 0) root ≡ directory_bytes root count ++ drop (header_place root count) root
-  are : AreHeaders (header_place root 0) (directory_bytes root count) (headers_before root count)
+  long : header_offset root 0 + length (directory_bytes root count) ≡ header_offset root count
+  split : drop (header_offset root 0) root ≡ directory_bytes root count ++ drop (header_offset root count) root
+  are : AreHeaders (header_offset root 0) (directory_bytes root count) (headers_before root count)
 
 is_directory : (root : List ℕ) (count : ℕ) → AllShow root count → IsDirectory root count
 unfolding directory_bytes
 is_directory root zero shows = record { long = omega arith; split = refl; are = refl }
 is_directory root (suc count) shows =
     let before = is_directory root count (λ i lt. shows i (omega arith)) in
-    let place = header_place root count in
+    let place = header_offset root count in
     let here = shows count (omega arith) in
     let ends = here.ends in
     let size = header_length (header_at root place) in
@@ -90,22 +90,22 @@ is_directory root (suc count) shows =
     let so_far = before.long in
     record {
       long = simp length-append (omega arith);
-      split = before.split ∙ ap (λ (t : List ℕ). directory_bytes root count ++ t) (part_split root place size (header_place root (suc count)) refl) ∙ sym (append_assoc (directory_bytes root count) (part root place size) (drop (header_place root (suc count)) root));
-      are = are_push (header_place root 0) (directory_bytes root count) (headers_before root count) (part root place size) (header_at root place) before.are (sym before.long) (header_stands root place here);
+      split = before.split ∙ ap (λ (t : List ℕ). directory_bytes root count ++ t) (part_split root place size (header_offset root (suc count)) refl) ∙ sym (append_assoc (directory_bytes root count) (part root place size) (drop (header_offset root (suc count)) root));
+      are = are_push (header_offset root 0) (directory_bytes root count) (headers_before root count) (part root place size) (header_at root place) before.are (sym before.long) (header_stands root place here);
     }
 
-all_meet : (root : List ℕ) (count : ℕ) → HoldBefore (demands_of_header root) 0 count → AllMeet (length root) [] (headers_before root count)
+all_meet : (root : List ℕ) (count : ℕ) → HoldBefore (rules_of_header root) 0 count → AllMeet (length root) [] (headers_before root count)
 all_meet root zero hold = tt
 all_meet root (suc count) hold =
     let here = hold.each count (omega arith) (omega arith) in
-    let fewer = before_fewer (demands_of_header root) 0 count (suc count) (omega arith) hold in
-    meet_push (length root) [] (headers_before root count) (header_at root (header_place root count)) (all_meet root count fewer) here.1.0 here.1.1.0 here.1.1.1.0
+    let fewer = before_fewer (rules_of_header root) 0 count (suc count) (omega arith) hold in
+    meet_push (length root) [] (headers_before root count) (header_at root (header_offset root count)) (all_meet root count fewer) here.1.0 here.1.1.0 here.1.1.1.0
 
 length-headers_before : (root : List ℕ) (count : ℕ) → length (headers_before root count) ≡ count
 length-headers_before root zero = refl
 length-headers_before root (suc count) = simp length-append (omega (arith, length-headers_before root count))
 
-root_of_version : (root : List ℕ) (version : HasVersion root) → HasSignature root → 20 + version_length root ≤ length root → AllHold (demands_from (demands_of_header root) 0 (header_count root))
+root_of_version : (root : List ℕ) (version : HasVersion root) → HasSignature root → 20 + version_length root ≤ length root → AllHold (rules_from (rules_of_header root) 0 (header_count root))
     → IsSome (named (stream_name Tables) (headers_before root (header_count root))) → IsRoot root version.version (headers_before root (header_count root))
 root_of_version root version begins room headers_hold tables =
     let count = header_count root in
@@ -114,7 +114,7 @@ root_of_version root version begins room headers_hold tables =
     let directory = is_directory root count (shows_from_all root count headers_hold) in
     let field_long : length field ≡ length_is = part_long root 16 length_is (omega arith) in
     let same_long : length (version.version ++ 0 ∷ version.padding) ≡ length_is = sym (ap length version.whole) ∙ field_long in
-    let filled = version.filled in
+    let padded = version.padded in
     let P : ℕ → Type 0 = λ place. AreHeaders place (directory_bytes root count) (headers_before root count) in
     record {
       ignored = part root 4 8;
@@ -123,8 +123,8 @@ root_of_version root version begins room headers_hold tables =
       flags = part root (16 + length_is) 2;
       count_bytes = part root (18 + length_is) 2;
       directory = directory_bytes root count;
-      rest = drop (header_place root count) root;
-      whole = joined signature (part root 4 8) (part root 12 4) (version.version ++ 0 ∷ version.padding) (part root (16 + length_is) 2) (part root (18 + length_is) 2) (directory_bytes root count) (drop (header_place root count) root)
+      tail = drop (header_offset root count) root;
+      whole = joined signature (part root 4 8) (part root 12 4) (version.version ++ 0 ∷ version.padding) (part root (16 + length_is) 2) (part root (18 + length_is) 2) (directory_bytes root count) (drop (header_offset root count) root)
           root (drop 4 root) (drop 12 root) (drop 16 root) (drop (16 + length_is) root) (drop (18 + length_is) root) (drop (20 + length_is) root)
           (part_split root 0 4 4 refl ∙ ap (λ (t : List ℕ). t ++ drop 4 root) begins.1)
           (part_split root 4 8 12 refl) (part_split root 12 4 16 refl)
@@ -133,54 +133,54 @@ root_of_version root version begins room headers_hold tables =
           directory.split;
       ignored_long = part_long root 4 8 (omega arith);
       version_long = record { long = part_long root 12 4 (omega arith); equal = same_long };
-      version_filled = rw same_long filled;
+      version_padded = rw same_long padded;
       version_is = version.is;
       flags_long = part_long root (16 + length_is) 2 (omega arith);
       count = record { long = part_long root (18 + length_is) 2 (omega arith); equal = length-headers_before root count };
       headers_are = subst P (ap (λ (n : ℕ). 20 + n) (sym same_long)) directory.are;
-      headers_meet = all_meet root count (before_of_all (demands_of_header root) count headers_hold);
+      headers_meet = all_meet root count (before_of_all (rules_of_header root) count headers_hold);
       tables = tables;
     }
 
 -- bytes that satisfy all rules are a root
-pub root_from_demands : (root : List ℕ) → AllHold (demands_of_root root) → IsRoot root (version_of root) (headers_before root (header_count root))
-root_from_demands root all =
-    let front = all_front (demands_of_front root) _ all in
-    let behind = all_back (demands_of_front root) _ all in
-    let version = front.1.1.0 in
+pub root_from_rules : (root : List ℕ) → AllHold (rules_of_root root) → IsRoot root (version_of root) (headers_before root (header_count root))
+root_from_rules root all =
+    let root_header = all_prefix (rules_of_root_header root) _ all in
+    let behind = all_back (rules_of_root_header root) _ all in
+    let version = root_header.1.1.0 in
     let is : version.version ≡ version_of root = sym (ap before_nul version.whole ∙ before_nul-text version.version version.padding version.is.no_nul) in
     let P : List ℕ → Type 0 = λ v. IsRoot root v (headers_before root (header_count root)) in
-    subst P is (root_of_version root version front.1.0 front.1.1.1.0 (all_front (demands_from (demands_of_header root) 0 (header_count root)) (demands_of_tables root) behind) (all_back (demands_from (demands_of_header root) 0 (header_count root)) (demands_of_tables root) behind).0)
+    subst P is (root_of_version root version root_header.1.0 root_header.1.1.1.0 (all_prefix (rules_from (rules_of_header root) 0 (header_count root)) (rules_of_tables root) behind) (all_back (rules_from (rules_of_header root) 0 (header_count root)) (rules_of_tables root) behind).0)
 
 -- headers that are written one after another are those that are read there
 record Walks (root : List ℕ) (k : ℕ) (headers : List Header) : Type 0 where
-  hold : HoldBefore (demands_of_header root) 0 (k + length headers)
+  hold : HoldBefore (rules_of_header root) 0 (k + length headers)
   are : headers_before root (k + length headers) ≡ headers_before root k ++ headers
 
-walks : (root : List ℕ) (k : ℕ) (headers : List Header) (bytes rest : List ℕ) → drop (header_place root k) root ≡ bytes ++ rest
-    → AreHeaders (header_place root k) bytes headers → AllMeet (length root) (headers_before root k) headers → HoldBefore (demands_of_header root) 0 k → Walks root k headers
-walks root k [] bytes rest whole are meet hold =
+walks : (root : List ℕ) (k : ℕ) (headers : List Header) (bytes tail : List ℕ) → drop (header_offset root k) root ≡ bytes ++ tail
+    → AreHeaders (header_offset root k) bytes headers → AllMeet (length root) (headers_before root k) headers → HoldBefore (rules_of_header root) 0 k → Walks root k headers
+walks root k [] bytes tail whole are meet hold =
     let e : k ≡ k + 0 = omega arith in
-    let P : ℕ → Type 0 = λ n. HoldBefore (demands_of_header root) 0 n in
+    let P : ℕ → Type 0 = λ n. HoldBefore (rules_of_header root) 0 n in
     record { hold = subst P e hold; are = ap (headers_before root) (sym e) ∙ sym (append-nil (headers_before root k)) }
-walks root k (header ∷ headers) bytes rest whole are meet hold =
-    let place = header_place root k in
-    let split : drop place root ≡ are.0 ++ (are.1 ++ rest) = whole ∙ ap (λ (t : List ℕ). t ++ rest) are.2 ∙ append_assoc are.0 are.1 rest in
-    let tells = header_tells root place header are.0 (are.1 ++ rest) split are.4 in
-    let same : header_at root place ≡ header = tells.is ∙ ap (λ (n : ℕ). record header { place = n }) (sym are.3) in
-    let next : header_place root (suc k) ≡ place + length are.0 = ap (λ (h : Header). place + header_length h) same ∙ ap (λ (n : ℕ). place + n) (sym tells.long) in
-    let has : HasHeader root place = record { header = header; bytes = are.0; rest = are.1 ++ rest; whole = split; is = are.4 } in
+walks root k (header ∷ headers) bytes tail whole are meet hold =
+    let place = header_offset root k in
+    let split : drop place root ≡ are.0 ++ (are.1 ++ tail) = whole ∙ ap (λ (t : List ℕ). t ++ tail) are.2 ∙ append_assoc are.0 are.1 tail in
+    let reports = header_reports root place header are.0 (are.1 ++ tail) split are.4 in
+    let same : header_at root place ≡ header = reports.is ∙ ap (λ (n : ℕ). record header { place = n }) (sym are.3) in
+    let next : header_offset root (suc k) ≡ place + length are.0 = ap (λ (h : Header). place + header_length h) same ∙ ap (λ (n : ℕ). place + n) (sym reports.long) in
+    let has : HasHeader root place = record { header = header; bytes = are.0; tail = are.1 ++ tail; whole = split; is = are.4 } in
     let Within : Header → Type 0 = λ h. EndsWithin (length root) h in
     let New : Header → Type 0 = λ h. IsNew (headers_before root k) h in
     let Compressed : Header → Type 0 = λ h. IsCompressed h in
-    let here : AllHold (demands_of_header root k) = (has, (subst Within (sym same) meet.0, (subst New (sym same) meet.1, (subst Compressed (sym same) meet.2, tt)))) in
+    let here : AllHold (rules_of_header root k) = (has, (subst Within (sym same) meet.0, (subst New (sym same) meet.1, (subst Compressed (sym same) meet.2, tt)))) in
     let before_next : headers_before root (suc k) ≡ headers_before root k ++ header ∷ [] = ap (λ (h : Header). headers_before root k ++ h ∷ []) same in
     let Are : ℕ → Type 0 = λ n. AreHeaders n are.1 headers in
     let Meet : List Header → Type 0 = λ hs. AllMeet (length root) hs headers in
-    let behind : drop (header_place root (suc k)) root ≡ are.1 ++ rest = ap (λ (h : Header). drop (place + header_length h) root) same ∙ tells.next in
-    let P : ℕ → Type 0 = λ n. HoldBefore (demands_of_header root) 0 n in
-    let more = walks root (suc k) headers are.1 rest behind (subst Are (sym next) are.5) (subst Meet (sym before_next) meet.3)
-    (subst P (add-one k) (before_more (demands_of_header root) 0 k hold here)) in
+    let behind : drop (header_offset root (suc k)) root ≡ are.1 ++ tail = ap (λ (h : Header). drop (place + header_length h) root) same ∙ reports.next in
+    let P : ℕ → Type 0 = λ n. HoldBefore (rules_of_header root) 0 n in
+    let more = walks root (suc k) headers are.1 tail behind (subst Are (sym next) are.5) (subst Meet (sym before_next) meet.3)
+    (subst P (add-one k) (before_more (rules_of_header root) 0 k hold here)) in
     let e : suc k + length headers ≡ k + suc (length headers) = omega arith in
     record {
       hold = subst P e more.hold;
@@ -188,12 +188,12 @@ walks root k (header ∷ headers) bytes rest whole are meet hold =
     }
 
 -- the parts of a root and its fields
-record Fields (root signature_bytes length_bytes field count_bytes directory rest : List ℕ) : Type 0 where
+record Fields (root signature_bytes length_bytes field count_bytes directory tail : List ℕ) : Type 0 where
   first : part root 0 4 ≡ signature_bytes
   lengths : part root 12 4 ≡ length_bytes
   version : part root 16 (length field) ≡ field
   counts : part root (18 + length field) 2 ≡ count_bytes
-  behind : drop (20 + length field) root ≡ directory ++ rest
+  behind : drop (20 + length field) root ≡ directory ++ tail
   room : 20 + length field ≤ length root
 
 fields_stand : (root a b c field e f g h : List ℕ) → root ≡ a ++ b ++ c ++ field ++ e ++ f ++ g ++ h → length a ≡ 4 → length b ≡ 8 → length c ≡ 4 → length e ≡ 2 → length f ≡ 2 → Fields root a c field f g h
@@ -209,63 +209,63 @@ fields_stand root a b c field e f g h whole la lb lc le lf = record {
 
 -- a root of at most 2^30 bytes satisfies all rules, and its version and headers are those of the relation
 pub record Meets (root version : List ℕ) (headers : List Header) : Type 0 where
-  pub all : AllHold (demands_of_root root)
+  pub all : AllHold (rules_of_root root)
   pub version_is : version_of root ≡ version
   pub headers_are : headers_before root (header_count root) ≡ headers
 
 pub root_meets : (root version : List ℕ) (headers : List Header) → length root ≤ 2 ^ 30 → IsRoot root version headers → Meets root version headers
 root_meets root version headers small h =
-    let fields = fields_stand root signature h.ignored h.length_bytes (version ++ 0 ∷ h.padding) h.flags h.count_bytes h.directory h.rest h.whole refl h.ignored_long h.version_long.long h.flags_long h.count.long in
+    let fields = fields_stand root signature h.ignored h.length_bytes (version ++ 0 ∷ h.padding) h.flags h.count_bytes h.directory h.tail h.whole refl h.ignored_long h.version_long.long h.flags_long h.count.long in
     let long : version_length root ≡ length (version ++ 0 ∷ h.padding) = ap little_endian fields.lengths ∙ sym h.version_long.equal in
     let version_field : part root 16 (version_length root) ≡ version ++ 0 ∷ h.padding = ap (part root 16) long ∙ fields.version in
     let count : header_count root ≡ length headers = ap (λ (n : ℕ). little_endian (part root (18 + n) 2)) long ∙ ap little_endian fields.counts ∙ sym h.count.equal in
-    let behind : drop (header_place root 0) root ≡ h.directory ++ h.rest = ap (λ (n : ℕ). drop (20 + n) root) long ∙ fields.behind in
-    let filled : version_length root % 4 ≡ 0 = ap (λ (n : ℕ). n % 4) long ∙ h.version_filled in
+    let behind : drop (header_offset root 0) root ≡ h.directory ++ h.tail = ap (λ (n : ℕ). drop (20 + n) root) long ∙ fields.behind in
+    let padded : version_length root % 4 ≡ 0 = ap (λ (n : ℕ). n % 4) long ∙ h.version_padded in
     let room = fields.room in
     let within : 16 + version_length root ≤ length root = omega arith in
     let streams : 20 + version_length root ≤ length root = omega arith in
     let sixteen : 16 ≤ length root = omega arith in
     let Are : ℕ → Type 0 = λ n. AreHeaders n h.directory headers in
-    let walked = walks root 0 headers h.directory h.rest behind (subst Are (ap (λ (n : ℕ). 20 + n) (sym long)) h.headers_are) h.headers_meet (before_none (demands_of_header root) 0 0 (omega arith)) in
+    let walked = walks root 0 headers h.directory h.tail behind (subst Are (ap (λ (n : ℕ). 20 + n) (sym long)) h.headers_are) h.headers_meet (before_none (rules_of_header root) 0 0 (omega arith)) in
     let zero_more : 0 + length headers ≡ header_count root = omega arith in
-    let P : ℕ → Type 0 = λ n. HoldBefore (demands_of_header root) 0 n in
-    let hold = before_all (demands_of_header root) 0 (header_count root) (header_count root) (subst P zero_more walked.hold) (omega arith) in
+    let P : ℕ → Type 0 = λ n. HoldBefore (rules_of_header root) 0 n in
+    let hold = before_all (rules_of_header root) 0 (header_count root) (header_count root) (subst P zero_more walked.hold) (omega arith) in
     let found : headers_before root (header_count root) ≡ headers = ap (headers_before root) (sym zero_more) ∙ walked.are in
     let HasTables : List Header → Type 0 = λ hs. IsSome (named (stream_name Tables) hs) in
-    let front : AllHold (demands_of_front root) = (
+    let root_header : AllHold (rules_of_root_header root) = (
       small,
       (
         (sixteen, fields.first),
-        (record { version = version; padding = h.padding; filled = filled; within = within; whole = version_field; is = h.version_is }, (streams, tt)),
+        (record { version = version; padding = h.padding; padded = padded; within = within; whole = version_field; is = h.version_is }, (streams, tt)),
       ),
     ) in
     record {
-      all = all_append (demands_of_front root) _ front (all_append (demands_from (demands_of_header root) 0 (header_count root)) (demands_of_tables root) hold (subst HasTables (sym found) h.tables, tt));
+      all = all_append (rules_of_root_header root) _ root_header (all_append (rules_from (rules_of_header root) 0 (header_count root)) (rules_of_tables root) hold (subst HasTables (sym found) h.tables, tt));
       version_is = ap before_nul version_field ∙ before_nul-text version h.padding h.version_is.no_nul;
       headers_are = found;
     }
 
 -- each stream of the standard ends within the root
-pub within_from_all : (root : List ℕ) (count all_count : ℕ) → count ≡ all_count → AllHold (demands_from (demands_of_header root) 0 all_count)
-    → (i : ℕ) → i < count → EndsWithin (length root) (header_at root (header_place root i))
-within_from_all root count all_count e all i lt = let before = before_of_all (demands_of_header root) all_count all in (before.each i (omega arith) (omega arith)).1.0
+pub within_from_all : (root : List ℕ) (count all_count : ℕ) → count ≡ all_count → AllHold (rules_from (rules_of_header root) 0 all_count)
+    → (i : ℕ) → i < count → EndsWithin (length root) (header_at root (header_offset root i))
+within_from_all root count all_count e all i lt = let before = before_of_all (rules_of_header root) all_count all in (before.each i (omega arith) (omega arith)).1.0
 
 -- the headers that are left
-pub rest_none : (root : List ℕ) (next count : ℕ) → next ≡ count → drop next (headers_before root count) ≡ []
-rest_none root next count e = drop_all next (headers_before root count) (omega (arith, length-headers_before root count))
+pub tail_none : (root : List ℕ) (next count : ℕ) → next ≡ count → drop next (headers_before root count) ≡ []
+tail_none root next count e = drop_all next (headers_before root count) (omega (arith, length-headers_before root count))
 
-pub header_among : (root : List ℕ) (count i : ℕ) (d : Header) → i < count → get_or (headers_before root count) i d ≡ header_at root (header_place root i)
+pub header_among : (root : List ℕ) (count i : ℕ) (d : Header) → i < count → get_or (headers_before root count) i d ≡ header_at root (header_offset root i)
 header_among root zero i d lt = absurd (omega arith)
 header_among root (suc count) i d lt = elim (cases_lt i count) [
-  | inl less ↦ get_or_append_left (headers_before root count) (header_at root (header_place root count) ∷ []) d i (omega (arith, length-headers_before root count)) ∙ header_among root count i d less
+  | inl less ↦ get_or_append_left (headers_before root count) (header_at root (header_offset root count) ∷ []) d i (omega (arith, length-headers_before root count)) ∙ header_among root count i d less
   | inr le ↦
       let e : i ≡ count = omega arith in
-      get_or_at (headers_before root count) (header_at root (header_place root count)) [] d i (length-headers_before root count ∙ sym e) ∙ ap (λ (n : ℕ). header_at root (header_place root n)) (sym e)
+      get_or_at (headers_before root count) (header_at root (header_offset root count)) [] d i (length-headers_before root count ∙ sym e) ∙ ap (λ (n : ℕ). header_at root (header_offset root n)) (sym e)
 ]
 
-pub rest_more : (root : List ℕ) (next count place : ℕ) (header : Header) → next < count → place ≡ header_place root next → header ≡ header_at root place
+pub tail_more : (root : List ℕ) (next count place : ℕ) (header : Header) → next < count → place ≡ header_offset root next → header ≡ header_at root place
     → drop next (headers_before root count) ≡ header ∷ drop (next + 1) (headers_before root count)
-rest_more root next count place header lt p e =
+tail_more root next count place header lt p e =
     drop_more (headers_before root count) next header (omega (arith, length-headers_before root count))
     ∙ ap (λ (h : Header). h ∷ drop (next + 1) (headers_before root count)) (header_among root count next header lt ∙ sym (e ∙ ap (header_at root) p))
 
@@ -274,11 +274,11 @@ find_among : {X : Type 0} (P : X → Type 0) (test : X → Bool) (xs : List X) (
 find_among P test [] y each e = cc
 find_among P test (x ∷ xs) y each e = go (test x) refl (find_among P test xs y (λ i d lt. each (suc i) d (omega arith))) e where
   go : (b : Bool) → test x ≡ b → (find test xs ≡ Some y → P y × (test y ≡ true)) → cond b (Some x) (find test xs) ≡ Some y → P y × (test y ≡ true)
-  go true is rest e = let same : x ≡ y = cc in (subst P same (each 0 x (omega arith)), ap test (sym same) ∙ is)
-  go false is rest e = rest e
+  go true is tail e = let same : x ≡ y = cc in (subst P same (each 0 x (omega arith)), ap test (sym same) ∙ is)
+  go false is tail e = tail e
 
 -- the stream that is found ends within the root
-pub found_within : (root : List ℕ) (count : ℕ) (kind : Kind) (header : Header) → ((i : ℕ) → i < count → EndsWithin (length root) (header_at root (header_place root i)))
+pub found_within : (root : List ℕ) (count : ℕ) (kind : Kind) (header : Header) → ((i : ℕ) → i < count → EndsWithin (length root) (header_at root (header_offset root i)))
     → named (stream_name kind) (headers_before root count) ≡ Some header → header.offset + header.size ≤ length root
 found_within root count kind header within e =
     let P : Header → Type 0 = λ h. EndsWithin (length root) h in
@@ -288,19 +288,19 @@ found_within root count kind header within e =
     found.0 kind ((bytes_eq-Decides header.name (stream_name kind)).0 found.1)
 
 -- what the relation says of a result that reports the rules
-pub answers_found : (root : List ℕ) (r : Result RootRead Fault) → Answers (demands_of_root root) r → IfOk r (λ d. d ≡ root_read root)
+pub reports_found : (root : List ℕ) (r : Result RootRead Fault) → Reports (rules_of_root root) r → IfOk r (λ d. d ≡ root_read root)
     → IfOk r (λ d. (length root ≤ 2 ^ 30) × (d.bytes ≡ root) × IsRoot root d.version d.headers)
-answers_found root (Ok d) all is =
+reports_found root (Ok d) all is =
     let P : RootRead → Type 0 = λ e. (length root ≤ 2 ^ 30) × (e.bytes ≡ root) × IsRoot root e.version e.headers in
-    subst P (sym is) (all.0, refl, root_from_demands root all)
-answers_found root (Err found) fails is = tt
+    subst P (sym is) (all.0, refl, root_from_rules root all)
+reports_found root (Err found) fails is = tt
 
-pub answers_all : (root : List ℕ) (r : Result RootRead Fault) → Answers (demands_of_root root) r → IfOk r (λ d. d ≡ root_read root)
-    → IfOk r (λ d. AllHold (demands_of_root root) × (d ≡ root_read root))
-answers_all root (Ok d) all is = (all, is)
-answers_all root (Err found) fails is = tt
+pub reports_all : (root : List ℕ) (r : Result RootRead Fault) → Reports (rules_of_root root) r → IfOk r (λ d. d ≡ root_read root)
+    → IfOk r (λ d. AllHold (rules_of_root root) × (d ≡ root_read root))
+reports_all root (Ok d) all is = (all, is)
+reports_all root (Err found) fails is = tt
 
-pub answers_only : (root version : List ℕ) (headers : List Header) (r : Result RootRead Fault) → Answers (demands_of_root root) r → IfOk r (λ d. d ≡ root_read root)
+pub reports_only : (root version : List ℕ) (headers : List Header) (r : Result RootRead Fault) → Reports (rules_of_root root) r → IfOk r (λ d. d ≡ root_read root)
     → Meets root version headers → IsOkAnd r (λ d. (d.version ≡ version) × (d.headers ≡ headers))
-answers_only root version headers (Ok d) all is meets = (ap (λ (e : RootRead). e.version) is ∙ meets.version_is, ap (λ (e : RootRead). e.headers) is ∙ meets.headers_are)
-answers_only root version headers (Err found) fails is meets = absurd (none_fails (demands_of_root root) found meets.all fails)
+reports_only root version headers (Ok d) all is meets = (ap (λ (e : RootRead). e.version) is ∙ meets.version_is, ap (λ (e : RootRead). e.headers) is ∙ meets.headers_are)
+reports_only root version headers (Err found) fails is meets = absurd (none_fails (rules_of_root root) found meets.all fails)

@@ -4,28 +4,28 @@ use Rattle.std.proofs.lemmas.List.{append-nil}
 use Rattle.std.proofs.lemmas.Bool.{cases_lt}
 use Rattle.std.specs.List.{find}
 use Rattle.std.specs.Str.{bytes_eq}
-use Rattle.packed.specs.Demand.{AllHold, demands_from, HoldBefore}
-use Rattle.packed.proofs.DemandLemmas.{before_of_all}
-use Rattle.root.specs.Fields.{header_at, header_length, header_place, headers_before}
-use Rattle.root.specs.Demands.{demands_of_header}
+use Rattle.packed.specs.Rule.{AllHold, rules_from, HoldBefore}
+use Rattle.packed.proofs.RuleLemmas.{before_of_all}
+use Rattle.root.specs.Fields.{header_at, header_length, header_offset, headers_before}
+use Rattle.root.specs.Rules.{rules_of_header}
 use Rattle.root.specs.Shown.{AllShow}
 use Rattle.root.specs.Streams.{Header, named}
 use Rattle.root.proofs.HeaderLemmas.{shows_from_has}
 
 -- a search in two lists
-pub find_front : {X : Type 0} (test : X → Bool) (xs ys : List X) (y : X) → find test xs ≡ Some y → find test (xs ++ ys) ≡ Some y
-find_front test [] ys y h = cc
-find_front test (x ∷ xs) ys y h = go (test x) (find_front test xs ys y) h where
+pub find_root_header : {X : Type 0} (test : X → Bool) (xs ys : List X) (y : X) → find test xs ≡ Some y → find test (xs ++ ys) ≡ Some y
+find_root_header test [] ys y h = cc
+find_root_header test (x ∷ xs) ys y h = go (test x) (find_root_header test xs ys y) h where
   go : (b : Bool) → (find test xs ≡ Some y → find test (xs ++ ys) ≡ Some y) → cond b (Some x) (find test xs) ≡ Some y → cond b (Some x) (find test (xs ++ ys)) ≡ Some y
-  go true rest e = e
-  go false rest e = rest e
+  go true tail e = e
+  go false tail e = tail e
 
 pub find_back : {X : Type 0} (test : X → Bool) (xs ys : List X) → find test xs ≡ None → find test (xs ++ ys) ≡ find test ys
 find_back test [] ys h = refl
 find_back test (x ∷ xs) ys h = go (test x) (find_back test xs ys) h where
   go : (b : Bool) → (find test xs ≡ None → find test (xs ++ ys) ≡ find test ys) → cond b (Some x) (find test xs) ≡ None → cond b (Some x) (find test (xs ++ ys)) ≡ find test ys
-  go true rest e = cc
-  go false rest e = rest e
+  go true tail e = cc
+  go false tail e = tail e
 
 pub found_alone : {X : Type 0} (test : X → Bool) (x y : X) → x ≡ y → test y ≡ true → find test (x ∷ []) ≡ Some y
 found_alone test x y e same = rw (e, same) refl
@@ -33,45 +33,45 @@ found_alone test x y e same = rw (e, same) refl
 pub missing_alone : {X : Type 0} (test : X → Bool) (x y : X) → x ≡ y → test y ≡ false → find test (x ∷ []) ≡ None
 missing_alone test x y e differs = rw (e, differs) refl
 
-pub place_more : (root : List ℕ) (i place : ℕ) (header : Header) → place ≡ header_place root i → header ≡ header_at root place → header.place + header_length header ≡ header_place root (i + 1)
-place_more root i place header p e = rw (e, p, add-one i) refl
+pub offset_more : (root : List ℕ) (i place : ℕ) (header : Header) → place ≡ header_offset root i → header ≡ header_at root place → header.place + header_length header ≡ header_offset root (i + 1)
+offset_more root i place header p e = rw (e, p, add-one i) refl
 
-pub headers_before_more : (root : List ℕ) (i : ℕ) → headers_before root (i + 1) ≡ headers_before root i ++ header_at root (header_place root i) ∷ []
+pub headers_before_more : (root : List ℕ) (i : ℕ) → headers_before root (i + 1) ≡ headers_before root i ++ header_at root (header_offset root i) ∷ []
 headers_before_more root i = rw (add-one i) refl
 
 -- the first i headers are a prefix of any longer list of headers
-pub headers_before_front : (root : List ℕ) (i count : ℕ) → i ≤ count → (rest : List Header) × (headers_before root count ≡ headers_before root i ++ rest)
-headers_before_front root i zero h = let e : i ≡ 0 = omega arith in ([], rw e refl)
-headers_before_front root i (suc count) h = elim (cases_lt count i) [
+pub headers_before_prefix : (root : List ℕ) (i count : ℕ) → i ≤ count → (tail : List Header) × (headers_before root count ≡ headers_before root i ++ tail)
+headers_before_prefix root i zero h = let e : i ≡ 0 = omega arith in ([], rw e refl)
+headers_before_prefix root i (suc count) h = elim (cases_lt count i) [
   | inl lt ↦ let e : i ≡ suc count = omega arith in ([], rw e (sym (append-nil _)))
   | inr le ↦
-      let before = headers_before_front root i count le in
-      (before.0 ++ header_at root (header_place root count) ∷ [], ap (λ (hs : List Header). hs ++ header_at root (header_place root count) ∷ []) before.1 ∙ append_assoc (headers_before root i) before.0 (header_at root (header_place root count) ∷ []))
+      let before = headers_before_prefix root i count le in
+      (before.0 ++ header_at root (header_offset root count) ∷ [], ap (λ (hs : List Header). hs ++ header_at root (header_offset root count) ∷ []) before.1 ∙ append_assoc (headers_before root i) before.0 (header_at root (header_offset root count) ∷ []))
 ]
 
 -- if none of i headers has a name, nor has the next one, then none of i + 1 has it
-pub named_more : (root name : List ℕ) (i place : ℕ) (header : Header) → place ≡ header_place root i → header ≡ header_at root place → bytes_eq header.name name ≡ false
+pub named_more : (root name : List ℕ) (i place : ℕ) (header : Header) → place ≡ header_offset root i → header ≡ header_at root place → bytes_eq header.name name ≡ false
     → named name (headers_before root i) ≡ None → named name (headers_before root (i + 1)) ≡ None
 named_more root name i place header p e differs none =
-    let is : header_at root (header_place root i) ≡ header = sym (e ∙ ap (header_at root) p) in
+    let is : header_at root (header_offset root i) ≡ header = sym (e ∙ ap (header_at root) p) in
     let test : Header → Bool = λ h. bytes_eq h.name name in
-    let back = find_back test (headers_before root i) (header_at root (header_place root i) ∷ []) none in
+    let back = find_back test (headers_before root i) (header_at root (header_offset root i) ∷ []) none in
     ap (find test) (headers_before_more root i) ∙ back ∙ missing_alone test _ header is differs
 
 -- if the next one has the name, it is the first with it among any number of headers
-pub named_here : (root name : List ℕ) (i count place : ℕ) (header : Header) → i < count → place ≡ header_place root i → header ≡ header_at root place → bytes_eq header.name name ≡ true
+pub named_here : (root name : List ℕ) (i count place : ℕ) (header : Header) → i < count → place ≡ header_offset root i → header ≡ header_at root place → bytes_eq header.name name ≡ true
     → named name (headers_before root i) ≡ None → Some header ≡ named name (headers_before root count)
 named_here root name i count place header lt p e same none =
-    let is : header_at root (header_place root i) ≡ header = sym (e ∙ ap (header_at root) p) in
+    let is : header_at root (header_offset root i) ≡ header = sym (e ∙ ap (header_at root) p) in
     let test : Header → Bool = λ h. bytes_eq h.name name in
-    let back = find_back test (headers_before root i) (header_at root (header_place root i) ∷ []) none in
+    let back = find_back test (headers_before root i) (header_at root (header_offset root i) ∷ []) none in
     let here : named name (headers_before root (i + 1)) ≡ Some header = ap (find test) (headers_before_more root i) ∙ back ∙ found_alone test _ header is same in
-    let all = headers_before_front root (i + 1) count (omega arith) in
-    sym (ap (named name) all.1 ∙ find_front test (headers_before root (i + 1)) all.0 header here)
+    let all = headers_before_prefix root (i + 1) count (omega arith) in
+    sym (ap (named name) all.1 ∙ find_root_header test (headers_before root (i + 1)) all.0 header here)
 
 -- if the rules for the first `count` headers hold, each of these headers is valid
-pub shows_from_before : (root : List ℕ) (count : ℕ) → HoldBefore (demands_of_header root) 0 count → AllShow root count
-shows_from_before root count before i lt = shows_from_has root (header_place root i) (before.each i (omega arith) lt).0
+pub shows_from_before : (root : List ℕ) (count : ℕ) → HoldBefore (rules_of_header root) 0 count → AllShow root count
+shows_from_before root count before i lt = shows_from_has root (header_offset root i) (before.each i (omega arith) lt).0
 
-pub shows_from_all : (root : List ℕ) (count : ℕ) → AllHold (demands_from (demands_of_header root) 0 count) → AllShow root count
-shows_from_all root count all = shows_from_before root count (before_of_all (demands_of_header root) count all)
+pub shows_from_all : (root : List ℕ) (count : ℕ) → AllHold (rules_from (rules_of_header root) 0 count) → AllShow root count
+shows_from_all root count all = shows_from_before root count (before_of_all (rules_of_header root) count all)

@@ -2,7 +2,7 @@
 use Rattle.std.specs.Prelude.{ℕ, zero, suc, ◌+◌, ◌*◌, ◌/◌, List, [], ◌∷◌, ◌++◌, length, drop, ◌==◌}
 use Rattle.std.specs.List.{before_first}
 use Rattle.packed.specs.Number.{little_endian}
-use Rattle.packed.specs.Places.{part}
+use Rattle.packed.specs.Offsets.{part}
 use Rattle.root.specs.Streams.{Header, RootRead}
 
 -- the bytes before the first NUL
@@ -35,13 +35,13 @@ abbrev pub header_length : Header → ℕ
 header_length header = 8 + (length header.name + 4) / 4 * 4
 
 -- the offset of header i: the first follows Streams, each other begins where the one before it ends
-abbrev pub header_place : List ℕ → ℕ → ℕ
-header_place root zero = 20 + version_length root
-header_place root (suc i) = header_place root i + header_length (header_at root (header_place root i))
+abbrev pub header_offset : List ℕ → ℕ → ℕ
+header_offset root zero = 20 + version_length root
+header_offset root (suc i) = header_offset root i + header_length (header_at root (header_offset root i))
 
 -- header i, counted from 0
 abbrev pub header_number : List ℕ → ℕ → Header
-header_number root i = header_at root (header_place root i)
+header_number root i = header_at root (header_offset root i)
 
 -- the first i headers
 abbrev pub headers_before : List ℕ → ℕ → List Header

@@ -1,7 +1,7 @@
 pub mod Checked
-pub mod Demands
+pub mod Rules
 pub mod Fields
-pub mod Rest
+pub mod Tail
 pub mod Root
 pub mod Shown
 pub mod Streams

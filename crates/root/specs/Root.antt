@@ -24,28 +24,28 @@ pub record IsStreamName (name : List ℕ) : Type 0 where
   pub ascii : IsAscii name
   pub no_nul : All (λ byte. byte ≢ 0) name
 
--- `fill` bytes, at most three, pad `count` bytes to a multiple of four
-pub record IsFilled (count fill : ℕ) : Type 0 where
-  pub fewer : fill < 4
-  pub multiple : (count + fill) % 4 ≡ 0
+-- `padding` bytes, at most three, pad `count` bytes to a multiple of four
+pub record IsPadded (count padding : ℕ) : Type 0 where
+  pub fewer : padding < 4
+  pub multiple : (count + padding) % 4 ≡ 0
 
 -- the bytes encode a stream header: offset, size, and the name with its NUL and padding (II.24.2.2)
 pub record IsHeader (bytes : List ℕ) (header : Header) : Type 0 where
   pub offset_bytes : List ℕ
   pub size_bytes : List ℕ
-  pub fill : List ℕ
-  pub whole : bytes ≡ offset_bytes ++ size_bytes ++ header.name ++ 0 ∷ fill
+  pub padding : List ℕ
+  pub whole : bytes ≡ offset_bytes ++ size_bytes ++ header.name ++ 0 ∷ padding
   pub offset : IsNumber 4 offset_bytes header.offset
   pub size : IsNumber 4 size_bytes header.size
   pub name : IsStreamName header.name
-  pub filled : IsFilled (length header.name + 1) (length fill)
+  pub padded : IsPadded (length header.name + 1) (length padding)
 
 -- the bytes are these headers, one after another, the first at offset `place` of the root
 abbrev pub AreHeaders : ℕ → List ℕ → List Header → Type 0
 AreHeaders place bytes [] = bytes ≡ []
 AreHeaders place bytes (header ∷ headers) =
-    (front : List ℕ) × (rest : List ℕ) × (bytes ≡ front ++ rest) × (header.place ≡ place) × IsHeader front header
-    × AreHeaders (place + length front) rest headers
+    (root_header : List ℕ) × (tail : List ℕ) × (bytes ≡ root_header ++ tail) × (header.place ≡ place) × IsHeader root_header header
+    × AreHeaders (place + length root_header) tail headers
 
 -- if the standard names the stream, it ends within the root of `size` bytes (II.24.2.2)
 abbrev pub EndsWithin : ℕ → Header → Type 0
@@ -75,11 +75,11 @@ pub record IsRoot (root version : List ℕ) (headers : List Header) : Type 0 whe
   pub flags : List ℕ
   pub count_bytes : List ℕ
   pub directory : List ℕ
-  pub rest : List ℕ
-  pub whole : root ≡ signature ++ ignored ++ length_bytes ++ (version ++ 0 ∷ padding) ++ flags ++ count_bytes ++ directory ++ rest
+  pub tail : List ℕ
+  pub whole : root ≡ signature ++ ignored ++ length_bytes ++ (version ++ 0 ∷ padding) ++ flags ++ count_bytes ++ directory ++ tail
   pub ignored_long : length ignored ≡ 8
   pub version_long : IsNumber 4 length_bytes (length (version ++ 0 ∷ padding))
-  pub version_filled : length (version ++ 0 ∷ padding) % 4 ≡ 0
+  pub version_padded : length (version ++ 0 ∷ padding) % 4 ≡ 0
   pub version_is : IsVersion version
   pub flags_long : length flags ≡ 2
   pub count : IsNumber 2 count_bytes (length headers)

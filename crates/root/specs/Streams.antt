@@ -3,7 +3,7 @@ use Rattle.std.specs.Prelude.{ℕ, ◌+◌, List, codes, Option}
 use Rattle.std.specs.List.{find}
 use Rattle.std.specs.Option.{option_map}
 use Rattle.std.specs.Str.{bytes_eq}
-use Rattle.packed.specs.Places.{part}
+use Rattle.packed.specs.Offsets.{part}
 use Rattle.root.specs.declared.kind.Kind.{Kind}
 use Rattle.root.specs.declared.kind.Kind.TheVariants.{Tables, Strings, UserStrings, Guids, Blobs}
 
@@ -33,8 +33,8 @@ pub record RootRead : Type 0 where
   pub headers : List Header
 
 -- the start and the end of a stream, as offsets in the root
-abbrev pub place_of : RootRead → Kind → Option (ℕ × ℕ)
-place_of root kind = option_map (λ header. (header.offset, header.offset + header.size)) (named (stream_name kind) root.headers)
+abbrev pub range_of : RootRead → Kind → Option (ℕ × ℕ)
+range_of root kind = option_map (λ header. (header.offset, header.offset + header.size)) (named (stream_name kind) root.headers)
 
 -- the bytes of a stream
 abbrev pub stream_of : RootRead → Kind → Option (List ℕ)

@@ -1,6 +1,6 @@
 ghost use Rattle.std.specs.Prelude.{position, ◌==◌, ◌≡◌, ◌+◌, ◌*◌, ◌<◌, ◌≤◌, length, IfSome, IfNone};
 ghost use Rattle.packed.specs.Limit.{byte_limit};
-ghost use Rattle.root.specs.Demands.{HasHeader};
+ghost use Rattle.root.specs.Rules.{HasHeader};
 ghost use Rattle.root.specs.Fields.{before_nul, header_at, header_length};
 ghost use Rattle.root.specs.Views.{view};
 
@@ -32,7 +32,7 @@ pub fn nul_in(bytes: &[u8]) -> Option<usize>
 /// The header at an offset, if there is a valid one.
 pub fn read_header(bytes: &[u8], place: usize) -> Option<StreamHeader<'_>>
     requires { length bytes.now ≤ byte_limit }
-    ensures found { IfSome result (λ header. HasHeader bytes.now place × (view header ≡ header_at bytes.now place)) }
+    ensures sound { IfSome result (λ header. HasHeader bytes.now place × (view header ≡ header_at bytes.now place)) }
     ensures end { IfSome result (λ header. place + header_length (view header) ≤ length bytes.now) }
     ensures none { IfNone result (HasHeader bytes.now place → ⊥) }
 {

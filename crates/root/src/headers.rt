@@ -1,7 +1,7 @@
 ghost use Rattle.std.specs.Prelude.{◌≡◌, ◌≤◌, length, List};
 ghost use Rattle.std.specs.Iterator.{YieldsFirstBy, item_count};
 ghost use Rattle.packed.specs.Limit.{byte_limit};
-ghost use Rattle.root.specs.Fields.{header_place, headers_before};
+ghost use Rattle.root.specs.Fields.{header_offset, headers_before};
 ghost use Rattle.root.specs.Shown.{AllShow};
 ghost use Rattle.root.specs.Streams.{Header};
 ghost use Rattle.root.specs.Views.{view};
@@ -24,9 +24,9 @@ impl<'a> Model for Headers<'a> {
 
     ghost Value = { List Header };
 
-    ghost use Rattle.root.specs.Rest.{rest_of, IsOnTheWay};
+    ghost use Rattle.root.specs.Tail.{tail_of, IsOnTheWay};
 
-    ghost view = { rest_of };
+    ghost view = { tail_of };
 
     ghost invariant = { IsOnTheWay };
 }
@@ -35,7 +35,7 @@ impl<'a> Headers<'a> {
     /// An iterator over `count` headers, the first at offset `start`.
     pub(crate) fn new(bytes: &'a [u8], start: usize, count: usize) -> Headers<'a>
         requires small { length bytes.now ≤ byte_limit }
-        requires start { start ≡ header_place bytes.now 0 }
+        requires start { start ≡ header_offset bytes.now 0 }
         requires shows { AllShow bytes.now count }
         ensures { result ≡ headers_before bytes.now count }
     {
@@ -51,9 +51,9 @@ impl<'a> Headers<'a> {
 impl<'a> Iterator for Headers<'a> {
     type Item = StreamHeader<'a>;
 
-    ghost next_gives = { YieldsFirstBy view (λ rest. rest) };
+    ghost next_gives = { YieldsFirstBy view (λ tail. tail) };
 
-    ghost remaining = { item_count (λ rest. rest) };
+    ghost remaining = { item_count (λ tail. tail) };
 
     fn next(&mut self) -> Option<StreamHeader<'a>> {
         if self.next == self.count {

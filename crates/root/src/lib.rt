@@ -13,7 +13,7 @@
 //! ```
 #![tactic(auto)]
 
-mod front;
+mod root_header;
 mod header;
 mod headers;
 mod kind;

@@ -1,13 +1,13 @@
 ghost use Rattle.std.specs.Prelude.{◌≡◌, ◌+◌, ◌≤◌, List, ℕ, length, IfSome, IfOk, IfErr, IsOkAnd, Option, Some, None};
 ghost use Rattle.std.specs.Option.{option_map};
 ghost use Rattle.packed.specs.Limit.{byte_limit};
-ghost use Rattle.packed.specs.Demand.{AllHold, Answers, FirstToFail};
-ghost use Rattle.root.specs.Demands.{demands_of_root};
+ghost use Rattle.packed.specs.Rule.{AllHold, Reports, FirstBroken};
+ghost use Rattle.root.specs.Rules.{rules_of_root};
 ghost use Rattle.root.specs.Fields.{root_read};
 ghost use Rattle.root.specs.Root.{IsRoot};
-ghost use Rattle.root.specs.Streams.{Header, RootRead, place_of, stream_of};
+ghost use Rattle.root.specs.Streams.{Header, RootRead, range_of, stream_of};
 
-use crate::front::read_front;
+use crate::root_header::read_root_header;
 use crate::headers::Headers;
 use crate::kind::Kind;
 use crate::walk::{check_headers, check_tables, find_header};
@@ -53,7 +53,7 @@ impl<'a> Root<'a> {
 
     /// The span of a stream, in bytes from the start of the root; `None` if no header names it.
     pub fn stream_place(&self, kind: Kind) -> Option<Range<usize>>
-        ensures place { option_map (λ range. (range.start, range.«end»)) result ≡ place_of self.now kind }
+        ensures place { option_map (λ range. (range.start, range.«end»)) result ≡ range_of self.now kind }
         ensures within { IfSome result (λ range. (range.start ≤ range.«end») × (range.«end» ≤ length self.now.bytes)) }
     {
         let header = find_header(self.bytes, self.start, self.count, kind)?;
@@ -66,26 +66,26 @@ impl<'a> Root<'a> {
         ensures { option_map (λ bytes. bytes.now) result ≡ stream_of self.now kind }
     {
         let header = find_header(self.bytes, self.start, self.count, kind)?;
-        let (_, rest) = self.bytes.split_at(header.offset as usize);
-        let (stream, _) = rest.split_at(header.size as usize);
+        let (_, tail) = self.bytes.split_at(header.offset as usize);
+        let (stream, _) = tail.split_at(header.size as usize);
         Some(stream)
     }
 }
 
 /// Checks all rules. Returns the root, or the fault of the first broken rule.
 fn check_root(bytes: &[u8]) -> Result<Root<'_>, Fault>
-    ensures answers { Answers (demands_of_root bytes.now) result }
+    ensures reports { Reports (rules_of_root bytes.now) result }
     ensures root { IfOk result (λ root. root ≡ root_read bytes.now) }
     ensures within { IfErr result (λ fault. fault.offset ≤ length bytes.now) }
 {
-    let front = read_front(bytes)?;
-    check_headers(bytes, front.start, front.count)?;
-    check_tables(bytes, front.start, front.count)?;
+    let root_header = read_root_header(bytes)?;
+    check_headers(bytes, root_header.start, root_header.count)?;
+    check_tables(bytes, root_header.start, root_header.count)?;
     Ok(Root {
         bytes,
-        version: front.version,
-        start: front.start,
-        count: front.count,
+        version: root_header.version,
+        start: root_header.start,
+        count: root_header.count,
     })
 }
 
@@ -99,15 +99,15 @@ fn check_root(bytes: &[u8]) -> Result<Root<'_>, Fault>
 /// The fault of the first broken rule for the first fields and the stream headers, with its offset.
 pub fn read_root(bytes: &[u8]) -> Result<Root<'_>, Fault>
     // If it returns a root, the bytes are a root with this version and these stream headers.
-    ensures found { IfOk result (λ root. (length bytes.now ≤ byte_limit) × (root.bytes ≡ bytes.now)
+    ensures sound { IfOk result (λ root. (length bytes.now ≤ byte_limit) × (root.bytes ≡ bytes.now)
         × IsRoot bytes.now root.version root.headers) }
     // If the bytes are a root of at most 2^30 bytes, it returns this root. Version and headers are unique.
-    ensures only { (version : List ℕ) (headers : List Header) → length bytes.now ≤ byte_limit → IsRoot bytes.now version headers
+    ensures complete { (version : List ℕ) (headers : List Header) → length bytes.now ≤ byte_limit → IsRoot bytes.now version headers
         → IsOkAnd result (λ root. (root.version ≡ version) × (root.headers ≡ headers)) }
     // If it returns a root, all rules hold, and the root has the values of the fields.
-    ensures all { IfOk result (λ root. AllHold (demands_of_root bytes.now) × (root ≡ root_read bytes.now)) }
+    ensures all { IfOk result (λ root. AllHold (rules_of_root bytes.now) × (root ≡ root_read bytes.now)) }
     // A fault is that of the first broken rule.
-    ensures first { IfErr result (FirstToFail (demands_of_root bytes.now)) }
+    ensures first_error { IfErr result (FirstBroken (rules_of_root bytes.now)) }
     // The fault's offset is within the bytes, or at their end.
     ensures within { IfErr result (λ fault. fault.offset ≤ length bytes.now) }
 {

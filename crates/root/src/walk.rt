@@ -1,9 +1,9 @@
 ghost use Rattle.std.specs.Prelude.{◌≡◌, ◌+◌, ◌≤◌, length, IfOk, IfErr};
 ghost use Rattle.std.specs.Option.{option_map};
 ghost use Rattle.packed.specs.Limit.{byte_limit};
-ghost use Rattle.packed.specs.Demand.{Answers, demands_from};
-ghost use Rattle.root.specs.Demands.{demands_of_header, demands_of_tables};
-ghost use Rattle.root.specs.Fields.{header_count, header_length, header_number, header_place, headers_before};
+ghost use Rattle.packed.specs.Rule.{Reports, rules_from};
+ghost use Rattle.root.specs.Rules.{rules_of_header, rules_of_tables};
+ghost use Rattle.root.specs.Fields.{header_count, header_length, header_number, header_offset, headers_before};
 ghost use Rattle.root.specs.Shown.{AllShow};
 ghost use Rattle.root.specs.Streams.{named, stream_name};
 ghost use Rattle.root.specs.Views.{view};
@@ -20,7 +20,7 @@ pub fn find_header<'a>(
     kind: Kind,
 ) -> Option<StreamHeader<'a>>
     requires small { length bytes.now ≤ byte_limit }
-    requires start { start ≡ header_place bytes.now 0 }
+    requires start { start ≡ header_offset bytes.now 0 }
     requires shows { AllShow bytes.now count }
     ensures { option_map view result ≡ named (stream_name kind) (headers_before bytes.now count) }
 {
@@ -43,11 +43,11 @@ fn check_header<'a>(
     place: usize,
 ) -> Result<StreamHeader<'a>, Fault>
     requires small { length bytes.now ≤ byte_limit }
-    requires start { start ≡ header_place bytes.now 0 }
+    requires start { start ≡ header_offset bytes.now 0 }
     requires shows { AllShow bytes.now number }
-    requires place { place ≡ header_place bytes.now number }
+    requires place { place ≡ header_offset bytes.now number }
     requires room { place ≤ length bytes.now }
-    ensures answers { Answers (demands_of_header bytes.now number) result }
+    ensures reports { Reports (rules_of_header bytes.now number) result }
     ensures header { IfOk result (λ header. view header ≡ header_number bytes.now number) }
     ensures end { IfOk result (λ header. place + header_length (view header) ≤ length bytes.now) }
     ensures within { IfErr result (λ fault. fault.offset ≤ length bytes.now) }
@@ -70,13 +70,13 @@ fn check_header<'a>(
 }
 
 /// Checks that each stream header of the root follows its rules.
-#[tactic(auto, using(packed::proofs::DemandLemmas::before_none, packed::proofs::DemandLemmas::before_all))]
+#[tactic(auto, using(packed::proofs::RuleLemmas::before_none, packed::proofs::RuleLemmas::before_all))]
 pub fn check_headers(bytes: &[u8], start: usize, count: usize) -> Result<(), Fault>
     requires small { length bytes.now ≤ byte_limit }
-    requires start { start ≡ header_place bytes.now 0 }
+    requires start { start ≡ header_offset bytes.now 0 }
     requires count { count ≡ header_count bytes.now }
     requires room { start ≤ length bytes.now }
-    ensures answers { Answers (demands_from (demands_of_header bytes.now) 0 (header_count bytes.now)) result }
+    ensures reports { Reports (rules_from (rules_of_header bytes.now) 0 (header_count bytes.now)) result }
     ensures within { IfErr result (λ fault. fault.offset ≤ length bytes.now) }
 {
     let mut place = start;
@@ -90,11 +90,11 @@ pub fn check_headers(bytes: &[u8], start: usize, count: usize) -> Result<(), Fau
 /// Checks that one of the root's headers names the tables.
 pub fn check_tables(bytes: &[u8], start: usize, count: usize) -> Result<(), Fault>
     requires small { length bytes.now ≤ byte_limit }
-    requires start { start ≡ header_place bytes.now 0 }
+    requires start { start ≡ header_offset bytes.now 0 }
     requires count { count ≡ header_count bytes.now }
     requires shows { AllShow bytes.now (header_count bytes.now) }
     requires room { start ≤ length bytes.now }
-    ensures answers { Answers (demands_of_tables bytes.now) result }
+    ensures reports { Reports (rules_of_tables bytes.now) result }
     ensures within { IfErr result (λ fault. fault.offset ≤ length bytes.now) }
 {
     if find_header(bytes, start, count, Kind::Tables).is_none() {

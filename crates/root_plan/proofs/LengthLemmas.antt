@@ -5,7 +5,7 @@ use Rattle.std.proofs.lemmas.Bool.{cases_Bool, ltb-false}
 use Rattle.std.proofs.lemmas.List.Sums.{sum_by-cons}
 use Rattle.root.specs.declared.kind.Kind.{Kind}
 use Rattle.root.specs.declared.kind.Kind.TheVariants.{Tables, Strings, UserStrings, Guids, Blobs}
-use Rattle.heap_entries.specs.Fill.{filled}
+use Rattle.heap_entries.specs.Padding.{zero_padded}
 use Rattle.metadata.specs.Metadata.{Metadata}
 use Rattle.canonical.specs.Canonical.{canonical, stream}
 use Rattle.root_writer.specs.Heading.{held, heading, kinds_in_order}
@@ -14,11 +14,11 @@ use Rattle.root_writer.specs.Heading.{held, heading, kinds_in_order}
 pub held_sum : (size : Kind → ℕ) (kinds : List Kind) → sum_by size (filter (λ kind. ltb 0 (size kind)) kinds) ≡ sum_by size kinds
 held_sum size [] = refl
 held_sum size (kind ∷ kinds) =
-    let rest = filter (λ kind. ltb 0 (size kind)) kinds in
+    let tail = filter (λ kind. ltb 0 (size kind)) kinds in
     elim (cases_Bool (ltb 0 (size kind))) [
-      | inl some ↦ subst (λ b. sum_by size (cond b (kind ∷ rest) rest) ≡ sum_by size (kind ∷ kinds)) (sym some)
-          (omega (arith, sum_by-cons size kind rest, sum_by-cons size kind kinds, held_sum size kinds))
-      | inr none ↦ subst (λ b. sum_by size (cond b (kind ∷ rest) rest) ≡ sum_by size (kind ∷ kinds)) (sym none)
+      | inl some ↦ subst (λ b. sum_by size (cond b (kind ∷ tail) tail) ≡ sum_by size (kind ∷ kinds)) (sym some)
+          (omega (arith, sum_by-cons size kind tail, sum_by-cons size kind kinds, held_sum size kinds))
+      | inr none ↦ subst (λ b. sum_by size (cond b (kind ∷ tail) tail) ≡ sum_by size (kind ∷ kinds)) (sym none)
           (omega (arith, ltb-false 0 (size kind) none, sum_by-cons size kind kinds, held_sum size kinds))
     ]
 
@@ -61,19 +61,19 @@ within put model kind =
     let size = λ (kind : Kind). length (stream model kind) in
     omega (arith, root_long put model size (λ kind. refl), five_sum size, one_of_five size kind)
 
-pub fill_adds : (bytes : List ℕ) → length bytes ≤ length (filled bytes)
-fill_adds bytes = omega (arith, length-append bytes (replicate ((4 - length bytes % 4) % 4) 0))
+pub padding_adds : (bytes : List ℕ) → length bytes ≤ length (zero_padded bytes)
+padding_adds bytes = omega (arith, length-append bytes (replicate ((4 - length bytes % 4) % 4) 0))
 
 -- if a heap without padding exceeds a limit, the root exceeds it
-pub over : ArePut → (model : Metadata) (kind : Kind) (heap : List ℕ) (limit : ℕ) → length (stream model kind) ≡ length (filled heap) → limit < length heap
+pub over : ArePut → (model : Metadata) (kind : Kind) (heap : List ℕ) (limit : ℕ) → length (stream model kind) ≡ length (zero_padded heap) → limit < length heap
     → limit < length (canonical model)
-over put model kind heap limit is more = omega (arith, within put model kind, is, fill_adds heap, more)
+over put model kind heap limit is more = omega (arith, within put model kind, is, padding_adds heap, more)
 
 length-zeros : (n : ℕ) → length (replicate {A = ℕ} n 0) ≡ n
 length-zeros zero = refl
 length-zeros (suc n) = ap suc (length-zeros n)
 
-pub length-filled : (bytes : List ℕ) (len : ℕ) → length bytes ≡ len → len + (4 - len % 4) % 4 ≡ length (filled bytes)
-length-filled bytes len is =
+pub length-zero_padded : (bytes : List ℕ) (len : ℕ) → length bytes ≡ len → len + (4 - len % 4) % 4 ≡ length (zero_padded bytes)
+length-zero_padded bytes len is =
     ap (λ n. n + (4 - n % 4) % 4) (sym is)
     ∙ omega (arith, length-append bytes (replicate ((4 - length bytes % 4) % 4) 0), length-zeros ((4 - length bytes % 4) % 4))

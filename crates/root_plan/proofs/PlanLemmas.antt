@@ -13,9 +13,9 @@ use Rattle.canonical.specs.Numbers.{numbers}
 use Rattle.canonical.specs.TableStream.{is_sorted, sizes_of, header_bytes, table_stream}
 use Rattle.canonical.specs.Canonical.{canonical, stream}
 use Rattle.root_writer.specs.Heading.{size_of}
-use Rattle.root_writer.specs.Written.{fill}
+use Rattle.root_writer.specs.Written.{padding}
 use Rattle.root_writer.specs.declared.sizes.StreamSizes.{StreamSizes}
-use Rattle.heap_entries.specs.Fill.{filled}
+use Rattle.heap_entries.specs.Padding.{zero_padded}
 use Rattle.heap_pools.specs.TextPlan.{TextPlan}
 use Rattle.heap_pools.specs.TextHeap.{text_heap}
 use Rattle.heap_pools.specs.BlobHeap.{blob_heap}
@@ -24,7 +24,7 @@ use Rattle.root_writer.specs.Numbered.{Numbered}
 use Rattle.root_plan.specs.declared.heap_lens.HeapLens.{HeapLens}
 use Rattle.root_plan.specs.declared.tables_plan.TablesPlan.{TablesPlan}
 use Rattle.root_plan.specs.Planned.{ArePooled, AreHeapLens, IsTablesPlan}
-use Rattle.root_plan.proofs.LengthLemmas.{fill_adds}
+use Rattle.root_plan.proofs.LengthLemmas.{padding_adds}
 
 -- the sizes of a model are those of its row counts by table number
 pub counts_are : (model : Metadata) (counts : List ℕ) (heap_sizes : ℕ) → ((table : TableId) → get_or counts (table_number table) 0 ≡ count_in model table)
@@ -43,38 +43,38 @@ body_is model counts heap_sizes each =
 
 -- the header, the rows and the padding are the table stream
 pub stream_is : (model : Metadata) (header rows : List ℕ) (len : ℕ) → header ≡ header_bytes model → rows ≡ tables_bytes (sizes_of model) tables (numbers model)
-    → len ≡ length (header_bytes model ++ tables_bytes (sizes_of model) tables (numbers model)) → header ++ rows ++ fill len ≡ table_stream model
+    → len ≡ length (header_bytes model ++ tables_bytes (sizes_of model) tables (numbers model)) → header ++ rows ++ padding len ≡ table_stream model
 unfolding table_stream
 stream_is model header rows len first second long =
     let whole = header_bytes model ++ tables_bytes (sizes_of model) tables (numbers model) in
-    ap (λ list. list ++ rows ++ fill len) first
-    ∙ ap (λ list. header_bytes model ++ list ++ fill len) second
-    ∙ ap (λ n. whole ++ fill n) long
+    ap (λ list. list ++ rows ++ padding len) first
+    ∙ ap (λ list. header_bytes model ++ list ++ padding len) second
+    ∙ ap (λ n. whole ++ padding n) long
 
 -- if a table stream without padding exceeds a limit, the root exceeds it
 pub tables_over : (model : Metadata) (len limit : ℕ) → length (table_stream model) ≤ length (canonical model)
     → len ≡ length (header_bytes model ++ tables_bytes (sizes_of model) tables (numbers model)) → limit < len → limit < length (canonical model)
 unfolding table_stream
 tables_over model len limit within long more =
-    omega (arith, within, long, more, fill_adds (header_bytes model ++ tables_bytes (sizes_of model) tables (numbers model)))
+    omega (arith, within, long, more, padding_adds (header_bytes model ++ tables_bytes (sizes_of model) tables (numbers model)))
 
 -- the streams of the heaps are as long as those of the pools
 pub lens_are : (model : Metadata) (plan : TextPlan) (numbered : Numbered) → ArePooled model plan numbered → (lens : HeapLens)
-    → lens.strings ≡ length (filled (text_heap plan.entries)) → lens.guids ≡ length (filled (guid_heap numbered.guids)) → lens.blobs ≡ length (filled (blob_heap numbered.blobs))
+    → lens.strings ≡ length (zero_padded (text_heap plan.entries)) → lens.guids ≡ length (zero_padded (guid_heap numbered.guids)) → lens.blobs ≡ length (zero_padded (blob_heap numbered.blobs))
     → AreHeapLens model lens
 lens_are model plan numbered pooled lens strings guids blobs = record {
-  strings = strings ∙ ap (λ entries. length (filled (text_heap entries))) pooled.texts;
-  guids = guids ∙ ap (λ entries. length (filled (guid_heap entries))) pooled.numbering.guids;
-  blobs = blobs ∙ ap (λ entries. length (filled (blob_heap entries))) pooled.numbering.blobs;
+  strings = strings ∙ ap (λ entries. length (zero_padded (text_heap entries))) pooled.texts;
+  guids = guids ∙ ap (λ entries. length (zero_padded (guid_heap entries))) pooled.numbering.guids;
+  blobs = blobs ∙ ap (λ entries. length (zero_padded (blob_heap entries))) pooled.numbering.blobs;
 }
 
-tables_size_is : (model : Metadata) → length (filled (header_bytes model ++ tables_bytes (sizes_of model) tables (numbers model))) ≡ length (table_stream model)
+tables_size_is : (model : Metadata) → length (zero_padded (header_bytes model ++ tables_bytes (sizes_of model) tables (numbers model))) ≡ length (table_stream model)
 unfolding table_stream
 tables_size_is model = refl
 
 -- the sizes of the streams, kind by kind
 pub sizes_are : (model : Metadata) (plan : TablesPlan) (sizes : StreamSizes) → IsTablesPlan model plan
-    → ((bytes : List ℕ) → length bytes ≡ plan.len → sizes.tables ≡ length (filled bytes))
+    → ((bytes : List ℕ) → length bytes ≡ plan.len → sizes.tables ≡ length (zero_padded bytes))
     → AreHeapLens model (record { strings = sizes.strings; guids = sizes.guids; blobs = sizes.blobs }) → sizes.user_strings ≡ length model.user
     → (kind : Kind) → size_of sizes kind ≡ length (stream model kind)
 sizes_are model plan sizes is in_tables lens user Tables =

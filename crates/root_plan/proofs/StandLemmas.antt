@@ -2,12 +2,12 @@
 use Rattle.std.proofs.Common.{◌≡◌, ◌<◌, length, get_or}
 use Rattle.table_schema.specs.declared.table.TableId.{TableId}
 use Rattle.table_schema.specs.declared.table.TableId.TheVariants.{Module}
-use Rattle.table_schema.specs.Tables.{tables, table_number, position_of}
+use Rattle.table_schema.specs.Tables.{tables, table_number, table_index_of}
 
 -- the tables are listed by their indexes, in ascending order of their numbers
 pub record TheyStand : Type 0 where
   pub count : length tables ≡ 38
-  pub position : (table : TableId) → position_of table < 38
+  pub table_index : (table : TableId) → table_index_of table < 38
   pub number : (table : TableId) → table_number table < 45
-  pub stand : (table : TableId) → get_or tables (position_of table) Module ≡ table
-  pub rise : (lower higher : TableId) → position_of lower < position_of higher → table_number lower < table_number higher
+  pub stand : (table : TableId) → get_or tables (table_index_of table) Module ≡ table
+  pub rise : (lower higher : TableId) → table_index_of lower < table_index_of higher → table_number lower < table_number higher

@@ -8,10 +8,10 @@ use Rattle.std.proofs.lemmas.List.Sums.{sum_by-cons, sum_by_more}
 use Rattle.table_schema.specs.declared.table.TableId.{TableId}
 use Rattle.table_schema.specs.declared.table.TableId.TheVariants.{Module, GenericParamConstraint}
 use Rattle.table_schema.specs.declared.column.Column.{Column}
-use Rattle.table_schema.specs.Tables.{tables, position_of}
+use Rattle.table_schema.specs.Tables.{tables, table_index_of}
 use Rattle.table_schema.specs.Columns.{columns_of}
 use Rattle.schema.specs.Sizes.{Sizes, count_of, width_of, header_size}
-use Rattle.schema.specs.Places.{columns_width, row_width, table_size, tables_size, row_start, tables_end}
+use Rattle.schema.specs.Offsets.{columns_width, row_width, table_size, tables_size, row_start, tables_end}
 use Rattle.schema.specs.LaidOut.{number_bytes, row_bytes, rows_bytes, tables_bytes, bits_of, counts_bytes}
 use Rattle.metadata.specs.Metadata.{Metadata, count_in}
 use Rattle.canonical.specs.Numbers.{numbers}
@@ -51,10 +51,10 @@ length-rows sizes columns (suc count) numbers same =
     let width = length columns in
     let more = one_more width count (length numbers) (same ∙ omega arith) in
     let row = row_bytes sizes columns (take width numbers) in
-    let rest = rows_bytes sizes columns (rows_in width count (drop width numbers)) in
+    let tail = rows_bytes sizes columns (rows_in width count (drop width numbers)) in
     let here = length-row sizes columns (take width numbers) (length-take-le width numbers more.1) in
     let behind = length-rows sizes columns count (drop width numbers) (length-drop width numbers ∙ more.0) in
-    omega (arith, length-append row rest, here, behind, width_more (sum_by (width_of sizes) columns) count)
+    omega (arith, length-append row tail, here, behind, width_more (sum_by (width_of sizes) columns) count)
 
 length-tables : (sizes : Sizes) (listed : List TableId) (numbers : List ℕ) → length numbers ≡ sum_by (cells_of sizes) listed
     → length (tables_bytes sizes listed (tables_in sizes listed numbers)) ≡ sum_by (table_size sizes) listed
@@ -63,32 +63,32 @@ length-tables sizes [] numbers same = refl
 length-tables sizes (table ∷ listed) numbers same =
     let cells = cells_of sizes table in
     let all = sum_by-cons (cells_of sizes) table listed in
-    let front = rows_bytes sizes (columns_of table) (table_in sizes table (take cells numbers)) in
-    let rest = tables_bytes sizes listed (tables_in sizes listed (drop cells numbers)) in
+    let prefix = rows_bytes sizes (columns_of table) (table_in sizes table (take cells numbers)) in
+    let tail = tables_bytes sizes listed (tables_in sizes listed (drop cells numbers)) in
     let here = length-rows sizes (columns_of table) (count_of sizes table) (take cells numbers) (length-take-le cells numbers (omega (arith, same, all))) in
     let behind = length-tables sizes listed (drop cells numbers) (omega (arith, length-drop cells numbers, same, all)) in
-    omega (arith, length-append front rest, here, behind, sum_by-cons (table_size sizes) table listed)
+    omega (arith, length-append prefix tail, here, behind, sum_by-cons (table_size sizes) table listed)
 
 -- ---- counts
 
 length-counts : (test : TableId → Bool) (sizes : Sizes) (listed : List TableId) → length (counts_bytes test sizes listed) ≡ 4 * count_by test listed
 length-counts test sizes [] = refl
 length-counts test sizes (table ∷ listed) =
-    let rest = counts_bytes test sizes listed in
+    let tail = counts_bytes test sizes listed in
     let here = number_bytes 4 (count_of sizes table) in
     let one : Bool → ℕ = λ b. cond b 1 0 in
     elim (cases_Bool (test table)) [
       | inl set ↦ omega (
         arith,
-        ap (λ b. length (cond b here [] ++ rest)) set,
+        ap (λ b. length (cond b here [] ++ tail)) set,
         ap one set,
-        length-append here rest,
+        length-append here tail,
         sum_by-cons (λ t. one (test t)) table listed,
         length-counts test sizes listed,
       )
       | inr clear ↦ omega (
         arith,
-        ap (λ b. length (cond b here [] ++ rest)) clear,
+        ap (λ b. length (cond b here [] ++ tail)) clear,
         ap one clear,
         sum_by-cons (λ t. one (test t)) table listed,
         length-counts test sizes listed,
@@ -99,15 +99,15 @@ length-header : (model : Metadata) → length (header_bytes model) ≡ header_si
 unfolding header_bytes
 length-header model =
     let sizes = sizes_of model in
-    let front = (0 ∷ 0 ∷ 0 ∷ 0 ∷ []) ++ (2 ∷ 0 ∷ sizes.heap_sizes ∷ 1 ∷ []) ++ number_bytes 8 (bits_of (has_rows model) tables) ++ number_bytes 8 sizes.sorted in
-    omega (arith, length-append front (counts_bytes (has_rows model) sizes tables), length-counts (has_rows model) sizes tables)
+    let prefix = (0 ∷ 0 ∷ 0 ∷ 0 ∷ []) ++ (2 ∷ 0 ∷ sizes.heap_sizes ∷ 1 ∷ []) ++ number_bytes 8 (bits_of (has_rows model) tables) ++ number_bytes 8 sizes.sorted in
+    omega (arith, length-append prefix (counts_bytes (has_rows model) sizes tables), length-counts (has_rows model) sizes tables)
 
 -- ---- the sizes of a model
 
 pub count_is : TheyStand → (model : Metadata) (table : TableId) → count_of (sizes_of model) table ≡ count_in model table
 unfolding sizes_of
 count_is they model table =
-    get_or-map (count_in model) tables (position_of table) Module 0 (omega (arith, they.position table, they.count)) ∙ ap (count_in model) (they.stand table)
+    get_or-map (count_in model) tables (table_index_of table) Module 0 (omega (arith, they.table_index table, they.count)) ∙ ap (count_in model) (they.stand table)
 
 body_is : (model : Metadata) → (sizes_of model).body ≡ header_size (count_by (has_rows model) tables)
 unfolding sizes_of

@@ -4,7 +4,7 @@ use Rattle.std.specs.Prelude.{◌≡◌, slice_index}
 use Rattle.table_schema.specs.declared.table.TableId.{TableId}
 use Rattle.table_schema.specs.Tables.{tables, table_number}
 use Rattle.schema.specs.LaidOut.{bits_of}
-use Rattle.heap_entries.specs.Fill.{filled}
+use Rattle.heap_entries.specs.Padding.{zero_padded}
 use Rattle.metadata.specs.Metadata.{Metadata, count_in}
 use Rattle.canonical.specs.TableStream.{is_sorted}
 use Rattle.root_plan.specs.declared.outline.Outline.{Outline}
@@ -13,6 +13,6 @@ use Rattle.root_plan.specs.declared.outline.Outline.{Outline}
 -- and the bits of the keyed tables whose rows are in order
 pub record Describes (outline : Outline) (model : Metadata) : Type 0 where
   pub version : outline.version.now ≡ model.version
-  pub user : filled outline.user_strings.now ≡ model.user
+  pub user : zero_padded outline.user_strings.now ≡ model.user
   pub counts : (table : TableId) → slice_index outline.counts (table_number table) ≡ count_in model table
   pub sorted : outline.sorted ≡ bits_of (is_sorted model) tables

@@ -6,7 +6,7 @@ use Rattle.schema.specs.LaidOut.{tables_bytes}
 use Rattle.heap_pools.specs.declared.pool_error.PoolError.{PoolError}
 use Rattle.heap_pools.specs.declared.pool_error.PoolError.TheVariants as pool
 use Rattle.heap_pools.specs.TextPlan.{TextPlan}
-use Rattle.heap_entries.specs.Fill.{filled}
+use Rattle.heap_entries.specs.Padding.{zero_padded}
 use Rattle.metadata.specs.Metadata.{Metadata}
 use Rattle.metadata.specs.Valid.{IsValid}
 use Rattle.canonical.specs.Pools.{pools_of, texts_stream, blobs_stream, guids_stream}
@@ -16,7 +16,7 @@ use Rattle.canonical.specs.Canonical.{canonical, stream}
 use Rattle.root_writer.specs.Flat.{cells_of, tables_in}
 use Rattle.root_writer.specs.Heading.{size_of, held, heading_size}
 use Rattle.root_writer.specs.TableHeader.{table_header}
-use Rattle.root_writer.specs.Written.{fill}
+use Rattle.root_writer.specs.Written.{padding}
 use Rattle.root_writer.specs.Numbered.{Numbered, IsNumbering}
 use Rattle.root_plan.specs.declared.heap_lens.HeapLens.{HeapLens}
 use Rattle.root_plan.specs.declared.tables_plan.TablesPlan.{TablesPlan}
@@ -52,14 +52,14 @@ pub record IsTablesPlan (model : Metadata) (plan : TablesPlan) : Type 0 where
 -- the table stream of a plan, with these numbers: its header, its rows and its padding
 abbrev pub planned_tables : TablesPlan → List ℕ → List ℕ
 planned_tables plan numbers =
-    table_header plan.heap_sizes plan.sorted plan.layout ++ tables_bytes plan.layout tables (tables_in plan.layout tables numbers) ++ fill plan.len
+    table_header plan.heap_sizes plan.sorted plan.layout ++ tables_bytes plan.layout tables (tables_in plan.layout tables numbers) ++ padding plan.len
 
 -- The plan is that of the model's canonical root: its version and its user strings, once they are padded; its pools and
 -- its numbers; its table stream, of which the plan and the numbers determine each byte; the length of each stream; and
 -- the length of the root, which is the sum of those of its headers and its streams.
 pub record IsRootPlan (model : Metadata) (plan : RootPlan) : Type 0 where
   pub version : plan.version.now ≡ model.version
-  pub user : filled plan.user_strings.now ≡ model.user
+  pub user : zero_padded plan.user_strings.now ≡ model.user
   pub texts : plan.texts.entries ≡ (pools_of model).texts
   pub numbering : IsNumbering model plan.numbering
   pub many : length plan.numbering.numbers ≡ sum_by (cells_of plan.tables.layout) tables

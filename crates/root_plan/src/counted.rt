@@ -19,7 +19,7 @@ impl<W: Write> Counted<W> {
     pub fn new(writer: W) -> Counted<W>
         ensures writer { writer_of result ≡ writer }
         ensures failures { failures_of result ≡ 0 }
-        ensures told { ⟦<Counted<W> as Sink>⟧.given result ≡ W.contents writer }
+        ensures reported { ⟦<Counted<W> as Sink>⟧.given result ≡ W.contents writer }
     {
         Counted {
             writer,

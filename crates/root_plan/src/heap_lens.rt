@@ -1,5 +1,5 @@
 ghost use Rattle.std.specs.Prelude.{◌≡◌, ◌<◌, ◌^◌, ◌≤◌, ℕ, List, length};
-ghost use Rattle.heap_entries.specs.Fill.{filled};
+ghost use Rattle.heap_entries.specs.Padding.{zero_padded};
 ghost use Rattle.heap_pools.specs.TextHeap.{text_heap};
 ghost use Rattle.heap_pools.specs.BlobHeap.{blob_heap};
 ghost use Rattle.heap_pools.specs.GuidHeap.{guid_heap};
@@ -7,7 +7,7 @@ ghost use Rattle.metadata.specs.Metadata.{Metadata};
 ghost use Rattle.canonical.specs.TableStream.{wide_bit as bit_of_heap, sizes_of};
 ghost use Rattle.root_plan.specs.Planned.{AreHeapLens};
 
-use crate::stream_lens::filled_len;
+use crate::stream_lens::padded_len;
 use heap_pools::TextPool;
 use root_writer::Numbering;
 
@@ -33,15 +33,15 @@ fn wide_bit(len: u32, bit: u8) -> u8
 impl HeapLens {
     /// The lengths for these pools.
     pub fn of(texts: &TextPool, numbering: &Numbering) -> HeapLens
-        ensures strings { result.strings ≡ length (filled (text_heap texts.now.entries)) }
-        ensures guids { result.guids ≡ length (filled (guid_heap numbering.now.guids)) }
-        ensures blobs { result.blobs ≡ length (filled (blob_heap numbering.now.blobs)) }
+        ensures strings { result.strings ≡ length (zero_padded (text_heap texts.now.entries)) }
+        ensures guids { result.guids ≡ length (zero_padded (guid_heap numbering.now.guids)) }
+        ensures blobs { result.blobs ≡ length (zero_padded (blob_heap numbering.now.blobs)) }
         ensures few { (result.strings ≤ 2 ^ 30) × (result.guids ≤ 2 ^ 30) × (result.blobs ≤ 2 ^ 30) }
     {
         HeapLens {
-            strings: filled_len(texts.bytes().len()),
-            guids: filled_len(numbering.guids().len()),
-            blobs: filled_len(numbering.blobs().len()),
+            strings: padded_len(texts.bytes().len()),
+            guids: padded_len(numbering.guids().len()),
+            blobs: padded_len(numbering.blobs().len()),
         }
     }
 

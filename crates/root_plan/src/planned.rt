@@ -11,7 +11,7 @@ use crate::heap_lens::HeapLens;
 use crate::laws::streams_are_within_roots;
 use crate::outline::Outline;
 use crate::plan_error::PlanError;
-use crate::stream_lens::{filled_len, root_len};
+use crate::stream_lens::{padded_len, root_len};
 use crate::tables_plan::TablesPlan;
 use heap_pools::TextPool;
 use root_writer::{Numbering, StreamSizes};
@@ -60,9 +60,9 @@ fn lens_of(
         return None;
     }
     let sizes = StreamSizes {
-        tables: filled_len(tables.len),
+        tables: padded_len(tables.len),
         strings: heaps.strings,
-        user_strings: filled_len(outline.user_strings.len()),
+        user_strings: padded_len(outline.user_strings.len()),
         guids: heaps.guids,
         blobs: heaps.blobs,
     };

@@ -69,7 +69,7 @@ impl Prepared {
         ensures all { OnOk result (Appends (W.given sink.old) (W.given sink.new) self.now) }
         ensures unfailed { OnOk result (W.failed sink.new ≡ W.failed sink.old) }
         // Exactly the first `given` bytes were sent, and not all. One call failed.
-        ensures front { IfErr result (MatchError ⊥ ⊥
+        ensures prefix { IfErr result (MatchError ⊥ ⊥
             (λ given. Appends (W.given sink.old) (W.given sink.new) (take given self.now) × (given < length self.now))) }
         ensures failed { OnErr result (W.failed sink.new ≡ W.failed sink.old + 1) }
     {

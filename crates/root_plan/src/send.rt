@@ -23,14 +23,14 @@ pub fn send_all<W: Sink>(bytes: &[u8], sink: &mut W) -> Result<(), Stopped>
     ensures unfailed { OnOk result (W.failed sink.new ≡ W.failed sink.old) }
 
     // Exactly the first `given` bytes were sent, and not all. One call failed.
-    ensures front { IfErr result (λ stopped. Appends (W.given sink.old) (W.given sink.new) (take stopped.given bytes.now)) }
+    ensures prefix { IfErr result (λ stopped. Appends (W.given sink.old) (W.given sink.new) (take stopped.given bytes.now)) }
     ensures short { IfErr result (λ stopped. stopped.given < length bytes.now) }
     ensures failed { OnErr result (W.failed sink.new ≡ W.failed sink.old + 1) }
 {
     let mut given = 0;
     while given < bytes.len() {
-        let (_, rest) = bytes.split_at(given);
-        let taken = offer_some(rest, sink);
+        let (_, tail) = bytes.split_at(given);
+        let taken = offer_some(tail, sink);
         if taken == 0 {
             return Err(Stopped {
                 given: given as u64,

@@ -21,7 +21,7 @@ pub trait Sink {
     /// else changes the count.
     fn offer(&mut self, bytes: &[u8]) -> io::Result<usize>
         requires few { failed self.old < 2 ^ 63 }
-        ensures front { WritesAtMost result bytes.now }
+        ensures prefix { WritesAtMost result bytes.now }
         ensures given { WriteAppends (given self.old) (given self.new) result bytes.now }
         ensures failures { failed self.new ≡ failed self.old + (if is_failure result bytes.now then 1 else 0) };
 

@@ -1,6 +1,6 @@
 ghost use Rattle.std.specs.Prelude.{◌≡◌, ◌+◌, ◌^◌, ◌<◌, ◌≤◌, ℕ, List, length, sum_by};
 ghost use Rattle.root.specs.declared.kind.Kind.{Kind as TheKind};
-ghost use Rattle.heap_entries.specs.Fill.{filled};
+ghost use Rattle.heap_entries.specs.Padding.{zero_padded};
 ghost use Rattle.metadata.specs.Metadata.{Metadata};
 ghost use Rattle.canonical.specs.Canonical.{canonical, stream};
 ghost use Rattle.root_writer.specs.Heading.{size_of, held, heading_size};
@@ -11,9 +11,9 @@ use root_writer::{HeldKinds, StreamSizes, canonical_roots_are_put, heading_len};
 const STREAM_LIMIT: usize = 1 << 30;
 
 /// The length of a stream with this many bytes, padded to a multiple of four (II.24.2.2).
-pub fn filled_len(len: usize) -> u32
+pub fn padded_len(len: usize) -> u32
     requires { len ≤ STREAM_LIMIT }
-    ensures value { (bytes : List ℕ) → length bytes ≡ len → result ≡ length (filled bytes) }
+    ensures value { (bytes : List ℕ) → length bytes ≡ len → result ≡ length (zero_padded bytes) }
     ensures limit { result ≤ STREAM_LIMIT }
 {
     (len + (4 - len % 4) % 4) as u32

@@ -5,7 +5,7 @@ use Rattle.std.proofs.lemmas.List.{drop_all, get_or-map}
 use Rattle.std.proofs.lemmas.List.Sums.{sum_by-drop_more}
 use Rattle.table_schema.specs.declared.table.TableId.{TableId}
 use Rattle.table_schema.specs.declared.table.TableId.TheVariants.{Module}
-use Rattle.table_schema.specs.Tables.{tables, position_of}
+use Rattle.table_schema.specs.Tables.{tables, table_index_of}
 use Rattle.schema.specs.Sizes.{Sizes, count_of}
 use Rattle.schema.specs.LaidOut.{number_bytes, bits_of, counts_bytes}
 use Rattle.metadata.specs.Metadata.{Metadata, count_in}
@@ -32,22 +32,22 @@ all_bits sizes items i valid total same past whole =
 -- ---- the same counts give the same bytes
 
 same_count : (sizes others : Sizes) → sizes.counts ≡ others.counts → (table : TableId) → count_of sizes table ≡ count_of others table
-same_count sizes others same table = ap (λ (counts : List ℕ). get_or counts (position_of table) 0) same
+same_count sizes others same table = ap (λ (counts : List ℕ). get_or counts (table_index_of table) 0) same
 
 pub same_counts : (test : TableId → Bool) (sizes others : Sizes) → sizes.counts ≡ others.counts → (listed : List TableId)
     → counts_bytes test sizes listed ≡ counts_bytes test others listed
 same_counts test sizes others same [] = refl
 same_counts test sizes others same (table ∷ listed) =
     ap (λ count. cond (test table) (number_bytes 4 count) [] ++ counts_bytes test sizes listed) (same_count sizes others same table)
-    ∙ ap (λ rest. cond (test table) (number_bytes 4 (count_of others table)) [] ++ rest) (same_counts test sizes others same listed)
+    ∙ ap (λ tail. cond (test table) (number_bytes 4 (count_of others table)) [] ++ tail) (same_counts test sizes others same listed)
 
-count_is : length tables ≡ 38 → ((table : TableId) → position_of table < 38) → ((table : TableId) → get_or tables (position_of table) Module ≡ table)
+count_is : length tables ≡ 38 → ((table : TableId) → table_index_of table < 38) → ((table : TableId) → get_or tables (table_index_of table) Module ≡ table)
     → (model : Metadata) (table : TableId) → count_of (sizes_of model) table ≡ count_in model table
 unfolding sizes_of
-count_is many position stand model table =
-    get_or-map (count_in model) tables (position_of table) Module 0 (omega (arith, position table, many)) ∙ ap (count_in model) (stand table)
+count_is many table_index stand model table =
+    get_or-map (count_in model) tables (table_index_of table) Module 0 (omega (arith, table_index table, many)) ∙ ap (count_in model) (stand table)
 
-pub has_rows_is : length tables ≡ 38 → ((table : TableId) → position_of table < 38) → ((table : TableId) → get_or tables (position_of table) Module ≡ table)
+pub has_rows_is : length tables ≡ 38 → ((table : TableId) → table_index_of table < 38) → ((table : TableId) → get_or tables (table_index_of table) Module ≡ table)
     → (model : Metadata) (sizes : Sizes) → sizes.counts ≡ (sizes_of model).counts → has_rows model ≡ is_counted sizes
-has_rows_is many position stand model sizes same =
-    fun_ext (λ table. ap (ltb 0) (sym (count_is many position stand model table) ∙ sym (same_count sizes (sizes_of model) same table)))
+has_rows_is many table_index stand model sizes same =
+    fun_ext (λ table. ap (ltb 0) (sym (count_is many table_index stand model table) ∙ sym (same_count sizes (sizes_of model) same table)))

@@ -21,11 +21,11 @@ use Rattle.root_writer.specs.Numbered.{flat}
 
 -- ---- one number per column
 
-length-with_next : (padding : Bool) (number : Cell → ℕ) (rest : List Cell → List ℕ) (n : ℕ) → ((cells : List Cell) → length (rest cells) ≡ n) → (cells : List Cell)
-    → length (with_next padding number rest cells) ≡ suc n
-length-with_next true number rest n h cells = ap suc (h cells)
-length-with_next false number rest n h [] = ap suc (h [])
-length-with_next false number rest n h (cell ∷ cells) = ap suc (h cells)
+length-with_next : (padding : Bool) (number : Cell → ℕ) (tail : List Cell → List ℕ) (n : ℕ) → ((cells : List Cell) → length (tail cells) ≡ n) → (cells : List Cell)
+    → length (with_next padding number tail cells) ≡ suc n
+length-with_next true number tail n h cells = ap suc (h cells)
+length-with_next false number tail n h [] = ap suc (h [])
+length-with_next false number tail n h (cell ∷ cells) = ap suc (h cells)
 
 length-numbers : (number : ColumnKind → Cell → ℕ) (columns : List Column) (cells : List Cell) → length (numbers_by number columns cells) ≡ length columns
 length-numbers number [] cells = refl
@@ -49,10 +49,10 @@ length-flat width (row ∷ rows) long =
 rows_back : (width : ℕ) (rows : List (List ℕ)) → AllByRecursion (λ row. length row ≡ width) rows → rows_in width (length rows) (flat_map (λ (row : List ℕ). row) rows) ≡ rows
 rows_back width [] long = refl
 rows_back width (row ∷ rows) long =
-    let rest = flat_map (λ (row : List ℕ). row) rows in
-    ap (λ n. take n (row ++ rest) ∷ rows_in width (length rows) (drop n (row ++ rest))) (sym long.0)
-    ∙ ap (λ here. here ∷ rows_in width (length rows) (drop (length row) (row ++ rest))) (take-append_seam row rest)
-    ∙ ap (λ list. row ∷ rows_in width (length rows) list) (drop-append_seam row rest)
+    let tail = flat_map (λ (row : List ℕ). row) rows in
+    ap (λ n. take n (row ++ tail) ∷ rows_in width (length rows) (drop n (row ++ tail))) (sym long.0)
+    ∙ ap (λ here. here ∷ rows_in width (length rows) (drop (length row) (row ++ tail))) (take-append_seam row tail)
+    ∙ ap (λ list. row ∷ rows_in width (length rows) list) (drop-append_seam row tail)
     ∙ ap (λ list. row ∷ list) (rows_back width rows long.1)
 
 -- ---- tables
@@ -75,19 +75,19 @@ module _ (model : Metadata) (sizes : Sizes) (same : (table : TableId) → count_
   listed_back [] = refl
   listed_back (table ∷ listed) =
       let here = flat_map (λ (row : List ℕ). row) (table_numbers model table) in
-      let rest = flat (map (table_numbers model) listed) in
-      ap (λ n. table_in sizes table (take n (here ++ rest)) ∷ tables_in sizes listed (drop n (here ++ rest))) (sym (here_long table))
-      ∙ ap (λ list. table_in sizes table list ∷ tables_in sizes listed (drop (length here) (here ++ rest))) (take-append_seam here rest)
-      ∙ ap (λ list. table_in sizes table here ∷ tables_in sizes listed list) (drop-append_seam here rest)
-      ∙ ap (λ rows. rows ∷ tables_in sizes listed rest) (table_back table)
+      let tail = flat (map (table_numbers model) listed) in
+      ap (λ n. table_in sizes table (take n (here ++ tail)) ∷ tables_in sizes listed (drop n (here ++ tail))) (sym (here_long table))
+      ∙ ap (λ list. table_in sizes table list ∷ tables_in sizes listed (drop (length here) (here ++ tail))) (take-append_seam here tail)
+      ∙ ap (λ list. table_in sizes table here ∷ tables_in sizes listed list) (drop-append_seam here tail)
+      ∙ ap (λ rows. rows ∷ tables_in sizes listed tail) (table_back table)
       ∙ ap (λ more. table_numbers model table ∷ more) (listed_back listed)
 
   listed_long : (listed : List TableId) → length (flat (map (table_numbers model) listed)) ≡ sum_by (cells_of sizes) listed
   listed_long [] = refl
   listed_long (table ∷ listed) =
       let here = flat_map (λ (row : List ℕ). row) (table_numbers model table) in
-      let rest = flat (map (table_numbers model) listed) in
-      omega (arith, length-append here rest, here_long table, listed_long listed, sum_by-cons (cells_of sizes) table listed)
+      let tail = flat (map (table_numbers model) listed) in
+      omega (arith, length-append here tail, here_long table, listed_long listed, sum_by-cons (cells_of sizes) table listed)
 
   pub numbers_back : tables_in sizes tables (flat (numbers model)) ≡ numbers model
   unfolding numbers

@@ -8,7 +8,7 @@ use Rattle.root.specs.declared.kind.Kind.{Kind}
 use Rattle.root.specs.declared.kind.Kind.TheVariants.{Tables, Strings, UserStrings, Guids, Blobs}
 use Rattle.root.specs.Streams.{stream_name}
 use Rattle.schema.specs.LaidOut.{number_bytes}
-use Rattle.canonical.specs.Canonical.{ended, front, directory, root_of}
+use Rattle.canonical.specs.Canonical.{ended, prefix, directory, root_of}
 use Rattle.root_writer.specs.Heading.{header_length, sized_header, sized_directory, heading_size, heading}
 
 pub name_short : (kind : Kind) → length (stream_name kind) ≤ 8
@@ -33,20 +33,20 @@ directory_is_long size offset (kind ∷ kinds) =
     ∙ sums (header_is_long size offset kind) (directory_is_long size (offset + size kind) kinds)
     ∙ sym (sum_by-cons header_length kind kinds)
 
-pub front_is_long : (version : List ℕ) (count : ℕ) → length (front version count) ≡ 20 + length (ended version)
-front_is_long version count =
+pub prefix_is_long : (version : List ℕ) (count : ℕ) → length (prefix version count) ≡ 20 + length (ended version)
+prefix_is_long version count =
     omega (arith, length-append (ended version ++ 0 ∷ 0 ∷ []) (number_bytes 2 count), length-append (ended version) (0 ∷ 0 ∷ []))
 
 pub heading_size_is : (version : List ℕ) (size : Kind → ℕ) (kinds : List Kind)
     → heading_size version size kinds ≡ 20 + length (ended version) + sum_by header_length kinds
-heading_size_is version size kinds = sums (front_is_long version (length kinds)) (directory_is_long size 0 kinds)
+heading_size_is version size kinds = sums (prefix_is_long version (length kinds)) (directory_is_long size 0 kinds)
 
 pub heading_is_long : (version : List ℕ) (size : Kind → ℕ) (kinds : List Kind)
     → length (heading version size kinds) ≡ 20 + length (ended version) + sum_by header_length kinds
 heading_is_long version size kinds =
     let offset = heading_size version size kinds in
-    length-append (front version (length kinds)) (sized_directory size offset kinds)
-    ∙ sums (front_is_long version (length kinds)) (directory_is_long size offset kinds)
+    length-append (prefix version (length kinds)) (sized_directory size offset kinds)
+    ∙ sums (prefix_is_long version (length kinds)) (directory_is_long size offset kinds)
 
 -- the headers depend only on the sizes of the streams
 pub directory_by_size : (streams : Kind → List ℕ) (size : Kind → ℕ) → ((kind : Kind) → size kind ≡ length (streams kind)) → (offset : ℕ) (kinds : List Kind)
@@ -54,13 +54,13 @@ pub directory_by_size : (streams : Kind → List ℕ) (size : Kind → ℕ) → 
 directory_by_size streams size same offset [] = refl
 directory_by_size streams size same offset (kind ∷ kinds) =
     ap (λ count. number_bytes 4 offset ++ number_bytes 4 count ++ ended (stream_name kind) ++ directory streams (offset + count) kinds) (sym (same kind))
-    ∙ ap (λ rest. sized_header size offset kind ++ rest) (directory_by_size streams size same (offset + size kind) kinds)
+    ∙ ap (λ tail. sized_header size offset kind ++ tail) (directory_by_size streams size same (offset + size kind) kinds)
 
 pub heading_by_size : (version : List ℕ) (streams : Kind → List ℕ) (size : Kind → ℕ) → ((kind : Kind) → size kind ≡ length (streams kind)) → (kinds : List Kind)
     → root_of version streams kinds ≡ heading version size kinds ++ flat_map streams kinds
 unfolding root_of
 heading_by_size version streams size same kinds =
-    let start = front version (length kinds) in
+    let start = prefix version (length kinds) in
     ap (λ list. start ++ directory streams (length start + length list) kinds ++ flat_map streams kinds) (directory_by_size streams size same 0 kinds)
     ∙ ap (λ list. start ++ list ++ flat_map streams kinds) (directory_by_size streams size same (heading_size version size kinds) kinds)
 
@@ -70,7 +70,7 @@ pub held_by_size : (streams : Kind → List ℕ) (size : Kind → ℕ) → ((kin
 held_by_size streams size same [] = refl
 held_by_size streams size same (kind ∷ kinds) =
     ap (λ count. cond (ltb 0 count) (kind ∷ filter (λ kind. ltb 0 (length (streams kind))) kinds) (filter (λ kind. ltb 0 (length (streams kind))) kinds)) (sym (same kind))
-    ∙ ap (λ rest. cond (ltb 0 (size kind)) (kind ∷ rest) rest) (held_by_size streams size same kinds)
+    ∙ ap (λ tail. cond (ltb 0 (size kind)) (kind ∷ tail) tail) (held_by_size streams size same kinds)
 
 -- the case that no header is left
 pub at_end : (len whole : ℕ) (kinds : List Kind) (i : ℕ) → len + sum_by header_length (drop i kinds) ≡ whole → length kinds ≤ i → len ≡ whole

@@ -17,17 +17,17 @@ next_kind : (test : Kind → Bool) (i : ℕ) (answer : Bool) → i < 5 → test 
     ≡ cond answer (get_or kinds_in_order i Tables ∷ filter test (drop (i + 1) kinds_in_order)) (filter test (drop (i + 1) kinds_in_order))
 next_kind test i answer below is =
     let kind = get_or kinds_in_order i Tables in
-    let rest = filter test (drop (i + 1) kinds_in_order) in
-    ap (filter test) (drop_more kinds_in_order i Tables below) ∙ ap (λ b. cond b (kind ∷ rest) rest) is
+    let tail = filter test (drop (i + 1) kinds_in_order) in
+    ap (filter test) (drop_more kinds_in_order i Tables below) ∙ ap (λ b. cond b (kind ∷ tail) tail) is
 
 pub kept : (test : Kind → Bool) (kinds whole : List Kind) (count i : ℕ) → i < 5 → count < length kinds → test (get_or kinds_in_order i Tables) ≡ true
     → take count kinds ++ filter test (drop i kinds_in_order) ≡ whole
     → take (count + 1) (set kinds count (get_or kinds_in_order i Tables)) ++ filter test (drop (i + 1) kinds_in_order) ≡ whole
 kept test kinds whole count i below room is e =
     let kind = get_or kinds_in_order i Tables in
-    let rest = filter test (drop (i + 1) kinds_in_order) in
-    ap (λ list. list ++ rest) (take_more_set kinds count kind room)
-    ∙ append_assoc (take count kinds) (kind ∷ []) rest
+    let tail = filter test (drop (i + 1) kinds_in_order) in
+    ap (λ list. list ++ tail) (take_more_set kinds count kind room)
+    ∙ append_assoc (take count kinds) (kind ∷ []) tail
     ∙ ap (λ list. take count kinds ++ list) (sym (next_kind test i true below is))
     ∙ e
 

@@ -19,13 +19,13 @@ use Rattle.heap_pools.specs.TextHeap.{text_index}
 use Rattle.heap_pools.specs.Distinct.{is_among, pooled, distinct}
 use Rattle.heap_pools.specs.BlobHeap.{blob_heap, blob_index}
 use Rattle.heap_pools.specs.GuidHeap.{guid_heap, guid_index}
-use Rattle.sig_grammar.specs.Spells.{short}
+use Rattle.sig_grammar.specs.Encodes.{short}
 use Rattle.metadata.specs.Cell.{Cell, Number, Text, Bytes, Guid, Ref, Start, Sig}
 use Rattle.metadata.specs.Metadata.{Metadata, rows_of}
 use Rattle.metadata.specs.Valid.{IsValid, IsValidCell, kind_at, nullable_at}
 use Rattle.canonical.specs.Pools.{Pools, pools_of, used, texts_of, blobs_of, guids_of}
 use Rattle.canonical.specs.Numbers.{cell_number, with_next, numbers_of, table_numbers, numbers}
-use Rattle.root_writer.proofs.PositionLemmas.{position_at}
+use Rattle.root_writer.proofs.PositionLemmas.{table_index_at}
 use Rattle.root_writer.proofs.ReadyLemmas.{each_cell}
 use Rattle.root_writer.specs.Numbered.{Numbered, IsNumbering, IsOver, IsTooLong, flat, none_numbered, pooled_all, with_number, with_cell, with_next_cell, with_row, with_rows, with_tables}
 
@@ -66,15 +66,15 @@ pooled_cell indexes k (Text text) so_far = record { texts_are = omega arith; blo
 pooled_cell indexes k cell so_far = record { texts_are = omega arith; blobs_are = refl; guids_are = refl }
 
 -- the walk over the columns of a row visits all its cells
-pooled_next : (indexes : List ℕ) (padding : Bool) (k : ColumnKind) (rest : List Cell → Numbered → Numbered) (column : ℕ) (columns : List ℕ)
+pooled_next : (indexes : List ℕ) (padding : Bool) (k : ColumnKind) (remainder : List Cell → Numbered → Numbered) (column : ℕ) (columns : List ℕ)
     → ((cells : List Cell) (so_far : Numbered) → length cells ≡ length columns
-    → ArePooled so_far (rest cells so_far) (flat_map texts_of cells) (flat_map blobs_of cells) (flat_map guids_of cells))
+    → ArePooled so_far (remainder cells so_far) (flat_map texts_of cells) (flat_map blobs_of cells) (flat_map guids_of cells))
     → (cells : List Cell) (so_far : Numbered) → length cells ≡ length (cond padding columns (column ∷ columns))
-    → ArePooled so_far (with_next_cell padding (with_cell indexes k) rest cells so_far) (flat_map texts_of cells) (flat_map blobs_of cells) (flat_map guids_of cells)
-pooled_next indexes true k rest column columns each cells so_far long =
+    → ArePooled so_far (with_next_cell padding (with_cell indexes k) remainder cells so_far) (flat_map texts_of cells) (flat_map blobs_of cells) (flat_map guids_of cells)
+pooled_next indexes true k remainder column columns each cells so_far long =
     let next = each cells (with_number so_far 0) long in record { texts_are = next.texts_are; blobs_are = next.blobs_are; guids_are = next.guids_are }
-pooled_next indexes false k rest column columns each [] so_far long = absurd (omega (arith, long))
-pooled_next indexes false k rest column columns each (cell ∷ cells) so_far long =
+pooled_next indexes false k remainder column columns each [] so_far long = absurd (omega (arith, long))
+pooled_next indexes false k remainder column columns each (cell ∷ cells) so_far long =
     pooled_then (pooled_cell indexes k cell so_far) (each cells (with_cell indexes k cell so_far) (omega (arith, long)))
 
 pooled_row : (indexes : List ℕ) (columns : List Column) (index : ℕ) (cells : List Cell) (so_far : Numbered) → length cells ≡ length (indexes_from index columns)
@@ -107,60 +107,60 @@ pooled_tables indexes model (table ∷ listed) so_far long =
 
 -- ---- the entries of a pool are a prefix of those of a grown pool
 
-abbrev pub IsFront : List (List ℕ) → List (List ℕ) → Type 0
-IsFront entries final = (more : List (List ℕ)) × (final ≡ entries ++ more)
+abbrev pub IsPrefix : List (List ℕ) → List (List ℕ) → Type 0
+IsPrefix entries final = (more : List (List ℕ)) × (final ≡ entries ++ more)
 
-front_self : (entries : List (List ℕ)) → IsFront entries entries
-front_self entries = ([], sym (append-nil entries))
+prefix_self : (entries : List (List ℕ)) → IsPrefix entries entries
+prefix_self entries = ([], sym (append-nil entries))
 
-front_then : (a b c : List (List ℕ)) → IsFront a b → IsFront b c → IsFront a c
-front_then a b c first second =
+prefix_then : (a b c : List (List ℕ)) → IsPrefix a b → IsPrefix b c → IsPrefix a c
+prefix_then a b c first second =
     (first.0 ++ second.0, second.1 ∙ ap (λ entries. entries ++ second.0) first.1 ∙ append_assoc a first.0 second.0)
 
-front_pooled : (entries : List (List ℕ)) (value : List ℕ) → IsFront entries (pooled entries value)
-front_pooled entries value =
+prefix_pooled : (entries : List (List ℕ)) (value : List ℕ) → IsPrefix entries (pooled entries value)
+prefix_pooled entries value =
     elim (cases_Bool (is_among ([] ∷ entries) value)) [
-      | inl there ↦ subst (λ b. IsFront entries (cond b entries (entries ++ value ∷ []))) (sym there) (front_self entries)
-      | inr new ↦ subst (λ b. IsFront entries (cond b entries (entries ++ value ∷ []))) (sym new) (value ∷ [], refl)
+      | inl there ↦ subst (λ b. IsPrefix entries (cond b entries (entries ++ value ∷ []))) (sym there) (prefix_self entries)
+      | inr new ↦ subst (λ b. IsPrefix entries (cond b entries (entries ++ value ∷ []))) (sym new) (value ∷ [], refl)
     ]
 
-front_all : (entries values : List (List ℕ)) → IsFront entries (pooled_all entries values)
-front_all entries [] = front_self entries
-front_all entries (value ∷ values) =
-    front_then entries (pooled entries value) (pooled_all (pooled entries value) values) (front_pooled entries value) (front_all (pooled entries value) values)
+prefix_all : (entries values : List (List ℕ)) → IsPrefix entries (pooled_all entries values)
+prefix_all entries [] = prefix_self entries
+prefix_all entries (value ∷ values) =
+    prefix_then entries (pooled entries value) (pooled_all (pooled entries value) values) (prefix_pooled entries value) (prefix_all (pooled entries value) values)
 
 -- the pools of one state are prefixes of those of another
 pub record IsPart (part whole : Numbered) : Type 0 where
-  pub part_blobs : IsFront part.blobs whole.blobs
-  pub part_guids : IsFront part.guids whole.guids
+  pub part_blobs : IsPrefix part.blobs whole.blobs
+  pub part_guids : IsPrefix part.guids whole.guids
 
 part_of : {before after : Numbered} {texts blobs guids : List (List ℕ)} → ArePooled before after texts blobs guids → IsPart before after
 part_of {before} {after} {texts} {blobs} {guids} are = record {
-  part_blobs = subst (IsFront before.blobs) (sym are.blobs_are) (front_all before.blobs blobs);
-  part_guids = subst (IsFront before.guids) (sym are.guids_are) (front_all before.guids guids);
+  part_blobs = subst (IsPrefix before.blobs) (sym are.blobs_are) (prefix_all before.blobs blobs);
+  part_guids = subst (IsPrefix before.guids) (sym are.guids_are) (prefix_all before.guids guids);
 }
 
 part_then : {a b c : Numbered} → IsPart a b → IsPart b c → IsPart a c
 part_then {a} {b} {c} first second = record {
-  part_blobs = front_then a.blobs b.blobs c.blobs first.part_blobs second.part_blobs;
-  part_guids = front_then a.guids b.guids c.guids first.part_guids second.part_guids;
+  part_blobs = prefix_then a.blobs b.blobs c.blobs first.part_blobs second.part_blobs;
+  part_guids = prefix_then a.guids b.guids c.guids first.part_guids second.part_guids;
 }
 
 part_self : (so_far : Numbered) → IsPart so_far so_far
-part_self so_far = record { part_blobs = front_self so_far.blobs; part_guids = front_self so_far.guids }
+part_self so_far = record { part_blobs = prefix_self so_far.blobs; part_guids = prefix_self so_far.guids }
 
 part_cell : (indexes : List ℕ) (k : ColumnKind) (cell : Cell) (so_far : Numbered) → IsPart so_far (with_cell indexes k cell so_far)
 part_cell indexes k cell so_far = part_of (pooled_cell indexes k cell so_far)
 
 part_number : (so_far : Numbered) (number : ℕ) → IsPart so_far (with_number so_far number)
-part_number so_far number = record { part_blobs = front_self so_far.blobs; part_guids = front_self so_far.guids }
+part_number so_far number = record { part_blobs = prefix_self so_far.blobs; part_guids = prefix_self so_far.guids }
 
-part_next : (indexes : List ℕ) (padding : Bool) (k : ColumnKind) (rest : List Cell → Numbered → Numbered)
-    → ((cells : List Cell) (so_far : Numbered) → IsPart so_far (rest cells so_far))
-    → (cells : List Cell) (so_far : Numbered) → IsPart so_far (with_next_cell padding (with_cell indexes k) rest cells so_far)
-part_next indexes true k rest each cells so_far = part_then (part_number so_far 0) (each cells (with_number so_far 0))
-part_next indexes false k rest each [] so_far = part_then (part_number so_far 0) (each [] (with_number so_far 0))
-part_next indexes false k rest each (cell ∷ cells) so_far = part_then (part_cell indexes k cell so_far) (each cells (with_cell indexes k cell so_far))
+part_next : (indexes : List ℕ) (padding : Bool) (k : ColumnKind) (remainder : List Cell → Numbered → Numbered)
+    → ((cells : List Cell) (so_far : Numbered) → IsPart so_far (remainder cells so_far))
+    → (cells : List Cell) (so_far : Numbered) → IsPart so_far (with_next_cell padding (with_cell indexes k) remainder cells so_far)
+part_next indexes true k remainder each cells so_far = part_then (part_number so_far 0) (each cells (with_number so_far 0))
+part_next indexes false k remainder each [] so_far = part_then (part_number so_far 0) (each [] (with_number so_far 0))
+part_next indexes false k remainder each (cell ∷ cells) so_far = part_then (part_cell indexes k cell so_far) (each cells (with_cell indexes k cell so_far))
 
 part_row : (indexes : List ℕ) (columns : List Column) (cells : List Cell) (so_far : Numbered) → IsPart so_far (with_row indexes columns cells so_far)
 part_row indexes [] cells so_far = part_self so_far
@@ -195,44 +195,44 @@ among entries value =
           (inr (Contains-append_right entries (value ∷ []) value (0, omega arith, refl)))
     ]
 
-blob_stays : IndexesStay → (entries : List (List ℕ)) (blob : List ℕ) (final : List (List ℕ)) → IsFront (pooled entries blob) final
+blob_stays : IndexesStay → (entries : List (List ℕ)) (blob : List ℕ) (final : List (List ℕ)) → IsPrefix (pooled entries blob) final
     → blob_index (pooled entries blob) blob ≡ blob_index final blob
-blob_stays stay entries blob final front =
-    sym (ap (λ list. blob_index list blob) front.1 ∙ stay.blob (pooled entries blob) front.0 blob (among entries blob))
+blob_stays stay entries blob final prefix =
+    sym (ap (λ list. blob_index list blob) prefix.1 ∙ stay.blob (pooled entries blob) prefix.0 blob (among entries blob))
 
 some_among : (entries : List (List ℕ)) (value : List ℕ) → 0 < length value → (value ≡ []) ⊎ Contains (pooled entries value) value → Contains (pooled entries value) value
 some_among entries value some (inl none) = absurd (omega (arith, some, ap length none))
 some_among entries value some (inr found) = found
 
-guid_stays : IndexesStay → (entries : List (List ℕ)) (guid : List ℕ) (final : List (List ℕ)) → 0 < length guid → IsFront (pooled entries guid) final
+guid_stays : IndexesStay → (entries : List (List ℕ)) (guid : List ℕ) (final : List (List ℕ)) → 0 < length guid → IsPrefix (pooled entries guid) final
     → guid_index (pooled entries guid) (Some guid) ≡ guid_index final (Some guid)
-guid_stays stay entries guid final some front =
-    sym (ap (λ list. guid_index list (Some guid)) front.1 ∙ stay.guid (pooled entries guid) front.0 guid (some_among entries guid some (among entries guid)))
+guid_stays stay entries guid final some prefix =
+    sym (ap (λ list. guid_index list (Some guid)) prefix.1 ∙ stay.guid (pooled entries guid) prefix.0 guid (some_among entries guid some (among entries guid)))
 
 -- ---- the indexes of the next texts
 
 -- the indexes from this position on begin with those of the texts
 abbrev pub AreNext : (List ℕ → ℕ) → List ℕ → ℕ → List (List ℕ) → Type 0
-AreNext number indexes place texts = (rest : List ℕ) × (drop place indexes ≡ map number texts ++ rest)
+AreNext number indexes offset texts = (remainder : List ℕ) × (drop offset indexes ≡ map number texts ++ remainder)
 
-module _ (number : List ℕ → ℕ) (indexes : List ℕ) (place : ℕ) where
-  next_index : (text : List ℕ) → AreNext number indexes place (text ∷ []) → slice_index indexes place ≡ number text
+module _ (number : List ℕ → ℕ) (indexes : List ℕ) (offset : ℕ) where
+  next_index : (text : List ℕ) → AreNext number indexes offset (text ∷ []) → slice_index indexes offset ≡ number text
   next_index text next =
-      let same : place ≡ place + 0 = omega arith in
-      ap (slice_index indexes) same ∙ sym (get_or-drop place indexes 0 0) ∙ ap (λ (list : List ℕ). get_or list 0 0) next.1
+      let same : offset ≡ offset + 0 = omega arith in
+      ap (slice_index indexes) same ∙ sym (get_or-drop offset indexes 0 0) ∙ ap (λ (list : List ℕ). get_or list 0 0) next.1
 
-  next_both : (here later : List (List ℕ)) (rest : List ℕ) → drop place indexes ≡ map number (here ++ later) ++ rest
-      → drop place indexes ≡ map number here ++ (map number later ++ rest)
-  next_both here later rest next =
-      next ∙ ap (λ (list : List ℕ). list ++ rest) (map-append number here later) ∙ append_assoc (map number here) (map number later) rest
+  next_both : (here later : List (List ℕ)) (remainder : List ℕ) → drop offset indexes ≡ map number (here ++ later) ++ remainder
+      → drop offset indexes ≡ map number here ++ (map number later ++ remainder)
+  next_both here later remainder next =
+      next ∙ ap (λ (list : List ℕ). list ++ remainder) (map-append number here later) ∙ append_assoc (map number here) (map number later) remainder
 
-  next_first : (here later : List (List ℕ)) → AreNext number indexes place (here ++ later) → AreNext number indexes place here
+  next_first : (here later : List (List ℕ)) → AreNext number indexes offset (here ++ later) → AreNext number indexes offset here
   next_first here later next = (map number later ++ next.0, next_both here later next.0 next.1)
 
-  next_later : (after : ℕ) (here later : List (List ℕ)) → after ≡ place + length here → AreNext number indexes place (here ++ later) → AreNext number indexes after later
+  next_later : (after : ℕ) (here later : List (List ℕ)) → after ≡ offset + length here → AreNext number indexes offset (here ++ later) → AreNext number indexes after later
   next_later after here later at next = (
     next.0,
-    ap (λ (n : ℕ). drop n indexes) at ∙ sym (drop-drop (length here) place indexes)
+    ap (λ (n : ℕ). drop n indexes) at ∙ sym (drop-drop (length here) offset indexes)
         ∙ ap (λ (list : List ℕ). drop (length here) list) (next_both here later next.0 next.1)
         ∙ drop_at (map number here) (map number later ++ next.0) (length here) (length-map here number),
   )
@@ -267,18 +267,18 @@ module _ (stay : IndexesStay) (texts : List (List ℕ)) (indexes : List ℕ) (fi
   cell_same k (Sig signature) so_far has next part =
       ap (λ n. so_far.numbers ++ n ∷ []) (blob_stays stay so_far.blobs (short signature) final.blobs part.part_blobs)
 
-  numbers_next : (padding : Bool) (k : ColumnKind) (rest : List Cell → Numbered → Numbered) (tail : List Cell → List ℕ)
-      → ((cells : List Cell) (so_far : Numbered) → IsPart so_far (rest cells so_far))
+  numbers_next : (padding : Bool) (k : ColumnKind) (remainder : List Cell → Numbered → Numbered) (tail : List Cell → List ℕ)
+      → ((cells : List Cell) (so_far : Numbered) → IsPart so_far (remainder cells so_far))
       → ((cells : List Cell) (so_far : Numbered) → AllByRecursion HasGuids cells → AreNext (text_index texts) indexes so_far.texts (flat_map texts_of cells)
-      → IsPart (rest cells so_far) final → (rest cells so_far).numbers ≡ so_far.numbers ++ tail cells)
+      → IsPart (remainder cells so_far) final → (remainder cells so_far).numbers ≡ so_far.numbers ++ tail cells)
       → (cells : List Cell) (so_far : Numbered) → AllByRecursion HasGuids cells → AreNext (text_index texts) indexes so_far.texts (flat_map texts_of cells)
-      → IsPart (with_next_cell padding (with_cell indexes k) rest cells so_far) final
-      → (with_next_cell padding (with_cell indexes k) rest cells so_far).numbers ≡ so_far.numbers ++ with_next padding (cell_number (pools_with texts final) k) tail cells
-  numbers_next true k rest tail parts each cells so_far has next part =
+      → IsPart (with_next_cell padding (with_cell indexes k) remainder cells so_far) final
+      → (with_next_cell padding (with_cell indexes k) remainder cells so_far).numbers ≡ so_far.numbers ++ with_next padding (cell_number (pools_with texts final) k) tail cells
+  numbers_next true k remainder tail parts each cells so_far has next part =
       each cells (with_number so_far 0) has next part ∙ append_assoc so_far.numbers (0 ∷ []) (tail cells)
-  numbers_next false k rest tail parts each [] so_far has next part =
+  numbers_next false k remainder tail parts each [] so_far has next part =
       each [] (with_number so_far 0) tt next part ∙ append_assoc so_far.numbers (0 ∷ []) (tail [])
-  numbers_next false k rest tail parts each (cell ∷ cells) so_far has next part =
+  numbers_next false k remainder tail parts each (cell ∷ cells) so_far has next part =
       let after = with_cell indexes k cell so_far in
       let here = next_first (text_index texts) indexes so_far.texts (texts_of cell) (flat_map texts_of cells) next in
       let later = next_later (text_index texts) indexes so_far.texts after.texts (texts_of cell) (flat_map texts_of cells) (pooled_cell indexes k cell so_far).texts_are next in
@@ -337,7 +337,7 @@ rows_are count model long =
     let same = length-map tables (rows_of model) in
     ext_get_or [] (map (rows_of model) tables) model.tables (omega (arith, same, count, long)) (λ k below.
     get_or-map (rows_of model) tables k Module [] (omega (arith, same, below))
-    ∙ ap (λ (i : ℕ). get_or model.tables i []) (position_at count k (omega (arith, same, count, below))))
+    ∙ ap (λ (i : ℕ). get_or model.tables i []) (table_index_at count k (omega (arith, same, count, below))))
 
 used_by_table : length tables ≡ 38 → (values : Cell → List (List ℕ)) (model : Metadata) → length model.tables ≡ 38 → used_in values model tables ≡ used values model
 unfolding used
@@ -383,8 +383,8 @@ numbered_is count more stay model valid indexes same =
     let pools : pools_with texts final ≡ pools_of model = λ i. record { texts = texts; blobs = blobs_is i; guids = guids_is i } in
     let next : AreNext (text_index texts) indexes 0 (used_in texts_of model tables) =
     ([], same ∙ ap (map (text_index texts)) (sym (used_by_table count texts_of model valid.tables)) ∙ sym (append-nil (map (text_index texts) (used_in texts_of model tables)))) in
-    let has = λ (table : TableId). each_cell model valid HasGuids table (λ k place row cell good.
-    guid_cell model (kind_at table place) (nullable_at table place) (get_or (get_or (rows_of model table) k []) place (Number 0)) good) in
+    let has = λ (table : TableId). each_cell model valid HasGuids table (λ k cell_index row cell good.
+    guid_cell model (kind_at table cell_index) (nullable_at table cell_index) (get_or (get_or (rows_of model table) k []) cell_index (Number 0)) good) in
     record {
       blobs = blobs_is;
       guids = guids_is;

@@ -48,13 +48,13 @@ over_cell : (indexes : List ℕ) (k : ColumnKind) (cell : Cell) (so_far : Number
 over_cell indexes k (Text text) so_far over = over
 over_cell indexes k cell so_far over = over_values so_far cell over
 
-over_next : (padding : Bool) (put : Cell → Numbered → Numbered) (rest : List Cell → Numbered → Numbered)
+over_next : (padding : Bool) (put : Cell → Numbered → Numbered) (tail : List Cell → Numbered → Numbered)
     → ((cell : Cell) (so_far : Numbered) → IsOver so_far → IsOver (put cell so_far))
-    → ((cells : List Cell) (so_far : Numbered) → IsOver so_far → IsOver (rest cells so_far))
-    → (cells : List Cell) (so_far : Numbered) → IsOver so_far → IsOver (with_next_cell padding put rest cells so_far)
-over_next true put rest here behind cells so_far over = behind cells (with_number so_far 0) over
-over_next false put rest here behind [] so_far over = behind [] (with_number so_far 0) over
-over_next false put rest here behind (cell ∷ cells) so_far over = behind cells (put cell so_far) (here cell so_far over)
+    → ((cells : List Cell) (so_far : Numbered) → IsOver so_far → IsOver (tail cells so_far))
+    → (cells : List Cell) (so_far : Numbered) → IsOver so_far → IsOver (with_next_cell padding put tail cells so_far)
+over_next true put tail here behind cells so_far over = behind cells (with_number so_far 0) over
+over_next false put tail here behind [] so_far over = behind [] (with_number so_far 0) over
+over_next false put tail here behind (cell ∷ cells) so_far over = behind cells (put cell so_far) (here cell so_far over)
 
 pub over_row : (indexes : List ℕ) (columns : List Column) (cells : List Cell) (so_far : Numbered) → IsOver so_far → IsOver (with_row indexes columns cells so_far)
 over_row indexes [] cells so_far over = over

@@ -16,7 +16,7 @@ use Rattle.metadata.specs.Lookups.{HasRow}
 use Rattle.metadata.specs.Metadata.{Metadata, rows_of, count_in, cell_in}
 use Rattle.metadata.specs.Valid.{IsValid, IsValidCell, kind_at, nullable_at}
 use Rattle.canonical.specs.Pools.{used, texts_of}
-use Rattle.root_writer.proofs.PositionLemmas.{position_at}
+use Rattle.root_writer.proofs.PositionLemmas.{table_index_at}
 use Rattle.root_writer.specs.Numbered.{CanBeNumbered}
 
 -- ---- cells
@@ -58,9 +58,9 @@ cell_text model k nullable (Sig signature) valid = tt
 
 -- what holds for each cell of a table, by row and index, holds for all its cells
 pub each_cell : (model : Metadata) → IsValid model → (P : Cell → Type 0) (table : TableId)
-    → ((k place : ℕ) → k < length (rows_of model table) → place < length (get_or (rows_of model table) k [])
-    → IsValidCell model (kind_at table place) (nullable_at table place) (get_or (get_or (rows_of model table) k []) place (Number 0))
-    → P (get_or (get_or (rows_of model table) k []) place (Number 0)))
+    → ((k cell_index : ℕ) → k < length (rows_of model table) → cell_index < length (get_or (rows_of model table) k [])
+    → IsValidCell model (kind_at table cell_index) (nullable_at table cell_index) (get_or (get_or (rows_of model table) k []) cell_index (Number 0))
+    → P (get_or (get_or (rows_of model table) k []) cell_index (Number 0)))
     → AllByRecursion (AllByRecursion P) (rows_of model table)
 each_cell model valid P table each =
     let rows = rows_of model table in
@@ -69,20 +69,20 @@ each_cell model valid P table each =
     let back : k + 1 - 1 ≡ k = omega arith in
     let there : (1 ≤ k + 1) × (k + 1 ≤ count_in model table) = (omega arith, omega (arith, below)) in
     let long : length row ≡ cell_count table = ap (λ (i : ℕ). length (get_or rows i [])) (sym back) ∙ valid.long table (k + 1) there in
-    recursion_from_All P row (All-from_get_or P row (Number 0) (λ place within.
-    each k place below within (
-    subst (λ (i : ℕ). IsValidCell model (kind_at table place) (nullable_at table place) (get_or (get_or rows i []) place (Number 0))) back
-    (valid.cells table (k + 1) place there (omega (arith, long, within))))))))
+    recursion_from_All P row (All-from_get_or P row (Number 0) (λ cell_index within.
+    each k cell_index below within (
+    subst (λ (i : ℕ). IsValidCell model (kind_at table cell_index) (nullable_at table cell_index) (get_or (get_or rows i []) cell_index (Number 0))) back
+    (valid.cells table (k + 1) cell_index there (omega (arith, long, within))))))))
 
 pub rows_ready : (model : Metadata) → IsValid model → (table : TableId) → AllByRecursion (AllByRecursion CanBeNumbered) (rows_of model table)
 rows_ready model valid table =
-    each_cell model valid CanBeNumbered table (λ k place row cell good.
-    cell_ready model (kind_at table place) (nullable_at table place) (get_or (get_or (rows_of model table) k []) place (Number 0)) valid.few good)
+    each_cell model valid CanBeNumbered table (λ k cell_index row cell good.
+    cell_ready model (kind_at table cell_index) (nullable_at table cell_index) (get_or (get_or (rows_of model table) k []) cell_index (Number 0)) valid.few good)
 
-pub ready_at : (model : Metadata) → IsValid model → (table : TableId) (row place : ℕ) → HasRow model table row → place < cell_count table
-    → CanBeNumbered (cell_in model table row place)
-ready_at model valid table row place there within =
-    cell_ready model (kind_at table place) (nullable_at table place) (cell_in model table row place) valid.few (valid.cells table row place there within)
+pub ready_at : (model : Metadata) → IsValid model → (table : TableId) (row cell_index : ℕ) → HasRow model table row → cell_index < cell_count table
+    → CanBeNumbered (cell_in model table row cell_index)
+ready_at model valid table row cell_index there within =
+    cell_ready model (kind_at table cell_index) (nullable_at table cell_index) (cell_in model table row cell_index) valid.few (valid.cells table row cell_index there within)
 
 -- ---- what holds for all used values
 
@@ -100,7 +100,7 @@ pub all_tables : (model : Metadata) → length tables ≡ 38 → IsValid model �
     → ((table : TableId) → AllByRecursion (AllByRecursion P) (rows_of model table)) → AllByRecursion (AllByRecursion (AllByRecursion P)) model.tables
 all_tables model count valid P each =
     recursion_from_All (AllByRecursion (AllByRecursion P)) model.tables (All-from_get_or (AllByRecursion (AllByRecursion P)) model.tables [] (λ k below.
-    subst (λ (i : ℕ). AllByRecursion (AllByRecursion P) (get_or model.tables i [])) (position_at count k (omega (arith, below, valid.tables)))
+    subst (λ (i : ℕ). AllByRecursion (AllByRecursion P) (get_or model.tables i [])) (table_index_at count k (omega (arith, below, valid.tables)))
     (each (get_or tables k Module))))
 
 pub all_used : (values : Cell → List (List ℕ)) (model : Metadata) (P : List ℕ → Type 0)
@@ -116,5 +116,5 @@ pub no_nul : (model : Metadata) → length tables ≡ 38 → IsValid model → A
 no_nul model count valid =
     let has = λ (cell : Cell). AllByRecursion HasNoNul (texts_of cell) in
     All-from_recursion HasNoNul (used texts_of model) (all_used texts_of model HasNoNul (all_tables model count valid has (λ table.
-    each_cell model valid has table (λ k place row cell good.
-    cell_text model (kind_at table place) (nullable_at table place) (get_or (get_or (rows_of model table) k []) place (Number 0)) good))))
+    each_cell model valid has table (λ k cell_index row cell good.
+    cell_text model (kind_at table cell_index) (nullable_at table cell_index) (get_or (get_or (rows_of model table) k []) cell_index (Number 0)) good))))

@@ -4,7 +4,7 @@ use Rattle.std.proofs.lemmas.List.{drop_all, drop_more}
 use Rattle.std.specs.List.{flat_map}
 use Rattle.root.specs.declared.kind.Kind.{Kind}
 use Rattle.root.specs.declared.kind.Kind.TheVariants.{Tables, Strings, UserStrings, Guids, Blobs}
-use Rattle.heap_entries.specs.Fill.{filled}
+use Rattle.heap_entries.specs.Padding.{zero_padded}
 use Rattle.metadata.specs.Metadata.{Metadata}
 use Rattle.canonical.specs.Canonical.{stream}
 use Rattle.root_writer.specs.Written.{Written, Puts}
@@ -41,7 +41,7 @@ no_stream parts kinds i past = ap (flat_map (content parts)) (drop_all i kinds p
 -- each stream is the model's
 pub content_is : (model : Metadata) (parts : RootParts) → ArePartsOf model parts → (kind : Kind) → content parts kind ≡ stream model kind
 content_is model parts are Tables = are.tables
-content_is model parts are Strings = ap filled are.strings
+content_is model parts are Strings = ap zero_padded are.strings
 content_is model parts are UserStrings = are.user_strings
-content_is model parts are Guids = ap filled are.guids
-content_is model parts are Blobs = ap filled are.blobs
+content_is model parts are Guids = ap zero_padded are.guids
+content_is model parts are Blobs = ap zero_padded are.blobs

@@ -13,14 +13,14 @@ pub record IsPutting (start now : Written) (left all : List ℕ) : Type 0 where
   pub left_room : length left ≤ now.room
   pub all_room : start.room + length start.bytes ≤ now.room + length now.bytes
 
-pub here_fits : (start now : Written) (here rest left all : List ℕ) → left ≡ here ++ rest → IsPutting start now left all → length here ≤ now.room
-here_fits start now here rest left all split putting = omega (arith, ap length split, length-append here rest, putting.left_room)
+pub here_fits : (start now : Written) (here tail left all : List ℕ) → left ≡ here ++ tail → IsPutting start now left all → length here ≤ now.room
+here_fits start now here tail left all split putting = omega (arith, ap length split, length-append here tail, putting.left_room)
 
-pub put_next : (start now next : Written) (here rest left all : List ℕ) → left ≡ here ++ rest → Puts now next here → IsPutting start now left all
-    → IsPutting start next rest all
-put_next start now next here rest left all split puts putting = record {
-  whole = ap (λ list. list ++ rest) puts.bytes ∙ append_assoc now.bytes here rest ∙ ap (λ list. now.bytes ++ list) (sym split) ∙ putting.whole;
-  left_room = omega (arith, ap length split, length-append here rest, putting.left_room, puts.room);
+pub put_next : (start now next : Written) (here tail left all : List ℕ) → left ≡ here ++ tail → Puts now next here → IsPutting start now left all
+    → IsPutting start next tail all
+put_next start now next here tail left all split puts putting = record {
+  whole = ap (λ list. list ++ tail) puts.bytes ∙ append_assoc now.bytes here tail ∙ ap (λ list. now.bytes ++ list) (sym split) ∙ putting.whole;
+  left_room = omega (arith, ap length split, length-append here tail, putting.left_room, puts.room);
   all_room = omega (arith, ap length puts.bytes, length-append now.bytes here, puts.room, putting.all_room);
 }
 
@@ -47,12 +47,12 @@ pub row_end : (sizes : Sizes) (columns : List Column) (numbers : List ℕ) (i : 
 row_end sizes columns numbers i past = ap (λ list. row_bytes sizes list (drop i numbers)) (drop_all i columns past)
 
 -- the next row of the remaining ones
-pub next_row : (sizes : Sizes) (columns : List Column) (width left next : ℕ) (numbers here rest : List ℕ) → left ≡ next + 1
-    → here ≡ take width numbers → rest ≡ drop width numbers
-    → rows_bytes sizes columns (rows_in width left numbers) ≡ row_bytes sizes columns here ++ rows_bytes sizes columns (rows_in width next rest)
-next_row sizes columns width left next numbers here rest more front back =
+pub next_row : (sizes : Sizes) (columns : List Column) (width left next : ℕ) (numbers here tail : List ℕ) → left ≡ next + 1
+    → here ≡ take width numbers → tail ≡ drop width numbers
+    → rows_bytes sizes columns (rows_in width left numbers) ≡ row_bytes sizes columns here ++ rows_bytes sizes columns (rows_in width next tail)
+next_row sizes columns width left next numbers here tail more prefix back =
     ap (λ count. rows_bytes sizes columns (rows_in width count numbers)) (more ∙ add-one next)
-    ∙ ap (λ list. row_bytes sizes columns list ++ rows_bytes sizes columns (rows_in width next (drop width numbers))) (sym front)
+    ∙ ap (λ list. row_bytes sizes columns list ++ rows_bytes sizes columns (rows_in width next (drop width numbers))) (sym prefix)
     ∙ ap (λ list. row_bytes sizes columns here ++ rows_bytes sizes columns (rows_in width next list)) (sym back)
 
 pub no_row : (sizes : Sizes) (columns : List Column) (width left : ℕ) (numbers : List ℕ) → left ≡ 0 → rows_bytes sizes columns (rows_in width left numbers) ≡ []
@@ -62,5 +62,5 @@ less : (total width next : ℕ) → total ≡ width * (next + 1) → total - wid
 less total width next all = omega arith
 
 -- the number of numbers after a row
-pub fewer : (width next : ℕ) (numbers rest : List ℕ) → rest ≡ drop width numbers → length numbers ≡ width * (next + 1) → length rest ≡ width * next
-fewer width next numbers rest back all = ap length back ∙ length-drop width numbers ∙ less (length numbers) width next all
+pub fewer : (width next : ℕ) (numbers tail : List ℕ) → tail ≡ drop width numbers → length numbers ≡ width * (next + 1) → length tail ≡ width * next
+fewer width next numbers tail back all = ap length back ∙ length-drop width numbers ∙ less (length numbers) width next all

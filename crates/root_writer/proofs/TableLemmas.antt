@@ -16,14 +16,14 @@ use Rattle.root_writer.specs.Flat.{cells_of, table_in, tables_in}
 abbrev pub bytes_in : Sizes → List TableId → List ℕ → List ℕ
 bytes_in sizes listed numbers = tables_bytes sizes listed (tables_in sizes listed numbers)
 
-pub next_table : (sizes : Sizes) (i : ℕ) (table : TableId) (numbers here rest : List ℕ) → table ≡ get_or tables i Module → i < length tables
-    → here ≡ take (cells_of sizes table) numbers → rest ≡ drop (cells_of sizes table) numbers
-    → bytes_in sizes (drop i tables) numbers ≡ rows_bytes sizes (columns_of table) (table_in sizes table here) ++ bytes_in sizes (drop (i + 1) tables) rest
-next_table sizes i table numbers here rest is below front back =
+pub next_table : (sizes : Sizes) (i : ℕ) (table : TableId) (numbers here tail : List ℕ) → table ≡ get_or tables i Module → i < length tables
+    → here ≡ take (cells_of sizes table) numbers → tail ≡ drop (cells_of sizes table) numbers
+    → bytes_in sizes (drop i tables) numbers ≡ rows_bytes sizes (columns_of table) (table_in sizes table here) ++ bytes_in sizes (drop (i + 1) tables) tail
+next_table sizes i table numbers here tail is below prefix back =
     let more : List TableId = drop (i + 1) tables in
     ap (λ listed. bytes_in sizes listed numbers) (drop_more tables i Module below)
     ∙ ap (λ t. rows_bytes sizes (columns_of t) (table_in sizes t (take (cells_of sizes t) numbers)) ++ bytes_in sizes more (drop (cells_of sizes t) numbers)) (sym is)
-    ∙ ap (λ list. rows_bytes sizes (columns_of table) (table_in sizes table list) ++ bytes_in sizes more (drop (cells_of sizes table) numbers)) (sym front)
+    ∙ ap (λ list. rows_bytes sizes (columns_of table) (table_in sizes table list) ++ bytes_in sizes more (drop (cells_of sizes table) numbers)) (sym prefix)
     ∙ ap (λ list. rows_bytes sizes (columns_of table) (table_in sizes table here) ++ bytes_in sizes more list) (sym back)
 
 pub no_table : (sizes : Sizes) (i : ℕ) (numbers : List ℕ) → length tables ≤ i → bytes_in sizes (drop i tables) numbers ≡ []

@@ -4,7 +4,7 @@ use Rattle.root.specs.declared.kind.Kind.{Kind}
 use Rattle.root.specs.declared.kind.Kind.TheVariants.{Tables, Strings, UserStrings, Guids, Blobs}
 use Rattle.root.specs.Streams.{stream_name}
 use Rattle.schema.specs.LaidOut.{number_bytes}
-use Rattle.canonical.specs.Canonical.{ended, front}
+use Rattle.canonical.specs.Canonical.{ended, prefix}
 use Rattle.root_writer.specs.declared.sizes.StreamSizes.{StreamSizes}
 
 -- the number of bytes in a stream
@@ -38,8 +38,8 @@ sized_directory size offset (kind ∷ kinds) = sized_header size offset kind ++ 
 
 -- the offset of the first stream
 abbrev pub heading_size : List ℕ → (Kind → ℕ) → List Kind → ℕ
-heading_size version size kinds = length (front version (length kinds)) + length (sized_directory size 0 kinds)
+heading_size version size kinds = length (prefix version (length kinds)) + length (sized_directory size 0 kinds)
 
 -- all headers before the first stream
 abbrev pub heading : List ℕ → (Kind → ℕ) → List Kind → List ℕ
-heading version size kinds = front version (length kinds) ++ sized_directory size (heading_size version size kinds) kinds
+heading version size kinds = prefix version (length kinds) ++ sized_directory size (heading_size version size kinds) kinds

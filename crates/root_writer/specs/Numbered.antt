@@ -8,7 +8,7 @@ use Rattle.table_schema.specs.CellColumns.{is_padding}
 use Rattle.heap_pools.specs.Distinct.{pooled}
 use Rattle.heap_pools.specs.BlobHeap.{blob_heap}
 use Rattle.heap_pools.specs.GuidHeap.{guid_heap, pooled_guid}
-use Rattle.sig_grammar.specs.Spells.{short}
+use Rattle.sig_grammar.specs.Encodes.{short}
 use Rattle.metadata.specs.Cell.{Cell}
 use Rattle.metadata.specs.Cell.{Text, Bytes, Ref, Sig}
 use Rattle.metadata.specs.Metadata.{Metadata, rows_of, count_in}
@@ -63,9 +63,9 @@ with_cell indexes kind cell so_far = with_number (with_values so_far cell) (cell
 
 -- the state with the numbers of the next cell and of the following ones; padding has no cell, and its number is 0
 abbrev pub with_next_cell : Bool → (Cell → Numbered → Numbered) → (List Cell → Numbered → Numbered) → List Cell → Numbered → Numbered
-with_next_cell true put rest cells so_far = rest cells (with_number so_far 0)
-with_next_cell false put rest [] so_far = rest [] (with_number so_far 0)
-with_next_cell false put rest (cell ∷ cells) so_far = rest cells (put cell so_far)
+with_next_cell true put tail cells so_far = tail cells (with_number so_far 0)
+with_next_cell false put tail [] so_far = tail [] (with_number so_far 0)
+with_next_cell false put tail (cell ∷ cells) so_far = tail cells (put cell so_far)
 
 -- the state with the numbers of a row
 abbrev pub with_row : List ℕ → List Column → List Cell → Numbered → Numbered

@@ -4,7 +4,7 @@ use Rattle.root.specs.declared.kind.Kind.{Kind}
 use Rattle.root.specs.declared.kind.Kind.TheVariants.{Tables, Strings, UserStrings, Guids, Blobs}
 use Rattle.table_schema.specs.Tables.{tables}
 use Rattle.schema.specs.LaidOut.{tables_bytes}
-use Rattle.heap_entries.specs.Fill.{filled}
+use Rattle.heap_entries.specs.Padding.{zero_padded}
 use Rattle.heap_pools.specs.TextHeap.{text_heap}
 use Rattle.heap_pools.specs.BlobHeap.{blob_heap}
 use Rattle.heap_pools.specs.GuidHeap.{guid_heap}
@@ -12,7 +12,7 @@ use Rattle.metadata.specs.Metadata.{Metadata}
 use Rattle.canonical.specs.Pools.{pools_of}
 use Rattle.canonical.specs.TableStream.{table_stream}
 use Rattle.canonical.specs.Canonical.{stream}
-use Rattle.root_writer.specs.Written.{fill}
+use Rattle.root_writer.specs.Written.{padding}
 use Rattle.root_writer.specs.Heading.{size_of, held, heading, heading_size}
 use Rattle.root_writer.specs.TableHeader.{table_header}
 use Rattle.root_writer.specs.Flat.{cells_of, tables_in}
@@ -23,15 +23,15 @@ abbrev pub table_bytes : RootParts → List ℕ
 table_bytes parts =
     table_header parts.heap_sizes parts.sorted parts.layout.now
     ++ tables_bytes parts.layout.now tables (tables_in parts.layout.now tables parts.numbers.now)
-    ++ fill parts.tables_len
+    ++ padding parts.tables_len
 
 -- the bytes of each stream
 abbrev pub content : RootParts → Kind → List ℕ
 content parts Tables = table_bytes parts
-content parts Strings = filled parts.strings.now
-content parts UserStrings = filled parts.user_strings.now
-content parts Guids = filled parts.guids.now
-content parts Blobs = filled parts.blobs.now
+content parts Strings = zero_padded parts.strings.now
+content parts UserStrings = zero_padded parts.user_strings.now
+content parts Guids = zero_padded parts.guids.now
+content parts Blobs = zero_padded parts.blobs.now
 
 -- the kinds of the streams that have bytes
 abbrev pub kinds_of : RootParts → List Kind
@@ -53,6 +53,6 @@ pub record ArePartsOf (model : Metadata) (parts : RootParts) : Type 0 where
   pub sizes : (kind : Kind) → size_of parts.sizes kind ≡ length (stream model kind)
   pub tables : table_bytes parts ≡ table_stream model
   pub strings : parts.strings.now ≡ text_heap (pools_of model).texts
-  pub user_strings : filled parts.user_strings.now ≡ model.user
+  pub user_strings : zero_padded parts.user_strings.now ≡ model.user
   pub guids : parts.guids.now ≡ guid_heap (pools_of model).guids
   pub blobs : parts.blobs.now ≡ blob_heap (pools_of model).blobs

@@ -12,5 +12,5 @@ pub record Puts (old new : Written) (more : List ℕ) : Type 0 where
   pub room : old.room ≤ new.room + length more
 
 -- the zeros that pad this number of bytes to a multiple of four
-abbrev pub fill : ℕ → List ℕ
-fill count = replicate ((4 - count % 4) % 4) 0
+abbrev pub padding : ℕ → List ℕ
+padding count = replicate ((4 - count % 4) % 4) 0

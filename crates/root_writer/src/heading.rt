@@ -1,6 +1,6 @@
 ghost use Rattle.std.specs.Prelude.{◌≡◌, ◌+◌, ◌^◌, ◌<◌, ◌≤◌, ℕ, List, length, sum_by};
 ghost use Rattle.root.specs.declared.kind.Kind.{Kind as TheKind};
-ghost use Rattle.canonical.specs.Canonical.{ended, front};
+ghost use Rattle.canonical.specs.Canonical.{ended, prefix};
 ghost use Rattle.root_writer.specs.Heading.{header_length, size_of, sized_header, sized_directory, heading, heading_size};
 ghost use Rattle.root_writer.specs.Written.{Puts};
 
@@ -48,11 +48,11 @@ pub fn heading_len(version: &str, kinds: &[Kind]) -> usize
 impl Writer {
     /// Writes the root header before the stream headers: the signature, the versions and the number of streams
     /// (II.24.2.1).
-    fn put_front(&mut self, version: &str, streams: usize)
+    fn put_prefix(&mut self, version: &str, streams: usize)
         requires short { length version.now ≤ VERSION_LIMIT }
         requires few { streams ≤ 5 }
-        requires room { length (front version.now streams) ≤ self.old.room }
-        ensures { Puts self.old self.new (front version.now streams) }
+        requires room { length (prefix version.now streams) ≤ self.old.room }
+        ensures { Puts self.old self.new (prefix version.now streams) }
     {
         self.put(b"BSJB");
         self.put(&[1, 0, 1, 0, 0, 0, 0, 0]);
@@ -94,7 +94,7 @@ impl Writer {
         ensures { Puts self.old self.new (heading version.now (size_of sizes.now) kinds.now) }
     {
         let first = heading_len(version, kinds);
-        self.put_front(version, kinds.len());
+        self.put_prefix(version, kinds.len());
         self.put_directory(sizes, first as u32, kinds);
     }
 }

@@ -31,8 +31,8 @@ pub fn numbers_are_put()
 /// The texts of a valid model have no NUL, and each of its cells can be numbered.
 pub fn cells_can_be_numbered()
     ensures texts { (model : Metadata) → IsValid model → All HasNoNul (used texts_of model) }
-    ensures cell { (model : Metadata) → IsValid model → (table : Table) (row place : ℕ) → HasRow model table row → place < cell_count table
-        → CanBeNumbered (cell_in model table row place) }
+    ensures cell { (model : Metadata) → IsValid model → (table : Table) (row cell_index : ℕ) → HasRow model table row → cell_index < cell_count table
+        → CanBeNumbered (cell_in model table row cell_index) }
     ensures rows { (model : Metadata) → IsValid model → (table : Table) → AllByRecursion (AllByRecursion CanBeNumbered) (rows_of model table) }
 {
     tables_stand();

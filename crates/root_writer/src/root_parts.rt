@@ -46,7 +46,7 @@ impl Writer {
     {
         self.put_table_header(parts.layout, parts.heap_sizes, parts.sorted);
         self.put_tables(parts.layout, parts.numbers);
-        self.put_fill(parts.tables_len);
+        self.put_padding(parts.tables_len);
     }
 
     /// Writes a stream, padded to a multiple of four (II.24.2.2).
@@ -57,10 +57,10 @@ impl Writer {
     {
         match kind {
             Kind::Tables => self.put_table_stream(parts),
-            Kind::Strings => self.put_filled(parts.strings),
-            Kind::UserStrings => self.put_filled(parts.user_strings),
-            Kind::Guids => self.put_filled(parts.guids),
-            Kind::Blobs => self.put_filled(parts.blobs),
+            Kind::Strings => self.put_padded(parts.strings),
+            Kind::UserStrings => self.put_padded(parts.user_strings),
+            Kind::Guids => self.put_padded(parts.guids),
+            Kind::Blobs => self.put_padded(parts.blobs),
         }
     }
 

@@ -29,11 +29,11 @@ impl Writer {
         ensures { Puts self.old self.new (rows_bytes layout.now (columns_of table) (table_in layout.now table numbers.now)) }
     {
         let columns = columns(table).len();
-        let mut rest = numbers;
+        let mut tail = numbers;
         for _row in 0..layout.count(table) {
-            let (row, rows) = rest.split_at(columns);
+            let (row, rows) = tail.split_at(columns);
             self.put_row(layout, table, row);
-            rest = rows;
+            tail = rows;
         }
     }
 
@@ -44,12 +44,12 @@ impl Writer {
         ensures { Puts self.old self.new (tables_bytes layout.now tables (tables_in layout.now tables numbers.now)) }
     {
         columns_stand();
-        let mut rest = numbers;
+        let mut tail = numbers;
         for table in TableId::all() {
             let count = columns(*table).len() * layout.count(*table) as usize;
-            let (rows, tables) = rest.split_at(count);
+            let (rows, tables) = tail.split_at(count);
             self.put_rows(layout, *table, rows);
-            rest = tables;
+            tail = tables;
         }
     }
 }

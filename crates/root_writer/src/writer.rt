@@ -1,9 +1,9 @@
 ghost use Rattle.std.specs.Prelude.{◌≡◌, ◌≤◌, ◌∷◌, ◌++◌, [], length, IfOk};
-ghost use Rattle.heap_entries.specs.Fill.{filled};
+ghost use Rattle.heap_entries.specs.Padding.{zero_padded};
 ghost use Rattle.schema.specs.Sizes.{IsWidth};
 ghost use Rattle.schema.specs.LaidOut.{number_bytes};
 ghost use Rattle.canonical.specs.Canonical.{ended};
-ghost use Rattle.root_writer.specs.Written.{Puts, fill};
+ghost use Rattle.root_writer.specs.Written.{Puts, padding};
 
 use std::alloc::{AllocError, Global};
 use std::marker::Model;
@@ -72,21 +72,21 @@ impl Writer {
     }
 
     /// Writes the zeros that pad this number of bytes to a multiple of four.
-    pub fn put_fill(&mut self, count: usize)
-        requires room { length (fill count) ≤ self.old.room }
-        ensures { Puts self.old self.new (fill count) }
+    pub fn put_padding(&mut self, count: usize)
+        requires room { length (padding count) ≤ self.old.room }
+        ensures { Puts self.old self.new (padding count) }
     {
         let zeros = [0; 4];
         self.put(&zeros[..(4 - count % 4) % 4]);
     }
 
     /// Writes bytes, padded with zeros to a multiple of four (II.24.2.2).
-    pub fn put_filled(&mut self, bytes: &[u8])
-        requires { length (filled bytes.now) ≤ self.old.room }
-        ensures { Puts self.old self.new (filled bytes.now) }
+    pub fn put_padded(&mut self, bytes: &[u8])
+        requires { length (zero_padded bytes.now) ≤ self.old.room }
+        ensures { Puts self.old self.new (zero_padded bytes.now) }
     {
         self.put(bytes);
-        self.put_fill(bytes.len());
+        self.put_padding(bytes.len());
     }
 
     /// Writes a text and its terminating NUL, padded with zeros to a multiple of four.
@@ -96,6 +96,6 @@ impl Writer {
     {
         self.put(text.as_bytes());
         self.put(&[0]);
-        self.put_fill(text.len() + 1);
+        self.put_padding(text.len() + 1);
     }
 }

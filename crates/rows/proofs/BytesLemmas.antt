@@ -3,7 +3,7 @@ use Rattle.std.proofs.Common.{◌≡◌, ℕ, zero, suc, ◌*◌, ◌/◌, ◌^�
 use Rattle.std.proofs.lemmas.List.{drop_at, take_at}
 use Rattle.std.proofs.Math.Nat.{pow-succ'}
 use Rattle.packed.specs.Number.{little_endian}
-use Rattle.packed.specs.Places.{part}
+use Rattle.packed.specs.Offsets.{part}
 use Rattle.schema.specs.LaidOut.{number_bytes}
 
 -- elements of a list that follow those before them
@@ -23,10 +23,10 @@ follows_within whole before here fewer inner outside inside =
     }
 
 -- it is at the offset that is the length of what precedes it
-pub part_follows : (whole before here : List ℕ) (place width : ℕ) → Follows whole before here → length before ≡ place → length here ≡ width → part whole place width ≡ here
-part_follows whole before here place width follows long wide =
-    ap (λ w. take width (drop place w)) follows.split
-    ∙ ap (take width) (drop_at before (here ++ follows.after) place long)
+pub part_follows : (whole before here : List ℕ) (offset width : ℕ) → Follows whole before here → length before ≡ offset → length here ≡ width → part whole offset width ≡ here
+part_follows whole before here offset width follows long wide =
+    ap (λ w. take width (drop offset w)) follows.split
+    ∙ ap (take width) (drop_at before (here ++ follows.after) offset long)
     ∙ take_at here follows.after width wide
 
 pub length-number_bytes : (width number : ℕ) → length (number_bytes width number) ≡ width

@@ -1,4 +1,4 @@
 pub mod BytesLemmas
 pub mod HalvingLemmas
-pub mod PlaceLemmas
+pub mod OffsetLemmas
 pub mod RowLemmas

@@ -3,13 +3,13 @@ use Rattle.std.proofs.Common.{◌≡◌, ℕ, zero, suc, ◌+◌, ◌^◌, ◌<�
 use Rattle.std.proofs.lemmas.List.{drop_all, drop_more, take_all}
 use Rattle.std.proofs.lemmas.List.Sums.{sum_by-cons, sum_by-drop_more}
 use Rattle.packed.specs.Number.{little_endian}
-use Rattle.packed.specs.Places.{part}
+use Rattle.packed.specs.Offsets.{part}
 use Rattle.table_schema.specs.declared.table.TableId.{TableId}
 use Rattle.table_schema.specs.declared.column.Column.{Column}
 use Rattle.table_schema.specs.declared.column.ColumnKind.TheVariants as kind
 use Rattle.table_schema.specs.Columns.{columns_of, col}
 use Rattle.schema.specs.Sizes.{Sizes, width_of}
-use Rattle.schema.specs.Places.{columns_width, offset_in_row}
+use Rattle.schema.specs.Offsets.{columns_width, offset_in_row}
 use Rattle.schema.specs.LaidOut.{number_bytes, row_bytes, FitRow}
 use Rattle.schema.specs.Cells.{cell_width}
 use Rattle.rows.proofs.BytesLemmas.{Follows, follows_within, part_follows, length-number_bytes, number_again}
@@ -36,7 +36,7 @@ columns_length sizes [] numbers (suc i) long = refl
 columns_length sizes (column ∷ columns) [] (suc i) long = absurd (omega arith)
 columns_length sizes (column ∷ columns) (number ∷ numbers) (suc i) long =
     let here = length-number_bytes (width_of sizes column) number in
-    let rest = columns_length sizes columns numbers i (omega arith) in
+    let tail = columns_length sizes columns numbers i (omega arith) in
     omega (arith, length-append (number_bytes (width_of sizes column) number) (row_bytes sizes (take i columns) numbers), sum_by-cons (width_of sizes) column (take i columns))
 
 -- the number of bytes of all columns

@@ -1,10 +1,10 @@
 -- The cells of a table stream (ECMA-335 II.24.2.6), by table, row from 1 and column from 0.
 use Rattle.std.specs.Prelude.{ℕ, ◌-◌, ◌≤◌, List, [], ◌++◌, length, take, slice_index_or}
 use Rattle.table_schema.specs.declared.table.TableId.{TableId}
-use Rattle.table_schema.specs.Tables.{position_of, tables}
+use Rattle.table_schema.specs.Tables.{table_index_of, tables}
 use Rattle.table_schema.specs.Columns.{columns_of}
 use Rattle.schema.specs.Sizes.{Sizes}
-use Rattle.schema.specs.Places.{tables_end}
+use Rattle.schema.specs.Offsets.{tables_end}
 use Rattle.schema.specs.LaidOut.{row_bytes, rows_bytes, tables_bytes}
 
 -- the bytes of a table stream, and its sizes
@@ -19,7 +19,7 @@ IsWhole stream = tables_end stream.sizes ≤ length stream.bytes
 -- the bytes of all cells before a cell: of the tables before its own, and the rows and columns before it in its table
 abbrev pub bytes_before : Sizes → List (List (List ℕ)) → TableId → ℕ → ℕ → List ℕ
 bytes_before sizes numbers table row column =
-    let rows = slice_index_or numbers (position_of table) [] in
-    tables_bytes sizes (take (position_of table) tables) numbers
+    let rows = slice_index_or numbers (table_index_of table) [] in
+    tables_bytes sizes (take (table_index_of table) tables) numbers
     ++ rows_bytes sizes (columns_of table) (take (row - 1) rows)
     ++ row_bytes sizes (take column (columns_of table)) (slice_index_or rows (row - 1) [])

@@ -1,10 +1,10 @@
 ghost use Rattle.std.specs.Prelude.{◌≡◌, ◌<◌, ◌≤◌, ◌+◌, ◌^◌, ◌++◌, ℕ, List, length, slice_index, OnOk, OnErr, IsOk, vec_len, vec_capacity};
 ghost use Rattle.packed.specs.Number.{little_endian};
-ghost use Rattle.packed.specs.Places.{part};
+ghost use Rattle.packed.specs.Offsets.{part};
 ghost use Rattle.table_schema.specs.declared.table.TableId.{TableId as Table};
 ghost use Rattle.table_schema.specs.Columns.{columns_of};
 ghost use Rattle.schema.specs.Sizes.{Sizes, IsWidth};
-ghost use Rattle.schema.specs.Places.{row_width, offset_in_row};
+ghost use Rattle.schema.specs.Offsets.{row_width, offset_in_row};
 ghost use Rattle.schema.specs.Cells.{cell_width};
 ghost use Rattle.schema.specs.LaidOut.{FitRow, number_bytes, row_bytes};
 

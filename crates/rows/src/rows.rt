@@ -1,6 +1,6 @@
 ghost use Rattle.std.specs.Prelude.{◌≡◌, ◌≤◌, ◌<◌, ◌+◌, ◌^◌, length};
 ghost use Rattle.packed.specs.Number.{little_endian};
-ghost use Rattle.packed.specs.Places.{part};
+ghost use Rattle.packed.specs.Offsets.{part};
 ghost use Rattle.schema.specs.Sizes.{IsWidth};
 
 use packed::{u16_at, u32_at};
@@ -8,17 +8,17 @@ use schema::{Layout, cells_stand, tables_end_within};
 use std::marker::Model;
 use table_schema::{TableId, tables_stand};
 
-/// The number in `width` bytes at offset `place`.
-fn number_of(bytes: &[u8], place: usize, width: usize) -> u32
+/// The number in `width` bytes at offset `offset`.
+fn number_of(bytes: &[u8], offset: usize, width: usize) -> u32
     requires known { IsWidth width }
-    requires within { place + width ≤ length bytes.now }
-    ensures value { result ≡ little_endian (part bytes.now place width) }
+    requires within { offset + width ≤ length bytes.now }
+    ensures value { result ≡ little_endian (part bytes.now offset width) }
     ensures fits { result < 256 ^ width }
 {
     match width {
-        1 => u32::from(bytes[place]),
-        2 => u32::from(u16_at(bytes, place)),
-        _ => u32_at(bytes, place),
+        1 => u32::from(bytes[offset]),
+        2 => u32::from(u16_at(bytes, offset)),
+        _ => u32_at(bytes, offset),
     }
 }
 
@@ -45,7 +45,7 @@ impl<'a> Rows<'a> {
     ghost use Rattle.std.specs.Prelude.{◌≡◌, ◌≤◌, ◌<◌, ◌+◌, ◌^◌, ℕ, List, length};
     ghost use Rattle.table_schema.specs.Columns.{columns_of};
     ghost use Rattle.schema.specs.Sizes.{count_of};
-    ghost use Rattle.schema.specs.Places.{cell_start};
+    ghost use Rattle.schema.specs.Offsets.{cell_start};
     ghost use Rattle.schema.specs.LaidOut.{IsTableStream, IsLaidOut, StandsAt, number_bytes, number_in};
     ghost use Rattle.schema.specs.Cells.{number_at, cell_width};
     ghost use Rattle.rows.specs.Cells.{bytes_before};
@@ -97,7 +97,7 @@ impl<'a> Rows<'a> {
         ensures fits { result < 256 ^ cell_width self.now.sizes table column }
     {
         cells_stand();
-        let place = self.place(table, row, column);
-        number_of(self.bytes, place, self.layout.cell_width(table, column))
+        let offset = self.place(table, row, column);
+        number_of(self.bytes, offset, self.layout.cell_width(table, column))
     }
 }

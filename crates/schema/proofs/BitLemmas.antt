@@ -5,11 +5,11 @@ use Rattle.std.proofs.lemmas.List.Sums.{sum_by-cons, sum_by_more}
 use Rattle.std.proofs.lemmas.Nat.{pow_pos, pow-add, shr-shr, div-mul-add, one_shl}
 use Rattle.table_schema.specs.declared.table.TableId.{TableId}
 use Rattle.table_schema.specs.declared.table.TableId.TheVariants.{Module}
-use Rattle.table_schema.specs.Tables.{tables, table_number, position_of}
+use Rattle.table_schema.specs.Tables.{tables, table_number, table_index_of}
 use Rattle.schema.specs.LaidOut.{bits_of}
 use Rattle.schema.specs.Header.{has_bit}
-use Rattle.schema.specs.Demands.{NamesTables}
-use Rattle.table_schema.proofs.TableFacts.{table_at_position, position_below, number_below, length-tables}
+use Rattle.schema.specs.Rules.{NamesTables}
+use Rattle.table_schema.proofs.TableFacts.{table_at_index, table_index_below, number_below, length-tables}
 use Rattle.table_schema.proofs.TableOrder.{IsAscending, ascending, above}
 
 abbrev pub bit : Bool → ℕ
@@ -29,12 +29,12 @@ unfolding bits_of
 multiple test low [] up = (0, omega arith)
 multiple test low (table ∷ listed) up =
     let n = table_number table in
-    let rest = multiple test (suc n) listed up.1 in
+    let tail = multiple test (suc n) listed up.1 in
     let more : low + (n - low) ≡ n = omega (arith, up.0) in
     let power : 2 ^ n ≡ 2 ^ low * 2 ^ (n - low) = ap (λ k. 2 ^ k) (sym more) ∙ pow-add 2 low (n - low) in
     let next : 2 ^ suc n ≡ 2 * 2 ^ n = pow-suc' n in
     let b = bit (test table) in
-    ((b + 2 * rest.0) * 2 ^ (n - low), bits_cons test table listed ∙ ap (λ k. b * 2 ^ n + k) (rest.1 ∙ ap (λ p. rest.0 * p) next) ∙ sums b rest.0 (2 ^ n) ∙ ap (λ p. (b + 2 * rest.0) * p) power ∙ turned (b + 2 * rest.0) (2 ^ low) (2 ^ (n - low)))
+    ((b + 2 * tail.0) * 2 ^ (n - low), bits_cons test table listed ∙ ap (λ k. b * 2 ^ n + k) (tail.1 ∙ ap (λ p. tail.0 * p) next) ∙ sums b tail.0 (2 ^ n) ∙ ap (λ p. (b + 2 * tail.0) * p) power ∙ turned (b + 2 * tail.0) (2 ^ low) (2 ^ (n - low)))
   where
     one_more : (n : ℕ) → suc n ≡ 1 + n
     one_more n = omega arith
@@ -81,9 +81,9 @@ from_bit : (test : TableId → Bool) (table : TableId) (listed : List TableId) �
     → (q : ℕ) × (bits_of test (table ∷ listed) ≡ bit (test table) * 2 ^ table_number table + q * (2 * 2 ^ table_number table)) × (bits_of test listed ≡ q * (2 * 2 ^ table_number table))
 from_bit test table listed up =
     let n = table_number table in
-    let rest = multiple test (suc n) listed up in
-    let is = rest.1 ∙ ap (λ p. rest.0 * p) (power_next n) in
-    (rest.0, bits_cons test table listed ∙ ap (λ k. bit (test table) * 2 ^ n + k) is, is)
+    let tail = multiple test (suc n) listed up in
+    let is = tail.1 ∙ ap (λ p. tail.0 * p) (power_next n) in
+    (tail.0, bits_cons test table listed ∙ ap (λ k. bit (test table) * 2 ^ n + k) is, is)
 
 bit_at : (test : TableId → Bool) (low : ℕ) (listed : List TableId) (i : ℕ) (none : TableId) → IsAscending low listed → i < length listed
     → bits_of test listed / 2 ^ table_number (get_or listed i none) % 2 ≡ bit (test (get_or listed i none))
@@ -103,8 +103,8 @@ bit_at test low (table ∷ listed) (suc i) none up below =
     let more : suc n + (m - suc n) ≡ m = omega (arith, high) in
     let split = λ (x : ℕ). ap (λ k. x / 2 ^ k) (sym more) ∙ sym (shr-shr x (suc n) (m - suc n)) ∙ ap (λ p. x / p / 2 ^ (m - suc n)) (power_next n) in
     let whole : bits_of test (table ∷ listed) / (2 * 2 ^ n) ≡ from.0 = ap (λ k. k / (2 * 2 ^ n)) (from.1 ∙ turned (bit (test table) * 2 ^ n) (from.0 * (2 * 2 ^ n))) ∙ half (bit (test table)) from.0 (2 ^ n) (bit_small (test table)) (pow_pos n) in
-    let rest : bits_of test listed / (2 * 2 ^ n) ≡ from.0 = ap (λ k. k / (2 * 2 ^ n)) (from.2 ∙ sym (plus_zero (from.0 * (2 * 2 ^ n)))) ∙ half 0 from.0 (2 ^ n) (lit< tt) (pow_pos n) in
-    ap (λ k. k % 2) (split (bits_of test (table ∷ listed)) ∙ ap (λ k. k / 2 ^ (m - suc n)) (whole ∙ sym rest) ∙ sym (split (bits_of test listed)))
+    let tail : bits_of test listed / (2 * 2 ^ n) ≡ from.0 = ap (λ k. k / (2 * 2 ^ n)) (from.2 ∙ sym (plus_zero (from.0 * (2 * 2 ^ n)))) ∙ half 0 from.0 (2 ^ n) (lit< tt) (pow_pos n) in
+    ap (λ k. k % 2) (split (bits_of test (table ∷ listed)) ∙ ap (λ k. k / 2 ^ (m - suc n)) (whole ∙ sym tail) ∙ sym (split (bits_of test listed)))
     ∙ bit_at test (suc n) listed i none up.1 (omega arith)
   where
     turned : (a b : ℕ) → a + b ≡ b + a
@@ -117,7 +117,7 @@ bit_at test low (table ∷ listed) (suc i) none up below =
 pub bit_is : (test : TableId → Bool) (table : TableId) → bits_of test tables / 2 ^ table_number table % 2 ≡ bit (test table)
 bit_is test table =
     let P : TableId → Type 0 = λ t. bits_of test tables / 2 ^ table_number t % 2 ≡ bit (test t) in
-    subst P (table_at_position table) (bit_at test 0 tables (position_of table) Module ascending (omega (arith, position_below table, length-tables)))
+    subst P (table_at_index table) (bit_at test 0 tables (table_index_of table) Module ascending (omega (arith, table_index_below table, length-tables)))
 
 -- the bits of the tables that pass a test are set if and only if the test passes
 pub has_bit_of : (test : TableId → Bool) (table : TableId) → has_bit (bits_of test tables) table ≡ test table
@@ -184,10 +184,10 @@ bits_low test = let small = bits_below test tables in omega (arith, small, lengt
     bits_below : (test : TableId → Bool) (listed : List TableId) → bits_of test listed ≤ length listed * 2 ^ 44
     bits_below test [] = let none = no_bits test in omega arith
     bits_below test (table ∷ listed) =
-        let rest = bits_below test listed in
+        let tail = bits_below test listed in
         let more = bits_cons test table listed in
         let this = term_low (test table) table in
-        omega (arith, rest, more, this)
+        omega (arith, tail, more, this)
       where
         term_low : (b : Bool) (t : TableId) → bit b * 2 ^ table_number t ≤ 2 ^ 44
         term_low true t = let low = power_low t in omega arith

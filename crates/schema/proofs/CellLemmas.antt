@@ -3,28 +3,28 @@ use Rattle.std.proofs.Common.{◌≡◌, ℕ, zero, suc, ◌+◌, ◌*◌, ◌^�
 use Rattle.std.proofs.lemmas.List.{drop-drop, drop_at, take-append-drop}
 use Rattle.std.proofs.lemmas.List.Sums.{sum_by-cons}
 use Rattle.packed.specs.Number.{little_endian}
-use Rattle.packed.specs.Places.{part}
+use Rattle.packed.specs.Offsets.{part}
 use Rattle.table_schema.specs.declared.table.TableId.{TableId}
 use Rattle.table_schema.specs.declared.column.Column.{Column}
 use Rattle.table_schema.specs.Columns.{columns_of}
 use Rattle.schema.specs.Sizes.{Sizes, count_of, width_of}
-use Rattle.schema.specs.Places.{columns_width, tables_size, table_size, row_width}
+use Rattle.schema.specs.Offsets.{columns_width, tables_size, table_size, row_width}
 use Rattle.schema.specs.LaidOut.{number_bytes, row_bytes, FitRow, rows_bytes, FitRows, tables_bytes, FitTables}
 use Rattle.schema.proofs.NumberLemmas.{IsBytes, length-number_bytes, part_of_number, part_fits}
 
 -- the bytes from an offset on begin with these
 abbrev pub Begins : List ℕ → ℕ → List ℕ → Type 0
-Begins bytes at front = (rest : List ℕ) × (drop at bytes ≡ front ++ rest)
+Begins bytes at prefix = (tail : List ℕ) × (drop at bytes ≡ prefix ++ tail)
 
 -- what follows a prefix is at the offset after it
-pub behind : (bytes : List ℕ) (at width : ℕ) (front back : List ℕ) → length front ≡ width → Begins bytes at (front ++ back) → Begins bytes (at + width) back
-behind bytes at width front back e begins = (
+pub behind : (bytes : List ℕ) (at width : ℕ) (prefix back : List ℕ) → length prefix ≡ width → Begins bytes at (prefix ++ back) → Begins bytes (at + width) back
+behind bytes at width prefix back e begins = (
   begins.0,
-  sym (drop-drop width at bytes) ∙ ap (drop width) (begins.1 ∙ append_assoc front back begins.0) ∙ drop_at front (back ++ begins.0) width e,
+  sym (drop-drop width at bytes) ∙ ap (drop width) (begins.1 ∙ append_assoc prefix back begins.0) ∙ drop_at prefix (back ++ begins.0) width e,
 )
 
-pub in_front : (bytes : List ℕ) (at : ℕ) (front back : List ℕ) → Begins bytes at (front ++ back) → Begins bytes at front
-in_front bytes at front back begins = (back ++ begins.0, begins.1 ∙ append_assoc front back begins.0)
+pub in_prefix : (bytes : List ℕ) (at : ℕ) (prefix back : List ℕ) → Begins bytes at (prefix ++ back) → Begins bytes at prefix
+in_prefix bytes at prefix back begins = (back ++ begins.0, begins.1 ∙ append_assoc prefix back begins.0)
 
 -- widths and sizes, one by one
 pub columns_width-cons : (sizes : Sizes) (column : Column) (columns : List Column) → columns_width sizes (column ∷ columns) ≡ width_of sizes column + columns_width sizes columns
@@ -94,7 +94,7 @@ in_row : (sizes : Sizes) (columns : List Column) (numbers bytes : List ℕ) (at 
 in_row sizes [] numbers bytes at i none fit begins below = absurd (omega arith)
 in_row sizes (column ∷ columns) [] bytes at i none fit begins below = absurd fit
 in_row sizes (column ∷ columns) (number ∷ numbers) bytes at zero none fit begins below =
-    rw (columns_width-nil sizes, add-zero) (record { fits = fit.0; begins = in_front bytes at (number_bytes (width_of sizes column) number) (row_bytes sizes columns numbers) begins })
+    rw (columns_width-nil sizes, add-zero) (record { fits = fit.0; begins = in_prefix bytes at (number_bytes (width_of sizes column) number) (row_bytes sizes columns numbers) begins })
 in_row sizes (column ∷ columns) (number ∷ numbers) bytes at (suc i) none fit begins below =
     rw (columns_width-cons sizes column (take i columns), ← add_assoc at (width_of sizes column) (columns_width sizes (take i columns)))
     (in_row sizes columns numbers bytes (at + width_of sizes column) i none fit.1
@@ -109,12 +109,12 @@ pub in_rows : (sizes : Sizes) (columns : List Column) (rows : List (List ℕ)) (
     → IsRowAt sizes columns (get_or rows i []) bytes (at + i * columns_width sizes columns)
 in_rows sizes columns [] bytes at i fit begins below = absurd (omega arith)
 in_rows sizes columns (row ∷ rows) bytes at zero fit begins below =
-    rw (zero-mul, add-zero) (record { fit = fit.0; begins = in_front bytes at (row_bytes sizes columns row) (rows_bytes sizes columns rows) begins })
+    rw (zero-mul, add-zero) (record { fit = fit.0; begins = in_prefix bytes at (row_bytes sizes columns row) (rows_bytes sizes columns rows) begins })
 in_rows sizes columns (row ∷ rows) bytes at (suc i) fit begins below =
     let width = columns_width sizes columns in
     let next = in_rows sizes columns rows bytes (at + width) i fit.1 (behind bytes at width (row_bytes sizes columns row) (rows_bytes sizes columns rows) (length-row_bytes sizes columns row fit.0) begins) (omega arith) in
-    let place : at + width + i * width ≡ at + suc i * width = omega arith in
-    rw place at next
+    let offset : at + width + i * width ≡ at + suc i * width = omega arith in
+    rw offset at next
 
 -- a table among the tables
 pub record IsTableAt (sizes : Sizes) (table : TableId) (rows : List (List ℕ)) (bytes : List ℕ) (at : ℕ) : Type 0 where
@@ -127,7 +127,7 @@ pub in_tables : (sizes : Sizes) (listed : List TableId) (numbers : List (List (L
 in_tables sizes [] numbers bytes at k none fit counted begins below = absurd (omega arith)
 in_tables sizes (table ∷ listed) [] bytes at k none fit counted begins below = absurd fit
 in_tables sizes (table ∷ listed) (rows ∷ numbers) bytes at zero none fit counted begins below =
-    rw (tables_size-nil sizes, add-zero) (record { count = counted.0; fit = fit.0; begins = in_front bytes at (rows_bytes sizes (columns_of table) rows) (tables_bytes sizes listed numbers) begins })
+    rw (tables_size-nil sizes, add-zero) (record { count = counted.0; fit = fit.0; begins = in_prefix bytes at (rows_bytes sizes (columns_of table) rows) (tables_bytes sizes listed numbers) begins })
 in_tables sizes (table ∷ listed) (rows ∷ numbers) bytes at (suc k) none fit counted begins below =
     let size = table_size sizes table in
     rw (tables_size-cons sizes table (take k listed), ← add_assoc at size (tables_size sizes (take k listed)))

@@ -20,11 +20,11 @@ low_split width number =
     let p = 256 ^ width in
     let q = number / 256 in
     let some : 0 < p = one-le-pow width 256 (omega arith) in
-    let rest = div-add-mod' q p in
+    let tail = div-add-mod' q p in
     let whole = div-add-mod' number 256 in
     let less = mod_below q p some in
     let moved : q / p * (p * 256) ≡ q / p * p * 256 = sym (mul_assoc (q / p) p 256) in
-    let is : number ≡ q / p * (p * 256) + (q % p * 256 + number % 256) = omega (arith, rest, whole, moved) in
+    let is : number ≡ q / p * (p * 256) + (q % p * 256 + number % 256) = omega (arith, tail, whole, moved) in
     let fits : q % p * 256 + number % 256 < p * 256 = omega (arith, less) in
     ap (λ n. number % n) (pow-suc 256 width) ∙ ap (λ n. n % (p * 256)) is ∙ mod-mul-add (q / p) (p * 256) (q % p * 256 + number % 256) fits
 
@@ -32,15 +32,15 @@ low_first : (width number : ℕ) → number % 256 ^ suc width % 256 ≡ number %
 low_first width number = ap (λ n. n % 256) (low_split width number)
     ∙ mod-mul-add (number / 256 % 256 ^ width) 256 (number % 256) (mod_below number 256 (omega arith))
 
-low_rest : (width number : ℕ) → number % 256 ^ suc width / 256 ≡ number / 256 % 256 ^ width
-low_rest width number = ap (λ n. n / 256) (low_split width number)
+low_tail : (width number : ℕ) → number % 256 ^ suc width / 256 ≡ number / 256 % 256 ^ width
+low_tail width number = ap (λ n. n / 256) (low_split width number)
     ∙ div-mul-add (number / 256 % 256 ^ width) 256 (number % 256) (mod_below number 256 (omega arith))
 
 pub low_bytes : (width number : ℕ) → number_bytes width (number % 256 ^ width) ≡ number_bytes width number
 low_bytes zero number = refl
 low_bytes (suc width) number =
     ap (λ n. n ∷ number_bytes width (number % 256 ^ suc width / 256)) (low_first width number)
-    ∙ ap (λ l. number % 256 ∷ l) (ap (number_bytes width) (low_rest width number) ∙ low_bytes width (number / 256))
+    ∙ ap (λ l. number % 256 ∷ l) (ap (number_bytes width) (low_tail width number) ∙ low_bytes width (number / 256))
 
 pub low_row : (sizes : Sizes) (columns : List Column) (numbers : List ℕ) → row_bytes sizes columns (fields_of sizes columns numbers) ≡ row_bytes sizes columns numbers
 low_row sizes [] numbers = refl

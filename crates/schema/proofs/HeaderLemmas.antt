@@ -3,25 +3,25 @@ use Rattle.std.proofs.Common.{◌≡◌, ℕ, ◌+◌, ◌<◌, ◌≤◌, Bool,
 use Rattle.std.specs.List.{count_by}
 use Rattle.std.proofs.lemmas.List.{same_lists, get_or-map, length-map, get_or_default}
 use Rattle.std.proofs.lemmas.List.Sums.{sum_by_more, sum_by_more_le, count_by-le-length}
-use Rattle.packed.specs.Demand.{AllHold, demands_from}
-use Rattle.packed.proofs.DemandLemmas.{each_holds}
+use Rattle.packed.specs.Rule.{AllHold, rules_from}
+use Rattle.packed.proofs.RuleLemmas.{each_holds}
 use Rattle.packed.specs.Number.{little_endian}
-use Rattle.packed.specs.Places.{part}
+use Rattle.packed.specs.Offsets.{part}
 use Rattle.table_schema.specs.declared.table.TableId.{TableId}
 use Rattle.table_schema.specs.declared.table.TableId.TheVariants.{Module}
-use Rattle.table_schema.specs.Tables.{position_of, tables}
+use Rattle.table_schema.specs.Tables.{table_index_of, tables}
 use Rattle.schema.specs.Sizes.{Sizes, header_size}
-use Rattle.schema.specs.Header.{has_bit, valid_of, count_place, count_in, sizes_of}
-use Rattle.schema.specs.Demands.{demands_of_position}
+use Rattle.schema.specs.Header.{has_bit, valid_of, count_offset, count_in, sizes_of}
+use Rattle.schema.specs.Rules.{rules_of_count_at}
 use Rattle.schema.specs.Kept.{AreFew}
-use Rattle.table_schema.proofs.TableFacts.{position_at, position_below, table_at_position, length-tables}
+use Rattle.table_schema.proofs.TableFacts.{table_index_at, table_index_below, table_at_index, length-tables}
 
 -- the row count of a table that Valid names is before the first table
-pub count_within : (test : TableId → Bool) (table : TableId) → test table ≡ true → header_size (count_by test (take (position_of table) tables)) + 4 ≤ header_size (count_by test tables)
+pub count_within : (test : TableId → Bool) (table : TableId) → test table ≡ true → header_size (count_by test (take (table_index_of table) tables)) + 4 ≤ header_size (count_by test tables)
 count_within test table set =
-    let P : TableId → Type 0 = λ t. count_by test (take (position_of table) tables) + cond (test t) 1 0 ≤ count_by test tables in
-    let more : count_by test (take (position_of table) tables) + cond (test table) 1 0 ≤ count_by test tables =
-    subst P (table_at_position table) (sum_by_more_le (λ t. cond (test t) 1 0) tables (position_of table) Module (omega (arith, position_below table, length-tables))) in
+    let P : TableId → Type 0 = λ t. count_by test (take (table_index_of table) tables) + cond (test t) 1 0 ≤ count_by test tables in
+    let more : count_by test (take (table_index_of table) tables) + cond (test table) 1 0 ≤ count_by test tables =
+    subst P (table_at_index table) (sum_by_more_le (λ t. cond (test t) 1 0) tables (table_index_of table) Module (omega (arith, table_index_below table, length-tables))) in
     let one : ◌≡◌ {A = ℕ} (cond (test table) 1 0) 1 = ap (λ b. cond b 1 0) set in
     omega (arith, more, one)
 
@@ -30,20 +30,20 @@ pub count_few : (test : TableId → Bool) → count_by test tables ≤ 38
 count_few test = omega (arith, count_by-le-length test tables, length-tables)
 
 -- the offset of the next row count
-pub place_set : (test : TableId → Bool) (i place : ℕ) → i < 38 → place ≡ header_size (count_by test (take i tables)) → test (get_or tables i Module) ≡ true → place + 4 ≡ header_size (count_by test (take (i + 1) tables))
-place_set test i place below e set =
+pub offset_set : (test : TableId → Bool) (i offset : ℕ) → i < 38 → offset ≡ header_size (count_by test (take i tables)) → test (get_or tables i Module) ≡ true → offset + 4 ≡ header_size (count_by test (take (i + 1) tables))
+offset_set test i offset below e set =
     let more = sum_by_more (λ t. cond (test t) 1 0) tables i Module (omega (arith, length-tables)) in
     let one : ◌≡◌ {A = ℕ} (cond (test (get_or tables i Module)) 1 0) 1 = ap (λ b. cond b 1 0) set in
     omega (arith, more, one)
 
-pub place_clear : (test : TableId → Bool) (i place : ℕ) → i < 38 → place ≡ header_size (count_by test (take i tables)) → test (get_or tables i Module) ≡ false → place ≡ header_size (count_by test (take (i + 1) tables))
-place_clear test i place below e clear =
+pub offset_clear : (test : TableId → Bool) (i offset : ℕ) → i < 38 → offset ≡ header_size (count_by test (take i tables)) → test (get_or tables i Module) ≡ false → offset ≡ header_size (count_by test (take (i + 1) tables))
+offset_clear test i offset below e clear =
     let more = sum_by_more (λ t. cond (test t) 1 0) tables i Module (omega (arith, length-tables)) in
     let none : ◌≡◌ {A = ℕ} (cond (test (get_or tables i Module)) 1 0) 0 = ap (λ b. cond b 1 0) clear in
     omega (arith, more, none)
 
-pub place_at : (test : TableId → Bool) (i place : ℕ) → i < 38 → place ≡ header_size (count_by test (take i tables)) → place ≡ header_size (count_by test (take (position_of (get_or tables i Module)) tables))
-place_at test i place below e = e ∙ ap (λ (n : ℕ). header_size (count_by test (take n tables))) (sym (position_at i below))
+pub offset_at : (test : TableId → Bool) (i offset : ℕ) → i < 38 → offset ≡ header_size (count_by test (take i tables)) → offset ≡ header_size (count_by test (take (table_index_of (get_or tables i Module)) tables))
+offset_at test i offset below e = e ∙ ap (λ (n : ℕ). header_size (count_by test (take n tables))) (sym (table_index_at i below))
 
 -- a list of the values of each table, in the order of the tables
 pub counts_are : (f : TableId → ℕ) (counts : List ℕ) → length counts ≡ 38 → ((k : ℕ) → k < 38 → get_or counts k 0 ≡ f (get_or tables k Module)) → counts ≡ map f tables
@@ -55,31 +55,31 @@ counts_are f counts long each =
     get_or_default counts k d 0 there ∙ each k low ∙ sym (get_or-map f tables k Module d (omega (arith, length-tables))))
 
 -- the row count of a table in a stream
-pub count_counted : (stream : List ℕ) (table : TableId) → has_bit (valid_of stream) table ≡ true → count_in stream table ≡ little_endian (part stream (count_place (valid_of stream) table) 4)
-count_counted stream table set = ap (λ b. cond b (little_endian (part stream (count_place (valid_of stream) table) 4)) 0) set
+pub count_counted : (stream : List ℕ) (table : TableId) → has_bit (valid_of stream) table ≡ true → count_in stream table ≡ little_endian (part stream (count_offset (valid_of stream) table) 4)
+count_counted stream table set = ap (λ b. cond b (little_endian (part stream (count_offset (valid_of stream) table) 4)) 0) set
 
 pub count_uncounted : (stream : List ℕ) (table : TableId) → has_bit (valid_of stream) table ≡ false → count_in stream table ≡ 0
-count_uncounted stream table clear = ap (λ b. cond b (little_endian (part stream (count_place (valid_of stream) table) 4)) 0) clear
+count_uncounted stream table clear = ap (λ b. cond b (little_endian (part stream (count_offset (valid_of stream) table) 4)) 0) clear
 
 -- the value of a tested bit of a stream
 pub bit_there : (stream : List ℕ) (valid : ℕ) (table : TableId) (is answer : Bool) → valid ≡ valid_of stream → is ≡ has_bit valid table → is ≡ answer → has_bit (valid_of stream) table ≡ answer
 bit_there stream valid table is answer e f g = ap (λ (n : ℕ). has_bit n table) (sym e) ∙ sym f ∙ g
 
 -- the value of each table in a list of such values
-pub count_is : (f : TableId → ℕ) (counts : List ℕ) → counts ≡ map f tables → (table : TableId) → get_or counts (position_of table) 0 ≡ f table
+pub count_is : (f : TableId → ℕ) (counts : List ℕ) → counts ≡ map f tables → (table : TableId) → get_or counts (table_index_of table) 0 ≡ f table
 count_is f counts e table =
-    ap (λ (xs : List ℕ). get_or xs (position_of table) 0) e ∙ get_or-map f tables (position_of table) Module 0 (omega (arith, position_below table, length-tables)) ∙ ap f (table_at_position table)
+    ap (λ (xs : List ℕ). get_or xs (table_index_of table) 0) e ∙ get_or-map f tables (table_index_of table) Module 0 (omega (arith, table_index_below table, length-tables)) ∙ ap f (table_at_index table)
 
 -- sizes are equal if all their fields are
 pub same_sizes : (a b : Sizes) → a.counts ≡ b.counts → a.heap_sizes ≡ b.heap_sizes → a.sorted ≡ b.sorted → a.body ≡ b.body → a ≡ b
 same_sizes a b c h s d = λ i. record { counts = c i; heap_sizes = h i; sorted = s i; body = d i }
 
 -- if the rules for the header and for each row count hold, the counts are within their limit
-pub few_from : (stream : List ℕ) → AllHold (demands_from (demands_of_position stream) 0 38) → AreFew (sizes_of stream)
+pub few_from : (stream : List ℕ) → AllHold (rules_from (rules_of_count_at stream) 0 38) → AreFew (sizes_of stream)
 few_from stream all = record {
   counts = λ table.
-      let each = (each_holds (demands_of_position stream) 0 38 all (position_of table) (omega arith) (omega (arith, position_below table))).0 in
-      let here : count_in stream (get_or tables (position_of table) Module) ≡ count_in stream table = ap (count_in stream) (table_at_position table) in
+      let each = (each_holds (rules_of_count_at stream) 0 38 all (table_index_of table) (omega arith) (omega (arith, table_index_below table))).0 in
+      let here : count_in stream (get_or tables (table_index_of table) Module) ≡ count_in stream table = ap (count_in stream) (table_at_index table) in
       let is = count_is (count_in stream) (map (count_in stream) tables) refl table in
       omega (arith, each, here, is);
   body = let few = count_few (has_bit (valid_of stream)) in omega arith;

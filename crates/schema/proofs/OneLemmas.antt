@@ -5,25 +5,25 @@ use Rattle.table_schema.specs.declared.table.TableId.{TableId}
 use Rattle.table_schema.specs.declared.table.TableId.TheVariants.{Module}
 use Rattle.table_schema.specs.declared.column.Column.{Column}
 use Rattle.table_schema.specs.declared.column.ColumnKind.TheVariants.{U8}
-use Rattle.table_schema.specs.Tables.{position_of, tables}
+use Rattle.table_schema.specs.Tables.{table_index_of, tables}
 use Rattle.table_schema.specs.Columns.{columns_of, col}
 use Rattle.schema.specs.Sizes.{Sizes, count_of, width_of}
-use Rattle.schema.specs.Places.{cell_start}
+use Rattle.schema.specs.Offsets.{cell_start}
 use Rattle.schema.specs.LaidOut.{FitRow, IsLaidOut, StandsAt}
 use Rattle.schema.specs.Cells.{HoldsCell}
-use Rattle.table_schema.proofs.TableFacts.{position_below, table_at_position, length-tables}
+use Rattle.table_schema.proofs.TableFacts.{table_index_below, table_at_index, length-tables}
 use Rattle.schema.proofs.NumberLemmas.{number_read}
-use Rattle.schema.proofs.PlaceLemmas.{cell_within}
+use Rattle.schema.proofs.OffsetLemmas.{cell_within}
 use Rattle.schema.proofs.CellLemmas.{Begins, in_cells, in_tables, in_rows}
 use Rattle.schema.proofs.StreamLemmas.{sizes_laid, counted_rows, body_laid, end_laid, fit_long}
 
 -- bytes that begin at an offset within the whole are at this offset
-stands_at : (whole bytes : List ℕ) (place : ℕ) → place ≤ length whole → Begins whole place bytes → StandsAt whole place bytes
-stands_at whole bytes place within begins = record {
-  before = take place whole;
+stands_at : (whole bytes : List ℕ) (offset : ℕ) → offset ≤ length whole → Begins whole offset bytes → StandsAt whole offset bytes
+stands_at whole bytes offset within begins = record {
+  before = take offset whole;
   after = begins.0;
-  split = sym (take-append-drop place whole) ∙ ap (λ (b : List ℕ). take place whole ++ b) begins.1 ∙ sym (append_assoc (take place whole) bytes begins.0);
-  long = length-take-le place whole within;
+  split = sym (take-append-drop offset whole) ∙ ap (λ (b : List ℕ). take offset whole ++ b) begins.1 ∙ sym (append_assoc (take offset whole) bytes begins.0);
+  long = length-take-le offset whole within;
 }
 
 -- a cell of a stream
@@ -31,8 +31,8 @@ pub cell_laid : (stream : List ℕ) (sizes : Sizes) (numbers : List (List (List 
     → HoldsCell stream sizes numbers table row column
 cell_laid stream sizes numbers laid table row column first last within =
     let none : Column = col U8 in
-    let cell = in_cells sizes tables numbers stream sizes.body (position_of table) (row - 1) column table Module none laid.fit (counted_rows stream sizes numbers laid) (body_laid stream sizes numbers laid)
-    (omega (arith, position_below table, length-tables)) (table_at_position table) (omega arith) within in
+    let cell = in_cells sizes tables numbers stream sizes.body (table_index_of table) (row - 1) column table Module none laid.fit (counted_rows stream sizes numbers laid) (body_laid stream sizes numbers laid)
+    (omega (arith, table_index_below table, length-tables)) (table_at_index table) (omega arith) within in
     let ends = cell_within sizes table row column none first last within in
     let all = end_laid stream sizes numbers laid in
     record {

@@ -4,12 +4,12 @@ use Rattle.std.proofs.lemmas.List.{same_lists, get_or-map, length-map, get_or_de
 use Rattle.std.proofs.lemmas.List.FromFn.{length-map-range_with_len, get_or-map-range_with_len}
 use Rattle.table_schema.specs.declared.table.TableId.{TableId}
 use Rattle.table_schema.specs.declared.table.TableId.TheVariants.{Module}
-use Rattle.table_schema.specs.Tables.{table_number, position_of, tables}
+use Rattle.table_schema.specs.Tables.{table_number, table_index_of, tables}
 use Rattle.table_schema.specs.Columns.{columns_of}
 use Rattle.schema.specs.Sizes.{Sizes, count_of}
 use Rattle.schema.specs.LaidOut.{IsLaidOut, number_in}
 use Rattle.schema.specs.Cells.{number_at, row_at, rows_at, numbers_at}
-use Rattle.table_schema.proofs.TableFacts.{position_at, position_below, number_below, table_at_position, length-tables}
+use Rattle.table_schema.proofs.TableFacts.{table_index_at, table_index_below, number_below, table_at_index, length-tables}
 use Rattle.table_schema.proofs.TableOrder.{numbers_rise}
 use Rattle.schema.proofs.CellLemmas.{in_tables, in_rows}
 use Rattle.schema.proofs.StreamLemmas.{counted_rows, body_laid, fit_long}
@@ -35,7 +35,7 @@ cell_there stream sizes table row column none below = get_or-map-range_with_len 
 pub numbers_each : (stream : List ℕ) (sizes : Sizes) (table : TableId) (row column : ℕ) → 1 ≤ row → row ≤ count_of sizes table → column < length (columns_of table)
     → number_in (numbers_at stream sizes) table row column ≡ number_at stream sizes table row column
 numbers_each stream sizes table row column first last within =
-    let rows : get_or (numbers_at stream sizes) (position_of table) [] ≡ rows_at stream sizes table = rows_there stream sizes (position_of table) [] (position_below table) ∙ ap (rows_at stream sizes) (table_at_position table) in
+    let rows : get_or (numbers_at stream sizes) (table_index_of table) [] ≡ rows_at stream sizes table = rows_there stream sizes (table_index_of table) [] (table_index_below table) ∙ ap (rows_at stream sizes) (table_at_index table) in
     ap (λ (rs : List (List ℕ)). get_or (get_or rs (row - 1) []) column 0) rows
     ∙ ap (λ (r : List ℕ). get_or r column 0) (row_there stream sizes table (row - 1) row [] (omega arith) (omega arith))
     ∙ cell_there stream sizes table row column 0 within
@@ -57,7 +57,7 @@ numbers_laid stream sizes numbers laid =
     let column : j < length (columns_of table) = omega (arith, row_is) in
     let cell = cell_laid stream sizes numbers laid table (1 + i) j (omega arith) (omega (arith, here.count)) column in
     let number : number_in numbers table (1 + i) j ≡ get_or (get_or (get_or numbers k []) i []) j 0 =
-    ap (λ (p : ℕ). get_or (get_or (get_or numbers p []) (1 + i - 1) []) j 0) (position_at k low) ∙ ap (λ (n : ℕ). get_or (get_or (get_or numbers k []) n []) j 0) (one_less i) in
+    ap (λ (p : ℕ). get_or (get_or (get_or numbers p []) (1 + i - 1) []) j 0) (table_index_at k low) ∙ ap (λ (n : ℕ). get_or (get_or (get_or numbers k []) n []) j 0) (one_less i) in
     get_or_default (get_or (get_or numbers k []) i []) j f 0 within ∙ sym (cell.read ∙ number) ∙ sym (cell_there stream sizes table (1 + i) j f column)) in
     get_or_default (get_or numbers k []) i e [] few ∙ row ∙ sym (row_there stream sizes table i (1 + i) e (omega (arith, here.count)) (omega arith))) in
     get_or_default numbers k d [] below ∙ rows ∙ sym (rows_there stream sizes k d low))
@@ -72,7 +72,7 @@ pub table_kept : (f : TableId → ℕ) (kept : List ℕ) (i number value : ℕ) 
 table_kept f kept i number value below long is e before =
     below_more _ _
     (λ k less.
-    let rise = numbers_rise (get_or tables k Module) (get_or tables i Module) (omega (arith, position_at k (omega arith), position_at i below)) in
+    let rise = numbers_rise (get_or tables k Module) (get_or tables i Module) (omega (arith, table_index_at k (omega arith), table_index_at i below)) in
     get_or-set_other kept number (table_number (get_or tables k Module)) value 0 (omega (arith, rise, is)) ∙ before k less)
     (ap (λ (n : ℕ). get_or (set kept number value) n 0) (sym is) ∙ get_or-set_same kept number value 0 (omega (arith, long, is, number_below (get_or tables i Module))) ∙ e)
 
@@ -89,5 +89,5 @@ no_counts (suc long) (suc n) = no_counts long n
 -- so each table has the value at its number
 pub tables_kept : (f : TableId → ℕ) (kept : List ℕ) → ((k : ℕ) → k < 38 → get_or kept (table_number (get_or tables k Module)) 0 ≡ f (get_or tables k Module)) → (table : TableId) → get_or kept (table_number table) 0 ≡ f table
 tables_kept f kept each table =
-    let here = table_at_position table in
-    ap (λ (t : TableId). get_or kept (table_number t) 0) (sym here) ∙ each (position_of table) (position_below table) ∙ ap f here
+    let here = table_at_index table in
+    ap (λ (t : TableId). get_or kept (table_number t) 0) (sym here) ∙ each (table_index_of table) (table_index_below table) ∙ ap f here

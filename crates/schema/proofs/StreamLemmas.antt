@@ -6,22 +6,22 @@ use Rattle.std.proofs.lemmas.List.{drop-drop, drop_at, drop_more, take-append-dr
 use Rattle.std.proofs.lemmas.List.Sums.{sum_by-cons}
 use Rattle.std.specs.Result.{IfOk, IsOkAnd}
 use Rattle.packed.specs.declared.fault.Fault.{Fault}
-use Rattle.packed.specs.Demand.{AllHold, Answers, demands_from}
-use Rattle.packed.proofs.DemandLemmas.{all_append, all_front, all_back, all_of_each, none_fails}
+use Rattle.packed.specs.Rule.{AllHold, Reports, rules_from}
+use Rattle.packed.proofs.RuleLemmas.{all_append, all_prefix, all_back, all_of_each, none_fails}
 use Rattle.packed.specs.Number.{little_endian}
-use Rattle.packed.specs.Places.{part}
+use Rattle.packed.specs.Offsets.{part}
 use Rattle.table_schema.specs.declared.table.TableId.{TableId}
 use Rattle.table_schema.specs.declared.table.TableId.TheVariants.{Module}
-use Rattle.table_schema.specs.Tables.{position_of, tables}
+use Rattle.table_schema.specs.Tables.{table_index_of, tables}
 use Rattle.schema.specs.Sizes.{Sizes, count_of, header_size}
-use Rattle.schema.specs.Places.{tables_end}
+use Rattle.schema.specs.Offsets.{tables_end}
 use Rattle.schema.specs.LaidOut.{number_bytes, tables_bytes, FitTables, bits_of, counts_bytes, IsLaidOut, IsTableStream}
 use Rattle.schema.specs.Header.{heap_sizes_of, valid_of, sorted_of, has_bit, count_in, sizes_of}
-use Rattle.schema.specs.Demands.{demands_of_header, demands_of_position, demands_of_tables, demands_of_stream}
-use Rattle.table_schema.proofs.TableFacts.{position_at, position_below, table_at_position, length-tables}
+use Rattle.schema.specs.Rules.{rules_of_header, rules_of_count_at, rules_of_tables, rules_of_stream}
+use Rattle.table_schema.proofs.TableFacts.{table_index_at, table_index_below, table_at_index, length-tables}
 use Rattle.schema.proofs.BitLemmas.{bits_low, tests_are, names_tables}
 use Rattle.schema.proofs.NumberLemmas.{IsBytes, length-number_bytes, part_of_number, part_fits, number_read}
-use Rattle.schema.proofs.HeaderLemmas.{counts_are, count_is, count_counted, count_uncounted, same_sizes, few_from, place_at}
+use Rattle.schema.proofs.HeaderLemmas.{counts_are, count_is, count_counted, count_uncounted, same_sizes, few_from, offset_at}
 use Rattle.schema.proofs.CellLemmas.{Begins, AreCounted, length-tables_bytes, tables_there}
 
 -- one more table that passes the test, or does not
@@ -41,15 +41,15 @@ counts_bytes-false test sizes table listed e = ap (λ b. cond b (number_bytes 4 
 length-counts : (test : TableId → Bool) (sizes : Sizes) (listed : List TableId) → length (counts_bytes test sizes listed) ≡ 4 * count_by test listed
 length-counts test sizes [] = refl
 length-counts test sizes (table ∷ listed) =
-    let rest = length-counts test sizes listed in
+    let tail = length-counts test sizes listed in
     elim (cases_Bool (test table)) [
-      | inl set ↦ ap length (counts_bytes-true test sizes table listed set) ∙ omega (arith, length-append (number_bytes 4 (count_of sizes table)) (counts_bytes test sizes listed), length-number_bytes 4 (count_of sizes table), rest, count_by-true test table listed set)
-      | inr clear ↦ ap length (counts_bytes-false test sizes table listed clear) ∙ rest ∙ ap (λ n. 4 * n) (sym (count_by-false test table listed clear))
+      | inl set ↦ ap length (counts_bytes-true test sizes table listed set) ∙ omega (arith, length-append (number_bytes 4 (count_of sizes table)) (counts_bytes test sizes listed), length-number_bytes 4 (count_of sizes table), tail, count_by-true test table listed set)
+      | inr clear ↦ ap length (counts_bytes-false test sizes table listed clear) ∙ tail ∙ ap (λ n. 4 * n) (sym (count_by-false test table listed clear))
     ]
 
 -- what follows a prefix
-past : (bytes front back : List ℕ) (at width : ℕ) → length front ≡ width → drop at bytes ≡ front ++ back → drop (at + width) bytes ≡ back
-past bytes front back at width e stands = sym (drop-drop width at bytes) ∙ ap (drop width) stands ∙ drop_at front back width e
+past : (bytes prefix back : List ℕ) (at width : ℕ) → length prefix ≡ width → drop at bytes ≡ prefix ++ back → drop (at + width) bytes ≡ back
+past bytes prefix back at width e stands = sym (drop-drop width at bytes) ∙ ap (drop width) stands ∙ drop_at prefix back width e
 
 -- a row count follows those before it
 count_stands : (test : TableId → Bool) (sizes : Sizes) (listed : List TableId) (bytes back : List ℕ) (at k : ℕ) → drop at bytes ≡ counts_bytes test sizes listed ++ back → k < length listed → test (get_or listed k Module) ≡ true
@@ -75,7 +75,7 @@ count_stands test sizes (table ∷ listed) bytes back at (suc k) stands below se
 
 -- if each count is that of the number there, the bytes of the counts are there
 counts_there : (test : TableId → Bool) (sizes : Sizes) (listed : List TableId) (bytes : List ℕ) (at : ℕ) → IsBytes bytes → at + 4 * count_by test listed ≤ length bytes
-    → ((k place : ℕ) → k < length listed → test (get_or listed k Module) ≡ true → place ≡ at + 4 * count_by test (take k listed) → count_of sizes (get_or listed k Module) ≡ little_endian (part bytes place 4))
+    → ((k offset : ℕ) → k < length listed → test (get_or listed k Module) ≡ true → offset ≡ at + 4 * count_by test (take k listed) → count_of sizes (get_or listed k Module) ≡ little_endian (part bytes offset 4))
     → drop at bytes ≡ counts_bytes test sizes listed ++ drop (at + 4 * count_by test listed) bytes
 counts_there test sizes [] bytes at are long each = ap (λ n. drop n bytes) (sym (add-zero at))
 counts_there test sizes (table ∷ listed) bytes at are long each =
@@ -84,16 +84,16 @@ counts_there test sizes (table ∷ listed) bytes at are long each =
           let more = count_by-true test table listed here in
           let end : at + 4 + 4 * count_by test listed ≡ at + 4 * count_by test (table ∷ listed) = omega (arith, more) in
           let number : count_of sizes table ≡ little_endian (part bytes at 4) = each 0 at (omega arith) here (sym (add-zero at)) in
-          let front : part bytes at 4 ≡ number_bytes 4 (count_of sizes table) = sym (part_of_number bytes at 4 are (omega (arith, more))) ∙ ap (number_bytes 4) (sym number) in
-          let next = counts_there test sizes listed bytes (at + 4) are (omega (arith, more)) (λ k place below set e. each (suc k) place (omega arith) set (omega (arith, e, count_by-true test table (take k listed) here))) in
-          sym (take-append-drop 4 (drop at bytes)) ∙ ap (λ (f : List ℕ). f ++ drop 4 (drop at bytes)) front ∙ ap (λ (b : List ℕ). number_bytes 4 (count_of sizes table) ++ b) (drop-drop 4 at bytes ∙ next)
+          let prefix : part bytes at 4 ≡ number_bytes 4 (count_of sizes table) = sym (part_of_number bytes at 4 are (omega (arith, more))) ∙ ap (number_bytes 4) (sym number) in
+          let next = counts_there test sizes listed bytes (at + 4) are (omega (arith, more)) (λ k offset below set e. each (suc k) offset (omega arith) set (omega (arith, e, count_by-true test table (take k listed) here))) in
+          sym (take-append-drop 4 (drop at bytes)) ∙ ap (λ (f : List ℕ). f ++ drop 4 (drop at bytes)) prefix ∙ ap (λ (b : List ℕ). number_bytes 4 (count_of sizes table) ++ b) (drop-drop 4 at bytes ∙ next)
           ∙ sym (append_assoc (number_bytes 4 (count_of sizes table)) (counts_bytes test sizes listed) (drop (at + 4 + 4 * count_by test listed) bytes))
           ∙ ap (λ (bs : List ℕ). bs ++ drop (at + 4 + 4 * count_by test listed) bytes) (sym (counts_bytes-true test sizes table listed here))
           ∙ ap (λ n. counts_bytes test sizes (table ∷ listed) ++ drop n bytes) end
       | inr here ↦
           let more = count_by-false test table listed here in
           let end : at + 4 * count_by test listed ≡ at + 4 * count_by test (table ∷ listed) = omega (arith, more) in
-          let next = counts_there test sizes listed bytes at are (omega (arith, more)) (λ k place below set e. each (suc k) place (omega arith) set (omega (arith, e, count_by-false test table (take k listed) here))) in
+          let next = counts_there test sizes listed bytes at are (omega (arith, more)) (λ k offset below set e. each (suc k) offset (omega arith) set (omega (arith, e, count_by-false test table (take k listed) here))) in
           next ∙ ap (λ (bs : List ℕ). bs ++ drop (at + 4 * count_by test listed) bytes) (sym (counts_bytes-false test sizes table listed here))
           ∙ ap (λ n. counts_bytes test sizes (table ∷ listed) ++ drop n bytes) end
     ]
@@ -117,7 +117,7 @@ parts_of stream a b c d e f g whole la lb lc ld =
     let at16 = past stream c (d ++ (e ++ (f ++ g))) 8 8 lc at8 in
     let at24 = past stream d (e ++ (f ++ g)) 16 8 ld at16 in
     record {
-      version = at4 ∙ ap (λ (rest : List ℕ). b ++ rest) (sym at8);
+      version = at4 ∙ ap (λ (tail : List ℕ). b ++ tail) (sym at8);
       valid = at8;
       sorted = at16;
       counts = at24;
@@ -132,9 +132,9 @@ rebuild stream a b c d e f g x4 x8 x16 x24 body h0 h4 h8 h16 h24 h = rw (h0, h4,
 
 -- the parts of a table stream
 parts_laid : (stream : List ℕ) (sizes : Sizes) (numbers : List (List (List ℕ))) (laid : IsLaidOut stream sizes numbers)
-    → Parts stream (2 ∷ 0 ∷ sizes.heap_sizes ∷ laid.reserved_byte ∷ []) (number_bytes 8 (bits_of laid.counted tables)) (number_bytes 8 sizes.sorted) (counts_bytes laid.counted sizes tables) (tables_bytes sizes tables numbers) laid.rest
+    → Parts stream (2 ∷ 0 ∷ sizes.heap_sizes ∷ laid.reserved_byte ∷ []) (number_bytes 8 (bits_of laid.counted tables)) (number_bytes 8 sizes.sorted) (counts_bytes laid.counted sizes tables) (tables_bytes sizes tables numbers) laid.tail
 parts_laid stream sizes numbers laid =
-    parts_of stream laid.reserved (2 ∷ 0 ∷ sizes.heap_sizes ∷ laid.reserved_byte ∷ []) (number_bytes 8 (bits_of laid.counted tables)) (number_bytes 8 sizes.sorted) (counts_bytes laid.counted sizes tables) (tables_bytes sizes tables numbers) laid.rest
+    parts_of stream laid.reserved (2 ∷ 0 ∷ sizes.heap_sizes ∷ laid.reserved_byte ∷ []) (number_bytes 8 (bits_of laid.counted tables)) (number_bytes 8 sizes.sorted) (counts_bytes laid.counted sizes tables) (tables_bytes sizes tables numbers) laid.tail
     laid.whole laid.reserved_long refl (length-number_bytes 8 (bits_of laid.counted tables)) (length-number_bytes 8 sizes.sorted)
 
 -- Valid, and the tables that it names
@@ -148,12 +148,12 @@ counted_laid stream sizes numbers laid = ap has_bit (valid_laid stream sizes num
 count_laid : (stream : List ℕ) (sizes : Sizes) (numbers : List (List (List ℕ))) → IsLaidOut stream sizes numbers → (table : TableId) → count_in stream table ≡ count_of sizes table
 count_laid stream sizes numbers laid table =
     let tests = counted_laid stream sizes numbers laid in
-    let p = position_of table in
-    let here = table_at_position table in
+    let p = table_index_of table in
+    let here = table_at_index table in
     elim (cases_Bool (laid.counted table)) [
       | inl set ↦
           let P : TableId → Type 0 = λ t. Begins stream (header_size (count_by laid.counted (take p tables))) (number_bytes 4 (count_of sizes t)) in
-          let stands = subst P here (count_stands laid.counted sizes tables stream _ 24 p (parts_laid stream sizes numbers laid).counts (omega (arith, position_below table, length-tables)) (ap laid.counted here ∙ set)) in
+          let stands = subst P here (count_stands laid.counted sizes tables stream _ 24 p (parts_laid stream sizes numbers laid).counts (omega (arith, table_index_below table, length-tables)) (ap laid.counted here ∙ set)) in
           let few = laid.few table in
           count_counted stream table (ap (λ (f : TableId → Bool). f table) tests ∙ set)
           ∙ ap (λ (f : TableId → Bool). little_endian (part stream (header_size (count_by f (take p tables))) 4)) tests
@@ -173,7 +173,7 @@ counts_long stream sizes numbers laid = ap length laid.counts ∙ length-map num
 
 -- the row count of the table with a table index
 count_at : (sizes : Sizes) (k : ℕ) → k < 38 → count_of sizes (get_or tables k Module) ≡ get_or sizes.counts k 0
-count_at sizes k below = ap (λ (n : ℕ). get_or sizes.counts n 0) (position_at k below)
+count_at sizes k below = ap (λ (n : ℕ). get_or sizes.counts n 0) (table_index_at k below)
 
 -- a table stream has one list of sizes
 pub sizes_laid : (stream : List ℕ) (sizes : Sizes) (numbers : List (List (List ℕ))) → IsLaidOut stream sizes numbers → sizes ≡ sizes_of stream
@@ -204,7 +204,7 @@ pub body_laid : (stream : List ℕ) (sizes : Sizes) (numbers : List (List (List 
 body_laid stream sizes numbers laid =
     let P : ℕ → Type 0 = λ n. Begins stream n (tables_bytes sizes tables numbers) in
     let parts = parts_laid stream sizes numbers laid in
-    subst P (sym laid.body) (laid.rest, past stream (counts_bytes laid.counted sizes tables) (tables_bytes sizes tables numbers ++ laid.rest) 24 (4 * count_by laid.counted tables) (length-counts laid.counted sizes tables) parts.counts)
+    subst P (sym laid.body) (laid.tail, past stream (counts_bytes laid.counted sizes tables) (tables_bytes sizes tables numbers ++ laid.tail) 24 (4 * count_by laid.counted tables) (length-counts laid.counted sizes tables) parts.counts)
 
 pub end_laid : (stream : List ℕ) (sizes : Sizes) (numbers : List (List (List ℕ))) → IsLaidOut stream sizes numbers → tables_end sizes ≤ length stream
 end_laid stream sizes numbers laid =
@@ -212,17 +212,17 @@ end_laid stream sizes numbers laid =
     omega (arith, parts.long, laid.body, length-counts laid.counted sizes tables, length-tables_bytes sizes tables numbers laid.fit (counted_rows stream sizes numbers laid))
 
 -- a table stream satisfies all rules
-pub demands_laid : (stream : List ℕ) (sizes : Sizes) (numbers : List (List (List ℕ))) → IsLaidOut stream sizes numbers → AllHold (demands_of_stream stream)
-demands_laid stream sizes numbers laid =
+pub rules_laid : (stream : List ℕ) (sizes : Sizes) (numbers : List (List (List ℕ))) → IsLaidOut stream sizes numbers → AllHold (rules_of_stream stream)
+rules_laid stream sizes numbers laid =
     let parts = parts_laid stream sizes numbers laid in
     let same = sizes_laid stream sizes numbers laid in
     let long = parts.long in
     let low : heap_sizes_of stream < 8 = subst (λ (s : Sizes). s.heap_sizes < 8) same laid.heap_sizes_low in
     let body : (sizes_of stream).body ≤ length stream = subst (λ (s : Sizes). s.body ≤ length stream) same (omega (arith, parts.long, laid.body, length-counts laid.counted sizes tables)) in
     let end : tables_end (sizes_of stream) ≤ length stream = subst (λ (s : Sizes). tables_end s ≤ length stream) same (end_laid stream sizes numbers laid) in
-    all_append (demands_of_header stream) _ (omega arith, (ap (take 2) parts.version, (low, (record { counted = laid.counted; bits = valid_laid stream sizes numbers laid }, (body, tt)))))
-    (all_append (demands_from (demands_of_position stream) 0 38) (demands_of_tables stream)
-    (all_of_each (demands_of_position stream) 0 38 (λ k low high. let few = laid.few (get_or tables k Module) in (omega (arith, few, count_laid stream sizes numbers laid (get_or tables k Module)), tt)))
+    all_append (rules_of_header stream) _ (omega arith, (ap (take 2) parts.version, (low, (record { counted = laid.counted; bits = valid_laid stream sizes numbers laid }, (body, tt)))))
+    (all_append (rules_from (rules_of_count_at stream) 0 38) (rules_of_tables stream)
+    (all_of_each (rules_of_count_at stream) 0 38 (λ k low high. let few = laid.few (get_or tables k Module) in (omega (arith, few, count_laid stream sizes numbers laid (get_or tables k Module)), tt)))
     (end, tt))
 
 -- the number of rows is the row count
@@ -239,35 +239,35 @@ version_there stream long version =
     ∙ ap (λ (b : List ℕ). 2 ∷ 0 ∷ b) (drop-drop 2 4 stream ∙ drop_more stream 6 0 (omega arith) ∙ ap (λ (b : List ℕ). heap_sizes_of stream ∷ b) (drop_more stream 7 0 (omega arith)))
 
 -- a number of eight bytes at an offset
-number_there : (stream : List ℕ) (place number : ℕ) → IsBytes stream → place + 8 ≤ length stream → little_endian (part stream place 8) ≡ number → drop place stream ≡ number_bytes 8 number ++ drop (place + 8) stream
-number_there stream place number are long is =
-    sym (take-append-drop 8 (drop place stream)) ∙ ap (λ (f : List ℕ). f ++ drop 8 (drop place stream)) (sym (part_of_number stream place 8 are long) ∙ ap (number_bytes 8) is)
-    ∙ ap (λ (b : List ℕ). number_bytes 8 number ++ b) (drop-drop 8 place stream)
+number_there : (stream : List ℕ) (offset number : ℕ) → IsBytes stream → offset + 8 ≤ length stream → little_endian (part stream offset 8) ≡ number → drop offset stream ≡ number_bytes 8 number ++ drop (offset + 8) stream
+number_there stream offset number are long is =
+    sym (take-append-drop 8 (drop offset stream)) ∙ ap (λ (f : List ℕ). f ++ drop 8 (drop offset stream)) (sym (part_of_number stream offset 8 are long) ∙ ap (number_bytes 8) is)
+    ∙ ap (λ (b : List ℕ). number_bytes 8 number ++ b) (drop-drop 8 offset stream)
 
 -- if all rules hold, the bytes are a table stream
-pub stream_there : (stream : List ℕ) → IsBytes stream → AllHold (demands_of_stream stream) → IsTableStream stream (sizes_of stream)
+pub stream_there : (stream : List ℕ) → IsBytes stream → AllHold (rules_of_stream stream) → IsTableStream stream (sizes_of stream)
 stream_there stream are all =
     let sizes = sizes_of stream in
     let counted : TableId → Bool = has_bit (valid_of stream) in
-    let header = all_front (demands_of_header stream) (demands_from (demands_of_position stream) 0 38 ++ demands_of_tables stream) all in
-    let behind = all_back (demands_of_header stream) (demands_from (demands_of_position stream) 0 38 ++ demands_of_tables stream) all in
-    let each = all_front (demands_from (demands_of_position stream) 0 38) (demands_of_tables stream) behind in
-    let end = (all_back (demands_from (demands_of_position stream) 0 38) (demands_of_tables stream) behind).0 in
+    let header = all_prefix (rules_of_header stream) (rules_from (rules_of_count_at stream) 0 38 ++ rules_of_tables stream) all in
+    let behind = all_back (rules_of_header stream) (rules_from (rules_of_count_at stream) 0 38 ++ rules_of_tables stream) all in
+    let each = all_prefix (rules_from (rules_of_count_at stream) 0 38) (rules_of_tables stream) behind in
+    let end = (all_back (rules_from (rules_of_count_at stream) 0 38) (rules_of_tables stream) behind).0 in
     let long = header.0 in
     let body = header.1.1.1.1.0 in
     let few = few_from stream each in
     let count = λ (table : TableId). count_is (count_in stream) sizes.counts refl table in
     let there = tables_there sizes tables stream sizes.body are end in
-    let counts = counts_there counted sizes tables stream 24 are body (λ k place below set e.
+    let counts = counts_there counted sizes tables stream 24 are body (λ k offset below set e.
     count (get_or tables k Module) ∙ count_counted stream (get_or tables k Module) set
-    ∙ ap (λ (n : ℕ). little_endian (part stream n 4)) (sym (place_at counted k place (omega (arith, length-tables)) e))) in
+    ∙ ap (λ (n : ℕ). little_endian (part stream n 4)) (sym (offset_at counted k offset (omega (arith, length-tables)) e))) in
     let named = sym (names_tables (valid_of stream) header.1.1.1.0) in (
       there.0,
       record {
         reserved = take 4 stream;
         reserved_byte = get_or stream 7 0;
         counted = counted;
-        rest = drop (tables_end sizes) stream;
+        tail = drop (tables_end sizes) stream;
         whole = rebuild stream (take 4 stream) (2 ∷ 0 ∷ sizes.heap_sizes ∷ get_or stream 7 0 ∷ []) (number_bytes 8 (bits_of counted tables)) (number_bytes 8 sizes.sorted) (counts_bytes counted sizes tables) (tables_bytes sizes tables there.0) (drop (tables_end sizes) stream)
             (drop 4 stream) (drop 8 stream) (drop 16 stream) (drop 24 stream) (drop sizes.body stream)
             (sym (take-append-drop 4 stream)) (version_there stream long header.1.0) (number_there stream 8 (bits_of counted tables) are (omega arith) named) (number_there stream 16 sizes.sorted are (omega arith) refl) counts there.3;
@@ -287,11 +287,11 @@ stream_there stream are all =
     )
 
 -- what the relation says of a result that reports the rules
-pub answers_found : (stream : List ℕ) (r : Result Sizes Fault) → IsBytes stream → Answers (demands_of_stream stream) r → IfOk r (λ sizes. sizes ≡ sizes_of stream) → IfOk r (λ sizes. IsTableStream stream sizes)
-answers_found stream (Ok sizes) are all is = subst (IsTableStream stream) (sym is) (stream_there stream are all)
-answers_found stream (Err found) are fails is = tt
+pub reports_found : (stream : List ℕ) (r : Result Sizes Fault) → IsBytes stream → Reports (rules_of_stream stream) r → IfOk r (λ sizes. sizes ≡ sizes_of stream) → IfOk r (λ sizes. IsTableStream stream sizes)
+reports_found stream (Ok sizes) are all is = subst (IsTableStream stream) (sym is) (stream_there stream are all)
+reports_found stream (Err found) are fails is = tt
 
-pub answers_only : (stream : List ℕ) (sizes : Sizes) (numbers : List (List (List ℕ))) (r : Result Sizes Fault) → Answers (demands_of_stream stream) r → IfOk r (λ layout. layout ≡ sizes_of stream) → IsLaidOut stream sizes numbers
+pub reports_only : (stream : List ℕ) (sizes : Sizes) (numbers : List (List (List ℕ))) (r : Result Sizes Fault) → Reports (rules_of_stream stream) r → IfOk r (λ layout. layout ≡ sizes_of stream) → IsLaidOut stream sizes numbers
     → IsOkAnd r (λ layout. layout ≡ sizes)
-answers_only stream sizes numbers (Ok layout) all is laid = is ∙ sym (sizes_laid stream sizes numbers laid)
-answers_only stream sizes numbers (Err found) fails is laid = absurd (none_fails (demands_of_stream stream) found (demands_laid stream sizes numbers laid) fails)
+reports_only stream sizes numbers (Ok layout) all is laid = is ∙ sym (sizes_laid stream sizes numbers laid)
+reports_only stream sizes numbers (Err found) fails is laid = absurd (none_fails (rules_of_stream stream) found (rules_laid stream sizes numbers laid) fails)

@@ -2,12 +2,12 @@
 use Rattle.std.specs.Prelude.{◌≡◌, ℕ, ◌^◌, ◌<◌, List, length, map}
 use Rattle.std.specs.List.{range_with_len}
 use Rattle.packed.specs.Number.{little_endian}
-use Rattle.packed.specs.Places.{part}
+use Rattle.packed.specs.Offsets.{part}
 use Rattle.table_schema.specs.declared.table.TableId.{TableId}
 use Rattle.table_schema.specs.Tables.{tables}
 use Rattle.table_schema.specs.Columns.{columns_of, column_at}
 use Rattle.schema.specs.Sizes.{Sizes, count_of, width_of}
-use Rattle.schema.specs.Places.{cell_start}
+use Rattle.schema.specs.Offsets.{cell_start}
 use Rattle.schema.specs.LaidOut.{number_bytes, number_in, StandsAt}
 
 -- the number of bytes of a cell

@@ -1,9 +1,9 @@
 -- The values in the header of a table stream (ECMA-335 II.24.2.6), whether or not the bytes are a table stream.
 use Rattle.std.specs.Prelude.{ℕ, Bool, ◌/◌, ◌%◌, ◌^◌, ◌==◌, List, take, map, count_by, if◌then◌else◌, slice_index}
 use Rattle.packed.specs.Number.{little_endian}
-use Rattle.packed.specs.Places.{part}
+use Rattle.packed.specs.Offsets.{part}
 use Rattle.table_schema.specs.declared.table.TableId.{TableId}
-use Rattle.table_schema.specs.Tables.{table_number, position_of, tables}
+use Rattle.table_schema.specs.Tables.{table_number, table_index_of, tables}
 use Rattle.schema.specs.Sizes.{Sizes, header_size}
 
 -- HeapSizes (II.24.2.6)
@@ -23,12 +23,12 @@ abbrev pub has_bit : ℕ → TableId → Bool
 has_bit bits table = bits / 2 ^ table_number table % 2 == 1
 
 -- the offset of a table's row count, after those of tables with lower numbers
-abbrev pub count_place : ℕ → TableId → ℕ
-count_place valid table = header_size (count_by (has_bit valid) (take (position_of table) tables))
+abbrev pub count_offset : ℕ → TableId → ℕ
+count_offset valid table = header_size (count_by (has_bit valid) (take (table_index_of table) tables))
 
 -- the number of rows of a table; it is 0 if Valid does not set the bit of the table
 abbrev pub count_in : List ℕ → TableId → ℕ
-count_in stream table = if has_bit (valid_of stream) table then little_endian (part stream (count_place (valid_of stream) table) 4) else 0
+count_in stream table = if has_bit (valid_of stream) table then little_endian (part stream (count_offset (valid_of stream) table) 4) else 0
 
 -- the sizes that the header gives
 abbrev pub sizes_of : List ℕ → Sizes

@@ -2,7 +2,7 @@
 use Rattle.std.specs.Prelude.{◌≡◌, ℕ, zero, suc, Bool, false, ◌-◌, ◌/◌, ◌%◌, ◌^◌, ◌<◌, ◌≤◌, List, [], ◌∷◌, ◌++◌, length, map, count_by, sum_by, if◌then◌else◌, slice_index, slice_index_or}
 use Rattle.table_schema.specs.declared.table.TableId.{TableId}
 use Rattle.table_schema.specs.declared.column.Column.{Column}
-use Rattle.table_schema.specs.Tables.{table_number, position_of, tables}
+use Rattle.table_schema.specs.Tables.{table_number, table_index_of, tables}
 use Rattle.table_schema.specs.Columns.{columns_of}
 use Rattle.schema.specs.Sizes.{Sizes, count_of, header_size, width_of}
 
@@ -68,9 +68,9 @@ pub record IsLaidOut (stream : List ℕ) (sizes : Sizes) (numbers : List (List (
   pub reserved : List ℕ
   pub reserved_byte : ℕ
   pub counted : TableId → Bool
-  pub rest : List ℕ
+  pub tail : List ℕ
   pub whole : stream ≡ reserved ++ (2 ∷ 0 ∷ sizes.heap_sizes ∷ reserved_byte ∷ []) ++ number_bytes 8 (bits_of counted tables) ++ number_bytes 8 sizes.sorted
-      ++ counts_bytes counted sizes tables ++ tables_bytes sizes tables numbers ++ rest
+      ++ counts_bytes counted sizes tables ++ tables_bytes sizes tables numbers ++ tail
   pub reserved_long : length reserved ≡ 4
   pub heap_sizes_low : sizes.heap_sizes < 8
   pub sorted_low : sizes.sorted < 2 ^ 64
@@ -86,11 +86,11 @@ IsTableStream stream sizes = (numbers : List (List (List ℕ))) × IsLaidOut str
 
 -- the number of a cell, by table, row from 1 and column from 0
 abbrev pub number_in : List (List (List ℕ)) → TableId → ℕ → ℕ → ℕ
-number_in numbers table row column = slice_index (slice_index_or (slice_index_or numbers (position_of table) []) (row - 1) []) column
+number_in numbers table row column = slice_index (slice_index_or (slice_index_or numbers (table_index_of table) []) (row - 1) []) column
 
 -- these bytes are at an offset of the whole
-pub record StandsAt (whole : List ℕ) (place : ℕ) (bytes : List ℕ) : Type 0 where
+pub record StandsAt (whole : List ℕ) (offset : ℕ) (bytes : List ℕ) : Type 0 where
   pub before : List ℕ
   pub after : List ℕ
   pub split : whole ≡ before ++ bytes ++ after
-  pub long : length before ≡ place
+  pub long : length before ≡ offset

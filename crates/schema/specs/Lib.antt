@@ -1,8 +1,8 @@
 pub mod Cells
-pub mod Demands
+pub mod Rules
 pub mod Header
 pub mod Kept
 pub mod LaidOut
-pub mod Places
+pub mod Offsets
 pub mod Sizes
 pub mod ColumnNames

@@ -6,7 +6,7 @@ use Rattle.table_schema.specs.declared.coded.Coded.{Coded}
 use Rattle.table_schema.specs.declared.column.ColumnKind.{ColumnKind}
 use Rattle.table_schema.specs.declared.column.ColumnKind.TheVariants as kind
 use Rattle.table_schema.specs.declared.column.Column.{Column}
-use Rattle.table_schema.specs.Tables.{table_number, position_of, tables}
+use Rattle.table_schema.specs.Tables.{table_number, table_index_of, tables}
 use Rattle.table_schema.specs.CodedIndexes.{tables_of, tag_bits}
 
 -- the number of rows of each table, in the order of the tables; HeapSizes; Sorted; the offset of the first table
@@ -18,7 +18,7 @@ pub record Sizes : Type 0 where
 
 -- the number of rows of a table
 abbrev pub count_of : Sizes → TableId → ℕ
-count_of sizes table = slice_index sizes.counts (position_of table)
+count_of sizes table = slice_index sizes.counts (table_index_of table)
 
 -- both have the same number of rows of each table and the same HeapSizes; Sorted and `body` may differ
 pub record SameCounts (sizes others : Sizes) : Type 0 where

@@ -22,7 +22,7 @@ impl Header {
     pub fn count(&self, table: TableId) -> u32
         ensures { result ≡ count_of (sizes_kept self.now) table }
     {
-        self.counts[table.position()]
+        self.counts[table.table_index()]
     }
 
     /// The number of bytes of a column.

@@ -4,7 +4,7 @@ ghost use Rattle.table_schema.specs.declared.table.TableId.{TableId as Table};
 ghost use Rattle.table_schema.specs.declared.column.Column.{Column as TheColumn};
 ghost use Rattle.table_schema.specs.Columns.{columns_of};
 ghost use Rattle.schema.specs.Sizes.{Sizes, count_of, width_of, IsWidth};
-ghost use Rattle.schema.specs.Places.{tables_end};
+ghost use Rattle.schema.specs.Offsets.{tables_end};
 ghost use Rattle.schema.specs.LaidOut.{number_bytes, IsLaidOut};
 ghost use Rattle.schema.specs.Cells.{HoldsCell};
 
@@ -14,7 +14,7 @@ pub fn widths_are_known()
 {}
 
 /// The bytes of a number encode the number, if it fits.
-pub fn numbers_are_spelled()
+pub fn numbers_are_encoded()
     ensures { (width number : ℕ) → number < 256 ^ width → IsNumber width (number_bytes width number) number }
 {}
 

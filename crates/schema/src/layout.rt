@@ -1,5 +1,5 @@
 use crate::header::Header;
-use crate::place::Place;
+use crate::table_layout::TableLayout;
 use std::marker::Model;
 use table_schema::{Column, TableId, columns};
 
@@ -11,30 +11,30 @@ use table_schema::{Column, TableId, columns};
 #[derive(Drop)]
 pub struct Layout {
     header: Header,
-    places: [Place; 38],
+    table_layouts: [TableLayout; 38],
 }
 
 impl Model for Layout {
     ghost use Rattle.schema.specs.Sizes.{Sizes};
-    ghost use Rattle.schema.specs.Kept.{sizes_kept, ArePlaces};
+    ghost use Rattle.schema.specs.Kept.{sizes_kept, AreTableLayouts};
 
     ghost Value = { Sizes };
 
     ghost view = { λ layout. sizes_kept layout.header };
 
-    ghost invariant = { λ layout. ArePlaces (sizes_kept layout.header) layout.places };
+    ghost invariant = { λ layout. AreTableLayouts (sizes_kept layout.header) layout.table_layouts };
 }
 
 impl Header {
     ghost use Rattle.std.specs.Prelude.{◌≤◌, ◌^◌, ◌≡◌};
-    ghost use Rattle.schema.specs.Places.{table_start};
-    ghost use Rattle.schema.specs.Kept.{sizes_kept, IsPlace};
+    ghost use Rattle.schema.specs.TableLayouts.{table_start};
+    ghost use Rattle.schema.specs.Kept.{sizes_kept, IsTableLayout};
 
     /// The offsets of a table that begins at `start`.
-    fn place(&self, table: TableId, start: usize) -> Place
+    fn table_layout(&self, table: TableId, start: usize) -> TableLayout
         requires low { start ≤ 2 ^ 35 }
         requires start { start ≡ table_start (sizes_kept self.now) table }
-        ensures { IsPlace (sizes_kept self.now) table result }
+        ensures { IsTableLayout (sizes_kept self.now) table result }
     {
         let mut offsets = [0; 10];
         let mut row_width = 0;
@@ -44,7 +44,7 @@ impl Header {
             row_width += self.width(*column) as u8;
         }
         offsets[columns.len()] = row_width;
-        Place {
+        TableLayout {
             start,
             row_width,
             offsets,
@@ -58,7 +58,7 @@ impl Layout {
     ghost use Rattle.table_schema.specs.Tables.{table_number};
     ghost use Rattle.table_schema.specs.Columns.{columns_of, column_at};
     ghost use Rattle.schema.specs.Sizes.{sizes_by_number, count_of, width_of, IsWidth};
-    ghost use Rattle.schema.specs.Places.{row_width, row_start, cell_start, tables_end};
+    ghost use Rattle.schema.specs.TableLayouts.{row_width, row_start, cell_start, tables_end};
     ghost use Rattle.schema.specs.Kept.{sizes_kept, AreFew};
 
     /// The layout with these sizes.
@@ -66,18 +66,18 @@ impl Layout {
         requires { AreFew (sizes_kept header) }
         ensures { result ≡ sizes_kept header }
     {
-        let mut places = [Place {
+        let mut table_layouts = [TableLayout {
             start: 0,
             row_width: 0,
             offsets: [0; 10],
         }; 38];
         let mut start = header.body;
-        for (position, table) in TableId::all().iter().enumerate() {
-            let place = header.place(*table, start);
-            places[position] = place;
-            start += header.count(*table) as usize * place.row_width as usize;
+        for (table_index, table) in TableId::all().iter().enumerate() {
+            let table_layout = header.table_layout(*table, start);
+            table_layouts[table_index] = table_layout;
+            start += header.count(*table) as usize * table_layout.row_width as usize;
         }
-        Layout { header, places }
+        Layout { header, table_layouts }
     }
 
     /// The layout of tables with these row counts, by table number, and this HeapSizes.
@@ -92,9 +92,9 @@ impl Layout {
     {
         let mut listed = [0; 38];
         let mut body = 24;
-        for (position, table) in TableId::all().iter().enumerate() {
+        for (table_index, table) in TableId::all().iter().enumerate() {
             let count = counts[table.number() as usize];
-            listed[position] = count;
+            listed[table_index] = count;
             if count > 0 {
                 body += 4;
             }
@@ -148,8 +148,8 @@ impl Layout {
     pub fn row_width(&self, table: TableId) -> usize
         ensures { result ≡ row_width self.now table }
     {
-        let place = &self.places[table.position()];
-        place.row_width as usize
+        let table_layout = &self.table_layouts[table.table_index()];
+        table_layout.row_width as usize
     }
 
     /// The offset of a row in the stream. For the row after the last one, the end of its table.
@@ -158,9 +158,9 @@ impl Layout {
         requires last { row ≤ count_of self.now table + 1 }
         ensures { result ≡ row_start self.now table row }
     {
-        let place = &self.places[table.position()];
+        let table_layout = &self.table_layouts[table.table_index()];
         let rows_before = (row - 1) as usize;
-        place.start + rows_before * place.row_width as usize
+        table_layout.start + rows_before * table_layout.row_width as usize
     }
 
     /// The offset of a cell in the stream.
@@ -171,9 +171,9 @@ impl Layout {
         ensures value { result ≡ cell_start self.now table row column }
         ensures within { result + width_of self.now (column_at table column) ≤ tables_end self.now }
     {
-        let place = &self.places[table.position()];
-        let offset = place.offsets[column];
-        place.start + (row - 1) as usize * place.row_width as usize + offset as usize
+        let table_layout = &self.table_layouts[table.table_index()];
+        let offset = table_layout.offsets[column];
+        table_layout.start + (row - 1) as usize * table_layout.row_width as usize + offset as usize
     }
 
     /// The number of bytes of a cell in a column: 1, 2 or 4.
@@ -182,8 +182,8 @@ impl Layout {
         ensures value { result ≡ width_of self.now (column_at table column) }
         ensures known { IsWidth result }
     {
-        let place = &self.places[table.position()];
-        (place.offsets[column + 1] - place.offsets[column]) as usize
+        let table_layout = &self.table_layouts[table.table_index()];
+        (table_layout.offsets[column + 1] - table_layout.offsets[column]) as usize
     }
 
     /// The offset of the end of the last table.

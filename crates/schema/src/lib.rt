@@ -22,13 +22,13 @@ mod header;
 mod laws;
 mod layout;
 mod name_lists;
-mod place;
+mod table_layout;
 mod read;
 mod read_laws;
 
 pub use bit_laws::bits_are_known;
 pub use field_laws::{low_bytes_stand, widths_follow_from_counts};
-pub use laws::{cells_stand, numbers_are_spelled, stream_is_one, tables_end_within, widths_are_known};
+pub use laws::{cells_stand, numbers_are_encoded, stream_is_one, tables_end_within, widths_are_known};
 pub use layout::Layout;
 pub use name_lists::column_names;
 pub use packed::{Fault, FaultCode};

@@ -1,9 +1,9 @@
 ghost use Rattle.std.specs.Prelude.{◌≡◌, ◌<◌, ◌≤◌, ◌↔◌, length, count_by, IsTrue, IfOk, IfErr};
-ghost use Rattle.packed.specs.Demand.{Answers, demands_from};
+ghost use Rattle.packed.specs.Rule.{Reports, rules_from};
 ghost use Rattle.table_schema.specs.Tables.{tables};
 ghost use Rattle.schema.specs.LaidOut.{bits_of};
-ghost use Rattle.schema.specs.Header.{has_bit, valid_of, count_place, count_in, sizes_of};
-ghost use Rattle.schema.specs.Demands.{NamesTables, demands_of_header, demands_of_count, demands_of_position, demands_of_stream};
+ghost use Rattle.schema.specs.Header.{has_bit, valid_of, count_offset, count_in, sizes_of};
+ghost use Rattle.schema.specs.Rules.{NamesTables, rules_of_header, rules_of_count, rules_of_count_at, rules_of_stream};
 
 use crate::header::Header;
 use crate::layout::Layout;
@@ -53,15 +53,15 @@ fn counted(valid: u64) -> usize
 
 /// Checks the fields up to the row counts. Returns Valid.
 fn read_valid(bytes: &[u8]) -> Result<u64, Fault>
-    ensures answers { Answers (demands_of_header bytes.now) result }
+    ensures reports { Reports (rules_of_header bytes.now) result }
     ensures valid { IfOk result (λ valid. valid ≡ valid_of bytes.now) }
     ensures within { IfErr result (λ fault. fault.offset < 256) }
 {
     if bytes.len() < 24 {
         return Err(Fault::new(FaultCode::TablesHeader, 0));
     }
-    let (_, rest) = bytes.split_at(4);
-    let (version, _) = rest.split_at(2);
+    let (_, tail) = bytes.split_at(4);
+    let (version, _) = tail.split_at(2);
     if version != [2, 0].as_slice() {
         return Err(Fault::new(FaultCode::TablesVersion, 4));
     }
@@ -79,20 +79,20 @@ fn read_valid(bytes: &[u8]) -> Result<u64, Fault>
 }
 
 /// Reads the row count of a table at its offset. It is 0 if Valid does not name the table.
-fn read_count(bytes: &[u8], valid: u64, table: TableId, place: usize) -> Result<u32, Fault>
+fn read_count(bytes: &[u8], valid: u64, table: TableId, offset: usize) -> Result<u32, Fault>
     requires valid { valid ≡ valid_of bytes.now }
-    requires place { place ≡ count_place (valid_of bytes.now) table }
+    requires offset { offset ≡ count_offset (valid_of bytes.now) table }
     requires room { (sizes_of bytes.now).body ≤ length bytes.now }
-    ensures answers { Answers (demands_of_count bytes.now table) result }
+    ensures reports { Reports (rules_of_count bytes.now table) result }
     ensures count { IfOk result (λ count. count ≡ count_in bytes.now table) }
-    ensures within { IfErr result (λ fault. fault.offset ≡ place) }
+    ensures within { IfErr result (λ fault. fault.offset ≡ offset) }
 {
     if !is_set(valid, table) {
         return Ok(0);
     }
-    let count = u32_at(bytes, place);
+    let count = u32_at(bytes, offset);
     if count > ROW_LIMIT {
-        return Err(Fault::new(FaultCode::RowCount, place as u64));
+        return Err(Fault::new(FaultCode::RowCount, offset as u64));
     }
     Ok(count)
 }
@@ -101,17 +101,17 @@ fn read_count(bytes: &[u8], valid: u64, table: TableId, place: usize) -> Result<
 fn read_counts(bytes: &[u8], valid: u64) -> Result<[u32; 38], Fault>
     requires valid { valid ≡ valid_of bytes.now }
     requires room { (sizes_of bytes.now).body ≤ length bytes.now }
-    ensures answers { Answers (demands_from (demands_of_position bytes.now) 0 38) result }
+    ensures reports { Reports (rules_from (rules_of_count_at bytes.now) 0 38) result }
     ensures counts { IfOk result (λ counts. counts ≡ (sizes_of bytes.now).counts) }
     ensures within { IfErr result (λ fault. fault.offset < 256) }
 {
     let mut counts = [0; 38];
-    let mut place = 24;
-    for (position, table) in TableId::all().iter().enumerate() {
-        let count = read_count(bytes, valid, *table, place)?;
-        counts[position] = count;
+    let mut offset = 24;
+    for (table_index, table) in TableId::all().iter().enumerate() {
+        let count = read_count(bytes, valid, *table, offset)?;
+        counts[table_index] = count;
         if is_set(valid, *table) {
-            place += 4;
+            offset += 4;
         }
     }
     Ok(counts)
@@ -119,7 +119,7 @@ fn read_counts(bytes: &[u8], valid: u64) -> Result<[u32; 38], Fault>
 
 /// Checks all rules. Returns the layout, or the fault of the first broken rule.
 fn read_layout(bytes: &[u8]) -> Result<Layout, Fault>
-    ensures answers { Answers (demands_of_stream bytes.now) result }
+    ensures reports { Reports (rules_of_stream bytes.now) result }
     ensures layout { IfOk result (λ layout. layout ≡ sizes_of bytes.now) }
     ensures within { IfErr result (λ fault. fault.offset < 256) }
 {
@@ -140,10 +140,10 @@ fn read_layout(bytes: &[u8]) -> Result<Layout, Fault>
 
 impl Layout {
     ghost use Rattle.std.specs.Prelude.{◌≡◌, ◌<◌, List, ℕ, IfOk, IfErr, IsOkAnd};
-    ghost use Rattle.packed.specs.Demand.{FirstToFail};
+    ghost use Rattle.packed.specs.Rule.{FirstBroken};
     ghost use Rattle.schema.specs.Sizes.{Sizes};
     ghost use Rattle.schema.specs.LaidOut.{IsLaidOut, IsTableStream};
-    ghost use Rattle.schema.specs.Demands.{demands_of_stream};
+    ghost use Rattle.schema.specs.Rules.{rules_of_stream};
 
     /// Reads the layout of a table stream (II.24.2.6).
     ///
@@ -155,12 +155,12 @@ impl Layout {
     /// The fault of the first broken rule for the header, with its offset in the stream.
     pub fn read(bytes: &[u8]) -> Result<Layout, Fault>
         // If it returns a layout, the bytes are a table stream with these sizes.
-        ensures found { IfOk result (λ layout. IsTableStream bytes.now layout) }
+        ensures sound { IfOk result (λ layout. IsTableStream bytes.now layout) }
         // If the bytes are a table stream, it returns the layout with its only sizes.
-        ensures only { (sizes : Sizes) (numbers : List (List (List ℕ))) → IsLaidOut bytes.now sizes numbers
+        ensures complete { (sizes : Sizes) (numbers : List (List (List ℕ))) → IsLaidOut bytes.now sizes numbers
             → IsOkAnd result (λ layout. layout ≡ sizes) }
         // A fault is that of the first broken rule.
-        ensures first { IfErr result (FirstToFail (demands_of_stream bytes.now)) }
+        ensures first_error { IfErr result (FirstBroken (rules_of_stream bytes.now)) }
         // The fault's offset is below 256.
         ensures within { IfErr result (λ fault. fault.offset < 256) }
     {

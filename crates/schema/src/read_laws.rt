@@ -1,21 +1,21 @@
 ghost use Rattle.std.specs.Prelude.{◌≡◌, ◌^◌, ◌<◌, ◌≤◌, ℕ, List, length, get_or};
-ghost use Rattle.packed.specs.Demand.{AllHold};
+ghost use Rattle.packed.specs.Rule.{AllHold};
 ghost use Rattle.table_schema.specs.declared.table.TableId.{TableId as Table};
 ghost use Rattle.table_schema.specs.Columns.{columns_of};
 ghost use Rattle.schema.specs.Sizes.{Sizes, count_of};
 ghost use Rattle.schema.specs.LaidOut.{number_in, IsLaidOut, IsTableStream};
 ghost use Rattle.schema.specs.Header.{sizes_of};
-ghost use Rattle.schema.specs.Demands.{demands_of_stream};
+ghost use Rattle.schema.specs.Rules.{rules_of_stream};
 ghost use Rattle.schema.specs.Cells.{number_at, numbers_at};
 
 /// A table stream satisfies all rules, and its sizes are those of its header. Bytes that satisfy all
 /// rules are a table stream with these sizes.
 pub fn streams_are_read()
-    ensures demanded { (stream : List ℕ) (sizes : Sizes) (numbers : List (List (List ℕ))) → IsLaidOut stream sizes numbers
-        → AllHold (demands_of_stream stream) }
+    ensures rules_hold { (stream : List ℕ) (sizes : Sizes) (numbers : List (List (List ℕ))) → IsLaidOut stream sizes numbers
+        → AllHold (rules_of_stream stream) }
     ensures said { (stream : List ℕ) (sizes : Sizes) (numbers : List (List (List ℕ))) → IsLaidOut stream sizes numbers
         → sizes ≡ sizes_of stream }
-    ensures found { (stream : List ℕ) → ((k : ℕ) → get_or stream k 0 < 2 ^ 8) → AllHold (demands_of_stream stream)
+    ensures sound { (stream : List ℕ) → ((k : ℕ) → get_or stream k 0 < 2 ^ 8) → AllHold (rules_of_stream stream)
         → IsTableStream stream (sizes_of stream) }
 {}
 

@@ -3,7 +3,7 @@ use Rattle.std.proofs.Common.{◌≡◌, ◌∙◌, ℕ, Bool, true, false, not,
 use Rattle.std.specs.Prelude.{flat_map}
 use Rattle.table_schema.specs.declared.token.Token.{Token}
 use Rattle.sig_grammar.specs.Parts.{Part, byte, number, signed, index, part_tokens}
-use Rattle.sig_grammar.specs.Spells.{has_row, first_bad, tokens}
+use Rattle.sig_grammar.specs.Encodes.{has_row, first_bad, tokens}
 use Rattle.sig_grammar.specs.Syntax.{Body}
 use Rattle.sig_grammar.specs.Grammar.{body_parts}
 use Rattle.sig_encoder.specs.Run.{after, then, run}
@@ -12,18 +12,18 @@ use Rattle.sig_copier.specs.Rows.{row_checker_step}
 use Rattle.sig_copier.specs.declared.row_checker.RowChecker.{RowChecker}
 
 -- the row checker, with the result of the search
-abbrev told : RowChecker → Option Token → Result RowChecker RowChecker
-told rows None = Ok rows
-told rows (Some token) = Err (record { counts = rows.counts; bad = Some token })
+abbrev reported : RowChecker → Option Token → Result RowChecker RowChecker
+reported rows None = Ok rows
+reported rows (Some token) = Err (record { counts = rows.counts; bad = Some token })
 
 found_by : (rows : RowChecker) (token : Token) (xs : List Item) (b : Bool)
-    → run row_checker_step xs rows ≡ told rows (first_bad rows.counts.now (flat_map part_tokens (kept xs)))
+    → run row_checker_step xs rows ≡ reported rows (first_bad rows.counts.now (flat_map part_tokens (kept xs)))
     → then (run row_checker_step xs) (cond b (Ok rows) (Err (record { counts = rows.counts; bad = Some token })))
-    ≡ told rows (cond (not b) (Some token) (first_bad rows.counts.now (flat_map part_tokens (kept xs))))
+    ≡ reported rows (cond (not b) (Some token) (first_bad rows.counts.now (flat_map part_tokens (kept xs))))
 found_by rows token xs true e = e
 found_by rows token xs false e = refl
 
-found : (xs : List Item) (rows : RowChecker) → run row_checker_step xs rows ≡ told rows (first_bad rows.counts.now (flat_map part_tokens (kept xs)))
+found : (xs : List Item) (rows : RowChecker) → run row_checker_step xs rows ≡ reported rows (first_bad rows.counts.now (flat_map part_tokens (kept xs)))
 unfolding run row_checker_step
 found [] rows = refl
 found (broken ∷ xs) rows = found xs rows
@@ -32,7 +32,7 @@ found (part (number n) ∷ xs) rows = found xs rows
 found (part (signed z) ∷ xs) rows = found xs rows
 found (part (index token) ∷ xs) rows = found_by rows token xs (has_row rows.counts.now token) (found xs rows)
 
-bad_by : {U : Type 0} (r : Option U) (o : Option Token) (old new : RowChecker) → old.bad ≡ None → after r new ≡ told old o → new.bad ≡ o
+bad_by : {U : Type 0} (r : Option U) (o : Option Token) (old new : RowChecker) → old.bad ≡ None → after r new ≡ reported old o → new.bad ≡ o
 bad_by None None old new none e = absurd (cc)
 bad_by None (Some token) old new none e = let same : new ≡ record { counts = old.counts; bad = Some token } = cc in ap (λ (r : RowChecker). r.bad) same
 bad_by (Some u) None old new none e = let same : new ≡ old = cc in ap (λ (r : RowChecker). r.bad) same ∙ none
@@ -42,4 +42,4 @@ pub first_found : {U : Type 0} → ((b : Body) (depth : ℕ) → kept (body_item
     → new.bad ≡ first_bad old.counts.now (tokens b)
 first_found parts r b depth old new none e =
     bad_by r (first_bad old.counts.now (tokens b)) old new none
-    (e ∙ found (body_items b depth) old ∙ ap (λ (ps : List Part). told old (first_bad old.counts.now (flat_map part_tokens ps))) (parts b depth))
+    (e ∙ found (body_items b depth) old ∙ ap (λ (ps : List Part). reported old (first_bad old.counts.now (flat_map part_tokens ps))) (parts b depth))

@@ -1,7 +1,7 @@
 -- The effect of a part of a signature on the row checker (ECMA-335 II.23.2.8): it stops at a type index without a row.
 use Rattle.std.specs.Prelude.{if◌then◌else◌, Some, Result, Ok, Err}
 use Rattle.sig_grammar.specs.Parts.{byte, number, signed, index}
-use Rattle.sig_grammar.specs.Spells.{has_row}
+use Rattle.sig_grammar.specs.Encodes.{has_row}
 use Rattle.sig_encoder.specs.Items.{Item, part, broken}
 use Rattle.sig_copier.specs.declared.row_checker.RowChecker.{RowChecker}
 

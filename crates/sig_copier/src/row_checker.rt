@@ -1,6 +1,6 @@
 ghost use Rattle.std.specs.Prelude.{◌≡◌};
 ghost use Rattle.sig_grammar.specs.Views.{body_of};
-ghost use Rattle.sig_grammar.specs.Spells.{tokens, first_bad as first_bad_of};
+ghost use Rattle.sig_grammar.specs.Encodes.{tokens, first_bad as first_bad_of};
 
 use sig_grammar::{SigBody, names_row};
 use table_schema::Token;

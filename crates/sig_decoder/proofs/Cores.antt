@@ -36,15 +36,15 @@ unfolding core_at
 core_end zero b h = refl
 core_end (suc d) b h = rw h refl
 
-pub core_simple : (d c : ℕ) (e : Element) (b rest : List ℕ) → 0 < d → b ≡ c ∷ rest → Some e ≡ element_of c → core_at d b ≡ Some (sig.simple e, rest)
+pub core_simple : (d c : ℕ) (e : Element) (b tail : List ℕ) → 0 < d → b ≡ c ∷ tail → Some e ≡ element_of c → core_at d b ≡ Some (sig.simple e, tail)
 unfolding core_at
-core_simple zero c e b rest lt h k = absurd (omega arith)
-core_simple (suc d) c e b rest lt h k = rw (h, ← k) refl
+core_simple zero c e b tail lt h k = absurd (omega arith)
+core_simple (suc d) c e b tail lt h k = rw (h, ← k) refl
 
-pub core_other : (d c : ℕ) (b rest : List ℕ) → 0 < d → b ≡ c ∷ rest → None ≡ element_of c → core_at d b ≡ core_by (d - 1) (core_at (d - 1)) c rest
+pub core_other : (d c : ℕ) (b tail : List ℕ) → 0 < d → b ≡ c ∷ tail → None ≡ element_of c → core_at d b ≡ core_by (d - 1) (core_at (d - 1)) c tail
 unfolding core_at
-core_other zero c b rest lt h k = absurd (omega arith)
-core_other (suc d) c b rest lt h k = let p : suc d - 1 ≡ d = omega arith in rw (h, ← k, p) refl
+core_other zero c b tail lt h k = absurd (omega arith)
+core_other (suc d) c b tail lt h k = let p : suc d - 1 ≡ d = omega arith in rw (h, ← k, p) refl
 
 pub deep_some : (d : ℕ) (r : Reader sig.Core) (b : List ℕ) → 0 < d → deep d r b ≡ r b
 deep_some zero r b lt = absurd (omega arith)
@@ -69,20 +69,20 @@ fails_end e r b h none = rw (h.0, h.1) none
 -- ---- by the first byte
 
 -- not VOID
-pub void_other : {A : Type 0} (r : Reader A) (c : ℕ) (b rest : List ℕ) → b ≡ c ∷ rest → c ≢ 0x01 → void_or r b ≡ change (λ x. Some x) r b
+pub void_other : {A : Type 0} (r : Reader A) (c : ℕ) (b tail : List ℕ) → b ≡ c ∷ tail → c ≢ 0x01 → void_or r b ≡ change (λ x. Some x) r b
 unfolding void_or
-void_other r c b rest h p = rw (h, ne_eqb c 0x01 p) refl
+void_other r c b tail h p = rw (h, ne_eqb c 0x01 p) refl
 
 -- neither TYPEDBYREF nor BYREF
-pub content_other : (r : Reader sig.Core) (c : ℕ) (b rest : List ℕ) → b ≡ c ∷ rest → c ≢ 0x16 → c ≢ 0x10 → content_at r b ≡ change sig.plain r b
+pub content_other : (r : Reader sig.Core) (c : ℕ) (b tail : List ℕ) → b ≡ c ∷ tail → c ≢ 0x16 → c ≢ 0x10 → content_at r b ≡ change sig.plain r b
 unfolding content_at
-content_other r c b rest h p q = rw (h, ne_eqb c 0x16 p, ne_eqb c 0x10 q) refl
+content_other r c b tail h p q = rw (h, ne_eqb c 0x16 p, ne_eqb c 0x10 q) refl
 
 -- CLASS or VALUETYPE
-pub named_is : (c : ℕ) (b rest : List ℕ) → b ≡ c ∷ rest → (c ≢ 0x11) × (c ≡ 0x12) ⊎ (c ≡ 0x11) → named_at b ≡ Some (eqb c 0x11, rest)
+pub named_is : (c : ℕ) (b tail : List ℕ) → b ≡ c ∷ tail → (c ≢ 0x11) × (c ≡ 0x12) ⊎ (c ≡ 0x11) → named_at b ≡ Some (eqb c 0x11, tail)
 unfolding named_at
-named_is c b rest h (inl k) = rw (h, k.1) refl
-named_is c b rest h (inr k) = rw (h, k) refl
+named_is c b tail h (inl k) = rw (h, k.1) refl
+named_is c b tail h (inr k) = rw (h, k) refl
 
 -- no signature is empty
 pub body_end : (kind : SigKind) (r : Reader sig.Core) (b : List ℕ) → b ≡ [] → body_at kind r b ≡ None

@@ -19,7 +19,7 @@ before_with None n s = option_map (λ j. n + j) s
 
 -- what is read, with the parameters before it
 abbrev pub with_params : List Slot → Option ℕ → Read → Read
-with_params front before read = option_map (λ x. ((front ++ x.0.0, before_with before (length front) x.0.1), x.1)) read
+with_params head before read = option_map (λ x. ((head ++ x.0.0, before_with before (length head) x.0.1), x.1)) read
 
 -- SENTINEL is allowed here: the method may have one, and none was read yet
 abbrev pub still : Bool → Option ℕ → Bool
@@ -29,9 +29,9 @@ still allowed before = allowed && is_none before
 abbrev pub after_mark : Option ℕ → Bool → ℕ → Option ℕ
 after_mark before marked k = option_or before (cond marked (Some k) None)
 
-front_marked : (k : ℕ) (xs : List Slot) (x : Slot) (o : Read) → length xs ≡ k → with_params xs None (option_map (λ y. ((x ∷ y.0.0, Some 0), y.1)) o) ≡ with_params (xs ++ x ∷ []) (Some k) o
-front_marked k xs x None e = refl
-front_marked k xs x (Some y) e =
+head_marked : (k : ℕ) (xs : List Slot) (x : Slot) (o : Read) → length xs ≡ k → with_params xs None (option_map (λ y. ((x ∷ y.0.0, Some 0), y.1)) o) ≡ with_params (xs ++ x ∷ []) (Some k) o
+head_marked k xs x None e = refl
+head_marked k xs x (Some y) e =
     let n : length xs + 0 ≡ k = omega arith in
     ap₂ (λ (ys : List Slot) (m : ℕ). Some ((ys, Some m), y.1)) (sym (append_assoc xs (x ∷ []) y.0.0)) n
 
@@ -40,9 +40,9 @@ mark_later (Some k) xs x s = refl
 mark_later None xs x None = refl
 mark_later None xs x (Some j) = ap (λ (m : ℕ). Some m) (omega (arith, length-append xs (x ∷ [])))
 
-front_plain : (before : Option ℕ) (xs : List Slot) (x : Slot) (o : Read) → with_params xs before (option_map (λ y. ((x ∷ y.0.0, option_map suc y.0.1), y.1)) o) ≡ with_params (xs ++ x ∷ []) before o
-front_plain before xs x None = refl
-front_plain before xs x (Some y) =
+head_plain : (before : Option ℕ) (xs : List Slot) (x : Slot) (o : Read) → with_params xs before (option_map (λ y. ((x ∷ y.0.0, option_map suc y.0.1), y.1)) o) ≡ with_params (xs ++ x ∷ []) before o
+head_plain before xs x None = refl
+head_plain before xs x (Some y) =
     ap₂ (λ (ys : List Slot) (m : Option ℕ). Some ((ys, m), y.1)) (sym (append_assoc xs (x ∷ []) y.0.0)) (mark_later before xs x y.0.1)
 
 module _ (nested : Reader Core) where
@@ -58,15 +58,15 @@ module _ (nested : Reader Core) where
   params_is allowed n b = refl
 
   at_mark : (n k : ℕ) (allowed : Bool) (before : Option ℕ) (h m : Bool) (b s c : List ℕ) (xs : List Slot) (x : Slot) → length xs ≡ k → m ≡ (still allowed before && h) → s ≡ cond m (drop 1 b) b → slot_at nested s ≡ Some (x, c) → with_params xs before (cond (still allowed before && h) (marked_then n (slot_at nested (drop 1 b))) (plain_then (still allowed before) n (slot_at nested b))) ≡ with_params (xs ++ x ∷ []) (after_mark before m k) (params_at nested (still allowed (after_mark before m k)) n c)
-  at_mark n k true None true true b s c xs x count is e read = rw (← e, read) (front_marked k xs x (params_at nested false n c) count)
+  at_mark n k true None true true b s c xs x count is e read = rw (← e, read) (head_marked k xs x (params_at nested false n c) count)
   at_mark n k true None true false b s c xs x count is e read = absurd cc
   at_mark n k true None false true b s c xs x count is e read = absurd cc
-  at_mark n k true None false false b s c xs x count is e read = rw (← e, read) (front_plain None xs x (params_at nested true n c))
+  at_mark n k true None false false b s c xs x count is e read = rw (← e, read) (head_plain None xs x (params_at nested true n c))
   at_mark n k true (Some j) h true b s c xs x count is e read = absurd cc
-  at_mark n k true (Some j) h false b s c xs x count is e read = rw (← e, read) (front_plain (Some j) xs x (params_at nested false n c))
+  at_mark n k true (Some j) h false b s c xs x count is e read = rw (← e, read) (head_plain (Some j) xs x (params_at nested false n c))
   at_mark n k false before h true b s c xs x count is e read = absurd cc
-  at_mark n k false None h false b s c xs x count is e read = rw (← e, read) (front_plain None xs x (params_at nested false n c))
-  at_mark n k false (Some j) h false b s c xs x count is e read = rw (← e, read) (front_plain (Some j) xs x (params_at nested false n c))
+  at_mark n k false None h false b s c xs x count is e read = rw (← e, read) (head_plain None xs x (params_at nested false n c))
+  at_mark n k false (Some j) h false b s c xs x count is e read = rw (← e, read) (head_plain (Some j) xs x (params_at nested false n c))
 
   pub params_next : (n k : ℕ) (allowed : Bool) (before : Option ℕ) (m : Bool) (b s c : List ℕ) (xs : List Slot) (x : Slot) → k < n → length xs ≡ k → m ≡ (still allowed before && head_is 0x41 b) → s ≡ cond m (drop 1 b) b → slot_at nested s ≡ Some (x, c) → with_params xs before (params_at nested (still allowed before) (n - k) b) ≡ with_params (xs ++ x ∷ []) (after_mark before m k) (params_at nested (still allowed (after_mark before m k)) (n - (k + 1)) c)
   params_next n k allowed before m b s c xs x lt count is e read =

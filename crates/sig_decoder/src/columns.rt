@@ -6,7 +6,7 @@ ghost use Rattle.sig_grammar.specs.Columns.{local_at, headed_at, property_from, 
 ghost use Rattle.sig_decoder.specs.Gives.{Gives};
 
 use crate::error::SigError;
-use crate::front::{byte, number, with_room};
+use crate::head::{byte, number, with_room};
 use crate::methods::{method, params};
 use crate::modifiers::prefixes;
 use crate::slots::{content, ret, slot};
@@ -20,9 +20,9 @@ use table_schema::SigKind;
 fn local(alloc: Global, bytes: &[u8], depth: u8) -> Result<(Local, &[u8]), SigError>
     ensures { Gives (λ x. (local_of x.0, x.1.now)) result (local_at (core_at depth) bytes.now) }
 {
-    let (prefix, rest) = prefixes(alloc, bytes)?;
-    let (kind, rest) = content(alloc, rest, depth)?;
-    Ok((Local { prefix, kind }, rest))
+    let (prefix, tail) = prefixes(alloc, bytes)?;
+    let (kind, tail) = content(alloc, tail, depth)?;
+    Ok((Local { prefix, kind }, tail))
 }
 
 /// Builds `count` local variables.
@@ -35,13 +35,13 @@ fn variables(
     ensures { Gives (λ x. (map local_of x.0.items, x.1.now)) result (many_at (local_at (core_at depth)) count bytes.now) }
 {
     let mut all = with_room(alloc, bytes, count)?;
-    let mut rest = bytes;
+    let mut tail = bytes;
     for done in 0..count {
-        let (one, next) = local(alloc, rest, depth)?;
+        let (one, next) = local(alloc, tail, depth)?;
         all.push(one)?;
-        rest = next;
+        tail = next;
     }
-    Ok((all, rest))
+    Ok((all, tail))
 }
 
 /// Builds a field, after its first byte (II.23.2.4).
@@ -49,8 +49,8 @@ fn variables(
 fn field(alloc: Global, bytes: &[u8], depth: u8) -> Result<(SigBody, &[u8]), SigError>
     ensures { Gives (λ x. (body_of x.0, x.1.now)) result (change sig.field (slot_at (core_at depth)) bytes.now) }
 {
-    let (slot, rest) = slot(alloc, bytes, depth)?;
-    Ok((SigBody::Field(FieldSig(slot)), rest))
+    let (slot, tail) = slot(alloc, bytes, depth)?;
+    Ok((SigBody::Field(FieldSig(slot)), tail))
 }
 
 /// Builds a method; `own` says whether it may have a SENTINEL (II.23.2.1, II.23.2.2).
@@ -63,8 +63,8 @@ fn method_body(
 ) -> Result<(SigBody, &[u8]), SigError>
     ensures { Gives (λ x. (body_of x.0, x.1.now)) result (method_or own (core_at depth) bytes.now) }
 {
-    let (method, rest) = method(alloc, bytes, own, depth)?;
-    Ok((SigBody::Method(method), rest))
+    let (method, tail) = method(alloc, bytes, own, depth)?;
+    Ok((SigBody::Method(method), tail))
 }
 
 /// Builds a property, after its first byte, whose bit 0x20 is HASTHIS (II.23.2.5).
@@ -77,10 +77,10 @@ fn property(
 ) -> Result<(SigBody, &[u8]), SigError>
     ensures { Gives (λ x. (body_of x.0, x.1.now)) result (change (property_from this) (headed_at (slot_at (core_at depth))) bytes.now) }
 {
-    let (count, rest) = number(bytes)?;
-    let (of, rest) = slot(alloc, rest, depth)?;
-    match params(alloc, rest, count, false, depth) {
-        Ok((params, _, rest)) => Ok((SigBody::Property(PropertySig { this, of, params }), rest)),
+    let (count, tail) = number(bytes)?;
+    let (of, tail) = slot(alloc, tail, depth)?;
+    match params(alloc, tail, count, false, depth) {
+        Ok((params, _, tail)) => Ok((SigBody::Property(PropertySig { this, of, params }), tail)),
         Err(error) => {
             drop(of);
             Err(error)
@@ -93,9 +93,9 @@ fn property(
 fn locals(alloc: Global, bytes: &[u8], depth: u8) -> Result<(SigBody, &[u8]), SigError>
     ensures { Gives (λ x. (body_of x.0, x.1.now)) result (change sig.locals (counted_at (local_at (core_at depth))) bytes.now) }
 {
-    let (count, rest) = number(bytes)?;
-    let (all, rest) = variables(alloc, rest, count, depth)?;
-    Ok((SigBody::Locals(LocalsSig(all)), rest))
+    let (count, tail) = number(bytes)?;
+    let (all, tail) = variables(alloc, tail, count, depth)?;
+    Ok((SigBody::Locals(LocalsSig(all)), tail))
 }
 
 /// Builds type arguments, after their first byte (II.23.2.15).
@@ -103,9 +103,9 @@ fn locals(alloc: Global, bytes: &[u8], depth: u8) -> Result<(SigBody, &[u8]), Si
 fn arguments(alloc: Global, bytes: &[u8], depth: u8) -> Result<(SigBody, &[u8]), SigError>
     ensures { Gives (λ x. (body_of x.0, x.1.now)) result (change sig.instance_body (counted_at (typed_at (core_at depth))) bytes.now) }
 {
-    let (count, rest) = number(bytes)?;
-    let (args, rest) = types(alloc, rest, count, depth)?;
-    Ok((SigBody::Instance(InstanceSig(args)), rest))
+    let (count, tail) = number(bytes)?;
+    let (args, tail) = types(alloc, tail, count, depth)?;
+    Ok((SigBody::Instance(InstanceSig(args)), tail))
 }
 
 /// Builds a type (II.23.2.14).
@@ -113,8 +113,8 @@ fn arguments(alloc: Global, bytes: &[u8], depth: u8) -> Result<(SigBody, &[u8]),
 fn type_spec(alloc: Global, bytes: &[u8], depth: u8) -> Result<(SigBody, &[u8]), SigError>
     ensures { Gives (λ x. (body_of x.0, x.1.now)) result (change sig.type_spec (ret_at (core_at depth)) bytes.now) }
 {
-    let (ret, rest) = ret(alloc, bytes, depth)?;
-    Ok((SigBody::TypeSpec(ret), rest))
+    let (ret, tail) = ret(alloc, bytes, depth)?;
+    Ok((SigBody::TypeSpec(ret), tail))
 }
 
 /// Builds the signature at the start, in a column of a kind.
@@ -127,30 +127,30 @@ pub fn body(
 ) -> Result<(SigBody, &[u8]), SigError>
     ensures { Gives (λ x. (body_of x.0, x.1.now)) result (body_at kind (core_at depth) bytes.now) }
 {
-    let (first, rest) = byte(bytes)?;
+    let (first, tail) = byte(bytes)?;
     match kind {
         SigKind::Field => match first {
-            0x06 => field(alloc, rest, depth),
+            0x06 => field(alloc, tail, depth),
             _ => Err(SigError::Bad),
         },
         SigKind::MethodDef => method_body(alloc, bytes, false, depth),
         SigKind::MemberRef => match first {
-            0x06 => field(alloc, rest, depth),
+            0x06 => field(alloc, tail, depth),
             _ => method_body(alloc, bytes, true, depth),
         },
         SigKind::StandAlone => match first {
-            0x06 => field(alloc, rest, depth),
-            0x07 => locals(alloc, rest, depth),
+            0x06 => field(alloc, tail, depth),
+            0x07 => locals(alloc, tail, depth),
             _ => method_body(alloc, bytes, true, depth),
         },
         SigKind::Property => match first {
-            0x08 => property(alloc, rest, false, depth),
-            0x28 => property(alloc, rest, true, depth),
+            0x08 => property(alloc, tail, false, depth),
+            0x28 => property(alloc, tail, true, depth),
             _ => Err(SigError::Bad),
         },
         SigKind::TypeSpec => type_spec(alloc, bytes, depth),
         SigKind::Instance => match first {
-            0x0A => arguments(alloc, rest, depth),
+            0x0A => arguments(alloc, tail, depth),
             _ => Err(SigError::Bad),
         },
     }

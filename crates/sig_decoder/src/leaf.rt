@@ -5,7 +5,7 @@ ghost use Rattle.sig_grammar.specs.Reading.{change, index_at, number_at};
 ghost use Rattle.sig_decoder.specs.Gives.{Gives};
 
 use crate::error::SigError;
-use crate::front::{index, number};
+use crate::head::{index, number};
 use sig_grammar::Core;
 
 /// Builds a class, after CLASS.
@@ -13,8 +13,8 @@ use sig_grammar::Core;
 pub fn class(bytes: &[u8]) -> Result<(Core, &[u8]), SigError>
     ensures { Gives (λ x. (core_of x.0, x.1.now)) result (change sig.class index_at bytes.now) }
 {
-    let (of, rest) = index(bytes)?;
-    Ok((Core::Class(of), rest))
+    let (of, tail) = index(bytes)?;
+    Ok((Core::Class(of), tail))
 }
 
 /// Builds a value type, after VALUETYPE.
@@ -22,8 +22,8 @@ pub fn class(bytes: &[u8]) -> Result<(Core, &[u8]), SigError>
 pub fn value_type(bytes: &[u8]) -> Result<(Core, &[u8]), SigError>
     ensures { Gives (λ x. (core_of x.0, x.1.now)) result (change sig.value index_at bytes.now) }
 {
-    let (of, rest) = index(bytes)?;
-    Ok((Core::Value(of), rest))
+    let (of, tail) = index(bytes)?;
+    Ok((Core::Value(of), tail))
 }
 
 /// Builds a generic parameter of a type, after VAR.
@@ -31,8 +31,8 @@ pub fn value_type(bytes: &[u8]) -> Result<(Core, &[u8]), SigError>
 pub fn type_parameter(bytes: &[u8]) -> Result<(Core, &[u8]), SigError>
     ensures { Gives (λ x. (core_of x.0, x.1.now)) result (change sig.var number_at bytes.now) }
 {
-    let (number, rest) = number(bytes)?;
-    Ok((Core::Var(number), rest))
+    let (number, tail) = number(bytes)?;
+    Ok((Core::Var(number), tail))
 }
 
 /// Builds a generic parameter of a method, after MVAR.
@@ -40,6 +40,6 @@ pub fn type_parameter(bytes: &[u8]) -> Result<(Core, &[u8]), SigError>
 pub fn method_parameter(bytes: &[u8]) -> Result<(Core, &[u8]), SigError>
     ensures { Gives (λ x. (core_of x.0, x.1.now)) result (change sig.mvar number_at bytes.now) }
 {
-    let (number, rest) = number(bytes)?;
-    Ok((Core::MVar(number), rest))
+    let (number, tail) = number(bytes)?;
+    Ok((Core::MVar(number), tail))
 }

@@ -13,7 +13,7 @@
 
 mod columns;
 mod error;
-mod front;
+mod head;
 mod leaf;
 mod methods;
 mod modifiers;

@@ -6,7 +6,7 @@ ghost use Rattle.sig_grammar.specs.Reading.{takes_sentinel as kind_takes_sentine
 ghost use Rattle.sig_decoder.specs.Gives.{Gives};
 
 use crate::error::SigError;
-use crate::front::{byte, number, with_room};
+use crate::head::{byte, number, with_room};
 use crate::slots::{ret, slot};
 use sig_grammar::method_byte::{
     begins_method, calling_convention, has_explicit_this, has_this, is_generic, may_have_sentinel,
@@ -32,8 +32,8 @@ fn generic(bytes: &[u8], code: u8) -> Result<(Option<u32>, &[u8]), SigError>
     if !is_generic(code) {
         return Ok((None, bytes));
     }
-    let (count, rest) = number(bytes)?;
-    Ok((Some(count), rest))
+    let (count, tail) = number(bytes)?;
+    Ok((Some(count), tail))
 }
 
 /// Builds `count` parameters, and the number of them before SENTINEL, if it is allowed and present.
@@ -49,15 +49,15 @@ pub fn params(
 {
     let mut all = with_room(alloc, bytes, count)?;
     let mut before = None;
-    let mut rest = bytes;
+    let mut tail = bytes;
     for done in 0..count {
-        let (marked, behind) = sentinel(rest, allowed && before.is_none());
+        let (marked, behind) = sentinel(tail, allowed && before.is_none());
         let (one, next) = slot(alloc, behind, depth)?;
         before = before.or(marked.then_some(done));
         all.push(one)?;
-        rest = next;
+        tail = next;
     }
-    Ok((all, before, rest))
+    Ok((all, before, tail))
 }
 
 /// Builds a method; `own` says whether it may have a SENTINEL (II.23.2.1 to II.23.2.3).
@@ -71,16 +71,16 @@ pub fn method(
 ) -> Result<(MethodSig, &[u8]), SigError>
     ensures { Gives (λ x. (method_of x.0, x.1.now)) result (method_at own (core_at depth) bytes.now) }
 {
-    let (code, rest) = byte(bytes)?;
+    let (code, tail) = byte(bytes)?;
     if !begins_method(code) {
         return Err(SigError::Bad);
     }
-    let (generic, rest) = generic(rest, code)?;
-    let (count, rest) = number(rest)?;
-    let (ret, rest) = ret(alloc, rest, depth)?;
+    let (generic, tail) = generic(tail, code)?;
+    let (count, tail) = number(tail)?;
+    let (ret, tail) = ret(alloc, tail, depth)?;
     let allowed = takes_sentinel(code, own);
-    match params(alloc, rest, count, allowed, depth) {
-        Ok((params, sentinel, rest)) => {
+    match params(alloc, tail, count, allowed, depth) {
+        Ok((params, sentinel, tail)) => {
             let method = MethodSig {
                 kind: calling_convention(code),
                 this: has_this(code),
@@ -90,7 +90,7 @@ pub fn method(
                 params,
                 sentinel,
             };
-            Ok((method, rest))
+            Ok((method, tail))
         }
         Err(error) => {
             drop(ret);
@@ -104,6 +104,6 @@ pub fn method(
 pub fn function(alloc: Global, bytes: &[u8], depth: u8) -> Result<(Core, &[u8]), SigError>
     ensures { Gives (λ x. (core_of x.0, x.1.now)) result (change sig.function (method_at true (core_at depth)) bytes.now) }
 {
-    let (method, rest) = method(alloc, bytes, true, depth)?;
-    Ok((Core::Function(Box::new(alloc, method)?), rest))
+    let (method, tail) = method(alloc, bytes, true, depth)?;
+    Ok((Core::Function(Box::new(alloc, method)?), tail))
 }

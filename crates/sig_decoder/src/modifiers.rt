@@ -12,13 +12,13 @@ pub fn modifiers(alloc: Global, bytes: &[u8]) -> Result<(Vec<Modifier>, &[u8]), 
     ensures { Gives (λ x. (x.0.items, x.1.now)) result (modifiers_at bytes.now) }
 {
     let mut all = Vec::new(alloc);
-    let mut rest = bytes;
-    while has_modifier(rest) {
-        let (one, next) = modifier(rest).ok_or(SigError::Bad)?;
+    let mut tail = bytes;
+    while has_modifier(tail) {
+        let (one, next) = modifier(tail).ok_or(SigError::Bad)?;
         all.push(one)?;
-        rest = next;
+        tail = next;
     }
-    Ok((all, rest))
+    Ok((all, tail))
 }
 
 /// Builds the modifiers and PINNED at the start.
@@ -26,11 +26,11 @@ pub fn prefixes(alloc: Global, bytes: &[u8]) -> Result<(Vec<Prefix>, &[u8]), Sig
     ensures { Gives (λ x. (x.0.items, x.1.now)) result (prefixes_at bytes.now) }
 {
     let mut all = Vec::new(alloc);
-    let mut rest = bytes;
-    while has_prefix(rest) {
-        let (one, next) = prefix(rest).ok_or(SigError::Bad)?;
+    let mut tail = bytes;
+    while has_prefix(tail) {
+        let (one, next) = prefix(tail).ok_or(SigError::Bad)?;
         all.push(one)?;
-        rest = next;
+        tail = next;
     }
-    Ok((all, rest))
+    Ok((all, tail))
 }

@@ -4,7 +4,7 @@ ghost use Rattle.sig_grammar.specs.Views.{shape_of};
 ghost use Rattle.sig_decoder.specs.Gives.{Gives};
 
 use crate::error::SigError;
-use crate::front::{number, signed, with_room};
+use crate::head::{number, signed, with_room};
 use sig_grammar::Shape;
 use std::alloc::Global;
 
@@ -13,13 +13,13 @@ fn numbers(alloc: Global, bytes: &[u8], count: u32) -> Result<(Vec<u32>, &[u8]),
     ensures { Gives (λ x. (x.0.items, x.1.now)) result (many_at number_at count bytes.now) }
 {
     let mut all = with_room(alloc, bytes, count)?;
-    let mut rest = bytes;
+    let mut tail = bytes;
     for done in 0..count {
-        let (one, next) = number(rest)?;
+        let (one, next) = number(tail)?;
         all.push(one)?;
-        rest = next;
+        tail = next;
     }
-    Ok((all, rest))
+    Ok((all, tail))
 }
 
 /// Builds `count` signed numbers.
@@ -27,13 +27,13 @@ fn signed_numbers(alloc: Global, bytes: &[u8], count: u32) -> Result<(Vec<i32>, 
     ensures { Gives (λ x. (x.0.items, x.1.now)) result (many_at signed_at count bytes.now) }
 {
     let mut all = with_room(alloc, bytes, count)?;
-    let mut rest = bytes;
+    let mut tail = bytes;
     for done in 0..count {
-        let (one, next) = signed(rest)?;
+        let (one, next) = signed(tail)?;
         all.push(one)?;
-        rest = next;
+        tail = next;
     }
-    Ok((all, rest))
+    Ok((all, tail))
 }
 
 /// Builds the sizes of an array, at most `most`, after their count.
@@ -41,11 +41,11 @@ fn signed_numbers(alloc: Global, bytes: &[u8], count: u32) -> Result<(Vec<i32>, 
 fn sizes(alloc: Global, bytes: &[u8], most: u32) -> Result<(Vec<u32>, &[u8]), SigError>
     ensures { Gives (λ x. (x.0.items, x.1.now)) result (counted_within number_at most bytes.now) }
 {
-    let (count, rest) = number(bytes)?;
+    let (count, tail) = number(bytes)?;
     if most < count {
         return Err(SigError::Bad);
     }
-    numbers(alloc, rest, count)
+    numbers(alloc, tail, count)
 }
 
 /// Builds the lower bounds of an array, at most `most`, after their count.
@@ -53,11 +53,11 @@ fn sizes(alloc: Global, bytes: &[u8], most: u32) -> Result<(Vec<u32>, &[u8]), Si
 fn low_bounds(alloc: Global, bytes: &[u8], most: u32) -> Result<(Vec<i32>, &[u8]), SigError>
     ensures { Gives (λ x. (x.0.items, x.1.now)) result (counted_within signed_at most bytes.now) }
 {
-    let (count, rest) = number(bytes)?;
+    let (count, tail) = number(bytes)?;
     if most < count {
         return Err(SigError::Bad);
     }
-    signed_numbers(alloc, rest, count)
+    signed_numbers(alloc, tail, count)
 }
 
 /// Builds the shape of an array (II.23.2.13).
@@ -65,11 +65,11 @@ fn low_bounds(alloc: Global, bytes: &[u8], most: u32) -> Result<(Vec<i32>, &[u8]
 pub fn shape(alloc: Global, bytes: &[u8]) -> Result<(Shape, &[u8]), SigError>
     ensures { Gives (λ x. (shape_of x.0, x.1.now)) result (shape_at bytes.now) }
 {
-    let (rank, rest) = number(bytes)?;
+    let (rank, tail) = number(bytes)?;
     if rank == 0 {
         return Err(SigError::Bad);
     }
-    let (sizes, rest) = sizes(alloc, rest, rank)?;
-    let (low, rest) = low_bounds(alloc, rest, rank)?;
-    Ok((Shape { rank, sizes, low }, rest))
+    let (sizes, tail) = sizes(alloc, tail, rank)?;
+    let (low, tail) = low_bounds(alloc, tail, rank)?;
+    Ok((Shape { rank, sizes, low }, tail))
 }

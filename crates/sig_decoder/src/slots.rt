@@ -4,7 +4,7 @@ ghost use Rattle.sig_grammar.specs.Reading.{core_at, content_at, slot_at, ret_at
 ghost use Rattle.sig_decoder.specs.Gives.{Gives};
 
 use crate::error::SigError;
-use crate::front::byte;
+use crate::head::byte;
 use crate::modifiers::modifiers;
 use crate::types::core;
 use sig_grammar::element_type::{BYREF, TYPEDBYREF, VOID};
@@ -20,13 +20,13 @@ pub fn content(alloc: Global, bytes: &[u8], depth: u8) -> Result<(SlotKind, &[u8
     match code {
         TYPEDBYREF => Ok((SlotKind::TypedRef, behind)),
         BYREF => {
-            let (mods, rest) = modifiers(alloc, behind)?;
-            let (core, rest) = core(alloc, rest, depth)?;
-            Ok((SlotKind::ByRef(mods, core), rest))
+            let (mods, tail) = modifiers(alloc, behind)?;
+            let (core, tail) = core(alloc, tail, depth)?;
+            Ok((SlotKind::ByRef(mods, core), tail))
         }
         _ => {
-            let (core, rest) = core(alloc, bytes, depth)?;
-            Ok((SlotKind::Plain(core), rest))
+            let (core, tail) = core(alloc, bytes, depth)?;
+            Ok((SlotKind::Plain(core), tail))
         }
     }
 }
@@ -36,9 +36,9 @@ pub fn content(alloc: Global, bytes: &[u8], depth: u8) -> Result<(SlotKind, &[u8
 pub fn slot(alloc: Global, bytes: &[u8], depth: u8) -> Result<(Slot, &[u8]), SigError>
     ensures { Gives (λ x. (slot_of x.0, x.1.now)) result (slot_at (core_at depth) bytes.now) }
 {
-    let (mods, rest) = modifiers(alloc, bytes)?;
-    let (kind, rest) = content(alloc, rest, depth)?;
-    Ok((Slot { mods, kind }, rest))
+    let (mods, tail) = modifiers(alloc, bytes)?;
+    let (kind, tail) = content(alloc, tail, depth)?;
+    Ok((Slot { mods, kind }, tail))
 }
 
 /// Builds a result (II.23.2.11).
@@ -46,11 +46,11 @@ pub fn slot(alloc: Global, bytes: &[u8], depth: u8) -> Result<(Slot, &[u8]), Sig
 pub fn ret(alloc: Global, bytes: &[u8], depth: u8) -> Result<(Ret, &[u8]), SigError>
     ensures { Gives (λ x. (ret_of x.0, x.1.now)) result (ret_at (core_at depth) bytes.now) }
 {
-    let (mods, rest) = modifiers(alloc, bytes)?;
-    let (code, behind) = byte(rest)?;
+    let (mods, tail) = modifiers(alloc, bytes)?;
+    let (code, behind) = byte(tail)?;
     if code == VOID {
         return Ok((Ret::Void(mods), behind));
     }
-    let (kind, rest) = content(alloc, rest, depth)?;
-    Ok((Ret::Slot(Slot { mods, kind }), rest))
+    let (kind, tail) = content(alloc, tail, depth)?;
+    Ok((Ret::Slot(Slot { mods, kind }), tail))
 }

@@ -6,7 +6,7 @@ ghost use Rattle.sig_grammar.specs.Reading.{pointer_to, target_at, array_from, a
 ghost use Rattle.sig_decoder.specs.Gives.{Gives};
 
 use crate::error::SigError;
-use crate::front::{byte, index, number, with_room};
+use crate::head::{byte, index, number, with_room};
 use crate::leaf::{class, method_parameter, type_parameter, value_type};
 use crate::methods::function;
 use crate::modifiers::modifiers;
@@ -26,10 +26,10 @@ pub fn core(alloc: Global, bytes: &[u8], depth: u8) -> Result<(Core, &[u8]), Sig
     if depth == 0 {
         return Err(SigError::Bad);
     }
-    let (code, rest) = byte(bytes)?;
+    let (code, tail) = byte(bytes)?;
     match Element::from_byte(code) {
-        Some(element) => Ok((Core::Simple(element), rest)),
-        None => core_behind(alloc, code, rest, depth - 1),
+        Some(element) => Ok((Core::Simple(element), tail)),
+        None => core_behind(alloc, code, tail, depth - 1),
     }
 }
 
@@ -68,9 +68,9 @@ fn core_behind(alloc: Global, code: u8, bytes: &[u8], depth: u8) -> Result<(Core
 fn typed(alloc: Global, bytes: &[u8], depth: u8) -> Result<(TypeSig, &[u8]), SigError>
     ensures { Gives (λ x. (type_of x.0, x.1.now)) result (typed_at (core_at depth) bytes.now) }
 {
-    let (mods, rest) = modifiers(alloc, bytes)?;
-    let (core, rest) = core(alloc, rest, depth)?;
-    Ok((TypeSig { mods, core }, rest))
+    let (mods, tail) = modifiers(alloc, bytes)?;
+    let (core, tail) = core(alloc, tail, depth)?;
+    Ok((TypeSig { mods, core }, tail))
 }
 
 /// Builds `count` types.
@@ -84,13 +84,13 @@ pub fn types(
     ensures { Gives (λ x. (map type_of x.0.items, x.1.now)) result (many_at (typed_at (core_at depth)) count bytes.now) }
 {
     let mut all = with_room(alloc, bytes, count)?;
-    let mut rest = bytes;
+    let mut tail = bytes;
     for done in 0..count {
-        let (one, next) = typed(alloc, rest, depth)?;
+        let (one, next) = typed(alloc, tail, depth)?;
         all.push(one)?;
-        rest = next;
+        tail = next;
     }
-    Ok((all, rest))
+    Ok((all, tail))
 }
 
 /// Builds a pointer, after PTR.
@@ -98,13 +98,13 @@ pub fn types(
 fn pointer(alloc: Global, bytes: &[u8], depth: u8) -> Result<(Core, &[u8]), SigError>
     ensures { Gives (λ x. (core_of x.0, x.1.now)) result (change pointer_to (target_at (core_at depth)) bytes.now) }
 {
-    let (mods, rest) = modifiers(alloc, bytes)?;
-    let (code, behind) = byte(rest)?;
+    let (mods, tail) = modifiers(alloc, bytes)?;
+    let (code, behind) = byte(tail)?;
     if code == VOID {
         return Ok((Core::Pointer(mods, None), behind));
     }
-    let (to, rest) = core(alloc, rest, depth)?;
-    Ok((Core::Pointer(mods, Some(Box::new(alloc, to)?)), rest))
+    let (to, tail) = core(alloc, tail, depth)?;
+    Ok((Core::Pointer(mods, Some(Box::new(alloc, to)?)), tail))
 }
 
 /// Builds an array of one dimension, after SZARRAY.
@@ -112,8 +112,8 @@ fn pointer(alloc: Global, bytes: &[u8], depth: u8) -> Result<(Core, &[u8]), SigE
 fn vector(alloc: Global, bytes: &[u8], depth: u8) -> Result<(Core, &[u8]), SigError>
     ensures { Gives (λ x. (core_of x.0, x.1.now)) result (change sig.vector (typed_at (core_at depth)) bytes.now) }
 {
-    let (of, rest) = typed(alloc, bytes, depth)?;
-    Ok((Core::Vector(Box::new(alloc, of)?), rest))
+    let (of, tail) = typed(alloc, bytes, depth)?;
+    Ok((Core::Vector(Box::new(alloc, of)?), tail))
 }
 
 /// Builds an array with a shape, after ARRAY.
@@ -121,10 +121,10 @@ fn vector(alloc: Global, bytes: &[u8], depth: u8) -> Result<(Core, &[u8]), SigEr
 fn array(alloc: Global, bytes: &[u8], depth: u8) -> Result<(Core, &[u8]), SigError>
     ensures { Gives (λ x. (core_of x.0, x.1.now)) result (change array_from (array_at (core_at depth)) bytes.now) }
 {
-    let (of, rest) = typed(alloc, bytes, depth)?;
+    let (of, tail) = typed(alloc, bytes, depth)?;
     let of = Box::new(alloc, of)?;
-    let (shape, rest) = shape(alloc, rest)?;
-    Ok((Core::Array(of, shape), rest))
+    let (shape, tail) = shape(alloc, tail)?;
+    Ok((Core::Array(of, shape), tail))
 }
 
 /// Builds an instance of a generic type, after GENERICINST.
@@ -133,13 +133,13 @@ fn array(alloc: Global, bytes: &[u8], depth: u8) -> Result<(Core, &[u8]), SigErr
 fn instance(alloc: Global, bytes: &[u8], depth: u8) -> Result<(Core, &[u8]), SigError>
     ensures { Gives (λ x. (core_of x.0, x.1.now)) result (change instance_from (instance_at (core_at depth)) bytes.now) }
 {
-    let (code, rest) = byte(bytes)?;
+    let (code, tail) = byte(bytes)?;
     if code != VALUETYPE && code != CLASS {
         return Err(SigError::Bad);
     }
-    let (of, rest) = index(rest)?;
-    let (count, rest) = number(rest)?;
-    let (args, rest) = types(alloc, rest, count, depth)?;
+    let (of, tail) = index(tail)?;
+    let (count, tail) = number(tail)?;
+    let (args, tail) = types(alloc, tail, count, depth)?;
     let value = code == VALUETYPE;
-    Ok((Core::Instance { value, of, args }, rest))
+    Ok((Core::Instance { value, of, args }, tail))
 }

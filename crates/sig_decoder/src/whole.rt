@@ -1,7 +1,7 @@
 ghost use Rattle.std.specs.Prelude.{◌≡◌, ◌↔◌, IfOk, IsErrOf};
 ghost use Rattle.sig_grammar.specs.Syntax.{Body};
 ghost use Rattle.sig_grammar.specs.Views.{body_of};
-ghost use Rattle.sig_grammar.specs.Spells.{Spells};
+ghost use Rattle.sig_grammar.specs.Encodes.{Encodes};
 ghost use Rattle.sig_decoder.specs.declared.error.SigError.TheVariants.{Bad};
 
 use crate::columns::body;
@@ -26,11 +26,11 @@ const DEPTH: u8 = 128;
 /// a signature and its value could not be allocated.
 pub fn decode_body(alloc: Global, bytes: &[u8], kind: SigKind) -> Result<SigBody, SigError>
     // The bytes encode the value that is built.
-    ensures found { IfOk result (λ body. Spells kind (body_of body) bytes.now) }
+    ensures sound { IfOk result (λ body. Encodes kind (body_of body) bytes.now) }
     // They encode nothing else.
-    ensures only { (signature : Body) → Spells kind signature bytes.now → IfOk result (λ body. body_of body ≡ signature) }
+    ensures complete { (signature : Body) → Encodes kind signature bytes.now → IfOk result (λ body. body_of body ≡ signature) }
     // The result is `Bad` if and only if they encode nothing.
-    ensures bad { IsErrOf result Bad ↔ ¬ ((signature : Body) × Spells kind signature bytes.now) }
+    ensures bad { IsErrOf result Bad ↔ ¬ ((signature : Body) × Encodes kind signature bytes.now) }
 {
     signatures_are_read();
     if !recognise(bytes, kind) {

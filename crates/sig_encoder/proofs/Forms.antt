@@ -17,7 +17,7 @@ use Rattle.sig_grammar.specs.Parts.{byte, number, index}
 use Rattle.sig_grammar.specs.Grammar.{modifiers_parts, generic_parts, named_code, method_code, count_types, count_slots}
 use Rattle.sig_grammar.specs.Views.{core_of, type_of, types_from, content_of, slot_of, slots_from, ret_of, method_of, shape_of}
 use Rattle.sig_encoder.specs.Run.{then, run}
-use Rattle.sig_encoder.specs.Items.{Item, part, parts_items, demand, is_call, core_items, first_items, typed_items, types_items, content_items, slot_items, slots_items, ret_items, method_items, leaf_items, shape_items}
+use Rattle.sig_encoder.specs.Items.{Item, part, parts_items, rule, is_call, core_items, first_items, typed_items, types_items, content_items, slot_items, slots_items, ret_items, method_items, leaf_items, shape_items}
 use Rattle.sig_encoder.proofs.Steps.{run_last, run_both}
 use Rattle.sig_encoder.proofs.Loops.{slots_count}
 use Rattle.sig_grammar.proofs.ViewLemmas.{view_simple, view_void_pointer, view_pointer, view_vector, view_array, view_class, view_value, view_var, view_mvar, view_instance, view_function, view_type, view_typed_ref, view_plain, view_by_ref, view_slot, view_some_ret, view_void_ret, view_method}
@@ -111,20 +111,20 @@ module _ {S : Type 0} (step : Item → S → Result S S) where
 
 module _ {S : Type 0} (step : Item → S → Result S S) (d : ℕ) (s : S) (m : MethodSig) where
   -- the items of a method, with its first byte and its number of parameters
-  pub method_told : (first last : List Slot) (holds : Bool) (code count : ℕ)
+  pub method_reported : (first last : List Slot) (holds : Bool) (code count : ℕ)
       → first ≡ (out-MethodSig m).params.items
       → holds ≡ is_call (out-MethodSig m).kind (count_slots (slots_from (map slot_of first))) (out-MethodSig m).sentinel
       → code ≡ method_code (out-MethodSig m).kind (out-MethodSig m).this (out-MethodSig m).explicit (out-MethodSig m).generic
       → count ≡ length first
       → last ≡ (out-MethodSig m).params.items
-      → run step (demand holds ++ part (byte code) ∷ (parts_items (generic_parts (out-MethodSig m).generic)
+      → run step (rule holds ++ part (byte code) ∷ (parts_items (generic_parts (out-MethodSig m).generic)
       ++ part (number count) ∷ (ret_items (ret_of (out-MethodSig m).ret) d ++ slots_items (slots_from (map slot_of last)) (out-MethodSig m).sentinel d))) s
       ≡ run step (method_items (method_of m) d) s
-  method_told first last holds code count f h k n l =
+  method_reported first last holds code count f h k n l =
       let is : holds ≡ is_call (out-MethodSig m).kind (count_slots (slots_from (map slot_of (out-MethodSig m).params.items))) (out-MethodSig m).sentinel =
       h ∙ ap (λ (ps : List Slot). is_call (out-MethodSig m).kind (count_slots (slots_from (map slot_of ps))) (out-MethodSig m).sentinel) f in
       let number_is : count ≡ count_slots (slots_from (map slot_of (out-MethodSig m).params.items)) = n ∙ ap length f ∙ sym (slots_count (out-MethodSig m).params.items) in
-      (λ i. run step (demand (is i) ++ part (byte (k i)) ∷ (parts_items (generic_parts (out-MethodSig m).generic)
+      (λ i. run step (rule (is i) ++ part (byte (k i)) ∷ (parts_items (generic_parts (out-MethodSig m).generic)
       ++ part (number (number_is i)) ∷ (ret_items (ret_of (out-MethodSig m).ret) d ++ slots_items (slots_from (map slot_of (l i))) (out-MethodSig m).sentinel d))) s)
       ∙ sym (ap (λ (v : sig.Method). run step (method_items v d) s) (view_method m))
 

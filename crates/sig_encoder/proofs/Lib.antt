@@ -4,4 +4,4 @@ pub mod Forms
 pub mod Says
 pub mod Indexes
 pub mod Measured
-pub mod Filled
+pub mod Padded

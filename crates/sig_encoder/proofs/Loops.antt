@@ -82,9 +82,9 @@ pub params_next : {S : Type 0} (step : Item → S → Result S S) (xs : List Slo
     → run step (slots_items (slots_from (map slot_of (drop i xs))) (behind sentinel i) depth) sink
     ≡ then (run step (slots_items (slots_from (map slot_of (drop (i + 1) xs))) (behind sentinel (i + 1)) depth)) (run step (param_items marked (slot_of x) depth) sink)
 params_next step xs i x sentinel depth sink marked lt e at =
-    let rest = slots_from (map slot_of (drop (i + 1) xs)) in
-    rw (drop_next xs i x lt e, at) (ap (λ z. run step z sink) (split_param sentinel i depth (slot_of x) rest)
-    ∙ run_both step (param_items (stands_at sentinel i) (slot_of x) depth) (slots_items rest (behind sentinel (i + 1)) depth) sink)
+    let tail = slots_from (map slot_of (drop (i + 1) xs)) in
+    rw (drop_next xs i x lt e, at) (ap (λ z. run step z sink) (split_param sentinel i depth (slot_of x) tail)
+    ∙ run_both step (param_items (stands_at sentinel i) (slot_of x) depth) (slots_items tail (behind sentinel (i + 1)) depth) sink)
 
 pub params_end : {S : Type 0} (step : Item → S → Result S S) (xs : List Slot) (i : ℕ) (sentinel : Option ℕ) (depth : ℕ) (sink : S) → length xs ≤ i
     → run step (slots_items (slots_from (map slot_of (drop i xs))) sentinel depth) sink ≡ Ok sink

@@ -9,7 +9,7 @@ use Rattle.sig_grammar.specs.Views.{types_from, slots_from}
 use Rattle.sig_grammar.specs.Grammar.{list_parts, modifiers_parts, prefixes_parts, generic_parts, shape_parts, core_parts, typed_parts, types_parts, content_parts, slot_parts, slots_parts, ret_parts, method_parts, local_parts, body_parts, count_slots}
 use Rattle.sig_grammar.specs.Limits.{core_depth, types_depth, slots_depth, IsMethodKind, IsSentinel, IsArrayShape, AreTypes, AreSlots, IsCoreWithin, IsTypedWithin, IsContentWithin, IsSlotWithin, IsRetWithin, IsMethodWithin, IsLocalWithin, IsBodyWithin}
 use Rattle.sig_grammar.proofs.FromLists.{count-types_from, parts-types_from, types_good, each_type, count-slots_from, parts-slots_from, slots_good, each_slot}
-use Rattle.sig_encoder.specs.Items.{Item, part, broken, parts_items, demand, leaf_items, is_method_kind, may_stand, is_call, is_shape, shape_items, core_items, first_items, typed_items, types_items, content_items, slot_items, slots_items, ret_items, method_items, local_items, locals_items, body_items, kept, unbroken}
+use Rattle.sig_encoder.specs.Items.{Item, part, broken, parts_items, rule, leaf_items, is_method_kind, may_stand, is_call, is_shape, shape_items, core_items, first_items, typed_items, types_items, content_items, slot_items, slots_items, ret_items, method_items, local_items, locals_items, body_items, kept, unbroken}
 
 pub record Says (Good : Type 0) (xs : List Item) (ps : List Part) : Type 0 where
   pub same : kept xs ≡ ps
@@ -52,10 +52,10 @@ says_parts (p ∷ ps) = says_part p (says_parts ps)
 modded : {G : Type 0} {ys : List Item} {qs : List Part} (ps : List Part) → Says G ys qs → Says G (parts_items ps ++ ys) (ps ++ qs)
 modded ps s = says_same (says_both (says_parts ps) s) (λ g. g.1) (λ g. (tt, g))
 
-demanded : {G H : Type 0} {ys : List Item} {qs : List Part} (b : Bool) → (b ≡ true → G) → (G → b ≡ true) → Says H ys qs → Says (G × H) (demand b ++ ys) qs
-unfolding demand
-demanded true to back s = record { same = s.same; to = λ e. (to refl, s.to e); back = λ g. s.back g.1 }
-demanded false to back s = record { same = s.same; to = λ e. absurd (cc); back = λ g. absurd (let e = back g.0 in cc) }
+rule_says : {G H : Type 0} {ys : List Item} {qs : List Part} (b : Bool) → (b ≡ true → G) → (G → b ≡ true) → Says H ys qs → Says (G × H) (rule b ++ ys) qs
+unfolding rule
+rule_says true to back s = record { same = s.same; to = λ e. (to refl, s.to e); back = λ g. s.back g.1 }
+rule_says false to back s = record { same = s.same; to = λ e. absurd (cc); back = λ g. absurd (let e = back g.0 in cc) }
 
 -- ---- depth
 
@@ -73,16 +73,16 @@ FirstSays c = (depth : ℕ) → Says (IsCoreWithin (suc depth) c) (first_items c
 
 at_says : (c : Core) → FirstSays c → (depth : ℕ) → Says (IsCoreWithin depth c) (core_items c depth) (core_parts c)
 at_says c h zero =
-    says_same (demanded (ltb 0 0) (λ e. ltb-true 0 0 e) (λ lt. lt-ltb 0 0 lt) (h (0 - 1)))
+    says_same (rule_says (ltb 0 0) (λ e. ltb-true 0 0 e) (λ lt. lt-ltb 0 0 lt) (h (0 - 1)))
     (λ g. let none = g.0 in absurd (omega arith)) (λ g. let some = core_deep c in let none = g.0 in absurd (omega arith))
 at_says c h (suc depth) =
     let same : suc depth - 1 ≡ depth = omega arith in
-    says_same (demanded (ltb 0 (suc depth)) (λ e. ltb-true 0 (suc depth) e) (λ lt. lt-ltb 0 (suc depth) lt) (rw same (h depth)))
+    says_same (rule_says (ltb 0 (suc depth)) (λ e. ltb-true 0 (suc depth) e) (λ lt. lt-ltb 0 (suc depth) lt) (rw same (h depth)))
     (λ g. g.1) (λ g. (omega arith, g))
 
 leaf_says : (code depth : ℕ) → Says (1 ≤ depth) (leaf_items code depth) (byte code ∷ [])
 leaf_says code depth =
-    says_same (demanded (ltb 0 depth) (λ e. ltb-true 0 depth e) (λ lt. lt-ltb 0 depth lt) (says_part (byte code) says_none))
+    says_same (rule_says (ltb 0 depth) (λ e. ltb-true 0 depth e) (λ lt. lt-ltb 0 depth lt) (says_part (byte code) says_none))
     (λ g. let lt = g.0 in omega arith) (λ le. (omega arith, tt))
 
 -- ---- shapes and methods
@@ -100,7 +100,7 @@ shape_back shape g =
     and_from _ _ (lt-ltb 0 shape.rank (omega arith)) (and_from _ _ (le-leb (length shape.sizes) shape.rank g.1) (le-leb (length shape.low) shape.rank g.2))
 
 shape_says : (shape : ArrayShape) → Says (IsArrayShape shape) (shape_items shape) (shape_parts shape)
-shape_says shape = says_same (demanded (is_shape shape) (shape_to shape) (shape_back shape) (says_parts (shape_parts shape))) (λ g. g.0) (λ g. (g, tt))
+shape_says shape = says_same (rule_says (is_shape shape) (shape_to shape) (shape_back shape) (says_parts (shape_parts shape))) (λ g. g.0) (λ g. (g, tt))
 
 method_kind : (kind : ℕ) → is_method_kind kind ≡ true → IsMethodKind kind
 method_kind kind e = ⊎_elim (λ lt. inl (ltb-true kind 6 lt)) (λ nine. inr (eqb-true kind 9 nine)) (or_cases (ltb kind 6) (eqb kind 9) e)
@@ -184,7 +184,7 @@ mutual
 
   pub method_says : (m : Method) (depth : ℕ) → Says (IsMethodWithin depth m) (method_items m depth) (method_parts m)
   method_says (method kind this explicit generic ret params sentinel) depth =
-      says_same (demanded (is_call kind (count_slots params) sentinel) (call_to kind (count_slots params) sentinel) (call_back kind (count_slots params) sentinel)
+      says_same (rule_says (is_call kind (count_slots params) sentinel) (call_to kind (count_slots params) sentinel) (call_back kind (count_slots params) sentinel)
       (says_part _ (modded (generic_parts generic) (says_part _ (says_both (ret_says ret depth) (slots_says params sentinel depth))))))
       (λ g. let one = g.1.0.0 in let more = g.1.1.0 in (omega arith, (g.0.0, g.0.1, g.1.0.1, g.1.1.1)))
       (λ g. let most = g.0 in ((g.1.0, g.1.1), ((omega arith, g.1.2), (omega arith, g.1.3))))

@@ -2,7 +2,7 @@
 use Rattle.std.proofs.Common.{◌≡◌, ◌∙◌, Bool, true, false, Option, None, refl, ap, sym, Result, Ok, Err, List, [], ◌∷◌, ◌++◌}
 use Rattle.sig_grammar.specs.Parts.{Part}
 use Rattle.sig_encoder.specs.Run.{after, then, run}
-use Rattle.sig_encoder.specs.Items.{Item, part, broken, parts_items, demand}
+use Rattle.sig_encoder.specs.Items.{Item, part, broken, parts_items, rule}
 
 module _ {A P : Type 0} (step : P → A → Result A A) where
   pub run_none : (s : A) → run step [] s ≡ Ok s
@@ -48,13 +48,13 @@ module _ {A P : Type 0} (step : P → A → Result A A) where
 
 module _ {A : Type 0} (step : Item → A → Result A A) where
   -- nothing is reported if the condition holds
-  pub as_it_must : (holds : Bool) (s : A) → holds ≡ true → Ok s ≡ run step (demand holds) s
-  unfolding run demand
+  pub as_it_must : (holds : Bool) (s : A) → holds ≡ true → Ok s ≡ run step (rule holds) s
+  unfolding run rule
   as_it_must true s e = refl
   as_it_must false s e = absurd cc
 
-  pub not_as_it_must : (holds : Bool) (s : A) → holds ≡ false → step broken s ≡ run step (demand holds) s
-  unfolding demand
+  pub not_as_it_must : (holds : Bool) (s : A) → holds ≡ false → step broken s ≡ run step (rule holds) s
+  unfolding rule
   not_as_it_must true s e = absurd cc
   not_as_it_must false s e = sym (run_last step broken s)
 

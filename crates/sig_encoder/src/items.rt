@@ -2,15 +2,15 @@ ghost use Rattle.std.specs.Prelude.{◌≡◌};
 ghost use Rattle.sig_grammar.specs.Views.{shape_of};
 ghost use Rattle.sig_grammar.specs.Grammar.{modifier_parts, modifiers_parts, prefix_parts, prefixes_parts, numbers_parts, bounds_parts, shape_parts};
 ghost use Rattle.sig_encoder.specs.Run.{after, run};
-ghost use Rattle.sig_encoder.specs.Items.{parts_items, demand, is_shape, shape_items};
+ghost use Rattle.sig_encoder.specs.Items.{parts_items, rule, is_shape, shape_items};
 
 use crate::sink::PartSink;
 use sig_grammar::element_type::{CMOD_OPT, CMOD_REQD, PINNED};
 use sig_grammar::{Modifier, Prefix, Shape};
 
 /// Reports to the sink that the value is broken, if the condition does not hold.
-pub fn visit_demand<S: PartSink>(sink: &mut S, holds: bool) -> Option<()>
-    ensures { after result sink.new ≡ run S.step (demand holds) sink.old }
+pub fn visit_rule<S: PartSink>(sink: &mut S, holds: bool) -> Option<()>
+    ensures { after result sink.new ≡ run S.step (rule holds) sink.old }
 {
     if holds {
         return Some(());
@@ -100,7 +100,7 @@ fn can_be(shape: &Shape) -> bool
 pub fn visit_shape<S: PartSink>(sink: &mut S, shape: &Shape) -> Option<()>
     ensures { after result sink.new ≡ run S.step (shape_items (shape_of shape.now)) sink.old }
 {
-    visit_demand(sink, can_be(shape))?;
+    visit_rule(sink, can_be(shape))?;
     sink.number(shape.rank as usize)?;
     sink.number(shape.sizes.len())?;
     visit_sizes(sink, &shape.sizes)?;

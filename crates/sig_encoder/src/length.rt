@@ -1,6 +1,6 @@
 ghost use Rattle.std.specs.Prelude.{◌≡◌, ◌↔◌, IfSome, IsSome, length};
 ghost use Rattle.sig_grammar.specs.Views.{body_of};
-ghost use Rattle.sig_grammar.specs.Spells.{IsSpellable, short};
+ghost use Rattle.sig_grammar.specs.Encodes.{IsEncodable, short};
 
 use crate::measurer::Measurer;
 use sig_grammar::SigBody;
@@ -20,8 +20,8 @@ const ROOM: usize = (1 << 29) - 1;
 /// 29 bits. Each index names TypeDef, TypeRef or TypeSpec, and a row below 2^27. The canonical encoding has fewer
 /// than 2^29 bytes. This function makes one traversal, at most 128 types deep, and does not allocate. It stops
 /// when one of these conditions fails.
-pub fn spelled_len(body: &SigBody) -> Option<usize>
-    ensures spellable { IsSome result ↔ IsSpellable (body_of body.now) }
+pub fn encoded_len(body: &SigBody) -> Option<usize>
+    ensures encodable { IsSome result ↔ IsEncodable (body_of body.now) }
     ensures length { IfSome result (λ count. count ≡ length (short (body_of body.now))) }
 {
     items_are_parts();

@@ -11,7 +11,7 @@ use crate::sink::PartSink;
 const TOO_GREAT: usize = 1 << 29;
 
 /// The number, if it can be encoded: if it is below 2^29.
-pub fn spelled_number(number: usize) -> Option<u32>
+pub fn encoded_number(number: usize) -> Option<u32>
     ensures { result ≡ (if nat_lt number (2 ^ 29) then Some number else None) }
 {
     if number < TOO_GREAT {
@@ -26,7 +26,7 @@ pub fn index_number(token: Token) -> Option<u32>
     ensures { result ≡ number_of token }
 {
     let number = join(Coded::TypeDefOrRef, token.table, token.row)?;
-    spelled_number(number as usize)
+    encoded_number(number as usize)
 }
 
 /// The number of bytes of a signed number in its shortest form (II.23.2.13).
@@ -75,7 +75,7 @@ impl PartSink for Measurer {
 
     #[tactic(auto, unfolding(crate::specs::Lengths::measurer_step))]
     fn number(&mut self, count: usize) -> Option<()> {
-        let number = spelled_number(count)?;
+        let number = encoded_number(count)?;
         self.take(unsigned_len(number))
     }
 

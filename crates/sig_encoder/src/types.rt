@@ -4,7 +4,7 @@ ghost use Rattle.sig_grammar.specs.Grammar.{flag, method_code, named_code, count
 ghost use Rattle.sig_encoder.specs.Run.{after, run};
 ghost use Rattle.sig_encoder.specs.Items.{parts_items, level, leaf_items, core_items, first_items, typed_items, types_items, content_items, slot_items, slots_items, ret_items, method_items, may_stand, is_call, stands_at, param_items};
 
-use crate::items::{visit_demand, visit_modifiers, visit_shape};
+use crate::items::{visit_rule, visit_modifiers, visit_shape};
 use crate::sink::PartSink;
 use sig_grammar::element_type::{
     ARRAY, BYREF, CLASS, FNPTR, GENERICINST, MVAR, PTR, SENTINEL, SZARRAY, TYPEDBYREF, VALUETYPE,
@@ -25,7 +25,7 @@ fn named_byte(value: bool) -> u16
 fn visit_leaf<S: PartSink>(sink: &mut S, code: u8, depth: u8) -> Option<()>
     ensures { after result sink.new ≡ run S.step (leaf_items code depth) sink.old }
 {
-    visit_demand(sink, 0 < depth)?;
+    visit_rule(sink, 0 < depth)?;
     sink.byte(u16::from(code))
 }
 
@@ -35,7 +35,7 @@ fn visit_leaf<S: PartSink>(sink: &mut S, code: u8, depth: u8) -> Option<()>
 fn visit_core<S: PartSink>(sink: &mut S, core: &Core, depth: u8) -> Option<()>
     ensures { after result sink.new ≡ run S.step (core_items (core_of core.now) depth) sink.old }
 {
-    visit_demand(sink, 0 < depth)?;
+    visit_rule(sink, 0 < depth)?;
     visit_first(sink, core, depth.saturating_sub(1))
 }
 
@@ -157,11 +157,11 @@ fn visit_param<S: PartSink>(sink: &mut S, slot: &Slot, marked: bool, depth: u8) 
 }
 
 /// Whether SENTINEL precedes the parameter with this index.
-fn stands_before(sentinel: Option<u32>, place: usize) -> bool
-    ensures { result ≡ stands_at sentinel place }
+fn stands_before(sentinel: Option<u32>, index: usize) -> bool
+    ensures { result ≡ stands_at sentinel index }
 {
     match sentinel {
-        Some(before) => before as usize == place,
+        Some(before) => before as usize == index,
         None => false,
     }
 }
@@ -177,8 +177,8 @@ pub fn visit_params<S: PartSink>(
 ) -> Option<()>
     ensures { after result sink.new ≡ run S.step (slots_items (slots_from (map slot_of params.now)) sentinel depth) sink.old }
 {
-    for (place, slot) in params.iter().enumerate() {
-        visit_param(sink, slot, stands_before(sentinel, place), depth)?;
+    for (index, slot) in params.iter().enumerate() {
+        visit_param(sink, slot, stands_before(sentinel, index), depth)?;
     }
     Some(())
 }
@@ -249,7 +249,7 @@ fn visit_generic<S: PartSink>(sink: &mut S, generic: Option<u32>) -> Option<()>
 pub fn visit_method<S: PartSink>(sink: &mut S, method: &MethodSig, depth: u8) -> Option<()>
     ensures { after result sink.new ≡ run S.step (method_items (method_of method.now) depth) sink.old }
 {
-    visit_demand(sink, can_be(method.kind, &method.params, method.sentinel))?;
+    visit_rule(sink, can_be(method.kind, &method.params, method.sentinel))?;
     sink.byte(first_byte(method.kind, method.this, method.explicit, method.generic))?;
     visit_generic(sink, method.generic)?;
     sink.number(method.params.len())?;

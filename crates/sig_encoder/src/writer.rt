@@ -3,7 +3,7 @@ ghost use Rattle.packed.specs.Packed.{short_unsigned, short_signed};
 ghost use Rattle.sig_encoder.specs.Run.{after};
 ghost use Rattle.sig_encoder.specs.Written.{put_short};
 
-use crate::measurer::{index_number, signed_len, spelled_number};
+use crate::measurer::{index_number, signed_len, encoded_number};
 use packed::{put_signed, put_unsigned, unsigned_len};
 use std::marker::Model;
 use table_schema::Token;
@@ -67,7 +67,7 @@ impl PartSink for Writer {
 
     #[tactic(auto, unfolding(crate::specs::Written::writer_step))]
     fn number(&mut self, count: usize) -> Option<()> {
-        let number = spelled_number(count)?;
+        let number = encoded_number(count)?;
         self.put(number)
     }
 

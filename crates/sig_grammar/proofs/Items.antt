@@ -1,7 +1,7 @@
 -- Items at the start, one by one: modifiers, and modifiers with PINNED.
 use Rattle.std.proofs.Common.{◌≡◌, ℕ, zero, suc, ◌<◌, ◌≤◌, ◌||◌, Bool, true, false, cond, eqb, ltb, Option, Some, None, List, [], ◌∷◌, length, drop, length-drop, refl, ap, arith, IfSome}
 use Rattle.std.specs.Prelude.{⊤, option_map, option_and_then}
-use Rattle.packed.specs.Front as front
+use Rattle.packed.specs.Head as head
 use Rattle.table_schema.specs.declared.token.Token.{Token}
 use Rattle.sig_grammar.specs.declared.types.Modifier.{Modifier}
 use Rattle.sig_grammar.specs.declared.body.Prefix.TheVariants.{Pinned}
@@ -16,18 +16,18 @@ Shorter b x = length x.1 < length b
 abbrev TakesSome : List ℕ → ℕ × ℕ → Type 0
 TakesSome b read = (1 ≤ read.1) × (1 ≤ length b)
 
-two_some : (a : ℕ) (b : List ℕ) → IfSome (front.two_at a b) (TakesSome (a ∷ b))
+two_some : (a : ℕ) (b : List ℕ) → IfSome (head.two_at a b) (TakesSome (a ∷ b))
 two_some a [] = tt
-two_some a (b ∷ rest) = (omega arith, omega arith)
+two_some a (b ∷ tail) = (omega arith, omega arith)
 
-four_some : (a : ℕ) (b : List ℕ) → IfSome (front.four_at a b) (TakesSome (a ∷ b))
+four_some : (a : ℕ) (b : List ℕ) → IfSome (head.four_at a b) (TakesSome (a ∷ b))
 four_some a [] = tt
 four_some a (b ∷ []) = tt
 four_some a (b ∷ c ∷ []) = tt
-four_some a (b ∷ c ∷ d ∷ rest) = (omega arith, omega arith)
+four_some a (b ∷ c ∷ d ∷ tail) = (omega arith, omega arith)
 
-unsigned_some : (b : List ℕ) → IfSome (front.unsigned_at b) (TakesSome b)
-unfolding front.unsigned_at
+unsigned_some : (b : List ℕ) → IfSome (head.unsigned_at b) (TakesSome b)
+unfolding head.unsigned_at
 unsigned_some [] = tt
 unsigned_some (a ∷ b) =
     IfSome-cond (TakesSome (a ∷ b)) (ltb a 0x80) _ _ (λ e. (omega arith, omega arith))
@@ -37,7 +37,7 @@ unsigned_some (a ∷ b) =
 number_shorter : (b : List ℕ) → IfSome (number_at b) (Shorter b)
 unfolding number_at
 number_shorter b =
-    IfSome-map (TakesSome b) (Shorter b) (λ x. (x.0, drop x.1 b)) (front.unsigned_at b) (unsigned_some b)
+    IfSome-map (TakesSome b) (Shorter b) (λ x. (x.0, drop x.1 b)) (head.unsigned_at b) (unsigned_some b)
     (λ x some. let one = some.0 in let two = some.1 in omega (arith, length-drop x.1 b))
 
 index_shorter : (b : List ℕ) → IfSome (index_at b) (Shorter b)

@@ -9,7 +9,7 @@ use Rattle.sig_grammar.specs.declared.body.Prefix.TheVariants.{Pinned}
 use Rattle.sig_grammar.specs.Syntax.{Core, simple, void_pointer, pointer, vector, array, mvar, instance, function, typed, no_types, type_then, typed_ref, plain, by_ref, Slot, slot, no_slots, slot_then, some_ret, void_ret, Method, method, local, field, method_body, property, locals, instance_body, type_spec}
 use Rattle.sig_grammar.specs.Parts.{index_number}
 use Rattle.sig_grammar.specs.Limits.{IsSentinel, core_depth}
-use Rattle.sig_grammar.specs.Spells.{short}
+use Rattle.sig_grammar.specs.Encodes.{short}
 
 integer : Core
 integer = simple I4

@@ -5,6 +5,6 @@ pub mod Grammar
 pub mod Limits
 pub mod Parts
 pub mod Reading
-pub mod Spells
+pub mod Encodes
 pub mod Syntax
 pub mod Views

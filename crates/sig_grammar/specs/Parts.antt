@@ -22,17 +22,17 @@ pub record IsIndex (token : Token) (bytes : List ℕ) : Type 0 where
   pub packed : IsPacked number bytes
 
 -- the bytes encode the part
-abbrev pub SpellsPart : Part → List ℕ → Type 0
-SpellsPart (byte c) bytes = bytes ≡ c ∷ []
-SpellsPart (number n) bytes = IsPacked n bytes
-SpellsPart (signed z) bytes = IsPackedSigned z bytes
-SpellsPart (index token) bytes = IsIndex token bytes
+abbrev pub EncodesPart : Part → List ℕ → Type 0
+EncodesPart (byte c) bytes = bytes ≡ c ∷ []
+EncodesPart (number n) bytes = IsPacked n bytes
+EncodesPart (signed z) bytes = IsPackedSigned z bytes
+EncodesPart (index token) bytes = IsIndex token bytes
 
 -- the bytes encode the parts, one after another
-abbrev pub SpellsParts : List Part → List ℕ → Type 0
-SpellsParts [] bytes = bytes ≡ []
-SpellsParts (part ∷ parts) bytes =
-    (front rest : List ℕ) × (bytes ≡ front ++ rest) × SpellsPart part front × SpellsParts parts rest
+abbrev pub EncodesParts : List Part → List ℕ → Type 0
+EncodesParts [] bytes = bytes ≡ []
+EncodesParts (part ∷ parts) bytes =
+    (head tail : List ℕ) × (bytes ≡ head ++ tail) × EncodesPart part head × EncodesParts parts tail
 
 -- ---- the canonical encoding
 
@@ -51,11 +51,11 @@ short_part (signed z) = short_signed z
 short_part (index token) = short_unsigned (index_number token)
 
 -- the part has an encoding: numbers have at most 29 bits, and an index names TypeDef, TypeRef or TypeSpec
-abbrev pub HasSpelling : Part → Type 0
-HasSpelling (byte c) = c < 256
-HasSpelling (number n) = n < 2 ^ 29
-HasSpelling (signed z) = FitsBits 29 z
-HasSpelling (index token) = IsCoded TypeDefOrRef (index_number token) token.table token.row × (token.row < 2 ^ 27)
+abbrev pub HasEncoding : Part → Type 0
+HasEncoding (byte c) = c < 256
+HasEncoding (number n) = n < 2 ^ 29
+HasEncoding (signed z) = FitsBits 29 z
+HasEncoding (index token) = IsCoded TypeDefOrRef (index_number token) token.table token.row × (token.row < 2 ^ 27)
 
 -- ---- the type indexes
 

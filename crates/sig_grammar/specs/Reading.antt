@@ -1,7 +1,7 @@
 -- Readers as functions on lists: each returns the first value and the remaining bytes. Private functions compute them.
 -- It is proved that they read what the grammar encodes, and nothing else.
 use Rattle.std.specs.Prelude.{ℕ, ℤ, zero, suc, ◌/◌, ◌%◌, nat_lt, ◌==◌, ◌&&◌, ◌||◌, Bool, true, false, if◌then◌else◌, Option, Some, None, option_map, option_and_then, slice_get, drop, List, [], ◌∷◌, length}
-use Rattle.packed.specs.Front as front
+use Rattle.packed.specs.Head as head
 use Rattle.table_schema.specs.declared.token.Token.{Token}
 use Rattle.table_schema.specs.declared.table.TableId.{TableId}
 use Rattle.table_schema.specs.declared.coded.Coded.TheVariants.{TypeDefOrRef}
@@ -27,10 +27,10 @@ abbrev pub split : {A : Type 0} → List ℕ → Option (A × ℕ) → Option (A
 split b read = option_map (λ x. (x.0, drop x.1 b)) read
 
 unfoldable pub number_at : Reader ℕ
-number_at b = split b (front.unsigned_at b)
+number_at b = split b (head.unsigned_at b)
 
 unfoldable pub signed_at : Reader ℤ
-signed_at b = split b (front.signed_at b)
+signed_at b = split b (head.signed_at b)
 
 abbrev pub token_in : ℕ → Option TableId → Option Token
 token_in n listed = option_map (λ table. record { table = table; row = n / 4 }) listed

@@ -52,7 +52,7 @@ pub const SENTINEL: u8 = 0x41;
 pub const PINNED: u8 = 0x45;
 
 /// Each constant equals the byte of the grammar.
-pub fn element_types_are_told()
+pub fn element_types_are_reported()
     ensures void { VOID ≡ byte.VOID }
     ensures ptr { PTR ≡ byte.PTR }
     ensures byref { BYREF ≡ byte.BYREF }

@@ -1,6 +1,6 @@
 ghost use Rattle.std.specs.Prelude.{◌≡◌};
 ghost use Rattle.sig_grammar.specs.Reading.{token_of};
-ghost use Rattle.sig_grammar.specs.Spells.{has_row};
+ghost use Rattle.sig_grammar.specs.Encodes.{has_row};
 
 use crate::laws::indexes_are_read;
 use table_schema::{Coded, Token, split};

@@ -6,6 +6,6 @@ ghost use Rattle.sig_grammar.specs.Reading.{token_of};
 
 /// The token that is read from a type index is the token that the index encodes.
 pub fn indexes_are_read()
-    ensures found { (number : ℕ) → IfSome (token_of number) (λ token. IsCoded TypeDefOrRef number token.table token.row) }
-    ensures only { (number : ℕ) (token : Token) → IsCoded TypeDefOrRef number token.table token.row → token_of number ≡ Some token }
+    ensures sound { (number : ℕ) → IfSome (token_of number) (λ token. IsCoded TypeDefOrRef number token.table token.row) }
+    ensures complete { (number : ℕ) (token : Token) → IsCoded TypeDefOrRef number token.table token.row → token_of number ≡ Some token }
 {}

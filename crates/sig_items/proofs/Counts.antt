@@ -8,19 +8,19 @@ use Rattle.sig_grammar.specs.Reading.{Reader, change, many_at, typed_at, slot_at
 use Rattle.sig_grammar.specs.Columns.{local_at}
 use Rattle.sig_items.specs.declared.item.Item.{Item}
 use Rattle.sig_items.specs.declared.item.Item.TheVariants as item
-use Rattle.sig_items.specs.declared.place.Place.{Place}
-use Rattle.sig_items.specs.declared.place.Place.TheVariants as place
-use Rattle.sig_items.specs.declared.place.Frame.{Frame}
-use Rattle.sig_items.specs.declared.place.Frame.TheVariants as frame
+use Rattle.sig_items.specs.declared.position.Position.{Position}
+use Rattle.sig_items.specs.declared.position.Position.TheVariants as position
+use Rattle.sig_items.specs.declared.position.Frame.{Frame}
+use Rattle.sig_items.specs.declared.position.Frame.TheVariants as frame
 use Rattle.sig_items.specs.ItemsOf.{typed_items, types_items, slot_items, slots_items, local_items}
-use Rattle.sig_items.specs.Places.{Told, Teller, before_told, and_tell, joined, item_then, next_at, place_at, frame_at, types_told, params_items, params_told, locals_told}
+use Rattle.sig_items.specs.Positions.{Reported, Reporter, before_reported, and_report, joined, item_then, next_at, position_at, frame_at, types_reported, params_items, params_reported, locals_reported}
 use Rattle.sig_items.proofs.Joins.{changed}
 
 -- ---- the number of values that are read
 
 -- one more value
-abbrev fronted : {A : Type 0} → A → Option (List A × List ℕ) → Option (List A × List ℕ)
-fronted x o = option_map (λ y. (x ∷ y.0, y.1)) o
+abbrev prefixed : {A : Type 0} → A → Option (List A × List ℕ) → Option (List A × List ℕ)
+prefixed x o = option_map (λ y. (x ∷ y.0, y.1)) o
 
 abbrev pub HasCount : {A : Type 0} → ℕ → List A × List ℕ → Type 0
 HasCount n x = length x.0 ≡ n
@@ -30,13 +30,13 @@ unfolding many_at
 many_count r zero b = refl
 many_count {A = A} r (suc n) b = of_first (r b) (λ c. many_count r n c)
   where
-    of_rest : (x : A) (o : Option (List A × List ℕ)) → IfSome o (HasCount n) → IfSome (fronted x o) (HasCount (suc n))
-    of_rest x None h = tt
-    of_rest x (Some y) h = ap suc h
+    of_tail : (x : A) (o : Option (List A × List ℕ)) → IfSome o (HasCount n) → IfSome (prefixed x o) (HasCount (suc n))
+    of_tail x None h = tt
+    of_tail x (Some y) h = ap suc h
 
-    of_first : (o : Option (A × List ℕ)) → ((c : List ℕ) → IfSome (many_at r n c) (HasCount n)) → IfSome (option_and_then (λ (x : A × List ℕ). fronted x.0 (many_at r n x.1)) o) (HasCount (suc n))
+    of_first : (o : Option (A × List ℕ)) → ((c : List ℕ) → IfSome (many_at r n c) (HasCount n)) → IfSome (option_and_then (λ (x : A × List ℕ). prefixed x.0 (many_at r n x.1)) o) (HasCount (suc n))
     of_first None more = tt
-    of_first (Some x) more = of_rest x.0 (many_at r n x.1) (more x.1)
+    of_first (Some x) more = of_tail x.0 (many_at r n x.1) (more x.1)
 
 -- a head with the count, and the items of the values
 pub counted_item : {A : Type 0} (h : ℕ → Item) (f g : List A → List Item) (r : Reader A) → ((xs : List A) → (h (length xs) ∷ f xs) ≡ g xs) → (n : ℕ) (b : List ℕ) → item_then (h n) (change f (many_at r n) b) ≡ change g (many_at r n) b
@@ -64,71 +64,71 @@ pub many_joined : {A : Type 0} (items : A → List Item) (r : Reader A) (n : ℕ
 unfolding joined many_at
 many_joined {A = A} items r n b = of_first (r b)
   where
-    of_rest : (x : A) (o : Option (List A × List ℕ)) → before_told (items x) (changed (flat_map items) o) ≡ changed (flat_map items) (fronted x o)
-    of_rest x None = refl
-    of_rest x (Some y) = refl
+    of_tail : (x : A) (o : Option (List A × List ℕ)) → before_reported (items x) (changed (flat_map items) o) ≡ changed (flat_map items) (prefixed x o)
+    of_tail x None = refl
+    of_tail x (Some y) = refl
 
-    of_first : (o : Option (A × List ℕ)) → and_tell (change (flat_map items) (many_at r n)) (changed items o) ≡ changed (flat_map items) (option_and_then (λ (x : A × List ℕ). fronted x.0 (many_at r n x.1)) o)
+    of_first : (o : Option (A × List ℕ)) → and_report (change (flat_map items) (many_at r n)) (changed items o) ≡ changed (flat_map items) (option_and_then (λ (x : A × List ℕ). prefixed x.0 (many_at r n x.1)) o)
     of_first None = refl
-    of_first (Some x) = of_rest x.0 (many_at r n x.1)
+    of_first (Some x) = of_tail x.0 (many_at r n x.1)
 
-pub joined_same : (p q r : Teller) (b : List ℕ) → ((c : List ℕ) → q c ≡ r c) → joined p q b ≡ joined p r b
+pub joined_same : (p q r : Reporter) (b : List ℕ) → ((c : List ℕ) → q c ≡ r c) → joined p q b ≡ joined p r b
 unfolding joined
 joined_same p q r b same = of_first (p b)
   where
-    of_first : (o : Told) → and_tell q o ≡ and_tell r o
+    of_first : (o : Reported) → and_report q o ≡ and_report r o
     of_first None = refl
-    of_first (Some x) = ap (λ (t : Told). before_told x.0 t) (same x.1)
+    of_first (Some x) = ap (λ (t : Reported). before_reported x.0 t) (same x.1)
 
-joined_nothing : (p : Teller) (b : List ℕ) → p b ≡ joined p (λ c. Some ([], c)) b
+joined_nothing : (p : Reporter) (b : List ℕ) → p b ≡ joined p (λ c. Some ([], c)) b
 unfolding joined
 joined_nothing p b = of_first (p b)
   where
-    of_first : (o : Told) → o ≡ and_tell (λ c. Some ([], c)) o
+    of_first : (o : Reported) → o ≡ and_report (λ c. Some ([], c)) o
     of_first None = refl
     of_first (Some x) = ap (λ (t : List Item). Some (t, x.1)) (sym (append-nil x.0))
 
 -- a position, and what may follow it
-pub next_joined : (f : Option Frame) (p : Place) (t : Teller) (b : List ℕ) → ((c : List ℕ) → next_at f None c ≡ t c) → next_at f (Some p) b ≡ joined (place_at p) t b
-next_joined None p t b same = joined_nothing (place_at p) b ∙ joined_same (place_at p) (λ c. Some ([], c)) t b same
-next_joined (Some f) p t b same = joined_same (place_at p) (frame_at f) t b same
+pub next_joined : (f : Option Frame) (p : Position) (t : Reporter) (b : List ℕ) → ((c : List ℕ) → next_at f None c ≡ t c) → next_at f (Some p) b ≡ joined (position_at p) t b
+next_joined None p t b same = joined_nothing (position_at p) b ∙ joined_same (position_at p) (λ c. Some ([], c)) t b same
+next_joined (Some f) p t b same = joined_same (position_at p) (frame_at f) t b same
 
 -- ---- types, parameters and local variables
 
 one_less : (n : ℕ) → 0 < n → suc (n - 1) ≡ n
 one_less n h = omega arith
 
-pub types_zero : (n d : ℕ) (b : List ℕ) → n ≡ 0 → Some ([], b) ≡ types_told n d b
-unfolding types_told many_at
+pub types_zero : (n d : ℕ) (b : List ℕ) → n ≡ 0 → Some ([], b) ≡ types_reported n d b
+unfolding types_reported many_at
 types_zero n d b h = rw h refl
 
-pub types_more : (n d : ℕ) (b : List ℕ) → 0 < n → frame_at (frame.Types (n - 1) d) b ≡ types_told n d b
+pub types_more : (n d : ℕ) (b : List ℕ) → 0 < n → frame_at (frame.Types (n - 1) d) b ≡ types_reported n d b
 unfolding frame_at
-types_more n d b h = ap (λ (m : ℕ). types_told m d b) (one_less n h)
+types_more n d b h = ap (λ (m : ℕ). types_reported m d b) (one_less n h)
 
-pub types_first : (n d : ℕ) (b : List ℕ) → joined (place_at (place.Typed d)) (types_told n d) b ≡ frame_at (frame.Types n d) b
-unfolding place_at frame_at types_told
+pub types_first : (n d : ℕ) (b : List ℕ) → joined (position_at (position.Typed d)) (types_reported n d) b ≡ frame_at (frame.Types n d) b
+unfolding position_at frame_at types_reported
 types_first n d b = many_joined typed_items (typed_at (core_at d)) n b
 
-pub locals_zero : (n d : ℕ) (b : List ℕ) → n ≡ 0 → Some ([], b) ≡ locals_told n d b
-unfolding locals_told many_at
+pub locals_zero : (n d : ℕ) (b : List ℕ) → n ≡ 0 → Some ([], b) ≡ locals_reported n d b
+unfolding locals_reported many_at
 locals_zero n d b h = rw h refl
 
-pub locals_more : (n d : ℕ) (b : List ℕ) → 0 < n → frame_at (frame.Locals (n - 1) d) b ≡ locals_told n d b
+pub locals_more : (n d : ℕ) (b : List ℕ) → 0 < n → frame_at (frame.Locals (n - 1) d) b ≡ locals_reported n d b
 unfolding frame_at
-locals_more n d b h = ap (λ (m : ℕ). locals_told m d b) (one_less n h)
+locals_more n d b h = ap (λ (m : ℕ). locals_reported m d b) (one_less n h)
 
-pub locals_first : (n d : ℕ) (b : List ℕ) → joined (place_at (place.Local d)) (locals_told n d) b ≡ frame_at (frame.Locals n d) b
-unfolding place_at frame_at locals_told
+pub locals_first : (n d : ℕ) (b : List ℕ) → joined (position_at (position.Local d)) (locals_reported n d) b ≡ frame_at (frame.Locals n d) b
+unfolding position_at frame_at locals_reported
 locals_first n d b = many_joined local_items (local_at (core_at d)) n b
 
-pub params_zero : (n d : ℕ) (allowed : Bool) (b : List ℕ) → n ≡ 0 → Some ([], b) ≡ params_told n allowed d b
-unfolding params_told params_at
+pub params_zero : (n d : ℕ) (allowed : Bool) (b : List ℕ) → n ≡ 0 → Some ([], b) ≡ params_reported n allowed d b
+unfolding params_reported params_at
 params_zero n d allowed b h = rw h refl
 
-pub params_more : (n d : ℕ) (allowed : Bool) (b : List ℕ) → 0 < n → frame_at (frame.Params (n - 1) allowed d) b ≡ params_told n allowed d b
+pub params_more : (n d : ℕ) (allowed : Bool) (b : List ℕ) → 0 < n → frame_at (frame.Params (n - 1) allowed d) b ≡ params_reported n allowed d b
 unfolding frame_at
-params_more n d allowed b h = ap (λ (m : ℕ). params_told m allowed d b) (one_less n h)
+params_more n d allowed b h = ap (λ (m : ℕ). params_reported m allowed d b) (one_less n h)
 
 -- ---- SENTINEL
 
@@ -163,13 +163,13 @@ module _ (nested : Reader Core) where
   no_mark zero b = refl
   no_mark (suc n) b = of_first (slot_at nested b) (λ c. no_mark n c)
     where
-      of_rest : (x : Slot) (o : Option Params) → IfSome o IsUnmarked → IfSome (more_params x after_one o) IsUnmarked
-      of_rest x None h = tt
-      of_rest x (Some y) h = rw h refl
+      of_tail : (x : Slot) (o : Option Params) → IfSome o IsUnmarked → IfSome (more_params x after_one o) IsUnmarked
+      of_tail x None h = tt
+      of_tail x (Some y) h = rw h refl
 
       of_first : (o : Option (Slot × List ℕ)) → ((c : List ℕ) → IfSome (params_at nested false n c) IsUnmarked) → IfSome (plain_then false n o) IsUnmarked
       of_first None more = tt
-      of_first (Some x) more = of_rest x.0 (params_at nested false n x.1) (more x.1)
+      of_first (Some x) more = of_tail x.0 (params_at nested false n x.1) (more x.1)
 
   counted_params : (x : Slot) (m : Option ℕ → Option ℕ) (n : ℕ) (o : Option Params) → IfSome o (HasParams n) → IfSome (more_params x m o) (HasParams (suc n))
   counted_params x m n None h = tt
@@ -196,33 +196,33 @@ module _ (nested : Reader Core) where
   later x xs None = refl
   later x xs (Some k) = refl
 
-  abbrev told_params : Bool → ℕ → Teller
-  told_params allowed n = change params_items (params_at nested allowed n)
+  abbrev reported_params : Bool → ℕ → Reporter
+  reported_params allowed n = change params_items (params_at nested allowed n)
 
-  abbrev items_of_params : Option Params → Told
+  abbrev items_of_params : Option Params → Reported
   items_of_params o = changed params_items o
 
   abbrev marked_items : Slot → List Item
   marked_items s = item.Sentinel ∷ slot_items s
 
-  plain_first : (allowed : Bool) (n : ℕ) (o : Option (Slot × List ℕ)) → and_tell (told_params allowed n) (changed slot_items o) ≡ items_of_params (plain_then allowed n o)
+  plain_first : (allowed : Bool) (n : ℕ) (o : Option (Slot × List ℕ)) → and_report (reported_params allowed n) (changed slot_items o) ≡ items_of_params (plain_then allowed n o)
   plain_first allowed n None = refl
-  plain_first allowed n (Some x) = of_rest (params_at nested allowed n x.1)
+  plain_first allowed n (Some x) = of_tail (params_at nested allowed n x.1)
     where
-      of_rest : (o : Option Params) → before_told (slot_items x.0) (items_of_params o) ≡ items_of_params (more_params x.0 after_one o)
-      of_rest None = refl
-      of_rest (Some y) = ap (λ (t : List Item). Some (t, y.1)) (sym (later x.0 y.0.0 y.0.1))
+      of_tail : (o : Option Params) → before_reported (slot_items x.0) (items_of_params o) ≡ items_of_params (more_params x.0 after_one o)
+      of_tail None = refl
+      of_tail (Some y) = ap (λ (t : List Item). Some (t, y.1)) (sym (later x.0 y.0.0 y.0.1))
 
-  marked_first : (n : ℕ) (o : Option (Slot × List ℕ)) → and_tell (told_params false n) (changed marked_items o) ≡ items_of_params (marked_then n o)
+  marked_first : (n : ℕ) (o : Option (Slot × List ℕ)) → and_report (reported_params false n) (changed marked_items o) ≡ items_of_params (marked_then n o)
   marked_first n None = refl
-  marked_first n (Some x) = of_rest (params_at nested false n x.1) (no_mark n x.1)
+  marked_first n (Some x) = of_tail (params_at nested false n x.1) (no_mark n x.1)
     where
-      of_rest : (o : Option Params) → IfSome o IsUnmarked → before_told (marked_items x.0) (items_of_params o) ≡ items_of_params (more_params x.0 at_one o)
-      of_rest None h = refl
-      of_rest (Some y) h = ap (λ (s : Option ℕ). Some ((item.Sentinel ∷ slot_items x.0) ++ slots_items (slots_from y.0.0) s, y.1)) h
+      of_tail : (o : Option Params) → IfSome o IsUnmarked → before_reported (marked_items x.0) (items_of_params o) ≡ items_of_params (more_params x.0 at_one o)
+      of_tail None h = refl
+      of_tail (Some y) h = ap (λ (s : Option ℕ). Some ((item.Sentinel ∷ slot_items x.0) ++ slots_items (slots_from y.0.0) s, y.1)) h
 
-pub params_first : (n d : ℕ) (allowed : Bool) (b : List ℕ) → (allowed && head_is 0x41 b) ≡ false → joined (place_at (place.Slot d)) (params_told n allowed d) b ≡ frame_at (frame.Params n allowed d) b
-unfolding place_at frame_at params_told params_at joined
+pub params_first : (n d : ℕ) (allowed : Bool) (b : List ℕ) → (allowed && head_is 0x41 b) ≡ false → joined (position_at (position.Slot d)) (params_reported n allowed d) b ≡ frame_at (frame.Params n allowed d) b
+unfolding position_at frame_at params_reported params_at joined
 params_first n d allowed b h = rw h (plain_first (core_at d) allowed n (slot_at (core_at d) b))
 
 no_head : (p : Bool) → (p && false) ≡ true → ⊥
@@ -233,8 +233,8 @@ both_hold : (p q : Bool) → (p && q) ≡ true → q ≡ true
 both_hold true q e = e
 both_hold false q e = absurd cc
 
-pub params_marked : (n d : ℕ) (allowed : Bool) (b : List ℕ) → (allowed && head_is 0x41 b) ≡ true → joined (place_at (place.Marked d)) (params_told n false d) b ≡ frame_at (frame.Params n allowed d) b
-unfolding place_at frame_at params_told params_at joined
+pub params_marked : (n d : ℕ) (allowed : Bool) (b : List ℕ) → (allowed && head_is 0x41 b) ≡ true → joined (position_at (position.Marked d)) (params_reported n false d) b ≡ frame_at (frame.Params n allowed d) b
+unfolding position_at frame_at params_reported params_at joined
 params_marked n d allowed [] h = absurd (no_head allowed h)
 params_marked n d allowed (c ∷ b) h = let code = both_hold allowed (head_is 0x41 (c ∷ b)) h in rw (h, code) (marked_first (core_at d) n (slot_at (core_at d) b))
 
@@ -247,16 +247,16 @@ unfolding params_at many_at
 plain_many nested zero b = refl
 plain_many nested (suc n) b = of_first (slot_at nested b) (λ c. plain_many nested n c)
   where
-    of_rest : (x : Slot) (o : Option (List Slot × List ℕ)) → more_params x after_one (unmarked o) ≡ unmarked (fronted x o)
-    of_rest x None = refl
-    of_rest x (Some y) = refl
+    of_tail : (x : Slot) (o : Option (List Slot × List ℕ)) → more_params x after_one (unmarked o) ≡ unmarked (prefixed x o)
+    of_tail x None = refl
+    of_tail x (Some y) = refl
 
-    of_first : (o : Option (Slot × List ℕ)) → ((c : List ℕ) → params_at nested false n c ≡ unmarked (many_at (slot_at nested) n c)) → plain_then nested false n o ≡ unmarked (option_and_then (λ (x : Slot × List ℕ). fronted x.0 (many_at (slot_at nested) n x.1)) o)
+    of_first : (o : Option (Slot × List ℕ)) → ((c : List ℕ) → params_at nested false n c ≡ unmarked (many_at (slot_at nested) n c)) → plain_then nested false n o ≡ unmarked (option_and_then (λ (x : Slot × List ℕ). prefixed x.0 (many_at (slot_at nested) n x.1)) o)
     of_first None more = refl
-    of_first (Some x) more = ap (more_params x.0 after_one) (more x.1) ∙ of_rest x.0 (many_at (slot_at nested) n x.1)
+    of_first (Some x) more = ap (more_params x.0 after_one) (more x.1) ∙ of_tail x.0 (many_at (slot_at nested) n x.1)
 
-pub params_plain : (n d : ℕ) (b : List ℕ) → params_told n false d b ≡ change (flat_map slot_items) (many_at (slot_at (core_at d)) n) b
-unfolding params_told
+pub params_plain : (n d : ℕ) (b : List ℕ) → params_reported n false d b ≡ change (flat_map slot_items) (many_at (slot_at (core_at d)) n) b
+unfolding params_reported
 params_plain n d b = ap (λ (o : Option Params). changed params_items o) (plain_many (core_at d) n b) ∙ of_list (many_at (slot_at (core_at d)) n b)
   where
     of_list : (o : Option (List Slot × List ℕ)) → changed params_items (unmarked o) ≡ changed (flat_map slot_items) o
@@ -265,18 +265,18 @@ params_plain n d b = ap (λ (o : Option Params). changed params_items o) (plain_
 
 -- ---- the first of several values, if the items of the others are known
 
-pub types_opened : (f : Option Frame) (n d : ℕ) (b : List ℕ) → ((c : List ℕ) → next_at f None c ≡ types_told n d c) → next_at f (Some (place.Typed d)) b ≡ frame_at (frame.Types n d) b
-types_opened f n d b same = next_joined f (place.Typed d) (types_told n d) b same ∙ types_first n d b
+pub types_opened : (f : Option Frame) (n d : ℕ) (b : List ℕ) → ((c : List ℕ) → next_at f None c ≡ types_reported n d c) → next_at f (Some (position.Typed d)) b ≡ frame_at (frame.Types n d) b
+types_opened f n d b same = next_joined f (position.Typed d) (types_reported n d) b same ∙ types_first n d b
 
-pub locals_opened : (f : Option Frame) (n d : ℕ) (b : List ℕ) → ((c : List ℕ) → next_at f None c ≡ locals_told n d c) → next_at f (Some (place.Local d)) b ≡ frame_at (frame.Locals n d) b
-locals_opened f n d b same = next_joined f (place.Local d) (locals_told n d) b same ∙ locals_first n d b
+pub locals_opened : (f : Option Frame) (n d : ℕ) (b : List ℕ) → ((c : List ℕ) → next_at f None c ≡ locals_reported n d c) → next_at f (Some (position.Local d)) b ≡ frame_at (frame.Locals n d) b
+locals_opened f n d b same = next_joined f (position.Local d) (locals_reported n d) b same ∙ locals_first n d b
 
-pub params_opened : (f : Option Frame) (n d : ℕ) (allowed : Bool) (b : List ℕ) → (allowed && head_is 0x41 b) ≡ false → ((c : List ℕ) → next_at f None c ≡ params_told n allowed d c) → next_at f (Some (place.Slot d)) b ≡ frame_at (frame.Params n allowed d) b
-params_opened f n d allowed b h same = next_joined f (place.Slot d) (params_told n allowed d) b same ∙ params_first n d allowed b h
+pub params_opened : (f : Option Frame) (n d : ℕ) (allowed : Bool) (b : List ℕ) → (allowed && head_is 0x41 b) ≡ false → ((c : List ℕ) → next_at f None c ≡ params_reported n allowed d c) → next_at f (Some (position.Slot d)) b ≡ frame_at (frame.Params n allowed d) b
+params_opened f n d allowed b h same = next_joined f (position.Slot d) (params_reported n allowed d) b same ∙ params_first n d allowed b h
 
-pub marked_opened : (f : Option Frame) (n d : ℕ) (allowed : Bool) (b : List ℕ) → (allowed && head_is 0x41 b) ≡ true → ((c : List ℕ) → next_at f None c ≡ params_told n false d c) → next_at f (Some (place.Marked d)) b ≡ frame_at (frame.Params n allowed d) b
-marked_opened f n d allowed b h same = next_joined f (place.Marked d) (params_told n false d) b same ∙ params_marked n d allowed b h
+pub marked_opened : (f : Option Frame) (n d : ℕ) (allowed : Bool) (b : List ℕ) → (allowed && head_is 0x41 b) ≡ true → ((c : List ℕ) → next_at f None c ≡ params_reported n false d c) → next_at f (Some (position.Marked d)) b ≡ frame_at (frame.Params n allowed d) b
+marked_opened f n d allowed b h same = next_joined f (position.Marked d) (params_reported n false d) b same ∙ params_marked n d allowed b h
 
-pub shape_opened : (b : List ℕ) → place_at place.Shape b ≡ frame_at frame.Shape b
-unfolding place_at frame_at
+pub shape_opened : (b : List ℕ) → position_at position.Shape b ≡ frame_at frame.Shape b
+unfolding position_at frame_at
 shape_opened b = refl

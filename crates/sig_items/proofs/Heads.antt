@@ -11,9 +11,9 @@ use Rattle.sig_grammar.specs.Reading.{Reader, change, both, void_or, leading_wit
 use Rattle.sig_grammar.specs.Columns.{local_at, headed_at, property_from, body_at}
 use Rattle.sig_items.specs.declared.item.Item.{Item}
 use Rattle.sig_items.specs.declared.item.Item.TheVariants as item
-use Rattle.sig_items.specs.declared.place.Place.TheVariants as place
+use Rattle.sig_items.specs.declared.position.Position.TheVariants as position
 use Rattle.sig_items.specs.ItemsOf.{method_head, typed_items, slot_items, ret_items, local_items, method_items, shape_items, items_of}
-use Rattle.sig_items.specs.Places.{before_told, and_tell, joined, item_then, place_at, method_told, field_told, property_told, variables_told, arguments_told, types_told, params_items, params_told, locals_told, bounds_items, low_items, sizes_at, bounds_at}
+use Rattle.sig_items.specs.Positions.{before_reported, and_report, joined, item_then, position_at, method_reported, field_reported, property_reported, variables_reported, arguments_reported, types_reported, params_items, params_reported, locals_reported, bounds_items, low_items, sizes_at, bounds_at}
 use Rattle.sig_items.proofs.Joins.{changed, paired, fused, item_fused}
 use Rattle.sig_items.proofs.Counts.{HasCount, HasParams, many_count, counted_item, params_count, params_plain, joined_same}
 
@@ -26,54 +26,54 @@ module _ (c n d : ℕ) (allowed : Bool) (g : Option ℕ) where
   abbrev head : ℕ → Item
   head k = method_head (c % 16) (eqb (c / 32 % 2) 1) (eqb (c / 64 % 2) 1) g k
 
-  of_params : (r : sig.Ret) (o : Option ((List sig.Slot × Option ℕ) × List ℕ)) → IfSome o (HasParams n) → changed method_items (changed (made r) o) ≡ item_then (head n) (before_told (ret_items r) (changed params_items o))
+  of_params : (r : sig.Ret) (o : Option ((List sig.Slot × Option ℕ) × List ℕ)) → IfSome o (HasParams n) → changed method_items (changed (made r) o) ≡ item_then (head n) (before_reported (ret_items r) (changed params_items o))
   of_params r None h = refl
   of_params r (Some p) h = ap (λ (k : ℕ). Some (head k ∷ (ret_items r ++ params_items p.0), p.1)) h
 
-  of_ret : (o : Option (sig.Ret × List ℕ)) → changed method_items (option_and_then (λ (r : sig.Ret × List ℕ). changed (made r.0) (params_at (core_at d) allowed n r.1)) o) ≡ item_then (head n) (and_tell (change params_items (params_at (core_at d) allowed n)) (changed ret_items o))
+  of_ret : (o : Option (sig.Ret × List ℕ)) → changed method_items (option_and_then (λ (r : sig.Ret × List ℕ). changed (made r.0) (params_at (core_at d) allowed n r.1)) o) ≡ item_then (head n) (and_report (change params_items (params_at (core_at d) allowed n)) (changed ret_items o))
   of_ret None = refl
   of_ret (Some r) = of_params r.0 (params_at (core_at d) allowed n r.1) (params_count (core_at d) allowed n r.1)
 
-pub method_end : (own : Bool) (d : ℕ) (b : List ℕ) → b ≡ [] → method_told own d b ≡ None
-unfolding method_told method_at
+pub method_end : (own : Bool) (d : ℕ) (b : List ℕ) → b ≡ [] → method_reported own d b ≡ None
+unfolding method_reported method_at
 method_end own d b h = rw h refl
 
-pub method_bad : (own : Bool) (d c : ℕ) (b rest : List ℕ) → b ≡ c ∷ rest → is_method_code c ≡ false → method_told own d b ≡ None
-unfolding method_told method_at
-method_bad own d c b rest h k = rw (h, k) refl
+pub method_bad : (own : Bool) (d c : ℕ) (b tail : List ℕ) → b ≡ c ∷ tail → is_method_code c ≡ false → method_reported own d b ≡ None
+unfolding method_reported method_at
+method_bad own d c b tail h k = rw (h, k) refl
 
-pub method_no_generic : (own : Bool) (d c : ℕ) (b rest : List ℕ) → b ≡ c ∷ rest → is_method_code c ≡ true → generic_at (eqb (c / 16 % 2) 1) rest ≡ None → method_told own d b ≡ None
-unfolding method_told method_at method_from
-method_no_generic own d c b rest h k e = rw (h, k, e) refl
+pub method_no_generic : (own : Bool) (d c : ℕ) (b tail : List ℕ) → b ≡ c ∷ tail → is_method_code c ≡ true → generic_at (eqb (c / 16 % 2) 1) tail ≡ None → method_reported own d b ≡ None
+unfolding method_reported method_at method_from
+method_no_generic own d c b tail h k e = rw (h, k, e) refl
 
-pub method_no_count : (own : Bool) (d c : ℕ) (b b1 b2 : List ℕ) (g : Option ℕ) → b ≡ c ∷ b1 → is_method_code c ≡ true → generic_at (eqb (c / 16 % 2) 1) b1 ≡ Some (g, b2) → number_at b2 ≡ None → method_told own d b ≡ None
-unfolding method_told method_at method_from
+pub method_no_count : (own : Bool) (d c : ℕ) (b b1 b2 : List ℕ) (g : Option ℕ) → b ≡ c ∷ b1 → is_method_code c ≡ true → generic_at (eqb (c / 16 % 2) 1) b1 ≡ Some (g, b2) → number_at b2 ≡ None → method_reported own d b ≡ None
+unfolding method_reported method_at method_from
 method_no_count own d c b b1 b2 g h k e f = rw (h, k, e, f) refl
 
-pub method_is : (own allowed : Bool) (d c n : ℕ) (b b1 b2 b3 : List ℕ) (g : Option ℕ) → b ≡ c ∷ b1 → is_method_code c ≡ true → generic_at (eqb (c / 16 % 2) 1) b1 ≡ Some (g, b2) → number_at b2 ≡ Some (n, b3) → allowed ≡ (own && takes_sentinel (c % 16)) → method_told own d b ≡ item_then (method_head (c % 16) (eqb (c / 32 % 2) 1) (eqb (c / 64 % 2) 1) g n) (joined (place_at (place.Ret d)) (params_told n allowed d) b3)
-unfolding method_told method_at method_from place_at params_told joined
+pub method_is : (own allowed : Bool) (d c n : ℕ) (b b1 b2 b3 : List ℕ) (g : Option ℕ) → b ≡ c ∷ b1 → is_method_code c ≡ true → generic_at (eqb (c / 16 % 2) 1) b1 ≡ Some (g, b2) → number_at b2 ≡ Some (n, b3) → allowed ≡ (own && takes_sentinel (c % 16)) → method_reported own d b ≡ item_then (method_head (c % 16) (eqb (c / 32 % 2) 1) (eqb (c / 64 % 2) 1) g n) (joined (position_at (position.Ret d)) (params_reported n allowed d) b3)
+unfolding method_reported method_at method_from position_at params_reported joined
 method_is own allowed d c n b b1 b2 b3 g h k e f may = rw (h, k, e, f, ← may) (of_ret c n d allowed g (ret_at (core_at d) b3))
 
-pub place_method : (d : ℕ) (b : List ℕ) → place_at (place.Method d) b ≡ method_told true d b
-unfolding place_at
-place_method d b = refl
+pub position_method : (d : ℕ) (b : List ℕ) → position_at (position.Method d) b ≡ method_reported true d b
+unfolding position_at
+position_method d b = refl
 
 -- ---- a field, a property, local variables, type arguments
 
-pub field_is : (b : List ℕ) → item_then item.Field (place_at (place.Slot 128) b) ≡ field_told b
-unfolding place_at field_told
+pub field_is : (b : List ℕ) → item_then item.Field (position_at (position.Slot 128) b) ≡ field_reported b
+unfolding position_at field_reported
 field_is b = item_fused item.Field slot_items sig.field items_of (λ x. refl) (slot_at (core_at 128) b)
 
-pub property_none : (this : Bool) (b : List ℕ) → number_at b ≡ None → property_told this b ≡ None
-unfolding property_told headed_at
+pub property_none : (this : Bool) (b : List ℕ) → number_at b ≡ None → property_reported this b ≡ None
+unfolding property_reported headed_at
 property_none this b e = rw e refl
 
 module _ (this : Bool) (n : ℕ) where
-  of_list : (s : sig.Slot) (o : Option (List sig.Slot × List ℕ)) → IfSome o (HasCount n) → changed items_of (changed (property_from this) (paired s o)) ≡ item_then (item.Property this n) (before_told (slot_items s) (changed (flat_map slot_items) o))
+  of_list : (s : sig.Slot) (o : Option (List sig.Slot × List ℕ)) → IfSome o (HasCount n) → changed items_of (changed (property_from this) (paired s o)) ≡ item_then (item.Property this n) (before_reported (slot_items s) (changed (flat_map slot_items) o))
   of_list s None h = refl
   of_list s (Some x) h = ap (λ (k : ℕ). Some (item.Property this k ∷ (slot_items s ++ flat_map slot_items x.0), x.1)) h
 
-  of_slot : (o : Option (sig.Slot × List ℕ)) → changed items_of (changed (property_from this) (option_and_then (λ (x : sig.Slot × List ℕ). paired x.0 (many_at (slot_at (core_at 128)) n x.1)) o)) ≡ item_then (item.Property this n) (and_tell (change (flat_map slot_items) (many_at (slot_at (core_at 128)) n)) (changed slot_items o))
+  of_slot : (o : Option (sig.Slot × List ℕ)) → changed items_of (changed (property_from this) (option_and_then (λ (x : sig.Slot × List ℕ). paired x.0 (many_at (slot_at (core_at 128)) n x.1)) o)) ≡ item_then (item.Property this n) (and_report (change (flat_map slot_items) (many_at (slot_at (core_at 128)) n)) (changed slot_items o))
   of_slot None = refl
   of_slot (Some x) = of_list x.0 (many_at (slot_at (core_at 128)) n x.1) (many_count (slot_at (core_at 128)) n x.1)
 
@@ -81,36 +81,36 @@ module _ (this : Bool) (n : ℕ) where
   unfolding both joined
   property_plain b = of_slot (slot_at (core_at 128) b)
 
-pub property_is : (this : Bool) (n : ℕ) (b rest : List ℕ) → number_at b ≡ Some (n, rest) → property_told this b ≡ item_then (item.Property this n) (joined (place_at (place.Slot 128)) (params_told n false 128) rest)
-unfolding property_told headed_at place_at
-property_is this n b rest e =
-    rw e (property_plain this n rest ∙ ap (item_then (item.Property this n)) (joined_same (change slot_items (slot_at (core_at 128))) (change (flat_map slot_items) (many_at (slot_at (core_at 128)) n)) (params_told n false 128) rest (λ c. sym (params_plain n 128 c))))
+pub property_is : (this : Bool) (n : ℕ) (b tail : List ℕ) → number_at b ≡ Some (n, tail) → property_reported this b ≡ item_then (item.Property this n) (joined (position_at (position.Slot 128)) (params_reported n false 128) tail)
+unfolding property_reported headed_at position_at
+property_is this n b tail e =
+    rw e (property_plain this n tail ∙ ap (item_then (item.Property this n)) (joined_same (change slot_items (slot_at (core_at 128))) (change (flat_map slot_items) (many_at (slot_at (core_at 128)) n)) (params_reported n false 128) tail (λ c. sym (params_plain n 128 c))))
 
-pub locals_none : (b : List ℕ) → number_at b ≡ None → variables_told b ≡ None
-unfolding variables_told counted_at
+pub locals_none : (b : List ℕ) → number_at b ≡ None → variables_reported b ≡ None
+unfolding variables_reported counted_at
 locals_none b e = rw e refl
 
-pub locals_is : (n : ℕ) (b rest : List ℕ) → number_at b ≡ Some (n, rest) → variables_told b ≡ item_then (item.Locals n) (locals_told n 128 rest)
-unfolding variables_told counted_at locals_told
-locals_is n b rest e =
-    rw e (fused sig.locals items_of (λ xs. items_of (sig.locals xs)) (λ xs. refl) (many_at (local_at (core_at 128)) n rest)
-    ∙ sym (counted_item (λ k. item.Locals k) (flat_map local_items) (λ xs. items_of (sig.locals xs)) (local_at (core_at 128)) (λ xs. refl) n rest))
+pub locals_is : (n : ℕ) (b tail : List ℕ) → number_at b ≡ Some (n, tail) → variables_reported b ≡ item_then (item.Locals n) (locals_reported n 128 tail)
+unfolding variables_reported counted_at locals_reported
+locals_is n b tail e =
+    rw e (fused sig.locals items_of (λ xs. items_of (sig.locals xs)) (λ xs. refl) (many_at (local_at (core_at 128)) n tail)
+    ∙ sym (counted_item (λ k. item.Locals k) (flat_map local_items) (λ xs. items_of (sig.locals xs)) (local_at (core_at 128)) (λ xs. refl) n tail))
 
-pub arguments_none : (b : List ℕ) → number_at b ≡ None → arguments_told b ≡ None
-unfolding arguments_told counted_at
+pub arguments_none : (b : List ℕ) → number_at b ≡ None → arguments_reported b ≡ None
+unfolding arguments_reported counted_at
 arguments_none b e = rw e refl
 
-pub arguments_is : (n : ℕ) (b rest : List ℕ) → number_at b ≡ Some (n, rest) → arguments_told b ≡ item_then (item.Arguments n) (types_told n 128 rest)
-unfolding arguments_told counted_at types_told
-arguments_is n b rest e =
-    rw e (fused sig.instance_body items_of (λ xs. items_of (sig.instance_body xs)) (λ xs. refl) (many_at (typed_at (core_at 128)) n rest)
-    ∙ sym (counted_item (λ k. item.Arguments k) (flat_map typed_items) (λ xs. items_of (sig.instance_body xs)) (typed_at (core_at 128)) (λ xs. refl) n rest))
+pub arguments_is : (n : ℕ) (b tail : List ℕ) → number_at b ≡ Some (n, tail) → arguments_reported b ≡ item_then (item.Arguments n) (types_reported n 128 tail)
+unfolding arguments_reported counted_at types_reported
+arguments_is n b tail e =
+    rw e (fused sig.instance_body items_of (λ xs. items_of (sig.instance_body xs)) (λ xs. refl) (many_at (typed_at (core_at 128)) n tail)
+    ∙ sym (counted_item (λ k. item.Arguments k) (flat_map typed_items) (λ xs. items_of (sig.instance_body xs)) (typed_at (core_at 128)) (λ xs. refl) n tail))
 
 -- ---- whole signatures, by the kind of the column and the first byte
 
 -- no signature is empty
-pub body_end : (kind : SigKind) (b : List ℕ) → b ≡ [] → place_at (place.Body kind) b ≡ None
-unfolding place_at body_at method_at ret_at both void_or modifiers_at leading_at leading_within
+pub body_end : (kind : SigKind) (b : List ℕ) → b ≡ [] → position_at (position.Body kind) b ≡ None
+unfolding position_at body_at method_at ret_at both void_or modifiers_at leading_at leading_within
 body_end column.Field b h = rw h refl
 body_end column.MethodDef b h = rw h refl
 body_end column.MemberRef b h = rw h refl
@@ -119,61 +119,61 @@ body_end column.Property b h = rw h refl
 body_end column.TypeSpec b h = rw h refl
 body_end column.Instance b h = rw h refl
 
-pub body_method_def : (b : List ℕ) → place_at (place.Body column.MethodDef) b ≡ method_told false 128 b
-unfolding place_at body_at method_told
+pub body_method_def : (b : List ℕ) → position_at (position.Body column.MethodDef) b ≡ method_reported false 128 b
+unfolding position_at body_at method_reported
 body_method_def b = fused sig.method_body items_of method_items (λ x. refl) (method_at false (core_at 128) b)
 
-pub body_type_spec : (b : List ℕ) → place_at (place.Body column.TypeSpec) b ≡ place_at (place.Ret 128) b
-unfolding place_at body_at
+pub body_type_spec : (b : List ℕ) → position_at (position.Body column.TypeSpec) b ≡ position_at (position.Ret 128) b
+unfolding position_at body_at
 body_type_spec b = fused sig.type_spec items_of ret_items (λ x. refl) (ret_at (core_at 128) b)
 
-pub field_first : (c : ℕ) (b rest : List ℕ) → b ≡ c ∷ rest → c ≡ 0x06 → place_at (place.Body column.Field) b ≡ field_told rest
-unfolding place_at body_at field_told
-field_first c b rest h code = rw (h, code) refl
+pub field_first : (c : ℕ) (b tail : List ℕ) → b ≡ c ∷ tail → c ≡ 0x06 → position_at (position.Body column.Field) b ≡ field_reported tail
+unfolding position_at body_at field_reported
+field_first c b tail h code = rw (h, code) refl
 
-pub field_bad : (c : ℕ) (b rest : List ℕ) → b ≡ c ∷ rest → c ≢ 0x06 → place_at (place.Body column.Field) b ≡ None
-unfolding place_at body_at
-field_bad c b rest h p = rw (h, ne_eqb c 0x06 p) refl
+pub field_bad : (c : ℕ) (b tail : List ℕ) → b ≡ c ∷ tail → c ≢ 0x06 → position_at (position.Body column.Field) b ≡ None
+unfolding position_at body_at
+field_bad c b tail h p = rw (h, ne_eqb c 0x06 p) refl
 
-pub member_field : (c : ℕ) (b rest : List ℕ) → b ≡ c ∷ rest → c ≡ 0x06 → place_at (place.Body column.MemberRef) b ≡ field_told rest
-unfolding place_at body_at field_told
-member_field c b rest h code = rw (h, code) refl
+pub member_field : (c : ℕ) (b tail : List ℕ) → b ≡ c ∷ tail → c ≡ 0x06 → position_at (position.Body column.MemberRef) b ≡ field_reported tail
+unfolding position_at body_at field_reported
+member_field c b tail h code = rw (h, code) refl
 
-pub member_method : (c : ℕ) (b rest : List ℕ) → b ≡ c ∷ rest → c ≢ 0x06 → place_at (place.Body column.MemberRef) b ≡ method_told true 128 b
-unfolding place_at body_at method_told
-member_method c b rest h p = rw (h, ne_eqb c 0x06 p) (fused sig.method_body items_of method_items (λ x. refl) (method_at true (core_at 128) (c ∷ rest)))
+pub member_method : (c : ℕ) (b tail : List ℕ) → b ≡ c ∷ tail → c ≢ 0x06 → position_at (position.Body column.MemberRef) b ≡ method_reported true 128 b
+unfolding position_at body_at method_reported
+member_method c b tail h p = rw (h, ne_eqb c 0x06 p) (fused sig.method_body items_of method_items (λ x. refl) (method_at true (core_at 128) (c ∷ tail)))
 
-pub alone_field : (c : ℕ) (b rest : List ℕ) → b ≡ c ∷ rest → c ≡ 0x06 → place_at (place.Body column.StandAlone) b ≡ field_told rest
-unfolding place_at body_at field_told
-alone_field c b rest h code = rw (h, code) refl
+pub alone_field : (c : ℕ) (b tail : List ℕ) → b ≡ c ∷ tail → c ≡ 0x06 → position_at (position.Body column.StandAlone) b ≡ field_reported tail
+unfolding position_at body_at field_reported
+alone_field c b tail h code = rw (h, code) refl
 
-pub alone_locals : (c : ℕ) (b rest : List ℕ) → b ≡ c ∷ rest → c ≡ 0x07 → place_at (place.Body column.StandAlone) b ≡ variables_told rest
-unfolding place_at body_at variables_told
-alone_locals c b rest h code = rw (h, code) refl
+pub alone_locals : (c : ℕ) (b tail : List ℕ) → b ≡ c ∷ tail → c ≡ 0x07 → position_at (position.Body column.StandAlone) b ≡ variables_reported tail
+unfolding position_at body_at variables_reported
+alone_locals c b tail h code = rw (h, code) refl
 
-pub alone_method : (c : ℕ) (b rest : List ℕ) → b ≡ c ∷ rest → c ≢ 0x06 → c ≢ 0x07 → place_at (place.Body column.StandAlone) b ≡ method_told true 128 b
-unfolding place_at body_at method_told
-alone_method c b rest h p q = rw (h, ne_eqb c 0x06 p, ne_eqb c 0x07 q) (fused sig.method_body items_of method_items (λ x. refl) (method_at true (core_at 128) (c ∷ rest)))
+pub alone_method : (c : ℕ) (b tail : List ℕ) → b ≡ c ∷ tail → c ≢ 0x06 → c ≢ 0x07 → position_at (position.Body column.StandAlone) b ≡ method_reported true 128 b
+unfolding position_at body_at method_reported
+alone_method c b tail h p q = rw (h, ne_eqb c 0x06 p, ne_eqb c 0x07 q) (fused sig.method_body items_of method_items (λ x. refl) (method_at true (core_at 128) (c ∷ tail)))
 
-pub property_this : (c : ℕ) (b rest : List ℕ) → b ≡ c ∷ rest → c ≡ 0x28 → place_at (place.Body column.Property) b ≡ property_told true rest
-unfolding place_at body_at property_told
-property_this c b rest h code = rw (h, code) refl
+pub property_this : (c : ℕ) (b tail : List ℕ) → b ≡ c ∷ tail → c ≡ 0x28 → position_at (position.Body column.Property) b ≡ property_reported true tail
+unfolding position_at body_at property_reported
+property_this c b tail h code = rw (h, code) refl
 
-pub property_static : (c : ℕ) (b rest : List ℕ) → b ≡ c ∷ rest → c ≡ 0x08 → place_at (place.Body column.Property) b ≡ property_told false rest
-unfolding place_at body_at property_told
-property_static c b rest h code = rw (h, code) refl
+pub property_static : (c : ℕ) (b tail : List ℕ) → b ≡ c ∷ tail → c ≡ 0x08 → position_at (position.Body column.Property) b ≡ property_reported false tail
+unfolding position_at body_at property_reported
+property_static c b tail h code = rw (h, code) refl
 
-pub property_bad : (c : ℕ) (b rest : List ℕ) → b ≡ c ∷ rest → c ≢ 0x08 → c ≢ 0x28 → place_at (place.Body column.Property) b ≡ None
-unfolding place_at body_at
-property_bad c b rest h p q = rw (h, ne_eqb c 0x28 q, ne_eqb c 0x08 p) refl
+pub property_bad : (c : ℕ) (b tail : List ℕ) → b ≡ c ∷ tail → c ≢ 0x08 → c ≢ 0x28 → position_at (position.Body column.Property) b ≡ None
+unfolding position_at body_at
+property_bad c b tail h p q = rw (h, ne_eqb c 0x28 q, ne_eqb c 0x08 p) refl
 
-pub arguments_first : (c : ℕ) (b rest : List ℕ) → b ≡ c ∷ rest → c ≡ 0x0A → place_at (place.Body column.Instance) b ≡ arguments_told rest
-unfolding place_at body_at arguments_told
-arguments_first c b rest h code = rw (h, code) refl
+pub arguments_first : (c : ℕ) (b tail : List ℕ) → b ≡ c ∷ tail → c ≡ 0x0A → position_at (position.Body column.Instance) b ≡ arguments_reported tail
+unfolding position_at body_at arguments_reported
+arguments_first c b tail h code = rw (h, code) refl
 
-pub arguments_bad : (c : ℕ) (b rest : List ℕ) → b ≡ c ∷ rest → c ≢ 0x0A → place_at (place.Body column.Instance) b ≡ None
-unfolding place_at body_at
-arguments_bad c b rest h p = rw (h, ne_eqb c 0x0A p) refl
+pub arguments_bad : (c : ℕ) (b tail : List ℕ) → b ≡ c ∷ tail → c ≢ 0x0A → position_at (position.Body column.Instance) b ≡ None
+unfolding position_at body_at
+arguments_bad c b tail h p = rw (h, ne_eqb c 0x0A p) refl
 
 -- ---- the shape of an array
 
@@ -196,60 +196,60 @@ within_test n m h = grind (arith, nat_tests)
 beyond_test : (n m : ℕ) → m < n → ltb m n ≡ true
 beyond_test n m h = grind (arith, nat_tests)
 
-pub shape_no_rank : (b : List ℕ) → number_at b ≡ None → place_at place.Shape b ≡ None
-unfolding place_at shape_at
+pub shape_no_rank : (b : List ℕ) → number_at b ≡ None → position_at position.Shape b ≡ None
+unfolding position_at shape_at
 shape_no_rank b e = rw e refl
 
-pub shape_zero : (n : ℕ) (b rest : List ℕ) → number_at b ≡ Some (n, rest) → n ≡ 0 → place_at place.Shape b ≡ None
-unfolding place_at shape_at
-shape_zero n b rest e z = rw (e, z) refl
+pub shape_zero : (n : ℕ) (b tail : List ℕ) → number_at b ≡ Some (n, tail) → n ≡ 0 → position_at position.Shape b ≡ None
+unfolding position_at shape_at
+shape_zero n b tail e z = rw (e, z) refl
 
-pub shape_no_count : (n : ℕ) (b rest : List ℕ) → number_at b ≡ Some (n, rest) → n ≢ 0 → number_at rest ≡ None → place_at place.Shape b ≡ None
-unfolding place_at shape_at both counted_within
-shape_no_count n b rest e z f = rw (e, ne_eqb n 0 z, f) refl
+pub shape_no_count : (n : ℕ) (b tail : List ℕ) → number_at b ≡ Some (n, tail) → n ≢ 0 → number_at tail ≡ None → position_at position.Shape b ≡ None
+unfolding position_at shape_at both counted_within
+shape_no_count n b tail e z f = rw (e, ne_eqb n 0 z, f) refl
 
-pub shape_beyond : (n m : ℕ) (b b1 b2 : List ℕ) → number_at b ≡ Some (n, b1) → n ≢ 0 → number_at b1 ≡ Some (m, b2) → n < m → place_at place.Shape b ≡ None
-unfolding place_at shape_at both counted_within
+pub shape_beyond : (n m : ℕ) (b b1 b2 : List ℕ) → number_at b ≡ Some (n, b1) → n ≢ 0 → number_at b1 ≡ Some (m, b2) → n < m → position_at position.Shape b ≡ None
+unfolding position_at shape_at both counted_within
 shape_beyond n m b b1 b2 e z f lt = rw (e, ne_eqb n 0 z, f, beyond_test m n lt) refl
 
 -- sizes after their count, and what follows
-counted_is : (n m : ℕ) (b rest : List ℕ) → number_at b ≡ Some (m, rest) → m ≤ n → counted_within number_at n b ≡ many_at number_at m rest
+counted_is : (n m : ℕ) (b tail : List ℕ) → number_at b ≡ Some (m, tail) → m ≤ n → counted_within number_at n b ≡ many_at number_at m tail
 unfolding counted_within
-counted_is n m b rest e le = rw (e, within_test m n le) refl
+counted_is n m b tail e le = rw (e, within_test m n le) refl
 
-sizes_moved : (n m : ℕ) (b rest : List ℕ) → number_at b ≡ Some (m, rest) → m ≤ n → both (counted_within number_at n) (counted_within signed_at n) b ≡ both (many_at number_at m) (counted_within signed_at n) rest
+sizes_moved : (n m : ℕ) (b tail : List ℕ) → number_at b ≡ Some (m, tail) → m ≤ n → both (counted_within number_at n) (counted_within signed_at n) b ≡ both (many_at number_at m) (counted_within signed_at n) tail
 unfolding both
-sizes_moved n m b rest e le = ap (λ (o : Option (List ℕ × List ℕ)). option_and_then (λ x. paired x.0 (counted_within signed_at n x.1)) o) (counted_is n m b rest e le)
+sizes_moved n m b tail e le = ap (λ (o : Option (List ℕ × List ℕ)). option_and_then (λ x. paired x.0 (counted_within signed_at n x.1)) o) (counted_is n m b tail e le)
 
-shape_told : (n m : ℕ) (b : List ℕ) → changed shape_items (changed (shape_with n) (both (many_at number_at m) (counted_within signed_at n) b)) ≡ item_then (item.Shape n m) (sizes_at m n b)
+shape_reported : (n m : ℕ) (b : List ℕ) → changed shape_items (changed (shape_with n) (both (many_at number_at m) (counted_within signed_at n) b)) ≡ item_then (item.Shape n m) (sizes_at m n b)
 unfolding sizes_at
-shape_told n m b =
+shape_reported n m b =
     fused (shape_with n) shape_items (λ x. shape_items (shape_with n x)) (λ x. refl) (both (many_at number_at m) (counted_within signed_at n) b)
     ∙ sym (counted_both (λ k. item.Shape n k) bounds_items (λ x. shape_items (shape_with n x)) number_at (counted_within signed_at n) (λ x. refl) m b)
 
-pub shape_is : (n m : ℕ) (b b1 b2 : List ℕ) → number_at b ≡ Some (n, b1) → n ≢ 0 → number_at b1 ≡ Some (m, b2) → m ≤ n → place_at place.Shape b ≡ item_then (item.Shape n m) (sizes_at m n b2)
-unfolding place_at shape_at
-shape_is n m b b1 b2 e z f le = rw (e, ne_eqb n 0 z, sizes_moved n m b1 b2 f le) (shape_told n m b2)
+pub shape_is : (n m : ℕ) (b b1 b2 : List ℕ) → number_at b ≡ Some (n, b1) → n ≢ 0 → number_at b1 ≡ Some (m, b2) → m ≤ n → position_at position.Shape b ≡ item_then (item.Shape n m) (sizes_at m n b2)
+unfolding position_at shape_at
+shape_is n m b b1 b2 e z f le = rw (e, ne_eqb n 0 z, sizes_moved n m b1 b2 f le) (shape_reported n m b2)
 
-pub sizes_zero : (n rank : ℕ) (b : List ℕ) → n ≡ 0 → place_at (place.LowCount rank) b ≡ sizes_at n rank b
-unfolding place_at sizes_at both many_at
+pub sizes_zero : (n rank : ℕ) (b : List ℕ) → n ≡ 0 → position_at (position.LowCount rank) b ≡ sizes_at n rank b
+unfolding position_at sizes_at both many_at
 sizes_zero n rank b h = rw h (of_low (counted_within signed_at rank b))
   where
     of_low : (o : Option (List ℤ × List ℕ)) → changed low_items o ≡ changed bounds_items (paired [] o)
     of_low None = refl
     of_low (Some x) = refl
 
-pub sizes_more : (n rank : ℕ) (b : List ℕ) → 0 < n → place_at (place.Sizes (n - 1) rank) b ≡ sizes_at n rank b
-unfolding place_at
+pub sizes_more : (n rank : ℕ) (b : List ℕ) → 0 < n → position_at (position.Sizes (n - 1) rank) b ≡ sizes_at n rank b
+unfolding position_at
 sizes_more n rank b h = let e : suc (n - 1) ≡ n = omega arith in ap (λ (m : ℕ). sizes_at m rank b) e
 
-pub size_none : (n rank : ℕ) (b : List ℕ) → number_at b ≡ None → place_at (place.Sizes n rank) b ≡ None
-unfolding place_at sizes_at both many_at
+pub size_none : (n rank : ℕ) (b : List ℕ) → number_at b ≡ None → position_at (position.Sizes n rank) b ≡ None
+unfolding position_at sizes_at both many_at
 size_none n rank b e = rw e refl
 
-pub size_is : (n rank x : ℕ) (b rest : List ℕ) → number_at b ≡ Some (x, rest) → place_at (place.Sizes n rank) b ≡ item_then (item.Size x) (sizes_at n rank rest)
-unfolding place_at sizes_at both many_at
-size_is n rank x b rest e = rw e (of_first (many_at number_at n rest))
+pub size_is : (n rank x : ℕ) (b tail : List ℕ) → number_at b ≡ Some (x, tail) → position_at (position.Sizes n rank) b ≡ item_then (item.Size x) (sizes_at n rank tail)
+unfolding position_at sizes_at both many_at
+size_is n rank x b tail e = rw e (of_first (many_at number_at n tail))
   where
     of_second : (xs : List ℕ) (o : Option (List ℤ × List ℕ)) → changed bounds_items (paired (x ∷ xs) o) ≡ item_then (item.Size x) (changed bounds_items (paired xs o))
     of_second xs None = refl
@@ -259,33 +259,33 @@ size_is n rank x b rest e = rw e (of_first (many_at number_at n rest))
     of_first None = refl
     of_first (Some y) = of_second y.0 (counted_within signed_at rank y.1)
 
-pub low_none : (rank : ℕ) (b : List ℕ) → number_at b ≡ None → place_at (place.LowCount rank) b ≡ None
-unfolding place_at counted_within
+pub low_none : (rank : ℕ) (b : List ℕ) → number_at b ≡ None → position_at (position.LowCount rank) b ≡ None
+unfolding position_at counted_within
 low_none rank b e = rw e refl
 
-pub low_beyond : (n rank : ℕ) (b rest : List ℕ) → number_at b ≡ Some (n, rest) → rank < n → place_at (place.LowCount rank) b ≡ None
-unfolding place_at counted_within
-low_beyond n rank b rest e lt = rw (e, beyond_test n rank lt) refl
+pub low_beyond : (n rank : ℕ) (b tail : List ℕ) → number_at b ≡ Some (n, tail) → rank < n → position_at (position.LowCount rank) b ≡ None
+unfolding position_at counted_within
+low_beyond n rank b tail e lt = rw (e, beyond_test n rank lt) refl
 
-pub low_is : (n rank : ℕ) (b rest : List ℕ) → number_at b ≡ Some (n, rest) → n ≤ rank → place_at (place.LowCount rank) b ≡ item_then (item.LowBounds n) (bounds_at n rest)
-unfolding place_at counted_within bounds_at
-low_is n rank b rest e le = rw (e, within_test n rank le) (sym (counted_item (λ k. item.LowBounds k) (map item.LowBound) low_items signed_at (λ xs. refl) n rest))
+pub low_is : (n rank : ℕ) (b tail : List ℕ) → number_at b ≡ Some (n, tail) → n ≤ rank → position_at (position.LowCount rank) b ≡ item_then (item.LowBounds n) (bounds_at n tail)
+unfolding position_at counted_within bounds_at
+low_is n rank b tail e le = rw (e, within_test n rank le) (sym (counted_item (λ k. item.LowBounds k) (map item.LowBound) low_items signed_at (λ xs. refl) n tail))
 
 pub bounds_zero : (n : ℕ) (b : List ℕ) → n ≡ 0 → Some ([], b) ≡ bounds_at n b
 unfolding bounds_at many_at
 bounds_zero n b h = rw h refl
 
-pub bounds_more : (n : ℕ) (b : List ℕ) → 0 < n → place_at (place.LowBounds (n - 1)) b ≡ bounds_at n b
-unfolding place_at
+pub bounds_more : (n : ℕ) (b : List ℕ) → 0 < n → position_at (position.LowBounds (n - 1)) b ≡ bounds_at n b
+unfolding position_at
 bounds_more n b h = let e : suc (n - 1) ≡ n = omega arith in ap (λ (m : ℕ). bounds_at m b) e
 
-pub bound_none : (n : ℕ) (b : List ℕ) → signed_at b ≡ None → place_at (place.LowBounds n) b ≡ None
-unfolding place_at bounds_at many_at
+pub bound_none : (n : ℕ) (b : List ℕ) → signed_at b ≡ None → position_at (position.LowBounds n) b ≡ None
+unfolding position_at bounds_at many_at
 bound_none n b e = rw e refl
 
-pub bound_is : (n : ℕ) (z : ℤ) (b rest : List ℕ) → signed_at b ≡ Some (z, rest) → place_at (place.LowBounds n) b ≡ item_then (item.LowBound z) (bounds_at n rest)
-unfolding place_at bounds_at many_at
-bound_is n z b rest e = rw e (of_list (many_at signed_at n rest))
+pub bound_is : (n : ℕ) (z : ℤ) (b tail : List ℕ) → signed_at b ≡ Some (z, tail) → position_at (position.LowBounds n) b ≡ item_then (item.LowBound z) (bounds_at n tail)
+unfolding position_at bounds_at many_at
+bound_is n z b tail e = rw e (of_list (many_at signed_at n tail))
   where
     of_list : (o : Option (List ℤ × List ℕ)) → changed (map item.LowBound) (option_map (λ (y : List ℤ × List ℕ). (z ∷ y.0, y.1)) o) ≡ item_then (item.LowBound z) (changed (map item.LowBound) o)
     of_list None = refl

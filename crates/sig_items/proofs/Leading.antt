@@ -1,13 +1,13 @@
 -- Modifiers at the start, and modifiers with PINNED, one by one.
 use Rattle.std.proofs.Common.{◌≡◌, ℕ, zero, suc, ◌<◌, ◌≤◌, ◌||◌, Bool, true, false, cond, eqb, ltb, Option, Some, None, List, [], ◌∷◌, ◌++◌, length, drop, map, length-drop, refl, ap, arith, IfSome}
 use Rattle.std.specs.Prelude.{option_map, option_and_then}
-use Rattle.packed.specs.Front as front
+use Rattle.packed.specs.Head as head
 use Rattle.table_schema.specs.declared.token.Token.{Token}
 use Rattle.sig_grammar.specs.declared.types.Modifier.{Modifier}
 use Rattle.sig_grammar.specs.declared.body.Prefix.TheVariants.{Pinned}
 use Rattle.sig_grammar.specs.Reading.{Reader, Optional, change, both, number_at, token_of, index_at, items_then, leading_within, leading_at, modifier_at, modifier_after, prefix_of, prefix_at, starts_modifier, starts_prefix}
 use Rattle.sig_items.specs.declared.item.Item.{Item}
-use Rattle.sig_items.specs.Places.{Teller, item_then}
+use Rattle.sig_items.specs.Positions.{Reporter, item_then}
 
 -- ---- the remainder is shorter
 
@@ -25,18 +25,18 @@ if_map : {A B : Type 0} (P : A → Type 0) (Q : B → Type 0) (f : A → B) (o :
 if_map P Q f None k h = tt
 if_map P Q f (Some x) k h = k x h
 
-two_takes : (a : ℕ) (b : List ℕ) → IfSome (front.two_at a b) (TakesBytes (a ∷ b))
+two_takes : (a : ℕ) (b : List ℕ) → IfSome (head.two_at a b) (TakesBytes (a ∷ b))
 two_takes a [] = tt
-two_takes a (b ∷ rest) = (omega arith, omega arith)
+two_takes a (b ∷ tail) = (omega arith, omega arith)
 
-four_takes : (a : ℕ) (b : List ℕ) → IfSome (front.four_at a b) (TakesBytes (a ∷ b))
+four_takes : (a : ℕ) (b : List ℕ) → IfSome (head.four_at a b) (TakesBytes (a ∷ b))
 four_takes a [] = tt
 four_takes a (b ∷ []) = tt
 four_takes a (b ∷ c ∷ []) = tt
-four_takes a (b ∷ c ∷ d ∷ rest) = (omega arith, omega arith)
+four_takes a (b ∷ c ∷ d ∷ tail) = (omega arith, omega arith)
 
-unsigned_takes : (b : List ℕ) → IfSome (front.unsigned_at b) (TakesBytes b)
-unfolding front.unsigned_at
+unsigned_takes : (b : List ℕ) → IfSome (head.unsigned_at b) (TakesBytes b)
+unfolding head.unsigned_at
 unsigned_takes [] = tt
 unsigned_takes (a ∷ b) =
     if_test (TakesBytes (a ∷ b)) (ltb a 0x80) _ _ (omega arith, omega arith)
@@ -46,7 +46,7 @@ unsigned_takes (a ∷ b) =
 number_takes : (b : List ℕ) → IfSome (number_at b) (Takes b)
 unfolding number_at
 number_takes b =
-    if_map (TakesBytes b) (Takes b) (λ x. (x.0, drop x.1 b)) (front.unsigned_at b)
+    if_map (TakesBytes b) (Takes b) (λ x. (x.0, drop x.1 b)) (head.unsigned_at b)
     (λ x some. let one = some.0 in let two = some.1 in omega (arith, length-drop x.1 b)) (unsigned_takes b)
 
 index_takes : (b : List ℕ) → IfSome (index_at b) (Takes b)
@@ -74,7 +74,7 @@ pub record Stepping {A : Type 0} (r : Optional A) (starts : List ℕ → Bool) :
   empty : starts [] ≡ false
 
 -- the items before a value, and the value
-abbrev pub led_at : {M A : Type 0} → Optional M → (M → Item) → (A → List Item) → Reader A → Teller
+abbrev pub led_at : {M A : Type 0} → Optional M → (M → Item) → (A → List Item) → Reader A → Reporter
 led_at r one items q = change (λ x. map one x.0 ++ items x.1) (both (leading_at r) q)
 
 module _ {M : Type 0} (r : Optional M) (starts : List ℕ → Bool) (steps : Stepping r starts) where
@@ -117,9 +117,9 @@ module _ {M : Type 0} (r : Optional M) (starts : List ℕ → Bool) (steps : Ste
         of_value None = refl
         of_value (Some y) = refl
 
-    pub led_next : (b rest : List ℕ) (m : M) → r b ≡ Some (Some m, rest) → led_at r one items q b ≡ item_then (one m) (led_at r one items q rest)
+    pub led_next : (b tail : List ℕ) (m : M) → r b ≡ Some (Some m, tail) → led_at r one items q b ≡ item_then (one m) (led_at r one items q tail)
     unfolding both
-    led_next b rest m e = let n = leading_is b in rw (n, e) (more_led m (leading_at r rest))
+    led_next b tail m e = let n = leading_is b in rw (n, e) (more_led m (leading_at r tail))
 
     pub led_none : (b : List ℕ) → r b ≡ None → led_at r one items q b ≡ None
     unfolding both

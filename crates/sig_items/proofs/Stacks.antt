@@ -5,44 +5,44 @@ use Rattle.sig_grammar.specs.Syntax.{Body}
 use Rattle.sig_grammar.specs.Reading.{core_at}
 use Rattle.sig_grammar.specs.Columns.{body_at}
 use Rattle.sig_items.specs.declared.item.Item.{Item}
-use Rattle.sig_items.specs.declared.place.Place.{Place}
-use Rattle.sig_items.specs.declared.place.Place.TheVariants as place
-use Rattle.sig_items.specs.declared.place.Frame.{Frame}
+use Rattle.sig_items.specs.declared.position.Position.{Position}
+use Rattle.sig_items.specs.declared.position.Position.TheVariants as position
+use Rattle.sig_items.specs.declared.position.Frame.{Frame}
 use Rattle.sig_items.specs.declared.step.Step.{Step}
 use Rattle.sig_items.specs.ItemsOf.{items_of}
-use Rattle.sig_items.specs.Places.{Told, before_told, and_tell, joined, item_then, place_at, frame_at, next_at, stack_at, place_depth, frame_depth}
-use Rattle.sig_items.specs.Steps.{told_by, IsWithin, framed, pushed, all_at, items_in, items_left, HasRoom, IsStacked, IsRoomy, IsReady}
+use Rattle.sig_items.specs.Positions.{Reported, before_reported, and_report, joined, item_then, position_at, frame_at, next_at, stack_at, position_depth, frame_depth}
+use Rattle.sig_items.specs.Steps.{reported_by, IsWithin, framed, pushed, all_at, items_in, items_left, HasRoom, IsStacked, IsRoomy, IsReady}
 use Rattle.sig_items.proofs.Joins.{joined_assoc, item_and}
 use Rattle.sig_items.proofs.Counts.{joined_same}
 
 -- ---- the items of frames
 
-front_nothing : (o : Told) → before_told [] o ≡ o
-front_nothing None = refl
-front_nothing (Some x) = refl
+head_nothing : (o : Reported) → before_reported [] o ≡ o
+head_nothing None = refl
+head_nothing (Some x) = refl
 
-behind_nothing : (o : Told) → o ≡ and_tell (λ c. Some ([], c)) o
+behind_nothing : (o : Reported) → o ≡ and_report (λ c. Some ([], c)) o
 behind_nothing None = refl
 behind_nothing (Some x) = ap (λ (t : List Item). Some (t, x.1)) (sym (append-nil x.0))
 
 stack_push : (fs : List Frame) (f : Frame) (b : List ℕ) → stack_at (fs ++ f ∷ []) b ≡ joined (frame_at f) (stack_at fs) b
 unfolding stack_at joined
-stack_push [] f b = front_nothing (frame_at f b) ∙ behind_nothing (frame_at f b)
-stack_push (g ∷ fs) f b = ap (λ (o : Told). and_tell (frame_at g) o) (stack_push fs f b) ∙ joined_assoc (frame_at f) (stack_at fs) (frame_at g) b
+stack_push [] f b = head_nothing (frame_at f b) ∙ behind_nothing (frame_at f b)
+stack_push (g ∷ fs) f b = ap (λ (o : Reported). and_report (frame_at g) o) (stack_push fs f b) ∙ joined_assoc (frame_at f) (stack_at fs) (frame_at g) b
 
-pub all_next : (f : Option Frame) (p : Option Place) (fs : List Frame) (b : List ℕ) → all_at p (pushed f fs) b ≡ and_tell (stack_at fs) (next_at f p b)
+pub all_next : (f : Option Frame) (p : Option Position) (fs : List Frame) (b : List ℕ) → all_at p (pushed f fs) b ≡ and_report (stack_at fs) (next_at f p b)
 unfolding all_at joined
 all_next None None fs b = refl
 all_next None (Some p) fs b = refl
-all_next (Some f) None fs b = front_nothing (stack_at (fs ++ f ∷ []) b) ∙ stack_push fs f b
+all_next (Some f) None fs b = head_nothing (stack_at (fs ++ f ∷ []) b) ∙ stack_push fs f b
 all_next (Some f) (Some p) fs b =
-    joined_same (place_at p) (stack_at (fs ++ f ∷ [])) (joined (frame_at f) (stack_at fs)) b (λ c. stack_push fs f c)
-    ∙ sym (joined_assoc (place_at p) (frame_at f) (stack_at fs) b)
+    joined_same (position_at p) (stack_at (fs ++ f ∷ [])) (joined (frame_at f) (stack_at fs)) b (λ c. stack_push fs f c)
+    ∙ sym (joined_assoc (position_at p) (frame_at f) (stack_at fs) b)
 
 -- the items at the first position of a frame, and of what follows it
-pub resumed_told : (old fs : List Frame) (f : Frame) (g : Option Frame) (p : Place) (b : List ℕ) → old ≡ fs ++ f ∷ [] → next_at g (Some p) b ≡ frame_at f b → all_at (Some p) (pushed g fs) b ≡ all_at None old b
-resumed_told old fs f g p b e same =
-    all_next g (Some p) fs b ∙ ap (λ (o : Told). and_tell (stack_at fs) o) same ∙ sym (all_next (Some f) None fs b)
+pub resumed_reported : (old fs : List Frame) (f : Frame) (g : Option Frame) (p : Position) (b : List ℕ) → old ≡ fs ++ f ∷ [] → next_at g (Some p) b ≡ frame_at f b → all_at (Some p) (pushed g fs) b ≡ all_at None old b
+resumed_reported old fs f g p b e same =
+    all_next g (Some p) fs b ∙ ap (λ (o : Reported). and_report (stack_at fs) o) same ∙ sym (all_next (Some f) None fs b)
     ∙ ap (λ (t : List Frame). all_at None t b) (sym e)
 
 -- ---- the room for frames
@@ -55,12 +55,12 @@ pub stacked_pushed : (g : Option Frame) (fs : List Frame) → IsStacked 0 fs →
 stacked_pushed None fs s h = s
 stacked_pushed (Some f) fs s h = stacked_push 0 fs f s (omega arith)
 
-stacked_front : (n : ℕ) (fs : List Frame) (f : Frame) → IsStacked n (fs ++ f ∷ []) → IsStacked n fs × (n + length fs + frame_depth f < 129)
-stacked_front n [] f s = let h = s.0 in (tt, omega arith)
-stacked_front n (g ∷ fs) f s = let more = stacked_front (suc n) fs f s.1 in let h = more.1 in ((s.0, more.0), omega arith)
+stacked_head : (n : ℕ) (fs : List Frame) (f : Frame) → IsStacked n (fs ++ f ∷ []) → IsStacked n fs × (n + length fs + frame_depth f < 129)
+stacked_head n [] f s = let h = s.0 in (tt, omega arith)
+stacked_head n (g ∷ fs) f s = let more = stacked_head (suc n) fs f s.1 in let h = more.1 in ((s.0, more.0), omega arith)
 
 pub stacked_pop : (old fs : List Frame) (f : Frame) → old ≡ fs ++ f ∷ [] → IsStacked 0 old → IsStacked 0 fs × (length fs + frame_depth f < 129)
-stacked_pop old fs f e s = let h = stacked_front 0 fs f (subst (λ (t : List Frame). IsStacked 0 t) e s) in let k = h.1 in (h.0, omega arith)
+stacked_pop old fs f e s = let h = stacked_head 0 fs f (subst (λ (t : List Frame). IsStacked 0 t) e s) in let k = h.1 in (h.0, omega arith)
 
 pub pushed_length : (g : Option Frame) (fs : List Frame) → length (pushed g fs) ≡ length fs + framed g
 pushed_length None fs = omega arith
@@ -70,12 +70,12 @@ within_frame : (n d : ℕ) (g : Option Frame) → n + d ≤ 129 → IfSome g (λ
 within_frame n d None h k = tt
 within_frame n d (Some f) h k = omega arith
 
-within_place : (n k d : ℕ) (p : Option Place) → n + d ≤ 129 → IfSome p (λ q. place_depth q + k ≤ d) → IfSome p (λ q. n + k + place_depth q ≤ 129)
-within_place n k d None h e = tt
-within_place n k d (Some q) h e = omega arith
+within_position : (n k d : ℕ) (p : Option Position) → n + d ≤ 129 → IfSome p (λ q. position_depth q + k ≤ d) → IfSome p (λ q. n + k + position_depth q ≤ 129)
+within_position n k d None h e = tt
+within_position n k d (Some q) h e = omega arith
 
 pub room_within : (d : ℕ) (fs : List Frame) (s : Step) → length fs + d ≤ 129 → IsWithin d s → HasRoom fs s
-room_within d fs s h k = record { frame = within_frame (length fs) d s.frame h k.frame; place = within_place (length fs) (framed s.frame) d s.place h k.place }
+room_within d fs s h k = record { frame = within_frame (length fs) d s.frame h k.frame; position = within_position (length fs) (framed s.frame) d s.position h k.position }
 
 resumed_frame : (n : ℕ) (f : Frame) (g : Option Frame) → n + frame_depth f < 129 → IfSome g (λ h. frame_depth h ≤ frame_depth f) → IfSome g (λ h. n + frame_depth h < 129)
 resumed_frame n f None h k = tt
@@ -88,44 +88,44 @@ framed_one (Some f) = omega arith
 pub resumed_fits : (fs : List Frame) (f : Frame) (g : Option Frame) → length fs + frame_depth f < 129 → IfSome g (λ h. frame_depth h ≤ frame_depth f) → IfSome g (λ h. length fs + frame_depth h < 129)
 resumed_fits fs f g h k = resumed_frame (length fs) f g h k
 
-pub resumed_roomy : (old fs new : List Frame) (f : Frame) (g : Option Frame) (p : Place) → old ≡ fs ++ f ∷ [] → IsStacked 0 old → IfSome g (λ h. frame_depth h ≤ frame_depth f) → place_depth p ≤ frame_depth f → new ≡ pushed g fs → IsRoomy (Some p) new
+pub resumed_roomy : (old fs new : List Frame) (f : Frame) (g : Option Frame) (p : Position) → old ≡ fs ++ f ∷ [] → IsStacked 0 old → IfSome g (λ h. frame_depth h ≤ frame_depth f) → position_depth p ≤ frame_depth f → new ≡ pushed g fs → IsRoomy (Some p) new
 resumed_roomy old fs new f g p e s k low made =
     let popped = stacked_pop old fs f e s in
     let room = popped.1 in
     subst (λ (t : List Frame). IsRoomy (Some p) t) (sym made) (record {
       stacked = stacked_pushed g fs popped.0 (resumed_frame (length fs) f g room k);
-      placed = omega (arith, pushed_length g fs, framed_one g);
+      located = omega (arith, pushed_length g fs, framed_one g);
       ended = λ none. absurd cc;
     })
 
-pub advanced_roomy : (fs new : List Frame) (s : Step) (p : Place) → IsStacked 0 fs → HasRoom fs s → s.place ≡ Some p → new ≡ pushed s.frame fs → IsRoomy (Some p) new
+pub advanced_roomy : (fs new : List Frame) (s : Step) (p : Position) → IsStacked 0 fs → HasRoom fs s → s.position ≡ Some p → new ≡ pushed s.frame fs → IsRoomy (Some p) new
 advanced_roomy fs new s p stacked room is made =
-    let low : IfSome (Some p) (λ q. length fs + framed s.frame + place_depth q ≤ 129) = subst (λ (o : Option Place). IfSome o (λ q. length fs + framed s.frame + place_depth q ≤ 129)) is room.place in
+    let low : IfSome (Some p) (λ q. length fs + framed s.frame + position_depth q ≤ 129) = subst (λ (o : Option Position). IfSome o (λ q. length fs + framed s.frame + position_depth q ≤ 129)) is room.position in
     subst (λ (t : List Frame). IsRoomy (Some p) t) (sym made) (record {
       stacked = stacked_pushed s.frame fs stacked room.frame;
-      placed = omega (arith, pushed_length s.frame fs);
+      located = omega (arith, pushed_length s.frame fs);
       ended = λ none. absurd cc;
     })
 
 -- ---- the items that remain
 
-left_then : (i : Item) (o t : Told) → o ≡ item_then i t → is_some o ≡ true → (items_in o ≡ i ∷ items_in t) × (is_some t ≡ true)
+left_then : (i : Item) (o t : Reported) → o ≡ item_then i t → is_some o ≡ true → (items_in o ≡ i ∷ items_in t) × (is_some t ≡ true)
 left_then i o None e h = absurd (let f = ap is_some e in cc)
 left_then i o (Some x) e h = (ap items_in e, refl)
 
-pub next_items : (p : Place) (fs new : List Frame) (q : Option Place) (s : Step) (b : List ℕ) → place_at p b ≡ told_by s → all_at q new s.rest.now ≡ and_tell (stack_at fs) (next_at s.frame s.place s.rest.now) → is_some (all_at (Some p) fs b) ≡ true → (items_left (Some p) fs b ≡ s.item ∷ items_left q new s.rest.now) × (is_some (all_at q new s.rest.now) ≡ true)
+pub next_items : (p : Position) (fs new : List Frame) (q : Option Position) (s : Step) (b : List ℕ) → position_at p b ≡ reported_by s → all_at q new s.tail.now ≡ and_report (stack_at fs) (next_at s.frame s.position s.tail.now) → is_some (all_at (Some p) fs b) ≡ true → (items_left (Some p) fs b ≡ s.item ∷ items_left q new s.tail.now) × (is_some (all_at q new s.tail.now) ≡ true)
 unfolding items_left
-next_items p fs new q s b e rest some = left_then s.item (all_at (Some p) fs b) (all_at q new s.rest.now) whole some
+next_items p fs new q s b e tail some = left_then s.item (all_at (Some p) fs b) (all_at q new s.tail.now) whole some
   where
-    whole : all_at (Some p) fs b ≡ item_then s.item (all_at q new s.rest.now)
+    whole : all_at (Some p) fs b ≡ item_then s.item (all_at q new s.tail.now)
     whole =
-        all_next None (Some p) fs b ∙ ap (λ (o : Told). and_tell (stack_at fs) o) e
-        ∙ item_and s.item (stack_at fs) (next_at s.frame s.place s.rest.now) ∙ ap (λ (o : Told). item_then s.item o) (sym rest)
+        all_next None (Some p) fs b ∙ ap (λ (o : Reported). and_report (stack_at fs) o) e
+        ∙ item_and s.item (stack_at fs) (next_at s.frame s.position s.tail.now) ∙ ap (λ (o : Reported). item_then s.item o) (sym tail)
 
 -- if reading at a position fails, there are no items
-pub told_somewhere : (p : Place) (fs : List Frame) (b : List ℕ) → is_some (all_at (Some p) fs b) ≡ true → place_at p b ≡ None → ⊥
-told_somewhere p fs b some none =
-    let e : all_at (Some p) fs b ≡ None = all_next None (Some p) fs b ∙ ap (λ (o : Told). and_tell (stack_at fs) o) none in
+pub reported_somewhere : (p : Position) (fs : List Frame) (b : List ℕ) → is_some (all_at (Some p) fs b) ≡ true → position_at p b ≡ None → ⊥
+reported_somewhere p fs b some none =
+    let e : all_at (Some p) fs b ≡ None = all_next None (Some p) fs b ∙ ap (λ (o : Reported). and_report (stack_at fs) o) none in
     let f = ap is_some e in
     cc
 
@@ -134,22 +134,22 @@ nothing_left : (b : List ℕ) → items_left None [] b ≡ []
 unfolding items_left all_at joined stack_at
 nothing_left b = refl
 
-pub ended_items : (p : Option Place) (fs : List Frame) (b : List ℕ) → p ≡ None → IsRoomy p fs → items_left p fs b ≡ []
+pub ended_items : (p : Option Position) (fs : List Frame) (b : List ℕ) → p ≡ None → IsRoomy p fs → items_left p fs b ≡ []
 ended_items None fs b e roomy = let none = roomy.ended e in rw none (nothing_left b)
 ended_items (Some p) fs b e roomy = absurd cc
 
 -- ---- the first position
 
-first_told : (kind : SigKind) (signature : Body) (b : List ℕ) → body_at kind (core_at 128) b ≡ Some (signature, []) → all_at (Some (place.Body kind)) [] b ≡ Some (items_of signature, [])
-unfolding all_at joined stack_at place_at
-first_told kind signature b e = rw e (ap (λ (t : List Item). Some (t, [])) (append-nil (items_of signature)))
+first_reported : (kind : SigKind) (signature : Body) (b : List ℕ) → body_at kind (core_at 128) b ≡ Some (signature, []) → all_at (Some (position.Body kind)) [] b ≡ Some (items_of signature, [])
+unfolding all_at joined stack_at position_at
+first_reported kind signature b e = rw e (ap (λ (t : List Item). Some (t, [])) (append-nil (items_of signature)))
 
-pub first_items : (kind : SigKind) (signature : Body) (b : List ℕ) → body_at kind (core_at 128) b ≡ Some (signature, []) → items_left (Some (place.Body kind)) [] b ≡ items_of signature
+pub first_items : (kind : SigKind) (signature : Body) (b : List ℕ) → body_at kind (core_at 128) b ≡ Some (signature, []) → items_left (Some (position.Body kind)) [] b ≡ items_of signature
 unfolding items_left
-first_items kind signature b e = ap items_in (first_told kind signature b e)
+first_items kind signature b e = ap items_in (first_reported kind signature b e)
 
-pub first_ready : (kind : SigKind) (signature : Body) (b : List ℕ) → body_at kind (core_at 128) b ≡ Some (signature, []) → IsReady (Some (place.Body kind)) [] b
+pub first_ready : (kind : SigKind) (signature : Body) (b : List ℕ) → body_at kind (core_at 128) b ≡ Some (signature, []) → IsReady (Some (position.Body kind)) [] b
 first_ready kind signature b e = record {
-  told = ap is_some (first_told kind signature b e);
-  roomy = record { stacked = tt; placed = omega arith; ended = λ none. absurd cc };
+  reported = ap is_some (first_reported kind signature b e);
+  roomy = record { stacked = tt; located = omega arith; ended = λ none. absurd cc };
 }

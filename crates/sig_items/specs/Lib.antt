@@ -1,3 +1,3 @@
 pub mod ItemsOf
-pub mod Places
+pub mod Positions
 pub mod Steps

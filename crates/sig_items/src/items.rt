@@ -1,16 +1,16 @@
 ghost use Rattle.std.specs.Prelude.{◌≡◌, IfSome, IsSomeAnd};
 ghost use Rattle.sig_grammar.specs.Syntax.{Body};
-ghost use Rattle.sig_grammar.specs.Spells.{Spells};
+ghost use Rattle.sig_grammar.specs.Encodes.{Encodes};
 ghost use Rattle.sig_items.specs.ItemsOf.{items_of};
-ghost use Rattle.sig_items.specs.Places.{place_at, place_depth};
-ghost use Rattle.sig_items.specs.Steps.{told, IsWithin};
+ghost use Rattle.sig_items.specs.Positions.{position_at, position_depth};
+ghost use Rattle.sig_items.specs.Steps.{reported, IsWithin};
 
 use crate::bodies::body;
 use crate::follow::followed;
 use crate::frames::Frames;
 use crate::item::Item;
 use crate::methods::method;
-use crate::place::Place;
+use crate::table_layout::Position;
 use crate::shape::{low_bound, low_count, shape, size};
 use crate::step::Step;
 use crate::types::{local, marked, ret, slot, target, typed};
@@ -20,24 +20,24 @@ use std::marker::Model;
 use table_schema::SigKind;
 
 /// The first item at a position.
-#[tactic(auto, using(crate::proofs::Heads::place_method))]
-fn first_item(place: Place, bytes: &[u8]) -> Option<Step<'_>>
-    ensures told { told result ≡ place_at place bytes.now }
-    ensures within { IfSome result (IsWithin (place_depth place)) }
+#[tactic(auto, using(crate::proofs::Heads::position_method))]
+fn first_item(position: Position, bytes: &[u8]) -> Option<Step<'_>>
+    ensures reported { reported result ≡ position_at position bytes.now }
+    ensures within { IfSome result (IsWithin (position_depth position)) }
 {
-    match place {
-        Place::Body(kind) => body(bytes, kind),
-        Place::Method { depth } => method(bytes, true, depth),
-        Place::Typed { depth } => typed(bytes, depth),
-        Place::Target { depth } => target(bytes, depth),
-        Place::Slot { depth } => slot(bytes, depth),
-        Place::Ret { depth } => ret(bytes, depth),
-        Place::Local { depth } => local(bytes, depth),
-        Place::Marked { depth } => marked(bytes, depth),
-        Place::Shape => shape(bytes),
-        Place::Sizes { further, rank } => size(bytes, further, rank),
-        Place::LowCount { rank } => low_count(bytes, rank),
-        Place::LowBounds { further } => low_bound(bytes, further),
+    match position {
+        Position::Body(kind) => body(bytes, kind),
+        Position::Method { depth } => method(bytes, true, depth),
+        Position::Typed { depth } => typed(bytes, depth),
+        Position::Target { depth } => target(bytes, depth),
+        Position::Slot { depth } => slot(bytes, depth),
+        Position::Ret { depth } => ret(bytes, depth),
+        Position::Local { depth } => local(bytes, depth),
+        Position::Marked { depth } => marked(bytes, depth),
+        Position::Shape => shape(bytes),
+        Position::Sizes { further, rank } => size(bytes, further, rank),
+        Position::LowCount { rank } => low_count(bytes, rank),
+        Position::LowBounds { further } => low_bound(bytes, further),
     }
 }
 
@@ -47,7 +47,7 @@ fn first_item(place: Place, bytes: &[u8]) -> Option<Step<'_>>
 #[derive(Drop)]
 pub struct Items<'a> {
     bytes: &'a [u8],
-    place: Option<Place>,
+    position: Option<Position>,
     frames: Frames,
 }
 
@@ -58,17 +58,17 @@ impl<'a> Model for Items<'a> {
 
     ghost Value = { List Item };
 
-    ghost view = { λ s. items_left s.place s.frames s.bytes.now };
+    ghost view = { λ s. items_left s.position s.frames s.bytes.now };
 
-    ghost invariant = { λ s. IsReady s.place s.frames s.bytes.now };
+    ghost invariant = { λ s. IsReady s.position s.frames s.bytes.now };
 }
 
 impl<'a> Items<'a> {
     /// The items of the signature that all the bytes together encode, in a column of this kind; `None` if they
     /// encode none. The row of a type index need not exist.
     pub fn of(bytes: &'a [u8], kind: SigKind) -> Option<Items<'a>>
-        ensures found { IfSome result (λ items. (signature : Body) × Spells kind signature bytes.now × (items ≡ items_of signature)) }
-        ensures only { (signature : Body) → Spells kind signature bytes.now → IsSomeAnd result (λ items. items ≡ items_of signature) }
+        ensures sound { IfSome result (λ items. (signature : Body) × Encodes kind signature bytes.now × (items ≡ items_of signature)) }
+        ensures complete { (signature : Body) → Encodes kind signature bytes.now → IsSomeAnd result (λ items. items ≡ items_of signature) }
     {
         signatures_are_read();
         if !recognise(bytes, kind) {
@@ -76,7 +76,7 @@ impl<'a> Items<'a> {
         }
         Some(Items {
             bytes,
-            place: Some(Place::Body(kind)),
+            position: Some(Position::Body(kind)),
             frames: Frames::new(),
         })
     }
@@ -93,9 +93,9 @@ impl<'a> Iterator for Items<'a> {
 
     /// The next item; `None` after the last. It reads only the bytes of that item.
     fn next(&mut self) -> Option<Item> {
-        let step = first_item(self.place?, self.bytes)?;
-        self.place = followed(&mut self.frames, step);
-        self.bytes = step.rest;
+        let step = first_item(self.position?, self.bytes)?;
+        self.position = followed(&mut self.frames, step);
+        self.bytes = step.tail;
         Some(step.item)
     }
 }

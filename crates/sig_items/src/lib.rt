@@ -17,7 +17,7 @@ mod frames;
 mod item;
 mod items;
 mod methods;
-mod place;
+mod position;
 mod shape;
 mod step;
 mod types;

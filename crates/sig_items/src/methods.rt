@@ -1,10 +1,10 @@
 ghost use Rattle.std.specs.Prelude.{◌≡◌, ◌&&◌, ◌/◌, ◌%◌, ◌==◌, ℕ, suc, List, None, IfSome, option_map};
 ghost use Rattle.sig_grammar.specs.Reading.{generic_at, takes_sentinel as kind_takes_sentinel};
-ghost use Rattle.sig_items.specs.Places.{next_at, params_told, method_told, frame_depth};
-ghost use Rattle.sig_items.specs.Steps.{told, IsWithin};
+ghost use Rattle.sig_items.specs.Positions.{next_at, params_reported, method_reported, frame_depth};
+ghost use Rattle.sig_items.specs.Steps.{reported, IsWithin};
 
 use crate::item::{Item, MethodHead};
-use crate::place::{Frame, Place};
+use crate::table_layout::{Frame, Position};
 use crate::step::Step;
 use sig_grammar::method_byte::{
     begins_method, calling_convention, has_explicit_this, has_this, is_generic, may_have_sentinel,
@@ -14,7 +14,7 @@ use sig_recogniser::{byte, number};
 /// The frame of `count` parameters, with SENTINEL before one of them if it is allowed.
 #[tactic(auto, using(crate::proofs::Counts::params_zero, crate::proofs::Counts::params_more))]
 pub fn params(count: u32, allowed: bool, depth: u8) -> Option<Frame>
-    ensures told { (b : List ℕ) → next_at result None b ≡ params_told count allowed depth b }
+    ensures reported { (b : List ℕ) → next_at result None b ≡ params_reported count allowed depth b }
     ensures within { IfSome result (λ f. frame_depth f ≡ depth) }
 {
     if count == 0 {
@@ -35,8 +35,8 @@ fn generic(bytes: &[u8], code: u8) -> Option<(Option<u32>, &[u8])>
     if !is_generic(code) {
         return Some((None, bytes));
     }
-    let (count, rest) = number(bytes)?;
-    Some((Some(count), rest))
+    let (count, tail) = number(bytes)?;
+    Some((Some(count), tail))
 }
 
 /// Whether SENTINEL is allowed in a method with this first byte: its calling convention is C or vararg, and
@@ -50,15 +50,15 @@ fn takes_sentinel(code: u8, own: bool) -> bool
 /// The head of a method; `own` says whether it may have a SENTINEL (II.23.2.1 to II.23.2.3).
 #[tactic(auto, using(crate::proofs::Heads::method_end, crate::proofs::Heads::method_bad, crate::proofs::Heads::method_no_generic, crate::proofs::Heads::method_no_count))]
 pub fn method(bytes: &[u8], own: bool, depth: u8) -> Option<Step<'_>>
-    ensures told { told result ≡ method_told own depth bytes.now }
+    ensures reported { reported result ≡ method_reported own depth bytes.now }
     ensures within { IfSome result (IsWithin (suc depth)) }
 {
-    let (code, rest) = byte(bytes)?;
+    let (code, tail) = byte(bytes)?;
     if !begins_method(code) {
         return None;
     }
-    let (generic, rest) = generic(rest, code)?;
-    let (count, rest) = number(rest)?;
+    let (generic, tail) = generic(tail, code)?;
+    let (count, tail) = number(tail)?;
     let head = MethodHead {
         kind: calling_convention(code),
         this: has_this(code),
@@ -69,7 +69,7 @@ pub fn method(bytes: &[u8], own: bool, depth: u8) -> Option<Step<'_>>
     Some(Step {
         item: Item::Method(head),
         frame: params(count, takes_sentinel(code, own), depth),
-        place: Some(Place::Ret { depth }),
-        rest,
+        position: Some(Position::Ret { depth }),
+        tail,
     })
 }

@@ -1,9 +1,9 @@
 ghost use Rattle.std.specs.Prelude.{◌≡◌, ◌≤◌, ◌∷◌, [], ℕ, Some};
-ghost use Rattle.sig_items.specs.Places.{item_then, place_at, place_depth};
-ghost use Rattle.sig_items.specs.Steps.{told_by, IsWithin};
+ghost use Rattle.sig_items.specs.Positions.{item_then, position_at, position_depth};
+ghost use Rattle.sig_items.specs.Steps.{reported_by, IsWithin};
 
 use crate::item::Item;
-use crate::place::{Frame, Place};
+use crate::table_layout::{Frame, Position};
 
 /// The result of reading at a position: an item, and what remains.
 #[derive(Clone, Copy)]
@@ -13,35 +13,35 @@ pub struct Step<'a> {
     /// The frame to push; `None` if there is nothing new to read later.
     pub frame: Option<Frame>,
     /// The next position; `None` if the current part is read to its end.
-    pub place: Option<Place>,
+    pub position: Option<Position>,
     /// The bytes after the item.
-    pub rest: &'a [u8],
+    pub tail: &'a [u8],
 }
 
 impl<'a> Step<'a> {
     /// A step to an item without parts.
-    pub fn leaf(item: Item, rest: &'a [u8]) -> Step<'a>
-        ensures told { told_by result ≡ Some (item ∷ [], rest.now) }
+    pub fn leaf(item: Item, tail: &'a [u8]) -> Step<'a>
+        ensures reported { reported_by result ≡ Some (item ∷ [], tail.now) }
         ensures within { (depth : ℕ) → IsWithin depth result }
     {
         Step {
             item,
             frame: None,
-            place: None,
-            rest,
+            position: None,
+            tail,
         }
     }
 
     /// A step to an item that is followed by a position.
-    pub fn before(item: Item, place: Place, rest: &'a [u8]) -> Step<'a>
-        ensures told { told_by result ≡ item_then item (place_at place rest.now) }
-        ensures within { (depth : ℕ) → place_depth place ≤ depth → IsWithin depth result }
+    pub fn before(item: Item, position: Position, tail: &'a [u8]) -> Step<'a>
+        ensures reported { reported_by result ≡ item_then item (position_at position tail.now) }
+        ensures within { (depth : ℕ) → position_depth position ≤ depth → IsWithin depth result }
     {
         Step {
             item,
             frame: None,
-            place: Some(place),
-            rest,
+            position: Some(position),
+            tail,
         }
     }
 }

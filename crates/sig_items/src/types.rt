@@ -1,12 +1,12 @@
 ghost use Rattle.std.specs.Prelude.{◌≡◌, ◌<◌, ◌≤◌, ℕ, suc, true, List, None, IfSome};
 ghost use Rattle.sig_grammar.specs.Reading.{starts_modifier};
-ghost use Rattle.sig_items.specs.declared.place.Place.TheVariants as place;
+ghost use Rattle.sig_items.specs.declared.position.Position.TheVariants as position;
 ghost use Rattle.sig_items.specs.ItemsOf.{prefix_item as item_of_prefix};
-ghost use Rattle.sig_items.specs.Places.{item_then, place_at, next_at, core_told, code_told, instance_told, content_told, types_told, locals_told, place_depth, frame_depth, IsLed};
-ghost use Rattle.sig_items.specs.Steps.{told, IsWithin};
+ghost use Rattle.sig_items.specs.Positions.{item_then, position_at, next_at, core_reported, code_reported, instance_reported, content_reported, types_reported, locals_reported, position_depth, frame_depth, IsLed};
+ghost use Rattle.sig_items.specs.Steps.{reported, IsWithin};
 
 use crate::item::Item;
-use crate::place::{Frame, Place};
+use crate::table_layout::{Frame, Position};
 use crate::step::Step;
 use sig_grammar::element_type::{
     ARRAY, BYREF, CLASS, FNPTR, GENERICINST, MVAR, PTR, SENTINEL, SZARRAY, TYPEDBYREF, VALUETYPE,
@@ -18,7 +18,7 @@ use sig_recogniser::{byte, has_modifier, has_prefix, index, modifier, number, pr
 /// The frame of `count` types; `None` if there are none.
 #[tactic(auto, using(crate::proofs::Counts::types_zero, crate::proofs::Counts::types_more))]
 pub fn types(count: u32, depth: u8) -> Option<Frame>
-    ensures told { (b : List ℕ) → next_at result None b ≡ types_told count depth b }
+    ensures reported { (b : List ℕ) → next_at result None b ≡ types_reported count depth b }
     ensures within { IfSome result (λ f. frame_depth f ≡ depth) }
 {
     if count == 0 {
@@ -33,7 +33,7 @@ pub fn types(count: u32, depth: u8) -> Option<Frame>
 /// The frame of `count` local variables; `None` if there are none.
 #[tactic(auto, using(crate::proofs::Counts::locals_zero, crate::proofs::Counts::locals_more))]
 pub fn variables(count: u32, depth: u8) -> Option<Frame>
-    ensures told { (b : List ℕ) → next_at result None b ≡ locals_told count depth b }
+    ensures reported { (b : List ℕ) → next_at result None b ≡ locals_reported count depth b }
     ensures within { IfSome result (λ f. frame_depth f ≡ depth) }
 {
     if count == 0 {
@@ -48,68 +48,68 @@ pub fn variables(count: u32, depth: u8) -> Option<Frame>
 /// Reads an instance of a generic type (II.23.2.12), after GENERICINST.
 #[tactic(auto, using(crate::proofs::Arms::instance_end, crate::proofs::Arms::instance_bad, crate::proofs::Arms::instance_no_index, crate::proofs::Arms::instance_no_count, crate::proofs::Arms::instance_is))]
 fn instance(bytes: &[u8], depth: u8) -> Option<Step<'_>>
-    ensures told { told result ≡ instance_told depth bytes.now }
+    ensures reported { reported result ≡ instance_reported depth bytes.now }
     ensures within { IfSome result (IsWithin (suc depth)) }
 {
-    let (code, rest) = byte(bytes)?;
+    let (code, tail) = byte(bytes)?;
     if code != VALUETYPE && code != CLASS {
         return None;
     }
-    let (of, rest) = index(rest)?;
-    let (args, rest) = number(rest)?;
+    let (of, tail) = index(tail)?;
+    let (args, tail) = number(tail)?;
     let value = code == VALUETYPE;
     Some(Step {
         item: Item::Instance { value, of, args },
         frame: types(args, depth),
-        place: None,
-        rest,
+        position: None,
+        tail,
     })
 }
 
 /// A step to an item that is followed by a type; `None` if no level of types is left.
-fn deeper(item: Item, place: Place, rest: &[u8], depth: u8) -> Option<Step<'_>>
-    ensures none { depth ≡ 0 → told result ≡ None }
-    ensures told { 0 < depth → told result ≡ item_then item (place_at place rest.now) }
-    ensures within { place_depth place ≤ suc depth → IfSome result (IsWithin (suc depth)) }
+fn deeper(item: Item, position: Position, tail: &[u8], depth: u8) -> Option<Step<'_>>
+    ensures none { depth ≡ 0 → reported result ≡ None }
+    ensures reported { 0 < depth → reported result ≡ item_then item (position_at position tail.now) }
+    ensures within { position_depth position ≤ suc depth → IfSome result (IsWithin (suc depth)) }
 {
     if depth == 0 {
         return None;
     }
-    Some(Step::before(item, place, rest))
+    Some(Step::before(item, position, tail))
 }
 
 /// Reads a core after its first byte. The types in it are at most `depth` deep.
 #[tactic(auto, using(crate::proofs::Arms::code_bad))]
-fn core_behind(code: u8, rest: &[u8], depth: u8) -> Option<Step<'_>>
-    ensures told { told result ≡ code_told depth code rest.now }
+fn core_behind(code: u8, tail: &[u8], depth: u8) -> Option<Step<'_>>
+    ensures reported { reported result ≡ code_reported depth code tail.now }
     ensures within { IfSome result (IsWithin (suc depth)) }
 {
     match code {
-        PTR => deeper(Item::Pointer, Place::Target { depth }, rest, depth),
+        PTR => deeper(Item::Pointer, Position::Target { depth }, tail, depth),
         VALUETYPE => {
-            let (of, rest) = index(rest)?;
-            Some(Step::leaf(Item::Value(of), rest))
+            let (of, tail) = index(tail)?;
+            Some(Step::leaf(Item::Value(of), tail))
         }
         CLASS => {
-            let (of, rest) = index(rest)?;
-            Some(Step::leaf(Item::Class(of), rest))
+            let (of, tail) = index(tail)?;
+            Some(Step::leaf(Item::Class(of), tail))
         }
         VAR => {
-            let (number, rest) = number(rest)?;
-            Some(Step::leaf(Item::Var(number), rest))
+            let (number, tail) = number(tail)?;
+            Some(Step::leaf(Item::Var(number), tail))
         }
         ARRAY => Some(Step {
             item: Item::Array,
             frame: Some(Frame::Shape),
-            place: Some(Place::Typed { depth }),
-            rest,
+            position: Some(Position::Typed { depth }),
+            tail,
         }),
-        GENERICINST => instance(rest, depth),
-        FNPTR => deeper(Item::Function, Place::Method { depth }, rest, depth),
-        SZARRAY => Some(Step::before(Item::Vector, Place::Typed { depth }, rest)),
+        GENERICINST => instance(tail, depth),
+        FNPTR => deeper(Item::Function, Position::Method { depth }, tail, depth),
+        SZARRAY => Some(Step::before(Item::Vector, Position::Typed { depth }, tail)),
         MVAR => {
-            let (number, rest) = number(rest)?;
-            Some(Step::leaf(Item::MVar(number), rest))
+            let (number, tail) = number(tail)?;
+            Some(Step::leaf(Item::MVar(number), tail))
         }
         _ => None,
     }
@@ -118,53 +118,53 @@ fn core_behind(code: u8, rest: &[u8], depth: u8) -> Option<Step<'_>>
 /// Reads a core of at most the given depth (II.23.2.12).
 #[tactic(auto, using(crate::proofs::Arms::core_arms))]
 fn core(bytes: &[u8], depth: u8) -> Option<Step<'_>>
-    ensures told { told result ≡ core_told depth bytes.now }
+    ensures reported { reported result ≡ core_reported depth bytes.now }
     ensures within { IfSome result (IsWithin depth) }
 {
     if depth == 0 {
         return None;
     }
-    let (code, rest) = byte(bytes)?;
+    let (code, tail) = byte(bytes)?;
     match Element::from_byte(code) {
-        Some(element) => Some(Step::leaf(Item::Simple(element), rest)),
-        None => core_behind(code, rest, depth - 1),
+        Some(element) => Some(Step::leaf(Item::Simple(element), tail)),
+        None => core_behind(code, tail, depth - 1),
     }
 }
 
 /// Reads the kind and type of a parameter, a field, a result or a local variable (II.23.2.10).
 #[tactic(auto, using(crate::proofs::Arms::content_arms))]
 fn content(bytes: &[u8], depth: u8) -> Option<Step<'_>>
-    ensures told { told result ≡ content_told depth bytes.now }
+    ensures reported { reported result ≡ content_reported depth bytes.now }
     ensures within { IfSome result (IsWithin depth) }
 {
-    let (code, rest) = byte(bytes)?;
+    let (code, tail) = byte(bytes)?;
     match code {
-        TYPEDBYREF => Some(Step::leaf(Item::TypedRef, rest)),
-        BYREF => Some(Step::before(Item::ByRef, Place::Typed { depth }, rest)),
+        TYPEDBYREF => Some(Step::leaf(Item::TypedRef, tail)),
+        BYREF => Some(Step::before(Item::ByRef, Position::Typed { depth }, tail)),
         _ => core(bytes, depth),
     }
 }
 
 /// Reads the modifier at the start, followed by a position.
-#[tactic(auto, using(crate::proofs::Arms::place_led, crate::proofs::Arms::place_led_none))]
-fn modified(bytes: &[u8], here: Place) -> Option<Step<'_>>
+#[tactic(auto, using(crate::proofs::Arms::position_led, crate::proofs::Arms::position_led_none))]
+fn modified(bytes: &[u8], here: Position) -> Option<Step<'_>>
     requires starts { starts_modifier bytes.now ≡ true }
     requires led { IsLed here }
-    ensures told { told result ≡ place_at here bytes.now }
-    ensures within { IfSome result (IsWithin (place_depth here)) }
+    ensures reported { reported result ≡ position_at here bytes.now }
+    ensures within { IfSome result (IsWithin (position_depth here)) }
 {
-    let (modifier, rest) = modifier(bytes)?;
-    Some(Step::before(Item::Modifier(modifier), here, rest))
+    let (modifier, tail) = modifier(bytes)?;
+    Some(Step::before(Item::Modifier(modifier), here, tail))
 }
 
 /// Reads a type.
 #[tactic(auto, using(crate::proofs::Arms::typed_bare))]
 pub fn typed(bytes: &[u8], depth: u8) -> Option<Step<'_>>
-    ensures told { told result ≡ place_at (place.Typed depth) bytes.now }
+    ensures reported { reported result ≡ position_at (position.Typed depth) bytes.now }
     ensures within { IfSome result (IsWithin depth) }
 {
     if has_modifier(bytes) {
-        return modified(bytes, Place::Typed { depth });
+        return modified(bytes, Position::Typed { depth });
     }
     core(bytes, depth)
 }
@@ -172,14 +172,14 @@ pub fn typed(bytes: &[u8], depth: u8) -> Option<Step<'_>>
 /// Reads the target of a pointer.
 #[tactic(auto, using(crate::proofs::Arms::target_end, crate::proofs::Arms::target_void, crate::proofs::Arms::target_core))]
 pub fn target(bytes: &[u8], depth: u8) -> Option<Step<'_>>
-    ensures told { told result ≡ place_at (place.Target depth) bytes.now }
+    ensures reported { reported result ≡ position_at (position.Target depth) bytes.now }
     ensures within { IfSome result (IsWithin depth) }
 {
     if has_modifier(bytes) {
-        return modified(bytes, Place::Target { depth });
+        return modified(bytes, Position::Target { depth });
     }
     match byte(bytes)? {
-        (VOID, rest) => Some(Step::leaf(Item::Void, rest)),
+        (VOID, tail) => Some(Step::leaf(Item::Void, tail)),
         _ => core(bytes, depth),
     }
 }
@@ -187,11 +187,11 @@ pub fn target(bytes: &[u8], depth: u8) -> Option<Step<'_>>
 /// Reads a parameter or a field.
 #[tactic(auto, using(crate::proofs::Arms::slot_bare))]
 pub fn slot(bytes: &[u8], depth: u8) -> Option<Step<'_>>
-    ensures told { told result ≡ place_at (place.Slot depth) bytes.now }
+    ensures reported { reported result ≡ position_at (position.Slot depth) bytes.now }
     ensures within { IfSome result (IsWithin depth) }
 {
     if has_modifier(bytes) {
-        return modified(bytes, Place::Slot { depth });
+        return modified(bytes, Position::Slot { depth });
     }
     content(bytes, depth)
 }
@@ -199,14 +199,14 @@ pub fn slot(bytes: &[u8], depth: u8) -> Option<Step<'_>>
 /// Reads a result (II.23.2.11).
 #[tactic(auto, using(crate::proofs::Arms::ret_end, crate::proofs::Arms::ret_void, crate::proofs::Arms::ret_content))]
 pub fn ret(bytes: &[u8], depth: u8) -> Option<Step<'_>>
-    ensures told { told result ≡ place_at (place.Ret depth) bytes.now }
+    ensures reported { reported result ≡ position_at (position.Ret depth) bytes.now }
     ensures within { IfSome result (IsWithin depth) }
 {
     if has_modifier(bytes) {
-        return modified(bytes, Place::Ret { depth });
+        return modified(bytes, Position::Ret { depth });
     }
     match byte(bytes)? {
-        (VOID, rest) => Some(Step::leaf(Item::Void, rest)),
+        (VOID, tail) => Some(Step::leaf(Item::Void, tail)),
         _ => content(bytes, depth),
     }
 }
@@ -224,12 +224,12 @@ fn prefix_item(prefix: Prefix) -> Item
 /// Reads a local variable (II.23.2.6).
 #[tactic(auto, using(crate::proofs::Arms::local_next, crate::proofs::Arms::local_none, crate::proofs::Arms::local_bare))]
 pub fn local(bytes: &[u8], depth: u8) -> Option<Step<'_>>
-    ensures told { told result ≡ place_at (place.Local depth) bytes.now }
+    ensures reported { reported result ≡ position_at (position.Local depth) bytes.now }
     ensures within { IfSome result (IsWithin depth) }
 {
     if has_prefix(bytes) {
-        let (prefix, rest) = prefix(bytes)?;
-        return Some(Step::before(prefix_item(prefix), Place::Local { depth }, rest));
+        let (prefix, tail) = prefix(bytes)?;
+        return Some(Step::before(prefix_item(prefix), Position::Local { depth }, tail));
     }
     content(bytes, depth)
 }
@@ -237,11 +237,11 @@ pub fn local(bytes: &[u8], depth: u8) -> Option<Step<'_>>
 /// Reads SENTINEL, followed by a parameter (II.23.2.2, II.23.2.3).
 #[tactic(auto, using(crate::proofs::Arms::marked_end, crate::proofs::Arms::marked_first, crate::proofs::Arms::marked_bad))]
 pub fn marked(bytes: &[u8], depth: u8) -> Option<Step<'_>>
-    ensures told { told result ≡ place_at (place.Marked depth) bytes.now }
+    ensures reported { reported result ≡ position_at (position.Marked depth) bytes.now }
     ensures within { IfSome result (IsWithin depth) }
 {
     match byte(bytes) {
-        Some((SENTINEL, rest)) => Some(Step::before(Item::Sentinel, Place::Slot { depth }, rest)),
+        Some((SENTINEL, tail)) => Some(Step::before(Item::Sentinel, Position::Slot { depth }, tail)),
         _ => None,
     }
 }

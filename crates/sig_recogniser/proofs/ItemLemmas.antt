@@ -29,8 +29,8 @@ module _ {A : Type 0} (r : Optional A) (starts : List ℕ → Bool) (steps : Ste
     items_end : (b : List ℕ) (bad : Option Token) → starts b ≡ false → passed counts bad (list_parts parts) (leading_at r b) ≡ Some (b, bad)
     items_end b bad h =
         let s = steps.stop b h in
-        let front : leading_at r b ≡ Some ([], b) = leading_is r starts steps b ∙ rw s refl in
-        ap (λ (o : Option (List A × List ℕ)). passed counts bad (list_parts parts) o) front ∙ ap (λ (t : Option Token). Some (b, t)) (noted-none counts bad)
+        let head : leading_at r b ≡ Some ([], b) = leading_is r starts steps b ∙ rw s refl in
+        ap (λ (o : Option (List A × List ℕ)). passed counts bad (list_parts parts) o) head ∙ ap (λ (t : Option Token). Some (b, t)) (noted-none counts bad)
 
 -- ---- the loops over modifiers, and over modifiers with PINNED
 

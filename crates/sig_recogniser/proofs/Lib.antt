@@ -1,4 +1,4 @@
-pub mod Fronts
+pub mod Heads
 pub mod Loops
 pub mod Noted
 pub mod ItemLemmas

@@ -7,7 +7,7 @@ use Rattle.std.proofs.lemmas.List.Folds.{find-append}
 use Rattle.std.proofs.lemmas.Grind.{flat_map-append}
 use Rattle.table_schema.specs.declared.token.Token.{Token}
 use Rattle.sig_grammar.specs.Parts.{Part, number, signed, index, part_tokens}
-use Rattle.sig_grammar.specs.Spells.{has_row, first_bad}
+use Rattle.sig_grammar.specs.Encodes.{has_row, first_bad}
 use Rattle.sig_recogniser.specs.Skips.{noted}
 
 -- the parts of a number, of a signed number and of a type index

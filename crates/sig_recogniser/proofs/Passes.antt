@@ -3,7 +3,7 @@ use Rattle.std.proofs.Common.{◌≡◌, ℕ, zero, suc, ◌/◌, ◌%◌, ◌&&
 use Rattle.std.specs.Prelude.{ℤ, option_map, option_and_then}
 use Rattle.std.specs.List.{flat_map}
 use Rattle.std.proofs.lemmas.Grind.{flat_map-append}
-use Rattle.packed.specs.Front as front
+use Rattle.packed.specs.Head as head
 use Rattle.table_schema.specs.declared.token.Token.{Token}
 use Rattle.table_schema.specs.declared.column.SigKind.{SigKind}
 use Rattle.table_schema.specs.declared.column.SigKind.TheVariants as column
@@ -57,9 +57,9 @@ module _ (counts : List ℕ) where
       of_option None = refl
       of_option (Some x) = two x.1 (noted_parts counts bad (parts x.0)) ∙ passed_pair parts more bad x.0 (q x.1)
 
-  passed_front : {A : Type 0} (parts : A → List Part) (bad : Option Token) (x : A) (o : Option (List A × List ℕ)) → passed counts (noted_parts counts bad (parts x)) (list_parts parts) o ≡ passed counts bad (list_parts parts) (option_map (λ y. (x ∷ y.0, y.1)) o)
-  passed_front parts bad x None = refl
-  passed_front parts bad x (Some y) = ap (λ (t : Option Token). Some (y.1, t)) (sym (noted_parts-append counts bad (parts x) (list_parts parts y.0)))
+  passed_head : {A : Type 0} (parts : A → List Part) (bad : Option Token) (x : A) (o : Option (List A × List ℕ)) → passed counts (noted_parts counts bad (parts x)) (list_parts parts) o ≡ passed counts bad (list_parts parts) (option_map (λ y. (x ∷ y.0, y.1)) o)
+  passed_head parts bad x None = refl
+  passed_head parts bad x (Some y) = ap (λ (t : Option Token). Some (y.1, t)) (sym (noted_parts-append counts bad (parts x) (list_parts parts y.0)))
 
   nothing_noted : (b : List ℕ) (bad : Option Token) → ◌≡◌ {A = Option Left} (Some (b, bad)) (Some (b, noted_parts counts bad []))
   nothing_noted b bad = ap (λ (t : Option Token). Some (b, t)) (sym (noted-none counts bad))
@@ -71,7 +71,7 @@ module _ (counts : List ℕ) where
     where
       of_option : (o : Option (A × List ℕ)) → Passes (skip_many each n) (many_at r n) (list_parts parts) → option_and_then (skip_many each n) (passed counts bad parts o) ≡ passed counts bad (list_parts parts) (option_and_then (λ x. option_map (λ y. (x.0 ∷ y.0, y.1)) (many_at r n x.1)) o)
       of_option None more = refl
-      of_option (Some x) more = more x.1 (noted_parts counts bad (parts x.0)) ∙ passed_front parts bad x.0 (many_at r n x.1)
+      of_option (Some x) more = more x.1 (noted_parts counts bad (parts x.0)) ∙ passed_head parts bad x.0 (many_at r n x.1)
 
   -- ---- numbers
 
@@ -85,10 +85,10 @@ module _ (counts : List ℕ) where
 
   -- a signed number has the bytes of an unsigned one
   signed_passes : Passes skip_number signed_at signed_parts
-  unfolding skip_number number_left number_at signed_at front.signed_at
-  signed_passes b bad = of_option (front.unsigned_at b)
+  unfolding skip_number number_left number_at signed_at head.signed_at
+  signed_passes b bad = of_option (head.unsigned_at b)
     where
-      of_option : (o : Option (ℕ × ℕ)) → option_map (λ (x : ℕ × Left). x.1) (option_map (with_bad bad) (option_map (λ (x : ℕ × ℕ). (x.0, drop x.1 b)) o)) ≡ passed counts bad signed_parts (option_map (λ (x : ℤ × ℕ). (x.0, drop x.1 b)) (option_map (λ (found : ℕ × ℕ). (front.unrotated (front.bits_of found.1) found.0, found.1)) o))
+      of_option : (o : Option (ℕ × ℕ)) → option_map (λ (x : ℕ × Left). x.1) (option_map (with_bad bad) (option_map (λ (x : ℕ × ℕ). (x.0, drop x.1 b)) o)) ≡ passed counts bad signed_parts (option_map (λ (x : ℤ × ℕ). (x.0, drop x.1 b)) (option_map (λ (found : ℕ × ℕ). (head.unrotated (head.bits_of found.1) found.0, found.1)) o))
       of_option None = refl
       of_option (Some x) = nothing_noted (drop x.1 b) bad
 

@@ -5,7 +5,7 @@ use Rattle.table_schema.specs.declared.token.Token.{Token}
 use Rattle.table_schema.specs.declared.column.SigKind.{SigKind}
 use Rattle.sig_grammar.specs.Syntax.{Body}
 use Rattle.sig_grammar.specs.Grammar.{body_parts}
-use Rattle.sig_grammar.specs.Spells.{Spells, tokens, first_bad}
+use Rattle.sig_grammar.specs.Encodes.{Encodes, tokens, first_bad}
 use Rattle.sig_grammar.specs.Reading.{core_at}
 use Rattle.sig_grammar.specs.Columns.{body_at}
 use Rattle.sig_recogniser.specs.Skips.{Left, passed, skip_core, skip_body}
@@ -20,25 +20,25 @@ skipped_is counts kind b = body_passes counts (skip_core counts 128) (core_at 12
 
 -- what bytes encode is read from them
 abbrev pub IsRead : Type 0
-IsRead = (kind : SigKind) (signature : Body) (bytes : List ℕ) → Spells kind signature bytes → body_at kind (core_at 128) bytes ≡ Some (signature, [])
+IsRead = (kind : SigKind) (signature : Body) (bytes : List ℕ) → Encodes kind signature bytes → body_at kind (core_at 128) bytes ≡ Some (signature, [])
 
 -- bytes that are read to their end encode what is read
-abbrev pub IsSpelled : Type 0
-IsSpelled =
-    (kind : SigKind) (signature : Body) (bytes : List ℕ) → ((k : ℕ) → get_or bytes k 0 < 2 ^ 8) → length bytes < 2 ^ 29 → body_at kind (core_at 128) bytes ≡ Some (signature, []) → Spells kind signature bytes
+abbrev pub IsEncoded : Type 0
+IsEncoded =
+    (kind : SigKind) (signature : Body) (bytes : List ℕ) → ((k : ℕ) → get_or bytes k 0 < 2 ^ 8) → length bytes < 2 ^ 29 → body_at kind (core_at 128) bytes ≡ Some (signature, []) → Encodes kind signature bytes
 
 -- the bytes encode a signature, and this is its first type index whose row does not exist
 abbrev pub IsFirstBad : List ℕ → SigKind → List ℕ → Option Token → Type 0
-IsFirstBad counts kind bytes bad = (signature : Body) × Spells kind signature bytes × (bad ≡ first_bad counts (tokens signature))
+IsFirstBad counts kind bytes bad = (signature : Body) × Encodes kind signature bytes × (bad ≡ first_bad counts (tokens signature))
 
 -- ---- bytes that are skipped to their end
 
-pub spelled_skipped : IsRead → (counts : List ℕ) (kind : SigKind) (b : List ℕ) (signature : Body) → Spells kind signature b → skip_all counts kind b ≡ Some ([], first_bad counts (tokens signature))
-spelled_skipped read counts kind b signature h =
+pub encoded_skipped : IsRead → (counts : List ℕ) (kind : SigKind) (b : List ℕ) (signature : Body) → Encodes kind signature b → skip_all counts kind b ≡ Some ([], first_bad counts (tokens signature))
+encoded_skipped read counts kind b signature h =
     skipped_is counts kind b ∙ ap (λ (o : Option (Body × List ℕ)). passed counts None body_parts o) (read kind signature b h)
 
-pub skipped_spelled : IsSpelled → (counts : List ℕ) (kind : SigKind) (b : List ℕ) (bad : Option Token) → ((k : ℕ) → get_or b k 0 < 2 ^ 8) → length b < 2 ^ 29 → Some ([], bad) ≡ skip_all counts kind b → IsFirstBad counts kind b bad
-skipped_spelled spelled counts kind b bad each limit e = of_option (body_at kind (core_at 128) b) refl (sym (skipped_is counts kind b) ∙ sym e)
+pub skipped_encoded : IsEncoded → (counts : List ℕ) (kind : SigKind) (b : List ℕ) (bad : Option Token) → ((k : ℕ) → get_or b k 0 < 2 ^ 8) → length b < 2 ^ 29 → Some ([], bad) ≡ skip_all counts kind b → IsFirstBad counts kind b bad
+skipped_encoded encoded counts kind b bad each limit e = of_option (body_at kind (core_at 128) b) refl (sym (skipped_is counts kind b) ∙ sym e)
   where
     of_option : (o : Option (Body × List ℕ)) → body_at kind (core_at 128) b ≡ o → passed counts None body_parts o ≡ Some ([], bad) → IsFirstBad counts kind b bad
     of_option None w h = absurd cc
@@ -46,35 +46,35 @@ skipped_spelled spelled counts kind b bad each limit e = of_option (body_at kind
         let pair : (x.1, first_bad counts (tokens x.0)) ≡ ([], bad) = cc in
         let same : x.1 ≡ [] = ap (λ (p : List ℕ × Option Token). p.0) pair in
         let found : first_bad counts (tokens x.0) ≡ bad = ap (λ (p : List ℕ × Option Token). p.1) pair in
-        (x.0, spelled kind x.0 b each limit (w ∙ ap (λ (t : List ℕ). Some (x.0, t)) same), sym found)
+        (x.0, encoded kind x.0 b each limit (w ∙ ap (λ (t : List ℕ). Some (x.0, t)) same), sym found)
 
-is_end : (rest : List ℕ) → eqb (length rest) 0 ≡ true → rest ≡ []
+is_end : (tail : List ℕ) → eqb (length tail) 0 ≡ true → tail ≡ []
 is_end [] e = refl
-is_end (c ∷ rest) e = absurd (let f = eqb-suc-zero (length rest) in cc)
+is_end (c ∷ tail) e = absurd (let f = eqb-suc-zero (length tail) in cc)
 
-pub walked : IsSpelled → (counts : List ℕ) (kind : SigKind) (b rest : List ℕ) (bad : Option Token) → ((k : ℕ) → get_or b k 0 < 2 ^ 8) → length b < 2 ^ 29 → Some (rest, bad) ≡ skip_all counts kind b → eqb (length rest) 0 ≡ true → IsFirstBad counts kind b bad
-walked spelled counts kind b rest bad each limit e empty =
-    skipped_spelled spelled counts kind b bad each limit (ap (λ (t : List ℕ). Some (t, bad)) (sym (is_end rest empty)) ∙ e)
+pub walked : IsEncoded → (counts : List ℕ) (kind : SigKind) (b tail : List ℕ) (bad : Option Token) → ((k : ℕ) → get_or b k 0 < 2 ^ 8) → length b < 2 ^ 29 → Some (tail, bad) ≡ skip_all counts kind b → eqb (length tail) 0 ≡ true → IsFirstBad counts kind b bad
+walked encoded counts kind b tail bad each limit e empty =
+    skipped_encoded encoded counts kind b bad each limit (ap (λ (t : List ℕ). Some (t, bad)) (sym (is_end tail empty)) ∙ e)
 
 -- the remainder after a signature that is encoded
-left_behind : IsRead → (counts : List ℕ) (kind : SigKind) (b rest : List ℕ) (bad : Option Token) (signature : Body) → Spells kind signature b → Some (rest, bad) ≡ skip_all counts kind b → ◌≡◌ {A = Left} (rest, bad) ([], first_bad counts (tokens signature))
-left_behind read counts kind b rest bad signature spells e = let f = e ∙ spelled_skipped read counts kind b signature spells in cc
+left_behind : IsRead → (counts : List ℕ) (kind : SigKind) (b tail : List ℕ) (bad : Option Token) (signature : Body) → Encodes kind signature b → Some (tail, bad) ≡ skip_all counts kind b → ◌≡◌ {A = Left} (tail, bad) ([], first_bad counts (tokens signature))
+left_behind read counts kind b tail bad signature encodes e = let f = e ∙ encoded_skipped read counts kind b signature encodes in cc
 
-pub walked_only : IsRead → (counts : List ℕ) (kind : SigKind) (b rest : List ℕ) (bad : Option Token) → Some (rest, bad) ≡ skip_all counts kind b → (signature : Body) → Spells kind signature b → Some bad ≡ Some (first_bad counts (tokens signature))
-walked_only read counts kind b rest bad e signature spells =
-    ap (λ (q : List ℕ × Option Token). Some q.1) (left_behind read counts kind b rest bad signature spells e)
+pub walked_only : IsRead → (counts : List ℕ) (kind : SigKind) (b tail : List ℕ) (bad : Option Token) → Some (tail, bad) ≡ skip_all counts kind b → (signature : Body) → Encodes kind signature b → Some bad ≡ Some (first_bad counts (tokens signature))
+walked_only read counts kind b tail bad e signature encodes =
+    ap (λ (q : List ℕ × Option Token). Some q.1) (left_behind read counts kind b tail bad signature encodes e)
 
-pub not_at_end : IsRead → (counts : List ℕ) (kind : SigKind) (b rest : List ℕ) (bad : Option Token) → Some (rest, bad) ≡ skip_all counts kind b → eqb (length rest) 0 ≡ false → (signature : Body) → Spells kind signature b → ⊥
-not_at_end read counts kind b rest bad e some signature spells =
-    let none : rest ≡ [] = ap (λ (q : List ℕ × Option Token). q.0) (left_behind read counts kind b rest bad signature spells e) in
+pub not_at_end : IsRead → (counts : List ℕ) (kind : SigKind) (b tail : List ℕ) (bad : Option Token) → Some (tail, bad) ≡ skip_all counts kind b → eqb (length tail) 0 ≡ false → (signature : Body) → Encodes kind signature b → ⊥
+not_at_end read counts kind b tail bad e some signature encodes =
+    let none : tail ≡ [] = ap (λ (q : List ℕ × Option Token). q.0) (left_behind read counts kind b tail bad signature encodes e) in
     let f = ap (λ (t : List ℕ). eqb (length t) 0) none in
     cc
 
-pub refused : IsRead → (counts : List ℕ) (kind : SigKind) (b : List ℕ) → None ≡ skip_all counts kind b → (signature : Body) → Spells kind signature b → ⊥
-refused read counts kind b e signature spells = let f = e ∙ spelled_skipped read counts kind b signature spells in cc
+pub refused : IsRead → (counts : List ℕ) (kind : SigKind) (b : List ℕ) → None ≡ skip_all counts kind b → (signature : Body) → Encodes kind signature b → ⊥
+refused read counts kind b e signature encodes = let f = e ∙ encoded_skipped read counts kind b signature encodes in cc
 
 -- ---- recognition, for any rows
 
-pub recognised : (kind : SigKind) (b : List ℕ) (f : Body → Option Token) (r : Option (Option Token)) (p : Bool) → p ≡ is_some r → IfSome r (λ bad. (signature : Body) × Spells kind signature b × (bad ≡ f signature)) → ((signature : Body) → Spells kind signature b → r ≡ Some (f signature)) → (p ≡ true → (signature : Body) × Spells kind signature b) × (((signature : Body) × Spells kind signature b) → p ≡ true)
+pub recognised : (kind : SigKind) (b : List ℕ) (f : Body → Option Token) (r : Option (Option Token)) (p : Bool) → p ≡ is_some r → IfSome r (λ bad. (signature : Body) × Encodes kind signature b × (bad ≡ f signature)) → ((signature : Body) → Encodes kind signature b → r ≡ Some (f signature)) → (p ≡ true → (signature : Body) × Encodes kind signature b) × (((signature : Body) × Encodes kind signature b) → p ≡ true)
 recognised kind b f None p e found only = (λ h. absurd cc, λ s. absurd (let f = only s.0 s.1 in cc))
 recognised kind b f (Some bad) p e found only = (λ h. (found.0, found.1), λ s. e)

@@ -7,17 +7,17 @@ use Rattle.table_schema.specs.declared.column.SigKind.TheVariants as column
 use Rattle.sig_grammar.specs.ElementTypes.{VOID, PTR, BYREF, VALUETYPE, CLASS, VAR, ARRAY, GENERICINST, TYPEDBYREF, FNPTR, SZARRAY, MVAR, SENTINEL}
 use Rattle.sig_grammar.specs.Parts.{Part, part_tokens}
 use Rattle.sig_grammar.specs.Grammar.{modifiers_parts, prefixes_parts}
-use Rattle.sig_grammar.specs.Spells.{first_bad}
+use Rattle.sig_grammar.specs.Encodes.{first_bad}
 use Rattle.sig_grammar.specs.Reading.{number_at, index_at, modifiers_at, prefixes_at, element_of, head_is, is_method_code, takes_sentinel}
 use Rattle.std.specs.List.{flat_map}
-use Rattle.sig_recogniser.specs.declared.rest.Rest.{Rest}
+use Rattle.sig_recogniser.specs.declared.tail.Tail.{Tail}
 
 -- the remaining bytes, and the first type index so far whose row does not exist
 abbrev pub Left : Type 0
 Left = List ℕ × Option Token
 
-abbrev pub left : Rest → Left
-left rest = (rest.bytes.now, rest.bad)
+abbrev pub left : Tail → Left
+left tail = (tail.bytes.now, tail.bad)
 
 abbrev pub Skip : Type 0
 Skip = Left → Option Left

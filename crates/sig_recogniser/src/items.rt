@@ -1,7 +1,7 @@
 ghost use Rattle.std.specs.Prelude.{◌≡◌, true, Some, option_map};
 ghost use Rattle.sig_grammar.specs.Reading.{starts_modifier, modifier_at, starts_prefix, prefix_at};
 
-use crate::front::{byte, index};
+use crate::head::{byte, index};
 use sig_grammar::element_type::{CMOD_OPT, CMOD_REQD, PINNED};
 use sig_grammar::{Modifier, Prefix};
 
@@ -14,15 +14,15 @@ pub fn has_modifier(bytes: &[u8]) -> bool
 
 /// The custom modifier at the start (II.23.2.7), and the remaining bytes. Call it after [`has_modifier`].
 /// `None` if no type index follows the modifier's code.
-#[tactic(auto, using(crate::proofs::Fronts::modifier_found, crate::proofs::Fronts::modifier_none))]
+#[tactic(auto, using(crate::proofs::Heads::modifier_found, crate::proofs::Heads::modifier_none))]
 pub fn modifier(bytes: &[u8]) -> Option<(Modifier, &[u8])>
     requires { starts_modifier bytes.now ≡ true }
     ensures { option_map (λ x. (Some x.0, x.1.now)) result ≡ modifier_at bytes.now }
 {
-    let (code, rest) = byte(bytes)?;
-    let (of, rest) = index(rest)?;
+    let (code, tail) = byte(bytes)?;
+    let (of, tail) = index(tail)?;
     let required = code == CMOD_REQD;
-    Some((Modifier { required, of }, rest))
+    Some((Modifier { required, of }, tail))
 }
 
 /// Whether the bytes start with a custom modifier or PINNED (II.23.2.6).
@@ -34,15 +34,15 @@ pub fn has_prefix(bytes: &[u8]) -> bool
 
 /// The custom modifier or PINNED at the start (II.23.2.6), and the remaining bytes. Call it after
 /// [`has_prefix`]. `None` if no type index follows a modifier's code.
-#[tactic(auto, using(crate::proofs::Fronts::prefix_starts, crate::proofs::Fronts::prefix_none))]
+#[tactic(auto, using(crate::proofs::Heads::prefix_starts, crate::proofs::Heads::prefix_none))]
 pub fn prefix(bytes: &[u8]) -> Option<(Prefix, &[u8])>
     requires { starts_prefix bytes.now ≡ true }
     ensures { option_map (λ x. (Some x.0, x.1.now)) result ≡ prefix_at bytes.now }
 {
-    let (code, rest) = byte(bytes)?;
+    let (code, tail) = byte(bytes)?;
     if code == PINNED {
-        return Some((Prefix::Pinned, rest));
+        return Some((Prefix::Pinned, tail));
     }
-    let (modifier, rest) = modifier(bytes)?;
-    Some((Prefix::Mod(modifier), rest))
+    let (modifier, tail) = modifier(bytes)?;
+    Some((Prefix::Mod(modifier), tail))
 }

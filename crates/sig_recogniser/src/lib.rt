@@ -17,15 +17,15 @@
 #![tactic(auto)]
 
 mod columns;
-mod front;
+mod head;
 mod items;
-mod rest;
+mod tail;
 mod shape;
 mod type_index;
 mod walk;
 mod whole;
 
-pub use front::{byte, index, number, sentinel, signed};
+pub use head::{byte, index, number, sentinel, signed};
 pub use items::{has_modifier, has_prefix, modifier, prefix};
 pub use table_schema::{SigKind, Token};
 pub use whole::{index_of_first_bad, recognise, recognise_first_bad};

@@ -4,10 +4,10 @@ ghost use Rattle.sig_grammar.specs.Parts.{part_tokens};
 ghost use Rattle.sig_grammar.specs.Grammar.{prefix_parts};
 ghost use Rattle.sig_recogniser.specs.Skips.{left, noted, skip_index, skip_modifiers, skip_prefixes};
 
-use crate::rest::Rest;
+use crate::tail::Tail;
 use sig_grammar::{Prefix, names_row};
 use crate::items::{has_modifier, has_prefix, modifier, prefix};
-use crate::front::index;
+use crate::head::index;
 use table_schema::Token;
 
 /// The first token without a row, after one more token.
@@ -32,36 +32,36 @@ fn first_bad_with(bad: Option<Token>, prefix: Prefix, counts: &[u32; 45]) -> Opt
 
 /// The remainder after a type index (II.23.2.8).
 #[tactic(auto, unfolding(crate::specs::Skips::skip_index))]
-pub fn after_index<'a>(rest: Rest<'a>, counts: &[u32; 45]) -> Option<Rest<'a>>
-    ensures { option_map left result ≡ skip_index counts.now (left rest.entry) }
+pub fn after_index<'a>(tail: Tail<'a>, counts: &[u32; 45]) -> Option<Tail<'a>>
+    ensures { option_map left result ≡ skip_index counts.now (left tail.entry) }
 {
-    let (token, bytes) = index(rest.bytes)?;
-    let bad = first_bad(rest.bad, token, counts);
-    Some(Rest { bytes, bad })
+    let (token, bytes) = index(tail.bytes)?;
+    let bad = first_bad(tail.bad, token, counts);
+    Some(Tail { bytes, bad })
 }
 
 /// The remainder after the modifiers at the start (II.23.2.7).
-pub fn after_modifiers<'a>(rest: Rest<'a>, counts: &[u32; 45]) -> Option<Rest<'a>>
-    ensures { option_map left result ≡ skip_modifiers counts.now (left rest.entry) }
+pub fn after_modifiers<'a>(tail: Tail<'a>, counts: &[u32; 45]) -> Option<Tail<'a>>
+    ensures { option_map left result ≡ skip_modifiers counts.now (left tail.entry) }
 {
-    let mut rest = rest;
-    while has_modifier(rest.bytes) {
-        let (modifier, bytes) = modifier(rest.bytes)?;
-        let bad = first_bad(rest.bad, modifier.of, counts);
-        rest = Rest { bytes, bad };
+    let mut tail = tail;
+    while has_modifier(tail.bytes) {
+        let (modifier, bytes) = modifier(tail.bytes)?;
+        let bad = first_bad(tail.bad, modifier.of, counts);
+        tail = Tail { bytes, bad };
     }
-    Some(rest)
+    Some(tail)
 }
 
 /// The remainder after the modifiers and PINNED at the start (II.23.2.6).
-pub fn after_prefixes<'a>(rest: Rest<'a>, counts: &[u32; 45]) -> Option<Rest<'a>>
-    ensures { option_map left result ≡ skip_prefixes counts.now (left rest.entry) }
+pub fn after_prefixes<'a>(tail: Tail<'a>, counts: &[u32; 45]) -> Option<Tail<'a>>
+    ensures { option_map left result ≡ skip_prefixes counts.now (left tail.entry) }
 {
-    let mut rest = rest;
-    while has_prefix(rest.bytes) {
-        let (prefix, bytes) = prefix(rest.bytes)?;
-        let bad = first_bad_with(rest.bad, prefix, counts);
-        rest = Rest { bytes, bad };
+    let mut tail = tail;
+    while has_prefix(tail.bytes) {
+        let (prefix, bytes) = prefix(tail.bytes)?;
+        let bad = first_bad_with(tail.bad, prefix, counts);
+        tail = Tail { bytes, bad };
     }
-    Some(rest)
+    Some(tail)
 }

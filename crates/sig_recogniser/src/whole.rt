@@ -1,9 +1,9 @@
 ghost use Rattle.std.specs.Prelude.{◌≡◌, IsTrue, ◌↔◌, IfSome, Some};
 ghost use Rattle.sig_grammar.specs.Syntax.{Body};
-ghost use Rattle.sig_grammar.specs.Spells.{Spells, tokens, first_bad};
+ghost use Rattle.sig_grammar.specs.Encodes.{Encodes, tokens, first_bad};
 
 use crate::columns::after_body;
-use crate::rest::Rest;
+use crate::tail::Tail;
 use sig_values::signatures_are_read;
 use table_schema::{SigKind, Token};
 
@@ -23,18 +23,18 @@ const NO_ROWS: [u32; 45] = [0; 45];
 /// `counts` gives the number of rows of each table by table number. One pass, and it does not allocate. It
 /// returns what [`recognise`] and [`index_of_first_bad`] return in two passes.
 pub fn recognise_first_bad(bytes: &[u8], kind: SigKind, counts: &[u32; 45]) -> Option<Option<Token>>
-    ensures found { IfSome result (λ bad. (signature : Body) × Spells kind signature bytes.now × (bad ≡ first_bad counts.now (tokens signature))) }
-    ensures only { (signature : Body) → Spells kind signature bytes.now → result ≡ Some (first_bad counts.now (tokens signature)) }
+    ensures sound { IfSome result (λ bad. (signature : Body) × Encodes kind signature bytes.now × (bad ≡ first_bad counts.now (tokens signature))) }
+    ensures complete { (signature : Body) → Encodes kind signature bytes.now → result ≡ Some (first_bad counts.now (tokens signature)) }
 {
     signatures_are_read();
     if bytes.len() >= TOO_MANY {
         return None;
     }
-    let rest = after_body(Rest { bytes, bad: None }, kind, DEPTH, counts)?;
-    if !rest.bytes.is_empty() {
+    let tail = after_body(Tail { bytes, bad: None }, kind, DEPTH, counts)?;
+    if !tail.bytes.is_empty() {
         return None;
     }
-    Some(rest.bad)
+    Some(tail.bad)
 }
 
 /// Whether all the bytes together encode a signature that a column of this kind holds.
@@ -42,9 +42,9 @@ pub fn recognise_first_bad(bytes: &[u8], kind: SigKind, counts: &[u32; 45]) -> O
 /// One pass, and it does not allocate. Packed numbers may be longer than necessary. Types nest at most 128
 /// deep. 2^29 bytes or more encode nothing. The row of a type index need not exist.
 pub fn recognise(bytes: &[u8], kind: SigKind) -> bool
-    ensures spelled { IsTrue result ↔ ((signature : Body) × Spells kind signature bytes.now) }
+    ensures encoded { IsTrue result ↔ ((signature : Body) × Encodes kind signature bytes.now) }
     // No bytes encode two signatures.
-    ensures one { (first second : Body) → Spells kind first bytes.now → Spells kind second bytes.now → first ≡ second }
+    ensures one { (first second : Body) → Encodes kind first bytes.now → Encodes kind second bytes.now → first ≡ second }
 {
     signatures_are_read();
     recognise_first_bad(bytes, kind, &NO_ROWS).is_some()
@@ -55,8 +55,8 @@ pub fn recognise(bytes: &[u8], kind: SigKind) -> bool
 ///
 /// `counts` gives the number of rows of each table by table number. One pass, and it does not allocate.
 pub fn index_of_first_bad(bytes: &[u8], kind: SigKind, counts: &[u32; 45]) -> Option<Token>
-    requires { (signature : Body) × Spells kind signature bytes.now }
-    ensures { (signature : Body) → Spells kind signature bytes.now → result ≡ first_bad counts.now (tokens signature) }
+    requires { (signature : Body) × Encodes kind signature bytes.now }
+    ensures { (signature : Body) → Encodes kind signature bytes.now → result ≡ first_bad counts.now (tokens signature) }
 {
     recognise_first_bad(bytes, kind, counts)?
 }

@@ -12,7 +12,7 @@
 //! ```
 #![tactic(auto)]
 
-mod front;
+mod head;
 mod marks;
 mod named;
 mod shape;

@@ -10,29 +10,29 @@ fn behind_one(bytes: &[u8]) -> Option<&[u8]> {
     if !has_prefix(bytes) {
         return None;
     }
-    let (_, rest) = prefix(bytes)?;
-    Some(rest)
+    let (_, tail) = prefix(bytes)?;
+    Some(tail)
 }
 
 /// The number of modifiers and PINNED at the start, and the bytes after them.
 pub fn behind_all(bytes: &[u8]) -> (usize, &[u8]) {
-    let mut rest = bytes;
+    let mut tail = bytes;
     for count in 0..bytes.len() {
-        match behind_one(rest) {
-            Some(next) => rest = next,
-            None => return (count, rest),
+        match behind_one(tail) {
+            Some(next) => tail = next,
+            None => return (count, tail),
         }
     }
-    (bytes.len(), rest)
+    (bytes.len(), tail)
 }
 
 /// The bytes after `count` modifiers and PINNED.
 fn behind(bytes: &[u8], count: usize) -> &[u8] {
-    let mut rest = bytes;
+    let mut tail = bytes;
     for done in 0..count {
-        rest = behind_one(rest).unwrap_or(rest);
+        tail = behind_one(tail).unwrap_or(tail);
     }
-    rest
+    tail
 }
 
 /// Writes a modifier (II.7.1.1). In the text it follows the type that it precedes in the bytes.

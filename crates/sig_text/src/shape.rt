@@ -1,16 +1,16 @@
 ghost use Rattle.std.specs.Prelude.{◌≡◌};
 ghost use Rattle.sig_text.specs.Refused.{refused_after};
 
-use crate::front::{number, signed};
+use crate::head::{number, signed};
 use crate::sink::TextSink;
 
 /// The bytes after `count` numbers, signed or unsigned.
 fn behind_numbers(bytes: &[u8], count: u32) -> &[u8] {
-    let mut rest = bytes;
+    let mut tail = bytes;
     for done in 0..count {
-        (_, rest) = number(rest);
+        (_, tail) = number(tail);
     }
-    rest
+    tail
 }
 
 /// Writes a dimension (II.14.2): its lower bound and its size, if they are given.
@@ -64,8 +64,8 @@ fn dimensions<S: TextSink>(
 pub fn shape<'a, S: TextSink>(sink: &mut S, bytes: &'a [u8]) -> Option<&'a [u8]>
     ensures { S.refused sink.new ≡ refused_after result (S.refused sink.old) }
 {
-    let (rank, rest) = number(bytes);
-    let (size_count, sizes) = number(rest);
+    let (rank, tail) = number(bytes);
+    let (size_count, sizes) = number(tail);
     let (low_count, low) = number(behind_numbers(sizes, size_count));
     sink.text("[")?;
     if rank == 1 && size_count == 0 && low_count == 0 {

@@ -1,7 +1,7 @@
 ghost use Rattle.std.specs.Prelude.{◌≡◌};
 ghost use Rattle.sig_text.specs.Refused.{refused_after};
 
-use crate::front::{byte, index, number, sentinel};
+use crate::head::{byte, index, number, sentinel};
 use crate::marks::{behind_all, marks};
 use crate::shape::shape;
 use crate::sink::TextSink;
@@ -42,19 +42,19 @@ fn named<'a, S: TextSink>(sink: &mut S, code: u8, bytes: &'a [u8]) -> Option<&'a
     } else {
         "class "
     })?;
-    let (of, rest) = index(bytes);
+    let (of, tail) = index(bytes);
     sink.name(of)?;
-    Some(rest)
+    Some(tail)
 }
 
 /// Writes a generic parameter after its mark, and returns the remaining bytes.
 fn parameter<'a, S: TextSink>(sink: &mut S, mark: &str, bytes: &'a [u8]) -> Option<&'a [u8]>
     ensures { S.refused sink.new ≡ refused_after result (S.refused sink.old) }
 {
-    let (count, rest) = number(bytes);
+    let (count, tail) = number(bytes);
     sink.text(mark)?;
     sink.number(count)?;
-    Some(rest)
+    Some(tail)
 }
 
 /// Writes a type, a parameter, a result or a local variable with its modifiers, and returns the remaining bytes.
@@ -63,9 +63,9 @@ pub fn slot<'a, S: TextSink>(sink: &mut S, bytes: &'a [u8], depth: u8) -> Option
     ensures { S.refused sink.new ≡ refused_after result (S.refused sink.old) }
 {
     let (count, inner) = behind_all(bytes);
-    let rest = content(sink, inner, depth)?;
+    let tail = content(sink, inner, depth)?;
     marks(sink, bytes, count)?;
-    Some(rest)
+    Some(tail)
 }
 
 /// Writes what follows modifiers: a type, or a reference to a type with its own modifiers.
@@ -73,14 +73,14 @@ pub fn slot<'a, S: TextSink>(sink: &mut S, bytes: &'a [u8], depth: u8) -> Option
 fn content<'a, S: TextSink>(sink: &mut S, bytes: &'a [u8], depth: u8) -> Option<&'a [u8]>
     ensures { S.refused sink.new ≡ refused_after result (S.refused sink.old) }
 {
-    let (code, rest) = byte(bytes);
+    let (code, tail) = byte(bytes);
     if code != BYREF {
-        return core(sink, code, rest, depth);
+        return core(sink, code, tail, depth);
     }
-    let (count, inner) = behind_all(rest);
+    let (count, inner) = behind_all(tail);
     let (code, behind) = byte(inner);
     let behind = core(sink, code, behind, depth)?;
-    marks(sink, rest, count)?;
+    marks(sink, tail, count)?;
     sink.text("&")?;
     Some(behind)
 }
@@ -120,18 +120,18 @@ fn core<'a, S: TextSink>(sink: &mut S, code: u8, bytes: &'a [u8], depth: u8) -> 
 fn around<'a, S: TextSink>(sink: &mut S, code: u8, bytes: &'a [u8], depth: u8) -> Option<&'a [u8]>
     ensures { S.refused sink.new ≡ refused_after result (S.refused sink.old) }
 {
-    let rest = slot(sink, bytes, depth)?;
+    let tail = slot(sink, bytes, depth)?;
     match code {
         PTR => {
             sink.text("*")?;
-            Some(rest)
+            Some(tail)
         }
         SZARRAY => {
             sink.text("[]")?;
-            Some(rest)
+            Some(tail)
         }
-        ARRAY => shape(sink, rest),
-        _ => Some(rest),
+        ARRAY => shape(sink, tail),
+        _ => Some(tail),
     }
 }
 
@@ -145,18 +145,18 @@ pub fn listed<'a, S: TextSink>(
 ) -> Option<&'a [u8]>
     ensures { S.refused sink.new ≡ refused_after result (S.refused sink.old) }
 {
-    let mut rest = bytes;
+    let mut tail = bytes;
     for done in 0..count {
         if 0 < done {
             sink.text(", ")?;
         }
-        let (marked, behind) = sentinel(rest);
+        let (marked, behind) = sentinel(tail);
         if marked {
             sink.text("..., ")?;
         }
-        rest = slot(sink, behind, depth)?;
+        tail = slot(sink, behind, depth)?;
     }
-    Some(rest)
+    Some(tail)
 }
 
 /// Writes an instance of a generic type, and returns the remaining bytes.
@@ -164,13 +164,13 @@ pub fn listed<'a, S: TextSink>(
 fn instance<'a, S: TextSink>(sink: &mut S, bytes: &'a [u8], depth: u8) -> Option<&'a [u8]>
     ensures { S.refused sink.new ≡ refused_after result (S.refused sink.old) }
 {
-    let (code, rest) = byte(bytes);
-    let rest = named(sink, code, rest)?;
-    let (count, rest) = number(rest);
+    let (code, tail) = byte(bytes);
+    let tail = named(sink, code, tail)?;
+    let (count, tail) = number(tail);
     sink.text("<")?;
-    let rest = listed(sink, rest, count, depth)?;
+    let tail = listed(sink, tail, count, depth)?;
     sink.text(">")?;
-    Some(rest)
+    Some(tail)
 }
 
 /// The words of a calling convention (II.15.3), each with a space after it.
@@ -205,8 +205,8 @@ fn generic(code: u8, bytes: &[u8]) -> (Option<u32>, &[u8]) {
     if !is_generic(code) {
         return (None, bytes);
     }
-    let (count, rest) = number(bytes);
-    (Some(count), rest)
+    let (count, tail) = number(bytes);
+    (Some(count), tail)
 }
 
 /// Writes the number of generic parameters, if the method is generic.
@@ -228,15 +228,15 @@ fn arity<S: TextSink>(sink: &mut S, generic: Option<u32>) -> Option<()>
 pub fn method<'a, S: TextSink>(sink: &mut S, bytes: &'a [u8], depth: u8) -> Option<&'a [u8]>
     ensures { S.refused sink.new ≡ refused_after result (S.refused sink.old) }
 {
-    let (code, rest) = byte(bytes);
+    let (code, tail) = byte(bytes);
     convention(sink, code)?;
-    let (generic, rest) = generic(code, rest);
-    let (count, rest) = number(rest);
-    let rest = slot(sink, rest, depth)?;
+    let (generic, tail) = generic(code, tail);
+    let (count, tail) = number(tail);
+    let tail = slot(sink, tail, depth)?;
     sink.text(" *")?;
     arity(sink, generic)?;
     sink.text("(")?;
-    let rest = listed(sink, rest, count, depth)?;
+    let tail = listed(sink, tail, count, depth)?;
     sink.text(")")?;
-    Some(rest)
+    Some(tail)
 }

@@ -1,9 +1,9 @@
 ghost use Rattle.std.specs.Prelude.{◌≡◌};
 ghost use Rattle.sig_grammar.specs.Syntax.{Body};
-ghost use Rattle.sig_grammar.specs.Spells.{Spells};
+ghost use Rattle.sig_grammar.specs.Encodes.{Encodes};
 ghost use Rattle.sig_text.specs.Refused.{refused_after};
 
-use crate::front::{byte, number};
+use crate::head::{byte, number};
 use crate::sink::TextSink;
 use crate::types::{listed, method, slot};
 use sig_recogniser::recognise;
@@ -19,10 +19,10 @@ fn property<'a, S: TextSink>(sink: &mut S, code: u8, bytes: &'a [u8]) -> Option<
     if code == 0x28 {
         sink.text("instance ")?;
     }
-    let (count, rest) = number(bytes);
-    let rest = slot(sink, rest, DEPTH)?;
+    let (count, tail) = number(bytes);
+    let tail = slot(sink, tail, DEPTH)?;
     sink.text(" ")?;
-    enclosed(sink, rest, count, "(", ")")
+    enclosed(sink, tail, count, "(", ")")
 }
 
 /// Writes `count` types between two marks, and returns the remaining bytes.
@@ -36,27 +36,27 @@ fn enclosed<'a, S: TextSink>(
     ensures { S.refused sink.new ≡ refused_after result (S.refused sink.old) }
 {
     sink.text(first)?;
-    let rest = listed(sink, bytes, count, DEPTH)?;
+    let tail = listed(sink, bytes, count, DEPTH)?;
     sink.text(last)?;
-    Some(rest)
+    Some(tail)
 }
 
 /// Writes a signature by its first byte, in a column of another kind than TypeSpec.
 fn headed<'a, S: TextSink>(sink: &mut S, bytes: &'a [u8]) -> Option<&'a [u8]>
     ensures { S.refused sink.new ≡ refused_after result (S.refused sink.old) }
 {
-    let (code, rest) = byte(bytes);
+    let (code, tail) = byte(bytes);
     match code {
-        0x06 => slot(sink, rest, DEPTH),
+        0x06 => slot(sink, tail, DEPTH),
         0x07 => {
-            let (count, rest) = number(rest);
-            enclosed(sink, rest, count, "(", ")")
+            let (count, tail) = number(tail);
+            enclosed(sink, tail, count, "(", ")")
         }
         0x0A => {
-            let (count, rest) = number(rest);
-            enclosed(sink, rest, count, "<", ">")
+            let (count, tail) = number(tail);
+            enclosed(sink, tail, count, "<", ">")
         }
-        0x08 | 0x28 => property(sink, code, rest),
+        0x08 | 0x28 => property(sink, code, tail),
         _ => method(sink, bytes, DEPTH),
     }
 }
@@ -74,7 +74,7 @@ fn headed<'a, S: TextSink>(sink: &mut S, bytes: &'a [u8]) -> Option<&'a [u8]>
 /// `None` if and only if the sink refused a word.
 pub fn write_signature<S: TextSink>(sink: &mut S, bytes: &[u8], kind: SigKind) -> Option<()>
     ensures words { S.refused sink.new ≡ refused_after result (S.refused sink.old) }
-    ensures nothing { ¬ ((signature : Body) × Spells kind signature bytes.now) → sink.new ≡ sink.old }
+    ensures nothing { ¬ ((signature : Body) × Encodes kind signature bytes.now) → sink.new ≡ sink.old }
 {
     if !recognise(bytes, kind) {
         return Some(());

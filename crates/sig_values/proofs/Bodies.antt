@@ -10,10 +10,10 @@ use Rattle.sig_grammar.specs.Syntax.{Core, Content, Slot, Typed, Method, method,
 use Rattle.sig_grammar.specs.Parts.{Part, byte, number}
 use Rattle.sig_grammar.specs.Grammar.{list_parts, core_parts, typed_parts, content_parts, slot_parts, ret_parts, method_parts, method_code, prefixes_parts, prefix_parts, local_parts, body_parts}
 use Rattle.sig_grammar.specs.Limits.{IsMethod, IsMethodKind, IsLocalWithin, IsBodyWithin, IsCoreWithin, IsTypedWithin, IsContentWithin, IsSlotWithin, IsRetWithin}
-use Rattle.sig_grammar.specs.Spells.{Holds}
+use Rattle.sig_grammar.specs.Encodes.{Holds}
 use Rattle.sig_grammar.specs.Reading.{Reader, change, both, behind, fail, number_at, many_at, counted_at, prefix_at, prefixes_at, typed_at, content_at, slot_at, ret_at, method_at}
 use Rattle.sig_grammar.specs.Columns.{local_from, local_at, headed_at, property_from, method_or, field_or, property_or, body_at}
-use Rattle.sig_values.proofs.Readers.{IsBytes, Front, Front-append, Front-split, Takes, Reads, front_byte, behind_byte, change_reads}
+use Rattle.sig_values.proofs.Readers.{IsBytes, Head, Head-append, Head-split, Takes, Reads, head_byte, behind_byte, change_reads}
 use Rattle.sig_grammar.proofs.OptionLemmas.{IfSome-bind, IfSome-map, IfSome-cond}
 use Rattle.sig_values.proofs.Numbers.{NumbersAreRead, Any, number_parts, number_reads}
 use Rattle.sig_values.proofs.Lists.{many_found, many_only, counted_parts, counted_reads, TakesMany}
@@ -45,25 +45,25 @@ module _ (known : NumbersAreRead) {A : Type 0} (r : Reader A) (parts : A → Lis
         (λ x tx.
         IfSome-map (TakesMany known r parts Good each n.0 x.1) (Takes headed_parts HeadedGood b) (λ y. ((x.0, y.0), y.1)) (many_at r n.0 x.1) (many_found known r parts Good each n.0 x.1 tx.bytes)
         (λ y ty.
-        let inner = Front-append (parts x.0) (list_parts parts y.0) n.1 x.1 y.1 tx.front ty.0.front in
+        let inner = Head-append (parts x.0) (list_parts parts y.0) n.1 x.1 y.1 tx.head ty.0.head in
         record {
           good = (tx.good, ty.0.good);
           bytes = ty.0.bytes;
-          front = Front-append (number_parts (length y.0)) (parts x.0 ++ list_parts parts y.0) b n.1 y.1 (subst (λ (k : ℕ). Front (number_parts k) b n.1) (sym ty.1) tn.front) inner;
+          head = Head-append (number_parts (length y.0)) (parts x.0 ++ list_parts parts y.0) b n.1 y.1 (subst (λ (k : ℕ). Head (number_parts k) b n.1) (sym ty.1) tn.head) inner;
         })));
-    only = λ b rest v good f.
-        let s = Front-split (number_parts (length v.1)) (parts v.0 ++ list_parts parts v.1) b rest f in
-        let t = Front-split (parts v.0) (list_parts parts v.1) s.0 rest s.2 in
+    only = λ b remainder v good f.
+        let s = Head-split (number_parts (length v.1)) (parts v.0 ++ list_parts parts v.1) b remainder f in
+        let t = Head-split (parts v.0) (list_parts parts v.1) s.0 remainder s.2 in
         let e = (number_reads known).only b s.0 (length v.1) tt s.1 in
         let g = each.only s.0 t.0 v.0 good.0 t.1 in
-        let k = many_only known r parts Good each v.1 t.0 rest good.1 t.2 in
+        let k = many_only known r parts Good each v.1 t.0 remainder good.1 t.2 in
         rw (e, g, k) refl;
   }
 
 -- ---- a form after its byte, or another form
 
 module _ {A : Type 0} (n : ℕ) (f : A → Body) (r : Reader A) (inner : A → List Part) (Inner : A → Type 0) (reads : Reads r inner Inner)
-    (other : Reader Body) (Fine : Body → Type 0) (rest_reads : Reads other body_parts Fine) (Good : Body → Type 0)
+    (other : Reader Body) (Fine : Body → Type 0) (remainder_reads : Reads other body_parts Fine) (Good : Body → Type 0)
     (same : (u : A) → body_parts (f u) ≡ byte n ∷ inner u) (good : (u : A) → Inner u → Good (f u)) (fine : (v : Body) → Fine v → Good v)
     (which : (v : Body) → Good v → ((u : A) × Inner u × (f u ≡ v)) ⊎ (Fine v × (heads (no n) (body_parts v) ≡ true))) where
   form_found : (b : List ℕ) → IsBytes b → IfSome (behind n (change f r) other b) (Takes body_parts Good b)
@@ -75,24 +75,24 @@ module _ {A : Type 0} (n : ℕ) (f : A → Body) (r : Reader A) (inner : A → L
       (λ x t. record {
         good = good x.0 t.good;
         bytes = t.bytes;
-        front = subst (λ (ps : List Part). Front ps (c ∷ b) x.1) (sym (same x.0)) (behind_byte c n (inner x.0) b x.1 (eqb-true c n e) t.front);
+        head = subst (λ (ps : List Part). Head ps (c ∷ b) x.1) (sym (same x.0)) (behind_byte c n (inner x.0) b x.1 (eqb-true c n e) t.head);
       }))
       (λ e.
-      weaken (Takes body_parts Fine (c ∷ b)) (Takes body_parts Good (c ∷ b)) (other (c ∷ b)) (rest_reads.found (c ∷ b) h)
-      (λ x t. record { good = fine x.0 t.good; bytes = t.bytes; front = t.front }))
+      weaken (Takes body_parts Fine (c ∷ b)) (Takes body_parts Good (c ∷ b)) (other (c ∷ b)) (remainder_reads.found (c ∷ b) h)
+      (λ x t. record { good = fine x.0 t.good; bytes = t.bytes; head = t.head }))
 
-  at_byte : (u : A) (tail rest : List ℕ) (v : Body) → r tail ≡ Some (u, rest) → f u ≡ v → behind n (change f r) other (n ∷ tail) ≡ Some (v, rest)
-  at_byte u tail rest v e k = let same_byte = eq-eqb n n refl in rw (same_byte, e, k) refl
+  at_byte : (u : A) (tail remainder : List ℕ) (v : Body) → r tail ≡ Some (u, remainder) → f u ≡ v → behind n (change f r) other (n ∷ tail) ≡ Some (v, remainder)
+  at_byte u tail remainder v e k = let same_byte = eq-eqb n n refl in rw (same_byte, e, k) refl
 
-  form_only : (b rest : List ℕ) (v : Body) → Good v → Front (body_parts v) b rest → behind n (change f r) other b ≡ Some (v, rest)
-  form_only b rest v g front = of_which (which v g)
+  form_only : (b remainder : List ℕ) (v : Body) → Good v → Head (body_parts v) b remainder → behind n (change f r) other b ≡ Some (v, remainder)
+  form_only b remainder v g head = of_which (which v g)
     where
-      of_which : ((u : A) × Inner u × (f u ≡ v)) ⊎ (Fine v × (heads (no n) (body_parts v) ≡ true)) → behind n (change f r) other b ≡ Some (v, rest)
+      of_which : ((u : A) × Inner u × (f u ≡ v)) ⊎ (Fine v × (heads (no n) (body_parts v) ≡ true)) → behind n (change f r) other b ≡ Some (v, remainder)
       of_which (inl u) =
-          let there = subst (λ (ps : List Part). Front ps b rest) (same u.0) (subst (λ (w : Body). Front (body_parts w) b rest) (sym u.2) front) in
-          let s = front_byte n (inner u.0) b rest there in
-          rw (s.1) (at_byte u.0 s.0 rest v (reads.only s.0 rest u.0 u.1 s.2) u.2)
-      of_which (inr h) = behind_other n (change f r) other b (begins-heads (no n) (body_parts v) b rest h.1 front) ∙ rest_reads.only b rest v h.0 front
+          let there = subst (λ (ps : List Part). Head ps b remainder) (same u.0) (subst (λ (w : Body). Head (body_parts w) b remainder) (sym u.2) head) in
+          let s = head_byte n (inner u.0) b remainder there in
+          rw (s.1) (at_byte u.0 s.0 remainder v (reads.only s.0 remainder u.0 u.1 s.2) u.2)
+      of_which (inr h) = behind_other n (change f r) other b (begins-heads (no n) (body_parts v) b remainder h.1 head) ∙ remainder_reads.only b remainder v h.0 head
 
   pub form_reads : Reads (behind n (change f r) other) body_parts Good
   form_reads = record { found = form_found; only = form_only }
@@ -101,7 +101,7 @@ abbrev Nothing : Body → Type 0
 Nothing v = ⊥
 
 fail_reads : Reads fail body_parts Nothing
-fail_reads = record { found = λ b h. tt; only = λ b rest v good f. absurd good }
+fail_reads = record { found = λ b h. tt; only = λ b remainder v good f. absurd good }
 
 -- ---- no method starts with the byte of another form
 

@@ -9,7 +9,7 @@ use Rattle.sig_grammar.specs.Grammar.{core_parts, typed_parts, content_parts, sl
 use Rattle.sig_grammar.specs.Limits.{IsCoreWithin, IsTypedWithin, IsContentWithin, IsSlotWithin, IsRetWithin}
 use Rattle.sig_grammar.specs.Reading.{Reader, change, both, behind, modifier_at, modifiers_at, typed_at, void_or, target_at, content_at, slot_at, ret_at, ret_from}
 use Rattle.sig_values.proofs.Numbers.{NumbersAreRead}
-use Rattle.sig_values.proofs.Readers.{IsBytes, Front, Takes, Reads, front_byte, behind_byte, change_reads}
+use Rattle.sig_values.proofs.Readers.{IsBytes, Head, Takes, Reads, head_byte, behind_byte, change_reads}
 use Rattle.sig_grammar.proofs.OptionLemmas.{IfSome-map, IfSome-cond}
 use Rattle.sig_values.proofs.Leading.{heads, begins-heads, no_modifier, modifier_leads, led_reads}
 use Rattle.sig_values.proofs.Codes.{no, core_no_modifier, core_no_void, core_no_ref, core_no_by_ref, content_no_modifier, content_no_void, behind_other}
@@ -31,17 +31,17 @@ module _ {A : Type 0} (r : Reader A) (parts : A → List Part) (Good : A → Typ
   void_found [] h = tt
   void_found (c ∷ b) h =
       IfSome-cond (Takes (void_parts parts) (VoidGood Good) (c ∷ b)) (eqb c 0x01) _ _
-      (λ e. record { good = tt; bytes = h.1; front = behind_byte c 0x01 [] b b (eqb-true c 0x01 e) refl })
+      (λ e. record { good = tt; bytes = h.1; head = behind_byte c 0x01 [] b b (eqb-true c 0x01 e) refl })
       (λ e.
       IfSome-map (Takes parts Good (c ∷ b)) (Takes (void_parts parts) (VoidGood Good) (c ∷ b)) (λ x. (Some x.0, x.1)) (r (c ∷ b)) (reads.found (c ∷ b) h)
-      (λ x t. record { good = t.good; bytes = t.bytes; front = t.front }))
+      (λ x t. record { good = t.good; bytes = t.bytes; head = t.head }))
 
-  void_only : (b rest : List ℕ) (v : Option A) → VoidGood Good v → Front (void_parts parts v) b rest → void_or r b ≡ Some (v, rest)
+  void_only : (b tail : List ℕ) (v : Option A) → VoidGood Good v → Head (void_parts parts v) b tail → void_or r b ≡ Some (v, tail)
   unfolding void_or
-  void_only b rest None good f = let s = front_byte 0x01 [] b rest f in rw (s.1) (ap (λ (t : List ℕ). Some (None, t)) s.2)
-  void_only b rest (Some x) good f =
-      let e = reads.only b rest x good f in
-      behind_other 0x01 (λ t. Some (None, t)) (change (λ y. Some y) r) b (begins-heads (no 0x01) (parts x) b rest (free x good) f) ∙ rw e refl
+  void_only b tail None good f = let s = head_byte 0x01 [] b tail f in rw (s.1) (ap (λ (t : List ℕ). Some (None, t)) s.2)
+  void_only b tail (Some x) good f =
+      let e = reads.only b tail x good f in
+      behind_other 0x01 (λ t. Some (None, t)) (change (λ y. Some y) r) b (begins-heads (no 0x01) (parts x) b tail (free x good) f) ∙ rw e refl
 
   pub void_reads : Reads (void_or r) (void_parts parts) (VoidGood Good)
   void_reads = record { found = void_found; only = void_only }
@@ -86,27 +86,27 @@ module _ (known : NumbersAreRead) (d : ℕ) (nested : Reader Core) (cores : Read
     content_found [] h = tt
     content_found (c ∷ b) h =
         IfSome-cond (Takes content_parts (IsContentWithin d) (c ∷ b)) (eqb c 0x16) _ _
-        (λ e. record { good = (some_depth, tt); bytes = h.1; front = behind_byte c 0x16 [] b b (eqb-true c 0x16 e) refl })
+        (λ e. record { good = (some_depth, tt); bytes = h.1; head = behind_byte c 0x16 [] b b (eqb-true c 0x16 e) refl })
         (λ e.
         IfSome-cond (Takes content_parts (IsContentWithin d) (c ∷ b)) (eqb c 0x10) _ _
         (λ e.
         IfSome-map (Takes modded_parts ModdedGood b) (Takes content_parts (IsContentWithin d) (c ∷ b)) (λ x. (by_ref x.0.0 x.0.1, x.1)) (both modifiers_at nested b) (modded_reads.found b h.1)
-        (λ x t. record { good = t.good; bytes = t.bytes; front = behind_byte c 0x10 _ b x.1 (eqb-true c 0x10 e) t.front }))
+        (λ x t. record { good = t.good; bytes = t.bytes; head = behind_byte c 0x10 _ b x.1 (eqb-true c 0x10 e) t.head }))
         (λ e.
         IfSome-map (Takes core_parts (IsCoreWithin d) (c ∷ b)) (Takes content_parts (IsContentWithin d) (c ∷ b)) (λ x. (plain x.0, x.1)) (nested (c ∷ b)) (cores.found (c ∷ b) h)
-        (λ x t. record { good = t.good; bytes = t.bytes; front = t.front })))
+        (λ x t. record { good = t.good; bytes = t.bytes; head = t.head })))
 
-    content_only : (b rest : List ℕ) (v : Content) → IsContentWithin d v → Front (content_parts v) b rest → content_at nested b ≡ Some (v, rest)
+    content_only : (b tail : List ℕ) (v : Content) → IsContentWithin d v → Head (content_parts v) b tail → content_at nested b ≡ Some (v, tail)
     unfolding content_at
-    content_only b rest typed_ref good f = let s = front_byte 0x16 [] b rest f in rw (s.1) (ap (λ (t : List ℕ). Some (typed_ref, t)) s.2)
-    content_only b rest (by_ref modifiers core) good f =
-        let s = front_byte 0x10 (modifiers_parts modifiers ++ core_parts core) b rest f in
-        let e = modded_reads.only s.0 rest (modifiers, core) good s.2 in
+    content_only b tail typed_ref good f = let s = head_byte 0x16 [] b tail f in rw (s.1) (ap (λ (t : List ℕ). Some (typed_ref, t)) s.2)
+    content_only b tail (by_ref modifiers core) good f =
+        let s = head_byte 0x10 (modifiers_parts modifiers ++ core_parts core) b tail f in
+        let e = modded_reads.only s.0 tail (modifiers, core) good s.2 in
         rw (s.1, e) refl
-    content_only b rest (plain core) good f =
-        let e = cores.only b rest core good f in
-        let one = behind_other 0x16 (λ t. Some (typed_ref, t)) (behind 0x10 (change (λ x. by_ref x.0 x.1) (both modifiers_at nested)) (change plain nested)) b (begins-heads (no 0x16) (core_parts core) b rest (core_no_ref core) f) in
-        let two = behind_other 0x10 (change (λ x. by_ref x.0 x.1) (both modifiers_at nested)) (change plain nested) b (begins-heads (no 0x10) (core_parts core) b rest (core_no_by_ref core) f) in
+    content_only b tail (plain core) good f =
+        let e = cores.only b tail core good f in
+        let one = behind_other 0x16 (λ t. Some (typed_ref, t)) (behind 0x10 (change (λ x. by_ref x.0 x.1) (both modifiers_at nested)) (change plain nested)) b (begins-heads (no 0x16) (core_parts core) b tail (core_no_ref core) f) in
+        let two = behind_other 0x10 (change (λ x. by_ref x.0 x.1) (both modifiers_at nested)) (change plain nested) b (begins-heads (no 0x10) (core_parts core) b tail (core_no_by_ref core) f) in
         one ∙ two ∙ rw e refl
 
     pub content_reads : Reads (content_at nested) content_parts (IsContentWithin d)

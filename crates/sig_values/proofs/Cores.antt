@@ -14,7 +14,7 @@ use Rattle.sig_grammar.specs.Parts.{Part, byte, number, index}
 use Rattle.sig_grammar.specs.Grammar.{named_code, core_parts, typed_parts, types_parts, shape_parts, method_parts, count_types}
 use Rattle.sig_grammar.specs.Limits.{core_depth, types_depth, content_depth, ret_depth, method_depth, IsCore, AreTypes, IsArrayShape, IsCoreWithin, IsTypedWithin}
 use Rattle.sig_grammar.specs.Reading.{Reader, change, both, deep, number_at, signed_at, index_at, typed_at, target_at, pointer_to, named_at, instance_at, instance_from, counted_at, counted_within, shape_at, shape_from, shape_with, array_at, array_from, method_at, core_by, core_or, core_at, element_of}
-use Rattle.sig_values.proofs.Readers.{IsBytes, Front, Front-append, Front-split, Takes, Reads, front_byte, behind_byte}
+use Rattle.sig_values.proofs.Readers.{IsBytes, Head, Head-append, Head-split, Takes, Reads, head_byte, behind_byte}
 use Rattle.sig_grammar.proofs.OptionLemmas.{IfSome-bind, IfSome-map, IfSome-cond}
 use Rattle.sig_values.proofs.Numbers.{NumbersAreRead, Any, number_parts, number_reads, index_parts, index_reads}
 use Rattle.sig_values.proofs.Lists.{both_reads, counted_reads, counted_parts, within_reads, AtMost}
@@ -53,14 +53,14 @@ named_reads = record { found = found; only = only }
     found [] h = tt
     found (c ∷ b) h =
         IfSome-cond (Takes named_parts (λ b. Any b) (c ∷ b)) (eqb c 0x11) _ _
-        (λ e. record { good = tt; bytes = h.1; front = behind_byte c 0x11 [] b b (eqb-true c 0x11 e) refl })
+        (λ e. record { good = tt; bytes = h.1; head = behind_byte c 0x11 [] b b (eqb-true c 0x11 e) refl })
         (λ e. IfSome-cond (Takes named_parts (λ b. Any b) (c ∷ b)) (eqb c 0x12) _ _
-        (λ e. record { good = tt; bytes = h.1; front = behind_byte c 0x12 [] b b (eqb-true c 0x12 e) refl })
+        (λ e. record { good = tt; bytes = h.1; head = behind_byte c 0x12 [] b b (eqb-true c 0x12 e) refl })
         (λ e. tt))
 
-    only : (b rest : List ℕ) (v : Bool) → Any v → Front (named_parts v) b rest → named_at b ≡ Some (v, rest)
-    only b rest true good f = let s = front_byte 0x11 [] b rest f in rw (s.1) (ap (λ (t : List ℕ). Some (true, t)) s.2)
-    only b rest false good f = let s = front_byte 0x12 [] b rest f in rw (s.1) (ap (λ (t : List ℕ). Some (false, t)) s.2)
+    only : (b remainder : List ℕ) (v : Bool) → Any v → Head (named_parts v) b remainder → named_at b ≡ Some (v, remainder)
+    only b remainder true good f = let s = head_byte 0x11 [] b remainder f in rw (s.1) (ap (λ (t : List ℕ). Some (true, t)) s.2)
+    only b remainder false good f = let s = head_byte 0x12 [] b remainder f in rw (s.1) (ap (λ (t : List ℕ). Some (false, t)) s.2)
 
 -- ---- shapes of arrays
 
@@ -98,14 +98,14 @@ shape_reads known = record { found = found; only = only }
         (λ y u. record {
           good = (omega arith, u.good.0, u.good.1);
           bytes = u.bytes;
-          front = Front-append (number_parts x.0) (bounds_parts known y.0) b x.1 y.1 t.front u.front;
+          head = Head-append (number_parts x.0) (bounds_parts known y.0) b x.1 y.1 t.head u.head;
         })))
 
-    only : (b rest : List ℕ) (v : ArrayShape) → IsArrayShape v → Front (shape_parts v) b rest → shape_at b ≡ Some (v, rest)
-    only b rest v good f =
-        let s = Front-split (number_parts v.rank) (bounds_parts known (v.sizes, v.low)) b rest f in
+    only : (b remainder : List ℕ) (v : ArrayShape) → IsArrayShape v → Head (shape_parts v) b remainder → shape_at b ≡ Some (v, remainder)
+    only b remainder v good f =
+        let s = Head-split (number_parts v.rank) (bounds_parts known (v.sizes, v.low)) b remainder f in
         let e = (number_reads known).only b s.0 v.rank tt s.1 in
-        let g = (bounds_reads known v.rank).only s.0 rest (v.sizes, v.low) (good.1, good.2) s.2 in
+        let g = (bounds_reads known v.rank).only s.0 remainder (v.sizes, v.low) (good.1, good.2) s.2 in
         let some : eqb v.rank 0 ≡ false = not_zero v.rank good.0 in
         rw (e, some, g) refl
 
@@ -152,7 +152,7 @@ module _ (known : NumbersAreRead) (d : ℕ) (nested : Reader Core) (cores : Read
       (λ x t. record {
         good = good x.0 t.good;
         bytes = t.bytes;
-        front = subst (λ (ps : List Part). Front ps (c ∷ b) x.1) (sym (same x.0)) (behind_byte c n (parts x.0) b x.1 e t.front);
+        head = subst (λ (ps : List Part). Head ps (c ∷ b) x.1) (sym (same x.0)) (behind_byte c n (parts x.0) b x.1 e t.head);
       })
 
   at : (Q : Core × List ℕ → Type 0) (c n : ℕ) (x other : Option (Core × List ℕ)) → (c ≡ n → IfSome x Q) → IfSome other Q → IfSome (cond (eqb c n) x other) Q
@@ -223,67 +223,67 @@ module _ (known : NumbersAreRead) (d : ℕ) (nested : Reader Core) (cores : Read
 
   or_found : (c : ℕ) (b : List ℕ) → IsBytes b → (o : Option Element) → IfSome o (λ e. c ≡ element_code e) → IfSome (core_or d nested c o b) (TakesCore (c ∷ b))
   or_found c b h None k = by_found c b h
-  or_found c b h (Some e) k = record { good = leaf (simple e) refl tt; bytes = h; front = behind_byte c (element_code e) [] b b k refl }
+  or_found c b h (Some e) k = record { good = leaf (simple e) refl tt; bytes = h; head = behind_byte c (element_code e) [] b b k refl }
 
-  instance_args : (is_value : Bool) (of : Token) (args : Types) (b rest : List ℕ) → Front (byte (named_code is_value) ∷ index of ∷ number (count_types args) ∷ types_parts args) b rest → Front (instance_parts ((is_value, of), types_to args)) b rest
+  instance_args : (is_value : Bool) (of : Token) (args : Types) (b remainder : List ℕ) → Head (byte (named_code is_value) ∷ index of ∷ number (count_types args) ∷ types_parts args) b remainder → Head (instance_parts ((is_value, of), types_to args)) b remainder
   unfolding named_parts
-  instance_args is_value of args b rest f =
-      let P : Types → Type 0 = λ ts. Front (byte (named_code is_value) ∷ index of ∷ number (count_types ts) ∷ types_parts ts) b rest in
+  instance_args is_value of args b remainder f =
+      let P : Types → Type 0 = λ ts. Head (byte (named_code is_value) ∷ index of ∷ number (count_types ts) ∷ types_parts ts) b remainder in
       let there = subst P (sym (types_from_to args)) f in
-      let counted = subst (λ (n : ℕ). Front (byte (named_code is_value) ∷ index of ∷ number n ∷ types_parts (types_from (types_to args))) b rest) (count-types_from (types_to args)) there in
-      subst (λ (ps : List Part). Front (byte (named_code is_value) ∷ index of ∷ number (length (types_to args)) ∷ ps) b rest) (parts-types_from (types_to args)) counted
+      let counted = subst (λ (n : ℕ). Head (byte (named_code is_value) ∷ index of ∷ number n ∷ types_parts (types_from (types_to args))) b remainder) (count-types_from (types_to args)) there in
+      subst (λ (ps : List Part). Head (byte (named_code is_value) ∷ index of ∷ number (length (types_to args)) ∷ ps) b remainder) (parts-types_from (types_to args)) counted
 
-  next_only : (b rest : List ℕ) (v : Core) → IsCoreWithin (suc d) v → Front (core_parts v) b rest → (c : ℕ) × (tail : List ℕ) × (b ≡ c ∷ tail) × (core_or d nested c (element_of c) tail ≡ Some (v, rest))
+  next_only : (b remainder : List ℕ) (v : Core) → IsCoreWithin (suc d) v → Head (core_parts v) b remainder → (c : ℕ) × (tail : List ℕ) × (b ≡ c ∷ tail) × (core_or d nested c (element_of c) tail ≡ Some (v, remainder))
   unfolding core_by element_of
-  next_only b rest (simple e) good f =
-      let s = front_byte (element_code e) [] b rest f in
+  next_only b remainder (simple e) good f =
+      let s = head_byte (element_code e) [] b remainder f in
       (element_code e, s.0, s.1, rw (element_again e) (ap (λ (t : List ℕ). Some (simple e, t)) s.2))
-  next_only b rest (void_pointer modifiers) good f =
+  next_only b remainder (void_pointer modifiers) good f =
       let le = good.0 in
-      let s = front_byte 0x0F (target_parts known d nested cores (modifiers, None)) b rest f in
-      let e = (target_reads known d nested cores).only s.0 rest (modifiers, None) tt s.2 in
+      let s = head_byte 0x0F (target_parts known d nested cores (modifiers, None)) b remainder f in
+      let e = (target_reads known d nested cores).only s.0 remainder (modifiers, None) tt s.2 in
       (0x0F, s.0, s.1, deep_only d (change pointer_to (target_at nested)) s.0 (omega arith) ∙ rw e refl)
-  next_only b rest (pointer modifiers to) good f =
+  next_only b remainder (pointer modifiers to) good f =
       let le = good.0 in
-      let s = front_byte 0x0F (target_parts known d nested cores (modifiers, Some to)) b rest f in
-      let e = (target_reads known d nested cores).only s.0 rest (modifiers, Some to) (omega arith, good.1) s.2 in
+      let s = head_byte 0x0F (target_parts known d nested cores (modifiers, Some to)) b remainder f in
+      let e = (target_reads known d nested cores).only s.0 remainder (modifiers, Some to) (omega arith, good.1) s.2 in
       (0x0F, s.0, s.1, deep_only d (change pointer_to (target_at nested)) s.0 (omega (arith, core_some to)) ∙ rw e refl)
-  next_only b rest (vector of) good f =
+  next_only b remainder (vector of) good f =
       let le = good.0 in
-      let s = front_byte 0x1D (typed_parts of) b rest f in
-      let e = (typed_reads known d nested cores).only s.0 rest of (omega arith, good.1) s.2 in
+      let s = head_byte 0x1D (typed_parts of) b remainder f in
+      let e = (typed_reads known d nested cores).only s.0 remainder of (omega arith, good.1) s.2 in
       (0x1D, s.0, s.1, rw e refl)
-  next_only b rest (array of shape) good f =
+  next_only b remainder (array of shape) good f =
       let le = good.0 in
-      let s = front_byte 0x14 (array_parts (of, shape)) b rest f in
-      let e = array_reads.only s.0 rest (of, shape) ((omega arith, good.1.0), good.1.1) s.2 in
+      let s = head_byte 0x14 (array_parts (of, shape)) b remainder f in
+      let e = array_reads.only s.0 remainder (of, shape) ((omega arith, good.1.0), good.1.1) s.2 in
       (0x14, s.0, s.1, rw e refl)
-  next_only b rest (class of) good f =
-      let s = front_byte 0x12 (index_parts of) b rest f in
-      let e = (index_reads known).only s.0 rest of tt s.2 in
+  next_only b remainder (class of) good f =
+      let s = head_byte 0x12 (index_parts of) b remainder f in
+      let e = (index_reads known).only s.0 remainder of tt s.2 in
       (0x12, s.0, s.1, rw e refl)
-  next_only b rest (value of) good f =
-      let s = front_byte 0x11 (index_parts of) b rest f in
-      let e = (index_reads known).only s.0 rest of tt s.2 in
+  next_only b remainder (value of) good f =
+      let s = head_byte 0x11 (index_parts of) b remainder f in
+      let e = (index_reads known).only s.0 remainder of tt s.2 in
       (0x11, s.0, s.1, rw e refl)
-  next_only b rest (var n) good f =
-      let s = front_byte 0x13 (number_parts n) b rest f in
-      let e = (number_reads known).only s.0 rest n tt s.2 in
+  next_only b remainder (var n) good f =
+      let s = head_byte 0x13 (number_parts n) b remainder f in
+      let e = (number_reads known).only s.0 remainder n tt s.2 in
       (0x13, s.0, s.1, rw e refl)
-  next_only b rest (mvar n) good f =
-      let s = front_byte 0x1E (number_parts n) b rest f in
-      let e = (number_reads known).only s.0 rest n tt s.2 in
+  next_only b remainder (mvar n) good f =
+      let s = head_byte 0x1E (number_parts n) b remainder f in
+      let e = (number_reads known).only s.0 remainder n tt s.2 in
       (0x1E, s.0, s.1, rw e refl)
-  next_only b rest (instance is_value of args) good f =
+  next_only b remainder (instance is_value of args) good f =
       let le = good.0 in
-      let s = front_byte 0x15 (byte (named_code is_value) ∷ index of ∷ number (count_types args) ∷ types_parts args) b rest f in
-      let e = instance_reads.only s.0 rest ((is_value, of), types_to args) ((tt, tt), types_good_to d args (omega arith) good.1) (instance_args is_value of args s.0 rest s.2) in
-      (0x15, s.0, s.1, rw e (ap (λ (ts : Types). Some (instance is_value of ts, rest)) (types_from_to args)))
-  next_only b rest (function m) good f =
+      let s = head_byte 0x15 (byte (named_code is_value) ∷ index of ∷ number (count_types args) ∷ types_parts args) b remainder f in
+      let e = instance_reads.only s.0 remainder ((is_value, of), types_to args) ((tt, tt), types_good_to d args (omega arith) good.1) (instance_args is_value of args s.0 remainder s.2) in
+      (0x15, s.0, s.1, rw e (ap (λ (ts : Types). Some (instance is_value of ts, remainder)) (types_from_to args)))
+  next_only b remainder (function m) good f =
       let le = good.0 in
       let some : 1 ≤ d = omega (arith, method_some m) in
-      let s = front_byte 0x1B (method_parts m) b rest f in
-      let e = (method_reads known d nested cores some true).only s.0 rest m (omega arith, good.1, tt) s.2 in
+      let s = head_byte 0x1B (method_parts m) b remainder f in
+      let e = (method_reads known d nested cores some true).only s.0 remainder m (omega arith, good.1, tt) s.2 in
       (0x1B, s.0, s.1, deep_only d (change function (method_at true nested)) s.0 some ∙ rw e refl)
 
 next_found : NumbersAreRead → (d : ℕ) → Reads (core_at d) core_parts (IsCoreWithin d) → (b : List ℕ) → IsBytes b → IfSome (core_at (suc d) b) (Takes core_parts (IsCoreWithin (suc d)) b)
@@ -295,11 +295,11 @@ pub core_reads : NumbersAreRead → (d : ℕ) → Reads (core_at d) core_parts (
 unfolding core_at
 core_reads known zero = record {
   found = λ b h. tt;
-  only = λ b rest v good f. absurd (omega (arith, good.0, core_some v));
+  only = λ b remainder v good f. absurd (omega (arith, good.0, core_some v));
 }
 core_reads known (suc d) = record {
   found = next_found known d (core_reads known d);
-  only = λ b rest v good f.
-      let s = next_only known d (core_at d) (core_reads known d) b rest v good f in
+  only = λ b remainder v good f.
+      let s = next_only known d (core_at d) (core_reads known d) b remainder v good f in
       rw (s.2) (s.3);
 }

@@ -5,7 +5,7 @@ use Rattle.std.specs.List.{AllByRecursion}
 use Rattle.std.proofs.lemmas.Bool.{and_parts, cases_Bool, ltb-true, leb-true, lt-ltb, le-leb}
 use Rattle.table_schema.specs.declared.token.Token.{Token}
 use Rattle.table_schema.specs.Tables.{table_number}
-use Rattle.sig_grammar.specs.Spells.{HasRow, has_row, first_bad}
+use Rattle.sig_grammar.specs.Encodes.{HasRow, has_row, first_bad}
 
 module _ (counts : List ℕ) where
   tested : (token : Token) → has_row counts token ≡ true → HasRow counts token

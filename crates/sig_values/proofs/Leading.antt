@@ -9,7 +9,7 @@ use Rattle.sig_grammar.specs.declared.body.Prefix.TheVariants.{Mod, Pinned}
 use Rattle.sig_grammar.specs.Parts.{Part, byte, number, signed, index}
 use Rattle.sig_grammar.specs.Grammar.{list_parts, modifier_parts, prefix_parts}
 use Rattle.sig_grammar.specs.Reading.{Reader, Optional, items_then, leading_within, leading_at, index_at, modifier_after, modifier_at, prefix_of, prefix_at, both}
-use Rattle.sig_values.proofs.Readers.{IsBytes, Front, Front-append, Front-split, Takes, Reads}
+use Rattle.sig_values.proofs.Readers.{IsBytes, Head, Head-append, Head-split, Takes, Reads}
 use Rattle.sig_grammar.proofs.OptionLemmas.{IfSome-bind, IfSome-map, IfSome-cond}
 use Rattle.sig_values.proofs.Numbers.{NumbersAreRead, Any, index_parts, index_reads}
 
@@ -22,12 +22,12 @@ abbrev pub heads : (ℕ → Bool) → List Part → Bool
 heads p (byte c ∷ ps) = p c
 heads p _ = false
 
-pub begins-heads : (p : ℕ → Bool) (ps : List Part) (b rest : List ℕ) → heads p ps ≡ true → Front ps b rest → begins p b ≡ true
-begins-heads p [] b rest h f = absurd cc
-begins-heads p (byte c ∷ ps) b rest h f = rw (f.2, f.3) h
-begins-heads p (number n ∷ ps) b rest h f = absurd cc
-begins-heads p (signed z ∷ ps) b rest h f = absurd cc
-begins-heads p (index t ∷ ps) b rest h f = absurd cc
+pub begins-heads : (p : ℕ → Bool) (ps : List Part) (b remainder : List ℕ) → heads p ps ≡ true → Head ps b remainder → begins p b ≡ true
+begins-heads p [] b remainder h f = absurd cc
+begins-heads p (byte c ∷ ps) b remainder h f = rw (f.2, f.3) h
+begins-heads p (number n ∷ ps) b remainder h f = absurd cc
+begins-heads p (signed z ∷ ps) b remainder h f = absurd cc
+begins-heads p (index t ∷ ps) b remainder h f = absurd cc
 
 -- an item was read from b, or nothing was
 abbrev pub TakesItem : {A : Type 0} → (A → List Part) → List ℕ → Option A × List ℕ → Type 0
@@ -36,9 +36,9 @@ TakesItem parts b (Some x, c) = Takes parts (λ x. Any x) b (x, c)
 
 pub record Leads {A : Type 0} (r : Optional A) (parts : A → List Part) (stops : ℕ → Bool) : Type 0 where
   pub found : (b : List ℕ) → IsBytes b → IfSome (r b) (TakesItem parts b)
-  pub only : (b rest : List ℕ) (x : A) → Front (parts x) b rest → r b ≡ Some (Some x, rest)
+  pub only : (b remainder : List ℕ) (x : A) → Head (parts x) b remainder → r b ≡ Some (Some x, remainder)
   pub stop : (b : List ℕ) → begins stops b ≡ true → r b ≡ Some (None, b)
-  pub falls : (b rest : List ℕ) (x : A) → Front (parts x) b rest → length rest < length b
+  pub falls : (b remainder : List ℕ) (x : A) → Head (parts x) b remainder → length remainder < length b
 
 module _ {A : Type 0} (r : Optional A) (parts : A → List Part) (stops : ℕ → Bool) (leads : Leads r parts stops) where
   abbrev TakesAll : List ℕ → List A × List ℕ → Type 0
@@ -46,40 +46,40 @@ module _ {A : Type 0} (r : Optional A) (parts : A → List Part) (stops : ℕ �
 
   within_found : (k : ℕ) (b : List ℕ) → IsBytes b → IfSome (leading_within r k b) (TakesAll b)
   unfolding leading_within
-  within_found zero b h = record { good = tt; bytes = h; front = refl }
+  within_found zero b h = record { good = tt; bytes = h; head = refl }
   within_found (suc k) b h =
       IfSome-bind (TakesItem parts b) (TakesAll b) (items_then (leading_within r k)) (r b) (leads.found b h) (of_item b (leading_within r k) (within_found k))
     where
       of_item : (b : List ℕ) (more : Reader (List A)) → ((c : List ℕ) → IsBytes c → IfSome (more c) (TakesAll c)) → (p : Option A × List ℕ) → TakesItem parts b p → IfSome (items_then more p) (TakesAll b)
-      of_item b more each (None, c) t = record { good = tt; bytes = t.0; front = t.1 }
+      of_item b more each (None, c) t = record { good = tt; bytes = t.0; head = t.1 }
       of_item b more each (Some x, c) t =
           IfSome-map (TakesAll c) (TakesAll b) (λ y. (x ∷ y.0, y.1)) (more c) (each c t.bytes)
-          (λ y u. record { good = tt; bytes = u.bytes; front = Front-append (parts x) (list_parts parts y.0) b c y.1 t.front u.front })
+          (λ y u. record { good = tt; bytes = u.bytes; head = Head-append (parts x) (list_parts parts y.0) b c y.1 t.head u.head })
 
-  within_only : (xs : List A) (k : ℕ) (b rest : List ℕ) → length xs ≤ k → begins stops rest ≡ true → Front (list_parts parts xs) b rest → leading_within r k b ≡ Some (xs, rest)
+  within_only : (xs : List A) (k : ℕ) (b remainder : List ℕ) → length xs ≤ k → begins stops remainder ≡ true → Head (list_parts parts xs) b remainder → leading_within r k b ≡ Some (xs, remainder)
   unfolding leading_within
-  within_only [] zero b rest le stop f = rw f refl
-  within_only [] (suc k) b rest le stop f = let s = leads.stop rest stop in rw (f, s) refl
-  within_only (x ∷ xs) zero b rest le stop f = absurd (omega arith)
-  within_only (x ∷ xs) (suc k) b rest le stop f =
-      let s = Front-split (parts x) (list_parts parts xs) b rest f in
+  within_only [] zero b remainder le stop f = rw f refl
+  within_only [] (suc k) b remainder le stop f = let s = leads.stop remainder stop in rw (f, s) refl
+  within_only (x ∷ xs) zero b remainder le stop f = absurd (omega arith)
+  within_only (x ∷ xs) (suc k) b remainder le stop f =
+      let s = Head-split (parts x) (list_parts parts xs) b remainder f in
       let e = leads.only b s.0 x s.1 in
-      let g = within_only xs k s.0 rest (omega arith) stop s.2 in
+      let g = within_only xs k s.0 remainder (omega arith) stop s.2 in
       rw (e, g) refl
 
-  all_length : (xs : List A) (b rest : List ℕ) → Front (list_parts parts xs) b rest → length xs ≤ length b
-  all_length [] b rest f = omega arith
-  all_length (x ∷ xs) b rest f =
-      let s = Front-split (parts x) (list_parts parts xs) b rest f in
-      omega (arith, all_length xs s.0 rest s.2, leads.falls b s.0 x s.1)
+  all_length : (xs : List A) (b remainder : List ℕ) → Head (list_parts parts xs) b remainder → length xs ≤ length b
+  all_length [] b remainder f = omega arith
+  all_length (x ∷ xs) b remainder f =
+      let s = Head-split (parts x) (list_parts parts xs) b remainder f in
+      omega (arith, all_length xs s.0 remainder s.2, leads.falls b s.0 x s.1)
 
   pub leading_found : (b : List ℕ) → IsBytes b → IfSome (leading_at r b) (TakesAll b)
   unfolding leading_at
   leading_found b h = within_found (length b) b h
 
-  pub leading_only : (xs : List A) (b rest : List ℕ) → begins stops rest ≡ true → Front (list_parts parts xs) b rest → leading_at r b ≡ Some (xs, rest)
+  pub leading_only : (xs : List A) (b remainder : List ℕ) → begins stops remainder ≡ true → Head (list_parts parts xs) b remainder → leading_at r b ≡ Some (xs, remainder)
   unfolding leading_at
-  leading_only xs b rest stop f = within_only xs (length b) b rest (all_length xs b rest f) stop f
+  leading_only xs b remainder stop f = within_only xs (length b) b remainder (all_length xs b remainder f) stop f
 
   -- ---- items before a value that does not start like an item
   module _ {B : Type 0} (q : Reader B) (more : B → List Part) (Good : B → Type 0) (second : Reads q more Good)
@@ -100,12 +100,12 @@ module _ {A : Type 0} (r : Optional A) (parts : A → List Part) (stops : ℕ �
           (λ y u. record {
             good = u.good;
             bytes = u.bytes;
-            front = Front-append (list_parts parts x.0) (more y.0) b x.1 y.1 t.front u.front;
+            head = Head-append (list_parts parts x.0) (more y.0) b x.1 y.1 t.head u.head;
           }));
-      only = λ b rest v good f.
-          let s = Front-split (list_parts parts v.0) (more v.1) b rest f in
-          let e = leading_only v.0 b s.0 (begins-heads stops (more v.1) s.0 rest (free v.1 good) s.2) s.1 in
-          let g = second.only s.0 rest v.1 good s.2 in
+      only = λ b remainder v good f.
+          let s = Head-split (list_parts parts v.0) (more v.1) b remainder f in
+          let e = leading_only v.0 b s.0 (begins-heads stops (more v.1) s.0 remainder (free v.1 good) s.2) s.1 in
+          let g = second.only s.0 remainder v.1 good s.2 in
           rw (e, g) refl;
     }
 
@@ -127,7 +127,7 @@ after_found known required c b e h =
     (λ x t. record {
       good = tt;
       bytes = t.bytes;
-      front = (c ∷ [], b, refl, ap (λ (n : ℕ). n ∷ []) e, t.front);
+      head = (c ∷ [], b, refl, ap (λ (n : ℕ). n ∷ []) e, t.head);
     })
 
 modifier_again : (required : Bool) (of : Token) (b mid : List ℕ) → index_at b ≡ Some (of, mid) → modifier_at (modifier_code required ∷ b) ≡ Some (Some (record { required = required; of = of }), mid)
@@ -152,23 +152,23 @@ modifier_found known (c ∷ b) h =
     IfSome-cond (TakesModifier (c ∷ b)) (eqb c 0x1F) _ _ (λ e. after_found known true c b (eqb-true c 0x1F e) h.1)
     (λ e. IfSome-cond (TakesModifier (c ∷ b)) (eqb c 0x20) _ _ (λ e. after_found known false c b (eqb-true c 0x20 e) h.1) (λ e. (h, refl)))
 
-modifier_front : (m : Modifier) (b rest : List ℕ) → Front (modifier_parts m) b rest → (tail : List ℕ) × (b ≡ modifier_code m.required ∷ tail) × Front (index_parts m.of) tail rest
-modifier_front m b rest f = (f.1, rw (f.2, f.3) refl, f.4)
+modifier_head : (m : Modifier) (b remainder : List ℕ) → Head (modifier_parts m) b remainder → (tail : List ℕ) × (b ≡ modifier_code m.required ∷ tail) × Head (index_parts m.of) tail remainder
+modifier_head m b remainder f = (f.1, rw (f.2, f.3) refl, f.4)
 
-index_falls : (t : Token) (b rest : List ℕ) → Front (index_parts t) b rest → length rest ≤ length b
-index_falls t b rest f = omega (arith, ap length f.2, length-append f.0 f.1, ap length f.4)
+index_falls : (t : Token) (b remainder : List ℕ) → Head (index_parts t) b remainder → length remainder ≤ length b
+index_falls t b remainder f = omega (arith, ap length f.2, length-append f.0 f.1, ap length f.4)
 
 pub modifier_leads : NumbersAreRead → Leads modifier_at modifier_parts no_modifier
 modifier_leads known = record {
   found = (modifier_found known);
-  only = λ b rest m f.
-      let s = modifier_front m b rest f in
-      let e = (index_reads known).only s.0 rest m.of tt s.2 in
-      rw (s.1) (modifier_again m.required m.of s.0 rest e);
+  only = λ b remainder m f.
+      let s = modifier_head m b remainder f in
+      let e = (index_reads known).only s.0 remainder m.of tt s.2 in
+      rw (s.1) (modifier_again m.required m.of s.0 remainder e);
   stop = modifier_stop;
-  falls = λ b rest m f.
-      let s = modifier_front m b rest f in
-      omega (arith, ap length s.1, index_falls m.of s.0 rest s.2);
+  falls = λ b remainder m f.
+      let s = modifier_head m b remainder f in
+      omega (arith, ap length s.1, index_falls m.of s.0 remainder s.2);
 }
 
 -- ---- modifiers with PINNED
@@ -181,28 +181,28 @@ TakesPrefix b p = TakesItem prefix_parts b p
 
 prefix_of_found : (b : List ℕ) (p : Option Modifier × List ℕ) → TakesModifier b p → TakesPrefix b (prefix_of p)
 prefix_of_found b (None, c) t = t
-prefix_of_found b (Some m, c) t = record { good = tt; bytes = t.bytes; front = t.front }
+prefix_of_found b (Some m, c) t = record { good = tt; bytes = t.bytes; head = t.head }
 
 prefix_found : NumbersAreRead → (b : List ℕ) → IsBytes b → IfSome (prefix_at b) (TakesPrefix b)
 unfolding prefix_at
 prefix_found known [] h = (tt, refl)
 prefix_found known (c ∷ b) h =
     IfSome-cond (TakesPrefix (c ∷ b)) (eqb c 0x45) _ _
-    (λ e. record { good = tt; bytes = h.1; front = (c ∷ [], b, refl, ap (λ (n : ℕ). n ∷ []) (eqb-true c 0x45 e), refl) })
+    (λ e. record { good = tt; bytes = h.1; head = (c ∷ [], b, refl, ap (λ (n : ℕ). n ∷ []) (eqb-true c 0x45 e), refl) })
     (λ e. IfSome-map (TakesModifier (c ∷ b)) (TakesPrefix (c ∷ b)) prefix_of (modifier_at (c ∷ b)) ((modifier_leads known).found (c ∷ b) h) (prefix_of_found (c ∷ b)))
 
-not_pinned : (m : Modifier) (rest : List ℕ) (required : Bool) (tail : List ℕ) → modifier_at (modifier_code required ∷ tail) ≡ Some (Some m, rest) → prefix_at (modifier_code required ∷ tail) ≡ Some (Some (Mod m), rest)
+not_pinned : (m : Modifier) (remainder : List ℕ) (required : Bool) (tail : List ℕ) → modifier_at (modifier_code required ∷ tail) ≡ Some (Some m, remainder) → prefix_at (modifier_code required ∷ tail) ≡ Some (Some (Mod m), remainder)
 unfolding prefix_at
-not_pinned m rest true tail e = rw e refl
-not_pinned m rest false tail e = rw e refl
+not_pinned m remainder true tail e = rw e refl
+not_pinned m remainder false tail e = rw e refl
 
-prefix_only : NumbersAreRead → (b rest : List ℕ) (x : Prefix) → Front (prefix_parts x) b rest → prefix_at b ≡ Some (Some x, rest)
+prefix_only : NumbersAreRead → (b remainder : List ℕ) (x : Prefix) → Head (prefix_parts x) b remainder → prefix_at b ≡ Some (Some x, remainder)
 unfolding prefix_at
-prefix_only known b rest Pinned f = rw (f.2, f.3, f.4) refl
-prefix_only known b rest (Mod m) f =
-    let s = modifier_front m b rest f in
-    let e = (modifier_leads known).only b rest m f in
-    rw (s.1) (not_pinned m rest m.required s.0 (subst (λ (t : List ℕ). modifier_at t ≡ Some (Some m, rest)) s.1 e))
+prefix_only known b remainder Pinned f = rw (f.2, f.3, f.4) refl
+prefix_only known b remainder (Mod m) f =
+    let s = modifier_head m b remainder f in
+    let e = (modifier_leads known).only b remainder m f in
+    rw (s.1) (not_pinned m remainder m.required s.0 (subst (λ (t : List ℕ). modifier_at t ≡ Some (Some m, remainder)) s.1 e))
 
 stop_at_test : (p : Bool) (c : ℕ) (b : List ℕ) (x : Option (Option Prefix × List ℕ)) → (not p && no_modifier c) ≡ true → cond p x (option_map prefix_of (modifier_at (c ∷ b))) ≡ Some (None, c ∷ b)
 stop_at_test true c b x h = absurd cc
@@ -213,9 +213,9 @@ unfolding prefix_at
 prefix_stop [] h = absurd cc
 prefix_stop (c ∷ b) h = stop_at_test (eqb c 0x45) c b _ h
 
-prefix_falls : NumbersAreRead → (b rest : List ℕ) (x : Prefix) → Front (prefix_parts x) b rest → length rest < length b
-prefix_falls known b rest Pinned f = omega (arith, ap length f.2, ap length f.3, length-append f.0 f.1, ap length f.4)
-prefix_falls known b rest (Mod m) f = (modifier_leads known).falls b rest m f
+prefix_falls : NumbersAreRead → (b remainder : List ℕ) (x : Prefix) → Head (prefix_parts x) b remainder → length remainder < length b
+prefix_falls known b remainder Pinned f = omega (arith, ap length f.2, ap length f.3, length-append f.0 f.1, ap length f.4)
+prefix_falls known b remainder (Mod m) f = (modifier_leads known).falls b remainder m f
 
 pub prefix_leads : NumbersAreRead → Leads prefix_at prefix_parts no_prefix
 prefix_leads known = record { found = (prefix_found known); only = (prefix_only known); stop = prefix_stop; falls = (prefix_falls known) }

@@ -8,5 +8,5 @@ pub mod Lists
 pub mod Methods
 pub mod Numbers
 pub mod Readers
-pub mod Spelled
+pub mod Encoded
 pub mod Whole

@@ -6,7 +6,7 @@ use Rattle.std.proofs.lemmas.Bool.{ltb-false, le-ltb}
 use Rattle.sig_grammar.specs.Parts.{Part, number}
 use Rattle.sig_grammar.specs.Grammar.{list_parts}
 use Rattle.sig_grammar.specs.Reading.{Reader, number_at, both, many_at, counted_at, counted_within}
-use Rattle.sig_values.proofs.Readers.{IsBytes, Front, Front-append, Front-split, Takes, Reads}
+use Rattle.sig_values.proofs.Readers.{IsBytes, Head, Head-append, Head-split, Takes, Reads}
 use Rattle.sig_grammar.proofs.OptionLemmas.{IfSome-bind, IfSome-map, IfSome-cond}
 use Rattle.sig_values.proofs.Numbers.{NumbersAreRead, Any, number_parts, number_reads}
 
@@ -28,12 +28,12 @@ module _ {A B : Type 0} (r : Reader A) (q : Reader B) (parts : A → List Part) 
         (λ y u. record {
           good = (t.good, u.good);
           bytes = u.bytes;
-          front = Front-append (parts x.0) (more y.0) b x.1 y.1 t.front u.front;
+          head = Head-append (parts x.0) (more y.0) b x.1 y.1 t.head u.head;
         }));
-    only = λ b rest v good f.
-        let s = Front-split (parts v.0) (more v.1) b rest f in
+    only = λ b tail v good f.
+        let s = Head-split (parts v.0) (more v.1) b tail f in
         let e = first.only b s.0 v.0 good.0 s.1 in
-        let g = second.only s.0 rest v.1 good.1 s.2 in
+        let g = second.only s.0 tail v.1 good.1 s.2 in
         rw (e, g) refl;
   }
 
@@ -43,7 +43,7 @@ module _ (known : NumbersAreRead) {A : Type 0} (r : Reader A) (parts : A → Lis
 
   pub many_found : (n : ℕ) (b : List ℕ) → IsBytes b → IfSome (many_at r n b) (TakesMany n b)
   unfolding many_at
-  many_found zero b h = (record { good = tt; bytes = h; front = refl }, refl)
+  many_found zero b h = (record { good = tt; bytes = h; head = refl }, refl)
   many_found (suc n) b h =
       IfSome-bind (Takes parts Good b) (TakesMany (suc n) b) (λ x. option_map (λ y. (x.0 ∷ y.0, y.1)) (many_at r n x.1)) (r b) (each.found b h)
       (λ x t.
@@ -52,25 +52,25 @@ module _ (known : NumbersAreRead) {A : Type 0} (r : Reader A) (parts : A → Lis
         record {
           good = (t.good, u.0.good);
           bytes = u.0.bytes;
-          front = Front-append (parts x.0) (list_parts parts y.0) b x.1 y.1 t.front u.0.front;
+          head = Head-append (parts x.0) (list_parts parts y.0) b x.1 y.1 t.head u.0.head;
         },
         ap suc u.1,
       )))
 
-  pub many_only : (xs : List A) (b rest : List ℕ) → AllByRecursion Good xs → Front (list_parts parts xs) b rest → many_at r (length xs) b ≡ Some (xs, rest)
+  pub many_only : (xs : List A) (b tail : List ℕ) → AllByRecursion Good xs → Head (list_parts parts xs) b tail → many_at r (length xs) b ≡ Some (xs, tail)
   unfolding many_at
-  many_only [] b rest good f = rw f refl
-  many_only (x ∷ xs) b rest good f =
-      let s = Front-split (parts x) (list_parts parts xs) b rest f in
+  many_only [] b tail good f = rw f refl
+  many_only (x ∷ xs) b tail good f =
+      let s = Head-split (parts x) (list_parts parts xs) b tail f in
       let e = each.only b s.0 x good.0 s.1 in
-      let g = many_only xs s.0 rest good.1 s.2 in
+      let g = many_only xs s.0 tail good.1 s.2 in
       rw (e, g) refl
 
   abbrev pub counted_parts : List A → List Part
   counted_parts xs = number (length xs) ∷ list_parts parts xs
 
-  counted_front : (n : ℕ) (b mid rest : List ℕ) (xs : List A) → Front (number_parts n) b mid → length xs ≡ n → Front (list_parts parts xs) mid rest → Front (counted_parts xs) b rest
-  counted_front n b mid rest xs f e g = Front-append (number_parts (length xs)) (list_parts parts xs) b mid rest (rw e f) g
+  counted_head : (n : ℕ) (b mid tail : List ℕ) (xs : List A) → Head (number_parts n) b mid → length xs ≡ n → Head (list_parts parts xs) mid tail → Head (counted_parts xs) b tail
+  counted_head n b mid tail xs f e g = Head-append (number_parts (length xs)) (list_parts parts xs) b mid tail (rw e f) g
 
   pub counted_reads : Reads (counted_at r) counted_parts (AllByRecursion Good)
   unfolding counted_at
@@ -78,10 +78,10 @@ module _ (known : NumbersAreRead) {A : Type 0} (r : Reader A) (parts : A → Lis
     found = λ b h.
         IfSome-bind (Takes number_parts (λ n. Any n) b) (Takes counted_parts (AllByRecursion Good) b) (λ x. many_at r x.0 x.1) (number_at b) ((number_reads known).found b h)
         (λ x t. of_many b x t (many_at r x.0 x.1) (many_found x.0 x.1 t.bytes));
-    only = λ b rest xs good f.
-        let s = Front-split (number_parts (length xs)) (list_parts parts xs) b rest f in
+    only = λ b tail xs good f.
+        let s = Head-split (number_parts (length xs)) (list_parts parts xs) b tail f in
         let e = (number_reads known).only b s.0 (length xs) tt s.1 in
-        let g = many_only xs s.0 rest good s.2 in
+        let g = many_only xs s.0 tail good s.2 in
         rw (e, g) refl;
   }
     where
@@ -90,7 +90,7 @@ module _ (known : NumbersAreRead) {A : Type 0} (r : Reader A) (parts : A → Lis
       of_many b x t (Some y) h = record {
         good = h.0.good;
         bytes = h.0.bytes;
-        front = counted_front x.0 b x.1 y.1 y.0 t.front h.1 h.0.front;
+        head = counted_head x.0 b x.1 y.1 y.0 t.head h.1 h.0.head;
       }
 
 abbrev pub AtMost : {A : Type 0} → ℕ → List A → Type 0
@@ -109,10 +109,10 @@ module _ (known : NumbersAreRead) {A : Type 0} (r : Reader A) (parts : A → Lis
         (λ x t.
         IfSome-cond (Takes (counted_parts known r parts (λ x. Any x) each) (AtMost most) b) (ltb most x.0) None (many_at r x.0 x.1) (λ e. tt)
         (λ e. of_many b x t (ltb-false most x.0 e) (many_at r x.0 x.1) (many_found known r parts (λ x. Any x) each x.0 x.1 t.bytes)));
-    only = λ b rest xs good f.
-        let s = Front-split (number_parts (length xs)) (list_parts parts xs) b rest f in
+    only = λ b tail xs good f.
+        let s = Head-split (number_parts (length xs)) (list_parts parts xs) b tail f in
         let e = (number_reads known).only b s.0 (length xs) tt s.1 in
-        let g = many_only known r parts (λ x. Any x) each xs s.0 rest (all_any xs) s.2 in
+        let g = many_only known r parts (λ x. Any x) each xs s.0 tail (all_any xs) s.2 in
         rw (e, le-ltb most (length xs) good, g) refl;
   }
     where
@@ -121,5 +121,5 @@ module _ (known : NumbersAreRead) {A : Type 0} (r : Reader A) (parts : A → Lis
       of_many b x t le (Some y) h = record {
         good = rw h.1 le;
         bytes = h.0.bytes;
-        front = counted_front known r parts (λ x. Any x) each x.0 b x.1 y.1 y.0 t.front h.1 h.0.front;
+        head = counted_head known r parts (λ x. Any x) each x.0 b x.1 y.1 y.0 t.head h.1 h.0.head;
       }

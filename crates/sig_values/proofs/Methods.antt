@@ -9,7 +9,7 @@ use Rattle.sig_grammar.specs.Parts.{Part, number}
 use Rattle.sig_grammar.specs.Grammar.{core_parts, slot_parts, slots_parts, ret_parts, method_parts, generic_parts, method_code, flag, count_slots}
 use Rattle.sig_grammar.specs.Limits.{slots_depth, method_depth, AreSlots, IsMethod, IsMethodKind, IsSentinel, HasOwnSentinel, IsCoreWithin, IsSlotWithin, IsRetWithin}
 use Rattle.sig_grammar.specs.Reading.{Reader, number_at, head_is, slot_at, ret_at, params_at, generic_at, takes_sentinel, is_method_code, method_from, method_at}
-use Rattle.sig_values.proofs.Readers.{IsBytes, Front, Front-append, Front-split, Takes, Reads, front_byte, behind_byte}
+use Rattle.sig_values.proofs.Readers.{IsBytes, Head, Head-append, Head-split, Takes, Reads, head_byte, behind_byte}
 use Rattle.sig_grammar.proofs.OptionLemmas.{IfSome-bind, IfSome-map, IfSome-cond}
 use Rattle.sig_values.proofs.Numbers.{NumbersAreRead, Any, number_parts, number_reads}
 use Rattle.sig_values.proofs.Leading.{begins-heads}
@@ -94,13 +94,13 @@ generic_found : NumbersAreRead → (generic : Bool) (b : List ℕ) → IsBytes b
 unfolding generic_at
 generic_found known true b h =
     IfSome-map (Takes number_parts (λ n. Any n) b) (Takes generic_parts (GenericIs true) b) (λ x. (Some x.0, x.1)) (number_at b) ((number_reads known).found b h)
-    (λ x t. record { good = refl; bytes = t.bytes; front = t.front })
-generic_found known false b h = record { good = refl; bytes = h; front = refl }
+    (λ x t. record { good = refl; bytes = t.bytes; head = t.head })
+generic_found known false b h = record { good = refl; bytes = h; head = refl }
 
-generic_only : NumbersAreRead → (g : Option ℕ) (b rest : List ℕ) → Front (generic_parts g) b rest → generic_at (is_some g) b ≡ Some (g, rest)
+generic_only : NumbersAreRead → (g : Option ℕ) (b remainder : List ℕ) → Head (generic_parts g) b remainder → generic_at (is_some g) b ≡ Some (g, remainder)
 unfolding generic_at
-generic_only known None b rest f = rw f refl
-generic_only known (Some n) b rest f = let e = (number_reads known).only b rest n tt f in rw e refl
+generic_only known None b remainder f = rw f refl
+generic_only known (Some n) b remainder f = let e = (number_reads known).only b remainder n tt f in rw e refl
 
 -- ---- parameters and SENTINEL
 
@@ -143,7 +143,7 @@ module _ (known : NumbersAreRead) (d : ℕ) (nested : Reader Core) (cores : Read
 
   params_found : (n : ℕ) (may : Bool) (b : List ℕ) → IsBytes b → IfSome (params_at nested may n b) (TakesParams may n b)
   unfolding params_at
-  params_found zero may b h = (record { good = (tt, tt); bytes = h; front = refl }, refl)
+  params_found zero may b h = (record { good = (tt, tt); bytes = h; head = refl }, refl)
   params_found (suc n) may b h =
       IfSome-cond (TakesParams may (suc n) b) (may && head_is 0x41 b) _ _
       (λ e. marked n may b h (and_parts may (head_is 0x41 b) e).0 (head_true 0x41 b (and_parts may (head_is 0x41 b) e).1) (params_found n false))
@@ -155,7 +155,7 @@ module _ (known : NumbersAreRead) (d : ℕ) (nested : Reader Core) (cores : Read
         record {
           good = ((t.good, u.0.good.0), good_later may (length y.0.0) y.0.1 u.0.good.1);
           bytes = u.0.bytes;
-          front = subst (λ (ps : List Part). Front ps b y.1) (sym (parts_later x.0 y.0.0 y.0.1)) (Front-append (slot_parts x.0) (params_parts y.0) b x.1 y.1 t.front u.0.front);
+          head = subst (λ (ps : List Part). Head ps b y.1) (sym (parts_later x.0 y.0.0 y.0.1)) (Head-append (slot_parts x.0) (params_parts y.0) b x.1 y.1 t.head u.0.head);
         },
         ap suc u.1,
       ))))
@@ -168,41 +168,41 @@ module _ (known : NumbersAreRead) (d : ℕ) (nested : Reader Core) (cores : Read
           IfSome-map (TakesParams false n x.1) (TakesParams may (suc n) (c ∷ tail)) (λ y. ((x.0 ∷ y.0.0, Some 0), y.1)) (params_at nested false n x.1) (more x.1 t.bytes)
           (λ y u.
           let none = never (length y.0.0) y.0.1 u.0.good.1 in
-          let rest = subst (λ (s : Option ℕ). Front (slots_parts (slots_from y.0.0) s) x.1 y.1) none u.0.front in (
+          let remainder = subst (λ (s : Option ℕ). Head (slots_parts (slots_from y.0.0) s) x.1 y.1) none u.0.head in (
             record {
               good = ((t.good, u.0.good.0), (omega arith, stands));
               bytes = u.0.bytes;
-              front = behind_byte c 0x41 _ tail y.1 (let q = e in cc) (Front-append (slot_parts x.0) (params_parts (y.0.0, None)) tail x.1 y.1 t.front rest);
+              head = behind_byte c 0x41 _ tail y.1 (let q = e in cc) (Head-append (slot_parts x.0) (params_parts (y.0.0, None)) tail x.1 y.1 t.head remainder);
             },
             ap suc u.1,
           )))
 
-  unmarked : (may : Bool) (x : Slot) (b rest : List ℕ) → Front (slot_parts x) b rest → (may && head_is 0x41 b) ≡ false
-  unmarked may x b rest f =
-      let e = no_head 0x41 b (begins-heads (no 0x41) (slot_parts x) b rest (slot_no_sentinel x) f) in
+  unmarked : (may : Bool) (x : Slot) (b remainder : List ℕ) → Head (slot_parts x) b remainder → (may && head_is 0x41 b) ≡ false
+  unmarked may x b remainder f =
+      let e = no_head 0x41 b (begins-heads (no 0x41) (slot_parts x) b remainder (slot_no_sentinel x) f) in
       rw e (and_false may)
 
-  params_only : (xs : List Slot) (s : Option ℕ) (may : Bool) (b rest : List ℕ) → AllByRecursion (IsSlotWithin d) xs → IfSome s (MayStand may (length xs)) → Front (slots_parts (slots_from xs) s) b rest → params_at nested may (length xs) b ≡ Some ((xs, s), rest)
+  params_only : (xs : List Slot) (s : Option ℕ) (may : Bool) (b remainder : List ℕ) → AllByRecursion (IsSlotWithin d) xs → IfSome s (MayStand may (length xs)) → Head (slots_parts (slots_from xs) s) b remainder → params_at nested may (length xs) b ≡ Some ((xs, s), remainder)
   unfolding params_at
-  params_only [] None may b rest good stands f = rw f refl
-  params_only [] (Some k) may b rest good stands f = absurd (let lt = stands.0 in omega arith)
-  params_only (x ∷ xs) None may b rest good stands f =
-      let t = Front-split (slot_parts x) (slots_parts (slots_from xs) None) b rest f in
+  params_only [] None may b remainder good stands f = rw f refl
+  params_only [] (Some k) may b remainder good stands f = absurd (let lt = stands.0 in omega arith)
+  params_only (x ∷ xs) None may b remainder good stands f =
+      let t = Head-split (slot_parts x) (slots_parts (slots_from xs) None) b remainder f in
       let e = slots.only b t.0 x good.0 t.1 in
-      let g = params_only xs None may t.0 rest good.1 tt t.2 in
+      let g = params_only xs None may t.0 remainder good.1 tt t.2 in
       let u = unmarked may x b t.0 t.1 in
       rw (u, e, g) refl
-  params_only (x ∷ xs) (Some zero) may b rest good stands f =
-      let s = front_byte 0x41 (slot_parts x ++ slots_parts (slots_from xs) None) b rest f in
-      let t = Front-split (slot_parts x) (slots_parts (slots_from xs) None) s.0 rest s.2 in
+  params_only (x ∷ xs) (Some zero) may b remainder good stands f =
+      let s = head_byte 0x41 (slot_parts x ++ slots_parts (slots_from xs) None) b remainder f in
+      let t = Head-split (slot_parts x) (slots_parts (slots_from xs) None) s.0 remainder s.2 in
       let e = slots.only s.0 t.0 x good.0 t.1 in
-      let g = params_only xs None false t.0 rest good.1 tt t.2 in
+      let g = params_only xs None false t.0 remainder good.1 tt t.2 in
       rw (s.1, stands.1, e, g) refl
-  params_only (x ∷ xs) (Some (suc k)) may b rest good stands f =
-      let t = Front-split (slot_parts x) (slots_parts (slots_from xs) (Some k)) b rest f in
+  params_only (x ∷ xs) (Some (suc k)) may b remainder good stands f =
+      let t = Head-split (slot_parts x) (slots_parts (slots_from xs) (Some k)) b remainder f in
       let e = slots.only b t.0 x good.0 t.1 in
       let lt = stands.0 in
-      let g = params_only xs (Some k) may t.0 rest good.1 (omega arith, stands.1) t.2 in
+      let g = params_only xs (Some k) may t.0 remainder good.1 (omega arith, stands.1) t.2 in
       let u = unmarked may x b t.0 t.1 in
       rw (u, e, g) refl
 
@@ -247,9 +247,9 @@ module _ (known : NumbersAreRead) (d : ℕ) (nested : Reader Core) (cores : Read
   after_code (method kind this explicit generic ret params sentinel) =
       generic_parts generic ++ number (count_slots params) ∷ (ret_parts ret ++ slots_parts params sentinel)
 
-  rest_found : (own : Bool) (c : ℕ) (b : List ℕ) → is_method_code c ≡ true → IsBytes b → IfSome (method_from own nested c b) (Takes method_parts (IsMethodOf own) (c ∷ b))
+  remainder_found : (own : Bool) (c : ℕ) (b : List ℕ) → is_method_code c ≡ true → IsBytes b → IfSome (method_from own nested c b) (Takes method_parts (IsMethodOf own) (c ∷ b))
   unfolding method_from
-  rest_found own c b e h =
+  remainder_found own c b e h =
       let TakesWhole : Method × List ℕ → Type 0 = Takes method_parts (IsMethodOf own) (c ∷ b) in
       let code = kind_from_test c e in
       IfSome-bind (Takes generic_parts (GenericIs (eqb (c / 16 % 2) 1)) b) TakesWhole (λ g. option_and_then (λ n. option_and_then (λ r. option_map (λ p. (method (c % 16) (eqb (c / 32 % 2) 1) (eqb (c / 64 % 2) 1) g.0 r.0 (slots_from p.0.0) p.0.1, p.1)) (params_at nested (own && takes_sentinel (c % 16)) n.0 r.1)) (ret_at nested n.1)) (number_at g.1)) (generic_at (eqb (c / 16 % 2) 1) b) (generic_found known (eqb (c / 16 % 2) 1) b h)
@@ -263,27 +263,27 @@ module _ (known : NumbersAreRead) (d : ℕ) (nested : Reader Core) (cores : Read
       let count : count_slots (slots_from p.0.0) ≡ n.0 = count-slots_from p.0.0 ∙ tp.1 in
       let many = slots_good d p.0.0 tp.0.good.0 in
       let ret_le = tr.good.0 in
-      let params_front = Front-append (ret_parts r.0) (slots_parts (slots_from p.0.0) p.0.1) n.1 r.1 p.1 tr.front tp.0.front in
-      let counted = subst (λ (k : ℕ). Front (number k ∷ (ret_parts r.0 ++ slots_parts (slots_from p.0.0) p.0.1)) g.1 p.1) (sym count) (Front-append (number_parts n.0) (ret_parts r.0 ++ slots_parts (slots_from p.0.0) p.0.1) g.1 n.1 p.1 tn.front params_front) in
+      let params_head = Head-append (ret_parts r.0) (slots_parts (slots_from p.0.0) p.0.1) n.1 r.1 p.1 tr.head tp.0.head in
+      let counted = subst (λ (k : ℕ). Head (number k ∷ (ret_parts r.0 ++ slots_parts (slots_from p.0.0) p.0.1)) g.1 p.1) (sym count) (Head-append (number_parts n.0) (ret_parts r.0 ++ slots_parts (slots_from p.0.0) p.0.1) g.1 n.1 p.1 tn.head params_head) in
       record {
         good = (omega (arith, many.0), (code.1, sentinel_good own (c % 16) (length p.0.0) (count_slots (slots_from p.0.0)) p.0.1 (sym (count-slots_from p.0.0)) tp.0.good.1, tr.good.1, many.1), own_to own (c % 16) (eqb (c / 32 % 2) 1) (eqb (c / 64 % 2) 1) g.0 r.0 (slots_from p.0.0) p.0.1 (own_found own (takes_sentinel (c % 16)) (length p.0.0) p.0.1 tp.0.good.1));
         bytes = tp.0.bytes;
-        front = behind_byte c (method_code (c % 16) (eqb (c / 32 % 2) 1) (eqb (c / 64 % 2) 1) g.0) (generic_parts g.0 ++ number (count_slots (slots_from p.0.0)) ∷ (ret_parts r.0 ++ slots_parts (slots_from p.0.0) p.0.1)) b p.1 (code_found c g.0 code.0 tg.good) (Front-append (generic_parts g.0) (number (count_slots (slots_from p.0.0)) ∷ (ret_parts r.0 ++ slots_parts (slots_from p.0.0) p.0.1)) b g.1 p.1 tg.front counted);
+        head = behind_byte c (method_code (c % 16) (eqb (c / 32 % 2) 1) (eqb (c / 64 % 2) 1) g.0) (generic_parts g.0 ++ number (count_slots (slots_from p.0.0)) ∷ (ret_parts r.0 ++ slots_parts (slots_from p.0.0) p.0.1)) b p.1 (code_found c g.0 code.0 tg.good) (Head-append (generic_parts g.0) (number (count_slots (slots_from p.0.0)) ∷ (ret_parts r.0 ++ slots_parts (slots_from p.0.0) p.0.1)) b g.1 p.1 tg.head counted);
       }))))
 
   method_found : (own : Bool) (b : List ℕ) → IsBytes b → IfSome (method_at own nested b) (Takes method_parts (IsMethodOf own) b)
   unfolding method_at
   method_found own [] h = tt
   method_found own (c ∷ b) h =
-      IfSome-cond (Takes method_parts (IsMethodOf own) (c ∷ b)) (is_method_code c) _ _ (λ e. rest_found own c b e h.1) (λ e. tt)
+      IfSome-cond (Takes method_parts (IsMethodOf own) (c ∷ b)) (is_method_code c) _ _ (λ e. remainder_found own c b e h.1) (λ e. tt)
 
-  method_only : (own : Bool) (b rest : List ℕ) (m : Method) → IsMethodOf own m → Front (method_parts m) b rest → method_at own nested b ≡ Some (m, rest)
+  method_only : (own : Bool) (b remainder : List ℕ) (m : Method) → IsMethodOf own m → Head (method_parts m) b remainder → method_at own nested b ≡ Some (m, remainder)
   unfolding method_at method_from
-  method_only own b rest (method kind this explicit generic ret params sentinel) good f =
-      let s = front_byte (method_code kind this explicit generic) (after_code (method kind this explicit generic ret params sentinel)) b rest f in
-      let g = Front-split (generic_parts generic) (number (count_slots params) ∷ (ret_parts ret ++ slots_parts params sentinel)) s.0 rest s.2 in
-      let n = Front-split (number_parts (count_slots params)) (ret_parts ret ++ slots_parts params sentinel) g.0 rest g.2 in
-      let r = Front-split (ret_parts ret) (slots_parts params sentinel) n.0 rest n.2 in
+  method_only own b remainder (method kind this explicit generic ret params sentinel) good f =
+      let s = head_byte (method_code kind this explicit generic) (after_code (method kind this explicit generic ret params sentinel)) b remainder f in
+      let g = Head-split (generic_parts generic) (number (count_slots params) ∷ (ret_parts ret ++ slots_parts params sentinel)) s.0 remainder s.2 in
+      let n = Head-split (number_parts (count_slots params)) (ret_parts ret ++ slots_parts params sentinel) g.0 remainder g.2 in
+      let r = Head-split (ret_parts ret) (slots_parts params sentinel) n.0 remainder n.2 in
       let code = method_code kind this explicit generic in
       let bits = code_bits kind this explicit (is_some generic) (kind_lt kind good.1.0) in
       let test = code_test code kind bits.0 bits.1 good.1.0 in
@@ -292,10 +292,10 @@ module _ (known : NumbersAreRead) (d : ℕ) (nested : Reader Core) (cores : Read
       let er = (ret_reads known d nested cores some_depth).only n.0 r.0 ret (omega (arith, good.0), good.1.2) r.1 in
       let same = slots_from_to params in
       let count = length-slots_to params in
-      let params_front = subst (λ (ss : Slots). Front (slots_parts ss sentinel) r.0 rest) (sym same) r.2 in
-      let ep = params_only (slots_to params) sentinel (own && takes_sentinel kind) r.0 rest (slots_good_to d params (omega (arith, good.0)) good.1.3) (sentinel_stands own kind (length (slots_to params)) (count_slots params) sentinel count good.1.1 (own_from own kind this explicit generic ret params sentinel good.2)) params_front in
-      let ep' = subst (λ (k : ℕ). params_at nested (own && takes_sentinel kind) k r.0 ≡ Some ((slots_to params, sentinel), rest)) count ep in
-      rw (s.1, test, bits.1, bits.2, bits.3, bits.4, eg, en, er, ep') (ap (λ (ss : Slots). Some (method kind this explicit generic ret ss sentinel, rest)) same)
+      let params_head = subst (λ (ss : Slots). Head (slots_parts ss sentinel) r.0 remainder) (sym same) r.2 in
+      let ep = params_only (slots_to params) sentinel (own && takes_sentinel kind) r.0 remainder (slots_good_to d params (omega (arith, good.0)) good.1.3) (sentinel_stands own kind (length (slots_to params)) (count_slots params) sentinel count good.1.1 (own_from own kind this explicit generic ret params sentinel good.2)) params_head in
+      let ep' = subst (λ (k : ℕ). params_at nested (own && takes_sentinel kind) k r.0 ≡ Some ((slots_to params, sentinel), remainder)) count ep in
+      rw (s.1, test, bits.1, bits.2, bits.3, bits.4, eg, en, er, ep') (ap (λ (ss : Slots). Some (method kind this explicit generic ret ss sentinel, remainder)) same)
 
   pub method_reads : (own : Bool) → Reads (method_at own nested) method_parts (IsMethodOf own)
   method_reads own = record { found = method_found own; only = method_only own }

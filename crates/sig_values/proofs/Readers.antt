@@ -1,7 +1,7 @@
 -- What each reader must satisfy: it reads what is encoded, and what it reads is encoded so.
 use Rattle.std.proofs.Common.{◌≡◌, ℕ, zero, suc, ◌<◌, Some, List, [], ◌∷◌, ◌++◌, get_or, ◌^◌, refl, sym, ap, subst, arith, IfSome}
 use Rattle.std.specs.Prelude.{⊤}
-use Rattle.sig_grammar.specs.Parts.{Part, byte, SpellsPart, SpellsParts}
+use Rattle.sig_grammar.specs.Parts.{Part, byte, EncodesPart, EncodesParts}
 use Rattle.sig_grammar.specs.Reading.{Reader, change}
 use Rattle.sig_grammar.proofs.OptionLemmas.{IfSome-map}
 
@@ -19,50 +19,50 @@ pub IsBytes-from_each : (b : List ℕ) → ((k : ℕ) → get_or b k 0 < 2 ^ 8) 
 IsBytes-from_each [] h = tt
 IsBytes-from_each (x ∷ b) h = (h 0, IsBytes-from_each b (λ k. h (suc k)))
 
-pub IsBytes-rest : (a b : List ℕ) → IsBytes (a ++ b) → IsBytes b
-IsBytes-rest [] b h = h
-IsBytes-rest (x ∷ a) b h = IsBytes-rest a b h.1
+pub IsBytes-remainder : (a b : List ℕ) → IsBytes (a ++ b) → IsBytes b
+IsBytes-remainder [] b h = h
+IsBytes-remainder (x ∷ a) b h = IsBytes-remainder a b h.1
 
 -- b starts with encodings of the parts, and rest is the remainder
-abbrev pub Front : List Part → List ℕ → List ℕ → Type 0
-Front [] b rest = b ≡ rest
-Front (p ∷ ps) b rest = (x mid : List ℕ) × (b ≡ x ++ mid) × SpellsPart p x × Front ps mid rest
+abbrev pub Head : List Part → List ℕ → List ℕ → Type 0
+Head [] b remainder = b ≡ remainder
+Head (p ∷ ps) b remainder = (x mid : List ℕ) × (b ≡ x ++ mid) × EncodesPart p x × Head ps mid remainder
 
-pub Front-append : (ps qs : List Part) (b mid rest : List ℕ) → Front ps b mid → Front qs mid rest → Front (ps ++ qs) b rest
-Front-append [] qs b mid rest e h = rw e h
-Front-append (p ∷ ps) qs b mid rest f h = (f.0, f.1, f.2, f.3, Front-append ps qs f.1 mid rest f.4 h)
+pub Head-append : (ps qs : List Part) (b mid remainder : List ℕ) → Head ps b mid → Head qs mid remainder → Head (ps ++ qs) b remainder
+Head-append [] qs b mid remainder e h = rw e h
+Head-append (p ∷ ps) qs b mid remainder f h = (f.0, f.1, f.2, f.3, Head-append ps qs f.1 mid remainder f.4 h)
 
-pub Front-split : (ps qs : List Part) (b rest : List ℕ) → Front (ps ++ qs) b rest → (mid : List ℕ) × Front ps b mid × Front qs mid rest
-Front-split [] qs b rest h = (b, refl, h)
-Front-split (p ∷ ps) qs b rest f =
-    let s = Front-split ps qs f.1 rest f.4 in
+pub Head-split : (ps qs : List Part) (b remainder : List ℕ) → Head (ps ++ qs) b remainder → (mid : List ℕ) × Head ps b mid × Head qs mid remainder
+Head-split [] qs b remainder h = (b, refl, h)
+Head-split (p ∷ ps) qs b remainder f =
+    let s = Head-split ps qs f.1 remainder f.4 in
     (s.0, (f.0, f.1, f.2, f.3, s.1), s.2)
 
-pub Front-whole : (ps : List Part) (b : List ℕ) → Front ps b [] → SpellsParts ps b
-Front-whole [] b e = e
-Front-whole (p ∷ ps) b f = (f.0, f.1, f.2, f.3, Front-whole ps f.1 f.4)
+pub Head-whole : (ps : List Part) (b : List ℕ) → Head ps b [] → EncodesParts ps b
+Head-whole [] b e = e
+Head-whole (p ∷ ps) b f = (f.0, f.1, f.2, f.3, Head-whole ps f.1 f.4)
 
-pub Front-from_whole : (ps : List Part) (b : List ℕ) → SpellsParts ps b → Front ps b []
-Front-from_whole [] b e = e
-Front-from_whole (p ∷ ps) b f = (f.0, f.1, f.2, f.3, Front-from_whole ps f.1 f.4)
+pub Head-from_whole : (ps : List Part) (b : List ℕ) → EncodesParts ps b → Head ps b []
+Head-from_whole [] b e = e
+Head-from_whole (p ∷ ps) b f = (f.0, f.1, f.2, f.3, Head-from_whole ps f.1 f.4)
 
 -- x, a value and the bytes after it, is a correct reading of b
 pub record Takes {A : Type 0} (parts : A → List Part) (Good : A → Type 0) (b : List ℕ) (x : A × List ℕ) : Type 0 where
   pub good : Good x.0
   pub bytes : IsBytes x.1
-  pub front : Front (parts x.0) b x.1
+  pub head : Head (parts x.0) b x.1
 
 pub record Reads {A : Type 0} (r : Reader A) (parts : A → List Part) (Good : A → Type 0) : Type 0 where
   pub found : (b : List ℕ) → IsBytes b → IfSome (r b) (Takes parts Good b)
-  pub only : (b rest : List ℕ) (v : A) → Good v → Front (parts v) b rest → r b ≡ Some (v, rest)
+  pub only : (b remainder : List ℕ) (v : A) → Good v → Head (parts v) b remainder → r b ≡ Some (v, remainder)
 
 -- the first byte, and the bytes after it
-pub front_byte : (c : ℕ) (ps : List Part) (b rest : List ℕ) → Front (byte c ∷ ps) b rest → (tail : List ℕ) × (b ≡ c ∷ tail) × Front ps tail rest
-front_byte c ps b rest f = (f.1, rw (f.2, f.3) refl, f.4)
+pub head_byte : (c : ℕ) (ps : List Part) (b remainder : List ℕ) → Head (byte c ∷ ps) b remainder → (tail : List ℕ) × (b ≡ c ∷ tail) × Head ps tail remainder
+head_byte c ps b remainder f = (f.1, rw (f.2, f.3) refl, f.4)
 
 -- a byte before bytes that were read
-pub behind_byte : (c n : ℕ) (ps : List Part) (b rest : List ℕ) → c ≡ n → Front ps b rest → Front (byte n ∷ ps) (c ∷ b) rest
-behind_byte c n ps b rest e f = (c ∷ [], b, refl, ap (λ (m : ℕ). m ∷ []) e, f)
+pub behind_byte : (c n : ℕ) (ps : List Part) (b remainder : List ℕ) → c ≡ n → Head ps b remainder → Head (byte n ∷ ps) (c ∷ b) remainder
+behind_byte c n ps b remainder e f = (c ∷ [], b, refl, ap (λ (m : ℕ). m ∷ []) e, f)
 
 module _ {A B : Type 0} (f : A → B) (r : Reader A) (parts : A → List Part) (Good : A → Type 0) (more : B → List Part) (Fine : B → Type 0)
     (good : (u : A) → Good u → Fine (f u)) (same : (u : A) → more (f u) ≡ parts u) (back : (v : B) → Fine v → (u : A) × Good u × (f u ≡ v))
@@ -74,11 +74,11 @@ module _ {A B : Type 0} (f : A → B) (r : Reader A) (parts : A → List Part) (
         (λ x t. record {
           good = good x.0 t.good;
           bytes = t.bytes;
-          front = subst (λ (ps : List Part). Front ps b x.1) (sym (same x.0)) t.front;
+          head = subst (λ (ps : List Part). Head ps b x.1) (sym (same x.0)) t.head;
         });
-    only = λ b rest v fine front.
+    only = λ b remainder v fine head.
         let u = back v fine in
-        let there = subst (λ (ps : List Part). Front ps b rest) (same u.0) (subst (λ (w : B). Front (more w) b rest) (sym u.2) front) in
-        let e = reads.only b rest u.0 u.1 there in
-        rw e (ap (λ (w : B). Some (w, rest)) u.2);
+        let there = subst (λ (ps : List Part). Head ps b remainder) (same u.0) (subst (λ (w : B). Head (more w) b remainder) (sym u.2) head) in
+        let e = reads.only b remainder u.0 u.1 there in
+        rw e (ap (λ (w : B). Some (w, remainder)) u.2);
   }

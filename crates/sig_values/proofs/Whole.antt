@@ -11,21 +11,21 @@ use Rattle.packed.specs.Packed.{IsPacked, IsPackedSigned, FitsBits, fits_bits, s
 use Rattle.table_schema.specs.declared.coded.Coded.TheVariants.{TypeDefOrRef}
 use Rattle.table_schema.specs.CodedIndexes.{tables_of}
 use Rattle.sig_grammar.specs.Syntax.{Body}
-use Rattle.sig_grammar.specs.Parts.{Part, byte, number, signed, index, SpellsPart, SpellsParts, short_part, index_number, HasSpelling}
+use Rattle.sig_grammar.specs.Parts.{Part, byte, number, signed, index, EncodesPart, EncodesParts, short_part, index_number, HasEncoding}
 use Rattle.sig_grammar.specs.Grammar.{body_parts}
-use Rattle.sig_grammar.specs.Spells.{Holds, Spells, IsSpellable, short}
+use Rattle.sig_grammar.specs.Encodes.{Holds, Encodes, IsEncodable, short}
 use Rattle.sig_grammar.specs.Reading.{Reader, core_at}
 use Rattle.sig_grammar.specs.Columns.{body_at}
 use Rattle.sig_values.proofs.Numbers.{NumbersAreRead}
-use Rattle.sig_values.proofs.Readers.{IsBytes, Front-whole, Front-from_whole, Takes, Reads}
+use Rattle.sig_values.proofs.Readers.{IsBytes, Head-whole, Head-from_whole, Takes, Reads}
 use Rattle.sig_values.proofs.Cores.{core_reads}
 use Rattle.table_schema.specs.declared.column.SigKind.{SigKind}
 use Rattle.sig_values.proofs.Bodies.{body_reads, IsHeld}
 
 -- ---- the canonical encoding of each part is an encoding
 
-pub short_unsigned_spells : (n : ℕ) → n < 2 ^ 29 → IsPacked n (short_unsigned n)
-short_unsigned_spells n lt = by_test (ltb n (2 ^ 7)) (ltb n (2 ^ 14)) (λ e. ltb-true n (2 ^ 7) e) (λ e. ltb-true n (2 ^ 14) e)
+pub short_unsigned_encodes : (n : ℕ) → n < 2 ^ 29 → IsPacked n (short_unsigned n)
+short_unsigned_encodes n lt = by_test (ltb n (2 ^ 7)) (ltb n (2 ^ 14)) (λ e. ltb-true n (2 ^ 7) e) (λ e. ltb-true n (2 ^ 14) e)
   where
     by_test : (p q : Bool) → (p ≡ true → n < 2 ^ 7) → (q ≡ true → n < 2 ^ 14) → IsPacked n (cond p (one_byte n) (cond q (two_bytes n) (four_bytes n)))
     by_test true q f g = inl (f refl, refl)
@@ -49,87 +49,87 @@ fits_from w z e =
     let both = and_parts (not (int_lt z (neg_ℤ (pos (2 ^ (w - 1)))))) (int_lt z (pos (2 ^ (w - 1)))) e in
     record { low = search (rules, both.0); high = search (rules, both.1) }
 
-pub short_signed_spells : (z : ℤ) → FitsBits 29 z → IsPackedSigned z (short_signed z)
-short_signed_spells z h = by_test (fits_bits 7 z) (fits_bits 14 z) (λ e. fits_from 7 z e) (λ e. fits_from 14 z e)
+pub short_signed_encodes : (z : ℤ) → FitsBits 29 z → IsPackedSigned z (short_signed z)
+short_signed_encodes z h = by_test (fits_bits 7 z) (fits_bits 14 z) (λ e. fits_from 7 z e) (λ e. fits_from 14 z e)
   where
     by_test : (p q : Bool) → (p ≡ true → FitsBits 7 z) → (q ≡ true → FitsBits 14 z) → IsPackedSigned z (cond p (one_byte (signed_bits 7 z)) (cond q (two_bytes (signed_bits 14 z)) (four_bytes (signed_bits 29 z))))
     by_test true q f g = let t = f refl in inl (t, (bits_seven z t, refl))
     by_test false true f g = let t = g refl in inr (inl (t, (bits_fourteen z t, refl)))
     by_test false false f g = inr (inr (h, (bits_twenty_nine z h, refl)))
 
-pub short_part_spells : (p : Part) → HasSpelling p → SpellsPart p (short_part p)
-short_part_spells (byte c) h = refl
-short_part_spells (number n) h = short_unsigned_spells n h
-short_part_spells (signed z) h = short_signed_spells z h
-short_part_spells (index t) h =
+pub short_part_encodes : (p : Part) → HasEncoding p → EncodesPart p (short_part p)
+short_part_encodes (byte c) h = refl
+short_part_encodes (number n) h = short_unsigned_encodes n h
+short_part_encodes (signed z) h = short_signed_encodes z h
+short_part_encodes (index t) h =
     let few : h.0.tag < 3 = slice_get_within (tables_of TypeDefOrRef) h.0.tag (Some t.table) h.0.listed in
     let equal = h.0.equal in
     let row = h.1 in
-    record { number = index_number t; coded = h.0; packed = short_unsigned_spells (index_number t) (omega arith) }
+    record { number = index_number t; coded = h.0; packed = short_unsigned_encodes (index_number t) (omega arith) }
 
-pub short_spells : (ps : List Part) → AllByRecursion HasSpelling ps → SpellsParts ps (flat_map short_part ps)
-short_spells [] h = refl
-short_spells (p ∷ ps) h = (short_part p, flat_map short_part ps, refl, short_part_spells p h.0, short_spells ps h.1)
+pub short_encodes : (ps : List Part) → AllByRecursion HasEncoding ps → EncodesParts ps (flat_map short_part ps)
+short_encodes [] h = refl
+short_encodes (p ∷ ps) h = (short_part p, flat_map short_part ps, refl, short_part_encodes p h.0, short_encodes ps h.1)
 
 -- ---- at most one value is encoded, and it is the one that is read
 
 module _ {A : Type 0} (r : Reader A) (parts : A → List Part) (Good : A → Type 0) (reads : Reads r parts Good) where
-  pub read_whole : (v : A) (b : List ℕ) → Good v → SpellsParts (parts v) b → r b ≡ Some (v, [])
-  read_whole v b good s = reads.only b [] v good (Front-from_whole (parts v) b s)
+  pub read_whole : (v : A) (b : List ℕ) → Good v → EncodesParts (parts v) b → r b ≡ Some (v, [])
+  read_whole v b good s = reads.only b [] v good (Head-from_whole (parts v) b s)
 
   -- no bytes encode two values
-  pub one_value : (u v : A) (b : List ℕ) → Good u → Good v → SpellsParts (parts u) b → SpellsParts (parts v) b → u ≡ v
+  pub one_value : (u v : A) (b : List ℕ) → Good u → Good v → EncodesParts (parts u) b → EncodesParts (parts v) b → u ≡ v
   one_value u v b gu gv su sv = let e = read_whole u b gu su in let f = read_whole v b gv sv in ap (λ (p : A × List ℕ). p.0) (same_Some (u, []) (v, []) (sym e ∙ f))
 
   -- what is read is encoded so
-  pub found_whole : (v : A) (b : List ℕ) → IsBytes b → r b ≡ Some (v, []) → Good v × SpellsParts (parts v) b
+  pub found_whole : (v : A) (b : List ℕ) → IsBytes b → r b ≡ Some (v, []) → Good v × EncodesParts (parts v) b
   found_whole v b h e = of_option (r b) (reads.found b h) e
     where
-      of_option : (o : Option (A × List ℕ)) → IfSome o (Takes parts Good b) → o ≡ Some (v, []) → Good v × SpellsParts (parts v) b
+      of_option : (o : Option (A × List ℕ)) → IfSome o (Takes parts Good b) → o ≡ Some (v, []) → Good v × EncodesParts (parts v) b
       of_option None t e = absurd cc
       of_option (Some x) t e =
           let same : x ≡ (v, []) = cc in
           let u = subst (λ (y : A × List ℕ). Takes parts Good b y) same t in
-          (u.good, Front-whole (parts v) b u.front)
+          (u.good, Head-whole (parts v) b u.head)
 
   -- a value that is written can be read again
-  pub written_again : (v : A) → Good v → AllByRecursion HasSpelling (parts v) → r (flat_map short_part (parts v)) ≡ Some (v, [])
-  written_again v good all = read_whole v (flat_map short_part (parts v)) good (short_spells (parts v) all)
+  pub written_again : (v : A) → Good v → AllByRecursion HasEncoding (parts v) → r (flat_map short_part (parts v)) ≡ Some (v, [])
+  written_again v good all = read_whole v (flat_map short_part (parts v)) good (short_encodes (parts v) all)
 
 -- ---- whole signatures
 
 -- what a column holds within the limits, as the reader reads it
-good_of : (kind : SigKind) (s : Body) (b : List ℕ) → Spells kind s b → IsHeld 128 kind s
+good_of : (kind : SigKind) (s : Body) (b : List ℕ) → Encodes kind s b → IsHeld 128 kind s
 good_of kind s b h = (h.column, h.body)
 
 column_reads : NumbersAreRead → (kind : SigKind) → Reads (body_at kind (core_at 128)) body_parts (IsHeld 128 kind)
 column_reads known kind = body_reads known 128 (core_at 128) (core_reads known 128) (omega arith) kind
 
 -- no bytes encode two signatures in one column
-pub one_signature : NumbersAreRead → (kind : SigKind) (u v : Body) (b : List ℕ) → Spells kind u b → Spells kind v b → u ≡ v
+pub one_signature : NumbersAreRead → (kind : SigKind) (u v : Body) (b : List ℕ) → Encodes kind u b → Encodes kind v b → u ≡ v
 one_signature known kind u v b h k =
     one_value (body_at kind (core_at 128)) body_parts (IsHeld 128 kind) (column_reads known kind) u v b (good_of kind u b h) (good_of kind v b k) h.parts k.parts
 
 -- what bytes encode is read from them
-pub spelled_read : NumbersAreRead → (kind : SigKind) (s : Body) (b : List ℕ) → Spells kind s b → body_at kind (core_at 128) b ≡ Some (s, [])
-spelled_read known kind s b h =
+pub encoded_read : NumbersAreRead → (kind : SigKind) (s : Body) (b : List ℕ) → Encodes kind s b → body_at kind (core_at 128) b ≡ Some (s, [])
+encoded_read known kind s b h =
     read_whole (body_at kind (core_at 128)) body_parts (IsHeld 128 kind) (column_reads known kind) s b (good_of kind s b h) h.parts
 
 -- what is read to the end is encoded so
-pub read_spelled : NumbersAreRead → (kind : SigKind) (s : Body) (b : List ℕ) → IsBytes b → length b < 2 ^ 29 → body_at kind (core_at 128) b ≡ Some (s, []) → Spells kind s b
-read_spelled known kind s b bytes limit e =
+pub read_encoded : NumbersAreRead → (kind : SigKind) (s : Body) (b : List ℕ) → IsBytes b → length b < 2 ^ 29 → body_at kind (core_at 128) b ≡ Some (s, []) → Encodes kind s b
+read_encoded known kind s b bytes limit e =
     let t = found_whole (body_at kind (core_at 128)) body_parts (IsHeld 128 kind) (column_reads known kind) s b bytes e in
     record { column = t.0.0; body = t.0.1; parts = t.1; limit = limit }
 
 -- the canonical encoding is an encoding
-pub short_is_spelling : (kind : SigKind) (s : Body) → Holds kind s → IsSpellable s → Spells kind s (short s)
-short_is_spelling kind s column h = record {
+pub short_is_encoding : (kind : SigKind) (s : Body) → Holds kind s → IsEncodable s → Encodes kind s (short s)
+short_is_encoding kind s column h = record {
   column = column;
   body = h.body;
-  parts = short_spells (body_parts s) h.parts;
+  parts = short_encodes (body_parts s) h.parts;
   limit = h.limit;
 }
 
 -- and it can be read again
-pub short_read : NumbersAreRead → (kind : SigKind) (s : Body) → Holds kind s → IsSpellable s → body_at kind (core_at 128) (short s) ≡ Some (s, [])
-short_read known kind s column h = spelled_read known kind s (short s) (short_is_spelling kind s column h)
+pub short_read : NumbersAreRead → (kind : SigKind) (s : Body) → Holds kind s → IsEncodable s → body_at kind (core_at 128) (short s) ≡ Some (s, [])
+short_read known kind s column h = encoded_read known kind s (short s) (short_is_encoding kind s column h)

@@ -4,7 +4,7 @@ ghost use Rattle.table_schema.specs.declared.column.SigKind.{SigKind};
 ghost use Rattle.table_schema.specs.declared.table.TableId.TheVariants.{TypeDef, TypeRef, TypeSpec};
 ghost use Rattle.table_schema.specs.declared.token.Token.{Token};
 ghost use Rattle.sig_grammar.specs.Syntax.{Body};
-ghost use Rattle.sig_grammar.specs.Spells.{Holds, Spells, IsSpellable, HasRow, short, tokens, first_bad};
+ghost use Rattle.sig_grammar.specs.Encodes.{Holds, Encodes, IsEncodable, HasRow, short, tokens, first_bad};
 ghost use Rattle.sig_grammar.specs.Reading.{core_at};
 ghost use Rattle.sig_grammar.specs.Columns.{body_at};
 
@@ -13,33 +13,33 @@ use packed::numbers_are_read;
 /// A signature that bytes encode is read from them. If fewer than 2^29 bytes are read to their end, they
 /// encode what is read. So no bytes encode two signatures in a column of one kind.
 pub fn signatures_are_read()
-    ensures read { (kind : SigKind) (signature : Body) (bytes : List ℕ) → Spells kind signature bytes
+    ensures read { (kind : SigKind) (signature : Body) (bytes : List ℕ) → Encodes kind signature bytes
         → body_at kind (core_at 128) bytes ≡ Some (signature, []) }
-    ensures spelled { (kind : SigKind) (signature : Body) (bytes : List ℕ) → ((k : ℕ) → get_or bytes k 0 < 2 ^ 8)
-        → length bytes < 2 ^ 29 → body_at kind (core_at 128) bytes ≡ Some (signature, []) → Spells kind signature bytes }
-    ensures one { (kind : SigKind) (first second : Body) (bytes : List ℕ) → Spells kind first bytes → Spells kind second bytes
+    ensures encoded { (kind : SigKind) (signature : Body) (bytes : List ℕ) → ((k : ℕ) → get_or bytes k 0 < 2 ^ 8)
+        → length bytes < 2 ^ 29 → body_at kind (core_at 128) bytes ≡ Some (signature, []) → Encodes kind signature bytes }
+    ensures one { (kind : SigKind) (first second : Body) (bytes : List ℕ) → Encodes kind first bytes → Encodes kind second bytes
         → first ≡ second }
 {
     numbers_are_read();
 }
 
 /// If a signature has an encoding, its canonical encoding encodes it, in each kind of column that holds it.
-pub fn shortest_spells()
-    ensures { (kind : SigKind) (signature : Body) → Holds kind signature → IsSpellable signature
-        → Spells kind signature (short signature) }
+pub fn shortest_encodes()
+    ensures { (kind : SigKind) (signature : Body) → Holds kind signature → IsEncodable signature
+        → Encodes kind signature (short signature) }
 {}
 
 /// If bytes encode a signature, in a column of any kind, then the signature has a canonical encoding. Each of its
 /// parts has an encoding, and the canonical encoding has fewer than 2^29 bytes.
-pub fn spelled_is_spellable()
-    ensures { (kind : SigKind) (signature : Body) (bytes : List ℕ) → Spells kind signature bytes → IsSpellable signature }
+pub fn encoded_is_encodable()
+    ensures { (kind : SigKind) (signature : Body) (bytes : List ℕ) → Encodes kind signature bytes → IsEncodable signature }
 {}
 
 /// Each type index of an encodable signature names TypeDef, TypeRef or TypeSpec (II.23.2.8).
 /// Its row number has at most 27 bits and may be 0.
 pub fn indexes_name_types()
-    ensures rows { (signature : Body) → IsSpellable signature → AllByRecursion (λ token. token.row < 2 ^ 27) (tokens signature) }
-    ensures tables { (signature : Body) → IsSpellable signature
+    ensures rows { (signature : Body) → IsEncodable signature → AllByRecursion (λ token. token.row < 2 ^ 27) (tokens signature) }
+    ensures tables { (signature : Body) → IsEncodable signature
         → AllByRecursion (λ token. (token.table ≡ TypeDef) ⊎ ((token.table ≡ TypeRef) ⊎ (token.table ≡ TypeSpec))) (tokens signature) }
 {}
 

@@ -17,8 +17,8 @@
 mod laws;
 
 pub use laws::{
-    first_bad_is_first, indexes_name_types, shortest_spells, signatures_are_read,
-    spelled_is_spellable,
+    first_bad_is_first, indexes_name_types, shortest_encodes, signatures_are_read,
+    encoded_is_encodable,
 };
 pub use sig_grammar::{
     Core, Element, FieldSig, InstanceSig, Local, LocalsSig, MethodSig, Modifier, Prefix,

@@ -1,6 +1,6 @@
 ghost use Rattle.std.specs.Prelude.{◌↔◌, IsTrue, false};
 ghost use Rattle.sig_grammar.specs.Limits.{HasOwnSentinel};
-ghost use Rattle.sig_grammar.specs.Spells.{Holds};
+ghost use Rattle.sig_grammar.specs.Encodes.{Holds};
 ghost use Rattle.sig_grammar.specs.Views.{body_of, method_of};
 
 use sig_grammar::{MethodSig, SigBody};

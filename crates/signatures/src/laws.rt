@@ -1,20 +1,20 @@
 ghost use Rattle.std.specs.Prelude.{◌≡◌, ◌↔◌, IsTrue};
 ghost use Rattle.table_schema.specs.declared.column.SigKind.{SigKind};
 ghost use Rattle.sig_grammar.specs.Syntax.{Body};
-ghost use Rattle.sig_grammar.specs.Spells.{Holds, Spells, IsSpellable, short};
+ghost use Rattle.sig_grammar.specs.Encodes.{Holds, Encodes, IsEncodable, short};
 
 use crate::signature::Signature;
-use sig_values::{shortest_spells, signatures_are_read};
+use sig_values::{shortest_encodes, signatures_are_read};
 
 /// The bytes that [`encode`](crate::encode) writes decode to the same signature. In each kind of column that
 /// holds the signature, its canonical encoding encodes it and no other.
 pub fn encoded_is_decoded()
-    ensures spelled { (kind : SigKind) (signature : Body) → Holds kind signature → IsSpellable signature
-        → Spells kind signature (short signature) }
-    ensures one { (kind : SigKind) (signature other : Body) → Holds kind signature → IsSpellable signature
-        → Spells kind other (short signature) → other ≡ signature }
+    ensures encoded { (kind : SigKind) (signature : Body) → Holds kind signature → IsEncodable signature
+        → Encodes kind signature (short signature) }
+    ensures one { (kind : SigKind) (signature other : Body) → Holds kind signature → IsEncodable signature
+        → Encodes kind other (short signature) → other ≡ signature }
 {
-    shortest_spells();
+    shortest_encodes();
     signatures_are_read();
 }
 

@@ -3,7 +3,7 @@
 //! A [`Signature`] holds a [`SigBody`] that has an encoding. There are two ways to make one: [`Signature::new`]
 //! tests a body, and [`decode`] builds it from the bytes of a blob. [`encode`] writes its canonical encoding
 //! and fails only if it is out of memory. What it writes decodes to the same signature.
-//! [`shortest_spelling`] converts bytes to the shortest bytes that encode the same signature.
+//! [`canonical_encoding`] converts bytes to the shortest bytes that encode the same signature.
 //! [`recognise`] and [`index_of_first_bad`] read bytes without allocation. Contracts see only the content of
 //! a signature. So `==` compares content, not addresses.
 //!
@@ -24,5 +24,5 @@ pub use sig_grammar::{
     Core, Element, FieldSig, InstanceSig, Local, LocalsSig, MethodSig, Modifier, Prefix,
     PropertySig, Ret, Shape, SigBody, Slot, SlotKind, TypeSig,
 };
-pub use signature::{Signature, decode, encode, shortest_spelling};
+pub use signature::{Signature, decode, encode, canonical_encoding};
 pub use table_schema::{SigKind, Token};

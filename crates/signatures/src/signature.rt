@@ -2,7 +2,7 @@ ghost use Rattle.std.specs.Prelude.{◌≡◌, ◌↔◌, ◌<◌, ◌^◌, IsTr
 ghost use Rattle.std.specs.Cmp.{partial_equiv_from_equiv};
 ghost use Rattle.sig_grammar.specs.Syntax.{Body};
 ghost use Rattle.sig_grammar.specs.Views.{body_of};
-ghost use Rattle.sig_grammar.specs.Spells.{Holds, Spells, IsSpellable, short, tokens, first_bad as first_bad_of};
+ghost use Rattle.sig_grammar.specs.Encodes.{Holds, Encodes, IsEncodable, short, tokens, first_bad as first_bad_of};
 ghost use Rattle.sig_decoder.specs.declared.error.SigError.TheVariants.{Bad};
 ghost use Rattle.sig_copier.specs.Same.{is_same_body};
 ghost use Rattle.sig_copier.proofs.TestLaws.{same_bodies_equiv};
@@ -10,9 +10,9 @@ ghost use Rattle.sig_copier.proofs.TestLaws.{same_bodies_equiv};
 use crate::columns::holds;
 use sig_copier::{copy_body, first_bad, is_same};
 use sig_decoder::{SigError, decode_body};
-use sig_encoder::{encode_body, spelled_len};
+use sig_encoder::{encode_body, encoded_len};
 use sig_grammar::SigBody;
-use sig_values::spelled_is_spellable;
+use sig_values::encoded_is_encodable;
 use std::alloc::{AllocError, Global};
 use std::marker::Model;
 use table_schema::{SigKind, Token};
@@ -34,11 +34,11 @@ impl Model for Signature {
     ghost coded = { body_code };
 
     ghost use Rattle.sig_grammar.specs.Views.{body_of};
-    ghost use Rattle.sig_grammar.specs.Spells.{IsSpellable};
+    ghost use Rattle.sig_grammar.specs.Encodes.{IsEncodable};
 
     ghost view = { λ s. body_of s.body };
 
-    ghost invariant = { λ s. IsSpellable (body_of s.body) };
+    ghost invariant = { λ s. IsEncodable (body_of s.body) };
 }
 
 impl PartialEq for Signature {
@@ -63,10 +63,10 @@ impl Signature {
     /// Returns the body if no bytes encode it. Either it breaks the grammar, or its types nest deeper than 128. Or a
     /// number or a row in it is too large, or its canonical encoding has 2^29 bytes or more.
     pub fn new(body: SigBody) -> Result<Signature, SigBody>
-        ensures spellable { IsOk result ↔ IsSpellable (body_of body) }
+        ensures encodable { IsOk result ↔ IsEncodable (body_of body) }
         ensures same { MatchResult result (λ signature. signature ≡ body_of body) (λ refused. body_of refused ≡ body_of body) }
     {
-        if spelled_len(&body).is_none() {
+        if encoded_len(&body).is_none() {
             return Err(body);
         }
         Ok(Signature { body })
@@ -75,7 +75,7 @@ impl Signature {
     /// The content of the signature.
     pub fn body(&self) -> &SigBody
         ensures body { body_of result.now ≡ self.now }
-        ensures spellable { IsSpellable self.now }
+        ensures encodable { IsEncodable self.now }
     {
         &self.body
     }
@@ -106,7 +106,7 @@ impl Signature {
     /// Whether a column of this kind can hold the signature. If so, its encoding can be decoded there (II.22).
     pub fn is_held_by(&self, kind: SigKind) -> bool
         ensures held { IsTrue result ↔ Holds kind self.now }
-        ensures spellable { IsSpellable self.now }
+        ensures encodable { IsEncodable self.now }
     {
         holds(kind, &self.body)
     }
@@ -133,13 +133,13 @@ pub fn encode(alloc: Global, signature: &Signature) -> Result<Vec<u8>, AllocErro
 /// a signature and its value could not be allocated.
 pub fn decode(alloc: Global, bytes: &[u8], kind: SigKind) -> Result<Signature, SigError>
     // The bytes encode the signature that is built.
-    ensures found { IfOk result (λ signature. Spells kind signature bytes.now) }
+    ensures sound { IfOk result (λ signature. Encodes kind signature bytes.now) }
     // They encode nothing else.
-    ensures only { (signature : Body) → Spells kind signature bytes.now → IfOk result (λ found. found ≡ signature) }
+    ensures complete { (signature : Body) → Encodes kind signature bytes.now → IfOk result (λ found. found ≡ signature) }
     // The result is `Bad` if and only if they encode nothing.
-    ensures bad { IsErrOf result Bad ↔ ¬ ((signature : Body) × Spells kind signature bytes.now) }
+    ensures bad { IsErrOf result Bad ↔ ¬ ((signature : Body) × Encodes kind signature bytes.now) }
 {
-    spelled_is_spellable();
+    encoded_is_encodable();
     let body = decode_body(alloc, bytes, kind)?;
     Ok(Signature { body })
 }
@@ -150,15 +150,15 @@ pub fn decode(alloc: Global, bytes: &[u8], kind: SigKind) -> Result<Signature, S
 ///
 /// `Bad` as for [`decode`]. `Memory` only if the bytes encode a signature, and its value or its encoding could not
 /// be allocated.
-pub fn shortest_spelling(alloc: Global, bytes: &[u8], kind: SigKind) -> Result<Vec<u8>, SigError>
-    ensures shortest { (signature : Body) → Spells kind signature bytes.now → IfOk result (λ spelling. spelling.items ≡ short signature) }
-    ensures limit { IfOk result (λ spelling. length spelling.items < 2 ^ 29) }
+pub fn canonical_encoding(alloc: Global, bytes: &[u8], kind: SigKind) -> Result<Vec<u8>, SigError>
+    ensures shortest { (signature : Body) → Encodes kind signature bytes.now → IfOk result (λ encoding. encoding.items ≡ short signature) }
+    ensures limit { IfOk result (λ encoding. length encoding.items < 2 ^ 29) }
     // The result is `Bad` if and only if they encode nothing.
-    ensures bad { IsErrOf result Bad ↔ ¬ ((signature : Body) × Spells kind signature bytes.now) }
+    ensures bad { IsErrOf result Bad ↔ ¬ ((signature : Body) × Encodes kind signature bytes.now) }
 {
-    spelled_is_spellable();
+    encoded_is_encodable();
     let signature = decode(alloc, bytes, kind)?;
-    let spelling = encode(alloc, &signature);
+    let encoding = encode(alloc, &signature);
     drop(signature);
-    Ok(spelling?)
+    Ok(encoding?)
 }

@@ -1,3 +1,3 @@
 pub mod CountLemmas
-pub mod RestLemmas
+pub mod TailLemmas
 pub mod TextLemmas

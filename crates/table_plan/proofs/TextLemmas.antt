@@ -6,28 +6,28 @@ use Rattle.std.proofs.lemmas.List.{drop_all, drop_more, get_or-map}
 use Rattle.std.proofs.lemmas.List.FromFn.{get_or-range_with_len}
 use Rattle.table_schema.specs.declared.table.TableId.{TableId}
 use Rattle.table_schema.specs.declared.table.TableId.TheVariants.{Module}
-use Rattle.table_schema.specs.Tables.{tables, position_of}
+use Rattle.table_schema.specs.Tables.{tables, table_index_of}
 use Rattle.metadata.specs.Cell.{Cell}
 use Rattle.metadata.specs.Metadata.{Metadata, rows_of}
 
-positions : map position_of tables ≡ range_with_len 0 38
+table_indexes : map table_index_of tables ≡ range_with_len 0 38
 unfolding tables
-positions = refl
+table_indexes = refl
 
 -- a table is found by its index
-pub position_at : length tables ≡ 38 → (k : ℕ) → k < 38 → position_of (get_or tables k Module) ≡ k
-position_at count k below =
-    sym (get_or-map position_of tables k Module 0 (omega (arith, count))) ∙ ap (λ (l : List ℕ). get_or l k 0) positions ∙ get_or-range_with_len 0 38 k 0 below ∙ omega arith
+pub table_index_at : length tables ≡ 38 → (k : ℕ) → k < 38 → table_index_of (get_or tables k Module) ≡ k
+table_index_at count k below =
+    sym (get_or-map table_index_of tables k Module 0 (omega (arith, count))) ∙ ap (λ (l : List ℕ). get_or l k 0) table_indexes ∙ get_or-range_with_len 0 38 k 0 below ∙ omega arith
 
 -- one more item of a list; the values of the list are those of its items in sequence
 pub next_values : {A : Type 0} (values : A → List (List ℕ)) (all : List A → List (List ℕ)) → ((item : A) (items : List A) → all (item ∷ items) ≡ values item ++ all items)
     → (items : List A) (i : ℕ) (d item : A) (before after whole : List (List ℕ)) → i < length items → item ≡ get_or items i d → after ≡ before ++ values item
     → before ++ all (drop i items) ≡ whole → after ++ all (drop (i + 1) items) ≡ whole
 next_values {A} values all more items i d item before after whole below is here e =
-    let rest = drop (i + 1) items in
-    ap (λ list. list ++ all rest) here ∙ append_assoc before (values item) (all rest)
-    ∙ ap (λ (it : A). before ++ (values it ++ all rest)) is
-    ∙ ap (λ list. before ++ list) (sym (more (get_or items i d) rest))
+    let tail = drop (i + 1) items in
+    ap (λ list. list ++ all tail) here ∙ append_assoc before (values item) (all tail)
+    ∙ ap (λ (it : A). before ++ (values it ++ all tail)) is
+    ∙ ap (λ list. before ++ list) (sym (more (get_or items i d) tail))
     ∙ sym (ap (λ list. before ++ all list) (drop_more items i d below)) ∙ e
 
 pub no_values : {A : Type 0} (all : List A → List (List ℕ)) → all [] ≡ [] → (items : List A) (i : ℕ) (before whole : List (List ℕ)) → length items ≤ i
@@ -36,7 +36,7 @@ no_values all none items i before whole past e =
     sym (append-nil before) ∙ sym (ap (λ list. before ++ list) none) ∙ sym (ap (λ list. before ++ all list) (drop_all i items past)) ∙ e
 
 pub next_rows : (values : Cell → List (List ℕ)) (model : Metadata) (i : ℕ) (table : TableId) (before after whole : List (List ℕ)) (rows : List (List Cell))
-    → i < length model.tables → position_of table ≡ i → rows ≡ rows_of model table → after ≡ before ++ flat_map (flat_map values) rows
+    → i < length model.tables → table_index_of table ≡ i → rows ≡ rows_of model table → after ≡ before ++ flat_map (flat_map values) rows
     → before ++ flat_map (flat_map (flat_map values)) (drop i model.tables) ≡ whole
     → after ++ flat_map (flat_map (flat_map values)) (drop (i + 1) model.tables) ≡ whole
 next_rows values model i table before after whole rows below at are more e =

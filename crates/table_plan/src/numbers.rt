@@ -70,13 +70,13 @@ fn put_next<'c>(
     cells: &'c [Cell],
 ) -> Result<&'c [Cell], PoolError>
     requires { AllByRecursion CanBeNumbered (all_said cells.now) }
-    ensures ok { (rest : List Says → Numbered → Numbered)
-        → IfOk result (λ behind. with_next_cell (is_padding kind) (with_cell indexes.now kind) rest (all_said cells.now) numbering.old
-        ≡ rest (all_said behind.now) numbering.new) }
+    ensures ok { (tail : List Says → Numbered → Numbered)
+        → IfOk result (λ behind. with_next_cell (is_padding kind) (with_cell indexes.now kind) tail (all_said cells.now) numbering.old
+        ≡ tail (all_said behind.now) numbering.new) }
     ensures behind { IfOk result (λ behind. AllByRecursion CanBeNumbered (all_said behind.now)) }
-    ensures full { (rest : List Says → Numbered → Numbered)
-        → ((cells : List Says) (so_far : Numbered) → IsOver so_far → IsOver (rest cells so_far)) → result ≡ Err PoolError.Full
-        → IsOver (with_next_cell (is_padding kind) (with_cell indexes.now kind) rest (all_said cells.now) numbering.old) }
+    ensures full { (tail : List Says → Numbered → Numbered)
+        → ((cells : List Says) (so_far : Numbered) → IsOver so_far → IsOver (tail cells so_far)) → result ≡ Err PoolError.Full
+        → IsOver (with_next_cell (is_padding kind) (with_cell indexes.now kind) tail (all_said cells.now) numbering.old) }
 {
     match cells.split_first() {
         Some((cell, behind)) if kind != ColumnKind::Padding => {
@@ -103,9 +103,9 @@ fn put_row(
     ensures full { result ≡ Err PoolError.Full → IsOver (with_row indexes.now columns.now (all_said cells.now) numbering.old) }
 {
     heaps_stay_too_long();
-    let mut rest = cells;
+    let mut tail = cells;
     for column in columns {
-        rest = put_next(alloc, numbering, indexes, column.kind, rest)?;
+        tail = put_next(alloc, numbering, indexes, column.kind, tail)?;
     }
     Ok(())
 }

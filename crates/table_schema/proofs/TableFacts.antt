@@ -2,7 +2,7 @@
 use Rattle.std.proofs.Common.{◌≡◌, ℕ, zero, suc, ◌<◌, ◌≤◌, List, length, get_or, refl, lit<, lit≤, arith, true, [], ◌∷◌, Some, inl, inr, subst}
 use Rattle.table_schema.specs.declared.table.TableId.{TableId}
 use Rattle.table_schema.specs.declared.table.TableId.TheVariants.{Module, TypeRef, TypeDef, Field, MethodDef, Param, InterfaceImpl, MemberRef, Constant, CustomAttribute, FieldMarshal, DeclSecurity, ClassLayout, FieldLayout, StandAloneSig, EventMap, Event, PropertyMap, Property, MethodSemantics, MethodImpl, ModuleRef, TypeSpec, ImplMap, FieldRVA, Assembly, AssemblyProcessor, AssemblyOS, AssemblyRef, AssemblyRefProcessor, AssemblyRefOS, File, ExportedType, ManifestResource, NestedClass, GenericParam, MethodSpec, GenericParamConstraint}
-use Rattle.table_schema.specs.Tables.{table_number, position_of, tables}
+use Rattle.table_schema.specs.Tables.{table_number, table_index_of, tables}
 use Rattle.table_schema.specs.declared.coded.Coded.TheVariants as coded
 use Rattle.table_schema.specs.declared.column.Column.{Column}
 use Rattle.table_schema.specs.declared.column.ColumnKind.TheVariants.{U8}
@@ -50,45 +50,45 @@ columns_few MethodSpec = lit≤ tt
 columns_few GenericParamConstraint = lit≤ tt
 
 -- there are 38 tables
-pub position_below : (table : TableId) → position_of table < 38
-position_below Module = lit< tt
-position_below TypeRef = lit< tt
-position_below TypeDef = lit< tt
-position_below Field = lit< tt
-position_below MethodDef = lit< tt
-position_below Param = lit< tt
-position_below InterfaceImpl = lit< tt
-position_below MemberRef = lit< tt
-position_below Constant = lit< tt
-position_below CustomAttribute = lit< tt
-position_below FieldMarshal = lit< tt
-position_below DeclSecurity = lit< tt
-position_below ClassLayout = lit< tt
-position_below FieldLayout = lit< tt
-position_below StandAloneSig = lit< tt
-position_below EventMap = lit< tt
-position_below Event = lit< tt
-position_below PropertyMap = lit< tt
-position_below Property = lit< tt
-position_below MethodSemantics = lit< tt
-position_below MethodImpl = lit< tt
-position_below ModuleRef = lit< tt
-position_below TypeSpec = lit< tt
-position_below ImplMap = lit< tt
-position_below FieldRVA = lit< tt
-position_below Assembly = lit< tt
-position_below AssemblyProcessor = lit< tt
-position_below AssemblyOS = lit< tt
-position_below AssemblyRef = lit< tt
-position_below AssemblyRefProcessor = lit< tt
-position_below AssemblyRefOS = lit< tt
-position_below File = lit< tt
-position_below ExportedType = lit< tt
-position_below ManifestResource = lit< tt
-position_below NestedClass = lit< tt
-position_below GenericParam = lit< tt
-position_below MethodSpec = lit< tt
-position_below GenericParamConstraint = lit< tt
+pub table_index_below : (table : TableId) → table_index_of table < 38
+table_index_below Module = lit< tt
+table_index_below TypeRef = lit< tt
+table_index_below TypeDef = lit< tt
+table_index_below Field = lit< tt
+table_index_below MethodDef = lit< tt
+table_index_below Param = lit< tt
+table_index_below InterfaceImpl = lit< tt
+table_index_below MemberRef = lit< tt
+table_index_below Constant = lit< tt
+table_index_below CustomAttribute = lit< tt
+table_index_below FieldMarshal = lit< tt
+table_index_below DeclSecurity = lit< tt
+table_index_below ClassLayout = lit< tt
+table_index_below FieldLayout = lit< tt
+table_index_below StandAloneSig = lit< tt
+table_index_below EventMap = lit< tt
+table_index_below Event = lit< tt
+table_index_below PropertyMap = lit< tt
+table_index_below Property = lit< tt
+table_index_below MethodSemantics = lit< tt
+table_index_below MethodImpl = lit< tt
+table_index_below ModuleRef = lit< tt
+table_index_below TypeSpec = lit< tt
+table_index_below ImplMap = lit< tt
+table_index_below FieldRVA = lit< tt
+table_index_below Assembly = lit< tt
+table_index_below AssemblyProcessor = lit< tt
+table_index_below AssemblyOS = lit< tt
+table_index_below AssemblyRef = lit< tt
+table_index_below AssemblyRefProcessor = lit< tt
+table_index_below AssemblyRefOS = lit< tt
+table_index_below File = lit< tt
+table_index_below ExportedType = lit< tt
+table_index_below ManifestResource = lit< tt
+table_index_below NestedClass = lit< tt
+table_index_below GenericParam = lit< tt
+table_index_below MethodSpec = lit< tt
+table_index_below GenericParamConstraint = lit< tt
 
 -- numbers of tables are below 45
 pub number_below : (table : TableId) → table_number table < 45
@@ -132,89 +132,89 @@ number_below MethodSpec = lit< tt
 number_below GenericParamConstraint = lit< tt
 
 -- each table is at its table index
-pub table_at_position : (table : TableId) → get_or tables (position_of table) Module ≡ table
+pub table_at_index : (table : TableId) → get_or tables (table_index_of table) Module ≡ table
 unfolding tables
-table_at_position Module = refl
-table_at_position TypeRef = refl
-table_at_position TypeDef = refl
-table_at_position Field = refl
-table_at_position MethodDef = refl
-table_at_position Param = refl
-table_at_position InterfaceImpl = refl
-table_at_position MemberRef = refl
-table_at_position Constant = refl
-table_at_position CustomAttribute = refl
-table_at_position FieldMarshal = refl
-table_at_position DeclSecurity = refl
-table_at_position ClassLayout = refl
-table_at_position FieldLayout = refl
-table_at_position StandAloneSig = refl
-table_at_position EventMap = refl
-table_at_position Event = refl
-table_at_position PropertyMap = refl
-table_at_position Property = refl
-table_at_position MethodSemantics = refl
-table_at_position MethodImpl = refl
-table_at_position ModuleRef = refl
-table_at_position TypeSpec = refl
-table_at_position ImplMap = refl
-table_at_position FieldRVA = refl
-table_at_position Assembly = refl
-table_at_position AssemblyProcessor = refl
-table_at_position AssemblyOS = refl
-table_at_position AssemblyRef = refl
-table_at_position AssemblyRefProcessor = refl
-table_at_position AssemblyRefOS = refl
-table_at_position File = refl
-table_at_position ExportedType = refl
-table_at_position ManifestResource = refl
-table_at_position NestedClass = refl
-table_at_position GenericParam = refl
-table_at_position MethodSpec = refl
-table_at_position GenericParamConstraint = refl
+table_at_index Module = refl
+table_at_index TypeRef = refl
+table_at_index TypeDef = refl
+table_at_index Field = refl
+table_at_index MethodDef = refl
+table_at_index Param = refl
+table_at_index InterfaceImpl = refl
+table_at_index MemberRef = refl
+table_at_index Constant = refl
+table_at_index CustomAttribute = refl
+table_at_index FieldMarshal = refl
+table_at_index DeclSecurity = refl
+table_at_index ClassLayout = refl
+table_at_index FieldLayout = refl
+table_at_index StandAloneSig = refl
+table_at_index EventMap = refl
+table_at_index Event = refl
+table_at_index PropertyMap = refl
+table_at_index Property = refl
+table_at_index MethodSemantics = refl
+table_at_index MethodImpl = refl
+table_at_index ModuleRef = refl
+table_at_index TypeSpec = refl
+table_at_index ImplMap = refl
+table_at_index FieldRVA = refl
+table_at_index Assembly = refl
+table_at_index AssemblyProcessor = refl
+table_at_index AssemblyOS = refl
+table_at_index AssemblyRef = refl
+table_at_index AssemblyRefProcessor = refl
+table_at_index AssemblyRefOS = refl
+table_at_index File = refl
+table_at_index ExportedType = refl
+table_at_index ManifestResource = refl
+table_at_index NestedClass = refl
+table_at_index GenericParam = refl
+table_at_index MethodSpec = refl
+table_at_index GenericParamConstraint = refl
 
 -- the table at a table index has this index
-pub position_at : (p : ℕ) → p < 38 → position_of (get_or tables p Module) ≡ p
+pub table_index_at : (p : ℕ) → p < 38 → table_index_of (get_or tables p Module) ≡ p
 unfolding tables
-position_at zero h = refl
-position_at (suc zero) h = refl
-position_at (suc (suc zero)) h = refl
-position_at (suc (suc (suc zero))) h = refl
-position_at (suc (suc (suc (suc zero)))) h = refl
-position_at (suc (suc (suc (suc (suc zero))))) h = refl
-position_at (suc (suc (suc (suc (suc (suc zero)))))) h = refl
-position_at (suc (suc (suc (suc (suc (suc (suc zero))))))) h = refl
-position_at (suc (suc (suc (suc (suc (suc (suc (suc zero)))))))) h = refl
-position_at (suc (suc (suc (suc (suc (suc (suc (suc (suc zero))))))))) h = refl
-position_at (suc (suc (suc (suc (suc (suc (suc (suc (suc (suc zero)))))))))) h = refl
-position_at (suc (suc (suc (suc (suc (suc (suc (suc (suc (suc (suc zero))))))))))) h = refl
-position_at (suc (suc (suc (suc (suc (suc (suc (suc (suc (suc (suc (suc zero)))))))))))) h = refl
-position_at (suc (suc (suc (suc (suc (suc (suc (suc (suc (suc (suc (suc (suc zero))))))))))))) h = refl
-position_at (suc (suc (suc (suc (suc (suc (suc (suc (suc (suc (suc (suc (suc (suc zero)))))))))))))) h = refl
-position_at (suc (suc (suc (suc (suc (suc (suc (suc (suc (suc (suc (suc (suc (suc (suc zero))))))))))))))) h = refl
-position_at (suc (suc (suc (suc (suc (suc (suc (suc (suc (suc (suc (suc (suc (suc (suc (suc zero)))))))))))))))) h = refl
-position_at (suc (suc (suc (suc (suc (suc (suc (suc (suc (suc (suc (suc (suc (suc (suc (suc (suc zero))))))))))))))))) h = refl
-position_at (suc (suc (suc (suc (suc (suc (suc (suc (suc (suc (suc (suc (suc (suc (suc (suc (suc (suc zero)))))))))))))))))) h = refl
-position_at (suc (suc (suc (suc (suc (suc (suc (suc (suc (suc (suc (suc (suc (suc (suc (suc (suc (suc (suc zero))))))))))))))))))) h = refl
-position_at (suc (suc (suc (suc (suc (suc (suc (suc (suc (suc (suc (suc (suc (suc (suc (suc (suc (suc (suc (suc zero)))))))))))))))))))) h = refl
-position_at (suc (suc (suc (suc (suc (suc (suc (suc (suc (suc (suc (suc (suc (suc (suc (suc (suc (suc (suc (suc (suc zero))))))))))))))))))))) h = refl
-position_at (suc (suc (suc (suc (suc (suc (suc (suc (suc (suc (suc (suc (suc (suc (suc (suc (suc (suc (suc (suc (suc (suc zero)))))))))))))))))))))) h = refl
-position_at (suc (suc (suc (suc (suc (suc (suc (suc (suc (suc (suc (suc (suc (suc (suc (suc (suc (suc (suc (suc (suc (suc (suc zero))))))))))))))))))))))) h = refl
-position_at (suc (suc (suc (suc (suc (suc (suc (suc (suc (suc (suc (suc (suc (suc (suc (suc (suc (suc (suc (suc (suc (suc (suc (suc zero)))))))))))))))))))))))) h = refl
-position_at (suc (suc (suc (suc (suc (suc (suc (suc (suc (suc (suc (suc (suc (suc (suc (suc (suc (suc (suc (suc (suc (suc (suc (suc (suc zero))))))))))))))))))))))))) h = refl
-position_at (suc (suc (suc (suc (suc (suc (suc (suc (suc (suc (suc (suc (suc (suc (suc (suc (suc (suc (suc (suc (suc (suc (suc (suc (suc (suc zero)))))))))))))))))))))))))) h = refl
-position_at (suc (suc (suc (suc (suc (suc (suc (suc (suc (suc (suc (suc (suc (suc (suc (suc (suc (suc (suc (suc (suc (suc (suc (suc (suc (suc (suc zero))))))))))))))))))))))))))) h = refl
-position_at (suc (suc (suc (suc (suc (suc (suc (suc (suc (suc (suc (suc (suc (suc (suc (suc (suc (suc (suc (suc (suc (suc (suc (suc (suc (suc (suc (suc zero)))))))))))))))))))))))))))) h = refl
-position_at (suc (suc (suc (suc (suc (suc (suc (suc (suc (suc (suc (suc (suc (suc (suc (suc (suc (suc (suc (suc (suc (suc (suc (suc (suc (suc (suc (suc (suc zero))))))))))))))))))))))))))))) h = refl
-position_at (suc (suc (suc (suc (suc (suc (suc (suc (suc (suc (suc (suc (suc (suc (suc (suc (suc (suc (suc (suc (suc (suc (suc (suc (suc (suc (suc (suc (suc (suc zero)))))))))))))))))))))))))))))) h = refl
-position_at (suc (suc (suc (suc (suc (suc (suc (suc (suc (suc (suc (suc (suc (suc (suc (suc (suc (suc (suc (suc (suc (suc (suc (suc (suc (suc (suc (suc (suc (suc (suc zero))))))))))))))))))))))))))))))) h = refl
-position_at (suc (suc (suc (suc (suc (suc (suc (suc (suc (suc (suc (suc (suc (suc (suc (suc (suc (suc (suc (suc (suc (suc (suc (suc (suc (suc (suc (suc (suc (suc (suc (suc zero)))))))))))))))))))))))))))))))) h = refl
-position_at (suc (suc (suc (suc (suc (suc (suc (suc (suc (suc (suc (suc (suc (suc (suc (suc (suc (suc (suc (suc (suc (suc (suc (suc (suc (suc (suc (suc (suc (suc (suc (suc (suc zero))))))))))))))))))))))))))))))))) h = refl
-position_at (suc (suc (suc (suc (suc (suc (suc (suc (suc (suc (suc (suc (suc (suc (suc (suc (suc (suc (suc (suc (suc (suc (suc (suc (suc (suc (suc (suc (suc (suc (suc (suc (suc (suc zero)))))))))))))))))))))))))))))))))) h = refl
-position_at (suc (suc (suc (suc (suc (suc (suc (suc (suc (suc (suc (suc (suc (suc (suc (suc (suc (suc (suc (suc (suc (suc (suc (suc (suc (suc (suc (suc (suc (suc (suc (suc (suc (suc (suc zero))))))))))))))))))))))))))))))))))) h = refl
-position_at (suc (suc (suc (suc (suc (suc (suc (suc (suc (suc (suc (suc (suc (suc (suc (suc (suc (suc (suc (suc (suc (suc (suc (suc (suc (suc (suc (suc (suc (suc (suc (suc (suc (suc (suc (suc zero)))))))))))))))))))))))))))))))))))) h = refl
-position_at (suc (suc (suc (suc (suc (suc (suc (suc (suc (suc (suc (suc (suc (suc (suc (suc (suc (suc (suc (suc (suc (suc (suc (suc (suc (suc (suc (suc (suc (suc (suc (suc (suc (suc (suc (suc (suc zero))))))))))))))))))))))))))))))))))))) h = refl
-position_at (suc (suc (suc (suc (suc (suc (suc (suc (suc (suc (suc (suc (suc (suc (suc (suc (suc (suc (suc (suc (suc (suc (suc (suc (suc (suc (suc (suc (suc (suc (suc (suc (suc (suc (suc (suc (suc (suc p)))))))))))))))))))))))))))))))))))))) h = absurd (omega arith)
+table_index_at zero h = refl
+table_index_at (suc zero) h = refl
+table_index_at (suc (suc zero)) h = refl
+table_index_at (suc (suc (suc zero))) h = refl
+table_index_at (suc (suc (suc (suc zero)))) h = refl
+table_index_at (suc (suc (suc (suc (suc zero))))) h = refl
+table_index_at (suc (suc (suc (suc (suc (suc zero)))))) h = refl
+table_index_at (suc (suc (suc (suc (suc (suc (suc zero))))))) h = refl
+table_index_at (suc (suc (suc (suc (suc (suc (suc (suc zero)))))))) h = refl
+table_index_at (suc (suc (suc (suc (suc (suc (suc (suc (suc zero))))))))) h = refl
+table_index_at (suc (suc (suc (suc (suc (suc (suc (suc (suc (suc zero)))))))))) h = refl
+table_index_at (suc (suc (suc (suc (suc (suc (suc (suc (suc (suc (suc zero))))))))))) h = refl
+table_index_at (suc (suc (suc (suc (suc (suc (suc (suc (suc (suc (suc (suc zero)))))))))))) h = refl
+table_index_at (suc (suc (suc (suc (suc (suc (suc (suc (suc (suc (suc (suc (suc zero))))))))))))) h = refl
+table_index_at (suc (suc (suc (suc (suc (suc (suc (suc (suc (suc (suc (suc (suc (suc zero)))))))))))))) h = refl
+table_index_at (suc (suc (suc (suc (suc (suc (suc (suc (suc (suc (suc (suc (suc (suc (suc zero))))))))))))))) h = refl
+table_index_at (suc (suc (suc (suc (suc (suc (suc (suc (suc (suc (suc (suc (suc (suc (suc (suc zero)))))))))))))))) h = refl
+table_index_at (suc (suc (suc (suc (suc (suc (suc (suc (suc (suc (suc (suc (suc (suc (suc (suc (suc zero))))))))))))))))) h = refl
+table_index_at (suc (suc (suc (suc (suc (suc (suc (suc (suc (suc (suc (suc (suc (suc (suc (suc (suc (suc zero)))))))))))))))))) h = refl
+table_index_at (suc (suc (suc (suc (suc (suc (suc (suc (suc (suc (suc (suc (suc (suc (suc (suc (suc (suc (suc zero))))))))))))))))))) h = refl
+table_index_at (suc (suc (suc (suc (suc (suc (suc (suc (suc (suc (suc (suc (suc (suc (suc (suc (suc (suc (suc (suc zero)))))))))))))))))))) h = refl
+table_index_at (suc (suc (suc (suc (suc (suc (suc (suc (suc (suc (suc (suc (suc (suc (suc (suc (suc (suc (suc (suc (suc zero))))))))))))))))))))) h = refl
+table_index_at (suc (suc (suc (suc (suc (suc (suc (suc (suc (suc (suc (suc (suc (suc (suc (suc (suc (suc (suc (suc (suc (suc zero)))))))))))))))))))))) h = refl
+table_index_at (suc (suc (suc (suc (suc (suc (suc (suc (suc (suc (suc (suc (suc (suc (suc (suc (suc (suc (suc (suc (suc (suc (suc zero))))))))))))))))))))))) h = refl
+table_index_at (suc (suc (suc (suc (suc (suc (suc (suc (suc (suc (suc (suc (suc (suc (suc (suc (suc (suc (suc (suc (suc (suc (suc (suc zero)))))))))))))))))))))))) h = refl
+table_index_at (suc (suc (suc (suc (suc (suc (suc (suc (suc (suc (suc (suc (suc (suc (suc (suc (suc (suc (suc (suc (suc (suc (suc (suc (suc zero))))))))))))))))))))))))) h = refl
+table_index_at (suc (suc (suc (suc (suc (suc (suc (suc (suc (suc (suc (suc (suc (suc (suc (suc (suc (suc (suc (suc (suc (suc (suc (suc (suc (suc zero)))))))))))))))))))))))))) h = refl
+table_index_at (suc (suc (suc (suc (suc (suc (suc (suc (suc (suc (suc (suc (suc (suc (suc (suc (suc (suc (suc (suc (suc (suc (suc (suc (suc (suc (suc zero))))))))))))))))))))))))))) h = refl
+table_index_at (suc (suc (suc (suc (suc (suc (suc (suc (suc (suc (suc (suc (suc (suc (suc (suc (suc (suc (suc (suc (suc (suc (suc (suc (suc (suc (suc (suc zero)))))))))))))))))))))))))))) h = refl
+table_index_at (suc (suc (suc (suc (suc (suc (suc (suc (suc (suc (suc (suc (suc (suc (suc (suc (suc (suc (suc (suc (suc (suc (suc (suc (suc (suc (suc (suc (suc zero))))))))))))))))))))))))))))) h = refl
+table_index_at (suc (suc (suc (suc (suc (suc (suc (suc (suc (suc (suc (suc (suc (suc (suc (suc (suc (suc (suc (suc (suc (suc (suc (suc (suc (suc (suc (suc (suc (suc zero)))))))))))))))))))))))))))))) h = refl
+table_index_at (suc (suc (suc (suc (suc (suc (suc (suc (suc (suc (suc (suc (suc (suc (suc (suc (suc (suc (suc (suc (suc (suc (suc (suc (suc (suc (suc (suc (suc (suc (suc zero))))))))))))))))))))))))))))))) h = refl
+table_index_at (suc (suc (suc (suc (suc (suc (suc (suc (suc (suc (suc (suc (suc (suc (suc (suc (suc (suc (suc (suc (suc (suc (suc (suc (suc (suc (suc (suc (suc (suc (suc (suc zero)))))))))))))))))))))))))))))))) h = refl
+table_index_at (suc (suc (suc (suc (suc (suc (suc (suc (suc (suc (suc (suc (suc (suc (suc (suc (suc (suc (suc (suc (suc (suc (suc (suc (suc (suc (suc (suc (suc (suc (suc (suc (suc zero))))))))))))))))))))))))))))))))) h = refl
+table_index_at (suc (suc (suc (suc (suc (suc (suc (suc (suc (suc (suc (suc (suc (suc (suc (suc (suc (suc (suc (suc (suc (suc (suc (suc (suc (suc (suc (suc (suc (suc (suc (suc (suc (suc zero)))))))))))))))))))))))))))))))))) h = refl
+table_index_at (suc (suc (suc (suc (suc (suc (suc (suc (suc (suc (suc (suc (suc (suc (suc (suc (suc (suc (suc (suc (suc (suc (suc (suc (suc (suc (suc (suc (suc (suc (suc (suc (suc (suc (suc zero))))))))))))))))))))))))))))))))))) h = refl
+table_index_at (suc (suc (suc (suc (suc (suc (suc (suc (suc (suc (suc (suc (suc (suc (suc (suc (suc (suc (suc (suc (suc (suc (suc (suc (suc (suc (suc (suc (suc (suc (suc (suc (suc (suc (suc (suc zero)))))))))))))))))))))))))))))))))))) h = refl
+table_index_at (suc (suc (suc (suc (suc (suc (suc (suc (suc (suc (suc (suc (suc (suc (suc (suc (suc (suc (suc (suc (suc (suc (suc (suc (suc (suc (suc (suc (suc (suc (suc (suc (suc (suc (suc (suc (suc zero))))))))))))))))))))))))))))))))))))) h = refl
+table_index_at (suc (suc (suc (suc (suc (suc (suc (suc (suc (suc (suc (suc (suc (suc (suc (suc (suc (suc (suc (suc (suc (suc (suc (suc (suc (suc (suc (suc (suc (suc (suc (suc (suc (suc (suc (suc (suc (suc p)))))))))))))))))))))))))))))))))))))) h = absurd (omega arith)
 
 -- a key is a column of its table
 pub key_within : (table : TableId) (column : ℕ) → key_of table ≡ Some column → column < length (columns_of table)

@@ -2,8 +2,8 @@
 use Rattle.std.proofs.Common.{ℕ, zero, suc, ◌<◌, ◌≤◌, List, [], ◌∷◌, length, get_or, ap, arith, lit≤}
 use Rattle.table_schema.specs.declared.table.TableId.{TableId}
 use Rattle.table_schema.specs.declared.table.TableId.TheVariants.{Module}
-use Rattle.table_schema.specs.Tables.{tables, table_number, position_of}
-use Rattle.table_schema.proofs.TableFacts.{table_at_position, position_below, length-tables}
+use Rattle.table_schema.specs.Tables.{tables, table_number, table_index_of}
+use Rattle.table_schema.proofs.TableFacts.{table_at_index, table_index_below, length-tables}
 
 -- the numbers of the tables increase, from a number on
 abbrev pub IsAscending : ℕ → List TableId → Type 0
@@ -26,9 +26,9 @@ rises low (table ∷ listed) i zero none up less below = absurd (omega arith)
 rises low (table ∷ listed) zero (suc k) none up less below = omega (arith, above (suc (table_number table)) 0 listed k none up.1 (omega arith))
 rises low (table ∷ listed) (suc i) (suc k) none up less below = rises (suc (table_number table)) listed i k none up.1 (omega arith) (omega arith)
 
-pub numbers_rise : (lower higher : TableId) → position_of lower < position_of higher → table_number lower < table_number higher
+pub numbers_rise : (lower higher : TableId) → table_index_of lower < table_index_of higher → table_number lower < table_number higher
 numbers_rise lower higher less =
-    let all = rises 0 tables (position_of lower) (position_of higher) Module ascending less (omega (arith, position_below higher, length-tables)) in
-    let a = ap table_number (table_at_position lower) in
-    let b = ap table_number (table_at_position higher) in
+    let all = rises 0 tables (table_index_of lower) (table_index_of higher) Module ascending less (omega (arith, table_index_below higher, length-tables)) in
+    let a = ap table_number (table_at_index lower) in
+    let b = ap table_number (table_at_index higher) in
     omega (arith, all, a, b)

@@ -7,7 +7,7 @@ use crate::table::TableId;
 
 /// The table of a tag.
 fn table_of(coded: Coded, tag: u32) -> Option<TableId>
-    ensures found { IfSome result (λ table. slice_get (tables_of coded) tag ≡ Some (Some table)) }
+    ensures sound { IfSome result (λ table. slice_get (tables_of coded) tag ≡ Some (Some table)) }
     ensures none { IfNone result ((table : Table) → slice_get (tables_of coded) tag ≢ Some (Some table)) }
 {
     *coded.tables().get(tag as usize)?
@@ -15,7 +15,7 @@ fn table_of(coded: Coded, tag: u32) -> Option<TableId>
 
 /// The tag of a table.
 fn tag_of(coded: Coded, table: TableId) -> Option<u32>
-    ensures found { IfSome result (λ tag. slice_get (tables_of coded) tag ≡ Some (Some table)) }
+    ensures sound { IfSome result (λ tag. slice_get (tables_of coded) tag ≡ Some (Some table)) }
     ensures none { IfNone result ((tag : ℕ) → slice_get (tables_of coded) tag ≢ Some (Some table)) }
 {
     for (tag, listed) in coded.tables().iter().enumerate() {
@@ -30,8 +30,8 @@ fn tag_of(coded: Coded, table: TableId) -> Option<u32>
 ///
 /// The row counts from 1; 0 is null.
 pub fn split(coded: Coded, number: u32) -> Option<(TableId, u32)>
-    ensures found { IfSome result (λ named. IsCoded coded number named.0 named.1) }
-    ensures only { (table : Table) (row : ℕ) → IsCoded coded number table row → result ≡ Some (table, row) }
+    ensures sound { IfSome result (λ named. IsCoded coded number named.0 named.1) }
+    ensures complete { (table : Table) (row : ℕ) → IsCoded coded number table row → result ≡ Some (table, row) }
 {
     let bits = coded.tag_bits();
     let row = number >> bits;
@@ -44,8 +44,8 @@ pub fn split(coded: Coded, number: u32) -> Option<(TableId, u32)>
 ///
 /// `None` if the index has no tag for the table, or if the number does not fit in 32 bits.
 pub fn join(coded: Coded, table: TableId, row: u32) -> Option<u32>
-    ensures found { IfSome result (λ number. IsCoded coded number table row) }
-    ensures only { (number : ℕ) → IsCoded coded number table row → number < 2 ^ 32 → result ≡ Some number }
+    ensures sound { IfSome result (λ number. IsCoded coded number table row) }
+    ensures complete { (number : ℕ) → IsCoded coded number table row → number < 2 ^ 32 → result ≡ Some number }
 {
     let tag = tag_of(coded, table)?;
     let first = row.checked_mul(1 << coded.tag_bits())?;

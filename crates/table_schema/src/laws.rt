@@ -2,17 +2,17 @@ ghost use Rattle.std.specs.Prelude.{◌≡◌, ◌*◌, ◌-◌, ◌^◌, ◌<�
 ghost use Rattle.table_schema.specs.declared.table.TableId.{TableId as Table};
 ghost use Rattle.table_schema.specs.declared.table.TableId.TheVariants.{Module as TheModule};
 ghost use Rattle.table_schema.specs.declared.coded.Coded.{Coded as TheCoded};
-ghost use Rattle.table_schema.specs.Tables.{table_number, position_of, tables};
+ghost use Rattle.table_schema.specs.Tables.{table_number, table_index_of, tables};
 ghost use Rattle.table_schema.specs.Columns.{columns_of, column_at, key_of, IsReference, MayBeNull};
 ghost use Rattle.table_schema.specs.CodedIndexes.{tables_of, tag_bits};
 
 /// The tables are in the order of their numbers, each at its table index.
 pub fn tables_stand()
     ensures count { length tables ≡ 38 }
-    ensures position { (table : Table) → position_of table < 38 }
+    ensures table_index { (table : Table) → table_index_of table < 38 }
     ensures number { (table : Table) → table_number table < 45 }
-    ensures stand { (table : Table) → slice_index_or tables (position_of table) TheModule ≡ table }
-    ensures rise { (lower higher : Table) → position_of lower < position_of higher → table_number lower < table_number higher }
+    ensures stand { (table : Table) → slice_index_or tables (table_index_of table) TheModule ≡ table }
+    ensures rise { (lower higher : Table) → table_index_of lower < table_index_of higher → table_number lower < table_number higher }
 {}
 
 /// A table has at most nine columns. Its key, if it has one, refers to rows. A column that allows null has

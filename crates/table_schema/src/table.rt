@@ -130,7 +130,7 @@ static TABLES: [TableId; 38] = [
 impl TableId {
     ghost use Rattle.std.specs.Prelude.{◌≡◌, ◌<◌, IfSome, Some, length};
     ghost use Rattle.table_schema.specs.declared.table.TableId.{TableId as Table};
-    ghost use Rattle.table_schema.specs.Tables.{tables, table_number, table_name, position_of};
+    ghost use Rattle.table_schema.specs.Tables.{tables, table_number, table_name, table_index_of};
 
     /// All tables, in the order of their numbers.
     #[tactic(auto, unfolding(crate::specs::Tables::tables))]
@@ -190,8 +190,8 @@ impl TableId {
 
     /// The table with a number, `None` if no table has it.
     pub fn from_number(number: u8) -> Option<TableId>
-        ensures found { IfSome result (λ table. table_number table ≡ number) }
-        ensures only { (table : Table) → table_number table ≡ number → result ≡ Some table }
+        ensures sound { IfSome result (λ table. table_number table ≡ number) }
+        ensures complete { (table : Table) → table_number table ≡ number → result ≡ Some table }
     {
         match number {
             0x00 => Some(TableId::Module),
@@ -283,8 +283,8 @@ impl TableId {
     }
 
     /// The table index, from 0: the number of tables with a lower number.
-    pub fn position(self) -> usize
-        ensures value { result ≡ position_of self }
+    pub fn table_index(self) -> usize
+        ensures value { result ≡ table_index_of self }
         ensures limit { result < 38 }
     {
         self as usize

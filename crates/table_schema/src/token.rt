@@ -23,8 +23,8 @@ impl Token {
 
     /// The token with a number, `None` if the high byte is not the number of a table.
     pub fn from_u32(number: u32) -> Option<Token>
-        ensures found { IfSome result (λ token. IsToken number token) }
-        ensures only { (token : TheToken) → IsToken number token → result ≡ Some token }
+        ensures sound { IfSome result (λ token. IsToken number token) }
+        ensures complete { (token : TheToken) → IsToken number token → result ≡ Some token }
     {
         let table = TableId::from_number((number >> 24) as u8)?;
         Some(Token {

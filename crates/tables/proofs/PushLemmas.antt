@@ -4,19 +4,19 @@ use Rattle.std.proofs.lemmas.List.{get_or-set_other}
 use Rattle.std.proofs.lemmas.Grind.{get_or-set_at}
 use Rattle.table_schema.specs.declared.table.TableId.{TableId}
 use Rattle.table_schema.specs.declared.table.TableId.TheVariants.{Module}
-use Rattle.table_schema.specs.Tables.{position_of, tables}
+use Rattle.table_schema.specs.Tables.{table_index_of, tables}
 use Rattle.metadata.specs.Cell.{Cell}
 use Rattle.metadata.specs.Metadata.{Metadata, rows_of}
 use Rattle.tables.specs.Push.{with_row}
 
-pub added : ((table : TableId) → position_of table < 38) → (model : Metadata) (table : TableId) (row : List Cell) → length model.tables ≡ 38
+pub added : ((table : TableId) → table_index_of table < 38) → (model : Metadata) (table : TableId) (row : List Cell) → length model.tables ≡ 38
     → rows_of (with_row model table row) table ≡ rows_of model table ++ row ∷ []
-added position model table row long =
-    let within = position table in
-    get_or-set_at model.tables (position_of table) (position_of table) (rows_of model table ++ row ∷ []) [] refl (omega arith)
+added table_index model table row long =
+    let within = table_index table in
+    get_or-set_at model.tables (table_index_of table) (table_index_of table) (rows_of model table ++ row ∷ []) [] refl (omega arith)
 
-pub others_stay : ((table : TableId) → slice_index_or tables (position_of table) Module ≡ table) → (model : Metadata) (table other : TableId) (row : List Cell)
+pub others_stay : ((table : TableId) → slice_index_or tables (table_index_of table) Module ≡ table) → (model : Metadata) (table other : TableId) (row : List Cell)
     → other ≢ table → rows_of (with_row model table row) other ≡ rows_of model other
 others_stay stand model table other row differs =
-    get_or-set_other model.tables (position_of table) (position_of other) (rows_of model table ++ row ∷ []) []
+    get_or-set_other model.tables (table_index_of table) (table_index_of other) (rows_of model table ++ row ∷ []) []
     (λ same. differs (sym (stand other) ∙ ap (λ p. slice_index_or tables p Module) same ∙ stand table))

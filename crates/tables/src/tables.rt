@@ -71,7 +71,7 @@ impl Tables {
         ensures err { OnErr result (self.new ≡ self.old) }
         ensures handed_back { IfErr result (λ back. back.items ≡ row.items) }
     {
-        let rows = &mut self.tables[table.position()];
+        let rows = &mut self.tables[table.table_index()];
         rows.push(Row::from(row)).map_err(|row| row.into_vec())
     }
 
@@ -84,7 +84,7 @@ impl Tables {
     pub fn reserve(&mut self, table: TableId, more: usize) -> Result<(), AllocError>
         ensures { self.new ≡ self.old }
     {
-        let rows = &mut self.tables[table.position()];
+        let rows = &mut self.tables[table.table_index()];
         rows.reserve(more)
     }
 
@@ -115,7 +115,7 @@ impl Tables {
         ensures rows { result.now ≡ rows_of self.now table }
         ensures tables { length self.now.tables ≡ 38 }
     {
-        self.tables[table.position()].as_slice()
+        self.tables[table.table_index()].as_slice()
     }
 
     /// The number of rows of a table.

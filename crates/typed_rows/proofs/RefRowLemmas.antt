@@ -11,7 +11,7 @@ use Rattle.table_schema.specs.declared.column.Column.{Column}
 use Rattle.table_schema.specs.Columns.{columns_of, column_at}
 use Rattle.table_schema.specs.CellColumns.{is_padding, indexes_from, cell_columns, cell_count, column_of}
 use Rattle.sig_grammar.specs.Syntax.{Body, locals}
-use Rattle.sig_grammar.specs.Spells.{Spells}
+use Rattle.sig_grammar.specs.Encodes.{Encodes}
 use Rattle.metadata.specs.Cell.{Cell, Number, Text, Bytes, Guid, Ref, Start, Sig}
 use Rattle.metadata.specs.Kinds.{IsOfKind}
 use Rattle.reading.specs.declared.cell_ref.CellRef.{CellRef}
@@ -19,23 +19,23 @@ use Rattle.reading.specs.declared.cell_ref.CellRef.TheVariants as seen
 use Rattle.reading.specs.Shown.{Shows}
 use Rattle.records.specs.Kinds.{kinds_of, AreOfKinds}
 use Rattle.records.specs.Shapes.{Shape, number, text, bytes, guid, reference, start, signature, shape_of, AreHeld, AreSaid}
-use Rattle.records.specs.Signatures.{spelled}
+use Rattle.records.specs.Signatures.{encoded}
 use Rattle.typed_rows.specs.declared.ref_row.RefRow.{RefRow}
 use Rattle.typed_rows.specs.RefRows.{IsShown, IsRefOfShape, IsSaid, shape_at, HoldsAt, SaysAt}
 
 -- ---- lists from an index on
 
-get_at : {A : Type 0} → (all : List A) (place : ℕ) (c : A) (rest : List A) → drop place all ≡ c ∷ rest → slice_get all place ≡ Some c
-get_at [] zero c rest h = absurd cc
-get_at [] (suc p) c rest h = absurd cc
-get_at (x ∷ xs) zero c rest h = grind (arith, common_steps, h)
-get_at (x ∷ xs) (suc p) c rest h = get_at xs p c rest h
+get_at : {A : Type 0} → (all : List A) (cell_index : ℕ) (c : A) (tail : List A) → drop cell_index all ≡ c ∷ tail → slice_get all cell_index ≡ Some c
+get_at [] zero c tail h = absurd cc
+get_at [] (suc p) c tail h = absurd cc
+get_at (x ∷ xs) zero c tail h = grind (arith, common_steps, h)
+get_at (x ∷ xs) (suc p) c tail h = get_at xs p c tail h
 
-drop_next : {A : Type 0} → (all : List A) (place : ℕ) (c : A) (rest : List A) → drop place all ≡ c ∷ rest → drop (place + 1) all ≡ rest
-drop_next [] zero c rest h = absurd cc
-drop_next [] (suc p) c rest h = absurd cc
-drop_next (x ∷ xs) zero c rest h = grind (arith, common_steps, h)
-drop_next (x ∷ xs) (suc p) c rest h = ap (λ n. drop n (x ∷ xs)) (add-one (suc p)) ∙ ap (λ n. drop n xs) (sym (add-one p)) ∙ drop_next xs p c rest h
+drop_next : {A : Type 0} → (all : List A) (cell_index : ℕ) (c : A) (tail : List A) → drop cell_index all ≡ c ∷ tail → drop (cell_index + 1) all ≡ tail
+drop_next [] zero c tail h = absurd cc
+drop_next [] (suc p) c tail h = absurd cc
+drop_next (x ∷ xs) zero c tail h = grind (arith, common_steps, h)
+drop_next (x ∷ xs) (suc p) c tail h = ap (λ n. drop n (x ∷ xs)) (add-one (suc p)) ∙ ap (λ n. drop n xs) (sym (add-one p)) ∙ drop_next xs p c tail h
 
 get_set_here : {A : Type 0} → (xs : List A) (i : ℕ) (v : A) → i < length xs → slice_get (slice_set xs i v) i ≡ Some v
 get_set_here [] i v h = absurd (omega (arith, h))
@@ -50,18 +50,18 @@ get_set_below (x ∷ xs) (suc i) zero v h = refl
 get_set_below (x ∷ xs) (suc i) (suc k) v h = get_set_below xs i k v (omega (arith, h))
 
 -- what holds of the values before an index, and of the one that is set there
-pub one_more : (P : ℕ → Option CellRef → Type 0) (values : List CellRef) (place : ℕ) (v : CellRef) → place < length values
-    → ((k : ℕ) → k < place → P k (slice_get values k)) → P place (Some v) → (k : ℕ) → k < place + 1 → P k (slice_get (slice_set values place v) k)
-one_more P values place v within before here k below =
-    let Q : ℕ → Type 0 = λ n. P n (slice_get (slice_set values place v) n) in
-    below_more Q place (λ j less. subst (P j) (sym (get_set_below values place j v less)) (before j less))
-    (subst (P place) (sym (get_set_here values place v within)) here) k below
+pub one_more : (P : ℕ → Option CellRef → Type 0) (values : List CellRef) (cell_index : ℕ) (v : CellRef) → cell_index < length values
+    → ((k : ℕ) → k < cell_index → P k (slice_get values k)) → P cell_index (Some v) → (k : ℕ) → k < cell_index + 1 → P k (slice_get (slice_set values cell_index v) k)
+one_more P values cell_index v within before here k below =
+    let Q : ℕ → Type 0 = λ n. P n (slice_get (slice_set values cell_index v) n) in
+    below_more Q cell_index (λ j less. subst (P j) (sym (get_set_below values cell_index j v less)) (before j less))
+    (subst (P cell_index) (sym (get_set_here values cell_index v within)) here) k below
 
 -- ---- the cells of a table
 
-more_within : (padding : Bool) (first : ℕ) (rest : List ℕ) (n : ℕ) → length rest ≤ n → length (cond padding rest (first ∷ rest)) ≤ n + 1
-more_within true first rest n h = omega (arith, h)
-more_within false first rest n h = omega (arith, h)
+more_within : (padding : Bool) (first : ℕ) (tail : List ℕ) (n : ℕ) → length tail ≤ n → length (cond padding tail (first ∷ tail)) ≤ n + 1
+more_within true first tail n h = omega (arith, h)
+more_within false first tail n h = omega (arith, h)
 
 count_within : (i : ℕ) (columns : List Column) → length (indexes_from i columns) ≤ length columns
 count_within i [] = omega arith
@@ -77,7 +77,7 @@ cells_few table few = omega (arith, count_within 0 (columns_of table), few)
 
 -- a blob that encodes a signature is read as that signature
 abbrev pub BlobsSay : Type 0
-BlobsSay = (column : SigKind) (said : Body) (blob : List ℕ) → Spells column said blob → spelled column blob ≡ said
+BlobsSay = (column : SigKind) (said : Body) (blob : List ℕ) → Encodes column said blob → encoded column blob ≡ said
 
 -- the cell that a value equals; a signature blob has an arbitrary one
 abbrev plain : CellRef → Cell
@@ -130,15 +130,15 @@ value_said say k (seen.Ref r) c shows = shows
 value_said say k (seen.Start n) c shows = shows
 value_said say k (seen.Sig blob) c shows = signature_said say k blob c shows
 
-shown_held : (value : Option CellRef) (table : TableId) (place : ℕ) (k : ColumnKind) (c : Cell) → (column_at table (column_of table place)).kind ≡ k
-    → IsShown value table place c → IsOfKind k c → IsRefOfShape value (shape_of k)
-shown_held None table place k c at shown is = absurd shown
-shown_held (Some v) table place k c at shown is = let P : ColumnKind → Type 0 = λ held. Shows held v c in value_held k v c (subst P at shown) is
+shown_held : (value : Option CellRef) (table : TableId) (cell_index : ℕ) (k : ColumnKind) (c : Cell) → (column_at table (column_of table cell_index)).kind ≡ k
+    → IsShown value table cell_index c → IsOfKind k c → IsRefOfShape value (shape_of k)
+shown_held None table cell_index k c at shown is = absurd shown
+shown_held (Some v) table cell_index k c at shown is = let P : ColumnKind → Type 0 = λ held. Shows held v c in value_held k v c (subst P at shown) is
 
-shown_said : BlobsSay → (value : Option CellRef) (table : TableId) (place : ℕ) (k : ColumnKind) (c : Cell)
-    → (column_at table (column_of table place)).kind ≡ k → IsShown value table place c → IsSaid value (Some (shape_of k)) c
-shown_said say None table place k c at shown = absurd shown
-shown_said say (Some v) table place k c at shown = let P : ColumnKind → Type 0 = λ held. Shows held v c in value_said say k v c (subst P at shown)
+shown_said : BlobsSay → (value : Option CellRef) (table : TableId) (cell_index : ℕ) (k : ColumnKind) (c : Cell)
+    → (column_at table (column_of table cell_index)).kind ≡ k → IsShown value table cell_index c → IsSaid value (Some (shape_of k)) c
+shown_said say None table cell_index k c at shown = absurd shown
+shown_said say (Some v) table cell_index k c at shown = let P : ColumnKind → Type 0 = λ held. Shows held v c in value_said say k v c (subst P at shown)
 
 -- whether a value is of a shape is decidable
 pub held_stable : (value : Option CellRef) (shape : Shape) → ¬ (¬ IsRefOfShape value shape) → IsRefOfShape value shape
@@ -164,64 +164,64 @@ said_once _ _ c d h k = absurd h
 
 -- ---- whole rows
 
-of_kind_at : (kinds : List ColumnKind) (cells : List Cell) → AreOfKinds kinds cells → (place : ℕ) (k : ColumnKind) → slice_get kinds place ≡ Some k
-    → IsOfKind k (get_or cells place (Number 0))
-of_kind_at [] cells are place k at = absurd cc
-of_kind_at (kind ∷ kinds) [] are place k at = absurd are
+of_kind_at : (kinds : List ColumnKind) (cells : List Cell) → AreOfKinds kinds cells → (cell_index : ℕ) (k : ColumnKind) → slice_get kinds cell_index ≡ Some k
+    → IsOfKind k (get_or cells cell_index (Number 0))
+of_kind_at [] cells are cell_index k at = absurd cc
+of_kind_at (kind ∷ kinds) [] are cell_index k at = absurd are
 of_kind_at (kind ∷ kinds) (c ∷ cs) are zero k at =
     let is : kind ≡ k = cc in
     let P : ColumnKind → Type 0 = λ held. IsOfKind held c in
     subst P is are.0
-of_kind_at (kind ∷ kinds) (c ∷ cs) are (suc place) k at = of_kind_at kinds cs are.1 place k at
+of_kind_at (kind ∷ kinds) (c ∷ cs) are (suc cell_index) k at = of_kind_at kinds cs are.1 cell_index k at
 
-held_from : (row : RefRow) (place : ℕ) (rest : List ColumnKind) → drop place (kinds_of row.table) ≡ rest
+held_from : (row : RefRow) (cell_index : ℕ) (tail : List ColumnKind) → drop cell_index (kinds_of row.table) ≡ tail
     → ((p : ℕ) (k : ColumnKind) → slice_get (kinds_of row.table) p ≡ Some k → IsRefOfShape (slice_get row.values p) (shape_of k))
-    → AreHeld (HoldsAt row) place rest
+    → AreHeld (HoldsAt row) cell_index tail
 unfolding shape_at
-held_from row place [] at each = tt
-held_from row place (k ∷ ks) at each =
-    let here = get_at (kinds_of row.table) place k ks at in
-    ((each place k here, ap (option_map shape_of) here), held_from row (place + 1) ks (drop_next (kinds_of row.table) place k ks at) each)
+held_from row cell_index [] at each = tt
+held_from row cell_index (k ∷ ks) at each =
+    let here = get_at (kinds_of row.table) cell_index k ks at in
+    ((each cell_index k here, ap (option_map shape_of) here), held_from row (cell_index + 1) ks (drop_next (kinds_of row.table) cell_index k ks at) each)
 
-said_from : (row : RefRow) (whole : List Cell) (place : ℕ) (rest : List ColumnKind) (cells : List Cell) → drop place (kinds_of row.table) ≡ rest
-    → drop place whole ≡ cells → AreOfKinds rest cells
+said_from : (row : RefRow) (whole : List Cell) (cell_index : ℕ) (tail : List ColumnKind) (cells : List Cell) → drop cell_index (kinds_of row.table) ≡ tail
+    → drop cell_index whole ≡ cells → AreOfKinds tail cells
     → ((p : ℕ) (k : ColumnKind) → slice_get (kinds_of row.table) p ≡ Some k → IsSaid (slice_get row.values p) (Some (shape_of k)) (get_or whole p (Number 0)))
-    → AreSaid (SaysAt row) place rest cells
+    → AreSaid (SaysAt row) cell_index tail cells
 unfolding shape_at
-said_from row whole place [] [] at cell are each = tt
-said_from row whole place [] (c ∷ cs) at cell are each = absurd are
-said_from row whole place (k ∷ ks) [] at cell are each = absurd are
-said_from row whole place (k ∷ ks) (c ∷ cs) at cell are each =
-    let here = get_at (kinds_of row.table) place k ks at in
-    let is : get_or whole place (Number 0) ≡ c = get_or_from_slice_get whole place c (Number 0) (get_at whole place c cs cell) in
-    let P : Cell → Type 0 = λ it. IsSaid (slice_get row.values place) (Some (shape_of k)) it in
-    let Q : Option Shape → Type 0 = λ shape. IsSaid (slice_get row.values place) shape c in (
-      subst Q (sym (ap (option_map shape_of) here)) (subst P is (each place k here)),
-      said_from row whole (place + 1) ks cs (drop_next (kinds_of row.table) place k ks at) (drop_next whole place c cs cell) are.1 each,
+said_from row whole cell_index [] [] at cell are each = tt
+said_from row whole cell_index [] (c ∷ cs) at cell are each = absurd are
+said_from row whole cell_index (k ∷ ks) [] at cell are each = absurd are
+said_from row whole cell_index (k ∷ ks) (c ∷ cs) at cell are each =
+    let here = get_at (kinds_of row.table) cell_index k ks at in
+    let is : get_or whole cell_index (Number 0) ≡ c = get_or_from_slice_get whole cell_index c (Number 0) (get_at whole cell_index c cs cell) in
+    let P : Cell → Type 0 = λ it. IsSaid (slice_get row.values cell_index) (Some (shape_of k)) it in
+    let Q : Option Shape → Type 0 = λ shape. IsSaid (slice_get row.values cell_index) shape c in (
+      subst Q (sym (ap (option_map shape_of) here)) (subst P is (each cell_index k here)),
+      said_from row whole (cell_index + 1) ks cs (drop_next (kinds_of row.table) cell_index k ks at) (drop_next whole cell_index c cs cell) are.1 each,
     )
 
 -- facts on the values of a row
 pub record AreShown (row : RefRow) (whole : List Cell) : Type 0 where
-  pub kinds : (place : ℕ) → place < cell_count row.table
-      → slice_get (kinds_of row.table) place ≡ Some (column_at row.table (column_of row.table place)).kind
+  pub kinds : (cell_index : ℕ) → cell_index < cell_count row.table
+      → slice_get (kinds_of row.table) cell_index ≡ Some (column_at row.table (column_of row.table cell_index)).kind
   pub count : length (kinds_of row.table) ≡ cell_count row.table
   pub are : AreOfKinds (kinds_of row.table) whole
-  pub shown : (place : ℕ) → place < cell_count row.table → IsShown (slice_get row.values place) row.table place (get_or whole place (Number 0))
+  pub shown : (cell_index : ℕ) → cell_index < cell_count row.table → IsShown (slice_get row.values cell_index) row.table cell_index (get_or whole cell_index (Number 0))
 
-below_count : (row : RefRow) (whole : List Cell) → AreShown row whole → (place : ℕ) (k : ColumnKind) → slice_get (kinds_of row.table) place ≡ Some k
-    → (place < cell_count row.table) × ((column_at row.table (column_of row.table place)).kind ≡ k)
-below_count row whole known place k at =
-    let within = slice_get_within (kinds_of row.table) place k at in
-    let below : place < cell_count row.table = omega (arith, within, known.count) in
-    let both = sym (known.kinds place below) ∙ at in
+below_count : (row : RefRow) (whole : List Cell) → AreShown row whole → (cell_index : ℕ) (k : ColumnKind) → slice_get (kinds_of row.table) cell_index ≡ Some k
+    → (cell_index < cell_count row.table) × ((column_at row.table (column_of row.table cell_index)).kind ≡ k)
+below_count row whole known cell_index k at =
+    let within = slice_get_within (kinds_of row.table) cell_index k at in
+    let below : cell_index < cell_count row.table = omega (arith, within, known.count) in
+    let both = sym (known.kinds cell_index below) ∙ at in
     (below, cc)
 
-pub value_holds : (row : RefRow) (whole : List Cell) → AreShown row whole → (place : ℕ) (k : ColumnKind)
-    → slice_get (kinds_of row.table) place ≡ Some k → IsRefOfShape (slice_get row.values place) (shape_of k)
-value_holds row whole known place k at =
-    let found = below_count row whole known place k at in
-    shown_held (slice_get row.values place) row.table place k (get_or whole place (Number 0)) found.1 (known.shown place found.0)
-    (of_kind_at (kinds_of row.table) whole known.are place k at)
+pub value_holds : (row : RefRow) (whole : List Cell) → AreShown row whole → (cell_index : ℕ) (k : ColumnKind)
+    → slice_get (kinds_of row.table) cell_index ≡ Some k → IsRefOfShape (slice_get row.values cell_index) (shape_of k)
+value_holds row whole known cell_index k at =
+    let found = below_count row whole known cell_index k at in
+    shown_held (slice_get row.values cell_index) row.table cell_index k (get_or whole cell_index (Number 0)) found.1 (known.shown cell_index found.0)
+    (of_kind_at (kinds_of row.table) whole known.are cell_index k at)
 
 pub row_held : (row : RefRow)
     → ((p : ℕ) (k : ColumnKind) → slice_get (kinds_of row.table) p ≡ Some k → IsRefOfShape (slice_get row.values p) (shape_of k))
@@ -230,19 +230,19 @@ row_held row each = held_from row 0 (kinds_of row.table) refl each
 
 pub row_said : BlobsSay → (row : RefRow) (whole : List Cell) → AreShown row whole → AreSaid (SaysAt row) 0 (kinds_of row.table) whole
 row_said say row whole known =
-    said_from row whole 0 (kinds_of row.table) whole refl refl known.are (λ place k at.
-    let found = below_count row whole known place k at in
-    shown_said say (slice_get row.values place) row.table place k (get_or whole place (Number 0)) found.1 (known.shown place found.0))
+    said_from row whole 0 (kinds_of row.table) whole refl refl known.are (λ cell_index k at.
+    let found = below_count row whole known cell_index k at in
+    shown_said say (slice_get row.values cell_index) row.table cell_index k (get_or whole cell_index (Number 0)) found.1 (known.shown cell_index found.0))
 
-one_from : (row : RefRow) (place : ℕ) (kinds : List ColumnKind) (a b : List Cell) → AreSaid (SaysAt row) place kinds a → AreSaid (SaysAt row) place kinds b → a ≡ b
-one_from row place [] [] [] h k = refl
-one_from row place [] [] (y ∷ ys) h k = absurd k
-one_from row place [] (x ∷ xs) b h k = absurd h
-one_from row place (kind ∷ kinds) [] b h k = absurd h
-one_from row place (kind ∷ kinds) (x ∷ xs) [] h k = absurd k
-one_from row place (kind ∷ kinds) (x ∷ xs) (y ∷ ys) h k =
-    ap (λ rest. x ∷ rest) (one_from row (place + 1) kinds xs ys h.1 k.1)
-    ∙ ap (λ first. first ∷ ys) (said_once (slice_get row.values place) (shape_at row.table place) x y h.0 k.0)
+one_from : (row : RefRow) (cell_index : ℕ) (kinds : List ColumnKind) (a b : List Cell) → AreSaid (SaysAt row) cell_index kinds a → AreSaid (SaysAt row) cell_index kinds b → a ≡ b
+one_from row cell_index [] [] [] h k = refl
+one_from row cell_index [] [] (y ∷ ys) h k = absurd k
+one_from row cell_index [] (x ∷ xs) b h k = absurd h
+one_from row cell_index (kind ∷ kinds) [] b h k = absurd h
+one_from row cell_index (kind ∷ kinds) (x ∷ xs) [] h k = absurd k
+one_from row cell_index (kind ∷ kinds) (x ∷ xs) (y ∷ ys) h k =
+    ap (λ tail. x ∷ tail) (one_from row (cell_index + 1) kinds xs ys h.1 k.1)
+    ∙ ap (λ first. first ∷ ys) (said_once (slice_get row.values cell_index) (shape_at row.table cell_index) x y h.0 k.0)
 
 -- a row in place denotes one row only
 pub row_is_one : (row : RefRow) (kinds : List ColumnKind) (a b : List Cell) → AreSaid (SaysAt row) 0 kinds a → AreSaid (SaysAt row) 0 kinds b → a ≡ b

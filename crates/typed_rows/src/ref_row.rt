@@ -19,50 +19,50 @@ impl<'a> Row<'a> for RefRow<'a> {
 
     ghost says = { SaysAt };
 
-    fn number(&self, place: usize) -> u32 {
-        match self.values.get(place) {
+    fn number(&self, cell_index: usize) -> u32 {
+        match self.values.get(cell_index) {
             Some(CellRef::Number(number)) => *number,
             _ => unreachable!(),
         }
     }
 
-    fn text(&self, place: usize) -> &'a str {
-        match self.values.get(place) {
+    fn text(&self, cell_index: usize) -> &'a str {
+        match self.values.get(cell_index) {
             Some(CellRef::Text(text)) => *text,
             _ => unreachable!(),
         }
     }
 
-    fn bytes(&self, place: usize) -> &'a [u8] {
-        match self.values.get(place) {
+    fn bytes(&self, cell_index: usize) -> &'a [u8] {
+        match self.values.get(cell_index) {
             Some(CellRef::Bytes(bytes)) => *bytes,
             _ => unreachable!(),
         }
     }
 
-    fn guid(&self, place: usize) -> Option<[u8; 16]> {
-        match self.values.get(place) {
+    fn guid(&self, cell_index: usize) -> Option<[u8; 16]> {
+        match self.values.get(cell_index) {
             Some(CellRef::Guid(guid)) => *guid,
             _ => unreachable!(),
         }
     }
 
-    fn reference(&self, place: usize) -> Option<Token> {
-        match self.values.get(place) {
+    fn reference(&self, cell_index: usize) -> Option<Token> {
+        match self.values.get(cell_index) {
             Some(CellRef::Ref(reference)) => *reference,
             _ => unreachable!(),
         }
     }
 
-    fn start(&self, place: usize) -> u32 {
-        match self.values.get(place) {
+    fn start(&self, cell_index: usize) -> u32 {
+        match self.values.get(cell_index) {
             Some(CellRef::Start(row)) => *row,
             _ => unreachable!(),
         }
     }
 
-    fn signature(&self, place: usize, _column: SigKind) -> &'a [u8] {
-        match self.values.get(place) {
+    fn signature(&self, cell_index: usize, _column: SigKind) -> &'a [u8] {
+        match self.values.get(cell_index) {
             Some(CellRef::Sig(blob)) => *blob,
             _ => unreachable!(),
         }

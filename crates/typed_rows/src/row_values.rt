@@ -17,13 +17,13 @@ use table_schema::{cell_count, columns_stand};
 fn values_of<'a>(view: &View<'a>, table: TableId, row: u32) -> [CellRef<'a>; 9]
     requires first { 1 ≤ row }
     requires last { row ≤ row_count view.now table }
-    ensures { (model : Metadata) → IsModel view.now model → (place : ℕ) → place < cell_count table
-        → IsShown (slice_get result place) table place (cell_in model table row place) }
+    ensures { (model : Metadata) → IsModel view.now model → (cell_index : ℕ) → cell_index < cell_count table
+        → IsShown (slice_get result cell_index) table cell_index (cell_in model table row cell_index) }
 {
     columns_stand();
     let mut values = [CellRef::Number(0); 9];
-    for place in 0..cell_count(table) {
-        values[place] = view.cell(table, row, place);
+    for cell_index in 0..cell_count(table) {
+        values[cell_index] = view.cell(table, row, cell_index);
     }
     values
 }

@@ -39,7 +39,7 @@ pub trait ReadRows<'m> {
         // Its cells hold what the columns of the table hold.
         ensures held { AreHeld (Self.Form.holds result) 0 (kinds_of table) }
         // All that they say is the row.
-        ensures only { (model : Metadata) → shows self.now model → (cells : List TheCell)
+        ensures complete { (model : Metadata) → shows self.now model → (cells : List TheCell)
             → AreSaid (Self.Form.says result) 0 (kinds_of table) cells → cells ≡ row_of model table row };
 }
 

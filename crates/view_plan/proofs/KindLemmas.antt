@@ -57,7 +57,7 @@ pub over_other : (indexes : List ℕ) (k : ColumnKind) (cell : Cell) (so_far : N
 over_other indexes k cell so_far none over = subst IsOver (sym (next_other indexes k cell so_far none)) over
 
 -- the kind of the column of a cell, as the code looks it up
-pub kind_seen : (table : TableId) (place index : ℕ) (columns : List Column) → columns ≡ columns_of table → index ≡ column_of table place
-    → (get_or columns index (col kind.U8)).kind ≡ kind_at table place
-kind_seen table place index columns same at =
+pub kind_seen : (table : TableId) (cell_index index : ℕ) (columns : List Column) → columns ≡ columns_of table → index ≡ column_of table cell_index
+    → (get_or columns index (col kind.U8)).kind ≡ kind_at table cell_index
+kind_seen table cell_index index columns same at =
     ap (λ (list : List Column). (get_or list index (col kind.U8)).kind) same ∙ ap (λ (i : ℕ). (column_at table i).kind) at

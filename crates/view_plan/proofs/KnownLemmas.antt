@@ -40,8 +40,8 @@ pub pooled_again : (entries : List (List ℕ)) (value : List ℕ) → (value ≡
 pooled_again entries value there = ap (λ b. cond b entries (entries ++ value ∷ [])) (among entries value there)
 
 -- a pool is a prefix of the pool with a further value
-front : (entries : List (List ℕ)) (value : List ℕ) → (more : List (List ℕ)) × (pooled entries value ≡ entries ++ more)
-front entries value =
+prefix : (entries : List (List ℕ)) (value : List ℕ) → (more : List (List ℕ)) × (pooled entries value ≡ entries ++ more)
+prefix entries value =
     elim (cases_Bool (is_among ([] ∷ entries) value)) [
       | inl there ↦ ([], ap (λ b. cond b entries (entries ++ value ∷ [])) there ∙ sym (append-nil entries))
       | inr new ↦ (value ∷ [], ap (λ b. cond b entries (entries ++ value ∷ [])) new)
@@ -68,12 +68,12 @@ AllKnown kind blobs entries = AllByRecursion (λ met. IsKnown kind blobs met.0.n
 known_still : BlobsStay → (kind : SigKind) (blobs more : List (List ℕ)) (entries : List Met) → AllKnown kind blobs entries → AllKnown kind (blobs ++ more) entries
 known_still stay kind blobs more [] known = tt
 known_still stay kind blobs more (met ∷ entries) known =
-    ((λ signature spells. pooled_still stay blobs more _ met.1 (known.0 signature spells)), known_still stay kind blobs more entries known.1)
+    ((λ signature encodes. pooled_still stay blobs more _ met.1 (known.0 signature encodes)), known_still stay kind blobs more entries known.1)
 
 -- known blobs stay known, whatever is pooled
 pub known_pooled : BlobsStay → (kind : SigKind) (blobs : List (List ℕ)) (value : List ℕ) (entries : List Met) → AllKnown kind blobs entries → AllKnown kind (pooled blobs value) entries
 known_pooled stay kind blobs value entries known =
-    subst (λ b. AllKnown kind b entries) (sym (front blobs value).1) (known_still stay kind blobs (front blobs value).0 entries known)
+    subst (λ b. AllKnown kind b entries) (sym (prefix blobs value).1) (known_still stay kind blobs (prefix blobs value).0 entries known)
 
 known_key : (kind : SigKind) (blobs : List (List ℕ)) (a b : List ℕ) (index : ℕ) → a ≡ b → IsKnown kind blobs a index → IsKnown kind blobs b index
 known_key kind blobs a b index same known = subst (λ blob. IsKnown kind blobs blob index) same known

@@ -1,4 +1,4 @@
 pub mod FlatLemmas
 pub mod KindLemmas
 pub mod KnownLemmas
-pub mod PlaceLemmas
+pub mod CellIndexLemmas

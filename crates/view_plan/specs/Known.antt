@@ -4,7 +4,7 @@ use Rattle.std.specs.List.{AllByRecursion}
 use Rattle.table_schema.specs.declared.column.SigKind.{SigKind}
 use Rattle.heap_pools.specs.BlobHeap.{blob_index}
 use Rattle.sig_grammar.specs.Syntax.{Body}
-use Rattle.sig_grammar.specs.Spells.{Spells, short}
+use Rattle.sig_grammar.specs.Encodes.{Encodes, short}
 use Rattle.view_plan.specs.declared.gathering.Gathering.TheInside.{Inside}
 
 -- the blob is in the pool already, at this index
@@ -13,7 +13,7 @@ IsPooledAt blobs blob index = ((blob ≡ []) ⊎ Contains blobs blob) × (index 
 
 -- the blob encodes a signature in a column of this kind, and this is the index of its canonical encoding
 abbrev pub IsKnown : SigKind → List (List ℕ) → List ℕ → ℕ → Type 0
-IsKnown kind blobs blob index = (signature : Body) → Spells kind signature blob → IsPooledAt blobs (short signature) index
+IsKnown kind blobs blob index = (signature : Body) → Encodes kind signature blob → IsPooledAt blobs (short signature) index
 
 -- the stored index of each blob that was met is right
 abbrev pub AreKnown : Inside → Type 0

@@ -4,7 +4,7 @@ ghost use Rattle.heap_pools.specs.Distinct.{pooled};
 ghost use Rattle.heap_pools.specs.BlobHeap.{blob_heap, blob_index};
 ghost use Rattle.heap_pools.specs.GuidHeap.{guid_heap, guid_index, pooled_guid};
 ghost use Rattle.sig_grammar.specs.Syntax.{Body};
-ghost use Rattle.sig_grammar.specs.Spells.{Spells, short};
+ghost use Rattle.sig_grammar.specs.Encodes.{Encodes, short};
 ghost use Rattle.root_writer.specs.Numbered.{none_numbered, with_blob, with_guid, with_number, with_text};
 ghost use Rattle.view_plan.specs.Known.{IsKnown};
 
@@ -118,18 +118,18 @@ impl<'a> Gathering<'a> {
     /// Pools the canonical encoding of the signature in a blob, for a column of a kind, and returns its index
     /// (II.23.2).
     pub fn put_signature(&mut self, blob: &'a [u8], kind: SigKind) -> Result<u32, PoolError>
-        requires { ∥ ((signature : Body) × Spells kind signature blob.now) ∥₁ }
-        ensures pools { (signature : Body) → Spells kind signature blob.now → OnOk result (self.new ≡ with_blob self.old (short signature)) }
-        ensures index { (signature : Body) → Spells kind signature blob.now
+        requires { ∥ ((signature : Body) × Encodes kind signature blob.now) ∥₁ }
+        ensures pools { (signature : Body) → Encodes kind signature blob.now → OnOk result (self.new ≡ with_blob self.old (short signature)) }
+        ensures index { (signature : Body) → Encodes kind signature blob.now
             → IfOk result (λ index. index ≡ blob_index self.new.blobs (short signature)) }
-        ensures full { (signature : Body) → Spells kind signature blob.now → result ≡ Err PoolError.Full
+        ensures full { (signature : Body) → Encodes kind signature blob.now → result ≡ Err PoolError.Full
             → 2 ^ 30 < length (blob_heap (pooled self.old.blobs (short signature))) }
     {
         if let Some(index) = self.find(blob, kind) {
             return Ok(index);
         }
-        let spelling = shortest(self.alloc, blob, kind)?;
-        let index = self.put_blob(&spelling)?;
+        let encoding = shortest(self.alloc, blob, kind)?;
+        let index = self.put_blob(&encoding)?;
         self.remember(blob, kind, index)?;
         Ok(index)
     }

@@ -12,7 +12,7 @@ ghost use Rattle.canonical.specs.Pools.{texts_of};
 ghost use Rattle.reading.specs.Shown.{Shows, ShowsSignature};
 ghost use Rattle.opening.specs.Views.{row_count};
 ghost use Rattle.root_writer.specs.Numbered.{Numbered, CanBeNumbered, IsOver, none_numbered, with_values, with_cell, with_next_cell, with_row, with_rows, with_tables, pools_in};
-ghost use Rattle.view_plan.specs.Places.{IsPlaceOf};
+ghost use Rattle.view_plan.specs.CellIndexes.{IsCellIndexOf};
 
 use crate::gathering::Gathering;
 use heap_pools::PoolError;
@@ -73,26 +73,26 @@ fn put_cell<'a>(
     view: &View<'a>,
     table: TableId,
     row: u32,
-    place: usize,
+    cell_index: usize,
 ) -> Result<(), PoolError>
     requires first { 1 ≤ row }
     requires last { row ≤ row_count view.now table }
-    requires place { place < cell_count table }
+    requires cell_index { cell_index < cell_count table }
     ensures ok { (model : Metadata) → IsModel view.now model
-        → OnOk result (gathering.new ≡ with_cell indexes.now (kind_at table place) (cell_in model table row place) gathering.old) }
+        → OnOk result (gathering.new ≡ with_cell indexes.now (kind_at table cell_index) (cell_in model table row cell_index) gathering.old) }
     ensures full { (model : Metadata) → IsModel view.now model → result ≡ Err PoolError.Full
-        → IsOver (with_cell indexes.now (kind_at table place) (cell_in model table row place) gathering.old) }
+        → IsOver (with_cell indexes.now (kind_at table cell_index) (cell_in model table row cell_index) gathering.old) }
 {
     models_are_read();
     models_of_roots_are_valid();
     cells_can_be_numbered();
     // The root has a model.
     let _root = view.root();
-    let kind = columns(table)[column_of_cell(table, place)].kind;
+    let kind = columns(table)[column_of_cell(table, cell_index)].kind;
     match kind {
         ColumnKind::Text => Ok(gathering.put_text(indexes)?),
         _ => {
-            let number = number_of(gathering, kind, view.cell(table, row, place))?;
+            let number = number_of(gathering, kind, view.cell(table, row, cell_index))?;
             Ok(gathering.put_number(number)?)
         }
     }
@@ -106,31 +106,31 @@ fn put_next<'a>(
     table: TableId,
     row: u32,
     index: usize,
-    place: usize,
+    cell_index: usize,
 ) -> Result<usize, PoolError>
     requires first { 1 ≤ row }
     requires last { row ≤ row_count view.now table }
     requires column { index < length (columns_of table) }
-    requires place { IsPlaceOf table index place }
-    ensures ok { (model : Metadata) → IsModel view.now model → (rest : List Says → Numbered → Numbered)
+    requires cell_index { IsCellIndexOf table index cell_index }
+    ensures ok { (model : Metadata) → IsModel view.now model → (tail : List Says → Numbered → Numbered)
         → IfOk result (λ behind. with_next_cell (is_padding (column_at table index).kind) (with_cell indexes.now (column_at table index).kind)
-        rest (drop place (row_of model table row)) gathering.old ≡ rest (drop behind (row_of model table row)) gathering.new) }
-    ensures place { IfOk result (IsPlaceOf table (index + 1)) }
-    ensures full { (model : Metadata) → IsModel view.now model → (rest : List Says → Numbered → Numbered)
-        → ((cells : List Says) (so_far : Numbered) → IsOver so_far → IsOver (rest cells so_far)) → result ≡ Err PoolError.Full
+        tail (drop cell_index (row_of model table row)) gathering.old ≡ tail (drop behind (row_of model table row)) gathering.new) }
+    ensures cell_index { IfOk result (IsCellIndexOf table (index + 1)) }
+    ensures full { (model : Metadata) → IsModel view.now model → (tail : List Says → Numbered → Numbered)
+        → ((cells : List Says) (so_far : Numbered) → IsOver so_far → IsOver (tail cells so_far)) → result ≡ Err PoolError.Full
         → IsOver (with_next_cell (is_padding (column_at table index).kind) (with_cell indexes.now (column_at table index).kind)
-        rest (drop place (row_of model table row)) gathering.old) }
+        tail (drop cell_index (row_of model table row)) gathering.old) }
 {
     models_are_read();
     columns_stand();
     match columns(table)[index].kind {
         ColumnKind::Padding => {
             gathering.put_number(0)?;
-            Ok(place)
+            Ok(cell_index)
         }
         _ => {
-            put_cell(gathering, indexes, view, table, row, place)?;
-            Ok(place + 1)
+            put_cell(gathering, indexes, view, table, row, cell_index)?;
+            Ok(cell_index + 1)
         }
     }
 }
@@ -151,9 +151,9 @@ fn put_row<'a>(
         → IsOver (with_row indexes.now (columns_of table) (row_of model table row) gathering.old) }
 {
     heaps_stay_too_long();
-    let mut place = 0;
+    let mut cell_index = 0;
     for index in 0..columns(table).len() {
-        place = put_next(gathering, indexes, view, table, row, index, place)?;
+        cell_index = put_next(gathering, indexes, view, table, row, index, cell_index)?;
     }
     Ok(())
 }

@@ -17,20 +17,20 @@ fn add_cell<'a>(
     view: &View<'a>,
     table: TableId,
     row: u32,
-    place: usize,
+    cell_index: usize,
 ) -> Result<(), AllocError>
     requires first { 1 ≤ row }
     requires last { row ≤ row_count view.now table }
-    requires place { place < cell_count table }
+    requires cell_index { cell_index < cell_count table }
     ensures { (model : Metadata) → IsModel view.now model
-        → OnOk result (bytes_of texts.new.items ≡ bytes_of texts.old.items ++ texts_of (cell_in model table row place)) }
+        → OnOk result (bytes_of texts.new.items ≡ bytes_of texts.old.items ++ texts_of (cell_in model table row cell_index)) }
 {
     models_are_read();
     models_of_roots_are_valid();
-    let ColumnKind::Text = columns(table)[column_of_cell(table, place)].kind else {
+    let ColumnKind::Text = columns(table)[column_of_cell(table, cell_index)].kind else {
         return Ok(());
     };
-    match view.cell(table, row, place) {
+    match view.cell(table, row, cell_index) {
         CellRef::Text(text) => Ok(texts.push(text)?),
         _ => Ok(()),
     }
@@ -49,8 +49,8 @@ fn add_row<'a>(
         → OnOk result (bytes_of texts.new.items ≡ bytes_of texts.old.items ++ flat_map texts_of (row_of model table row)) }
 {
     models_are_read();
-    for place in 0..cell_count(table) {
-        add_cell(texts, view, table, row, place)?;
+    for cell_index in 0..cell_count(table) {
+        add_cell(texts, view, table, row, cell_index)?;
     }
     Ok(())
 }

@@ -13,6 +13,6 @@
 mod canonical_root;
 mod outline;
 mod planned;
-mod tables_told;
+mod tables_reported;
 
 pub use canonical_root::prepare_view;

@@ -2,7 +2,7 @@ ghost use Rattle.metadata.specs.Metadata.{Metadata};
 ghost use Rattle.metadata.specs.Model.{IsModel};
 ghost use Rattle.root_plan.specs.Outlined.{Describes};
 
-use crate::tables_told;
+use crate::tables_reported;
 use metadata::{models_are_read, models_of_roots_are_valid};
 use opening::View;
 use root_plan::Outline;
@@ -18,7 +18,7 @@ pub fn outline_of<'a>(view: &View<'a>) -> Outline<'a>
     Outline {
         version: view.version(),
         user_strings: view.user(),
-        counts: tables_told::counts(view),
-        sorted: tables_told::sorted(view),
+        counts: tables_reported::counts(view),
+        sorted: tables_reported::sorted(view),
     }
 }

@@ -9,7 +9,7 @@ use Rattle.std.proofs.lemmas.List.FromFn.{get_or-range_with_len}
 use Rattle.std.proofs.lemmas.List.Sums.{sum_by-drop_more}
 use Rattle.table_schema.specs.declared.table.TableId.{TableId}
 use Rattle.table_schema.specs.declared.table.TableId.TheVariants.{Module}
-use Rattle.table_schema.specs.Tables.{tables, table_number, position_of}
+use Rattle.table_schema.specs.Tables.{tables, table_number, table_index_of}
 use Rattle.table_schema.specs.Columns.{key_of}
 use Rattle.schema.specs.LaidOut.{bits_of}
 use Rattle.metadata.specs.Metadata.{Metadata}
@@ -23,18 +23,18 @@ use Rattle.root_writer.specs.TableHeader.{bit_if}
 -- the tables are listed by their indexes, in ascending order of their numbers
 pub record TheyStand : Type 0 where
   pub count : length tables ≡ 38
-  pub position : (table : TableId) → position_of table < 38
+  pub table_index : (table : TableId) → table_index_of table < 38
   pub number : (table : TableId) → table_number table < 45
-  pub stand : (table : TableId) → get_or tables (position_of table) Module ≡ table
-  pub rise : (lower higher : TableId) → position_of lower < position_of higher → table_number lower < table_number higher
+  pub stand : (table : TableId) → get_or tables (table_index_of table) Module ≡ table
+  pub rise : (lower higher : TableId) → table_index_of lower < table_index_of higher → table_number lower < table_number higher
 
-positions : map position_of tables ≡ range_with_len 0 38
+table_indexes : map table_index_of tables ≡ range_with_len 0 38
 unfolding tables
-positions = refl
+table_indexes = refl
 
-position_at : length tables ≡ 38 → (k : ℕ) → k < 38 → position_of (get_or tables k Module) ≡ k
-position_at count k below =
-    sym (get_or-map position_of tables k Module 0 (omega (arith, count))) ∙ ap (λ (l : List ℕ). get_or l k 0) positions ∙ get_or-range_with_len 0 38 k 0 below ∙ omega arith
+table_index_at : length tables ≡ 38 → (k : ℕ) → k < 38 → table_index_of (get_or tables k Module) ≡ k
+table_index_at count k below =
+    sym (get_or-map table_index_of tables k Module 0 (omega (arith, count))) ∙ ap (λ (l : List ℕ). get_or l k 0) table_indexes ∙ get_or-range_with_len 0 38 k 0 below ∙ omega arith
 
 -- an array by table number that is filled in table by table
 pub table_kept : TheyStand → (f : TableId → ℕ) (kept : List ℕ) (i number value : ℕ) → i < 38 → length kept ≡ 45 → number ≡ table_number (get_or tables i Module)
@@ -44,7 +44,7 @@ pub table_kept : TheyStand → (f : TableId → ℕ) (kept : List ℕ) (i number
 table_kept they f kept i number value below long is e before =
     below_more _ _
     (λ k less.
-    let rise = they.rise (get_or tables k Module) (get_or tables i Module) (omega (arith, position_at they.count k (omega arith), position_at they.count i below)) in
+    let rise = they.rise (get_or tables k Module) (get_or tables i Module) (omega (arith, table_index_at they.count k (omega arith), table_index_at they.count i below)) in
     get_or-set_other kept number (table_number (get_or tables k Module)) value 0 (omega (arith, rise, is)) ∙ before k less)
     (ap (λ (n : ℕ). get_or (set kept number value) n 0) (sym is) ∙ get_or-set_same kept number value 0 (omega (arith, long, is, they.number (get_or tables i Module))) ∙ e)
 
@@ -52,7 +52,7 @@ pub tables_kept : TheyStand → (f : TableId → ℕ) (kept : List ℕ)
     → ((k : ℕ) → k < 38 → get_or kept (table_number (get_or tables k Module)) 0 ≡ f (get_or tables k Module))
     → (table : TableId) → get_or kept (table_number table) 0 ≡ f table
 tables_kept they f kept each table =
-    sym (ap (λ (t : TableId). get_or kept (table_number t) 0) (they.stand table)) ∙ each (position_of table) (they.position table) ∙ ap f (they.stand table)
+    sym (ap (λ (t : TableId). get_or kept (table_number t) 0) (they.stand table)) ∙ each (table_index_of table) (they.table_index table) ∙ ap f (they.stand table)
 
 -- ---- bits
 
@@ -88,12 +88,12 @@ unkeyed model table None is none = ap (is_by_key (table_keys model table)) is
 unkeyed model table (Some key) is none = absurd cc
 
 -- the Sorted bits of keyed tables of valid models say whether they are in order
-abbrev pub TellOrder : Type 0
-TellOrder = (model : Metadata) → IsValid model → (table : TableId) (key : ℕ) → key_of table ≡ Some key → (is_sorted model table ≡ true) ↔ IsKeyOrdered model table
+abbrev pub ReportOrder : Type 0
+ReportOrder = (model : Metadata) → IsValid model → (table : TableId) (key : ℕ) → key_of table ≡ Some key → (is_sorted model table ≡ true) ↔ IsKeyOrdered model table
 
-pub keyed : TellOrder → (model : Metadata) → IsValid model → (table : TableId) (key : Option ℕ) → key ≡ key_of table → is_some key ≡ true → (answer : Bool)
+pub keyed : ReportOrder → (model : Metadata) → IsValid model → (table : TableId) (key : Option ℕ) → key ≡ key_of table → is_some key ≡ true → (answer : Bool)
     → ((answer ≡ true) ↔ IsKeyOrdered model table) → answer ≡ is_sorted model table
-keyed tell model valid table None is there answer told = absurd cc
-keyed tell model valid table (Some key) is there answer told =
-    let bits = tell model valid table key (sym is) in
-    same_test (IsKeyOrdered model table) answer (is_sorted model table) told.0 told.1 bits.0 bits.1
+keyed report model valid table None is there answer reported = absurd cc
+keyed report model valid table (Some key) is there answer reported =
+    let bits = report model valid table key (sym is) in
+    same_test (IsKeyOrdered model table) answer (is_sorted model table) reported.0 reported.1 bits.0 bits.1

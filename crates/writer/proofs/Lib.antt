@@ -1,2 +1,2 @@
 pub mod CountLemmas
-pub mod FillLemmas
+pub mod PaddingLemmas

@@ -20,7 +20,7 @@ mod canonical_root;
 mod outline;
 mod planned;
 mod roots;
-mod tables_told;
+mod tables_reported;
 
 pub use canonical_root::prepare;
 pub use root_plan::{Counted, Prepared, Sink, WriteError};

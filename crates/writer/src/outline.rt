@@ -1,6 +1,6 @@
 ghost use Rattle.root_plan.specs.Outlined.{Describes};
 
-use crate::tables_told;
+use crate::tables_reported;
 use owned_model::Model;
 use root_plan::Outline;
 
@@ -13,7 +13,7 @@ pub fn outline_of(model: &Model) -> Outline<'_>
     Outline {
         version: model.version(),
         user_strings: model.user(),
-        counts: tables_told::counts(model),
-        sorted: tables_told::sorted(model),
+        counts: tables_reported::counts(model),
+        sorted: tables_reported::sorted(model),
     }
 }

@@ -26,7 +26,7 @@ pub fn write_root_within(alloc: Global, model: &Model, limit: u32) -> Result<Vec
     ensures refused { IfErr result (MatchError (limit < length (canonical model.now)) ⊤ (λ given. ⊥)) }
     // The root has this model, and no other.
     ensures model { IfOk result (λ root. IsModel root.items model.now) }
-    ensures only { IfOk result (λ root. (other : Metadata) → IsModel root.items other → other ≡ model.now) }
+    ensures unique { IfOk result (λ root. (other : Metadata) → IsModel root.items other → other ≡ model.now) }
 {
     canonical_root_has_its_model();
     canonical_root_is_one();
@@ -47,7 +47,7 @@ pub fn write_root(alloc: Global, model: &Model) -> Result<Vec<u8>, WriteError>
     ensures refused { IfErr result (MatchError (2 ^ 30 < length (canonical model.now)) ⊤ (λ given. ⊥)) }
     // The root has this model, and no other.
     ensures model { IfOk result (λ root. IsModel root.items model.now) }
-    ensures only { IfOk result (λ root. (other : Metadata) → IsModel root.items other → other ≡ model.now) }
+    ensures unique { IfOk result (λ root. (other : Metadata) → IsModel root.items other → other ≡ model.now) }
 {
     write_root_within(alloc, model, ROOT_LIMIT)
 }

@@ -7,7 +7,7 @@ use std::time::Instant;
 
 /// A signature, and what it is of.
 #[derive(Drop)]
-struct Spelled {
+struct Encoded {
     bytes: Vec<u8>,
     kind: SigKind,
 }
@@ -35,7 +35,7 @@ fn put_types(bytes: &mut Vec<u8>, seed: &mut u64, count: u8) -> Result<(), Alloc
 }
 
 /// A field, a method of this or another module, a property or some locals.
-fn random_signature(alloc: Global, seed: &mut u64) -> Result<Spelled, AllocError> {
+fn random_signature(alloc: Global, seed: &mut u64) -> Result<Encoded, AllocError> {
     let mut bytes = Vec::new(alloc);
     let count = (next(seed) % 6) as u8;
     let (kind, first, counted, types) = match next(seed) % 8 {
@@ -50,10 +50,10 @@ fn random_signature(alloc: Global, seed: &mut u64) -> Result<Spelled, AllocError
         bytes.push(count)?;
     }
     put_types(&mut bytes, seed, types)?;
-    Ok(Spelled { bytes, kind })
+    Ok(Encoded { bytes, kind })
 }
 
-fn random_signatures(alloc: Global, count: usize) -> Result<Vec<Spelled>, AllocError> {
+fn random_signatures(alloc: Global, count: usize) -> Result<Vec<Encoded>, AllocError> {
     let mut seed = 3u64;
     let mut signatures = Vec::new(alloc);
     for _ in 0..count {
@@ -72,7 +72,7 @@ fn sum(bytes: &[u8], sum: u64) -> u64 {
 }
 
 /// How many microseconds it takes to read the bytes of all signatures.
-fn time_reading(rt: &HostRuntime, signatures: &[Spelled]) -> Result<(u128, u64)> {
+fn time_reading(rt: &HostRuntime, signatures: &[Encoded]) -> Result<(u128, u64)> {
     let start = Instant::now(rt)?;
     let mut total = 0u64;
     for signature in signatures {
@@ -82,7 +82,7 @@ fn time_reading(rt: &HostRuntime, signatures: &[Spelled]) -> Result<(u128, u64)>
 }
 
 /// How many microseconds it takes to recognise all signatures; `None` where one is not.
-fn time_recognising(rt: &HostRuntime, signatures: &[Spelled]) -> Result<Option<u128>> {
+fn time_recognising(rt: &HostRuntime, signatures: &[Encoded]) -> Result<Option<u128>> {
     let start = Instant::now(rt)?;
     for signature in signatures {
         if !recognise(&signature.bytes, signature.kind) {

@@ -1,9 +1,9 @@
 ghost use Rattle.std.specs.Prelude.{◌≡◌};
 ghost use Rattle.std.specs.Bool.{OnTrue, OnFalse};
-ghost use Rattle.packed.specs.Demand.{AllHold, FirstToFail};
+ghost use Rattle.packed.specs.Rule.{AllHold, FirstBroken};
 ghost use Rattle.pe.specs.Headers.{image_of};
 ghost use Rattle.cli_header.specs.Said as said;
-ghost use Rattle.opening.specs.Heads.{demands_of_heads};
+ghost use Rattle.opening.specs.Heads.{rules_of_heads};
 ghost use Rattle.clim_c.specs.Faults.{fault_of};
 ghost use Rattle.clim_c.specs.Headers.{directory_of, header_of};
 
@@ -13,7 +13,7 @@ use cli_header::{CliHeader, DataDirectory};
 use opening::read_heads;
 
 /// A directory as a C caller receives it.
-fn told_directory(directory: DataDirectory) -> ClimDirectory
+fn reported_directory(directory: DataDirectory) -> ClimDirectory
     ensures { directory_of result ≡ directory }
 {
     ClimDirectory {
@@ -23,25 +23,25 @@ fn told_directory(directory: DataDirectory) -> ClimDirectory
 }
 
 /// A header as a C caller receives it.
-fn told_header(header: &CliHeader) -> ClimHeader
+fn reported_header(header: &CliHeader) -> ClimHeader
     ensures { header_of result ≡ header.now }
 {
     ClimHeader {
-        place: header.place,
+        offset: header.place,
         root_start: header.root.start,
         root_end: header.root.end,
         cb: header.cb,
         major_runtime_version: header.major_runtime_version,
         minor_runtime_version: header.minor_runtime_version,
-        metadata: told_directory(header.metadata),
+        metadata: reported_directory(header.metadata),
         flags: header.flags,
         entry_point_token: header.entry_point_token,
-        resources: told_directory(header.resources),
-        strong_name_signature: told_directory(header.strong_name_signature),
-        code_manager_table: told_directory(header.code_manager_table),
-        vtable_fixups: told_directory(header.vtable_fixups),
-        export_address_table_jumps: told_directory(header.export_address_table_jumps),
-        managed_native_header: told_directory(header.managed_native_header),
+        resources: reported_directory(header.resources),
+        strong_name_signature: reported_directory(header.strong_name_signature),
+        code_manager_table: reported_directory(header.code_manager_table),
+        vtable_fixups: reported_directory(header.vtable_fixups),
+        export_address_table_jumps: reported_directory(header.export_address_table_jumps),
+        managed_native_header: reported_directory(header.managed_native_header),
     }
 }
 
@@ -55,14 +55,14 @@ pub extern "C" fn clim_read_header(
     header: &mut ClimHeader,
     fault: &mut ClimFault,
 ) -> bool
-    ensures found { OnTrue result (AllHold (demands_of_heads file.now) × (header_of header.new ≡ said.header_of (image_of file.now))) }
-    ensures first { OnFalse result (FirstToFail (demands_of_heads file.now) (fault_of fault.new)) }
+    ensures sound { OnTrue result (AllHold (rules_of_heads file.now) × (header_of header.new ≡ said.header_of (image_of file.now))) }
+    ensures first_error { OnFalse result (FirstBroken (rules_of_heads file.now) (fault_of fault.new)) }
     ensures same { OnFalse result (header.new ≡ header.old) }
     ensures quiet { OnTrue result (fault.new ≡ fault.old) }
 {
     match read_heads(file) {
         Ok(heads) => {
-            *header = told_header(&heads.header);
+            *header = reported_header(&heads.header);
             true
         }
         Err(found) => {

@@ -14,36 +14,36 @@ use Rattle.sig_decoder.proofs.+build.Goals.{methods::params-then-allowed, method
 
 pub types::core-returns-in-Some : goal.types::core-returns-in-Some
 types::core-returns-in-Some t c =
-    let e = core_simple c.args.depth c.in_ok-code.code c.in-Some.element c.args.bytes.now c.in_ok-code.rest.now (omega arith) c.in_ok-code.ensures c.in-Some.ensures in
+    let e = core_simple c.args.depth c.in_ok-code.code c.in-Some.element c.args.bytes.now c.in_ok-code.tail.now (omega arith) c.in_ok-code.ensures c.in-Some.ensures in
     rw (e, view_simple c.in-Some.element) refl
 
 pub types::types-returns-in_err-one : goal.types::types-returns-in_err-one
 types::types-returns-in_err-one t c =
-    let h = subst (λ (o : Option (List Typed × List ℕ)). Fails c.in_err-one.field-0.0 o) c.loop-done.invariant (many_bad c.in_err-one.field-0.0 (typed_at (core_at c.args.depth)) c.args.count c.loop-done.done c.loop-done.rest.now (map type_of c.loop-done.all.items) c.loop-done-test.true c.in_err-one.ensures) in
+    let h = subst (λ (o : Option (List Typed × List ℕ)). Fails c.in_err-one.field-0.0 o) c.loop-done.invariant (many_bad c.in_err-one.field-0.0 (typed_at (core_at c.args.depth)) c.args.count c.loop-done.done c.loop-done.tail.now (map type_of c.loop-done.all.items) c.loop-done-test.true c.in_err-one.ensures) in
     failed _ _ _ _ c.from_residual-in_err-one.ensures h
 
 pub types::types-loop-done-preserved : goal.types::types-loop-done-preserved
 types::types-loop-done-preserved t c =
-    let e = many_next (typed_at (core_at c.args.depth)) c.args.count c.loop-done.done c.loop-done.rest.now c.in_ok-one.next.now (map type_of c.loop-done.all.items) (type_of c.in_ok-one.one) c.loop-done-test.true c.in_ok-one.ensures in
+    let e = many_next (typed_at (core_at c.args.depth)) c.args.count c.loop-done.done c.loop-done.tail.now c.in_ok-one.next.now (map type_of c.loop-done.all.items) (type_of c.in_ok-one.one) c.loop-done-test.true c.in_ok-one.ensures in
     rw (c.in_ok-push.ensures.items) (simp map-append (sym e ∙ c.loop-done.invariant))
 
 pub types::types-returns : goal.types::types-returns
 types::types-returns t c =
-    sym c.loop-done.invariant ∙ many_end (typed_at (core_at c.args.depth)) c.args.count c.loop-done.done c.loop-done.rest.now (map type_of c.loop-done.all.items) c.loop-done-test.false
+    sym c.loop-done.invariant ∙ many_end (typed_at (core_at c.args.depth)) c.args.count c.loop-done.done c.loop-done.tail.now (map type_of c.loop-done.all.items) c.loop-done-test.false
 
 pub methods::params-returns-in_err-one : goal.methods::params-returns-in_err-one
 methods::params-returns-in_err-one t c =
     let may : c.if-allowed.sentinel ≡ still c.args.allowed c.loop-done.before = elim c.if-allowed.branch [ methods::params-then-allowed w ↦ search rules | methods::params-else-allowed w ↦ search rules ] in
-    let is : c.sentinel-marked.result.0 ≡ (still c.args.allowed c.loop-done.before && head_is 0x41 c.loop-done.rest.now) = c.sentinel-marked.ensures.marked ∙ ap (λ (p : Bool). p && head_is 0x41 c.loop-done.rest.now) may in
-    let bad = params_bad (core_at c.args.depth) c.in_err-one.field-0.0 c.args.count c.loop-done.done (still c.args.allowed c.loop-done.before) c.loop-done.before c.sentinel-marked.result.0 c.loop-done.rest.now c.sentinel-marked.result.1.now (map slot_of c.loop-done.all.items) c.loop-done-test.true is c.sentinel-marked.ensures.behind c.in_err-one.ensures in
+    let is : c.sentinel-marked.result.0 ≡ (still c.args.allowed c.loop-done.before && head_is 0x41 c.loop-done.tail.now) = c.sentinel-marked.ensures.marked ∙ ap (λ (p : Bool). p && head_is 0x41 c.loop-done.tail.now) may in
+    let bad = params_bad (core_at c.args.depth) c.in_err-one.field-0.0 c.args.count c.loop-done.done (still c.args.allowed c.loop-done.before) c.loop-done.before c.sentinel-marked.result.0 c.loop-done.tail.now c.sentinel-marked.result.1.now (map slot_of c.loop-done.all.items) c.loop-done-test.true is c.sentinel-marked.ensures.behind c.in_err-one.ensures in
     let h = subst (λ (o : Option ((List Slot × Option ℕ) × List ℕ)). Fails c.in_err-one.field-0.0 o) c.loop-done.invariant.so_far bad in
     failed _ _ _ _ c.from_residual-in_err-one.ensures h
 
 pub methods::params-loop-done-preserved : goal.methods::params-loop-done-preserved
 methods::params-loop-done-preserved t c =
     let may : c.if-allowed.sentinel ≡ still c.args.allowed c.loop-done.before = elim c.if-allowed.branch [ methods::params-then-allowed w ↦ search rules | methods::params-else-allowed w ↦ search rules ] in
-    let is : c.sentinel-marked.result.0 ≡ (still c.args.allowed c.loop-done.before && head_is 0x41 c.loop-done.rest.now) = c.sentinel-marked.ensures.marked ∙ ap (λ (p : Bool). p && head_is 0x41 c.loop-done.rest.now) may in
-    let e = params_next (core_at c.args.depth) c.args.count c.loop-done.done c.args.allowed c.loop-done.before c.sentinel-marked.result.0 c.loop-done.rest.now c.sentinel-marked.result.1.now c.in_ok-one.next.now (map slot_of c.loop-done.all.items) (slot_of c.in_ok-one.one) c.loop-done-test.true c.loop-done.invariant.count is c.sentinel-marked.ensures.behind c.in_ok-one.ensures in
+    let is : c.sentinel-marked.result.0 ≡ (still c.args.allowed c.loop-done.before && head_is 0x41 c.loop-done.tail.now) = c.sentinel-marked.ensures.marked ∙ ap (λ (p : Bool). p && head_is 0x41 c.loop-done.tail.now) may in
+    let e = params_next (core_at c.args.depth) c.args.count c.loop-done.done c.args.allowed c.loop-done.before c.sentinel-marked.result.0 c.loop-done.tail.now c.sentinel-marked.result.1.now c.in_ok-one.next.now (map slot_of c.loop-done.all.items) (slot_of c.in_ok-one.one) c.loop-done-test.true c.loop-done.invariant.count is c.sentinel-marked.ensures.behind c.in_ok-one.ensures in
     let mark : c.or-before.result ≡ after_mark c.loop-done.before c.sentinel-marked.result.0 c.loop-done.done = search rules in
     record {
       so_far = rw (c.in_ok-push.ensures.items, mark) (simp map-append (sym e ∙ c.loop-done.invariant.so_far));
@@ -52,7 +52,7 @@ methods::params-loop-done-preserved t c =
 
 pub methods::params-returns : goal.methods::params-returns
 methods::params-returns t c =
-    sym c.loop-done.invariant.so_far ∙ params_end (core_at c.args.depth) c.args.count c.loop-done.done (still c.args.allowed c.loop-done.before) c.loop-done.before c.loop-done.rest.now (map slot_of c.loop-done.all.items) c.loop-done-test.false
+    sym c.loop-done.invariant.so_far ∙ params_end (core_at c.args.depth) c.args.count c.loop-done.done (still c.args.allowed c.loop-done.before) c.loop-done.before c.loop-done.tail.now (map slot_of c.loop-done.all.items) c.loop-done-test.false
 
 pub types::core_behind-returns-in-17 : goal.types::core_behind-returns-in-17
 unfolding core_by
@@ -240,13 +240,13 @@ slots::content-returns-in_ok-core-in-16 t c =
 pub slots::ret-returns-in_err-kind : goal.slots::ret-returns-in_err-kind
 unfolding ret_at both
 slots::ret-returns-in_err-kind t c =
-    let other = void_other (content_at (core_at c.args.depth)) c.in_ok-code.code c.in_ok-mods.rest.now c.in_ok-code.behind.now c.in_ok-code.ensures c.if-code-eq-VOID.false in
+    let other = void_other (content_at (core_at c.args.depth)) c.in_ok-code.code c.in_ok-mods.tail.now c.in_ok-code.behind.now c.in_ok-code.ensures c.if-code-eq-VOID.false in
     failed _ _ _ _ c.from_residual-in_err-kind.ensures (rw (c.in_ok-mods.ensures, other) (fails_map _ _ _ (fails_map _ _ _ (fails_map _ _ _ c.in_err-kind.ensures))))
 
 pub slots::ret-returns : goal.slots::ret-returns
 unfolding ret_at both
 slots::ret-returns t c =
-    let other = void_other (content_at (core_at c.args.depth)) c.in_ok-code.code c.in_ok-mods.rest.now c.in_ok-code.behind.now c.in_ok-code.ensures c.if-code-eq-VOID.false in
+    let other = void_other (content_at (core_at c.args.depth)) c.in_ok-code.code c.in_ok-mods.tail.now c.in_ok-code.behind.now c.in_ok-code.ensures c.if-code-eq-VOID.false in
     rw (c.in_ok-mods.ensures, other, c.in_ok-kind.ensures, view_slot_ret c.in_ok-mods.mods c.in_ok-kind.kind) refl
 
 pub slots::ret-returns-then-code-eq-VOID : goal.slots::ret-returns-then-code-eq-VOID
@@ -267,13 +267,13 @@ types::typed-returns t c =
 pub types::pointer-returns-in_err-to : goal.types::pointer-returns-in_err-to
 unfolding target_at both
 types::pointer-returns-in_err-to t c =
-    let other = void_other (core_at c.args.depth) c.in_ok-code.code c.in_ok-mods.rest.now c.in_ok-code.behind.now c.in_ok-code.ensures c.if-code-eq-VOID.false in
+    let other = void_other (core_at c.args.depth) c.in_ok-code.code c.in_ok-mods.tail.now c.in_ok-code.behind.now c.in_ok-code.ensures c.if-code-eq-VOID.false in
     failed _ _ _ _ c.from_residual-in_err-to.ensures (rw (c.in_ok-mods.ensures, other) (fails_map _ _ _ (fails_map _ _ _ (fails_map _ _ _ c.in_err-to.ensures))))
 
 pub types::pointer-returns : goal.types::pointer-returns
 unfolding target_at both
 types::pointer-returns t c =
-    let other = void_other (core_at c.args.depth) c.in_ok-code.code c.in_ok-mods.rest.now c.in_ok-code.behind.now c.in_ok-code.ensures c.if-code-eq-VOID.false in
+    let other = void_other (core_at c.args.depth) c.in_ok-code.code c.in_ok-mods.tail.now c.in_ok-code.behind.now c.in_ok-code.ensures c.if-code-eq-VOID.false in
     rw (c.in_ok-mods.ensures, other, c.in_ok-to.ensures, view_pointer c.in_ok-mods.mods c.in_ok-new.field-0, c.in_ok-new.ensures.ok) refl
 
 pub types::pointer-returns-then-code-eq-VOID : goal.types::pointer-returns-then-code-eq-VOID
@@ -284,25 +284,25 @@ types::pointer-returns-then-code-eq-VOID t c =
 pub types::instance-returns-in_err-of : goal.types::instance-returns-in_err-of
 unfolding instance_at both
 types::instance-returns-in_err-of t c =
-    let named = named_is c.in_ok-code.code c.args.bytes.now c.in_ok-code.rest.now c.in_ok-code.ensures c.else-code-ne-VALUETYPE.either in
+    let named = named_is c.in_ok-code.code c.args.bytes.now c.in_ok-code.tail.now c.in_ok-code.ensures c.else-code-ne-VALUETYPE.either in
     failed _ _ _ _ c.from_residual-in_err-of.ensures (rw named (fails_map _ _ _ (fails_then _ _ _ (fails_map _ _ _ c.in_err-of.ensures))))
 
 pub types::instance-returns-in_err-count : goal.types::instance-returns-in_err-count
 unfolding instance_at both counted_at
 types::instance-returns-in_err-count t c =
-    let named = named_is c.in_ok-code.code c.args.bytes.now c.in_ok-code.rest.now c.in_ok-code.ensures c.else-code-ne-VALUETYPE.either in
+    let named = named_is c.in_ok-code.code c.args.bytes.now c.in_ok-code.tail.now c.in_ok-code.ensures c.else-code-ne-VALUETYPE.either in
     failed _ _ _ _ c.from_residual-in_err-count.ensures (rw (named, c.in_ok-of.ensures) (fails_map _ _ _ (fails_map _ _ _ (fails_then _ _ _ c.in_err-count.ensures))))
 
 pub types::instance-returns-in_err-args : goal.types::instance-returns-in_err-args
 unfolding instance_at both counted_at
 types::instance-returns-in_err-args t c =
-    let named = named_is c.in_ok-code.code c.args.bytes.now c.in_ok-code.rest.now c.in_ok-code.ensures c.else-code-ne-VALUETYPE.either in
+    let named = named_is c.in_ok-code.code c.args.bytes.now c.in_ok-code.tail.now c.in_ok-code.ensures c.else-code-ne-VALUETYPE.either in
     failed _ _ _ _ c.from_residual-in_err-args.ensures (rw (named, c.in_ok-of.ensures, c.in_ok-count.ensures) (fails_map _ _ _ (fails_map _ _ _ c.in_err-args.ensures)))
 
 pub types::instance-returns : goal.types::instance-returns
 unfolding instance_at both counted_at
 types::instance-returns t c =
-    let named = named_is c.in_ok-code.code c.args.bytes.now c.in_ok-code.rest.now c.in_ok-code.ensures c.else-code-ne-VALUETYPE.either in
+    let named = named_is c.in_ok-code.code c.args.bytes.now c.in_ok-code.tail.now c.in_ok-code.ensures c.else-code-ne-VALUETYPE.either in
     rw (named, c.in_ok-of.ensures, c.in_ok-count.ensures, c.in_ok-args.ensures, view_instance (eqb c.in_ok-code.code 0x11) c.in_ok-of.of c.in_ok-args.args) refl
 
 pub types::array-returns : goal.types::array-returns
@@ -322,8 +322,8 @@ pub methods::method-returns-in-Ok : goal.methods::method-returns-in-Ok
 unfolding method_at method_from
 methods::method-returns-in-Ok t c =
     let begins : is_method_code c.in_ok-code.code ≡ true = sym c.begins_method.ensures ∙ c.if-not-begins_method.false in
-    rw (c.in_ok-code.ensures, begins, c.in_ok-generic.ensures, c.in_ok-count.ensures, c.in_ok-ret.ensures, ← c.takes_sentinel-allowed.ensures, c.in-Ok.ensures, c.calling_convention.ensures, c.has_this.ensures, c.has_explicit_this.ensures) (ap (λ (m : sig.Method). Some (m, c.in-Ok.rest.now)) (sym (view_method _ _ _ c.in_ok-generic.generic c.in_ok-ret.ret c.in-Ok.params c.in-Ok.sentinel)))
+    rw (c.in_ok-code.ensures, begins, c.in_ok-generic.ensures, c.in_ok-count.ensures, c.in_ok-ret.ensures, ← c.takes_sentinel-allowed.ensures, c.in-Ok.ensures, c.calling_convention.ensures, c.has_this.ensures, c.has_explicit_this.ensures) (ap (λ (m : sig.Method). Some (m, c.in-Ok.tail.now)) (sym (view_method _ _ _ c.in_ok-generic.generic c.in_ok-ret.ret c.in-Ok.params c.in-Ok.sentinel)))
 
 pub types::core-returns-in-None : goal.types::core-returns-in-None
 types::core-returns-in-None t c =
-    rw (core_other c.args.depth c.in_ok-code.code c.args.bytes.now c.in_ok-code.rest.now (omega arith) c.in_ok-code.ensures c.in-None.ensures) c.core_behind.ensures
+    rw (core_other c.args.depth c.in_ok-code.code c.args.bytes.now c.in_ok-code.tail.now (omega arith) c.in_ok-code.ensures c.in-None.ensures) c.core_behind.ensures

@@ -1,7 +1,7 @@
 use Rattle.std.proofs.Common.{◌≡◌, ◌+◌, ◌*◌, ◌-◌, map, length}
 use Rattle.sig_grammar.specs.Reading.{many_at, typed_at, core_at, params_at}
 use Rattle.sig_grammar.specs.Views.{type_of, slot_of}
-use Rattle.sig_decoder.proofs.Items.{with_front}
+use Rattle.sig_decoder.proofs.Items.{with_head}
 use Rattle.sig_decoder.proofs.Parameters.{with_params, still}
 use Rattle.sig_decoder.proofs.+build.Given as goal
 
@@ -49,11 +49,11 @@ decreases-methods::function l = 8 * l.depth + 5
 
 abbrev pub invariant-types::types-loop-done : goal.invariant-types::types-loop-done
 invariant-types::types-loop-done l =
-    with_front (map type_of l.all.items) (many_at (typed_at (core_at l.depth)) (l.count - l.done) l.rest) ≡ many_at (typed_at (core_at l.depth)) l.count l.bytes
+    with_head (map type_of l.all.items) (many_at (typed_at (core_at l.depth)) (l.count - l.done) l.tail) ≡ many_at (typed_at (core_at l.depth)) l.count l.bytes
 
 abbrev pub invariant-methods::params-loop-done : goal.invariant-methods::params-loop-done
 invariant-methods::params-loop-done l = record {
-  so_far : with_params (map slot_of l.all.items) l.before (params_at (core_at l.depth) (still l.allowed l.before) (l.count - l.done) l.rest)
+  so_far : with_params (map slot_of l.all.items) l.before (params_at (core_at l.depth) (still l.allowed l.before) (l.count - l.done) l.tail)
       ≡ params_at (core_at l.depth) l.allowed l.count l.bytes;
   count : length (map slot_of l.all.items) ≡ l.done;
 }

@@ -20,10 +20,10 @@ fn explains_a_fault(rt: HostRuntime) -> Result<(), Fail> {
 - Rule: A file, or a root with '--bare', has at most 2^30 bytes. This limit is clim's own.
 - Offset: 0, the first byte.
 ";
-    for (code, told) in [("504", guid), ("101", limit)] {
+    for (code, reported) in [("504", guid), ("101", limit)] {
         let (status, out, err) = answer(&rt, &["clim", "explain", code])?;
         assert_eq!(rt; status, 0);
-        assert_eq!(rt; out.as_str(), told);
+        assert_eq!(rt; out.as_str(), reported);
         assert!(rt; err.is_empty());
     }
     Ok(())
@@ -48,8 +48,8 @@ fn lists_all_faults(rt: HostRuntime) -> Result<(), Fail> {
         assert_eq!(rt; out.lines().next(), Some(line));
         assert!(rt; out.contains("\n\n- Rule: "));
         assert!(rt; out.contains("\n- Offset: "));
-        for told in out.lines() {
-            assert!(rt; told.len() <= 100, "{told}");
+        for reported in out.lines() {
+            assert!(rt; reported.len() <= 100, "{reported}");
         }
     }
     assert_eq!(rt; count, 45);

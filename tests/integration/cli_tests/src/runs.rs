@@ -17,22 +17,22 @@ pub fn answer(rt: &HostRuntime, words: &[&str]) -> Result<(u8, String, String), 
 #[derive(Clone, Copy)]
 pub struct Case<'a> {
     len: usize,
-    place: usize,
+    offset: usize,
     bytes: &'a [u8],
     status: u8,
-    told: &'a str,
+    reported: &'a str,
 }
 
 impl<'a> Case<'a> {
-    /// What is told of the first `len` bytes with `bytes` put over those at `place`, on the output where
+    /// What is told of the first `len` bytes with `bytes` put over those at `offset`, on the output where
     /// the status is 0, and else on standard error.
-    pub const fn new(len: usize, place: usize, bytes: &'a [u8], status: u8, told: &'a str) -> Self {
+    pub const fn new(len: usize, offset: usize, bytes: &'a [u8], status: u8, reported: &'a str) -> Self {
         Case {
             len,
-            place,
+            offset,
             bytes,
             status,
-            told,
+            reported,
         }
     }
 }
@@ -46,16 +46,16 @@ pub fn other_answer(
     case: &Case,
 ) -> Result<Option<String>, Fail> {
     let mut file: Vec<u8> = sample.iter().copied().take(case.len).collect(rt.alloc())?;
-    write_at(&mut file, case.place, case.bytes);
+    write_at(&mut file, case.offset, case.bytes);
     fs::write(rt, "a.file", file.as_slice())?;
     let mut words: Vec<&str> = words.to_vec(rt.alloc())?;
     words.push("a.file")?;
     let (status, out, err) = answer(rt, &words)?;
     fs::remove_file(rt, "a.file")?;
     let (want_out, want_err) = if case.status == 0 {
-        (case.told, "")
+        (case.reported, "")
     } else {
-        ("", case.told)
+        ("", case.reported)
     };
     if status == case.status && out.as_str() == want_out && err.as_str() == want_err {
         return Ok(None);

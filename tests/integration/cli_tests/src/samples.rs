@@ -14,7 +14,7 @@ pub const USER_STRINGS: [u8; 105] = [
 ];
 
 /// The front of a root with 400 rows of TypeRef (II.22.38), to which their cells and a text of 7000 letters belong.
-const FRONT_OF_ROWS: [u8; 92] = [
+const PREFIX_OF_ROWS: [u8; 92] = [
     0x42, 0x53, 0x4A, 0x42, 0x01, 0x00, 0x01, 0x00, 0x00, 0x00, 0x00, 0x00, 0x0C, 0x00, 0x00, 0x00,
     0x76, 0x34, 0x2E, 0x30, 0x2E, 0x33, 0x30, 0x33, 0x31, 0x39, 0x00, 0x00, 0x00, 0x00, 0x02, 0x00,
     0x40, 0x00, 0x00, 0x00, 0x7C, 0x09, 0x00, 0x00, 0x23, 0x7E, 0x00, 0x00, 0xBC, 0x09, 0x00, 0x00,
@@ -26,7 +26,7 @@ const FRONT_OF_ROWS: [u8; 92] = [
 /// A root of 9496 bytes: 400 rows of TypeRef, whose names are the last 7000 letters of one text, the last 6999, and
 /// so on.
 pub fn many_rows(alloc: Global) -> Result<Vec<u8>, Fail> {
-    let mut root = FRONT_OF_ROWS.to_vec(alloc)?;
+    let mut root = PREFIX_OF_ROWS.to_vec(alloc)?;
     for name in 1..=400u16 {
         root.extend_from_slice(&[0, 0])?;
         root.extend_from_slice(&name.to_le_bytes())?;

@@ -23,10 +23,10 @@ fn directory(rva: u32, size: u32) -> DataDirectory {
 }
 
 #[test]
-fn reads_each_front(rt: HostRuntime) -> Result<(), Fail> {
+fn reads_each_prefix(rt: HostRuntime) -> Result<(), Fail> {
     let sample = sample_with(rt.alloc(), &[])?;
     for len in 0..=sample.len() {
-        let front = sample.get(..len).ok_or("past the end")?;
+        let prefix = sample.get(..len).ok_or("past the end")?;
         let fault = match len {
             0..=63 => Some((1, 102, 0)),
             64..=151 => Some((1, 103, 60)),
@@ -36,7 +36,7 @@ fn reads_each_front(rt: HostRuntime) -> Result<(), Fail> {
             592..=735 => Some((2, 204, 528)),
             _ => None,
         };
-        assert_eq!(rt; layer_and_fault_of(front), fault, "of {len} bytes");
+        assert_eq!(rt; layer_and_fault_of(prefix), fault, "of {len} bytes");
     }
     Ok(())
 }
@@ -60,7 +60,7 @@ fn shows_the_sample(rt: HostRuntime) -> Result<(), Fail> {
 }
 
 #[test]
-fn reads_each_field_at_its_place(rt: HostRuntime) -> Result<(), Fail> {
+fn reads_each_field_at_its_offset(rt: HostRuntime) -> Result<(), Fail> {
     let fields = [
         (0x208, b"\xFF\0\0\x80\x01\x02\x03\x04".as_slice()),
         (
@@ -79,7 +79,7 @@ fn reads_each_field_at_its_place(rt: HostRuntime) -> Result<(), Fail> {
     let file = sample_with(rt.alloc(), fields.as_slice())?;
     let header = read(file.as_slice())?;
     let expected = CliHeader {
-        place: 520,
+        offset: 520,
         cb: 0x8000_00FF,
         major_runtime_version: 0x0201,
         minor_runtime_version: 0x0403,
@@ -99,7 +99,7 @@ fn reads_each_field_at_its_place(rt: HostRuntime) -> Result<(), Fail> {
 }
 
 #[test]
-fn names_the_first_demand(rt: HostRuntime) -> Result<(), Fail> {
+fn names_the_first_rule(rt: HostRuntime) -> Result<(), Fail> {
     for (changes, fault) in [
         // Demands of the image come first.
         (
@@ -133,8 +133,8 @@ fn names_the_first_demand(rt: HostRuntime) -> Result<(), Fail> {
         ([(0x214, b"\0\0\0\0"), (0, b"MZ")], None),
     ] {
         let file = sample_with(rt.alloc(), changes.as_slice())?;
-        let (place, _) = changes[0];
-        assert_eq!(rt; layer_and_fault_of(file.as_slice()), fault, "changed at {place}");
+        let (offset, _) = changes[0];
+        assert_eq!(rt; layer_and_fault_of(file.as_slice()), fault, "changed at {offset}");
     }
     Ok(())
 }

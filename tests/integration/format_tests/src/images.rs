@@ -6,8 +6,8 @@ use std::test::Fail;
 fn file_of(alloc: Global, len: usize, parts: &[(usize, &[u8])]) -> Result<Vec<u8>, Fail> {
     let mut file = vec![in alloc; 0; len]?;
     write_at(file.as_mut_slice(), 0, &image());
-    for (place, part) in parts {
-        write_at(file.as_mut_slice(), *place, part);
+    for (offset, part) in parts {
+        write_at(file.as_mut_slice(), *offset, part);
     }
     Ok(file)
 }
@@ -22,8 +22,8 @@ pub fn sections_of(alloc: Global, sections: &[&[u8]]) -> Result<Vec<u8>, Fail> {
     let count = u8::try_from(sections.len())?;
     let mut file = file_of(alloc, 0x600, &[(0x86, &[count, 0])])?;
     for (number, section) in sections.iter().enumerate() {
-        let place = number.saturating_mul(40).saturating_add(0x184);
-        write_at(file.as_mut_slice(), place, section);
+        let offset = number.saturating_mul(40).saturating_add(0x184);
+        write_at(file.as_mut_slice(), offset, section);
     }
     Ok(file)
 }

@@ -5,7 +5,7 @@
 #[cfg(test)]
 mod cli_header;
 #[cfg(test)]
-mod filled;
+mod zero_padded;
 #[cfg(test)]
 mod heaps;
 #[cfg(test)]

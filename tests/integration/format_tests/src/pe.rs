@@ -9,10 +9,10 @@ use std::ops::Range;
 use std::test::Fail;
 
 #[test]
-fn reads_each_front(rt: HostRuntime) -> Result<(), Fail> {
+fn reads_each_prefix(rt: HostRuntime) -> Result<(), Fail> {
     let sample = sample_with(rt.alloc(), &[])?;
     for len in 0..=sample.len() {
-        let front = sample.get(..len).ok_or("past the end")?;
+        let prefix = sample.get(..len).ok_or("past the end")?;
         let fault = match len {
             0..=63 => Some((102, 0)),
             64..=151 => Some((103, 60)),
@@ -20,7 +20,7 @@ fn reads_each_front(rt: HostRuntime) -> Result<(), Fail> {
             376..=415 => Some((108, 134)),
             _ => None,
         };
-        assert_eq!(rt; fault_of(read_pe(front).err()), fault, "of {len} bytes");
+        assert_eq!(rt; fault_of(read_pe(prefix).err()), fault, "of {len} bytes");
     }
     let fault = Fault {
         layer: 1,
@@ -36,7 +36,7 @@ fn shows_the_sample(rt: HostRuntime) -> Result<(), Fail> {
     let sample = sample_with(rt.alloc(), &[])?;
     let pe = read_pe(sample.as_slice())?;
     assert_eq!(rt; pe.cli_directory(), (0x2008, 72));
-    assert_eq!(rt; pe.cli_directory_place(), 360);
+    assert_eq!(rt; pe.cli_directory_offset(), 360);
     assert_eq!(rt; pe.bytes(), sample.as_slice());
     for (rva, n, range) in [
         (0x2008, 72, Some(520..592)),
@@ -53,7 +53,7 @@ fn shows_the_sample(rt: HostRuntime) -> Result<(), Fail> {
 }
 
 #[test]
-fn names_the_first_demand(rt: HostRuntime) -> Result<(), Fail> {
+fn names_the_first_rule(rt: HostRuntime) -> Result<(), Fail> {
     for (changes, fault) in [
         // Another DOS signature; lfanew past the end, near 2^32, and at other bytes.
         ([(1, b"M".as_slice()), (1, b"M")], Some((102, 0))),
@@ -80,9 +80,9 @@ fn names_the_first_demand(rt: HostRuntime) -> Result<(), Fail> {
         ([(0x86, b"\xFF\xFF"), (0, b"MZ")], Some((108, 134))),
     ] {
         let file = sample_with(rt.alloc(), changes.as_slice())?;
-        let (place, _) = changes[0];
+        let (offset, _) = changes[0];
         let found = fault_of(read_pe(file.as_slice()).err());
-        assert_eq!(rt; found, fault, "changed at {place}");
+        assert_eq!(rt; found, fault, "changed at {offset}");
     }
     Ok(())
 }
@@ -104,7 +104,7 @@ fn finds_the_same_in_a_wider_image(rt: HostRuntime) -> Result<(), Fail> {
     )?;
     let pe = read_pe(file.as_slice())?;
     assert_eq!(rt; pe.cli_directory(), (0x2008, 72));
-    assert_eq!(rt; pe.cli_directory_place(), 376);
+    assert_eq!(rt; pe.cli_directory_offset(), 376);
     assert_eq!(rt; pe.range(0x2008, 72), Some(520..592));
     Ok(())
 }

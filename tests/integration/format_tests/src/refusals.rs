@@ -1,5 +1,5 @@
 //! Tests of `refusals`: what a model of tables is refused with, from the first demand to the last.
 
-mod demand_order;
+mod rule_order;
 mod edges;
 mod row_counts;

@@ -26,7 +26,7 @@ fn fault_of_prefix(len: usize) -> Option<Fault> {
 }
 
 #[test]
-fn reads_each_front(rt: HostRuntime) {
+fn reads_each_prefix(rt: HostRuntime) {
     for len in 0..=ONE_MODULE.len() {
         assert!(rt; len <= ONE_MODULE.len());
         assert_eq!(rt;
@@ -43,8 +43,8 @@ fn shows_the_sample(rt: HostRuntime) -> Result<(), Fail> {
     assert_eq!(rt; root.version(), "v4.0.30319");
     let mut names = String::new(rt.alloc());
     for header in root.headers() {
-        let (place, offset, size, name) = (header.place, header.offset, header.size, header.name);
-        write!(names, "{place} {offset} {size} {name};")?;
+        let (offset, offset, size, name) = (header.place, header.offset, header.size, header.name);
+        write!(names, "{offset} {offset} {size} {name};")?;
     }
     assert_eq!(rt;
         names.as_str(),
@@ -63,16 +63,16 @@ fn shows_the_sample(rt: HostRuntime) -> Result<(), Fail> {
 /// The fault of the sample with some bytes changed.
 fn fault_with(changes: &[(usize, u8)]) -> Option<(u16, u64)> {
     let mut bytes = ONE_MODULE;
-    for (place, byte) in changes {
-        if *place < 144 {
-            bytes[*place] = *byte;
+    for (offset, byte) in changes {
+        if *offset < 144 {
+            bytes[*offset] = *byte;
         }
     }
     fault_of(read_root(&bytes).err())
 }
 
 #[test]
-fn names_the_first_demand(rt: HostRuntime) {
+fn names_the_first_rule(rt: HostRuntime) {
     for (changes, fault) in [
         // Another signature, a Length that is no multiple of four, one of 0, one past the end.
         ([(3, 0x43), (3, 0x43)], Some((301, 0))),
@@ -164,8 +164,8 @@ fn lists_headers_of_other_names(rt: HostRuntime) -> Result<(), Fail> {
     let bytes = root_of(alloc, b"v\0\0\0".as_slice(), headers.as_slice())?;
     let mut names = String::new(alloc);
     for header in read_root(bytes.as_slice())?.headers() {
-        let (place, offset, size, name) = (header.place, header.offset, header.size, header.name);
-        write!(names, "{place} {offset} {size} {name};")?;
+        let (offset, offset, size, name) = (header.place, header.offset, header.size, header.name);
+        write!(names, "{offset} {offset} {size} {name};")?;
     }
     let expected =
         "24 0 0 #~;36 16 255 ;48 16 255 abcdefghijklmnopqrstuvwxyz012345;92 16 255 abcdefghijklmnopqrstuvwxyz012345;136 16 255 ab;";

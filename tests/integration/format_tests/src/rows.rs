@@ -44,7 +44,7 @@ fn cell(stream: &[u8], table: TableId, row: u32, column: usize) -> Option<(usize
 
 #[test]
 fn reads_cells_in_place(rt: HostRuntime) {
-    for (stream, table, row, column, place, number) in [
+    for (stream, table, row, column, offset, number) in [
         (MODULE.as_slice(), TableId::Module, 1, 0, 28, 0),
         (MODULE.as_slice(), TableId::Module, 1, 1, 30, 1),
         (MODULE.as_slice(), TableId::Module, 1, 2, 32, 1),
@@ -61,8 +61,8 @@ fn reads_cells_in_place(rt: HostRuntime) {
     ] {
         assert_eq!(rt;
             cell(stream, table, row, column),
-            Some((place, number)),
-            "at {place}"
+            Some((offset, number)),
+            "at {offset}"
         );
     }
 }

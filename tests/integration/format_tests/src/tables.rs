@@ -2,7 +2,7 @@
 
 mod cells;
 
-use crate::filled::row_cells;
+use crate::zero_padded::row_cells;
 use owned_model::{TableId, Tables};
 use sample_tables::Written::{self, NoGuid, NoRow, Number, Text};
 use sample_tables::{Change, cells_of, tables_with};
@@ -104,12 +104,12 @@ fn tables_are_compared_by_what_they_say(rt: HostRuntime) -> Result<(), Fail> {
     let alloc = rt.alloc();
     let whole = tables_with(alloc, &[])?;
     assert!(rt; whole == tables_with(alloc, &[])?);
-    for (place, change) in CHANGES.iter().enumerate() {
+    for (offset, change) in CHANGES.iter().enumerate() {
         let changed = tables_with(alloc, &[*change])?;
         assert!(rt; changed != whole && whole != changed, "{change:?}");
-        for (other_place, other) in CHANGES.iter().enumerate() {
+        for (other_offset, other) in CHANGES.iter().enumerate() {
             let other = tables_with(alloc, &[*other])?;
-            assert_eq!(rt; changed == other, place == other_place, "{change:?}");
+            assert_eq!(rt; changed == other, offset == other_offset, "{change:?}");
         }
     }
     // A row more, and room for one more, which nothing says.

@@ -2,7 +2,7 @@
 //! of a crate are in the module of its name; `records` has those of all crates of records.
 
 #[cfg(test)]
-mod answers;
+mod reports;
 #[cfg(test)]
 mod form;
 #[cfg(test)]

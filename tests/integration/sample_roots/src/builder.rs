@@ -27,12 +27,12 @@ pub struct RootBuilder {
 }
 
 /// A length filled to a multiple of four.
-fn filled(len: usize) -> usize {
+fn zero_padded(len: usize) -> usize {
     len.saturating_add(3) / 4 * 4
 }
 
 /// Appends bytes, filled with zeros to so many.
-fn put_filled(bytes: &mut Vec<u8>, part: &[u8], len: usize) -> Result<(), AllocError> {
+fn put_padded(bytes: &mut Vec<u8>, part: &[u8], len: usize) -> Result<(), AllocError> {
     bytes.extend_from_slice(part)?;
     for _ in part.len()..len {
         bytes.push(0)?;
@@ -48,15 +48,15 @@ fn put_u32(bytes: &mut Vec<u8>, number: usize) -> Result<(), AllocError> {
 }
 
 /// Appends a stream header.
-fn put_header(bytes: &mut Vec<u8>, place: usize, len: usize, name: &str) -> Result<(), AllocError> {
-    put_u32(bytes, place)?;
-    put_u32(bytes, filled(len))?;
-    put_filled(bytes, name.as_bytes(), name_len(name))
+fn put_header(bytes: &mut Vec<u8>, offset: usize, len: usize, name: &str) -> Result<(), AllocError> {
+    put_u32(bytes, offset)?;
+    put_u32(bytes, zero_padded(len))?;
+    put_padded(bytes, name.as_bytes(), name_len(name))
 }
 
 /// How many bytes a name takes in a stream header.
 fn name_len(name: &str) -> usize {
-    filled(name.len().saturating_add(1))
+    zero_padded(name.len().saturating_add(1))
 }
 
 impl RootBuilder {
@@ -112,45 +112,45 @@ impl RootBuilder {
     }
 
     /// The root, up to its first stream header.
-    fn front(&self) -> Result<Vec<u8>, AllocError> {
+    fn prefix(&self) -> Result<Vec<u8>, AllocError> {
         let mut bytes = Vec::from_slice(self.alloc, b"BSJB\x01\0\x01\0\0\0\0\0".as_slice())?;
         let len = name_len(self.version);
         put_u32(&mut bytes, len)?;
-        put_filled(&mut bytes, self.version.as_bytes(), len)?;
+        put_padded(&mut bytes, self.version.as_bytes(), len)?;
         let streams = self.streams.len().min(254) as u8 + 1;
         bytes.extend_from_slice([0, 0, streams, 0].as_slice())?;
         Ok(bytes)
     }
 
     /// Where the table stream begins.
-    fn tables_place(&self, front: usize) -> usize {
-        let mut place = front.saturating_add(12);
+    fn tables_offset(&self, prefix: usize) -> usize {
+        let mut offset = prefix.saturating_add(12);
         for stream in self.streams.iter() {
-            place = place
+            offset = offset
                 .saturating_add(8)
                 .saturating_add(name_len(stream.name));
         }
-        place
+        offset
     }
 
     /// The bytes of the root.
     pub fn finish(self) -> Result<Vec<u8>, AllocError> {
         let tables = self.tables()?;
-        let mut bytes = self.front()?;
-        let mut place = self.tables_place(bytes.len());
-        put_header(&mut bytes, place, tables.len(), "#~")?;
-        place = place.saturating_add(filled(tables.len()));
+        let mut bytes = self.prefix()?;
+        let mut offset = self.tables_offset(bytes.len());
+        put_header(&mut bytes, offset, tables.len(), "#~")?;
+        offset = offset.saturating_add(zero_padded(tables.len()));
         for stream in self.streams.iter() {
             let len = stream.bytes.len();
-            put_header(&mut bytes, place, len, stream.name)?;
-            place = place.saturating_add(filled(len));
+            put_header(&mut bytes, offset, len, stream.name)?;
+            offset = offset.saturating_add(zero_padded(len));
         }
-        put_filled(&mut bytes, tables.as_slice(), filled(tables.len()))?;
+        put_padded(&mut bytes, tables.as_slice(), zero_padded(tables.len()))?;
         for stream in self.streams.iter() {
-            put_filled(
+            put_padded(
                 &mut bytes,
                 stream.bytes.as_slice(),
-                filled(stream.bytes.len()),
+                zero_padded(stream.bytes.len()),
             )?;
         }
         Ok(bytes)

@@ -1,9 +1,9 @@
 use std::alloc::{AllocError, Global};
 
 /// Writes bytes over those that stand at a place; what lies behind the end is left out.
-pub fn write_at(bytes: &mut [u8], place: usize, part: &[u8]) {
+pub fn write_at(bytes: &mut [u8], offset: usize, part: &[u8]) {
     for (i, byte) in part.iter().enumerate() {
-        if let Some(slot) = bytes.get_mut(place.saturating_add(i)) {
+        if let Some(slot) = bytes.get_mut(offset.saturating_add(i)) {
             *slot = *byte;
         }
     }
@@ -11,8 +11,8 @@ pub fn write_at(bytes: &mut [u8], place: usize, part: &[u8]) {
 
 /// Writes each byte at its place.
 pub fn change(bytes: &mut [u8], changes: &[(usize, u8)]) {
-    for (place, byte) in changes {
-        write_at(bytes, *place, &[*byte]);
+    for (offset, byte) in changes {
+        write_at(bytes, *offset, &[*byte]);
     }
 }
 

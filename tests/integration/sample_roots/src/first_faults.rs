@@ -72,10 +72,10 @@ pub const NESTED_TYPE_FAULTS: [FirstFault; 2] = [
 ];
 
 /// The length of the longest front of a sample that has this fault, and the code and the place.
-pub type FrontFault = (usize, u16, u64);
+pub type PrefixFault = (usize, u16, u64);
 
 /// Of the file, whose root ends at 736.
-pub const FILE_FRONTS: [FrontFault; 6] = [
+pub const FILE_PREFIXES: [PrefixFault; 6] = [
     (63, 102, 0),
     (151, 103, 60),
     (375, 104, 148),
@@ -85,7 +85,7 @@ pub const FILE_FRONTS: [FrontFault; 6] = [
 ];
 
 /// Of the root of one module.
-pub const MODULE_FRONTS: [FrontFault; 7] = [
+pub const MODULE_PREFIXES: [PrefixFault; 7] = [
     (15, 301, 0),
     (27, 302, 12),
     (31, 303, 28),
@@ -96,7 +96,7 @@ pub const MODULE_FRONTS: [FrontFault; 7] = [
 ];
 
 /// Of the root of two types.
-pub const TWO_TYPE_FRONTS: [FrontFault; 7] = [
+pub const TWO_TYPE_PREFIXES: [PrefixFault; 7] = [
     (15, 301, 0),
     (27, 302, 12),
     (31, 303, 28),

@@ -2,7 +2,7 @@
 //!
 //! [`ONE_MODULE`], [`TWO_TYPES`], [`THREE_TYPES`], [`NO_ROWS`] and [`image`] are small and take no memory.
 //! The lists of [`FirstFault`] say by which changes of these each demand of ECMA-335 Partition II (22 to
-//! 25) is the first to fail, and those of [`FrontFault`] what their fronts are refused with.
+//! 25) is the first to fail, and those of [`PrefixFault`] what their fronts are refused with.
 //! [`RootBuilder`] lays out a root from rows and heaps, and the functions `root_of_..` lay out those that
 //! several crates ask about. [`fault_of`] is what tests compare of a fault.
 
@@ -17,8 +17,8 @@ pub use builder::{ALL_SORTED, RootBuilder};
 pub use changes::{change, changed, write_at};
 pub use faults::fault_of;
 pub use first_faults::{
-    FILE_FAULTS, FILE_FRONTS, FirstFault, FrontFault, MODULE_FAULTS, MODULE_FRONTS,
-    NESTED_TYPE_FAULTS, TWO_TYPE_FAULTS, TWO_TYPE_FRONTS,
+    FILE_FAULTS, FILE_PREFIXES, FirstFault, PrefixFault, MODULE_FAULTS, MODULE_PREFIXES,
+    NESTED_TYPE_FAULTS, TWO_TYPE_FAULTS, TWO_TYPE_PREFIXES,
 };
 pub use samples::{NAMES_APART, NAMES_SHARED, NO_ROWS, ONE_MODULE, THREE_TYPES, TWO_TYPES, image};
 pub use small_roots::{

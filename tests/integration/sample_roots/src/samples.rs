@@ -95,8 +95,8 @@ const IMAGE: [(usize, &[u8]); 14] = [
 /// The file of 1024 bytes whose root is that of one module.
 pub fn image() -> [u8; 1024] {
     let mut file = [0; 1024];
-    for (place, part) in IMAGE {
-        write_at(&mut file, place, part);
+    for (offset, part) in IMAGE {
+        write_at(&mut file, offset, part);
     }
     file
 }

@@ -96,8 +96,8 @@ pub fn root_of_long_text(alloc: Global) -> Result<Vec<u8>, AllocError> {
         root.row(0x01, &[0, 0, low, high, 0, 0])?;
     }
     let mut heap = vec![in alloc; 0]?;
-    for place in 0..7000u32 {
-        heap.push(b'a' + (place % 26) as u8)?;
+    for offset in 0..7000u32 {
+        heap.push(b'a' + (offset % 26) as u8)?;
     }
     heap.push(0)?;
     root.heap("#Strings", heap.as_slice())?;

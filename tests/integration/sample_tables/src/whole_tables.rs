@@ -286,10 +286,10 @@ fn written_by(
 }
 
 /// A cell of a row, as it is written and as a change has it.
-fn cell_by(changes: &[Change], table: TableId, row: usize, place: usize, cell: Written) -> Written {
+fn cell_by(changes: &[Change], table: TableId, row: usize, offset: usize, cell: Written) -> Written {
     for change in changes {
         if let Change::Cell(changed, at, column, other) = change {
-            if *changed == table && *at == row && *column == place {
+            if *changed == table && *at == row && *column == offset {
                 return *other;
             }
         }
@@ -306,8 +306,8 @@ fn cells_by(
     cells: &'static [Written],
 ) -> Result<Vec<Cell>, Fail> {
     let mut made = Vec::new(alloc);
-    for (place, cell) in written_by(changes, table, row, cells).iter().enumerate() {
-        let written = cell_by(changes, table, row, place, *cell);
+    for (offset, cell) in written_by(changes, table, row, cells).iter().enumerate() {
+        let written = cell_by(changes, table, row, offset, *cell);
         made.push(written.cell(alloc)?)?;
     }
     Ok(made)
@@ -319,8 +319,8 @@ pub fn tables_with(alloc: Global, changes: &[Change]) -> Result<Tables, Fail> {
     tables.set_user(Vec::from_slice(alloc, user_by(changes))?);
     for (table, rows) in WHOLE {
         if has_rows(changes, table) {
-            for (place, cells) in rows.iter().enumerate() {
-                let row = place.saturating_add(1);
+            for (offset, cells) in rows.iter().enumerate() {
+                let row = offset.saturating_add(1);
                 tables.push(table, cells_by(alloc, changes, table, row, cells)?)?;
             }
         }

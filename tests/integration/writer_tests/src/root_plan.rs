@@ -43,7 +43,7 @@ fn check(rt: &impl Abort, alloc: Global, bytes: &[u8], steps: &[Step], given: Op
 }
 
 #[test]
-fn all_or_a_front(rt: HostRuntime) {
+fn all_or_a_prefix(rt: HostRuntime) {
     let bytes = numbered::<144>();
     let one_a_call = [Step::Take(1); 144];
     let rows: [(&[Step], Option<usize>); 9] = [

@@ -37,8 +37,8 @@ impl<'a> Scripted<'a> {
     /// The step of the next call.
     fn next(&mut self) -> Step {
         match self.steps {
-            [step, rest @ ..] => {
-                self.steps = rest;
+            [step, tail @ ..] => {
+                self.steps = tail;
                 *step
             }
             [] => Step::Take(usize::MAX),
@@ -55,8 +55,8 @@ impl Write for Scripted<'_> {
         match self.next() {
             Step::Take(count) => {
                 let taken = count.min(bytes.len());
-                let (front, _) = bytes.split_at(taken);
-                self.bytes.extend_from_slice(front)?;
+                let (prefix, _) = bytes.split_at(taken);
+                self.bytes.extend_from_slice(prefix)?;
                 Ok(taken)
             }
             Step::Fail => Err(io::Error::from(ErrorKind::Other)),

@@ -74,16 +74,16 @@ fn nulls_and_signatures_are_written_as_those_of_the_model(rt: HostRuntime) -> Re
     for tag in [0, 1, 2] {
         check(&rt, alloc, &root_of_implementation(alloc, tag)?)?;
     }
-    let spelled = b"\x15\x12\x80\x05\x01\x08";
+    let encoded = b"\x15\x12\x80\x05\x01\x08";
     check(
         &rt,
         alloc,
-        &root_of_signature(alloc, TableId::TypeSpec, spelled)?,
+        &root_of_signature(alloc, TableId::TypeSpec, encoded)?,
     )
 }
 
 #[test]
-fn a_view_tells_which_tables_are_in_order(rt: HostRuntime) -> Result<(), Fail> {
+fn a_view_reports_which_tables_are_in_order(rt: HostRuntime) -> Result<(), Fail> {
     let alloc = rt.alloc();
     for attributes in [
         [OF_ASSEMBLY, OF_ASSEMBLY, OF_MODULE],
@@ -110,7 +110,7 @@ fn root_of_user_bytes(alloc: Global, len: usize) -> Result<Vec<u8>, Fail> {
 }
 
 #[test]
-fn user_strings_are_filled_with_zeros(rt: HostRuntime) -> Result<(), Fail> {
+fn user_strings_are_padded_with_zeros(rt: HostRuntime) -> Result<(), Fail> {
     let alloc = rt.alloc();
     for len in [1, 2, 3, 4, 5, 7, 8] {
         let root = root_of_user_bytes(alloc, len)?;

@@ -6,28 +6,28 @@ const COUNT: usize = 256;
 /// The places of values, by their first bytes, so that an equal one is found soon.
 #[derive(Drop)]
 pub struct Buckets {
-    places: Vec<Vec<usize>>,
+    offsets: Vec<Vec<usize>>,
 }
 
 impl Buckets {
     /// No values.
     pub fn new(alloc: Global) -> Result<Buckets, AllocError> {
-        let mut places = Vec::with_capacity(alloc, COUNT)?;
+        let mut offsets = Vec::with_capacity(alloc, COUNT)?;
         for _bucket in 0..COUNT {
-            places.push(Vec::new(alloc))?;
+            offsets.push(Vec::new(alloc))?;
         }
-        Ok(Buckets { places })
+        Ok(Buckets { offsets })
     }
 
     /// Notes the place of a value.
-    pub fn note(&mut self, value: &[u8], place: usize) -> Result<(), AllocError> {
-        self.places[bucket_of(value)].push(place)?;
+    pub fn note(&mut self, value: &[u8], offset: usize) -> Result<(), AllocError> {
+        self.offsets[bucket_of(value)].push(offset)?;
         Ok(())
     }
 
     /// The places of the values among which one stands.
     pub fn near(&self, value: &[u8]) -> &[usize] {
-        self.places[bucket_of(value)].as_slice()
+        self.offsets[bucket_of(value)].as_slice()
     }
 }
 

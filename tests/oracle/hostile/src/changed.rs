@@ -1,6 +1,6 @@
 use crate::numbers::number_at;
 use crate::random::Random;
-use crate::spelled_root::SpelledRoot;
+use crate::encoded_root::EncodedRoot;
 use std::alloc::{AllocError, Global};
 
 /// Codes of the grammar of signatures (II.23.1.16), and the first bytes of lengths.
@@ -13,50 +13,50 @@ const CODES: [u8; 32] = [
 pub fn changed(
     alloc: Global,
     random: &mut Random,
-    spelled: &SpelledRoot,
+    encoded: &EncodedRoot,
 ) -> Result<Vec<u8>, AllocError> {
-    let mut bytes = spelled.bytes.as_slice().to_vec(alloc)?;
+    let mut bytes = encoded.bytes.as_slice().to_vec(alloc)?;
     for _change in 0..random.pick(&[1, 1, 1, 1, 2, 3]) {
-        let mut places = match random.below(8) {
-            0..=1 => spelled.heads.as_slice(),
-            2..=5 => spelled.cells.as_slice(),
-            _ => spelled.values.as_slice(),
+        let mut offsets = match random.below(8) {
+            0..=1 => encoded.heads.as_slice(),
+            2..=5 => encoded.cells.as_slice(),
+            _ => encoded.values.as_slice(),
         };
-        if places.is_empty() {
-            places = spelled.heads.as_slice();
+        if offsets.is_empty() {
+            offsets = encoded.heads.as_slice();
         }
         if random.is_one_in(12) {
-            let place = random.place(bytes.len());
-            change_value(random, &mut bytes, place);
+            let offset = random.offset(bytes.len());
+            change_value(random, &mut bytes, offset);
         } else if random.is_one_in(4) {
-            let place = random.pick(places).0;
-            change_value(random, &mut bytes, place);
+            let offset = random.pick(offsets).0;
+            change_value(random, &mut bytes, offset);
         } else {
-            change_number(random, &mut bytes, places);
+            change_number(random, &mut bytes, offsets);
         }
     }
     if random.is_one_in(16) {
-        let len = random.place(bytes.len() + 1);
+        let len = random.offset(bytes.len() + 1);
         bytes.truncate(len);
     }
     Ok(bytes)
 }
 
 /// Puts another byte in place of one.
-pub fn change_value(random: &mut Random, bytes: &mut Vec<u8>, place: usize) {
+pub fn change_value(random: &mut Random, bytes: &mut Vec<u8>, offset: usize) {
     let code = random.pick(&CODES);
     let any = random.byte();
     let bit = random.below(8);
-    if let Some(byte) = bytes.get_mut(place) {
+    if let Some(byte) = bytes.get_mut(offset) {
         *byte = random.pick(&[code, code, any, *byte ^ 1 << bit, byte.wrapping_add(1)]);
     }
 }
 
 /// Puts another number in place of one of several.
-fn change_number(random: &mut Random, bytes: &mut Vec<u8>, places: &[(usize, usize)]) {
-    let (place, width) = random.pick(places);
-    let (other, other_width) = random.pick(places);
-    let before = number_at(bytes.as_slice(), place, width).unwrap_or(0);
+fn change_number(random: &mut Random, bytes: &mut Vec<u8>, offsets: &[(usize, usize)]) {
+    let (offset, width) = random.pick(offsets);
+    let (other, other_width) = random.pick(offsets);
+    let before = number_at(bytes.as_slice(), offset, width).unwrap_or(0);
     let other = number_at(bytes.as_slice(), other, other_width).unwrap_or(0);
     let number = match random.below(10) {
         0 => before.wrapping_add(1),
@@ -69,8 +69,8 @@ fn change_number(random: &mut Random, bytes: &mut Vec<u8>, places: &[(usize, usi
         7 => random.number(),
         _ => other,
     };
-    let spelled = number.to_le_bytes();
-    for (byte, new) in bytes.iter_mut().skip(place).zip(spelled[..width].iter()) {
+    let encoded = number.to_le_bytes();
+    for (byte, new) in bytes.iter_mut().skip(offset).zip(encoded[..width].iter()) {
         *byte = *new;
     }
 }

@@ -37,8 +37,8 @@ pub fn has_cells(alloc: Global, model: &Model, plain: &PlainModel) -> Result<boo
         if model.count(id) != plain.count(table) {
             return Ok(false);
         }
-        for (place, cells) in plain.rows(table).iter().enumerate() {
-            let found = model.cells(id, place as u32 + 1);
+        for (offset, cells) in plain.rows(table).iter().enumerate() {
+            let found = model.cells(id, offset as u32 + 1);
             if found.len() != cells.len() {
                 return Ok(false);
             }
@@ -71,12 +71,12 @@ fn says(alloc: Global, cell: &Cell, expected: &PlainCell) -> Result<bool, Stop> 
 /// Whether a view shows what it ought to.
 pub fn shows_cells(alloc: Global, view: &View, plain: &PlainModel) -> Result<bool, Stop> {
     let user = view.user();
-    let (same, fill) = plain
+    let (same, padding) = plain
         .user
         .as_slice()
         .split_at(user.len().min(plain.user.len()));
-    let is_filled = user == same && fill.len() < 4 && fill.iter().all(|byte| *byte == 0);
-    if view.version().as_bytes() != plain.version.as_slice() || !is_filled {
+    let is_padded = user == same && padding.len() < 4 && padding.iter().all(|byte| *byte == 0);
+    if view.version().as_bytes() != plain.version.as_slice() || !is_padded {
         return Ok(false);
     }
     for table in TABLES {
@@ -84,9 +84,9 @@ pub fn shows_cells(alloc: Global, view: &View, plain: &PlainModel) -> Result<boo
         if view.count(id) != plain.count(table) {
             return Ok(false);
         }
-        for (place, cells) in plain.rows(table).iter().enumerate() {
+        for (offset, cells) in plain.rows(table).iter().enumerate() {
             for (column, expected) in cells.iter().enumerate() {
-                if !shows(alloc, view.cell(id, place as u32 + 1, column), expected)? {
+                if !shows(alloc, view.cell(id, offset as u32 + 1, column), expected)? {
                     return Ok(false);
                 }
             }

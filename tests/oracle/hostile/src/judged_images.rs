@@ -78,16 +78,16 @@ fn has_fields(header: &CliHeader, plain: &PlainHeader, file: &[u8]) -> bool {
         (64, &header.managed_native_header),
     ];
     let has_directories = directories.iter().all(|(at, directory)| {
-        number_at(file, plain.place + at, 4) == Some(directory.rva)
-            && number_at(file, plain.place + at + 4, 4) == Some(directory.size)
+        number_at(file, plain.offset + at, 4) == Some(directory.rva)
+            && number_at(file, plain.offset + at + 4, 4) == Some(directory.size)
     });
     let versions = (header.major_runtime_version, header.minor_runtime_version);
-    header.place == plain.place
+    header.place == plain.offset
         && header.root == (plain.root..plain.root + plain.len)
-        && number_at(file, plain.place, 4) == Some(header.cb)
-        && number_at(file, plain.place + 4, 2) == Some(u32::from(versions.0))
-        && number_at(file, plain.place + 6, 2) == Some(u32::from(versions.1))
-        && number_at(file, plain.place + 16, 4) == Some(header.flags)
-        && number_at(file, plain.place + 20, 4) == Some(header.entry_point_token)
+        && number_at(file, plain.offset, 4) == Some(header.cb)
+        && number_at(file, plain.offset + 4, 2) == Some(u32::from(versions.0))
+        && number_at(file, plain.offset + 6, 2) == Some(u32::from(versions.1))
+        && number_at(file, plain.offset + 16, 4) == Some(header.flags)
+        && number_at(file, plain.offset + 20, 4) == Some(header.entry_point_token)
         && has_directories
 }

@@ -201,10 +201,10 @@ fn judge_keys(
     for _sample in 0..SAMPLES {
         let token = sought(alloc, random, plain, table)?;
         let mut expected = Vec::new(alloc);
-        for (place, cells) in plain.rows(table).iter().enumerate() {
+        for (offset, cells) in plain.rows(table).iter().enumerate() {
             let key = key_row(cells.as_slice(), table);
             if token.row > 0 && key == Some((token.table.number(), token.row)) {
-                expected.push(place as u32 + 1)?;
+                expected.push(offset as u32 + 1)?;
             }
         }
         let of_model = model.by_key(id, token);
@@ -236,7 +236,7 @@ fn sought(
 ) -> Result<Token, Stop> {
     let rows = plain.rows(table);
     if !rows.is_empty() && !random.is_one_in(4) {
-        let cells = &rows[random.place(rows.len())];
+        let cells = &rows[random.offset(rows.len())];
         if let Some((table, row)) = key_row(cells.as_slice(), table) {
             return Ok(Token {
                 table: table_id(alloc, table)?,

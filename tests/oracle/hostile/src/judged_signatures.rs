@@ -33,11 +33,11 @@ pub fn judge_signatures(alloc: Global, random: &mut Random, tally: &mut Tally) -
         }
     }
     for _change in 0..random.pick(&[0, 1, 1, 2]) {
-        let place = random.place(blob.len());
-        change_value(random, &mut blob, place);
+        let offset = random.offset(blob.len());
+        change_value(random, &mut blob, offset);
     }
     match random.below(12) {
-        0 => blob.truncate(random.place(blob.len())),
+        0 => blob.truncate(random.offset(blob.len())),
         1 => blob.push(random.byte())?,
         _ => {}
     }

@@ -5,7 +5,7 @@ use crate::made_signatures::made_signature;
 use crate::plain_model::{PlainCell, PlainModel};
 use crate::plain_refusal::{PlainRefusal, refusal_of};
 use crate::random::Random;
-use crate::spelled_root::spelled_root;
+use crate::encoded_root::encoded_root;
 use crate::standard::{Kind, NESTED_CLASS, RUNS, TABLES, Table, columns};
 use model::Model;
 use std::alloc::{AllocError, Global};
@@ -72,7 +72,7 @@ fn change_tables(
             let table = any_table(random, plain);
             let count = plain.rows(table).len();
             if count > 0 {
-                let row = random.place(count);
+                let row = random.offset(count);
                 change_row(alloc, random, plain, table, row)?;
             }
         }
@@ -106,7 +106,7 @@ pub fn broken_root(
             _ => change_reference(random, &mut plain, table),
         }
     }
-    Ok(spelled_root(alloc, random, &plain)?.bytes)
+    Ok(encoded_root(alloc, random, &plain)?.bytes)
 }
 
 /// Changes the row that a cell of a table names.
@@ -115,9 +115,9 @@ fn change_reference(random: &mut Random, plain: &mut PlainModel, table: Table) {
     if rows.is_empty() {
         return;
     }
-    let place = random.place(rows.len());
+    let offset = random.offset(rows.len());
     let near = random.below(6);
-    for cell in rows[place].iter_mut() {
+    for cell in rows[offset].iter_mut() {
         if let PlainCell::Row(Some((_, row))) = cell {
             if random.is_one_in(2) {
                 *row = random.pick(&[near, row.saturating_add(1), row.saturating_sub(1)]);
@@ -143,7 +143,7 @@ fn change_start(random: &mut Random, plain: &mut PlainModel, owner: Table, colum
     if rows.is_empty() {
         return;
     }
-    let row = random.place(rows.len());
+    let row = random.offset(rows.len());
     if let Some(PlainCell::Start(start)) = rows[row].get_mut(column) {
         let any = random.below(8);
         *start = random.pick(&[0, any, start.saturating_add(1), start.saturating_sub(1)]);
@@ -174,10 +174,10 @@ fn change_row(
     if cells.is_empty() {
         return Ok(());
     }
-    let place = random.place(cells.len());
+    let offset = random.offset(cells.len());
     let kind = random.pick(kinds);
-    let made = other_cell(alloc, random, &cells[place], kind)?;
-    cells[place] = made;
+    let made = other_cell(alloc, random, &cells[offset], kind)?;
+    cells[offset] = made;
     Ok(())
 }
 

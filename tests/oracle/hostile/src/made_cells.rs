@@ -153,7 +153,7 @@ impl CellMaker {
     /// A row of a table that a coded index names and that has rows; else null.
     fn coded(&mut self, coded: Coded) -> PlainCell {
         let tables = listed(coded);
-        let first = self.random.place(tables.len());
+        let first = self.random.offset(tables.len());
         for step in 0..tables.len() {
             if let Some(table) = tables[(first + step) % tables.len()] {
                 if self.counts[table as usize] > 0 {

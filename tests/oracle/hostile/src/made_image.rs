@@ -1,6 +1,6 @@
 use crate::plain_model::PlainModel;
 use crate::random::Random;
-use crate::spelled_root::SpelledRoot;
+use crate::encoded_root::EncodedRoot;
 use crate::standard::{FILE, METHOD_DEF};
 use std::alloc::{AllocError, Global};
 
@@ -9,7 +9,7 @@ use std::alloc::{AllocError, Global};
 struct Section {
     address: u32,
     len: u32,
-    place: u32,
+    offset: u32,
 }
 
 /// A file around a root: its headers stand anywhere, the CLI header and the root in one section or in two, and there
@@ -18,9 +18,9 @@ pub fn made_image(
     alloc: Global,
     random: &mut Random,
     model: &PlainModel,
-    root: &SpelledRoot,
-) -> Result<SpelledRoot, AllocError> {
-    let mut image = SpelledRoot {
+    root: &EncodedRoot,
+) -> Result<EncodedRoot, AllocError> {
+    let mut image = EncodedRoot {
         bytes: Vec::new(alloc),
         heads: Vec::new(alloc),
         cells: Vec::new(alloc),
@@ -71,39 +71,39 @@ fn sections_of(random: &mut Random, count: u32, header: u32, start: u32, end: u3
     let mut whole = Section {
         address,
         len,
-        place: header,
+        offset: header,
     };
     let mut sections = [whole; 5];
     let mut next = 0;
     if random.is_one_in(2) {
         // It ends within the header.
         sections[0].len = random.below(72);
-        sections[0].place = 0;
+        sections[0].offset = 0;
         next = 1;
     }
     if random.is_one_in(2) && next + 1 < count as usize {
         // The header has a section of its own.
         sections[next].len = 72 + random.below(start - header - 71);
-        sections[next].place = header;
+        sections[next].offset = header;
         whole.address = address + len;
-        whole.place = start;
+        whole.offset = start;
         whole.len = end - start;
         next += 1;
     }
     sections[next] = whole;
     for other in &mut sections[next + 1..] {
-        other.place = random.below(end);
+        other.offset = random.below(end);
         other.len = 0xFFFF;
     }
     sections
 }
 
 /// The address of bytes at a place of the file, by the first section that holds them there.
-fn address_of(sections: &[Section], place: u32, len: u32) -> u32 {
+fn address_of(sections: &[Section], offset: u32, len: u32) -> u32 {
     for section in sections {
-        let is_held = section.place <= place && place + len <= section.place + section.len;
-        if is_held && section.place >= 64 {
-            return section.address + place - section.place;
+        let is_held = section.offset <= offset && offset + len <= section.offset + section.len;
+        if is_held && section.offset >= 64 {
+            return section.address + offset - section.offset;
         }
     }
     0
@@ -125,28 +125,28 @@ fn entry_of(random: &mut Random, model: &PlainModel) -> (u32, u32) {
     }
 }
 
-impl SpelledRoot {
+impl EncodedRoot {
     /// Puts bytes at a place.
-    fn put(&mut self, place: u32, part: &[u8]) {
-        for (byte, new) in self.bytes.iter_mut().skip(place as usize).zip(part.iter()) {
+    fn put(&mut self, offset: u32, part: &[u8]) {
+        for (byte, new) in self.bytes.iter_mut().skip(offset as usize).zip(part.iter()) {
             *byte = *new;
         }
     }
 
     /// Puts a number at a place that means something.
-    fn put_head(&mut self, place: u32, number: u32, width: usize) -> Result<(), AllocError> {
-        self.put(place, &number.to_le_bytes()[..width]);
-        self.heads.push((place as usize, width))?;
+    fn put_head(&mut self, offset: u32, number: u32, width: usize) -> Result<(), AllocError> {
+        self.put(offset, &number.to_le_bytes()[..width]);
+        self.heads.push((offset as usize, width))?;
         Ok(())
     }
 
-    fn put_sections(&mut self, place: u32, sections: &[Section]) -> Result<(), AllocError> {
-        let mut place = place;
+    fn put_sections(&mut self, offset: u32, sections: &[Section]) -> Result<(), AllocError> {
+        let mut offset = offset;
         for section in sections {
-            self.put_head(place + 12, section.address, 4)?;
-            self.put_head(place + 16, section.len, 4)?;
-            self.put_head(place + 20, section.place, 4)?;
-            place += 40;
+            self.put_head(offset + 12, section.address, 4)?;
+            self.put_head(offset + 16, section.len, 4)?;
+            self.put_head(offset + 20, section.offset, 4)?;
+            offset += 40;
         }
         Ok(())
     }
@@ -156,12 +156,12 @@ impl SpelledRoot {
         &mut self,
         random: &mut Random,
         start: usize,
-        root: &SpelledRoot,
+        root: &EncodedRoot,
     ) -> Result<(), AllocError> {
-        for places in [&root.heads, &root.cells, &root.values] {
-            if !places.is_empty() {
-                let (place, width) = random.pick(places.as_slice());
-                self.heads.push((start + place, width))?;
+        for offsets in [&root.heads, &root.cells, &root.values] {
+            if !offsets.is_empty() {
+                let (offset, width) = random.pick(offsets.as_slice());
+                self.heads.push((start + offset, width))?;
             }
         }
         Ok(())

@@ -102,7 +102,7 @@ impl Maker {
 
     /// An index of a type, of which there are some: often the first or the last of its table.
     fn index(&mut self) -> Result<(), AllocError> {
-        let mut tag = self.random.place(3);
+        let mut tag = self.random.offset(3);
         while self.types[tag] == 0 {
             tag = (tag + 1) % 3;
         }

@@ -29,9 +29,9 @@ mod plain_signatures;
 mod plain_tables;
 mod plain_writer;
 mod random;
-mod spelled_heap;
-mod spelled_root;
-mod spelled_tables;
+mod encoded_heap;
+mod encoded_root;
+mod encoded_tables;
 mod standard;
 
 use crate::changed::changed;
@@ -43,7 +43,7 @@ use crate::made_image::made_image;
 use crate::made_model::{Shape, made_model};
 use crate::plain_model::PlainModel;
 use crate::random::Random;
-use crate::spelled_root::{SpelledRoot, spelled_root};
+use crate::encoded_root::{EncodedRoot, encoded_root};
 use std::alloc::Global;
 use std::env;
 use std::process::ExitCode;
@@ -53,7 +53,7 @@ use std::time::Instant;
 const CASES: u64 = 12;
 
 /// How many bytes of a case that fails are told at most.
-const TOLD: usize = 4096;
+const REPORTED: usize = 4096;
 
 /// How many cases that fail are told.
 const FAILURES: u64 = 20;
@@ -82,7 +82,7 @@ fn main(rt: HostRuntime) -> ExitCode {
             Ok(Some(failed)) => {
                 failures += 1;
                 if failures <= FAILURES {
-                    tell(&rt, seed, case, &failed);
+                    report(&rt, seed, case, &failed);
                 }
             }
             Err(_) => {
@@ -110,12 +110,12 @@ fn words(rt: &HostRuntime) -> [Option<u64>; 3] {
     numbers
 }
 
-fn tell(rt: &HostRuntime, seed: u64, case: u64, failed: &Failed) {
+fn report(rt: &HostRuntime, seed: u64, case: u64, failed: &Failed) {
     let promise = failed.promise.as_str();
     let round = failed.round;
     let len = failed.bytes.len();
     let _ = println!(rt; "seed {seed} case {case} round {round}, {len} bytes: {promise}");
-    if len <= TOLD {
+    if len <= REPORTED {
         for byte in failed.bytes.iter() {
             let _ = print!(rt; "{byte:02x}");
         }
@@ -148,7 +148,7 @@ fn try_case(
     let mut random = Random::new(seed, case);
     let shape = shape_of(case);
     let model = made_model(alloc, &mut random, shape)?;
-    let root = spelled_root(alloc, &mut random, &model)?;
+    let root = encoded_root(alloc, &mut random, &model)?;
     let image = made_image(alloc, &mut random, &model, &root)?;
     let rounds = match shape {
         Shape::Sparse | Shape::Full => 24,
@@ -176,7 +176,7 @@ fn try_round(
     alloc: Global,
     random: &mut Random,
     round: u32,
-    made: (&PlainModel, &SpelledRoot, &SpelledRoot),
+    made: (&PlainModel, &EncodedRoot, &EncodedRoot),
     tally: &mut Tally,
 ) -> Result<(Vec<u8>, Result<(), Stop>), Stop> {
     let (model, root, image) = made;

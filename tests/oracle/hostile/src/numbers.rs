@@ -1,8 +1,8 @@
 use std::alloc::{AllocError, Global};
 
 /// The number of so many bytes at a place, the low byte first (II.24.2); `None` past the end.
-pub fn number_at(bytes: &[u8], place: usize, width: usize) -> Option<u32> {
-    let part = bytes.get(place..place.checked_add(width)?)?;
+pub fn number_at(bytes: &[u8], offset: usize, width: usize) -> Option<u32> {
+    let part = bytes.get(offset..offset.checked_add(width)?)?;
     let mut number = 0u32;
     for byte in part.iter().rev() {
         number = number << 8 | u32::from(*byte);
@@ -16,14 +16,14 @@ pub fn put_number(bytes: &mut Vec<u8>, number: u32, width: usize) -> Result<(), 
 }
 
 /// The packed number at a place and how many bytes it takes (II.23.2); `None` where there is none.
-pub fn packed_at(bytes: &[u8], place: usize) -> Option<(u32, usize)> {
-    let (width, mask) = match *bytes.get(place)? {
+pub fn packed_at(bytes: &[u8], offset: usize) -> Option<(u32, usize)> {
+    let (width, mask) = match *bytes.get(offset)? {
         0..=0x7F => (1, 0x7F),
         0x80..=0xBF => (2, 0x3FFF),
         0xC0..=0xDF => (4, 0x1FFF_FFFF),
         _ => return None,
     };
-    let part = bytes.get(place..place.checked_add(width)?)?;
+    let part = bytes.get(offset..offset.checked_add(width)?)?;
     let mut number = 0u32;
     for byte in part {
         number = number << 8 | u32::from(*byte);
@@ -89,7 +89,7 @@ pub fn signed_width(number: i64) -> usize {
 }
 
 /// A copy of bytes, filled with zeros to a multiple of four.
-pub fn filled(alloc: Global, bytes: &[u8]) -> Result<Vec<u8>, AllocError> {
+pub fn zero_padded(alloc: Global, bytes: &[u8]) -> Result<Vec<u8>, AllocError> {
     let mut copy = bytes.to_vec(alloc)?;
     while copy.len() % 4 != 0 {
         copy.push(0)?;

@@ -10,14 +10,14 @@ use std::alloc::Global;
 /// Where a CLI header stands, and where the root lies that it names and how many bytes it has.
 #[derive(Clone, Copy, Debug, PartialEq, Eq)]
 pub struct PlainHeader {
-    pub place: usize,
+    pub offset: usize,
     pub root: usize,
     pub len: usize,
 }
 
 /// A field of a header, which is there.
-fn field(file: &[u8], place: usize, width: usize) -> usize {
-    number_at(file, place, width).unwrap_or(0) as usize
+fn field(file: &[u8], offset: usize, width: usize) -> usize {
+    number_at(file, offset, width).unwrap_or(0) as usize
 }
 
 /// The header and the model of a file, or the first demand that fails.
@@ -56,17 +56,17 @@ pub fn read_plain_header(file: &[u8]) -> Result<PlainHeader, Refused> {
     if rva == 0 || size == 0 {
         return Err(Refused::Fault(201, directory));
     }
-    let header = place_of(file, pe, rva, 72);
-    let Some(place) = header.filter(|_| size >= 72) else {
+    let header = offset_of(file, pe, rva, 72);
+    let Some(offset) = header.filter(|_| size >= 72) else {
         return Err(Refused::Fault(202, directory));
     };
-    if field(file, place, 4) < 72 {
-        return Err(Refused::Fault(203, place));
+    if field(file, offset, 4) < 72 {
+        return Err(Refused::Fault(203, offset));
     }
-    let (rva, len) = (field(file, place + 8, 4), field(file, place + 12, 4));
-    match place_of(file, pe, rva, len) {
-        Some(root) => Ok(PlainHeader { place, root, len }),
-        None => Err(Refused::Fault(204, place + 8)),
+    let (rva, len) = (field(file, offset + 8, 4), field(file, offset + 12, 4));
+    match offset_of(file, pe, rva, len) {
+        Some(root) => Ok(PlainHeader { offset, root, len }),
+        None => Err(Refused::Fault(204, offset + 8)),
     }
 }
 
@@ -99,15 +99,15 @@ fn read_pe_header(file: &[u8]) -> Result<(usize, usize), Refused> {
 }
 
 /// Where so many bytes at an address stand: in the first section that has them all.
-fn place_of(file: &[u8], pe: usize, rva: usize, len: usize) -> Option<usize> {
+fn offset_of(file: &[u8], pe: usize, rva: usize, len: usize) -> Option<usize> {
     let first = pe + 24 + field(file, pe + 20, 2);
     for section in 0..field(file, pe + 6, 2) {
         let header = first + 40 * section;
         let address = field(file, header + 12, 4);
         let size = field(file, header + 16, 4);
         if address <= rva && rva + len <= address + size {
-            let place = field(file, header + 20, 4) + rva - address;
-            return Some(place).filter(|place| place + len <= file.len());
+            let offset = field(file, header + 20, 4) + rva - address;
+            return Some(offset).filter(|offset| offset + len <= file.len());
         }
     }
     None

@@ -46,8 +46,8 @@ impl PlainModel {
     }
 
     /// A cell, by its row, counted from 1, and its place.
-    pub fn cell(&self, table: Table, row: u32, place: usize) -> &PlainCell {
-        &self.rows(table)[row as usize - 1][place]
+    pub fn cell(&self, table: Table, row: u32, offset: usize) -> &PlainCell {
+        &self.rows(table)[row as usize - 1][offset]
     }
 
     /// A copy.

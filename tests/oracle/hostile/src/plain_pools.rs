@@ -26,7 +26,7 @@ impl<'m> Pool<'m> {
 
     /// Notes a value that is used.
     fn note(&mut self, value: &'m [u8]) -> Result<(), AllocError> {
-        if !value.is_empty() && self.place_of(value).is_none() {
+        if !value.is_empty() && self.offset_of(value).is_none() {
             self.buckets.note(value, self.values.len())?;
             self.values.push(value)?;
         }
@@ -35,13 +35,13 @@ impl<'m> Pool<'m> {
 
     /// The index of a value; 0 of the empty one.
     pub fn index(&self, value: &[u8]) -> u32 {
-        self.place_of(value).map_or(0, |place| self.indexes[place])
+        self.offset_of(value).map_or(0, |offset| self.indexes[offset])
     }
 
-    fn place_of(&self, value: &[u8]) -> Option<usize> {
-        for place in self.buckets.near(value) {
-            if self.values[*place] == value {
-                return Some(*place);
+    fn offset_of(&self, value: &[u8]) -> Option<usize> {
+        for offset in self.buckets.near(value) {
+            if self.values[*offset] == value {
+                return Some(*offset);
             }
         }
         None
@@ -62,9 +62,9 @@ impl<'m> Pool<'m> {
         }
         for (text, own) in self.values.iter().zip(holders.iter()) {
             let mut index = *own;
-            for (other, place) in self.values.iter().zip(holders.iter()) {
+            for (other, offset) in self.values.iter().zip(holders.iter()) {
                 if ends_longer(other, text) && self.is_holder(other) {
-                    index = place + (other.len() - text.len()) as u32;
+                    index = offset + (other.len() - text.len()) as u32;
                     break;
                 }
             }

@@ -1,7 +1,7 @@
 //! Reads a root as the standard tells it, plainly: each demand in its turn, over all rows, with no thought of
 //! time. It shares no code with the library.
 
-use crate::numbers::{filled, packed_at};
+use crate::numbers::{zero_padded, packed_at};
 use crate::plain_model::{PlainCell, PlainModel};
 use crate::plain_root::{PlainRoot, Refused, read_plain_root};
 use crate::plain_signatures::{Unspelled, respelled};
@@ -28,7 +28,7 @@ pub fn read_plain(alloc: Global, bytes: &[u8]) -> Result<PlainModel, Refused> {
     reader.check_order()?;
     reader.check_runs(&model)?;
     reader.check_nesting()?;
-    reader.spell_signatures(&mut model)?;
+    reader.encode_signatures(&mut model)?;
     Ok(model)
 }
 
@@ -50,7 +50,7 @@ impl Reader<'_> {
         row: u32,
         column: usize,
     ) -> Result<T, Refused> {
-        Err(Refused::Fault(code, self.layout.place(table, row, column)))
+        Err(Refused::Fault(code, self.layout.offset(table, row, column)))
     }
 
     fn number(&self, table: Table, row: u32, column: usize) -> u32 {
@@ -65,7 +65,7 @@ impl Reader<'_> {
     fn cells(&self) -> Result<PlainModel, Refused> {
         let mut model = PlainModel {
             version: self.root.version.to_vec(self.alloc)?,
-            user: filled(self.alloc, self.root.stream(self.bytes, 2))?,
+            user: zero_padded(self.alloc, self.root.stream(self.bytes, 2))?,
             tables: Vec::new(self.alloc),
         };
         for table in 0..45 {
@@ -118,14 +118,14 @@ impl Reader<'_> {
             return Ok(PlainCell::Text(Vec::new(self.alloc)));
         }
         let heap = self.root.stream(self.bytes, 1);
-        let rest = heap.get(index as usize..).unwrap_or(&[]);
-        let Some(len) = rest.iter().position(|byte| *byte == 0) else {
+        let tail = heap.get(index as usize..).unwrap_or(&[]);
+        let Some(len) = tail.iter().position(|byte| *byte == 0) else {
             return Err(Refused::Fault(501, 0));
         };
-        if str::from_utf8(&rest[..len]).is_err() {
+        if str::from_utf8(&tail[..len]).is_err() {
             return Err(Refused::Fault(502, 0));
         }
-        Ok(PlainCell::Text(rest[..len].to_vec(self.alloc)?))
+        Ok(PlainCell::Text(tail[..len].to_vec(self.alloc)?))
     }
 
     fn blob(&self, index: u32) -> Result<&[u8], Refused> {
@@ -146,8 +146,8 @@ impl Reader<'_> {
             return Ok(PlainCell::Guid(None));
         }
         let heap = self.root.stream(self.bytes, 3);
-        let place = (index as usize - 1) * 16;
-        let Some(part) = heap.get(place..place + 16) else {
+        let offset = (index as usize - 1) * 16;
+        let Some(part) = heap.get(offset..offset + 16) else {
             return Err(Refused::Fault(504, 0));
         };
         let mut guid = [0; 16];
@@ -236,16 +236,16 @@ impl Reader<'_> {
     }
 
     /// Puts the shortest spelling of each signature in place of its blob.
-    fn spell_signatures(&self, model: &mut PlainModel) -> Result<(), Refused> {
+    fn encode_signatures(&self, model: &mut PlainModel) -> Result<(), Refused> {
         for table in TABLES {
             for (column, kind) in columns(table).iter().enumerate() {
                 let Kind::Signature(kind) = kind else {
                     continue;
                 };
-                for (place, cells) in model.tables[table as usize].iter_mut().enumerate() {
-                    let row = place as u32 + 1;
+                for (offset, cells) in model.tables[table as usize].iter_mut().enumerate() {
+                    let row = offset as u32 + 1;
                     if let PlainCell::Signature(_, blob) = &mut cells[column] {
-                        match spelled_again(
+                        match encoded_again(
                             self.alloc,
                             blob.as_slice(),
                             *kind,
@@ -266,7 +266,7 @@ impl Reader<'_> {
 }
 
 /// The shortest spelling of a signature whose types have rows; else the code of the demand that fails.
-pub fn spelled_again(
+pub fn encoded_again(
     alloc: Global,
     blob: &[u8],
     kind: SigKind,

@@ -1,7 +1,7 @@
 //! What is wrong with tables, by the rules of a valid model, plainly. It shares no code with the library.
 
 use crate::plain_model::{PlainCell, PlainModel};
-use crate::plain_reader::spelled_again;
+use crate::plain_reader::encoded_again;
 use crate::plain_root::Refused;
 use crate::plain_signatures::respelled;
 use crate::standard::{CONSTANT, Counts, Kind, NESTED_CLASS, RUNS, TABLES, Table, columns, listed};
@@ -54,8 +54,8 @@ fn cell_kinds(table: Table) -> &'static [Kind] {
 /// The first cell that is none of its column, or names what is not there.
 fn bad_cell(model: &PlainModel, counts: &Counts) -> Option<At> {
     for table in TABLES {
-        for (place, cells) in model.rows(table).iter().enumerate() {
-            let row = place as u32 + 1;
+        for (offset, cells) in model.rows(table).iter().enumerate() {
+            let row = offset as u32 + 1;
             if cells.len() != cell_kinds(table).len() {
                 return Some((509, table, row, 0));
             }
@@ -141,16 +141,16 @@ fn bad_nesting(model: &PlainModel) -> Option<At> {
 /// The first signature that its column does not take, or that names a type that is not there.
 fn bad_signature(alloc: Global, model: &PlainModel, counts: &Counts) -> Option<At> {
     for table in TABLES {
-        for (place, cells) in model.rows(table).iter().enumerate() {
+        for (offset, cells) in model.rows(table).iter().enumerate() {
             for (column, (cell, kind)) in cells.iter().zip(cell_kinds(table)).enumerate() {
                 let (PlainCell::Signature(made, bytes), Kind::Signature(kind)) = (cell, kind) else {
                     continue;
                 };
-                let row = place as u32 + 1;
+                let row = offset as u32 + 1;
                 if !is_taken(alloc, bytes.as_slice(), *made, *kind) {
                     return Some((701, table, row, column));
                 }
-                if let Err(Refused::Fault(code, _)) = spelled_again(
+                if let Err(Refused::Fault(code, _)) = encoded_again(
                     alloc,
                     bytes.as_slice(),
                     *made,

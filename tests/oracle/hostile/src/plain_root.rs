@@ -38,7 +38,7 @@ impl PlainRoot<'_> {
     /// What a stream holds: nothing where there is none.
     pub fn stream<'b>(&self, bytes: &'b [u8], stream: usize) -> &'b [u8] {
         match self.streams[stream] {
-            Some((place, len)) => &bytes[place..place + len],
+            Some((offset, len)) => &bytes[offset..offset + len],
             None => &[],
         }
     }
@@ -76,23 +76,23 @@ fn read_headers(bytes: &[u8], flags: usize) -> Result<[Option<(usize, usize)>; 5
         return Err(Refused::Fault(303, flags));
     };
     let mut streams = [None; 5];
-    let mut place = flags + 4;
+    let mut offset = flags + 4;
     for _header in 0..count {
-        let Some(header) = header_at(bytes, place) else {
-            return Err(Refused::Fault(304, place));
+        let Some(header) = header_at(bytes, offset) else {
+            return Err(Refused::Fault(304, offset));
         };
         if let Some(stream) = STREAMS.iter().position(|name| *name == header.name) {
             if header.offset + header.size > bytes.len() {
-                return Err(Refused::Fault(305, place));
+                return Err(Refused::Fault(305, offset));
             }
             if streams[stream].is_some() {
-                return Err(Refused::Fault(306, place));
+                return Err(Refused::Fault(306, offset));
             }
             streams[stream] = Some((header.offset, header.size));
         } else if header.name == b"#-".as_slice() {
-            return Err(Refused::Fault(307, place));
+            return Err(Refused::Fault(307, offset));
         }
-        place = header.end;
+        offset = header.end;
     }
     if streams[0].is_none() {
         return Err(Refused::Fault(308, flags + 2));
@@ -109,12 +109,12 @@ struct Header<'a> {
     end: usize,
 }
 
-fn header_at(bytes: &[u8], place: usize) -> Option<Header<'_>> {
-    let offset = number_at(bytes, place, 4)? as usize;
-    let size = number_at(bytes, place + 4, 4)? as usize;
-    let rest = bytes.get(place + 8..)?;
-    let name = &rest[..rest.iter().position(|byte| *byte == 0)?];
-    let end = place + 8 + (name.len() / 4 + 1) * 4;
+fn header_at(bytes: &[u8], offset: usize) -> Option<Header<'_>> {
+    let offset = number_at(bytes, offset, 4)? as usize;
+    let size = number_at(bytes, offset + 4, 4)? as usize;
+    let tail = bytes.get(offset + 8..)?;
+    let name = &tail[..tail.iter().position(|byte| *byte == 0)?];
+    let end = offset + 8 + (name.len() / 4 + 1) * 4;
     if name.len() > 32 || name.iter().any(|byte| *byte > 0x7F) || end > bytes.len() {
         return None;
     }

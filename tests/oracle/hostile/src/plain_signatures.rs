@@ -30,7 +30,7 @@ impl<T: Drop> From<AllocFailed<T>> for Unspelled {
 
 /// A signature that was spelled again.
 #[derive(Debug, Drop)]
-pub struct Spelling {
+pub struct Encoding {
     /// The bytes.
     pub bytes: Vec<u8>,
     /// The types that it names, in their order.
@@ -44,19 +44,19 @@ pub fn respelled(
     blob: &[u8],
     kind: SigKind,
     forms: Option<Random>,
-) -> Result<Spelling, Unspelled> {
+) -> Result<Encoding, Unspelled> {
     let mut walk = Walk {
         blob,
-        place: 0,
+        offset: 0,
         bytes: Vec::new(alloc),
         indexes: Vec::new(alloc),
         forms,
     };
     walk.signature(kind)?;
-    if walk.place < blob.len() {
+    if walk.offset < blob.len() {
         return Err(Unspelled::Bad);
     }
-    Ok(Spelling {
+    Ok(Encoding {
         bytes: walk.bytes,
         indexes: walk.indexes,
     })
@@ -66,7 +66,7 @@ pub fn respelled(
 #[derive(Drop)]
 struct Walk<'a> {
     blob: &'a [u8],
-    place: usize,
+    offset: usize,
     bytes: Vec<u8>,
     indexes: Vec<(Table, u32)>,
     forms: Option<Random>,
@@ -75,14 +75,14 @@ struct Walk<'a> {
 impl Walk<'_> {
     /// The next byte, where it stands.
     fn next(&self) -> Option<u8> {
-        self.blob.get(self.place).copied()
+        self.blob.get(self.offset).copied()
     }
 
     /// Goes past a byte.
     fn code(&mut self) -> Result<u8, Unspelled> {
         let byte = self.next().ok_or(Unspelled::Bad)?;
         self.bytes.push(byte)?;
-        self.place += 1;
+        self.offset += 1;
         Ok(byte)
     }
 
@@ -117,19 +117,19 @@ impl Walk<'_> {
     }
 
     fn number(&mut self) -> Result<u32, Unspelled> {
-        let (number, width) = packed_at(self.blob, self.place).ok_or(Unspelled::Bad)?;
+        let (number, width) = packed_at(self.blob, self.offset).ok_or(Unspelled::Bad)?;
         let form = self.form(packed_width(number));
         put_packed(&mut self.bytes, number, form)?;
-        self.place += width;
+        self.offset += width;
         Ok(number)
     }
 
     fn signed(&mut self) -> Result<(), Unspelled> {
-        let (number, width) = packed_at(self.blob, self.place).ok_or(Unspelled::Bad)?;
+        let (number, width) = packed_at(self.blob, self.offset).ok_or(Unspelled::Bad)?;
         let number = signed_of(number, width);
         let form = self.form(signed_width(number));
         put_packed(&mut self.bytes, unsigned_of(number, form), form)?;
-        self.place += width;
+        self.offset += width;
         Ok(())
     }
 

@@ -15,7 +15,7 @@ pub struct PlainLayout {
 
 impl PlainLayout {
     /// Where a cell stands, by its row, counted from 1.
-    pub fn place(&self, table: Table, row: u32, column: usize) -> usize {
+    pub fn offset(&self, table: Table, row: u32, column: usize) -> usize {
         let offsets = &self.offsets[table as usize];
         let len = offsets[columns(table).len()];
         self.first[table as usize] + (row as usize - 1) * len + offsets[column]
@@ -25,13 +25,13 @@ impl PlainLayout {
     pub fn number(&self, bytes: &[u8], table: Table, row: u32, column: usize) -> u32 {
         let offsets = &self.offsets[table as usize];
         let width = offsets[column + 1] - offsets[column];
-        number_at(bytes, self.place(table, row, column), width).unwrap_or(0)
+        number_at(bytes, self.offset(table, row, column), width).unwrap_or(0)
     }
 }
 
 /// Whether a bit of eight bytes at a place is set.
-fn is_set(bytes: &[u8], place: usize, bit: usize) -> bool {
-    bytes[place + bit / 8] >> (bit % 8) & 1 == 1
+fn is_set(bytes: &[u8], offset: usize, bit: usize) -> bool {
+    bytes[offset + bit / 8] >> (bit % 8) & 1 == 1
 }
 
 /// Reads the head of the table stream that lies here in a root.
@@ -70,18 +70,18 @@ fn read_counts(bytes: &[u8], stream: usize) -> Result<(Counts, usize), Refused> 
         return Err(Refused::Fault(405, stream + 24));
     }
     let mut counts = [0; 45];
-    let mut place = 24;
+    let mut offset = 24;
     for table in TABLES {
         if is_set(bytes, 8, table as usize) {
-            let count = number_at(bytes, place, 4).unwrap_or(0);
+            let count = number_at(bytes, offset, 4).unwrap_or(0);
             if count > 0xFF_FFFF {
-                return Err(Refused::Fault(406, stream + place));
+                return Err(Refused::Fault(406, stream + offset));
             }
             counts[table as usize] = count;
-            place += 4;
+            offset += 4;
         }
     }
-    Ok((counts, place))
+    Ok((counts, offset))
 }
 
 /// Where the cells of tables of these counts stand, the first of them here.
@@ -92,7 +92,7 @@ fn laid_out(bytes: &[u8], counts: Counts, first: usize) -> PlainLayout {
         first: [first; 45],
         offsets: [[0; 10]; 45],
     };
-    let mut place = first;
+    let mut offset = first;
     for table in TABLES {
         let number = table as usize;
         let mut offset = 0;
@@ -100,9 +100,9 @@ fn laid_out(bytes: &[u8], counts: Counts, first: usize) -> PlainLayout {
             offset += width(&counts, bytes[6], *kind);
             layout.offsets[number][column + 1] = offset;
         }
-        layout.first[number] = place;
+        layout.first[number] = offset;
         layout.sorted[number] = is_set(bytes, 16, number);
-        place += offset * counts[number] as usize;
+        offset += offset * counts[number] as usize;
     }
     layout
 }

@@ -1,6 +1,6 @@
 //! Writes the canonical root of a model, plainly (II.24.2). It shares no code with the library.
 
-use crate::numbers::{filled, put_number};
+use crate::numbers::{zero_padded, put_number};
 use crate::plain_model::{PlainCell, PlainModel};
 use crate::plain_pools::{Pools, pools_of};
 use crate::plain_root::STREAMS;
@@ -12,18 +12,18 @@ pub fn write_plain(alloc: Global, model: &PlainModel) -> Result<Vec<u8>, AllocEr
     let pools = pools_of(alloc, model)?;
     let tables = tables_of(alloc, model, &pools)?;
     let contents = [
-        filled(alloc, tables.as_slice())?,
-        filled(alloc, pools.texts.bytes.as_slice())?,
-        filled(alloc, model.user.as_slice())?,
-        filled(alloc, pools.guids.bytes.as_slice())?,
-        filled(alloc, pools.blobs.bytes.as_slice())?,
+        zero_padded(alloc, tables.as_slice())?,
+        zero_padded(alloc, pools.texts.bytes.as_slice())?,
+        zero_padded(alloc, model.user.as_slice())?,
+        zero_padded(alloc, pools.guids.bytes.as_slice())?,
+        zero_padded(alloc, pools.blobs.bytes.as_slice())?,
     ];
     let mut streams = 0;
-    let mut place = 20 + (model.version.len() / 4 + 1) * 4;
+    let mut offset = 20 + (model.version.len() / 4 + 1) * 4;
     for (content, name) in contents.iter().zip(STREAMS.iter()) {
         if !content.is_empty() {
             streams += 1;
-            place += 8 + (name.len() / 4 + 1) * 4;
+            offset += 8 + (name.len() / 4 + 1) * 4;
         }
     }
     let mut bytes = b"BSJB\x01\0\x01\0\0\0\0\0".to_vec(alloc)?;
@@ -32,10 +32,10 @@ pub fn write_plain(alloc: Global, model: &PlainModel) -> Result<Vec<u8>, AllocEr
     put_number(&mut bytes, streams, 2)?;
     for (content, name) in contents.iter().zip(STREAMS.iter()) {
         if !content.is_empty() {
-            put_number(&mut bytes, place as u32, 4)?;
+            put_number(&mut bytes, offset as u32, 4)?;
             put_number(&mut bytes, content.len() as u32, 4)?;
             put_name(&mut bytes, name)?;
-            place += content.len();
+            offset += content.len();
         }
     }
     for content in contents.iter() {
@@ -47,7 +47,7 @@ pub fn write_plain(alloc: Global, model: &PlainModel) -> Result<Vec<u8>, AllocEr
 /// Writes a name, a NUL and zeros to a multiple of four.
 fn put_name(bytes: &mut Vec<u8>, name: &[u8]) -> Result<(), AllocError> {
     bytes.extend_from_slice(name)?;
-    for _fill in 0..4 - name.len() % 4 {
+    for _padding in 0..4 - name.len() % 4 {
         bytes.push(0)?;
     }
     Ok(())
@@ -152,11 +152,11 @@ pub fn number_of_row(named: Option<(Table, u32)>, kind: Kind) -> u32 {
 /// The row that a row of a keyed table has as its key.
 pub fn key_row(cells: &[PlainCell], table: Table) -> Option<(Table, u32)> {
     let column = key_column(table)?;
-    let mut place = column;
+    let mut offset = column;
     if columns(table)[..column].contains(&Kind::Padding) {
-        place -= 1;
+        offset -= 1;
     }
-    match cells.get(place) {
+    match cells.get(offset) {
         Some(PlainCell::Row(named)) => *named,
         _ => None,
     }

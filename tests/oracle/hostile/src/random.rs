@@ -38,7 +38,7 @@ impl Random {
     }
 
     /// A place below a length, which is not 0.
-    pub fn place(&mut self, len: usize) -> usize {
+    pub fn offset(&mut self, len: usize) -> usize {
         self.below(u32::try_from(len).unwrap_or(u32::MAX)) as usize
     }
 
@@ -54,6 +54,6 @@ impl Random {
 
     /// One of some values, of which there are some.
     pub fn pick<T: Copy>(&mut self, values: &[T]) -> T {
-        values[self.place(values.len())]
+        values[self.offset(values.len())]
     }
 }

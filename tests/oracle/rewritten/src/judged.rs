@@ -47,9 +47,9 @@ fn judge_changed(alloc: Global, bytes: &[u8], is_root: bool) -> Result<(), &'sta
             judge_model(alloc, &model)?;
         }
     }
-    for place in 0..bytes.len() {
+    for offset in 0..bytes.len() {
         for byte in [0, 0xFF] {
-            let changed = with_byte(alloc, bytes, place, byte).map_err(|_| "out of memory")?;
+            let changed = with_byte(alloc, bytes, offset, byte).map_err(|_| "out of memory")?;
             if let Some(model) = loaded(alloc, &changed, is_root) {
                 judge_model(alloc, &model)?;
             }
@@ -59,9 +59,9 @@ fn judge_changed(alloc: Global, bytes: &[u8], is_root: bool) -> Result<(), &'sta
 }
 
 /// The bytes, with another one at a place.
-fn with_byte(alloc: Global, bytes: &[u8], place: usize, byte: u8) -> Result<Vec<u8>, AllocError> {
+fn with_byte(alloc: Global, bytes: &[u8], offset: usize, byte: u8) -> Result<Vec<u8>, AllocError> {
     let mut changed = bytes.to_vec(alloc)?;
-    changed[place] = byte;
+    changed[offset] = byte;
     Ok(changed)
 }
 

@@ -1,18 +1,18 @@
 use loading::{LoadError, load_image, load_root};
 use sample_roots::{
-    FILE_FAULTS, FILE_FRONTS, FirstFault, FrontFault, MODULE_FAULTS, MODULE_FRONTS,
-    NESTED_TYPE_FAULTS, ONE_MODULE, THREE_TYPES, TWO_TYPE_FAULTS, TWO_TYPE_FRONTS, TWO_TYPES,
+    FILE_FAULTS, FILE_PREFIXES, FirstFault, PrefixFault, MODULE_FAULTS, MODULE_PREFIXES,
+    NESTED_TYPE_FAULTS, ONE_MODULE, THREE_TYPES, TWO_TYPE_FAULTS, TWO_TYPE_PREFIXES, TWO_TYPES,
     change, image,
 };
 use std::alloc::Global;
 
 /// How many loads told the fault that they have to tell, and how many did not.
-type Told = (u32, u32);
+type Reported = (u32, u32);
 
 /// Counts one load more.
-fn counted(told: Told, is_told: bool) -> Told {
-    let (passed, failed) = told;
-    if is_told {
+fn counted(reported: Reported, is_reported: bool) -> Reported {
+    let (passed, failed) = reported;
+    if is_reported {
         (passed + 1, failed)
     } else {
         (passed, failed + 1)
@@ -20,7 +20,7 @@ fn counted(told: Told, is_told: bool) -> Told {
 }
 
 /// What both have told.
-fn both(one: Told, other: Told) -> Told {
+fn both(one: Reported, other: Reported) -> Reported {
     (one.0 + other.0, one.1 + other.1)
 }
 
@@ -33,52 +33,52 @@ fn is_refused<T: Drop>(answer: Result<T, LoadError>, code: u16, offset: u64) -> 
 }
 
 /// Loads a root with each of these changes.
-fn of_changes<const N: usize>(alloc: Global, root: &[u8; N], faults: &[FirstFault]) -> Told {
-    let mut told = (0, 0);
+fn of_changes<const N: usize>(alloc: Global, root: &[u8; N], faults: &[FirstFault]) -> Reported {
+    let mut reported = (0, 0);
     for (changes, code, offset, _) in faults {
         let mut bytes = *root;
         change(&mut bytes, changes);
-        told = counted(told, is_refused(load_root(alloc, &bytes), *code, *offset));
+        reported = counted(reported, is_refused(load_root(alloc, &bytes), *code, *offset));
     }
-    told
+    reported
 }
 
 /// Loads the file with each of its changes.
-fn of_changed_files(alloc: Global) -> Told {
-    let mut told = (0, 0);
+fn of_changed_files(alloc: Global) -> Reported {
+    let mut reported = (0, 0);
     for (changes, code, offset, _) in FILE_FAULTS {
         let mut file = image();
         change(&mut file, changes);
-        told = counted(told, is_refused(load_image(alloc, &file), code, offset));
+        reported = counted(reported, is_refused(load_image(alloc, &file), code, offset));
     }
-    told
+    reported
 }
 
 /// Loads the longest front of a root with each fault.
-fn of_fronts(alloc: Global, root: &[u8], fronts: &[FrontFault]) -> Told {
-    fronts.iter().fold((0, 0), |told, (len, code, offset)| {
+fn of_prefixes(alloc: Global, root: &[u8], prefixes: &[PrefixFault]) -> Reported {
+    prefixes.iter().fold((0, 0), |reported, (len, code, offset)| {
         counted(
-            told,
+            reported,
             is_refused(load_root(alloc, &root[..*len]), *code, *offset),
         )
     })
 }
 
 /// Loads the longest front of the file with each fault.
-fn of_file_fronts(alloc: Global) -> Told {
+fn of_file_prefixes(alloc: Global) -> Reported {
     let file = image();
-    FILE_FRONTS
+    FILE_PREFIXES
         .iter()
-        .fold((0, 0), |told, (len, code, offset)| {
+        .fold((0, 0), |reported, (len, code, offset)| {
             counted(
-                told,
+                reported,
                 is_refused(load_image(alloc, &file[..*len]), *code, *offset),
             )
         })
 }
 
 /// Loads whatever is refused.
-pub fn count_told(alloc: Global) -> Told {
+pub fn count_reported(alloc: Global) -> Reported {
     let empty = counted((0, 0), is_refused(load_root(alloc, &[]), 301, 0));
     [
         counted(empty, is_refused(load_image(alloc, b"MZ"), 102, 0)),
@@ -86,10 +86,10 @@ pub fn count_told(alloc: Global) -> Told {
         of_changes(alloc, &TWO_TYPES, &TWO_TYPE_FAULTS),
         of_changes(alloc, &THREE_TYPES, &NESTED_TYPE_FAULTS),
         of_changed_files(alloc),
-        of_fronts(alloc, &ONE_MODULE, &MODULE_FRONTS),
-        of_fronts(alloc, &TWO_TYPES, &TWO_TYPE_FRONTS),
-        of_file_fronts(alloc),
+        of_prefixes(alloc, &ONE_MODULE, &MODULE_PREFIXES),
+        of_prefixes(alloc, &TWO_TYPES, &TWO_TYPE_PREFIXES),
+        of_file_prefixes(alloc),
     ]
     .iter()
-    .fold((0, 0), |sum, told| both(sum, *told))
+    .fold((0, 0), |sum, reported| both(sum, *reported))
 }

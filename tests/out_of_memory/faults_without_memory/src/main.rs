@@ -6,7 +6,7 @@ mod faults;
 use std::process::ExitCode;
 
 fn main(rt: HostRuntime) -> ExitCode {
-    let (passed, failed) = faults::count_told(rt.alloc());
+    let (passed, failed) = faults::count_reported(rt.alloc());
     let _ = println!(rt; "{passed} passed, {failed} failed");
     ExitCode::from(u8::from(failed != 0))
 }

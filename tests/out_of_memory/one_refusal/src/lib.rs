@@ -25,11 +25,11 @@ fn numbers_in(rt: &HostRuntime) -> [u32; 2] {
     let mut text = [0u8; 16];
     let len = rt.reader().read(&mut text).unwrap_or(0);
     let mut numbers = [0, 0];
-    let mut place = 0;
+    let mut offset = 0;
     for byte in text.iter().take(len) {
         match *byte {
-            b' ' => place = 1,
-            b'0'..=b'9' => numbers[place] = numbers[place] * 10 + u32::from(*byte - b'0'),
+            b' ' => offset = 1,
+            b'0'..=b'9' => numbers[offset] = numbers[offset] * 10 + u32::from(*byte - b'0'),
             _ => {}
         }
     }
@@ -44,7 +44,7 @@ fn allocate(alloc: Global, count: u32) {
 }
 
 /// Tells how a run ended: whether memory was refused, or which promise was broken.
-pub fn told(rt: &HostRuntime, run: &Run, answer: Result<(), Stop>) -> ExitCode {
+pub fn reported(rt: &HostRuntime, run: &Run, answer: Result<(), Stop>) -> ExitCode {
     match answer {
         Ok(()) => {
             let memory = if run.was_refused() {

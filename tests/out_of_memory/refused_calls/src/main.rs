@@ -6,7 +6,7 @@ mod loaded_models;
 mod record_cells;
 mod written;
 
-use one_refusal::{Run, Stop, started, told};
+use one_refusal::{Run, Stop, started, reported};
 use sample_roots::{NAMES_APART, NAMES_SHARED, ONE_MODULE, TWO_TYPES};
 use std::process::ExitCode;
 
@@ -18,7 +18,7 @@ fn main(rt: HostRuntime) -> ExitCode {
         Err(Stop::Memory) => run.again(calls_of(&run, section)),
         answer => answer,
     };
-    told(&rt, &run, answer)
+    reported(&rt, &run, answer)
 }
 
 /// Makes the calls of a section, and goes on where they keep their promises.

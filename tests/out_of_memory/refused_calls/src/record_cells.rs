@@ -12,7 +12,7 @@ use schema::{ColumnKind, SigKind, columns};
 use signatures::decode;
 
 /// A blob that spells a signature in each kind of column.
-fn spelled(kind: SigKind) -> &'static [u8] {
+fn encoded(kind: SigKind) -> &'static [u8] {
     match kind {
         SigKind::Field | SigKind::MemberRef => b"\x06\x1D\x08",
         SigKind::MethodDef => b"\0\x01\x01\x0E",
@@ -35,7 +35,7 @@ fn cell_of(run: &Run, kind: ColumnKind) -> Result<Option<Cell>, Stop> {
             Some(Cell::Bytes(Bytes::from(blob)))
         }
         ColumnKind::Signature(column) => {
-            Some(Cell::Sig(decode(run.alloc, spelled(column), column)?))
+            Some(Cell::Sig(decode(run.alloc, encoded(column), column)?))
         }
         ColumnKind::Row(table) => Some(Cell::Ref(Some(Token { table, row: 1 }))),
         ColumnKind::Coded(_) => Some(Cell::Ref(None)),

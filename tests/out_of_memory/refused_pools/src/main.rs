@@ -7,7 +7,7 @@ mod pools;
 mod signature_blobs;
 mod signature_calls;
 
-use one_refusal::{Run, Stop, started, told};
+use one_refusal::{Run, Stop, started, reported};
 use std::process::ExitCode;
 
 /// Makes the calls of a section, and once more where the program's own buffers had no memory: they have it then,
@@ -18,13 +18,13 @@ fn main(rt: HostRuntime) -> ExitCode {
         Err(Stop::Memory) => run.again(calls_of(&run, section)),
         answer => answer,
     };
-    told(&rt, &run, answer)
+    reported(&rt, &run, answer)
 }
 
 /// Makes the calls of a section, and goes on where they keep their promises.
 fn calls_of(run: &Run, section: u32) -> Result<(), Stop> {
     match section {
-        1 => numbers::spelled(run),
+        1 => numbers::encoded(run),
         2 => pools::texts(run),
         3 => pools::blobs(run),
         4 => pools::guids(run),
@@ -32,7 +32,7 @@ fn calls_of(run: &Run, section: u32) -> Result<(), Stop> {
         6 => pools::guid(run),
         7 => module_row::module_behind_a_byte(run),
         8 => signature_calls::all_bad(run),
-        9 => signature_calls::all_spelled(run),
+        9 => signature_calls::all_encoded(run),
         _ => Err(Stop::Broken("there is such a section")),
     }
 }

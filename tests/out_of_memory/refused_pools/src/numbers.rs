@@ -2,7 +2,7 @@ use one_refusal::{Run, Stop, kept};
 use packed::{put_signed, put_unsigned};
 
 /// What the spellings of the numbers below are, one after another.
-const SPELLED: [u8; 18] = [
+const ENCODED: [u8; 18] = [
     0x05, 0x80, 0x80, 0xC0, 0x00, 0x40, 0x00, 0x06, 0x7B, 0x80, 0x80, 0x80, 0x01, 0xC0, 0x00, 0x00,
     0x01, 0x00,
 ];
@@ -28,7 +28,7 @@ fn signed(run: &Run, bytes: &mut Vec<u8>, number: i32) -> Result<(), Stop> {
 }
 
 /// That the spellings of some numbers are those, each put again where memory was refused.
-pub fn spelled(run: &Run) -> Result<(), Stop> {
+pub fn encoded(run: &Run) -> Result<(), Stop> {
     let mut bytes = Vec::new(run.alloc);
     unsigned(run, &mut bytes, 5)?;
     unsigned(run, &mut bytes, 0x80)?;
@@ -40,7 +40,7 @@ pub fn spelled(run: &Run) -> Result<(), Stop> {
     signed(run, &mut bytes, -268_435_456)?;
     signed(run, &mut bytes, 0)?;
     kept(
-        bytes.as_slice() == SPELLED.as_slice(),
+        bytes.as_slice() == ENCODED.as_slice(),
         "the spellings are those",
     )
 }

@@ -40,7 +40,7 @@ const NULL: Option<Option<Token>> = Some(Some(Token {
 }));
 
 /// Signatures of each form (II.23.2), each in its shortest spelling.
-pub const SPELLED: [SignatureBlob<'static>; 21] = [
+pub const ENCODED: [SignatureBlob<'static>; 21] = [
     // A field of an integer; and one of a reference, behind a modifier, to a vector, behind another.
     SignatureBlob {
         kind: SigKind::Field,

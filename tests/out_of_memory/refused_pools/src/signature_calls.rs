@@ -1,7 +1,7 @@
-use crate::signature_blobs::{BAD, LONGER, SHORTENED, SPELLED, SignatureBlob};
+use crate::signature_blobs::{BAD, LONGER, SHORTENED, ENCODED, SignatureBlob};
 use one_refusal::{Run, Stop, kept};
 use signatures::{
-    SigError, Signature, decode, encode, recognise, recognise_first_bad, shortest_spelling,
+    SigError, Signature, decode, encode, recognise, recognise_first_bad, canonical_encoding,
 };
 
 /// The signature of a blob, decoded again where memory was refused.
@@ -41,10 +41,10 @@ fn encoded(run: &Run, signature: &Signature, twin: &Signature) -> Result<Vec<u8>
 
 /// The shortest spelling of the signature of a blob, asked for again where memory was refused.
 fn shortened(run: &Run, blob: SignatureBlob, bytes: &[u8]) -> Result<Vec<u8>, Stop> {
-    match shortest_spelling(run.alloc, bytes, blob.kind) {
+    match canonical_encoding(run.alloc, bytes, blob.kind) {
         Err(SigError::Memory) => {
             kept(bytes == blob.bytes, "a refused spelling leaves its bytes")?;
-            run.again(shortest_spelling(run.alloc, bytes, blob.kind))
+            run.again(canonical_encoding(run.alloc, bytes, blob.kind))
         }
         answer => Ok(answer?),
     }
@@ -63,25 +63,25 @@ fn recognised(blob: SignatureBlob, bytes: &[u8]) -> Result<(), Stop> {
 }
 
 /// That the spelling of a copy of the signature of a blob is the shortest one.
-fn spelled(run: &Run, blob: SignatureBlob, short: &[u8]) -> Result<(), Stop> {
+fn encoded(run: &Run, blob: SignatureBlob, short: &[u8]) -> Result<(), Stop> {
     let bytes = Vec::from_slice(run.alloc, blob.bytes)?;
     let signature = decoded(run, blob, &bytes)?;
     recognised(blob, &bytes)?;
     let twin = decoded(run, blob, &bytes)?;
     kept(signature == twin, "what is decoded twice is equal")?;
     let copy = copied(run, &signature, &twin)?;
-    let spelling = encoded(run, &copy, &twin)?;
-    kept(spelling.as_slice() == short, "the spelling is the shortest")?;
-    let spelling = shortened(run, blob, &bytes)?;
-    kept(spelling.as_slice() == short, "bytes are spelled the shortest way")
+    let encoding = encoded(run, &copy, &twin)?;
+    kept(encoding.as_slice() == short, "the spelling is the shortest")?;
+    let encoding = shortened(run, blob, &bytes)?;
+    kept(encoding.as_slice() == short, "bytes are spelled the shortest way")
 }
 
 /// That signatures are spelled as they were, each decoded, copied and encoded again where memory was refused.
-pub fn all_spelled(run: &Run) -> Result<(), Stop> {
-    for blob in SPELLED {
-        spelled(run, blob, blob.bytes)?;
+pub fn all_encoded(run: &Run) -> Result<(), Stop> {
+    for blob in ENCODED {
+        encoded(run, blob, blob.bytes)?;
     }
-    spelled(run, LONGER, &SHORTENED)
+    encoded(run, LONGER, &SHORTENED)
 }
 
 /// That a blob which spells nothing is bad, whatever memory is refused.
@@ -92,7 +92,7 @@ fn bad(run: &Run, blob: SignatureBlob) -> Result<(), Stop> {
         Err(SigError::Bad) => {}
     }
     kept(
-        shortest_spelling(run.alloc, blob.bytes, blob.kind) == Err(SigError::Bad),
+        canonical_encoding(run.alloc, blob.bytes, blob.kind) == Err(SigError::Bad),
         "what spells nothing has no shortest spelling",
     )?;
     recognised(blob, blob.bytes)

@@ -3,8 +3,8 @@ use Rattle.metadata.specs.Model.{IsModel}
 use Rattle.canonical.specs.Canonical.{canonical}
 use Rattle.canonical.proofs.laws.canonical_root_is_one.Goals as goal
 
-pub returns-clause-only : goal.returns-clause-only
-returns-clause-only c = λ model other valid small is.
+pub returns-clause-unique : goal.returns-clause-unique
+returns-clause-unique c = λ model other valid small is.
     c.roots_have_models.ensures.one (canonical model) model other (c.canonical_root_has_its_model.ensures model valid small) is
 
 pub returns-clause-apart : goal.returns-clause-apart

@@ -1,10 +1,10 @@
 use Rattle.std.proofs.Common.{◌≡◌}
-use Rattle.packed.specs.Demand.{HoldBefore}
-use Rattle.metadata.specs.Demands.{demands_of_table_at}
+use Rattle.packed.specs.Rule.{HoldBefore}
+use Rattle.metadata.specs.Rules.{rules_of_table_at}
 use Rattle.checks.proofs.cell_checks.check_cells.Given as goal
 
-abbrev pub invariant-loop-position : goal.invariant-loop-position
-invariant-loop-position l = record {
+abbrev pub invariant-loop-table_index : goal.invariant-loop-table_index
+invariant-loop-table_index l = record {
   texts : l.texts ≡ l.source.source.texts;
-  hold : HoldBefore (demands_of_table_at l.source) 0 l.position;
+  hold : HoldBefore (rules_of_table_at l.source) 0 l.table_index;
 }

@@ -1,7 +1,7 @@
 use Rattle.std.proofs.Common.{arith}
 use Rattle.std.proofs.lemmas.Result.{err_from_is_err_and}
-use Rattle.packed.proofs.DemandLemmas.{before_more, before_all, before_fails}
-use Rattle.metadata.specs.Demands.{demands_of_table}
+use Rattle.packed.proofs.RuleLemmas.{before_more, before_all, before_fails}
+use Rattle.metadata.specs.Rules.{rules_of_table}
 use Rattle.checks.proofs.cell_checks.check_rows.Goals as goal
 
 pub loop-row-init : goal.loop-row-init
@@ -11,11 +11,11 @@ pub loop-row-preserved : goal.loop-row-preserved
 loop-row-preserved c = before_more _ _ _ c.loop-row.invariant c.in_ok-check_row.ensures
 
 pub returns-in_err-check_row : goal.returns-in_err-check_row
-unfolding demands_of_table
+unfolding rules_of_table
 returns-in_err-check_row c =
     let p = err_from_is_err_and c.from_residual.result c.from_residual.ensures.1 in
     rw (p.1, p.2) (before_fails _ _ _ _ _ c.loop-row.invariant (omega arith) (omega arith) c.in_err-check_row.ensures)
 
 pub returns : goal.returns
-unfolding demands_of_table
+unfolding rules_of_table
 returns c = before_all _ _ _ _ c.loop-row.invariant (omega arith)

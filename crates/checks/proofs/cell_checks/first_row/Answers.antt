@@ -1,6 +1,6 @@
 use Rattle.std.proofs.Common.{List, length, ap, ◌∙◌, arith}
 use Rattle.table_schema.specs.declared.column.Column.{Column}
-use Rattle.metadata.specs.Demands.{demands_of_cell}
+use Rattle.metadata.specs.Rules.{rules_of_cell}
 use Rattle.checks.proofs.Columns.{meets_more, rows_stand}
 use Rattle.checks.proofs.cell_checks.first_row.Goals as goal
 
@@ -9,7 +9,7 @@ loop-column-preserved c = record {
   texts = c.first_in_column-limit.ensures.texts ∙ c.loop-column.invariant.texts;
   first = c.first_in_column-limit.ensures.first;
   last = omega (arith, c.first_in_column-limit.ensures.last, c.loop-column.invariant.last);
-  stand = meets_more (demands_of_cell c.args.source.now c.args.table) c.loop-column.limit c.first_in_column-limit.result c.loop-column.column
+  stand = meets_more (rules_of_cell c.args.source.now c.args.table) c.loop-column.limit c.first_in_column-limit.result c.loop-column.column
       c.first_in_column-limit.ensures.last c.loop-column.invariant.stand c.first_in_column-limit.ensures.stands;
 }
 

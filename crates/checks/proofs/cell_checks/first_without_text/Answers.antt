@@ -11,7 +11,7 @@ loop-row-preserved c =
     let source = c.args.source.now.source in
     let P : ℕ → Type 0 = λ number. IsChecked source kind.Text false number (Ok tt) in
     let here : P c.number.result = text_passed source.texts c.number.result c.check.result
-    (rw (c.loop-row.invariant.texts, c.requires.texts) at c.check.ensures.answers)
+    (rw (c.loop-row.invariant.texts, c.requires.texts) at c.check.ensures.reports)
     (sym c.is_err.ensures.value ∙ c.if-is_err.false) in
     record {
       texts = c.check.ensures.heap ∙ c.loop-row.invariant.texts;

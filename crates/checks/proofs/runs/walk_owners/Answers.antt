@@ -1,7 +1,7 @@
 use Rattle.std.proofs.Common.{ℕ, ◌≡◌, ◌+◌, ◌-◌, sym, ◌∙◌, ap, arith}
-use Rattle.packed.proofs.DemandLemmas.{none_from}
+use Rattle.packed.proofs.RuleLemmas.{none_from}
 use Rattle.metadata.specs.Starts.{start_of}
-use Rattle.metadata.specs.Demands.{demands_of_start}
+use Rattle.metadata.specs.Rules.{rules_of_start}
 use Rattle.reading.specs.KnownStarts.{IsKnown}
 use Rattle.checks.proofs.Starts.{start_of_end, falls_step}
 use Rattle.checks.proofs.runs.walk_owners.Goals as goal
@@ -17,7 +17,7 @@ loop-row-init c =
           (omega (arith, c.count-count.ensures.value)));
       room = c.new-known.ensures.room;
       known = c.new-known.ensures.none (λ r. start_of here.source c.args.owner r c.args.column c.args.member);
-      falls = none_from (demands_of_start here c.args.owner c.args.column c.args.member) (count + 2) (count - (count + 1)) (omega arith);
+      falls = none_from (rules_of_start here c.args.owner c.args.column c.args.member) (count + 2) (count - (count + 1)) (omega arith);
       within = tt;
     }
 

@@ -1,8 +1,8 @@
 use Rattle.std.proofs.Common.{◌≡◌, ◌-◌, ◌+◌, ◌*◌, ◌≤◌, ◌<◌}
 use Rattle.std.specs.Prelude.{IfSome}
-use Rattle.packed.specs.Demand.{demands_from}
+use Rattle.packed.specs.Rule.{rules_from}
 use Rattle.metadata.specs.Starts.{start_of}
-use Rattle.metadata.specs.Demands.{demands_of_start}
+use Rattle.metadata.specs.Rules.{rules_of_start}
 use Rattle.reading.specs.KnownStarts.{IsKnown}
 use Rattle.checks.specs.Runs.{IsVerdict, fault_in_row}
 use Rattle.checks.proofs.runs.walk_owners.Given as goal
@@ -11,7 +11,7 @@ abbrev pub invariant-loop-row : goal.invariant-loop-row
 invariant-loop-row l = record {
   row : l.row ≤ l.count;
   first : l.first ≡ start_of l.source.source l.owner (l.row + 1) l.column l.fn.member;
-  falls : IsVerdict (demands_from (demands_of_start l.source l.owner l.column l.fn.member) (l.row + 2) (l.count - (l.row + 1)))
+  falls : IsVerdict (rules_from (rules_of_start l.source l.owner l.column l.fn.member) (l.row + 2) (l.count - (l.row + 1)))
       (fault_in_row l.source l.owner l.column l.falls);
   room : l.count < 256 * l.known.step;
   known : IsKnown l.known (λ row. start_of l.source.source l.owner row l.column l.fn.member) (l.row + 1) l.count;

@@ -1,6 +1,6 @@
-use Rattle.packed.specs.Demand.{HoldBefore}
-use Rattle.metadata.specs.Demands.{demands_of_signatures_in}
+use Rattle.packed.specs.Rule.{HoldBefore}
+use Rattle.metadata.specs.Rules.{rules_of_signatures_in}
 use Rattle.checks.proofs.signature_checks.check_signature_rows.Given as goal
 
 abbrev pub invariant-loop-row : goal.invariant-loop-row
-invariant-loop-row l = HoldBefore (demands_of_signatures_in l.source l.table) 1 l.row
+invariant-loop-row l = HoldBefore (rules_of_signatures_in l.source l.table) 1 l.row

@@ -1,7 +1,7 @@
-use Rattle.packed.proofs.DemandLemmas.{before_none, before_more, before_all}
+use Rattle.packed.proofs.RuleLemmas.{before_none, before_more, before_all}
 use Rattle.std.proofs.Common.{◌≡◌, List, get_or, ap, arith}
 use Rattle.std.proofs.lemmas.Result.{err_from_is_err_and}
-use Rattle.metadata.specs.Demands.{demands_of_signatures_at, demands_of_signatures}
+use Rattle.metadata.specs.Rules.{rules_of_signatures_at, rules_of_signatures}
 use Rattle.table_schema.specs.declared.table.TableId.{TableId}
 use Rattle.table_schema.specs.declared.table.TableId.TheVariants.{Module}
 use Rattle.metadata.specs.Rows.{table_at}
@@ -12,37 +12,37 @@ use Rattle.checks.proofs.Spending.{part_spent, parts_none}
 use Rattle.checks.proofs.Within.{parts_fail}
 use Rattle.checks.proofs.signature_checks.check_signatures.Goals as goal
 
-pub loop-position-init : goal.loop-position-init
-loop-position-init c = record {
-  hold = before_none (demands_of_signatures_at c.args.source.now) 0 0 (omega arith);
+pub loop-table_index-init : goal.loop-table_index-init
+loop-table_index-init c = record {
+  hold = before_none (rules_of_signatures_at c.args.source.now) 0 0 (omega arith);
   spends = parts_none (table_bytes_at c.args.source.now.source) c.args.budget;
 }
 
-pub loop-position-preserved : goal.loop-position-preserved
-unfolding demands_of_signatures_at table_bytes_at
-loop-position-preserved c =
+pub loop-table_index-preserved : goal.loop-table_index-preserved
+unfolding rules_of_signatures_at table_bytes_at
+loop-table_index-preserved c =
     let here = c.args.source.now in
-    let position = c.loop-position.position in
-    let listed : get_or c.all-tables.result.now position Module ≡ table_at position = ap (λ (l : List TableId). get_or l position Module) c.all-tables.ensures.value in
+    let table_index = c.loop-table_index.table_index in
+    let listed : get_or c.all-tables.result.now table_index Module ≡ table_at table_index = ap (λ (l : List TableId). get_or l table_index Module) c.all-tables.ensures.value in
     record {
-      hold = before_more (demands_of_signatures_at here) 0 position c.loop-position.invariant.hold (rw listed at c.in_ok-check_signatures_of.ensures.answers);
-      spends = part_spent (table_bytes_at here.source) position c.args.budget c.loop-position.left c.check_signatures_of.new.budget c.loop-position.invariant.spends
+      hold = before_more (rules_of_signatures_at here) 0 table_index c.loop-table_index.invariant.hold (rw listed at c.in_ok-check_signatures_of.ensures.reports);
+      spends = part_spent (table_bytes_at here.source) table_index c.args.budget c.loop-table_index.left c.check_signatures_of.new.budget c.loop-table_index.invariant.spends
           (rw listed at c.in_ok-check_signatures_of.ensures.spends);
     }
 
 pub returns-in_err-check_signatures_of : goal.returns-in_err-check_signatures_of
-unfolding signature_bytes demands_of_signatures demands_of_signatures_at table_bytes_at
+unfolding signature_bytes rules_of_signatures rules_of_signatures_at table_bytes_at
 returns-in_err-check_signatures_of c =
     let p = err_from_is_err_and c.from_residual.result c.from_residual.ensures.1 in
     let here = c.args.source.now in
-    let position = c.loop-position.position in
-    let listed : get_or c.all-tables.result.now position Module ≡ table_at position = ap (λ (l : List TableId). get_or l position Module) c.all-tables.ensures.value in
+    let table_index = c.loop-table_index.table_index in
+    let listed : get_or c.all-tables.result.now table_index Module ≡ table_at table_index = ap (λ (l : List TableId). get_or l table_index Module) c.all-tables.ensures.value in
     let error = c.in_err-check_signatures_of.field-0.0 in
-    let told : FailsWithin c.loop-position.left (table_bytes_at here.source position) (demands_of_signatures_at here position) error =
-    rw listed at c.in_err-check_signatures_of.ensures.answers in
-    rw (p.1, p.2) (parts_fail (demands_of_signatures_at here) (table_bytes_at here.source) position 38 c.args.budget c.loop-position.left error
-    c.loop-position.invariant.hold (omega (arith, c.all-tables.ensures.count)) c.loop-position.invariant.spends (before_signatures here) told)
+    let reported : FailsWithin c.loop-table_index.left (table_bytes_at here.source table_index) (rules_of_signatures_at here table_index) error =
+    rw listed at c.in_err-check_signatures_of.ensures.reports in
+    rw (p.1, p.2) (parts_fail (rules_of_signatures_at here) (table_bytes_at here.source) table_index 38 c.args.budget c.loop-table_index.left error
+    c.loop-table_index.invariant.hold (omega (arith, c.all-tables.ensures.count)) c.loop-table_index.invariant.spends (before_signatures here) reported)
 
 pub returns : goal.returns
-unfolding demands_of_signatures
-returns c = before_all (demands_of_signatures_at c.args.source.now) 0 c.loop-position.position 38 c.loop-position.invariant.hold (omega (arith, c.all-tables.ensures.count))
+unfolding rules_of_signatures
+returns c = before_all (rules_of_signatures_at c.args.source.now) 0 c.loop-table_index.table_index 38 c.loop-table_index.invariant.hold (omega (arith, c.all-tables.ensures.count))

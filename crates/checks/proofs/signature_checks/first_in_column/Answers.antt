@@ -2,7 +2,7 @@ use Rattle.std.proofs.Common.{rules, ℕ, Option, Some, None, IfSome, ◌∙◌,
 use Rattle.table_schema.specs.declared.column.Column.{Column}
 use Rattle.table_schema.specs.declared.column.ColumnKind.TheVariants as kind
 use Rattle.checks.specs.Signatures.{column_bytes}
-use Rattle.checks.proofs.Columns.{passed_spells, none_asked}
+use Rattle.checks.proofs.Columns.{passed_encodes, none_asked}
 use Rattle.checks.proofs.Spending.{spends_any}
 use Rattle.checks.proofs.Walks.{walk_spends, walk_below}
 use Rattle.checks.proofs.signature_checks.first_in_column.Goals as goal
@@ -11,30 +11,30 @@ some_weaker : (P Q : ℕ → Type 0) (o : Option ℕ) → ((x : ℕ) → P x →
 some_weaker P Q None weaker is = tt
 some_weaker P Q (Some x) weaker is = weaker x is
 
-pub first_misspelled-requires-clause-kind : goal.first_misspelled-requires-clause-kind
-first_misspelled-requires-clause-kind c = sym (ap (λ (held : Column). held.kind) c.column_at.ensures) ∙ c.in-Signature.is
+pub first_not_encoded-requires-clause-kind : goal.first_not_encoded-requires-clause-kind
+first_not_encoded-requires-clause-kind c = sym (ap (λ (held : Column). held.kind) c.column_at.ensures) ∙ c.in-Signature.is
 
-pub returns-in-Signature-clause-spells : goal.returns-in-Signature-clause-spells
-returns-in-Signature-clause-spells c =
-    some_weaker _ _ c.first_misspelled.result
-    (λ row spelled. passed_spells c.args.source.now c.args.table c.args.column row c.column_at.result c.column_at.ensures _
-    (kind.Signature c.in-Signature.spelled) c.in-Signature.is spelled (λ number passed. passed))
-    c.first_misspelled.ensures.spelled
+pub returns-in-Signature-clause-encodes : goal.returns-in-Signature-clause-encodes
+returns-in-Signature-clause-encodes c =
+    some_weaker _ _ c.first_not_encoded.result
+    (λ row encoded. passed_encodes c.args.source.now c.args.table c.args.column row c.column_at.result c.column_at.ensures _
+    (kind.Signature c.in-Signature.encoded) c.in-Signature.is encoded (λ number passed. passed))
+    c.first_not_encoded.ensures.encoded
 
 pub returns-in-Signature-clause-spends : goal.returns-in-Signature-clause-spends
 returns-in-Signature-clause-spends c =
-    walk_spends c.args.source.now.source c.args.table c.args.column c.args.limit c.in-Signature.spelled (sym (ap (λ (held : Column). held.kind) c.column_at.ensures) ∙ c.in-Signature.is) c.requires.last
-    c.args.budget.now c.first_misspelled.new.budget c.first_misspelled.result c.first_misspelled.ensures.walked
+    walk_spends c.args.source.now.source c.args.table c.args.column c.args.limit c.in-Signature.encoded (sym (ap (λ (held : Column). held.kind) c.column_at.ensures) ∙ c.in-Signature.is) c.requires.last
+    c.args.budget.now c.first_not_encoded.new.budget c.first_not_encoded.result c.first_not_encoded.ensures.walked
 
 pub returns-in-Signature-clause-spent : goal.returns-in-Signature-clause-spent
 returns-in-Signature-clause-spent c =
-    walk_below c.args.source.now.source c.args.table c.args.column c.args.limit c.in-Signature.spelled (sym (ap (λ (held : Column). held.kind) c.column_at.ensures) ∙ c.in-Signature.is) c.requires.last
-    c.requires.first c.args.budget.now c.first_misspelled.result c.first_misspelled.ensures.spent
+    walk_below c.args.source.now.source c.args.table c.args.column c.args.limit c.in-Signature.encoded (sym (ap (λ (held : Column). held.kind) c.column_at.ensures) ∙ c.in-Signature.is) c.requires.last
+    c.requires.first c.args.budget.now c.first_not_encoded.result c.first_not_encoded.ensures.spent
 
-pub returns-in_default-clause-spells : goal.returns-in_default-clause-spells
-returns-in_default-clause-spells c =
-    passed_spells c.args.source.now c.args.table c.args.column _ c.column_at.result c.column_at.ensures _
-    c.column_at.result.kind refl (none_asked c.args.source.now c.args.table c.args.column c.args.limit) (λ number passed place. search rules)
+pub returns-in_default-clause-encodes : goal.returns-in_default-clause-encodes
+returns-in_default-clause-encodes c =
+    passed_encodes c.args.source.now c.args.table c.args.column _ c.column_at.result c.column_at.ensures _
+    c.column_at.result.kind refl (none_asked c.args.source.now c.args.table c.args.column c.args.limit) (λ number passed offset. search rules)
 
 pub returns-in_default-clause-spends : goal.returns-in_default-clause-spends
 returns-in_default-clause-spends c =

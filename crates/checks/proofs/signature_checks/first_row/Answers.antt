@@ -1,9 +1,9 @@
 use Rattle.std.proofs.Common.{List, length, ap, arith}
 use Rattle.table_schema.specs.declared.column.Column.{Column}
 use Rattle.table_schema.specs.Columns.{columns_of}
-use Rattle.metadata.specs.Demands.{demands_of_signature}
+use Rattle.metadata.specs.Rules.{rules_of_signature}
 use Rattle.checks.specs.Signatures.{column_bytes, table_bytes}
-use Rattle.checks.proofs.Columns.{meets_more, rows_spell}
+use Rattle.checks.proofs.Columns.{meets_more, rows_encode}
 use Rattle.checks.proofs.Spending.{part_spent, part_below, parts_spent, parts_none}
 use Rattle.checks.proofs.signature_checks.first_row.Goals as goal
 
@@ -11,7 +11,7 @@ pub loop-column-init : goal.loop-column-init
 loop-column-init c = record {
   first = omega arith;
   last = omega (arith, c.count-limit.ensures.value);
-  spell = λ column low. absurd (omega arith);
+  encode = λ column low. absurd (omega arith);
   spends = parts_none (column_bytes c.args.source.now.source c.args.table) c.args.budget.now;
 }
 
@@ -19,8 +19,8 @@ pub loop-column-preserved : goal.loop-column-preserved
 loop-column-preserved c = record {
   first = c.in_ok-limit.ensures.found.0;
   last = omega (arith, c.in_ok-limit.ensures.found.1, c.loop-column.invariant.last);
-  spell = meets_more (demands_of_signature c.args.source.now c.args.table) c.loop-column.limit c.in_ok-limit.limit c.loop-column.column
-      c.in_ok-limit.ensures.found.1 c.loop-column.invariant.spell c.in_ok-limit.ensures.spells;
+  encode = meets_more (rules_of_signature c.args.source.now c.args.table) c.loop-column.limit c.in_ok-limit.limit c.loop-column.column
+      c.in_ok-limit.ensures.found.1 c.loop-column.invariant.encode c.in_ok-limit.ensures.encodes;
   spends = part_spent (column_bytes c.args.source.now.source c.args.table) c.loop-column.column c.args.budget.now c.loop-column.budget c.first_in_column.new.budget
       c.loop-column.invariant.spends c.in_ok-limit.ensures.spends;
 }
@@ -35,7 +35,7 @@ returns-in_err-limit-clause-spent c =
 pub returns-clause-before : goal.returns-clause-before
 returns-clause-before c =
     let long = ap (λ (l : List Column). length l) c.columns-column-end.ensures in
-    rows_spell c.args.source.now c.args.table c.loop-column.limit c.loop-column.column (omega arith) c.loop-column.invariant.spell
+    rows_encode c.args.source.now c.args.table c.loop-column.limit c.loop-column.column (omega arith) c.loop-column.invariant.encode
 
 pub returns-clause-spends : goal.returns-clause-spends
 unfolding table_bytes

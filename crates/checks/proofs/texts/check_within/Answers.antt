@@ -9,7 +9,7 @@ returns-then-begins_character c =
     let known = c.requires.known.2 in
     let begins = c.begins_character.ensures.0 c.if-begins_character.true in
     record {
-      answers = text_answers heap c.args.index (drop (c.args.index - c.args.known) known.text) (omega arith)
+      reports = text_answers heap c.args.index (drop (c.args.index - c.args.known) known.text) (omega arith)
           (ending_ended heap c.args.known known.text known.ended c.args.index c.requires.order (omega (arith, known.long, c.requires.known.1)))
           (ending_utf8 heap c.args.known known.text known.ended c.args.index c.requires.order (omega (arith, known.long, c.requires.known.1)) known.utf8 begins)
           (tt {0});
@@ -20,7 +20,7 @@ returns-else-begins_character c =
     let heap = c.args.heap.now in
     let known = c.requires.known.2 in
     record {
-      answers = no_text_answers heap c.args.index (drop (c.args.index - c.args.known) known.text) (omega arith)
+      reports = no_text_answers heap c.args.index (drop (c.args.index - c.args.known) known.text) (omega arith)
           (ending_ended heap c.args.known known.text known.ended c.args.index c.requires.order (omega (arith, known.long, c.requires.known.1)))
           (ending_not heap c.args.known known.text known.ended c.args.index c.requires.order (omega (arith, known.long, c.requires.known.1))
           (λ begins. false≢true (sym c.if-begins_character.false ∙ c.begins_character.ensures.1 begins)))

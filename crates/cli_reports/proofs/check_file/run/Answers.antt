@@ -1,7 +1,7 @@
 use Rattle.std.proofs.lemmas.Result.{IfErr-weaker}
-use Rattle.cli_reports.proofs.Outcomes.{tells_output}
+use Rattle.cli_reports.proofs.Outcomes.{reports_output}
 use Rattle.cli_reports.proofs.check_file.run.Goals as goal
 
-pub returns-clause-first : goal.returns-clause-first
-returns-clause-first g c = IfErr-weaker c.printed.result _ _ (λ failure is. tells_output _ failure is c.in_ok-open.ensures.found)
-    c.printed.ensures.told
+pub returns-clause-first_error : goal.returns-clause-first_error
+returns-clause-first_error g c = IfErr-weaker c.printed.result _ _ (λ failure is. reports_output _ failure is c.in_ok-open.ensures.sound)
+    c.printed.ensures.reported

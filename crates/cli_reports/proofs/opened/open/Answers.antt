@@ -10,20 +10,20 @@ use Rattle.cli_reports.proofs.opened.open.Goals as goal
 
 pub returns-then-bare-clause-model : goal.returns-then-bare-clause-model
 returns-then-bare-clause-model c =
-    IfOk-weaker c.open_root.result _ _ (λ view found. subst (λ (root : List ℕ). HasModel root) (sym found.0) found.1) c.open_root.ensures.found
+    IfOk-weaker c.open_root.result _ _ (λ view found. subst (λ (root : List ℕ). HasModel root) (sym found.0) found.1) c.open_root.ensures.sound
 
-pub returns-then-bare-clause-only : goal.returns-then-bare-clause-only
-returns-then-bare-clause-only c = λ whole.
+pub returns-then-bare-clause-complete : goal.returns-then-bare-clause-complete
+returns-then-bare-clause-complete c = λ whole.
     let P : Bool → Type 0 = λ bare. IsWhole bare c.args.bytes.now in
-    ok_unless_not c.open_root.result (λ not. not_there (subst P c.if-bare.true whole) (λ some. not (c.open_root.ensures.only some.0 some.1)))
+    ok_unless_not c.open_root.result (λ not. not_there (subst P c.if-bare.true whole) (λ some. not (c.open_root.ensures.complete some.0 some.1)))
 
-pub returns-in_err-view-clause-only : goal.returns-in_err-view-clause-only
-returns-in_err-view-clause-only c = λ whole.
+pub returns-in_err-view-clause-complete : goal.returns-in_err-view-clause-complete
+returns-in_err-view-clause-complete c = λ whole.
     let P : Bool → Type 0 = λ bare. IsWhole bare c.args.bytes.now in
     absurd (not_there (subst P c.if-bare.false whole) (λ file. not_there file.1
-    (λ some. c.in_err-view.ensures.only file.0 some.0 some.1)))
+    (λ some. c.in_err-view.ensures.complete file.0 some.0 some.1)))
 
 pub returns-clause-model : goal.returns-clause-model
 returns-clause-model c =
-    ∥∥₁_map c.in_ok-view.ensures.found
+    ∥∥₁_map c.in_ok-view.ensures.sound
     (λ some. (some.0, subst (λ (root : List ℕ). IsModel root some.0) (sym c.in_ok-view.ensures.view) some.1.root))

@@ -2,17 +2,17 @@ use Rattle.std.proofs.lemmas.Result.{err_from_is_err_and}
 use Rattle.cli_reports.proofs.Heads.{bare_fails, file_fails, heads_stand}
 use Rattle.cli_reports.proofs.print_root.heads_of.Goals as goal
 
-pub returns-in_err-read_root-clause-first : goal.returns-in_err-read_root-clause-first
-returns-in_err-read_root-clause-first c =
+pub returns-in_err-read_root-clause-first_error : goal.returns-in_err-read_root-clause-first_error
+returns-in_err-read_root-clause-first_error c =
     let p = err_from_is_err_and c.from_residual.result c.from_residual.ensures.1 in
-    rw (p.1, p.2) (bare_fails c.args.bare c.args.bytes.now c.in_err-read_root.field-0.0 c.if-bare.true c.in_err-read_root.ensures.first)
+    rw (p.1, p.2) (bare_fails c.args.bare c.args.bytes.now c.in_err-read_root.field-0.0 c.if-bare.true c.in_err-read_root.ensures.first_error)
 
-pub returns-in_err-heads-clause-first : goal.returns-in_err-heads-clause-first
-returns-in_err-heads-clause-first c =
+pub returns-in_err-heads-clause-first_error : goal.returns-in_err-heads-clause-first_error
+returns-in_err-heads-clause-first_error c =
     let p = err_from_is_err_and c.from_residual-in_err-heads.result c.from_residual-in_err-heads.ensures.1 in
-    rw (p.1, p.2) (file_fails c.args.bare c.args.bytes.now c.in_err-heads.field-0.0 c.if-bare.false c.in_err-heads.ensures.answers)
+    rw (p.1, p.2) (file_fails c.args.bare c.args.bytes.now c.in_err-heads.field-0.0 c.if-bare.false c.in_err-heads.ensures.reports)
 
-pub returns-clause-found : goal.returns-clause-found
-returns-clause-found c =
-    heads_stand c.args.bare c.args.bytes.now c.in_ok-heads.heads.header c.in_ok-heads.heads.root c.if-bare.false c.in_ok-heads.ensures.answers
-    c.in_ok-heads.ensures.header c.in_ok-heads.ensures.root (c.images_are_read.ensures.found _) (c.headers_are_read.ensures.found _) (c.roots_are_read.ensures.found _)
+pub returns-clause-sound : goal.returns-clause-sound
+returns-clause-sound c =
+    heads_stand c.args.bare c.args.bytes.now c.in_ok-heads.heads.header c.in_ok-heads.heads.root c.if-bare.false c.in_ok-heads.ensures.reports
+    c.in_ok-heads.ensures.header c.in_ok-heads.ensures.root (c.images_are_read.ensures.sound _) (c.headers_are_read.ensures.sound _) (c.roots_are_read.ensures.sound _)

@@ -2,7 +2,7 @@ use Rattle.std.proofs.Common.{◌<◌, ◌≤◌, ℕ, List, sym, subst, ◌∙�
 use Rattle.table_schema.specs.declared.table.TableId.TheVariants.{TypeDef}
 use Rattle.metadata.specs.Metadata.{cell_in}
 use Rattle.metadata.specs.Model.{IsModel}
-use Rattle.metadata.specs.Placed.{source_of}
+use Rattle.metadata.specs.SourceAt.{source_of}
 use Rattle.metadata.specs.Source.{rows_in}
 use Rattle.metadata.specs.Lookups.{IsFirstType, HasRow, HasNames}
 use Rattle.clim_c.proofs.Texts.{name_is, namespace_is, has_name, has_namespace, some_of, none_of}
@@ -24,13 +24,13 @@ returns-in_default-2-clause-none c = λ is_open zero model is row there names.
     let cell = c.models_are_read.ensures.cells root model is TypeDef row 2 there.0 last has_namespace in
     c.in_default.ensures.cases.0 (namespace_is (source_of root) row (cell_in model TypeDef row 2) c.args.namespace.now cell names.1)
 
-pub returns-clause-found : goal.returns-clause-found
-returns-clause-found c = λ above model is.
+pub returns-clause-sound : goal.returns-clause-sound
+returns-clause-sound c = λ above model is.
     let namespace = c.in-Ok-Ok.namespace.now in
     let name = c.in-Ok-Ok.name.now in
     let P : List ℕ → Type 0 = λ root. IsModel root model in
     let Q : ℕ → Type 0 = λ row. 0 < row in
-    let found = c.find_type.ensures.found model (subst P (sym c.in-Some.ensures.found.0) is) in
+    let found = c.find_type.ensures.sound model (subst P (sym c.in-Some.ensures.sound.0) is) in
     let first = some_of c.find_type.result (IsFirstType model namespace name) found (subst Q c.unwrap_or.ensures above) in
     let R : ℕ → Type 0 = λ row. IsFirstType model namespace name row in
     let S : List ℕ → Type 0 = λ space. IsFirstType model space name c.unwrap_or.result in
@@ -43,8 +43,8 @@ returns-clause-none c = λ is_open zero model is.
     let name = c.in-Ok-Ok.name.now in
     let P : List ℕ → Type 0 = λ root. IsModel root model in
     let N : List ℕ → List ℕ → Type 0 = λ space text. (row : ℕ) → HasRow model TypeDef row → ¬ HasNames model space text row in
-    let seen = subst P (sym c.in-Some.ensures.found.0) is in
-    let none = none_of c.find_type.result (IsFirstType model namespace name) (N namespace name) (c.find_type.ensures.found model seen)
+    let seen = subst P (sym c.in-Some.ensures.sound.0) is in
+    let none = none_of c.find_type.result (IsFirstType model namespace name) (N namespace name) (c.find_type.ensures.sound model seen)
     (λ row first. omega (arith, first.there.0)) (c.find_type.ensures.none model seen) (sym c.unwrap_or.ensures ∙ zero) in
     let S : List ℕ → Type 0 = λ space. N space name in
     let T : List ℕ → Type 0 = λ text. N c.args.namespace.now text in

@@ -1,6 +1,6 @@
 use Rattle.std.proofs.Common.{◌<◌, length, ◌∙◌, arith}
 use Rattle.std.proofs.lemmas.List.{length-set}
-use Rattle.clim_c.proofs.Written.{rest_stays, next_left, all_left, room_left}
+use Rattle.clim_c.proofs.Written.{tail_stays, next_left, all_left, room_left}
 use Rattle.clim_c.proofs.look_ups.write_rows.Goals as goal
 
 pub loop-row-preserved : goal.loop-row-preserved
@@ -13,7 +13,7 @@ loop-row-preserved c =
     record {
       left = next_left c.args.found.rows rows c.loop-row.row-iterator.rows c.next.new.self.rows k row invariant.left c.in-Some.ensures.steps.0 within;
       within = let long = length-set rows k row in omega (arith, long, within);
-      same = rest_stays c.args.rows.now rows k row invariant.same;
+      same = tail_stays c.args.rows.now rows k row invariant.same;
       long = length-set rows k row ∙ invariant.long;
     }
 

@@ -2,16 +2,16 @@ use Rattle.std.proofs.Common.{◌≡◌, ℕ, List, sym, subst}
 use Rattle.std.proofs.lemmas.Option.{same_Some}
 use Rattle.table_schema.specs.declared.table.TableId.{TableId}
 use Rattle.metadata.specs.Model.{IsModel}
-use Rattle.clim_c.specs.Told.{TellsCell}
+use Rattle.clim_c.specs.Reported.{ReportsCell}
 use Rattle.clim_c.proofs.shown.clim_cell_at.Goals as goal
 
 pub returns-clause-shown : goal.returns-clause-shown
 returns-clause-shown c = λ model is known known_is.
     let row = c.args.row in
     let column = c.args.column in
-    let table : c.in-Some.table ≡ known = same_Some c.in-Some.table known (c.in-Some.ensures.only known known_is) in
-    let root : c.in-Some-seen.seen ≡ c.args.view.now.root.now = c.in-Some-seen.ensures.found.0 in
+    let table : c.in-Some.table ≡ known = same_Some c.in-Some.table known (c.in-Some.ensures.complete known known_is) in
+    let root : c.in-Some-seen.seen ≡ c.args.view.now.root.now = c.in-Some-seen.ensures.sound.0 in
     let P : List ℕ → Type 0 = λ r. IsModel r model in
-    let Q : List ℕ → Type 0 = λ r. TellsCell r model c.in-Some.table row column c.told_at.result in
-    let R : TableId → Type 0 = λ t. TellsCell c.args.view.now.root.now model t row column c.told_at.result in
-    subst R table (subst Q root (c.told_at.ensures model (subst P (sym root) is)))
+    let Q : List ℕ → Type 0 = λ r. ReportsCell r model c.in-Some.table row column c.reported_at.result in
+    let R : TableId → Type 0 = λ t. ReportsCell c.args.view.now.root.now model t row column c.reported_at.result in
+    subst R table (subst Q root (c.reported_at.ensures model (subst P (sym root) is)))

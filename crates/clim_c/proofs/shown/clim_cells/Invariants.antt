@@ -2,14 +2,14 @@ use Rattle.std.proofs.Common.{◌≡◌, ◌<◌, ◌+◌, ℕ, length, slice_in
 use Rattle.std.specs.List.{SameFrom}
 use Rattle.metadata.specs.Metadata.{Metadata}
 use Rattle.metadata.specs.Model.{IsModel}
-use Rattle.clim_c.specs.declared.told_cell.ClimCell.{ClimCell}
-use Rattle.clim_c.specs.Told.{TellsCell}
+use Rattle.clim_c.specs.declared.reported_cell.ClimCell.{ClimCell}
+use Rattle.clim_c.specs.Reported.{ReportsCell}
 use Rattle.clim_c.proofs.shown.clim_cells.Given as goal
 
 abbrev pub invariant-loop-k : goal.invariant-loop-k
 invariant-loop-k l = record {
   shown : (model : Metadata) → IsModel l.view.root.now model → (j : ℕ) (d : ClimCell) → j < l.k
-      → TellsCell l.view.root.now model l.table (l.first + j) l.column (slice_index_or l.cells j d);
+      → ReportsCell l.view.root.now model l.table (l.first + j) l.column (slice_index_or l.cells j d);
   same : SameFrom l.fn.cells l.cells l.k;
   long : length l.cells ≡ length l.fn.cells;
 }

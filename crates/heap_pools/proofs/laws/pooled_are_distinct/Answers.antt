@@ -15,5 +15,5 @@ returns-clause-each c = λ used value there some. contains_from_in (distinct use
 pub returns-clause-again : goal.returns-clause-again
 returns-clause-again c = pooled_again
 
-pub returns-clause-front : goal.returns-clause-front
-returns-clause-front c = distinct-append
+pub returns-clause-prefix : goal.returns-clause-prefix
+returns-clause-prefix c = distinct-append

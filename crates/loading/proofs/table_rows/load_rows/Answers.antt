@@ -1,12 +1,12 @@
 use Rattle.std.proofs.Common.{◌≡◌, ℕ, ◌+◌, ◌-◌, ◌≤◌, ◌<◌, List, [], length, take, get_or, ap, ◌∙◌, arith}
 use Rattle.std.proofs.lemmas.List.{take_all}
-use Rattle.table_schema.specs.Tables.{position_of}
+use Rattle.table_schema.specs.Tables.{table_index_of}
 use Rattle.tables.specs.Said.{all_said}
 use Rattle.metadata.specs.Cell.{Cell}
 use Rattle.metadata.specs.Metadata.{Metadata, rows_of}
 use Rattle.tables.specs.Push.{with_row}
-use Rattle.loading.specs.Filled.{with_rows}
-use Rattle.loading.proofs.Filling.{next_row}
+use Rattle.loading.specs.Padded.{with_rows}
+use Rattle.loading.proofs.Padding.{next_row}
 use Rattle.loading.proofs.table_rows.load_rows.Goals as goal
 
 pub loop-row-preserved : goal.loop-row-preserved
@@ -17,7 +17,7 @@ loop-row-preserved c = λ model is full empty.
     let i = c.loop-row.row in
     let count = c.count-count.ensures.model model is in
     let below : i < length rows = omega (arith, count) in
-    let within : position_of table < length old.tables = omega (arith, full, c.tables_stand.ensures.position table) in
+    let within : table_index_of table < length old.tables = omega (arith, full, c.tables_stand.ensures.table_index table) in
     let back : i + 1 - 1 ≡ i = omega arith in
     let cells = all_said c.in_ok-cells.cells.items in
     c.in-Ok.ensures.ok

@@ -1,7 +1,7 @@
 use Rattle.std.proofs.Common.{◌≡◌, [], length, take}
 use Rattle.metadata.specs.Metadata.{Metadata, rows_of}
 use Rattle.metadata.specs.Model.{IsModel}
-use Rattle.loading.specs.Filled.{with_rows}
+use Rattle.loading.specs.Padded.{with_rows}
 use Rattle.loading.proofs.table_rows.load_rows.Given as goal
 
 -- the rows so far are the first rows of the table

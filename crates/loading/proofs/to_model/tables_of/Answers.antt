@@ -5,8 +5,8 @@ use Rattle.loading.proofs.to_model.tables_of.Goals as goal
 pub returns : goal.returns
 returns c = λ model is.
     let version = c.in_ok-tables.ensures.version ∙ c.version.ensures model is in
-    let user = c.in_ok-copy_filled.ensures ∙ c.user.ensures.model model is in
+    let user = c.in_ok-copy_padded.ensures ∙ c.user.ensures.model model is in
     c.in_ok-load_tables.ensures model is
     ∙ ap (λ (m : Metadata). let t : Metadata = record m { tables = model.tables } in t) c.set_user.ensures
-    ∙ ap (λ (v : List ℕ). let t : Metadata = record { version = v; user = c.in_ok-copy_filled.field-0.items; tables = model.tables } in t) version
+    ∙ ap (λ (v : List ℕ). let t : Metadata = record { version = v; user = c.in_ok-copy_padded.field-0.items; tables = model.tables } in t) version
     ∙ ap (λ (u : List ℕ). let t : Metadata = record { version = model.version; user = u; tables = model.tables } in t) user

@@ -3,14 +3,14 @@ use Rattle.metadata.proofs.laws.files_have_models.Goals as goal
 
 read : goal.After-models_are_read → AreRead
 read c = record {
-  image_demanded = c.images_are_read.ensures.demanded;
+  image_rules_hold = c.images_are_read.ensures.rules_hold;
   image_said = c.images_are_read.ensures.said;
-  image_found = c.images_are_read.ensures.found;
-  header_demanded = c.headers_are_read.ensures.demanded;
+  image_found = c.images_are_read.ensures.sound;
+  header_rules_hold = c.headers_are_read.ensures.rules_hold;
   header_said = c.headers_are_read.ensures.said;
-  header_found = c.headers_are_read.ensures.found;
+  header_found = c.headers_are_read.ensures.sound;
   met = c.roots_have_models.ensures.met;
-  found = c.roots_have_models.ensures.found;
+  found = c.roots_have_models.ensures.sound;
   one = c.roots_have_models.ensures.one;
   count = c.models_are_read.ensures.count;
 }
@@ -18,8 +18,8 @@ read c = record {
 pub returns-clause-met : goal.returns-clause-met
 returns-clause-met c = file_met (read c)
 
-pub returns-clause-found : goal.returns-clause-found
-returns-clause-found c = file_found (read c)
+pub returns-clause-sound : goal.returns-clause-sound
+returns-clause-sound c = file_found (read c)
 
 pub returns-clause-one : goal.returns-clause-one
 returns-clause-one c = file_one (read c)

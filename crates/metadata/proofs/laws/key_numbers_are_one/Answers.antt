@@ -3,7 +3,7 @@ use Rattle.table_schema.specs.CellColumns.{column_of}
 use Rattle.metadata.specs.Valid.{kind_at}
 use Rattle.metadata.specs.KeyOrder.{key_number}
 use Rattle.metadata.proofs.KeyLemmas.{KeysKnown}
-use Rattle.metadata.proofs.NumberLemmas.{tells_key}
+use Rattle.metadata.proofs.NumberLemmas.{reports_key}
 use Rattle.metadata.proofs.laws.key_numbers_are_one.Goals as goal
 
 known : goal.After-tags_fit → KeysKnown
@@ -20,5 +20,5 @@ known c = record {
 pub returns : goal.returns
 returns c = λ table cell at token there takes key taken. (
   (λ same. ap (key_number (kind_at table cell)) same),
-  (λ same. tells_key (known c) (kind_at table cell) (c.columns_stand.ensures.reference table (column_of table cell) at.key) token there takes key taken same),
+  (λ same. reports_key (known c) (kind_at table cell) (c.columns_stand.ensures.reference table (column_of table cell) at.key) token there takes key taken same),
 )

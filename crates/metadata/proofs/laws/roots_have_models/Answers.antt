@@ -4,12 +4,12 @@ use Rattle.metadata.proofs.laws.roots_have_models.Goals as goal
 
 read : goal.After-signatures_are_read → AreRead
 read c = record {
-  root_demanded = c.roots_are_read.ensures.demanded;
+  root_rules_hold = c.roots_are_read.ensures.rules_hold;
   root_said = c.roots_are_read.ensures.said;
-  root_found = c.roots_are_read.ensures.found;
-  stream_demanded = c.streams_are_read.ensures.demanded;
+  root_found = c.roots_are_read.ensures.sound;
+  stream_rules_hold = c.streams_are_read.ensures.rules_hold;
   stream_said = c.streams_are_read.ensures.said;
-  stream_found = c.streams_are_read.ensures.found;
+  stream_found = c.streams_are_read.ensures.sound;
   numbers_are = c.numbers_are_read.ensures.is;
   columns = record { column = c.cells_have_columns.ensures.column; cell = c.cells_have_columns.ensures.cell };
 }
@@ -24,10 +24,10 @@ one c = record {
 }
 
 pub returns-clause-met : goal.returns-clause-met
-returns-clause-met c = λ place root model is. model_met (read c) root model is place
+returns-clause-met c = λ offset root model is. model_met (read c) root model is offset
 
-pub returns-clause-found : goal.returns-clause-found
-returns-clause-found c = model_found (read c)
+pub returns-clause-sound : goal.returns-clause-sound
+returns-clause-sound c = model_found (read c)
 
 pub returns-clause-one : goal.returns-clause-one
 returns-clause-one c = model_one (read c) (one c)

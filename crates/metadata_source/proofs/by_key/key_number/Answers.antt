@@ -3,16 +3,16 @@ use Rattle.table_schema.specs.declared.column.ColumnKind.{ColumnKind}
 use Rattle.metadata.specs.Cell.{Ref}
 use Rattle.metadata.specs.Kinds.{IsOfKind}
 use Rattle.metadata.specs.KeyOrder.{row_number}
-use Rattle.metadata_source.proofs.KeyLemmas.{tells, none_takes}
+use Rattle.metadata_source.proofs.KeyLemmas.{reports, none_takes}
 use Rattle.metadata_source.proofs.by_key.key_number.Goals as goal
 
-pub returns-clause-found : goal.returns-clause-found
-returns-clause-found g c = λ model shown.
+pub returns-clause-sound : goal.returns-clause-sound
+returns-clause-sound g c = λ model shown.
     let other = c.if-token-eq0.false in
     let there : 1 ≤ c.args.token.row = omega arith in
     let P : ColumnKind → Type 0 = λ k. IfSome c.number_of.result (λ number. number ≡ row_number k c.args.token) in
     let Q : ColumnKind → Type 0 = λ k. IfSome c.number_of.result (λ _. IsOfKind k (Ref (Some c.args.token))) in
-    tells model (c.holds_one.ensures.valid model shown) c.args.table c.args.cell c.requires c.args.token c.number_of.result
+    reports model (c.holds_one.ensures.valid model shown) c.args.table c.args.cell c.requires c.args.token c.number_of.result
     (λ takes. c.key_numbers_are_one.ensures c.args.table c.args.cell c.requires c.args.token there takes)
     (subst P c.kind_of.ensures c.number_of.ensures.number) (subst Q c.kind_of.ensures c.number_of.ensures.taken)
 

@@ -37,11 +37,11 @@ pub returns-then-in_order-clause-rows : goal.returns-then-in_order-clause-rows
 returns-then-in_order-clause-rows g c = λ model shown.
     let keys = c.holds_one.ensures.keys model shown c.args.table c.key_cell-cell.result in
     rows_are model c.args.table c.key_cell-cell.result c.key_cell-cell.ensures c.args.token _ _ (c.holds_one.ensures.rows model shown c.args.table)
-    (λ row first last. keys row c.key_cell-cell.ensures first last) c.in-Some.number (c.in-Some.ensures.found model shown) c.search.result.rows
+    (λ row first last. keys row c.key_cell-cell.ensures first last) c.in-Some.number (c.in-Some.ensures.sound model shown) c.search.result.rows
     c.search.ensures.rows
 
-pub returns-then-in_order-clause-found : goal.returns-then-in_order-clause-found
-returns-then-in_order-clause-found g c = λ model shown ordered.
+pub returns-then-in_order-clause-bounded : goal.returns-then-in_order-clause-bounded
+returns-then-in_order-clause-bounded g c = λ model shown ordered.
     let long = numbers_count _ _ ∙ sym (c.holds_one.ensures.rows model shown c.args.table) in
     let P : ℕ → Type 0 = λ n. c.search.result.reads ≤ 2 * binary_digits n + 2 in
     subst P long c.search.ensures.reads
@@ -53,7 +53,7 @@ pub returns-else-in_order-clause-rows : goal.returns-else-in_order-clause-rows
 returns-else-in_order-clause-rows g c = λ model shown.
     let keys = c.holds_one.ensures.keys model shown c.args.table c.key_cell-cell.result in
     rows_are model c.args.table c.key_cell-cell.result c.key_cell-cell.ensures c.args.token _ _ (c.holds_one.ensures.rows model shown c.args.table)
-    (λ row first last. keys row c.key_cell-cell.ensures first last) c.in-Some.number (c.in-Some.ensures.found model shown) c.walk.result.rows
+    (λ row first last. keys row c.key_cell-cell.ensures first last) c.in-Some.number (c.in-Some.ensures.sound model shown) c.walk.result.rows
     c.walk.ensures.rows
 
 pub returns-in_default-clause-rows : goal.returns-in_default-clause-rows

@@ -8,7 +8,7 @@ pub returns-clause-stand : goal.returns-clause-stand
 returns-clause-stand c = says_stand
 
 pub returns-clause-said_of_part : goal.returns-clause-said_of_part
-returns-clause-said_of_part c = λ whole place fields stands. (stand_says_part whole place fields stands).0
+returns-clause-said_of_part c = λ whole offset fields stands. (stand_says_part whole offset fields stands).0
 
 pub returns-clause-stand_by_part : goal.returns-clause-stand_by_part
 returns-clause-stand_by_part c = part_says_stand

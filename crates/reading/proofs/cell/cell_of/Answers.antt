@@ -21,7 +21,7 @@ blob_at-requires c =
 pub returns-in-Blob-clause-cell : goal.returns-in-Blob-clause-cell
 returns-in-Blob-clause-cell c =
     blob_shown c.args.source.now.source c.args.table c.args.row c.args.column c.number-number.result c.blobs.result.now c.number-number.ensures.value
-    c.blobs.ensures (sym (ap (λ (held : Column). held.kind) c.column_at-held.ensures) ∙ c.in-Blob.is) c.blob_at.result.now c.blob_at.ensures.only
+    c.blobs.ensures (sym (ap (λ (held : Column). held.kind) c.column_at-held.ensures) ∙ c.in-Blob.is) c.blob_at.result.now c.blob_at.ensures.complete
 
 pub blob_at-requires-in-Signature : goal.blob_at-requires-in-Signature
 blob_at-requires-in-Signature c =
@@ -34,7 +34,7 @@ returns-in-Signature-clause-cell c =
     signature_shown c.args.source.now.source c.args.table c.args.row c.args.column c.number-number.result c.blobs-in-Signature.result.now
     c.number-number.ensures.value
     c.in-Signature.field-0 c.blobs-in-Signature.ensures (sym (ap (λ (held : Column). held.kind) c.column_at-held.ensures)
-    ∙ c.in-Signature.is) c.blob_at-in-Signature.result.now c.blob_at-in-Signature.ensures.only
+    ∙ c.in-Signature.is) c.blob_at-in-Signature.result.now c.blob_at-in-Signature.ensures.complete
 
 pub returns-in-Coded-clause-cell : goal.returns-in-Coded-clause-cell
 returns-in-Coded-clause-cell c =

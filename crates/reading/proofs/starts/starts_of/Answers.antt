@@ -12,7 +12,7 @@ use Rattle.reading.proofs.starts.starts_of.Goals as goal
 
 down_long : (value : ℕ → ℕ) (n : ℕ) → length (down_from value n) ≡ n
 down_long value zero = refl
-down_long value (suc n) = let rest = down_long value n in omega arith
+down_long value (suc n) = let tail = down_long value n in omega arith
 
 down_at : (value : ℕ → ℕ) (n row : ℕ) → 1 ≤ row → row ≤ n → slice_index (down_from value n) (n - row) ≡ value row
 down_at value zero row first last = absurd (omega arith)

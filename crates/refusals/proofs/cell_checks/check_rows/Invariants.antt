@@ -1,4 +1,4 @@
-use Rattle.packed.specs.Demand.{HoldBefore}
+use Rattle.packed.specs.Rule.{HoldBefore}
 use Rattle.metadata.specs.Refusals.{refusals_of_row}
 use Rattle.refusals.proofs.cell_checks.check_rows.Given as goal
 

@@ -1,4 +1,4 @@
-use Rattle.packed.specs.Demand.{HoldBefore}
+use Rattle.packed.specs.Rule.{HoldBefore}
 use Rattle.metadata.specs.Refusals.{refusals_of_nesting_in}
 use Rattle.refusals.proofs.nesting.check_nesting.Given as goal
 

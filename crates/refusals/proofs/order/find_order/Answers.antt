@@ -6,16 +6,16 @@ use Rattle.metadata.specs.KeyOrder.{IsKeyOrdered}
 use Rattle.refusals.proofs.CountLemmas.{known_more}
 use Rattle.refusals.proofs.order.find_order.Goals as goal
 
-pub loop-position-preserved : goal.loop-position-preserved
-loop-position-preserved c =
-    let long = c.loop-position.invariant.long in
+pub loop-table_index-preserved : goal.loop-table_index-preserved
+loop-table_index-preserved c =
+    let long = c.loop-table_index.invariant.long in
     let limit = c.number.ensures.limit in
     record {
       long = length-set _ _ _ ∙ long;
-      told = known_more c.tables_stand.ensures.stand c.tables_stand.ensures.rise
+      reported = known_more c.tables_stand.ensures.stand c.tables_stand.ensures.rise
           (λ (bit : Bool) (table : TableId). (key : ℕ) → key_of table ≡ Some key → IsTrue bit ↔ IsKeyOrdered c.args.tables.now table) false
-          c.loop-position.in_order c.loop-position.position c.number.result
-          (slice_index_or c.all-all.result.now c.loop-position.position Module) c.is_in_order.result
-          (ap (λ (ts : List TableId). slice_index_or ts c.loop-position.position Module) c.all-all.ensures.value)
-          c.number.ensures.value (omega arith) c.is_in_order.ensures c.loop-position.invariant.told;
+          c.loop-table_index.in_order c.loop-table_index.table_index c.number.result
+          (slice_index_or c.all-all.result.now c.loop-table_index.table_index Module) c.is_in_order.result
+          (ap (λ (ts : List TableId). slice_index_or ts c.loop-table_index.table_index Module) c.all-all.ensures.value)
+          c.number.ensures.value (omega arith) c.is_in_order.ensures c.loop-table_index.invariant.reported;
     }

@@ -1,4 +1,4 @@
-use Rattle.packed.specs.Demand.{HoldBefore}
+use Rattle.packed.specs.Rule.{HoldBefore}
 use Rattle.metadata.specs.Refusals.{refusals_of_signatures_in}
 use Rattle.refusals.proofs.signature_checks.check_table.Given as goal
 

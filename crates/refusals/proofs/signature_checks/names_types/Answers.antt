@@ -1,4 +1,4 @@
-use Rattle.sig_grammar.specs.Spells.{tokens}
+use Rattle.sig_grammar.specs.Encodes.{tokens}
 use Rattle.refusals.proofs.TokenLemmas.{names_where}
 use Rattle.refusals.proofs.signature_checks.names_types.Goals as goal
 

@@ -3,5 +3,5 @@ use Rattle.refusals.proofs.whole.check_tables.Goals as goal
 
 pub returns-clause-valid : goal.returns-clause-valid
 returns-clause-valid c =
-    valid_where c.valid_models_are_not_refused.ensures.met c.valid_models_are_not_refused.ensures.found c.args.tables.now c.check_demands.result
-    c.check_demands.ensures.tables c.check_demands.ensures.answers
+    valid_where c.valid_models_are_not_refused.ensures.met c.valid_models_are_not_refused.ensures.sound c.args.tables.now c.check_rules.result
+    c.check_rules.ensures.tables c.check_rules.ensures.reports

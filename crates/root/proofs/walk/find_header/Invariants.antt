@@ -1,10 +1,10 @@
 use Rattle.std.proofs.Common.{◌≡◌, None}
-use Rattle.root.specs.Fields.{header_place, headers_before}
+use Rattle.root.specs.Fields.{header_offset, headers_before}
 use Rattle.root.specs.Streams.{named, stream_name}
 use Rattle.root.proofs.walk.find_header.Given as goal
 
 abbrev pub invariant-loop : goal.invariant-loop
 invariant-loop l = record {
-  place : l.place ≡ header_place l.bytes l.counter;
+  place : l.place ≡ header_offset l.bytes l.counter;
   none : named (stream_name l.kind) (headers_before l.bytes l.counter) ≡ None;
 }

@@ -14,9 +14,9 @@ use Rattle.root_plan.proofs.planned.lens_of.Goals.{After-root_len-len}
 -- the stream sizes that were computed
 abbrev sizes_of_streams : After-root_len-len → StreamSizes
 sizes_of_streams c = record {
-  tables = c.filled_len.result;
+  tables = c.padded_len.result;
   strings = c.args.heaps.now.strings;
-  user_strings = c.filled_len-2.result;
+  user_strings = c.padded_len-2.result;
   guids = c.args.heaps.now.guids;
   blobs = c.args.heaps.now.blobs;
 }
@@ -25,8 +25,8 @@ sizes_of_streams c = record {
 same_sizes : (c : After-root_len-len) (model : Metadata) → Describes c.args.outline.now model → AreHeapLens model c.args.heaps.now
     → IsTablesPlan model c.args.tables.now → (kind : Kind) → size_of (sizes_of_streams c) kind ≡ length (stream model kind)
 same_sizes c model described lens is =
-    let user = c.filled_len-2.ensures.value c.args.outline.now.user_strings.now refl ∙ ap length described.user in
-    sizes_are model c.args.tables.now (sizes_of_streams c) is c.filled_len.ensures.value lens user
+    let user = c.padded_len-2.ensures.value c.args.outline.now.user_strings.now refl ∙ ap length described.user in
+    sizes_are model c.args.tables.now (sizes_of_streams c) is c.padded_len.ensures.value lens user
 
 pub returns-then-tables-limit-clause-too_large : goal.returns-then-tables-limit-clause-too_large
 returns-then-tables-limit-clause-too_large c model described lens is =

@@ -21,7 +21,7 @@ pub invariant_of-result : goal.invariant_of-result
 invariant_of-result c =
     let parts = c.parts_of.result in
     let whole = λ (model : Metadata) (plan : IsRootPlan model c.args.plan.now).
-    c.into_bytes.ensures ∙ c.put_root.ensures.bytes ∙ ap (λ front. front ++ root_bytes parts) c.in_ok-writer.ensures.bytes
+    c.into_bytes.ensures ∙ c.put_root.ensures.bytes ∙ ap (λ prefix. prefix ++ root_bytes parts) c.in_ok-writer.ensures.bytes
     ∙ c.parts_are_canonical.ensures model parts (c.parts_of.ensures.parts model plan) in
     record {
       root = ∥∥₁_map c.requires (λ some. (some.0, some.1, whole some.0 some.2));
@@ -31,5 +31,5 @@ invariant_of-result c =
 pub returns : goal.returns
 returns c model plan =
     let parts = c.parts_of.result in
-    c.into_bytes.ensures ∙ c.put_root.ensures.bytes ∙ ap (λ front. front ++ root_bytes parts) c.in_ok-writer.ensures.bytes
+    c.into_bytes.ensures ∙ c.put_root.ensures.bytes ∙ ap (λ prefix. prefix ++ root_bytes parts) c.in_ok-writer.ensures.bytes
     ∙ c.parts_are_canonical.ensures model parts (c.parts_of.ensures.parts model plan)

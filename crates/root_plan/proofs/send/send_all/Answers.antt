@@ -6,9 +6,9 @@ use Rattle.std.specs.Io.KnownBytes.{Appends}
 use Rattle.root_plan.proofs.send.send_all.Goals as goal
 
 -- the bytes offered from an index on are sent after those before it
-more_given : (old middle new : Option (List ℕ)) (bytes rest : List ℕ) (given taken : ℕ) → rest ≡ drop given bytes
-    → Appends old middle (take given bytes) → Appends middle new (take taken rest) → Appends old new (take (given + taken) bytes)
-more_given old middle new bytes rest given taken is first second =
+more_given : (old middle new : Option (List ℕ)) (bytes tail : List ℕ) (given taken : ℕ) → tail ≡ drop given bytes
+    → Appends old middle (take given bytes) → Appends middle new (take taken tail) → Appends old new (take (given + taken) bytes)
+more_given old middle new bytes tail given taken is first second =
     rw (take-add given taken bytes) (Appends-trans old middle new (take given bytes) (take taken (drop given bytes)) first
     (subst (λ list. Appends middle new (take taken list)) is second))
 
@@ -25,9 +25,9 @@ loop-given-preserved g c =
     let taken = c.offer_some-taken.result in
     let before = c.loop-given.invariant in
     let more = c.offer_some-taken.ensures in
-    let rest = c.split_at.ensures.back in
+    let tail = c.split_at.ensures.back in
     record {
-      within = omega (arith, more.bound, ap length rest, length-drop given bytes, c.loop-given-test.true);
-      front = more_given _ _ _ bytes c.split_at.result.1.now given taken rest before.front more.bytes;
+      within = omega (arith, more.bound, ap length tail, length-drop given bytes, c.loop-given-test.true);
+      prefix = more_given _ _ _ bytes c.split_at.result.1.now given taken tail before.prefix more.bytes;
       unfailed = not_failed taken _ _ _ c.if-taken-eq0.false before.unfailed more.failures;
     }

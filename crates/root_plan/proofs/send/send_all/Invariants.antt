@@ -6,7 +6,7 @@ use Rattle.root_plan.proofs.send.send_all.Given as goal
 abbrev pub invariant-loop-given : goal.invariant-loop-given
 invariant-loop-given g l = record {
   within : l.given ≤ length l.bytes;
-  front : Appends (g.W.Sink.given l.fn.sink) (g.W.Sink.given l.sink) (take l.given l.bytes);
+  prefix : Appends (g.W.Sink.given l.fn.sink) (g.W.Sink.given l.sink) (take l.given l.bytes);
   unfailed : g.W.Sink.failed l.sink ≡ g.W.Sink.failed l.fn.sink;
 }
 

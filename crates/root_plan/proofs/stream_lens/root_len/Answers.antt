@@ -10,16 +10,16 @@ returns-clause-parts c =
     let version = c.args.version.now in
     let size = size_of c.args.sizes.now in
     let kinds : c.as_slice.result.now ≡ held size = c.as_slice.ensures.kinds ∙ c.new-kinds.ensures in
-    let front = c.heading_len-len.ensures.offset size ∙ ap (heading_size version size) kinds in
-    omega (arith, front, five_sum size)
+    let prefix = c.heading_len-len.ensures.offset size ∙ ap (heading_size version size) kinds in
+    omega (arith, prefix, five_sum size)
 
 pub returns-clause-len : goal.returns-clause-len
 returns-clause-len c model named same =
     let size = size_of c.args.sizes.now in
     let kinds : c.as_slice.result.now ≡ held size = c.as_slice.ensures.kinds ∙ c.new-kinds.ensures in
-    let front = c.heading_len-len.ensures.len size ∙ ap (λ (listed : List Kind). length (heading c.args.version.now size listed)) kinds
+    let prefix = c.heading_len-len.ensures.len size ∙ ap (λ (listed : List Kind). length (heading c.args.version.now size listed)) kinds
     ∙ ap (λ (version : List ℕ). length (heading version size (held size))) (sym named) in
-    omega (arith, front, five_sum size, root_long c.canonical_roots_are_put.ensures model size same)
+    omega (arith, prefix, five_sum size, root_long c.canonical_roots_are_put.ensures model size same)
 
 pub returns-clause-limit : goal.returns-clause-limit
 returns-clause-limit c =

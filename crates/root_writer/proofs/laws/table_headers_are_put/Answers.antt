@@ -14,5 +14,5 @@ returns c model sizes same =
     let heap_sizes = (sizes_of model).heap_sizes in
     let sorted = (sizes_of model).sorted in
     let header = λ (test : TableId → Bool) (counts : List ℕ). (0 ∷ 0 ∷ 0 ∷ 0 ∷ []) ++ (2 ∷ 0 ∷ heap_sizes ∷ 1 ∷ []) ++ number_bytes 8 (bits_of test tables) ++ number_bytes 8 sorted ++ counts in
-    ap (λ test. header test (counts_bytes test (sizes_of model) tables)) (has_rows_is facts.count facts.position facts.stand model sizes same)
+    ap (λ test. header test (counts_bytes test (sizes_of model) tables)) (has_rows_is facts.count facts.table_index facts.stand model sizes same)
     ∙ ap (header (is_counted sizes)) (sym (same_counts (is_counted sizes) sizes (sizes_of model) same tables))

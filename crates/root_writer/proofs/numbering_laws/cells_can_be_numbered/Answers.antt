@@ -5,7 +5,7 @@ pub returns-clause-texts : goal.returns-clause-texts
 returns-clause-texts c model valid = no_nul model c.tables_stand.ensures.count valid
 
 pub returns-clause-cell : goal.returns-clause-cell
-returns-clause-cell c model valid table row place there within = ready_at model valid table row place there within
+returns-clause-cell c model valid table row cell_index there within = ready_at model valid table row cell_index there within
 
 pub returns-clause-rows : goal.returns-clause-rows
 returns-clause-rows c model valid table = rows_ready model valid table

@@ -38,10 +38,10 @@ loop-column-preserved c =
     let more = width_more sizes columns i (col kind.U8) within in
     let row = row_more sizes columns numbers i (col kind.U8) within (omega (arith, c.loop-column-test.true)) in
     let number = number_bytes (width_of sizes (get_or columns i (col kind.U8))) (get_or numbers i 0) in
-    let rest = row_bytes sizes (drop (i + 1) columns) (drop (i + 1) numbers) in
+    let tail = row_bytes sizes (drop (i + 1) columns) (drop (i + 1) numbers) in
     let put : c.put_number.new.bytes.items ≡ c.loop-column.bytes.items ++ number = c.in_ok-put_number.ensures.ok ∙ ap (λ (w : ℕ). c.loop-column.bytes.items ++ number_bytes w (get_or numbers i 0)) c.cell_width.ensures.value in
     record {
-      whole = ap (λ l. l ++ rest) put ∙ append_assoc c.loop-column.bytes.items number rest ∙ ap (λ l. c.loop-column.bytes.items ++ l) (sym row) ∙ c.loop-column.invariant.whole;
+      whole = ap (λ l. l ++ tail) put ∙ append_assoc c.loop-column.bytes.items number tail ∙ ap (λ l. c.loop-column.bytes.items ++ l) (sym row) ∙ c.loop-column.invariant.whole;
       long = omega (arith, more, c.cell_width.ensures.value, c.in_ok-put_number.ensures.len, c.loop-column.invariant.long);
       capacity = omega (arith, c.put_number.ensures.capacity, c.loop-column.invariant.capacity);
       room = omega (arith, more, c.cell_width.ensures.value, c.in_ok-put_number.ensures.len, c.put_number.ensures.capacity, c.loop-column.invariant.room);
@@ -55,8 +55,8 @@ returns-clause-ok c =
     let i = c.loop-column.column in
     let many : length numbers ≡ length columns = length_of_fit sizes columns numbers c.requires in
     let none : drop i columns ≡ [] = drop_all i columns (omega (arith, c.loop-column-test.false)) in
-    let rest : row_bytes sizes (drop i columns) (drop i numbers) ≡ [] = rw none refl in
-    sym (append-nil c.loop-column.bytes.items) ∙ ap (λ l. c.loop-column.bytes.items ++ l) (sym rest) ∙ c.loop-column.invariant.whole
+    let tail : row_bytes sizes (drop i columns) (drop i numbers) ≡ [] = rw none refl in
+    sym (append-nil c.loop-column.bytes.items) ∙ ap (λ l. c.loop-column.bytes.items ++ l) (sym tail) ∙ c.loop-column.invariant.whole
 
 pub returns-clause-len : goal.returns-clause-len
 returns-clause-len c =

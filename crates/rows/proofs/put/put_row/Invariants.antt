@@ -1,6 +1,6 @@
 use Rattle.std.proofs.Common.{◌≡◌, ◌+◌, ◌≤◌, ◌++◌, drop, vec_len, vec_capacity}
 use Rattle.table_schema.specs.Columns.{columns_of}
-use Rattle.schema.specs.Places.{columns_width}
+use Rattle.schema.specs.Offsets.{columns_width}
 use Rattle.schema.specs.LaidOut.{row_bytes}
 use Rattle.rows.proofs.put.put_row.Given as goal
 

@@ -1,14 +1,14 @@
 use Rattle.std.proofs.Common.{◌≡◌, ℕ, ◌∙◌, ap, sym, inl, arith}
 use Rattle.packed.specs.declared.code.FaultCode.TheVariants.{RowCount}
-use Rattle.packed.specs.Demand.{fault}
+use Rattle.packed.specs.Rule.{fault}
 use Rattle.packed.specs.Number.{little_endian}
-use Rattle.packed.specs.Places.{part}
+use Rattle.packed.specs.Offsets.{part}
 use Rattle.schema.specs.Header.{has_bit, valid_of, count_in}
 use Rattle.schema.proofs.HeaderLemmas.{bit_there, count_within, count_counted, count_uncounted}
 use Rattle.schema.proofs.read.read_count.Goals as goal
 
-pub returns-then-not-is_set-clause-answers : goal.returns-then-not-is_set-clause-answers
-returns-then-not-is_set-clause-answers c =
+pub returns-then-not-is_set-clause-reports : goal.returns-then-not-is_set-clause-reports
+returns-then-not-is_set-clause-reports c =
     let clear = bit_there c.args.bytes.now c.args.valid c.args.table _ _ c.requires.valid c.is_set.ensures c.if-not-is_set.true in
     let none = count_uncounted c.args.bytes.now c.args.table clear in
     (omega arith, tt)
@@ -21,25 +21,25 @@ pub u32_at-count-requires : goal.u32_at-count-requires
 u32_at-count-requires c =
     let set = bit_there c.args.bytes.now c.args.valid c.args.table _ _ c.requires.valid c.is_set.ensures c.if-not-is_set.false in
     let within = count_within (has_bit (valid_of c.args.bytes.now)) c.args.table set in
-    let place = c.requires.place in
+    let offset = c.requires.offset in
     let room = c.requires.room in
     omega arith
 
-pub returns-then-count-gt-ROW_LIMIT-clause-answers : goal.returns-then-count-gt-ROW_LIMIT-clause-answers
-returns-then-count-gt-ROW_LIMIT-clause-answers c =
+pub returns-then-count-gt-ROW_LIMIT-clause-reports : goal.returns-then-count-gt-ROW_LIMIT-clause-reports
+returns-then-count-gt-ROW_LIMIT-clause-reports c =
     let set = bit_there c.args.bytes.now c.args.valid c.args.table _ _ c.requires.valid c.is_set.ensures c.if-not-is_set.false in
     let count : c.u32_at-count.result ≡ count_in c.args.bytes.now c.args.table =
-    c.u32_at-count.ensures.value ∙ ap (λ (at : ℕ). little_endian (part c.args.bytes.now at 4)) c.requires.place ∙ sym (count_counted c.args.bytes.now c.args.table set) in
-    inl (λ low. omega arith, c.new.ensures ∙ ap (fault RowCount) c.requires.place)
+    c.u32_at-count.ensures.value ∙ ap (λ (at : ℕ). little_endian (part c.args.bytes.now at 4)) c.requires.offset ∙ sym (count_counted c.args.bytes.now c.args.table set) in
+    inl (λ low. omega arith, c.new.ensures ∙ ap (fault RowCount) c.requires.offset)
 
-pub returns-clause-answers : goal.returns-clause-answers
-returns-clause-answers c =
+pub returns-clause-reports : goal.returns-clause-reports
+returns-clause-reports c =
     let set = bit_there c.args.bytes.now c.args.valid c.args.table _ _ c.requires.valid c.is_set.ensures c.if-not-is_set.false in
     let count : c.u32_at-count.result ≡ count_in c.args.bytes.now c.args.table =
-    c.u32_at-count.ensures.value ∙ ap (λ (at : ℕ). little_endian (part c.args.bytes.now at 4)) c.requires.place ∙ sym (count_counted c.args.bytes.now c.args.table set) in
+    c.u32_at-count.ensures.value ∙ ap (λ (at : ℕ). little_endian (part c.args.bytes.now at 4)) c.requires.offset ∙ sym (count_counted c.args.bytes.now c.args.table set) in
     (omega arith, tt)
 
 pub returns-clause-count : goal.returns-clause-count
 returns-clause-count c =
     let set = bit_there c.args.bytes.now c.args.valid c.args.table _ _ c.requires.valid c.is_set.ensures c.if-not-is_set.false in
-    c.u32_at-count.ensures.value ∙ ap (λ (at : ℕ). little_endian (part c.args.bytes.now at 4)) c.requires.place ∙ sym (count_counted c.args.bytes.now c.args.table set)
+    c.u32_at-count.ensures.value ∙ ap (λ (at : ℕ). little_endian (part c.args.bytes.now at 4)) c.requires.offset ∙ sym (count_counted c.args.bytes.now c.args.table set)

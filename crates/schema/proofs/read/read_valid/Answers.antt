@@ -2,11 +2,11 @@ use Rattle.std.proofs.Common.{◌≡◌, ◌∙◌, ap, subst, inl, inr, arith, 
 use Rattle.std.specs.List.{count_by}
 use Rattle.table_schema.specs.Tables.{tables}
 use Rattle.schema.specs.Header.{has_bit, valid_of}
-use Rattle.schema.specs.Demands.{NamesTables}
+use Rattle.schema.specs.Rules.{NamesTables}
 use Rattle.schema.proofs.read.read_valid.Goals as goal
 
-pub returns-then-bytes-counted-clause-answers : goal.returns-then-bytes-counted-clause-answers
-returns-then-bytes-counted-clause-answers c =
+pub returns-then-bytes-counted-clause-reports : goal.returns-then-bytes-counted-clause-reports
+returns-then-bytes-counted-clause-reports c =
     let named = subst NamesTables c.u64_at-valid.ensures.value (search rules) in
     let counted : c.counted.result ≡ count_by (has_bit (valid_of c.args.bytes.now)) tables = c.counted.ensures.value ∙ ap (λ (n : ℕ). count_by (has_bit n) tables) c.u64_at-valid.ensures.value in
     inr (omega arith, inr (search rules, inr (search rules, inr (named, inl (λ h. omega arith, c.new-then-bytes-counted.ensures)))))

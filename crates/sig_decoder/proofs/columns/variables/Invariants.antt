@@ -2,9 +2,9 @@ use Rattle.std.proofs.Common.{◌≡◌, ◌-◌, map}
 use Rattle.sig_grammar.specs.Reading.{many_at, core_at}
 use Rattle.sig_grammar.specs.Columns.{local_at}
 use Rattle.sig_grammar.specs.Views.{local_of}
-use Rattle.sig_decoder.proofs.Items.{with_front}
+use Rattle.sig_decoder.proofs.Items.{with_head}
 use Rattle.sig_decoder.proofs.columns.variables.Given as goal
 
 abbrev pub invariant-loop-done : goal.invariant-loop-done
 invariant-loop-done l =
-    with_front (map local_of l.all.items) (many_at (local_at (core_at l.depth)) (l.count - l.done) l.rest) ≡ many_at (local_at (core_at l.depth)) l.count l.bytes
+    with_head (map local_of l.all.items) (many_at (local_at (core_at l.depth)) (l.count - l.done) l.tail) ≡ many_at (local_at (core_at l.depth)) l.count l.bytes

@@ -9,21 +9,21 @@ use Rattle.sig_decoder.proofs.modifiers.prefixes.Goals as goal
 pub returns-in_err-one : goal.returns-in_err-one
 returns-in_err-one c =
     let bad = given _ _ _ _ c.prefix.ensures c.in_err-one.ensures.value in
-    let h = subst (λ (o : Option (List Prefix × List ℕ)). Fails c.in_err-one.field-0.0 o) c.loop-rest.invariant (prefixes_bad c.in_err-one.field-0.0 c.loop-rest.rest.now c.loop-rest.all.items bad) in
+    let h = subst (λ (o : Option (List Prefix × List ℕ)). Fails c.in_err-one.field-0.0 o) c.loop-tail.invariant (prefixes_bad c.in_err-one.field-0.0 c.loop-tail.tail.now c.loop-tail.all.items bad) in
     failed _ _ _ _ c.from_residual.ensures h
 
-pub loop-rest-smaller : goal.loop-rest-smaller
-loop-rest-smaller c =
+pub loop-tail-smaller : goal.loop-tail-smaller
+loop-tail-smaller c =
     let found = given _ _ _ _ c.prefix.ensures c.in_ok-one.ensures.value in
-    prefix_shorter c.loop-rest.rest.now c.in_ok-one.next.now c.in_ok-one.one found
+    prefix_shorter c.loop-tail.tail.now c.in_ok-one.next.now c.in_ok-one.one found
 
-pub loop-rest-preserved : goal.loop-rest-preserved
-loop-rest-preserved c =
+pub loop-tail-preserved : goal.loop-tail-preserved
+loop-tail-preserved c =
     let found = given _ _ _ _ c.prefix.ensures c.in_ok-one.ensures.value in
-    let e = prefixes_next c.loop-rest.rest.now c.in_ok-one.next.now c.loop-rest.all.items c.in_ok-one.one found in
-    rw (c.in_ok-push.ensures.items) (sym e ∙ c.loop-rest.invariant)
+    let e = prefixes_next c.loop-tail.tail.now c.in_ok-one.next.now c.loop-tail.all.items c.in_ok-one.one found in
+    rw (c.in_ok-push.ensures.items) (sym e ∙ c.loop-tail.invariant)
 
 pub returns : goal.returns
 returns c =
-    let stops : starts_prefix c.loop-rest.rest.now ≡ false = sym c.has_prefix.ensures ∙ c.loop-rest-test.false in
-    sym c.loop-rest.invariant ∙ prefixes_end c.loop-rest.rest.now c.loop-rest.all.items stops
+    let stops : starts_prefix c.loop-tail.tail.now ≡ false = sym c.has_prefix.ensures ∙ c.loop-tail-test.false in
+    sym c.loop-tail.invariant ∙ prefixes_end c.loop-tail.tail.now c.loop-tail.all.items stops

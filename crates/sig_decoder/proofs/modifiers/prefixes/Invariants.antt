@@ -1,10 +1,10 @@
 use Rattle.std.proofs.Common.{◌≡◌, length}
 use Rattle.sig_grammar.specs.Reading.{prefixes_at}
-use Rattle.sig_decoder.proofs.Items.{with_front}
+use Rattle.sig_decoder.proofs.Items.{with_head}
 use Rattle.sig_decoder.proofs.modifiers.prefixes.Given as goal
 
-abbrev pub invariant-loop-rest : goal.invariant-loop-rest
-invariant-loop-rest l = with_front l.all.items (prefixes_at l.rest) ≡ prefixes_at l.bytes
+abbrev pub invariant-loop-tail : goal.invariant-loop-tail
+invariant-loop-tail l = with_head l.all.items (prefixes_at l.tail) ≡ prefixes_at l.bytes
 
-abbrev pub decreases-loop-rest : goal.decreases-loop-rest
-decreases-loop-rest l = length l.rest
+abbrev pub decreases-loop-tail : goal.decreases-loop-tail
+decreases-loop-tail l = length l.tail

@@ -6,14 +6,14 @@ use Rattle.sig_decoder.proofs.shape.numbers.Goals as goal
 
 pub returns-in_err-one : goal.returns-in_err-one
 returns-in_err-one c =
-    let h = subst (λ (o : Option (List ℕ × List ℕ)). Fails c.in_err-one.field-0.0 o) c.loop-done.invariant (many_bad c.in_err-one.field-0.0 number_at c.args.count c.loop-done.done c.loop-done.rest.now c.loop-done.all.items c.loop-done-test.true c.in_err-one.ensures) in
+    let h = subst (λ (o : Option (List ℕ × List ℕ)). Fails c.in_err-one.field-0.0 o) c.loop-done.invariant (many_bad c.in_err-one.field-0.0 number_at c.args.count c.loop-done.done c.loop-done.tail.now c.loop-done.all.items c.loop-done-test.true c.in_err-one.ensures) in
     failed _ _ _ _ c.from_residual-in_err-one.ensures h
 
 pub loop-done-preserved : goal.loop-done-preserved
 loop-done-preserved c =
-    let e = many_next number_at c.args.count c.loop-done.done c.loop-done.rest.now c.in_ok-one.next.now c.loop-done.all.items c.in_ok-one.one c.loop-done-test.true c.in_ok-one.ensures in
+    let e = many_next number_at c.args.count c.loop-done.done c.loop-done.tail.now c.in_ok-one.next.now c.loop-done.all.items c.in_ok-one.one c.loop-done-test.true c.in_ok-one.ensures in
     rw (c.in_ok-push.ensures.items) (sym e ∙ c.loop-done.invariant)
 
 pub returns : goal.returns
 returns c =
-    sym c.loop-done.invariant ∙ many_end number_at c.args.count c.loop-done.done c.loop-done.rest.now c.loop-done.all.items c.loop-done-test.false
+    sym c.loop-done.invariant ∙ many_end number_at c.args.count c.loop-done.done c.loop-done.tail.now c.loop-done.all.items c.loop-done-test.false

@@ -2,8 +2,8 @@ use Rattle.std.proofs.Common.{arith}
 use Rattle.sig_encoder.proofs.Steps.{steps, items_both}
 use Rattle.sig_encoder.proofs.items.visit_shape.Goals as goal
 
-pub returns-in_err-visit_demand : goal.returns-in_err-visit_demand
-returns-in_err-visit_demand g c = grind (arith, steps, items_both)
+pub returns-in_err-visit_rule : goal.returns-in_err-visit_rule
+returns-in_err-visit_rule g c = grind (arith, steps, items_both)
 
 pub returns-in_err-number : goal.returns-in_err-number
 returns-in_err-number g c = grind (arith, steps, items_both)

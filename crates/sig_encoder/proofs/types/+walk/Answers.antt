@@ -1,6 +1,6 @@
 use Rattle.std.proofs.Common.{refl, sym, ◌∙◌, arith}
 use Rattle.sig_encoder.proofs.Steps.{steps, on_both, on_one, off_both, off_one}
-use Rattle.sig_encoder.proofs.Forms.{method_told, run_simple, run_void_pointer, run_pointer, run_vector, run_array, run_class, run_value, run_var, run_mvar, run_function, run_instance, run_type, run_typed_ref, run_plain, run_by_ref, run_slot, run_some_ret, run_void_ret}
+use Rattle.sig_encoder.proofs.Forms.{method_reported, run_simple, run_void_pointer, run_pointer, run_vector, run_array, run_class, run_value, run_var, run_mvar, run_function, run_instance, run_type, run_typed_ref, run_plain, run_by_ref, run_slot, run_some_ret, run_void_ret}
 use Rattle.sig_encoder.proofs.Loops.{types_count, goes_by, stops_by, types_next, types_end, params_next, params_end, params_start}
 use Rattle.sig_encoder.proofs.types.+walk.Goals as goal
 
@@ -17,38 +17,38 @@ visit_types-loop-of-preserved g t c =
 pub visit_params-returns-in_err-visit_param : goal.visit_params-returns-in_err-visit_param
 visit_params-returns-in_err-visit_param g t c =
     stops_by _ _ _ _ _ _ c.from_residual.ensures c.in_err-visit_param.ensures
-    (params_next g.S.PartSink.step c.args.params.now c.loop-place.place c.index-params-place.result c.args.sentinel c.args.depth c.loop-place.sink _ c.loop-place-test.true c.index-params-place.is c.stands_before.ensures) c.loop-place.invariant
+    (params_next g.S.PartSink.step c.args.params.now c.loop-index.index c.index-params-index.result c.args.sentinel c.args.depth c.loop-index.sink _ c.loop-index-test.true c.index-params-index.is c.stands_before.ensures) c.loop-index.invariant
 
-pub visit_params-loop-place-preserved : goal.visit_params-loop-place-preserved
-visit_params-loop-place-preserved g t c =
+pub visit_params-loop-index-preserved : goal.visit_params-loop-index-preserved
+visit_params-loop-index-preserved g t c =
     goes_by _ _ _ _ _ c.in_ok-visit_param.ensures
-    (params_next g.S.PartSink.step c.args.params.now c.loop-place.place c.index-params-place.result c.args.sentinel c.args.depth c.loop-place.sink _ c.loop-place-test.true c.index-params-place.is c.stands_before.ensures) c.loop-place.invariant
+    (params_next g.S.PartSink.step c.args.params.now c.loop-index.index c.index-params-index.result c.args.sentinel c.args.depth c.loop-index.sink _ c.loop-index-test.true c.index-params-index.is c.stands_before.ensures) c.loop-index.invariant
 
-pub visit_method-returns-in_err-visit_demand : goal.visit_method-returns-in_err-visit_demand
-visit_method-returns-in_err-visit_demand g t c =
-    off_both g.S.PartSink.step _ _ _ _ _ _ c.from_residual.ensures c.in_err-visit_demand.ensures
-    (method_told g.S.PartSink.step c.args.depth c.args.sink.now c.args.method.now _ _ _ _ _ c.deref.ensures.value c.can_be.ensures refl refl refl)
+pub visit_method-returns-in_err-visit_rule : goal.visit_method-returns-in_err-visit_rule
+visit_method-returns-in_err-visit_rule g t c =
+    off_both g.S.PartSink.step _ _ _ _ _ _ c.from_residual.ensures c.in_err-visit_rule.ensures
+    (method_reported g.S.PartSink.step c.args.depth c.args.sink.now c.args.method.now _ _ _ _ _ c.deref.ensures.value c.can_be.ensures refl refl refl)
 
 pub visit_method-returns-in_err-byte : goal.visit_method-returns-in_err-byte
 visit_method-returns-in_err-byte g t c =
     off_one g.S.PartSink.step _ _ _ _ _ _ c.from_residual-in_err-byte.ensures c.in_err-byte.ensures
-    (on_both g.S.PartSink.step _ _ _ _ _ c.in_ok-visit_demand.ensures
-    (method_told g.S.PartSink.step c.args.depth c.args.sink.now c.args.method.now _ _ _ _ _ c.deref.ensures.value c.can_be.ensures c.first_byte.ensures refl refl))
+    (on_both g.S.PartSink.step _ _ _ _ _ c.in_ok-visit_rule.ensures
+    (method_reported g.S.PartSink.step c.args.depth c.args.sink.now c.args.method.now _ _ _ _ _ c.deref.ensures.value c.can_be.ensures c.first_byte.ensures refl refl))
 
 pub visit_method-returns-in_err-visit_generic : goal.visit_method-returns-in_err-visit_generic
 visit_method-returns-in_err-visit_generic g t c =
     off_both g.S.PartSink.step _ _ _ _ _ _ c.from_residual-in_err-visit_generic.ensures c.in_err-visit_generic.ensures
     (on_one g.S.PartSink.step _ _ _ _ _ c.in_ok-byte.ensures
-    (on_both g.S.PartSink.step _ _ _ _ _ c.in_ok-visit_demand.ensures
-    (method_told g.S.PartSink.step c.args.depth c.args.sink.now c.args.method.now _ _ _ _ _ c.deref.ensures.value c.can_be.ensures c.first_byte.ensures refl refl)))
+    (on_both g.S.PartSink.step _ _ _ _ _ c.in_ok-visit_rule.ensures
+    (method_reported g.S.PartSink.step c.args.depth c.args.sink.now c.args.method.now _ _ _ _ _ c.deref.ensures.value c.can_be.ensures c.first_byte.ensures refl refl)))
 
 pub visit_method-returns-in_err-number : goal.visit_method-returns-in_err-number
 visit_method-returns-in_err-number g t c =
     off_one g.S.PartSink.step _ _ _ _ _ _ c.from_residual-in_err-number.ensures c.in_err-number.ensures
     (on_both g.S.PartSink.step _ _ _ _ _ c.in_ok-visit_generic.ensures
     (on_one g.S.PartSink.step _ _ _ _ _ c.in_ok-byte.ensures
-    (on_both g.S.PartSink.step _ _ _ _ _ c.in_ok-visit_demand.ensures
-    (method_told g.S.PartSink.step c.args.depth c.args.sink.now c.args.method.now _ _ _ _ _ c.deref.ensures.value c.can_be.ensures c.first_byte.ensures (c.len.ensures ∙ sym c.deref.ensures.len) refl))))
+    (on_both g.S.PartSink.step _ _ _ _ _ c.in_ok-visit_rule.ensures
+    (method_reported g.S.PartSink.step c.args.depth c.args.sink.now c.args.method.now _ _ _ _ _ c.deref.ensures.value c.can_be.ensures c.first_byte.ensures (c.len.ensures ∙ sym c.deref.ensures.len) refl))))
 
 pub visit_method-returns-in_err-visit_ret : goal.visit_method-returns-in_err-visit_ret
 visit_method-returns-in_err-visit_ret g t c =
@@ -56,8 +56,8 @@ visit_method-returns-in_err-visit_ret g t c =
     (on_one g.S.PartSink.step _ _ _ _ _ c.in_ok-number.ensures
     (on_both g.S.PartSink.step _ _ _ _ _ c.in_ok-visit_generic.ensures
     (on_one g.S.PartSink.step _ _ _ _ _ c.in_ok-byte.ensures
-    (on_both g.S.PartSink.step _ _ _ _ _ c.in_ok-visit_demand.ensures
-    (method_told g.S.PartSink.step c.args.depth c.args.sink.now c.args.method.now _ _ _ _ _ c.deref.ensures.value c.can_be.ensures c.first_byte.ensures (c.len.ensures ∙ sym c.deref.ensures.len) refl)))))
+    (on_both g.S.PartSink.step _ _ _ _ _ c.in_ok-visit_rule.ensures
+    (method_reported g.S.PartSink.step c.args.depth c.args.sink.now c.args.method.now _ _ _ _ _ c.deref.ensures.value c.can_be.ensures c.first_byte.ensures (c.len.ensures ∙ sym c.deref.ensures.len) refl)))))
 
 pub visit_method-returns : goal.visit_method-returns
 visit_method-returns g t c =
@@ -66,8 +66,8 @@ visit_method-returns g t c =
     (on_one g.S.PartSink.step _ _ _ _ _ c.in_ok-number.ensures
     (on_both g.S.PartSink.step _ _ _ _ _ c.in_ok-visit_generic.ensures
     (on_one g.S.PartSink.step _ _ _ _ _ c.in_ok-byte.ensures
-    (on_both g.S.PartSink.step _ _ _ _ _ c.in_ok-visit_demand.ensures
-    (method_told g.S.PartSink.step c.args.depth c.args.sink.now c.args.method.now _ _ _ _ _ c.deref.ensures.value c.can_be.ensures c.first_byte.ensures (c.len.ensures ∙ sym c.deref.ensures.len) c.deref-2.ensures.value))))))
+    (on_both g.S.PartSink.step _ _ _ _ _ c.in_ok-visit_rule.ensures
+    (method_reported g.S.PartSink.step c.args.depth c.args.sink.now c.args.method.now _ _ _ _ _ c.deref.ensures.value c.can_be.ensures c.first_byte.ensures (c.len.ensures ∙ sym c.deref.ensures.len) c.deref-2.ensures.value))))))
 
 pub visit_first-returns-in-Simple : goal.visit_first-returns-in-Simple
 visit_first-returns-in-Simple g t c = grind (arith, steps, run_simple)
@@ -141,8 +141,8 @@ visit_first-returns-in_err-number-in-Instance g t c = grind (arith, steps, run_i
 pub visit_first-returns-in_ok-number-in-Instance : goal.visit_first-returns-in_ok-number-in-Instance
 visit_first-returns-in_ok-number-in-Instance g t c = grind (arith, steps, run_instance, types_count)
 
-pub visit_core-returns-in_err-visit_demand : goal.visit_core-returns-in_err-visit_demand
-visit_core-returns-in_err-visit_demand g t c = grind (arith, steps)
+pub visit_core-returns-in_err-visit_rule : goal.visit_core-returns-in_err-visit_rule
+visit_core-returns-in_err-visit_rule g t c = grind (arith, steps)
 
 pub visit_core-returns : goal.visit_core-returns
 visit_core-returns g t c = grind (arith, steps)
@@ -195,8 +195,8 @@ visit_types-returns g t c = grind (arith, types_end)
 pub visit_params-returns : goal.visit_params-returns
 visit_params-returns g t c = grind (arith, params_end)
 
-pub visit_params-loop-place-init : goal.visit_params-loop-place-init
-visit_params-loop-place-init g t c = grind (arith, params_start)
+pub visit_params-loop-index-init : goal.visit_params-loop-index-init
+visit_params-loop-index-init g t c = grind (arith, params_start)
 
 pub visit_param-returns : goal.visit_param-returns
 visit_param-returns g t c = grind (arith, steps)

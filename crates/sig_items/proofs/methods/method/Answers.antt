@@ -1,23 +1,23 @@
 use Rattle.std.proofs.Common.{◌≡◌, ◌∙◌, ◌/◌, ◌%◌, eqb, true, false, sym, ap, rules}
-use Rattle.sig_items.specs.declared.place.Place.TheVariants as place
+use Rattle.sig_items.specs.declared.position.Position.TheVariants as position
 use Rattle.sig_items.specs.ItemsOf.{method_head}
-use Rattle.sig_items.specs.Places.{item_then, params_told}
+use Rattle.sig_items.specs.Positions.{item_then, params_reported}
 use Rattle.sig_items.proofs.Counts.{next_joined}
 use Rattle.sig_items.proofs.Heads.{method_bad, method_is}
 use Rattle.sig_items.proofs.methods.method.Goals as goal
 
-pub returns-then-not-begins_method-clause-told : goal.returns-then-not-begins_method-clause-told
-returns-then-not-begins_method-clause-told c =
+pub returns-then-not-begins_method-clause-reported : goal.returns-then-not-begins_method-clause-reported
+returns-then-not-begins_method-clause-reported c =
     let stops : c.begins_method.result ≡ false = search rules in
-    sym (method_bad c.args.own c.args.depth c.in_ok-code.code c.args.bytes.now c.in_ok-code.rest.now c.in_ok-code.ensures (sym c.begins_method.ensures ∙ stops))
+    sym (method_bad c.args.own c.args.depth c.in_ok-code.code c.args.bytes.now c.in_ok-code.tail.now c.in_ok-code.ensures (sym c.begins_method.ensures ∙ stops))
 
-pub returns-clause-told : goal.returns-clause-told
-returns-clause-told c =
+pub returns-clause-reported : goal.returns-clause-reported
+returns-clause-reported c =
     let begins : c.begins_method.result ≡ true = search rules in
     let code = c.in_ok-code.code in
     let count = c.in_ok-count.count in
     rw (c.calling_convention.ensures, c.has_this.ensures, c.has_explicit_this.ensures)
     (ap (item_then (method_head (code % 16) (eqb (code / 32 % 2) 1) (eqb (code / 64 % 2) 1) c.in_ok-generic.generic count))
-    (next_joined c.params.result (place.Ret c.args.depth) (params_told count c.takes_sentinel.result c.args.depth) c.in_ok-count.rest.now c.params.ensures.told)
-    ∙ sym (method_is c.args.own c.takes_sentinel.result c.args.depth code count c.args.bytes.now c.in_ok-code.rest.now c.in_ok-generic.rest.now c.in_ok-count.rest.now c.in_ok-generic.generic c.in_ok-code.ensures
+    (next_joined c.params.result (position.Ret c.args.depth) (params_reported count c.takes_sentinel.result c.args.depth) c.in_ok-count.tail.now c.params.ensures.reported)
+    ∙ sym (method_is c.args.own c.takes_sentinel.result c.args.depth code count c.args.bytes.now c.in_ok-code.tail.now c.in_ok-generic.tail.now c.in_ok-count.tail.now c.in_ok-generic.generic c.in_ok-code.ensures
     (sym c.begins_method.ensures ∙ begins) (sym c.in_ok-generic.ensures) (sym c.in_ok-count.ensures) c.takes_sentinel.ensures))

@@ -1,56 +1,56 @@
 use Rattle.std.proofs.Common.{◌∙◌, sym}
-use Rattle.sig_items.specs.Steps.{told}
-use Rattle.sig_items.proofs.Arms.{pointer_told, function_told, code_vector, code_array, code_instance, code_value, code_value_none, code_class, code_class_none, code_var, code_var_none, code_mvar, code_mvar_none}
+use Rattle.sig_items.specs.Steps.{reported}
+use Rattle.sig_items.proofs.Arms.{pointer_reported, function_reported, code_vector, code_array, code_instance, code_value, code_value_none, code_class, code_class_none, code_var, code_var_none, code_mvar, code_mvar_none}
 use Rattle.sig_items.proofs.types.core_behind.Goals as goal
 
-pub returns-in_err-of-in-17-clause-told : goal.returns-in_err-of-in-17-clause-told
-returns-in_err-of-in-17-clause-told c =
-    rw c.from_residual.ensures (sym (code_value_none c.args.depth c.args.code c.args.rest.now c.in-17.is (sym c.in_err-of-in-17.ensures)))
+pub returns-in_err-of-in-17-clause-reported : goal.returns-in_err-of-in-17-clause-reported
+returns-in_err-of-in-17-clause-reported c =
+    rw c.from_residual.ensures (sym (code_value_none c.args.depth c.args.code c.args.tail.now c.in-17.is (sym c.in_err-of-in-17.ensures)))
 
-pub returns-in_ok-of-in-17-clause-told : goal.returns-in_ok-of-in-17-clause-told
-returns-in_ok-of-in-17-clause-told c =
-    c.leaf.ensures.told ∙ sym (code_value c.args.depth c.args.code c.args.rest.now c.in_ok-of-in-17.rest.now c.in_ok-of-in-17.of c.in-17.is (sym c.in_ok-of-in-17.ensures))
+pub returns-in_ok-of-in-17-clause-reported : goal.returns-in_ok-of-in-17-clause-reported
+returns-in_ok-of-in-17-clause-reported c =
+    c.leaf.ensures.reported ∙ sym (code_value c.args.depth c.args.code c.args.tail.now c.in_ok-of-in-17.tail.now c.in_ok-of-in-17.of c.in-17.is (sym c.in_ok-of-in-17.ensures))
 
-pub returns-in_err-of-in-18-clause-told : goal.returns-in_err-of-in-18-clause-told
-returns-in_err-of-in-18-clause-told c =
-    rw c.from_residual-in_err-of-in-18.ensures (sym (code_class_none c.args.depth c.args.code c.args.rest.now c.in-18.is (sym c.in_err-of-in-18.ensures)))
+pub returns-in_err-of-in-18-clause-reported : goal.returns-in_err-of-in-18-clause-reported
+returns-in_err-of-in-18-clause-reported c =
+    rw c.from_residual-in_err-of-in-18.ensures (sym (code_class_none c.args.depth c.args.code c.args.tail.now c.in-18.is (sym c.in_err-of-in-18.ensures)))
 
-pub returns-in_ok-of-in-18-clause-told : goal.returns-in_ok-of-in-18-clause-told
-returns-in_ok-of-in-18-clause-told c =
-    c.leaf-in-18.ensures.told ∙ sym (code_class c.args.depth c.args.code c.args.rest.now c.in_ok-of-in-18.rest.now c.in_ok-of-in-18.of c.in-18.is (sym c.in_ok-of-in-18.ensures))
+pub returns-in_ok-of-in-18-clause-reported : goal.returns-in_ok-of-in-18-clause-reported
+returns-in_ok-of-in-18-clause-reported c =
+    c.leaf-in-18.ensures.reported ∙ sym (code_class c.args.depth c.args.code c.args.tail.now c.in_ok-of-in-18.tail.now c.in_ok-of-in-18.of c.in-18.is (sym c.in_ok-of-in-18.ensures))
 
-pub returns-in_err-number-in-19-clause-told : goal.returns-in_err-number-in-19-clause-told
-returns-in_err-number-in-19-clause-told c =
-    rw c.from_residual-in_err-number-in-19.ensures (sym (code_var_none c.args.depth c.args.code c.args.rest.now c.in-19.is (sym c.in_err-number-in-19.ensures)))
+pub returns-in_err-number-in-19-clause-reported : goal.returns-in_err-number-in-19-clause-reported
+returns-in_err-number-in-19-clause-reported c =
+    rw c.from_residual-in_err-number-in-19.ensures (sym (code_var_none c.args.depth c.args.code c.args.tail.now c.in-19.is (sym c.in_err-number-in-19.ensures)))
 
-pub returns-in_ok-number-in-19-clause-told : goal.returns-in_ok-number-in-19-clause-told
-returns-in_ok-number-in-19-clause-told c =
-    c.leaf-in-19.ensures.told ∙ sym (code_var c.args.depth c.args.code c.in_ok-number-in-19.number c.args.rest.now c.in_ok-number-in-19.rest.now c.in-19.is (sym c.in_ok-number-in-19.ensures))
+pub returns-in_ok-number-in-19-clause-reported : goal.returns-in_ok-number-in-19-clause-reported
+returns-in_ok-number-in-19-clause-reported c =
+    c.leaf-in-19.ensures.reported ∙ sym (code_var c.args.depth c.args.code c.in_ok-number-in-19.number c.args.tail.now c.in_ok-number-in-19.tail.now c.in-19.is (sym c.in_ok-number-in-19.ensures))
 
-pub returns-in_err-number-in-30-clause-told : goal.returns-in_err-number-in-30-clause-told
-returns-in_err-number-in-30-clause-told c =
-    rw c.from_residual-in_err-number-in-30.ensures (sym (code_mvar_none c.args.depth c.args.code c.args.rest.now c.in-30.is (sym c.in_err-number-in-30.ensures)))
+pub returns-in_err-number-in-30-clause-reported : goal.returns-in_err-number-in-30-clause-reported
+returns-in_err-number-in-30-clause-reported c =
+    rw c.from_residual-in_err-number-in-30.ensures (sym (code_mvar_none c.args.depth c.args.code c.args.tail.now c.in-30.is (sym c.in_err-number-in-30.ensures)))
 
-pub returns-in_ok-number-in-30-clause-told : goal.returns-in_ok-number-in-30-clause-told
-returns-in_ok-number-in-30-clause-told c =
-    c.leaf-in-30.ensures.told ∙ sym (code_mvar c.args.depth c.args.code c.in_ok-number-in-30.number c.args.rest.now c.in_ok-number-in-30.rest.now c.in-30.is (sym c.in_ok-number-in-30.ensures))
+pub returns-in_ok-number-in-30-clause-reported : goal.returns-in_ok-number-in-30-clause-reported
+returns-in_ok-number-in-30-clause-reported c =
+    c.leaf-in-30.ensures.reported ∙ sym (code_mvar c.args.depth c.args.code c.in_ok-number-in-30.number c.args.tail.now c.in_ok-number-in-30.tail.now c.in-30.is (sym c.in_ok-number-in-30.ensures))
 
-pub returns-in-15-clause-told : goal.returns-in-15-clause-told
-returns-in-15-clause-told c =
-    pointer_told c.args.depth c.args.code c.args.rest.now (told c.deeper.result) c.in-15.is c.deeper.ensures.none c.deeper.ensures.told
+pub returns-in-15-clause-reported : goal.returns-in-15-clause-reported
+returns-in-15-clause-reported c =
+    pointer_reported c.args.depth c.args.code c.args.tail.now (reported c.deeper.result) c.in-15.is c.deeper.ensures.none c.deeper.ensures.reported
 
-pub returns-in-27-clause-told : goal.returns-in-27-clause-told
-returns-in-27-clause-told c =
-    function_told c.args.depth c.args.code c.args.rest.now (told c.deeper-in-27.result) c.in-27.is c.deeper-in-27.ensures.none c.deeper-in-27.ensures.told
+pub returns-in-27-clause-reported : goal.returns-in-27-clause-reported
+returns-in-27-clause-reported c =
+    function_reported c.args.depth c.args.code c.args.tail.now (reported c.deeper-in-27.result) c.in-27.is c.deeper-in-27.ensures.none c.deeper-in-27.ensures.reported
 
-pub returns-in-20-clause-told : goal.returns-in-20-clause-told
-returns-in-20-clause-told c =
-    sym (code_array c.args.depth c.args.code c.args.rest.now c.in-20.is)
+pub returns-in-20-clause-reported : goal.returns-in-20-clause-reported
+returns-in-20-clause-reported c =
+    sym (code_array c.args.depth c.args.code c.args.tail.now c.in-20.is)
 
-pub returns-in-21-clause-told : goal.returns-in-21-clause-told
-returns-in-21-clause-told c =
-    c.instance.ensures.told ∙ sym (code_instance c.args.depth c.args.code c.args.rest.now c.in-21.is)
+pub returns-in-21-clause-reported : goal.returns-in-21-clause-reported
+returns-in-21-clause-reported c =
+    c.instance.ensures.reported ∙ sym (code_instance c.args.depth c.args.code c.args.tail.now c.in-21.is)
 
-pub returns-in-29-clause-told : goal.returns-in-29-clause-told
-returns-in-29-clause-told c =
-    c.before-in-29.ensures.told ∙ sym (code_vector c.args.depth c.args.code c.args.rest.now c.in-29.is)
+pub returns-in-29-clause-reported : goal.returns-in-29-clause-reported
+returns-in-29-clause-reported c =
+    c.before-in-29.ensures.reported ∙ sym (code_vector c.args.depth c.args.code c.args.tail.now c.in-29.is)

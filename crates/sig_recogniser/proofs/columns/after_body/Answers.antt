@@ -5,4 +5,4 @@ use Rattle.sig_recogniser.proofs.columns.after_body.Goals as goal
 
 pub returns-in_err-first : goal.returns-in_err-first
 returns-in_err-first c =
-    rw c.from_residual.ensures (sym (skip_body_end c.args.counts.now c.args.kind (skip_core c.args.counts.now c.args.depth) c.args.rest.bytes.now c.args.rest.bad c.in_err-first.ensures))
+    rw c.from_residual.ensures (sym (skip_body_end c.args.counts.now c.args.kind (skip_core c.args.counts.now c.args.depth) c.args.tail.bytes.now c.args.tail.bad c.in_err-first.ensures))

@@ -2,8 +2,8 @@ use Rattle.std.proofs.Common.{◌≡◌, length}
 use Rattle.sig_recogniser.specs.Skips.{left, skip_modifiers}
 use Rattle.sig_recogniser.proofs.type_index.after_modifiers.Given as goal
 
-abbrev pub invariant-loop-rest : goal.invariant-loop-rest
-invariant-loop-rest l = skip_modifiers l.counts (left l.rest) ≡ skip_modifiers l.counts (left l.fn.rest)
+abbrev pub invariant-loop-tail : goal.invariant-loop-tail
+invariant-loop-tail l = skip_modifiers l.counts (left l.tail) ≡ skip_modifiers l.counts (left l.fn.tail)
 
-abbrev pub decreases-loop-rest : goal.decreases-loop-rest
-decreases-loop-rest l = length l.rest.bytes.now
+abbrev pub decreases-loop-tail : goal.decreases-loop-tail
+decreases-loop-tail l = length l.tail.bytes.now

@@ -1,4 +1,4 @@
-use Rattle.sig_values.proofs.Spelled.{tokens_have_rows, tokens_have_tables}
+use Rattle.sig_values.proofs.Encoded.{tokens_have_rows, tokens_have_tables}
 use Rattle.sig_values.proofs.laws.indexes_name_types.Goals as goal
 
 pub returns-clause-rows : goal.returns-clause-rows

@@ -1,6 +1,6 @@
 use Rattle.sig_values.proofs.Numbers.{NumbersAreRead}
 use Rattle.sig_values.proofs.Readers.{IsBytes-from_each}
-use Rattle.sig_values.proofs.Whole.{spelled_read, read_spelled, one_signature}
+use Rattle.sig_values.proofs.Whole.{encoded_read, read_encoded, one_signature}
 use Rattle.sig_values.proofs.laws.signatures_are_read.Goals as goal
 
 known : goal.After-numbers_are_read → NumbersAreRead
@@ -12,10 +12,10 @@ known c = record {
 }
 
 pub returns-clause-read : goal.returns-clause-read
-returns-clause-read c = spelled_read (known c)
+returns-clause-read c = encoded_read (known c)
 
-pub returns-clause-spelled : goal.returns-clause-spelled
-returns-clause-spelled c = λ kind signature bytes each limit read. read_spelled (known c) kind signature bytes (IsBytes-from_each bytes each) limit read
+pub returns-clause-encoded : goal.returns-clause-encoded
+returns-clause-encoded c = λ kind signature bytes each limit read. read_encoded (known c) kind signature bytes (IsBytes-from_each bytes each) limit read
 
 pub returns-clause-one : goal.returns-clause-one
 returns-clause-one c = one_signature (known c)

@@ -2,4 +2,4 @@ use Rattle.sig_grammar.specs.Views.{body_of}
 use Rattle.signatures.proofs.signature.decode.Goals as goal
 
 pub invariant_of-result : goal.invariant_of-result
-invariant_of-result c = c.spelled_is_spellable.ensures c.args.kind (body_of c.in_ok-body.body) c.args.bytes.now c.in_ok-body.ensures.found
+invariant_of-result c = c.encoded_is_encodable.ensures c.args.kind (body_of c.in_ok-body.body) c.args.bytes.now c.in_ok-body.ensures.sound

@@ -1,7 +1,7 @@
 use Rattle.std.proofs.Common.{◌≡◌, ◌+◌, Err, drop, sym, subst, ◌∙◌, rules}
 use Rattle.heap_pools.specs.declared.pool_error.PoolError.TheVariants.{Full}
 use Rattle.root_writer.specs.Numbered.{IsOver, with_row}
-use Rattle.table_plan.proofs.RestLemmas.{row_at}
+use Rattle.table_plan.proofs.TailLemmas.{row_at}
 use Rattle.table_plan.proofs.numbers.put_row.Goals as goal
 
 pub loop-column-preserved : goal.loop-column-preserved
@@ -10,12 +10,12 @@ loop-column-preserved c =
     let columns = c.args.columns.now in
     let i = c.loop-column.column-index in
     record {
-      whole = sym (c.in_ok-rest.ensures.ok (with_row indexes (drop (i + 1) columns))) ∙ row_at indexes columns i _ _ _ _ c.loop-column-test.true c.loop-column.invariant.whole;
-      ready = c.in_ok-rest.ensures.behind;
+      whole = sym (c.in_ok-tail.ensures.ok (with_row indexes (drop (i + 1) columns))) ∙ row_at indexes columns i _ _ _ _ c.loop-column-test.true c.loop-column.invariant.whole;
+      ready = c.in_ok-tail.ensures.behind;
     }
 
-pub returns-in_err-rest-clause-full : goal.returns-in_err-rest-clause-full
-returns-in_err-rest-clause-full c =
+pub returns-in_err-tail-clause-full : goal.returns-in_err-tail-clause-full
+returns-in_err-tail-clause-full c =
     let indexes = c.args.indexes.now in
     let columns = c.args.columns.now in
     let i = c.loop-column.column-index in

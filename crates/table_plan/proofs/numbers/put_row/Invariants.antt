@@ -7,6 +7,6 @@ use Rattle.table_plan.proofs.numbers.put_row.Given as goal
 -- together with the columns that are left this is the whole row
 abbrev pub invariant-loop-column : goal.invariant-loop-column
 invariant-loop-column l = record {
-  whole : with_row l.indexes (drop l.column-index l.columns) (all_said l.rest) l.numbering ≡ with_row l.indexes l.columns (all_said l.cells) l.fn.numbering;
-  ready : AllByRecursion CanBeNumbered (all_said l.rest);
+  whole : with_row l.indexes (drop l.column-index l.columns) (all_said l.tail) l.numbering ≡ with_row l.indexes l.columns (all_said l.cells) l.fn.numbering;
+  ready : AllByRecursion CanBeNumbered (all_said l.tail);
 }

@@ -4,7 +4,7 @@ use Rattle.std.proofs.lemmas.List.{drop_all, drop_more}
 use Rattle.heap_pools.specs.declared.pool_error.PoolError.TheVariants.{Full}
 use Rattle.tables.specs.Said.{all_said}
 use Rattle.root_writer.specs.Numbered.{CanBeNumbered, IsOver, with_row, with_rows}
-use Rattle.table_plan.proofs.RestLemmas.{rows_at, over_rows_at}
+use Rattle.table_plan.proofs.TailLemmas.{rows_at, over_rows_at}
 use Rattle.table_plan.proofs.numbers.put_rows.Goals as goal
 
 pub returns-in_err-put_row-clause-full : goal.returns-in_err-put_row-clause-full

@@ -5,7 +5,7 @@ use Rattle.table_schema.specs.declared.table.TableId.{TableId}
 use Rattle.table_schema.specs.declared.table.TableId.TheVariants.{Module}
 use Rattle.table_schema.specs.Tables.{tables}
 use Rattle.root_writer.specs.Numbered.{IsOver, with_rows, with_tables}
-use Rattle.table_plan.proofs.RestLemmas.{tables_at, over_tables_at}
+use Rattle.table_plan.proofs.TailLemmas.{tables_at, over_tables_at}
 use Rattle.table_plan.proofs.numbers.put_tables.Goals as goal
 
 pub returns-in_err-put_rows-clause-full : goal.returns-in_err-put_rows-clause-full

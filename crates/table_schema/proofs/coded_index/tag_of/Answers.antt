@@ -5,8 +5,8 @@ use Rattle.table_schema.specs.CodedIndexes.{tables_of}
 use Rattle.table_schema.proofs.CodedLemmas.{lists_no_more, meets, misses}
 use Rattle.table_schema.proofs.coded_index.tag_of.Goals as goal
 
-pub returns-then-eq-clause-found : goal.returns-then-eq-clause-found
-returns-then-eq-clause-found c =
+pub returns-then-eq-clause-sound : goal.returns-then-eq-clause-sound
+returns-then-eq-clause-sound c =
     meets (tables_of c.args.coded) c.tables-listed-items.result.now c.loop-tag.tag _ c.args.table c.tables-listed-items.ensures c.loop-tag-test.true (sym c.eq.ensures ∙ c.if-eq.true)
 
 pub loop-tag-preserved : goal.loop-tag-preserved

@@ -3,7 +3,7 @@ use Rattle.tables.proofs.PushLemmas.{added, others_stay}
 use Rattle.tables.proofs.laws.rows_are_added.Goals as goal
 
 pub returns-clause-table : goal.returns-clause-table
-returns-clause-table c = added c.tables_stand.ensures.position
+returns-clause-table c = added c.tables_stand.ensures.table_index
 
 pub returns-clause-others : goal.returns-clause-others
 returns-clause-others c = others_stay c.tables_stand.ensures.stand

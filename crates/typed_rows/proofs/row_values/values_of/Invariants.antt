@@ -5,8 +5,8 @@ use Rattle.typed_rows.specs.RefRows.{IsShown}
 use Rattle.typed_rows.proofs.row_values.values_of.Given as goal
 
 -- the values so far equal their cells
-abbrev pub invariant-loop-place : goal.invariant-loop-place
-invariant-loop-place l = record {
+abbrev pub invariant-loop-cell_index : goal.invariant-loop-cell_index
+invariant-loop-cell_index l = record {
   long : length l.values ≡ 9;
-  shown : (model : Metadata) → IsModel l.view model → (k : ℕ) → k < l.place → IsShown (slice_get l.values k) l.table k (cell_in model l.table l.row k);
+  shown : (model : Metadata) → IsModel l.view model → (k : ℕ) → k < l.cell_index → IsShown (slice_get l.values k) l.table k (cell_in model l.table l.row k);
 }

@@ -8,7 +8,7 @@ use Rattle.table_schema.specs.CellColumns.{is_padding, cell_count}
 use Rattle.metadata.specs.Metadata.{row_of}
 use Rattle.opening.specs.Views.{row_count}
 use Rattle.root_writer.specs.Numbered.{IsOver}
-use Rattle.view_plan.proofs.PlaceLemmas.{unpadded, cell_place, next_cell, few_cells}
+use Rattle.view_plan.proofs.CellIndexLemmas.{unpadded, cell_index_is, next_cell, few_cells}
 use Rattle.view_plan.proofs.numbers.put_next.Goals as goal
 
 no_padding : (table : TableId) (index : ℕ) (columns : List Column) → columns ≡ columns_of table → ((get_or columns index (col kind.U8)).kind ≡ kind.Padding → ⊥)
@@ -19,33 +19,33 @@ pub put_cell-requires : goal.put_cell-requires
 put_cell-requires c = record {
   first = c.requires.first;
   last = c.requires.last;
-  place = (cell_place c.args.table c.args.index c.args.place c.requires.column c.requires.place (no_padding c.args.table c.args.index c.columns.result.now c.columns.ensures c.in_default.not-Padding)).0;
+  cell_index = (cell_index_is c.args.table c.args.index c.args.cell_index c.requires.column c.requires.cell_index (no_padding c.args.table c.args.index c.columns.result.now c.columns.ensures c.in_default.not-Padding)).0;
 }
 
 pub overflow_add-result : goal.overflow_add-result
 overflow_add-result c =
-    let within : c.args.place < cell_count c.args.table = (cell_place c.args.table c.args.index c.args.place c.requires.column c.requires.place (no_padding c.args.table c.args.index c.columns.result.now c.columns.ensures c.in_default.not-Padding)).0 in
+    let within : c.args.cell_index < cell_count c.args.table = (cell_index_is c.args.table c.args.index c.args.cell_index c.requires.column c.requires.cell_index (no_padding c.args.table c.args.index c.columns.result.now c.columns.ensures c.in_default.not-Padding)).0 in
     omega (arith, within, few_cells c.args.table, c.columns_stand.ensures.few c.args.table)
 
 pub returns-in_err-put_cell-in_default-clause-full : goal.returns-in_err-put_cell-in_default-clause-full
 unfolding row_count
-returns-in_err-put_cell-in_default-clause-full c = λ model is rest over e.
+returns-in_err-put_cell-in_default-clause-full c = λ model is tail over e.
     let table = c.args.table in
     let row = row_of model table c.args.row in
     let long = c.models_are_read.ensures.long c.args.view.now model is table c.args.row c.requires.first c.requires.last in
     let full : c.put_cell.result ≡ Err Full = search rules in
-    subst IsOver (sym (next_cell table c.args.index c.args.place c.requires.column c.requires.place (no_padding c.args.table c.args.index c.columns.result.now c.columns.ensures c.in_default.not-Padding) c.args.indexes.now rest row c.args.gathering.now long))
-    (over (drop (c.args.place + 1) row) _ (c.put_cell.ensures.full model is full))
+    subst IsOver (sym (next_cell table c.args.index c.args.cell_index c.requires.column c.requires.cell_index (no_padding c.args.table c.args.index c.columns.result.now c.columns.ensures c.in_default.not-Padding) c.args.indexes.now tail row c.args.gathering.now long))
+    (over (drop (c.args.cell_index + 1) row) _ (c.put_cell.ensures.full model is full))
 
 pub returns-in_ok-put_cell-in_default-clause-ok : goal.returns-in_ok-put_cell-in_default-clause-ok
 unfolding row_count
-returns-in_ok-put_cell-in_default-clause-ok c = λ model is rest.
+returns-in_ok-put_cell-in_default-clause-ok c = λ model is tail.
     let table = c.args.table in
     let row = row_of model table c.args.row in
     let long = c.models_are_read.ensures.long c.args.view.now model is table c.args.row c.requires.first c.requires.last in
-    next_cell table c.args.index c.args.place c.requires.column c.requires.place (no_padding c.args.table c.args.index c.columns.result.now c.columns.ensures c.in_default.not-Padding) c.args.indexes.now rest row c.args.gathering.now long
-    ∙ ap (rest (drop (c.args.place + 1) row)) (sym (c.in_ok-put_cell-in_default.ensures.ok model is))
+    next_cell table c.args.index c.args.cell_index c.requires.column c.requires.cell_index (no_padding c.args.table c.args.index c.columns.result.now c.columns.ensures c.in_default.not-Padding) c.args.indexes.now tail row c.args.gathering.now long
+    ∙ ap (tail (drop (c.args.cell_index + 1) row)) (sym (c.in_ok-put_cell-in_default.ensures.ok model is))
 
-pub returns-in_ok-put_cell-in_default-clause-place : goal.returns-in_ok-put_cell-in_default-clause-place
-returns-in_ok-put_cell-in_default-clause-place c =
-    (cell_place c.args.table c.args.index c.args.place c.requires.column c.requires.place (no_padding c.args.table c.args.index c.columns.result.now c.columns.ensures c.in_default.not-Padding)).2
+pub returns-in_ok-put_cell-in_default-clause-cell_index : goal.returns-in_ok-put_cell-in_default-clause-cell_index
+returns-in_ok-put_cell-in_default-clause-cell_index c =
+    (cell_index_is c.args.table c.args.index c.args.cell_index c.requires.column c.requires.cell_index (no_padding c.args.table c.args.index c.columns.result.now c.columns.ensures c.in_default.not-Padding)).2

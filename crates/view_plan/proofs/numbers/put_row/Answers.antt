@@ -2,11 +2,11 @@ use Rattle.std.proofs.Common.{◌≡◌, ◌+◌, ◌<◌, ◌≤◌, Err, lengt
 use Rattle.heap_pools.specs.declared.pool_error.PoolError.TheVariants.{Full}
 use Rattle.table_schema.specs.Columns.{columns_of}
 use Rattle.root_writer.specs.Numbered.{IsOver, with_row}
-use Rattle.view_plan.proofs.PlaceLemmas.{first_place, row_left, row_done}
+use Rattle.view_plan.proofs.CellIndexLemmas.{first_cell_index, row_left, row_done}
 use Rattle.view_plan.proofs.numbers.put_row.Goals as goal
 
 pub loop-index-init : goal.loop-index-init
-loop-index-init c = record { whole = λ model is. refl; at = first_place c.args.table }
+loop-index-init c = record { whole = λ model is. refl; at = first_cell_index c.args.table }
 
 pub loop-index-preserved : goal.loop-index-preserved
 loop-index-preserved c =
@@ -16,13 +16,13 @@ loop-index-preserved c =
     let below : i < length columns = omega (arith, ap length c.columns-index-end.ensures) in
     record {
       whole = λ model is.
-          sym (c.in_ok-place.ensures.ok model is (with_row indexes (drop (i + 1) columns)))
+          sym (c.in_ok-cell_index.ensures.ok model is (with_row indexes (drop (i + 1) columns)))
           ∙ row_left indexes columns i _ c.loop-index.gathering _ below (c.loop-index.invariant.whole model is);
-      at = c.in_ok-place.ensures.place;
+      at = c.in_ok-cell_index.ensures.cell_index;
     }
 
-pub returns-in_err-place-clause-full : goal.returns-in_err-place-clause-full
-returns-in_err-place-clause-full c = λ model is e.
+pub returns-in_err-cell_index-clause-full : goal.returns-in_err-cell_index-clause-full
+returns-in_err-cell_index-clause-full c = λ model is e.
     let indexes = c.args.indexes.now in
     let columns = columns_of c.args.table in
     let i = c.loop-index.index in

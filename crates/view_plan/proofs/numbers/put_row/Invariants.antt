@@ -3,14 +3,14 @@ use Rattle.table_schema.specs.Columns.{columns_of}
 use Rattle.metadata.specs.Metadata.{Metadata, row_of}
 use Rattle.metadata.specs.Model.{IsModel}
 use Rattle.root_writer.specs.Numbered.{with_row}
-use Rattle.view_plan.specs.Places.{IsPlaceOf}
+use Rattle.view_plan.specs.CellIndexes.{IsCellIndexOf}
 use Rattle.view_plan.proofs.numbers.put_row.Given as goal
 
 -- together with the columns that are left this is the whole row
 abbrev pub invariant-loop-index : goal.invariant-loop-index
 invariant-loop-index l = record {
   whole : (model : Metadata) → IsModel l.view model
-      → with_row l.indexes (drop l.index (columns_of l.table)) (drop l.place (row_of model l.table l.row)) l.gathering
+      → with_row l.indexes (drop l.index (columns_of l.table)) (drop l.cell_index (row_of model l.table l.row)) l.gathering
       ≡ with_row l.indexes (columns_of l.table) (row_of model l.table l.row) l.fn.gathering;
-  at : IsPlaceOf l.table l.index l.place;
+  at : IsCellIndexOf l.table l.index l.cell_index;
 }

@@ -3,7 +3,7 @@ use Rattle.heap_pools.specs.declared.pool_error.PoolError.TheVariants.{Full}
 use Rattle.table_schema.specs.Columns.{columns_of}
 use Rattle.metadata.specs.Metadata.{rows_of}
 use Rattle.root_writer.specs.Numbered.{Numbered, IsOver, with_row, with_rows}
-use Rattle.view_plan.proofs.PlaceLemmas.{rows_left, rows_done}
+use Rattle.view_plan.proofs.CellIndexLemmas.{rows_left, rows_done}
 use Rattle.view_plan.proofs.numbers.put_rows.Goals as goal
 
 pub loop-row-preserved : goal.loop-row-preserved

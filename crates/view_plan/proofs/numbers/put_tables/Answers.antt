@@ -6,7 +6,7 @@ use Rattle.table_schema.specs.Tables.{tables}
 use Rattle.table_schema.specs.Columns.{columns_of}
 use Rattle.metadata.specs.Metadata.{rows_of}
 use Rattle.root_writer.specs.Numbered.{Numbered, IsOver, with_rows, with_tables}
-use Rattle.view_plan.proofs.PlaceLemmas.{tables_left, tables_done}
+use Rattle.view_plan.proofs.CellIndexLemmas.{tables_left, tables_done}
 use Rattle.view_plan.proofs.numbers.put_tables.Goals as goal
 
 pub loop-table-preserved : goal.loop-table-preserved

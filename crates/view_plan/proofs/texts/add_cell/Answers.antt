@@ -13,11 +13,11 @@ unfolding row_count
 returns-in_default c = λ model is.
     let table = c.args.table in
     let row = c.args.row in
-    let place = c.args.place in
+    let cell_index = c.args.cell_index in
     let last : row ≤ count_in model table = omega (arith, c.models_are_read.ensures.count c.args.view.now model is table, c.requires.last) in
-    let good = (c.models_of_roots_are_valid.ensures c.args.view.now model is).cells table row place (c.requires.first, last) c.requires.place in
-    let seen = kind_seen table place c.column_of_cell.result c.columns.result.now c.columns.ensures c.column_of_cell.ensures.value in
-    let none = no_texts model (kind_at table place) (nullable_at table place) (cell_in model table row place) (λ e. c.in_default.not-Text (seen ∙ e)) good in
+    let good = (c.models_of_roots_are_valid.ensures c.args.view.now model is).cells table row cell_index (c.requires.first, last) c.requires.cell_index in
+    let seen = kind_seen table cell_index c.column_of_cell.result c.columns.result.now c.columns.ensures c.column_of_cell.ensures.value in
+    let none = no_texts model (kind_at table cell_index) (nullable_at table cell_index) (cell_in model table row cell_index) (λ e. c.in_default.not-Text (seen ∙ e)) good in
     sym (ap (λ (l : List (List ℕ)). bytes_of c.args.texts.now.items ++ l) none
     ∙ append-nil (bytes_of c.args.texts.now.items))
 

@@ -7,18 +7,18 @@ use Rattle.canonical.specs.Pools.{texts_of}
 use Rattle.view_plan.proofs.FlatLemmas.{next_flat, whole_flat}
 use Rattle.view_plan.proofs.texts.add_row.Goals as goal
 
-pub loop-place-preserved : goal.loop-place-preserved
+pub loop-cell_index-preserved : goal.loop-cell_index-preserved
 unfolding row_count
-loop-place-preserved c = λ model is.
+loop-cell_index-preserved c = λ model is.
     let row = row_of model c.args.table c.args.row in
     let long = c.models_are_read.ensures.long c.args.view.now model is c.args.table c.args.row c.requires.first c.requires.last in
-    let below : c.loop-place.place < length row = omega (arith, long) in
-    next_flat texts_of row c.loop-place.place (bytes_of c.args.texts.now.items) (Number 0) _ _ below (c.loop-place.invariant model is) (c.in_ok-add_cell.ensures model is)
+    let below : c.loop-cell_index.cell_index < length row = omega (arith, long) in
+    next_flat texts_of row c.loop-cell_index.cell_index (bytes_of c.args.texts.now.items) (Number 0) _ _ below (c.loop-cell_index.invariant model is) (c.in_ok-add_cell.ensures model is)
 
 pub returns : goal.returns
 unfolding row_count
 returns c = λ model is.
     let row = row_of model c.args.table c.args.row in
     let long = c.models_are_read.ensures.long c.args.view.now model is c.args.table c.args.row c.requires.first c.requires.last in
-    let past : length row ≤ c.loop-place.place = omega (arith, long) in
-    whole_flat texts_of row c.loop-place.place (bytes_of c.args.texts.now.items) _ past (c.loop-place.invariant model is)
+    let past : length row ≤ c.loop-cell_index.cell_index = omega (arith, long) in
+    whole_flat texts_of row c.loop-cell_index.cell_index (bytes_of c.args.texts.now.items) _ past (c.loop-cell_index.invariant model is)

@@ -7,7 +7,7 @@ use Rattle.canonical.specs.Pools.{texts_of}
 use Rattle.view_plan.proofs.texts.add_row.Given as goal
 
 -- the texts of the first cells were added
-abbrev pub invariant-loop-place : goal.invariant-loop-place
-invariant-loop-place l =
+abbrev pub invariant-loop-cell_index : goal.invariant-loop-cell_index
+invariant-loop-cell_index l =
     (model : Metadata) → IsModel l.view model
-    → bytes_of l.texts.items ≡ bytes_of l.fn.texts.items ++ flat_map texts_of (take l.place (row_of model l.table l.row))
+    → bytes_of l.texts.items ≡ bytes_of l.fn.texts.items ++ flat_map texts_of (take l.cell_index (row_of model l.table l.row))

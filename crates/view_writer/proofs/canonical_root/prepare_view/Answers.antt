@@ -11,8 +11,8 @@ use Rattle.view_writer.proofs.canonical_root.prepare_view.Goals as goal
 refused : {T : Type 0} (result : Result T WriteError) (P : Type 0) → IsErrAnd result (λ error. error ≡ Memory) → IfErr result (MatchError P ⊤ (λ given. ⊥))
 refused (Ok value) P is = tt
 refused (Err error) P is =
-    let Told : WriteError → Type 0 = λ error. MatchError P ⊤ (λ given. ⊥) error in
-    subst Told (sym is) tt
+    let Reported : WriteError → Type 0 = λ error. MatchError P ⊤ (λ given. ⊥) error in
+    subst Reported (sym is) tt
 
 pub make-prepared-requires : goal.make-prepared-requires
 make-prepared-requires c = ∥∥₁_map c.root-root.ensures.model (λ some.

@@ -4,9 +4,9 @@ use Rattle.std.specs.Coded.{le_prop}
 use Rattle.table_schema.specs.declared.table.TableId.{TableId}
 use Rattle.metadata.specs.Metadata.{Metadata, count_in}
 use Rattle.metadata.specs.Source.{rows_in}
-use Rattle.metadata.specs.Placed.{source_of}
+use Rattle.metadata.specs.SourceAt.{source_of}
 use Rattle.opening.specs.Views.{row_count}
-use Rattle.view_writer.proofs.FillLemmas.{fill_adds}
+use Rattle.view_writer.proofs.PaddingLemmas.{padding_adds}
 use Rattle.view_writer.proofs.outline.outline_of.Goals as goal
 
 counted : (root : List ℕ) (model : Metadata) → ((table : TableId) → count_in model table ≡ rows_in (source_of root) table) → (table : TableId)
@@ -22,7 +22,7 @@ invariant_of-result c =
     record {
       short = ∥∥₁_elim has le_prop (λ some. omega (arith, ap length (c.version.ensures some.0 some.1), (valid some.0 some.1).version.short));
       small = ∥∥₁_elim has le_prop (λ some.
-          omega (arith, ap length (c.user.ensures.model some.0 some.1), fill_adds c.user.result.now, (valid some.0 some.1).user.small));
+          omega (arith, ap length (c.user.ensures.model some.0 some.1), padding_adds c.user.result.now, (valid some.0 some.1).user.small));
       few = λ table. ∥∥₁_elim has le_prop (λ some.
           omega (arith, c.counts.ensures table, counted root some.0 (c.models_are_read.ensures.count root some.0 some.1) table, (valid some.0 some.1).few table));
     }

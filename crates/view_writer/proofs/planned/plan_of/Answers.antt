@@ -8,5 +8,5 @@ returns-clause-fits c model is = c.of.ensures.fits model (c.outline_of.ensures m
 
 pub returns-clause-too_large : goal.returns-clause-too_large
 returns-clause-too_large c model is large =
-    let told = c.of.ensures.too_large model (c.outline_of.ensures model is) (c.in_ok-texts.ensures.pools model is) in
-    (subst (λ planned. IfErr planned (λ error. (error ≡ TooLarge) × (c.args.limit < length (canonical model)))) large told).1
+    let reported = c.of.ensures.too_large model (c.outline_of.ensures model is) (c.in_ok-texts.ensures.pools model is) in
+    (subst (λ planned. IfErr planned (λ error. (error ≡ TooLarge) × (c.args.limit < length (canonical model)))) large reported).1

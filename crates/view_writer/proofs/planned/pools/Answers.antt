@@ -8,14 +8,14 @@ use Rattle.root_plan.specs.Planned.{plan_error}
 use Rattle.view_writer.proofs.planned.pools.Goals as goal
 
 -- `TooLarge` is returned only if a pool is full
-told : {T : Type 0} (result : Result T PlanError) (pool : PoolError) (Q : Type 0) → IsErrAnd result (λ error. error ≡ plan_error pool) → result ≡ Err TooLarge
+reported : {T : Type 0} (result : Result T PlanError) (pool : PoolError) (Q : Type 0) → IsErrAnd result (λ error. error ≡ plan_error pool) → result ≡ Err TooLarge
     → (pool ≡ Full → Q) → Q
-told (Ok value) pool Q gives large full = absurd cc
-told (Err error) Memory Q gives large full = absurd cc
-told (Err error) Full Q gives large full = full refl
+reported (Ok value) pool Q gives large full = absurd cc
+reported (Err error) Memory Q gives large full = absurd cc
+reported (Err error) Full Q gives large full = full refl
 
 pub returns-in_err-pools_of_view-clause-too_large : goal.returns-in_err-pools_of_view-clause-too_large
 returns-in_err-pools_of_view-clause-too_large c model is large =
     let streams = c.streams_are_within_roots.ensures in
-    told c.from_residual.result c.in_err-pools_of_view.field-0.0 _ c.from_residual.ensures.1 large
+    reported c.from_residual.result c.in_err-pools_of_view.field-0.0 _ c.from_residual.ensures.1 large
     (λ full. ⊎_elim (streams.texts model) (streams.pools model) (c.in_err-pools_of_view.ensures.full model is (ap Err full)))

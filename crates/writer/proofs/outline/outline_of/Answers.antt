@@ -1,6 +1,6 @@
 use Rattle.std.proofs.Common.{ap, ◌∙◌, arith, length}
-use Rattle.heap_entries.specs.Fill.{filled}
-use Rattle.writer.proofs.FillLemmas.{filled_is}
+use Rattle.heap_entries.specs.Padding.{zero_padded}
+use Rattle.writer.proofs.PaddingLemmas.{padded_is}
 use Rattle.writer.proofs.outline.outline_of.Goals as goal
 
 pub invariant_of-result : goal.invariant_of-result
@@ -15,7 +15,7 @@ invariant_of-result c =
 pub returns : goal.returns
 returns c = record {
   version = c.version.ensures;
-  user = ap filled c.user.ensures ∙ filled_is c.args.model.now.user c.tables-tables.ensures.valid.user.filled;
+  user = ap zero_padded c.user.ensures ∙ padded_is c.args.model.now.user c.tables-tables.ensures.valid.user.zero_padded;
   counts = c.counts.ensures;
   sorted = c.sorted.ensures;
 }

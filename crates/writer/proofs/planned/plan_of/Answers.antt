@@ -12,5 +12,5 @@ pub returns-clause-too_large : goal.returns-clause-too_large
 returns-clause-too_large c large =
     let model = c.args.model.now in
     let pooled = rw c.tables.ensures.tables at c.in_ok-texts.ensures.pools in
-    let told = c.of.ensures.too_large model c.outline_of.ensures pooled in
-    (subst (λ planned. IfErr planned (λ error. (error ≡ TooLarge) × (c.args.limit < length (canonical model)))) large told).1
+    let reported = c.of.ensures.too_large model c.outline_of.ensures pooled in
+    (subst (λ planned. IfErr planned (λ error. (error ≡ TooLarge) × (c.args.limit < length (canonical model)))) large reported).1

@@ -3,10 +3,10 @@ use Rattle.metadata.specs.Model.{IsModel}
 use Rattle.canonical.specs.Canonical.{canonical}
 use Rattle.writer.proofs.roots.write_root_within.Goals as goal
 
-pub returns-clause-only : goal.returns-clause-only
-returns-clause-only c other is =
+pub returns-clause-unique : goal.returns-clause-unique
+returns-clause-unique c other is =
     let model = c.args.model.now in
     let Fits : List ℕ → Type 0 = λ bytes. IsModel bytes other in
     let small : length (canonical model) ≤ 2 ^ 30 = omega (arith, ap length c.in_ok-prepared.ensures.root, c.in_ok-prepared.ensures.within, c.requires) in
     let whole : c.into_bytes.result.items ≡ canonical model = c.into_bytes.ensures ∙ c.in_ok-prepared.ensures.root in
-    sym (c.canonical_root_is_one.ensures.only model other c.tables-tables.ensures.valid small (subst Fits whole is))
+    sym (c.canonical_root_is_one.ensures.unique model other c.tables-tables.ensures.valid small (subst Fits whole is))

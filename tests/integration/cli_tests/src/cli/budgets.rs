@@ -29,11 +29,11 @@ fn checks_within_a_budget(rt: HostRuntime) -> Result<(), Fail> {
 #[test]
 fn checks_a_file_within_no_budget(rt: HostRuntime) -> Result<(), Fail> {
     let mut file = image();
-    for (place, byte, want) in [
+    for (offset, byte, want) in [
         (0, b'M', (0, "ok\n", "")),
         (0, b'N', (1, "", "fault 1 102 at 0: DosHeader\n")),
     ] {
-        write_at(&mut file, place, &[byte]);
+        write_at(&mut file, offset, &[byte]);
         fs::write(&rt, "budget.dll", file.as_slice())?;
         let words = ["clim", "check", "--budget=0", "budget.dll"];
         let (status, out, err) = answer(&rt, &words)?;

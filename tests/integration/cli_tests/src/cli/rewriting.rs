@@ -13,8 +13,8 @@ const fn bare<'a>(file: &'a str, out: &'a str) -> [&'a str; 5] {
 /// Whether the words end with a status, and print or tell a line.
 fn ends(rt: &HostRuntime, words: &[&str], status: u8, line: &str) -> Result<bool, Fail> {
     let (ended, out, err) = answer(rt, words)?;
-    let (told, silent) = if status == 0 { (out, err) } else { (err, out) };
-    Ok(ended == status && told.as_str() == line && silent.is_empty())
+    let (reported, silent) = if status == 0 { (out, err) } else { (err, out) };
+    Ok(ended == status && reported.as_str() == line && silent.is_empty())
 }
 
 /// What the file held before is emptied first.
@@ -72,15 +72,15 @@ fn leaves_what_it_does_not_write(rt: HostRuntime) -> Result<(), Fail> {
 }
 
 #[test]
-fn tells_what_it_cannot_write(rt: HostRuntime) -> Result<(), Fail> {
+fn reports_what_it_cannot_write(rt: HostRuntime) -> Result<(), Fail> {
     fs::write(&rt, "whole.root", ONE_MODULE.as_slice())?;
-    for (out, told) in [
+    for (out, reported) in [
         ("nowhere/out.root", "error: cannot write nowhere/out.root\n"),
         ("/dev/full", "error: cannot write /dev/full\n"),
         (".", "error: cannot write .\n"),
         ("", "error: cannot write \n"),
     ] {
-        assert!(rt; ends(&rt, &bare("whole.root", out), 3, told)?, "{out}");
+        assert!(rt; ends(&rt, &bare("whole.root", out), 3, reported)?, "{out}");
     }
     let (mut printed, mut err) = (Full { late: false }, Vec::new(rt.alloc()));
     let status = go(

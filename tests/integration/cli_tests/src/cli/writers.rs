@@ -59,7 +59,7 @@ fn stands_full_devices(rt: HostRuntime) -> Result<(), Fail> {
     }
     fs::remove_file(&rt, "b.root")?;
     fs::remove_file(&rt, "c.root")?;
-    for (kind, status, told) in [
+    for (kind, status, reported) in [
         (
             ErrorKind::InvalidData,
             2,
@@ -69,7 +69,7 @@ fn stands_full_devices(rt: HostRuntime) -> Result<(), Fail> {
     ] {
         let mut err = Vec::new(rt.alloc());
         assert_eq!(rt; refuse_words(&io::Error::from(kind), &mut err), status);
-        assert_eq!(rt; err.as_slice(), told.as_bytes());
+        assert_eq!(rt; err.as_slice(), reported.as_bytes());
     }
     Ok(())
 }

@@ -35,7 +35,7 @@ fn run_examples(rt: &HostRuntime, name: &str) -> Result<usize, Fail> {
 }
 
 #[test]
-fn print_what_help_tells(rt: HostRuntime) -> Result<(), Fail> {
+fn print_what_help_reports(rt: HostRuntime) -> Result<(), Fail> {
     fs::write(&rt, "one_module.dll", image().as_slice())?;
     fs::write(&rt, "one_module.root", ONE_MODULE.as_slice())?;
     fs::write(&rt, "two_types.root", TWO_TYPES.as_slice())?;

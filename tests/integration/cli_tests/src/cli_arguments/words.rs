@@ -101,12 +101,12 @@ const REFUSED: [(&[&str], &str); 31] = [
 
 /// The file named lacks: a status of 2 shows that it was not looked for.
 #[test]
-fn tells_what_the_words_lack(rt: HostRuntime) -> Result<(), Fail> {
-    for (words, told) in REFUSED {
+fn reports_what_the_words_lack(rt: HostRuntime) -> Result<(), Fail> {
+    for (words, reported) in REFUSED {
         let (status, out, err) = answer(&rt, words)?;
-        assert_eq!(rt; status, 2, "{told}");
+        assert_eq!(rt; status, 2, "{reported}");
         assert!(rt; out.is_empty());
-        assert!(rt; err.contains(told), "{err}");
+        assert!(rt; err.contains(reported), "{err}");
     }
     Ok(())
 }
@@ -182,8 +182,8 @@ fn helps_with_each_subcommand(rt: HostRuntime) -> Result<(), Fail> {
         ),
     ];
     for (name, usage, example) in helped {
-        let is_told = prints(&rt, &["clim", name, "--help"], &[usage, example])?;
-        assert!(rt; is_told, "{name}");
+        let is_reported = prints(&rt, &["clim", name, "--help"], &[usage, example])?;
+        assert!(rt; is_reported, "{name}");
         let (status, out, err) = answer(&rt, &["clim", "help", name])?;
         assert_eq!(rt; status, 0);
         assert_eq!(rt; out, answer(&rt, &["clim", name, "--help"])?.1);

@@ -48,7 +48,7 @@ fn shows_texts_and_references(rt: HostRuntime) -> Result<(), Fail> {
     // The second type extends the first (its Extends is TypeDef 1), and its name has a quote, a backslash,
     // a letter that is not ASCII and a byte below a space.
     let mut file = TWO_TYPES;
-    for (place, byte) in [
+    for (offset, byte) in [
         (138, 4),
         (174, b'"'),
         (175, b'\\'),
@@ -56,7 +56,7 @@ fn shows_texts_and_references(rt: HostRuntime) -> Result<(), Fail> {
         (177, 0xA9),
         (178, 1),
     ] {
-        if let Some(old) = file.get_mut(place) {
+        if let Some(old) = file.get_mut(offset) {
             *old = byte;
         }
     }
@@ -105,12 +105,12 @@ fn lists_types(rt: HostRuntime) -> Result<(), Fail> {
 struct Named<'a> {
     hex: &'a str,
     status: u8,
-    told: &'a str,
+    reported: &'a str,
 }
 
 impl<'a> Named<'a> {
-    const fn new(hex: &'a str, status: u8, told: &'a str) -> Self {
-        Named { hex, status, told }
+    const fn new(hex: &'a str, status: u8, reported: &'a str) -> Self {
+        Named { hex, status, reported }
     }
 }
 
@@ -121,9 +121,9 @@ fn other_name(rt: &HostRuntime, root: &[u8], named: &Named) -> Result<Option<Str
     let (status, out, err) = answer(rt, &words)?;
     fs::remove_file(rt, "token.root")?;
     let (want_out, want_err) = if named.status == 0 {
-        (named.told, "")
+        (named.reported, "")
     } else {
-        ("", named.told)
+        ("", named.reported)
     };
     if status == named.status && out.as_str() == want_out && err.as_str() == want_err {
         return Ok(None);

@@ -46,7 +46,7 @@ fn plans_texts(rt: HostRuntime) -> Result<(), Fail> {
 }
 
 #[test]
-fn tells_indexes_by_place(rt: HostRuntime) -> Result<(), Fail> {
+fn reports_indexes_by_offset(rt: HostRuntime) -> Result<(), Fail> {
     let pool = TextPool::plan(rt.alloc(), &["dll", "", "a.dll", "dll", "b", "a.dll"])?;
     assert!(rt; pool.indexes() == [3, 0, 1, 3, 7, 1].as_slice());
     let pool = TextPool::plan(rt.alloc(), &["me", "Name", "Game", "ame"])?;

@@ -2,7 +2,7 @@ use packed::{Fault, FaultCode};
 use std::test::Fail;
 
 #[test]
-fn numbers_and_names_each_demand(rt: HostRuntime) {
+fn numbers_and_names_each_rule(rt: HostRuntime) {
     for (code, layer, number, name) in [
         (FaultCode::TooLong, 1, 101, "TooLong"),
         (FaultCode::Sections, 1, 108, "Sections"),
@@ -31,11 +31,11 @@ fn numbers_and_names_each_demand(rt: HostRuntime) {
 #[test]
 fn raises_a_fault(rt: HostRuntime) {
     let fault = Fault::new(FaultCode::Version, 12);
-    assert_eq!(rt; fault.raised(0x200), Fault::new(FaultCode::Version, 0x20C));
+    assert_eq!(rt; fault.rebased(0x200), Fault::new(FaultCode::Version, 0x20C));
 }
 
 #[test]
-fn tells_a_fault_in_one_line(rt: HostRuntime) -> Result<(), Fail> {
+fn reports_a_fault_in_one_line(rt: HostRuntime) -> Result<(), Fail> {
     let fault = Fault::new(FaultCode::StreamCount, 28);
     let line = format!(in rt.alloc(); "{fault}")?;
     assert_eq!(rt; line.as_str(), "fault 3 303 at 28: StreamCount");

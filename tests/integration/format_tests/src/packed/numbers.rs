@@ -13,8 +13,8 @@ fn reads_the_lowest_byte_first(rt: HostRuntime) {
 }
 
 #[test]
-fn spells_unsigned_numbers(rt: HostRuntime) -> Result<(), Fail> {
-    for (number, spelling) in [
+fn encodes_unsigned_numbers(rt: HostRuntime) -> Result<(), Fail> {
+    for (number, encoding) in [
         (0, [0x00].as_slice()),
         (5, [0x05].as_slice()),
         (0x7F, [0x7F].as_slice()),
@@ -25,20 +25,20 @@ fn spells_unsigned_numbers(rt: HostRuntime) -> Result<(), Fail> {
     ] {
         let mut bytes = Vec::new(rt.alloc());
         put_unsigned(&mut bytes, number)?;
-        assert_eq!(rt; bytes.as_slice(), spelling);
-        assert_eq!(rt; unsigned_len(number), spelling.len());
+        assert_eq!(rt; bytes.as_slice(), encoding);
+        assert_eq!(rt; unsigned_len(number), encoding.len());
         bytes.push(0xFF)?;
         assert_eq!(rt;
             read_unsigned(bytes.as_slice()),
-            Some((number, spelling.len()))
+            Some((number, encoding.len()))
         );
     }
     Ok(())
 }
 
 #[test]
-fn spells_signed_numbers(rt: HostRuntime) -> Result<(), Fail> {
-    for (number, spelling) in [
+fn encodes_signed_numbers(rt: HostRuntime) -> Result<(), Fail> {
+    for (number, encoding) in [
         (3, [0x06].as_slice()),
         (-3, [0x7B].as_slice()),
         (64, [0x80, 0x80].as_slice()),
@@ -50,11 +50,11 @@ fn spells_signed_numbers(rt: HostRuntime) -> Result<(), Fail> {
     ] {
         let mut bytes = Vec::new(rt.alloc());
         put_signed(&mut bytes, number)?;
-        assert_eq!(rt; bytes.as_slice(), spelling);
+        assert_eq!(rt; bytes.as_slice(), encoding);
         bytes.push(0xFF)?;
         assert_eq!(rt;
             read_signed(bytes.as_slice()),
-            Some((number, spelling.len()))
+            Some((number, encoding.len()))
         );
     }
     Ok(())

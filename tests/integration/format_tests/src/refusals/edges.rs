@@ -1,5 +1,5 @@
-use crate::refusals::demand_order::{LONG, refusal_with};
-use crate::filled::refusal;
+use crate::refusals::rule_order::{LONG, refusal_with};
+use crate::zero_padded::refusal;
 use owned_model::{Refusal, TableId};
 use sample_tables::Written::{self, Bytes, NoRow, Number, Row, Sig, Start, Text};
 use sample_tables::{Change, tables_of};
@@ -58,8 +58,8 @@ fn user_bytes_are_a_multiple_of_four(rt: HostRuntime) -> Result<(), Fail> {
 }
 
 #[test]
-fn cells_are_told_on_both_sides_of_their_limits(rt: HostRuntime) -> Result<(), Fail> {
-    for (table, row, place, cell, code) in [
+fn cells_are_reported_on_both_sides_of_their_limits(rt: HostRuntime) -> Result<(), Fail> {
+    for (table, row, offset, cell, code) in [
         (TableId::Constant, 3, 0, Number(0xFF), 0),
         (TableId::Constant, 3, 0, Number(0x100), 509),
         (TableId::Param, 3, 1, Number(0xFFFF), 0),
@@ -107,7 +107,7 @@ fn cells_are_told_on_both_sides_of_their_limits(rt: HostRuntime) -> Result<(), F
         ),
         (TableId::Field, 3, 2, Bytes(b"\x06\x08"), 509),
     ] {
-        let change = Change::Cell(table, row, place, cell);
+        let change = Change::Cell(table, row, offset, cell);
         assert_eq!(rt; code_with(rt.alloc(), change)?, code, "{change:?}");
     }
     Ok(())
@@ -161,14 +161,14 @@ const MEMBERS: [(TableId, u8, &[Written]); 5] = [
 #[test]
 fn members_have_owners(rt: HostRuntime) -> Result<(), Fail> {
     for (table, number, row) in MEMBERS {
-        let told = Refusal {
+        let reported = Refusal {
             code: 603,
             table: number,
             row: 1,
             column: 0,
         };
         let refused = refusal(tables_of(rt.alloc(), "", &[(table, row)])?);
-        assert_eq!(rt; refused.map(|refused| refused.0), Some(told));
+        assert_eq!(rt; refused.map(|refused| refused.0), Some(reported));
     }
     Ok(())
 }

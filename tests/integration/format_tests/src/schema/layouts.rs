@@ -90,22 +90,22 @@ fn reads_a_stream(rt: HostRuntime) {
 }
 
 #[test]
-fn refuses_each_front(rt: HostRuntime) {
+fn refuses_each_prefix(rt: HostRuntime) {
     for len in 0..=40usize {
-        let (front, _) = STREAM.split_at(len);
+        let (prefix, _) = STREAM.split_at(len);
         let expected = match len {
             0..=23 => fault(401, 0),
             24..=27 => fault(405, 24),
             28..=37 => fault(407, 28),
             _ => None,
         };
-        assert_eq!(rt; refusal(front), expected);
+        assert_eq!(rt; refusal(prefix), expected);
     }
 }
 
 #[test]
 fn refuses_a_changed_byte(rt: HostRuntime) {
-    for (place, byte, code, offset) in [
+    for (offset, byte, code, offset) in [
         (4, 1, 402, 4),
         (5, 1, 402, 4),
         (6, 8, 403, 6),
@@ -115,7 +115,7 @@ fn refuses_a_changed_byte(rt: HostRuntime) {
         (27, 1, 406, 24),
     ] {
         let mut stream = STREAM;
-        stream[place] = byte;
+        stream[offset] = byte;
         assert_eq!(rt; refusal(&stream), fault(code, offset));
     }
     let mut stream = STREAM;
@@ -137,8 +137,8 @@ fn counts_stand_one_behind_the_other(rt: HostRuntime) {
     assert_eq!(rt; layout.row_start(TableId::Module, 1), 32);
     stream[31] = 0x01;
     assert_eq!(rt; refusal(&stream), fault(406, 28));
-    let (front, _) = stream.split_at(31);
-    assert_eq!(rt; refusal(front), fault(405, 24));
+    let (prefix, _) = stream.split_at(31);
+    assert_eq!(rt; refusal(prefix), fault(405, 24));
     stream[27] = 0x01;
     assert_eq!(rt; refusal(&stream), fault(406, 24));
 }
@@ -247,7 +247,7 @@ fn splits_and_joins_coded_numbers(rt: HostRuntime) {
 }
 
 #[test]
-fn reads_and_spells_tokens(rt: HostRuntime) {
+fn reads_and_encodes_tokens(rt: HostRuntime) {
     let token = Token {
         table: TableId::MethodDef,
         row: 1,

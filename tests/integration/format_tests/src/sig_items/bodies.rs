@@ -1,13 +1,13 @@
-use crate::sig_items::collected::{OPTIONAL_FIRST, REQUIRED_FIRST, REQUIRED_SECOND, told};
+use crate::sig_items::collected::{OPTIONAL_FIRST, REQUIRED_FIRST, REQUIRED_SECOND, reported};
 use sig_items::{Item, MethodHead, SigKind};
 use sig_values::Element;
 use std::test::Fail;
 
 /// A column's kind, a signature in it, and its items.
-type Told = (SigKind, &'static [u8], &'static [Item]);
+type Reported = (SigKind, &'static [u8], &'static [Item]);
 
 /// Each kind of a signature (II.23.2.1 to II.23.2.6, II.23.2.15).
-const BODIES: [Told; 14] = [
+const BODIES: [Reported; 14] = [
     (
         SigKind::Field,
         &[0x06, 0x08],
@@ -177,10 +177,10 @@ const BODIES: [Told; 14] = [
 ];
 
 #[test]
-fn each_kind_of_a_signature_is_told(rt: HostRuntime) -> Result<(), Fail> {
+fn each_kind_of_a_signature_is_reported(rt: HostRuntime) -> Result<(), Fail> {
     for (kind, bytes, items) in BODIES {
-        let told = told(rt.alloc(), bytes, kind)?.ok_or("items")?;
-        assert_eq!(rt; told.as_slice(), items);
+        let reported = reported(rt.alloc(), bytes, kind)?.ok_or("items")?;
+        assert_eq!(rt; reported.as_slice(), items);
     }
     Ok(())
 }

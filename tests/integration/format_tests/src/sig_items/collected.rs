@@ -5,7 +5,7 @@ use std::alloc::Global;
 use std::test::Fail;
 
 /// The items of a blob; `None` where it spells nothing in a column of this kind.
-pub fn told(alloc: Global, bytes: &[u8], kind: SigKind) -> Result<Option<Vec<Item>>, Fail> {
+pub fn reported(alloc: Global, bytes: &[u8], kind: SigKind) -> Result<Option<Vec<Item>>, Fail> {
     match Items::of(bytes, kind) {
         Some(items) => Ok(Some(items.collect(alloc)?)),
         None => Ok(None),

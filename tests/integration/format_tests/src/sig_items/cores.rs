@@ -1,4 +1,4 @@
-use crate::sig_items::collected::{FIRST, OPTIONAL_SECOND, REQUIRED_FIRST, SECOND, told};
+use crate::sig_items::collected::{FIRST, OPTIONAL_SECOND, REQUIRED_FIRST, SECOND, reported};
 use schema::{TableId, Token};
 use sig_items::{Item, MethodHead, SigKind};
 use sig_values::Element;
@@ -32,10 +32,10 @@ const TWO_PARAMETERS: Item = Item::Method(MethodHead {
 });
 
 /// A type, as a TypeSpec of it alone, and its items.
-type Told = (&'static [u8], &'static [Item]);
+type Reported = (&'static [u8], &'static [Item]);
 
 /// Each form of a type (II.23.2.12).
-const CORES: [Told; 22] = [
+const CORES: [Reported; 22] = [
     (&[0x08], &[Item::Simple(Element::I4)]),
     (&[0x1C], &[Item::Simple(Element::Object)]),
     (&[0x01], &[Item::Void]),
@@ -189,10 +189,10 @@ const CORES: [Told; 22] = [
 ];
 
 #[test]
-fn each_form_of_a_type_is_told(rt: HostRuntime) -> Result<(), Fail> {
+fn each_form_of_a_type_is_reported(rt: HostRuntime) -> Result<(), Fail> {
     for (bytes, items) in CORES {
-        let told = told(rt.alloc(), bytes, SigKind::TypeSpec)?.ok_or("items")?;
-        assert_eq!(rt; told.as_slice(), items);
+        let reported = reported(rt.alloc(), bytes, SigKind::TypeSpec)?.ok_or("items")?;
+        assert_eq!(rt; reported.as_slice(), items);
     }
     Ok(())
 }

@@ -1,5 +1,5 @@
 use crate::nested::nested;
-use crate::sig_items::collected::told;
+use crate::sig_items::collected::reported;
 use sig_items::{Item, Items, SigKind};
 use sig_values::Element;
 use std::alloc::Global;
@@ -8,7 +8,7 @@ use std::test::Fail;
 #[test]
 fn types_nest_128_deep(rt: HostRuntime) -> Result<(), Fail> {
     let deep = nested(rt.alloc(), &[0x15, 0x12, 0x05, 0x02, 0x0E], 127)?;
-    let items = told(rt.alloc(), &deep, SigKind::TypeSpec)?.ok_or("items")?;
+    let items = reported(rt.alloc(), &deep, SigKind::TypeSpec)?.ok_or("items")?;
     assert_eq!(rt; items.len(), 2 * 127 + 1);
     assert_eq!(rt; items.last(), Some(&Item::Simple(Element::I4)));
     let deeper = nested(rt.alloc(), &[0x15, 0x12, 0x05, 0x02, 0x0E], 128)?;
@@ -27,7 +27,7 @@ fn something_follows_at_each_depth(rt: HostRuntime) -> Result<(), Fail> {
     for _ in 0..129 {
         bytes.push(0x08)?;
     }
-    let items = told(rt.alloc(), &bytes, SigKind::MethodDef)?.ok_or("items")?;
+    let items = reported(rt.alloc(), &bytes, SigKind::MethodDef)?.ok_or("items")?;
     assert_eq!(rt; items.len(), 2 + 127 + 129);
     Ok(())
 }
@@ -52,7 +52,7 @@ const NOTHING: [(SigKind, &[u8]); 5] = [
 ];
 
 #[test]
-fn what_is_not_spelled_has_no_items(rt: HostRuntime) {
+fn what_is_not_encoded_has_no_items(rt: HostRuntime) {
     for (kind, bytes) in NOTHING {
         assert!(rt; Items::of(bytes, kind).is_none());
     }

@@ -6,7 +6,7 @@ use std::test::Fail;
 
 /// What the grammar does not spell is not recognised, and bad, also where there is memory.
 #[test]
-fn what_is_not_spelled_is_bad(rt: HostRuntime) {
+fn what_is_not_encoded_is_bad(rt: HostRuntime) {
     for blob in REFUSED {
         assert!(rt;
             !recognise(blob.bytes, blob.kind),

@@ -1,4 +1,4 @@
-use crate::sig_recogniser::two_passes::first_bad_of_spelled;
+use crate::sig_recogniser::two_passes::first_bad_of_encoded;
 use crate::signatures::values::type_ref;
 use schema::TableId;
 use sig_recogniser::{SigKind, Token, recognise_first_bad};
@@ -23,7 +23,7 @@ fn is_first_bad(
         "{bytes:?} {count}"
     );
     assert_eq!(rt;
-        first_bad_of_spelled(bytes, kind, &counts),
+        first_bad_of_encoded(bytes, kind, &counts),
         Some(first),
         "{bytes:?} {count}"
     );
@@ -33,7 +33,7 @@ fn is_first_bad(
 
 /// 1F 09 12 05: a modifier, row 2 of TypeRef, before a class, row 1 of it.
 #[test]
-fn the_first_index_without_a_row_is_told(rt: HostRuntime) {
+fn the_first_index_without_a_row_is_reported(rt: HostRuntime) {
     let modified = [0x1F, 0x09, 0x12, 0x05];
     is_first_bad(
         &rt,
@@ -117,9 +117,9 @@ fn modifiers_are_met_in_order(rt: HostRuntime) {
 
 /// What spells nothing has no index.
 #[test]
-fn no_index_is_told_of_what_is_not_spelled(rt: HostRuntime) {
+fn no_index_is_reported_of_what_is_not_encoded(rt: HostRuntime) {
     let cut = [0x1F, 0x09, 0x12];
     let kind = SigKind::TypeSpec;
     assert_eq!(rt; recognise_first_bad(&cut, kind, &[0; 45]), None);
-    assert_eq!(rt; first_bad_of_spelled(&cut, kind, &[0; 45]), None);
+    assert_eq!(rt; first_bad_of_encoded(&cut, kind, &[0; 45]), None);
 }

@@ -2,7 +2,7 @@ use sig_recogniser::{SigKind, Token, index_of_first_bad, recognise};
 
 /// What [`sig_recogniser::recognise_first_bad`] tells in one pass, in two: the first type index that names no
 /// row of its table (II.23.2.8), where the bytes spell a signature that a column of this kind holds.
-pub fn first_bad_of_spelled(
+pub fn first_bad_of_encoded(
     bytes: &[u8],
     kind: SigKind,
     counts: &[u32; 45],

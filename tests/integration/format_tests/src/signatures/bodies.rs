@@ -1,19 +1,19 @@
 use crate::signatures::values::{array, integer, method, plain, specified, type_ref, vectors};
 use schema::{TableId, Token};
-use sig_encoder::{spell_into, spelled_len};
+use sig_encoder::{encode_into, encoded_len};
 use signatures::{Core, SigBody, Signature};
 use std::process::Abort;
 use std::test::Fail;
 
 /// That no bytes spell a body: it is handed back.
 fn is_handed_back(rt: &impl Abort, body: SigBody) {
-    assert_eq!(rt; spelled_len(&body), None);
+    assert_eq!(rt; encoded_len(&body), None);
     assert!(rt; Signature::new(body).is_err());
 }
 
 /// That bytes spell a body, as many as that.
 fn has_length(rt: &impl Abort, body: SigBody, len: usize) {
-    assert_eq!(rt; spelled_len(&body), Some(len));
+    assert_eq!(rt; encoded_len(&body), Some(len));
     assert!(rt; Signature::new(body).is_ok());
 }
 
@@ -61,7 +61,7 @@ fn shapes_of_no_array_are_handed_back(rt: HostRuntime) -> Result<(), Fail> {
 
 /// Numbers and rows that need too many bits, an index of another table, and types that nest 129 deep.
 #[test]
-fn types_that_nothing_spells_are_handed_back(rt: HostRuntime) -> Result<(), Fail> {
+fn types_that_nothing_encodes_are_handed_back(rt: HostRuntime) -> Result<(), Fail> {
     let alloc = rt.alloc();
     is_handed_back(&rt, specified(alloc, Core::Var(0x2000_0000)));
     has_length(&rt, specified(alloc, Core::MVar(0x1FFF_FFFF)), 5);
@@ -79,19 +79,19 @@ fn types_that_nothing_spells_are_handed_back(rt: HostRuntime) -> Result<(), Fail
 
 /// A spelling stands behind the bytes that there are, where there is room for it.
 #[test]
-fn spellings_stand_behind_bytes(rt: HostRuntime) -> Result<(), Fail> {
+fn encodings_stand_behind_bytes(rt: HostRuntime) -> Result<(), Fail> {
     let core = Core::Instance {
         value: true,
         of: type_ref(1),
         args: vec![in rt.alloc(); plain(rt.alloc(), integer())]?,
     };
     let signature = Signature::new(specified(rt.alloc(), core)).expect(&rt, "spelled");
-    let count = spelled_len(signature.body()).unwrap();
+    let count = encoded_len(signature.body()).unwrap();
     let mut bytes = Vec::with_capacity(rt.alloc(), count + 1)?;
     bytes.push(0xAA)?;
-    let spelled = spell_into(bytes, signature.body());
+    let encoded = encode_into(bytes, signature.body());
     assert_eq!(rt;
-        spelled.as_slice(),
+        encoded.as_slice(),
         [0xAA, 0x15, 0x11, 0x05, 0x01, 0x08].as_slice()
     );
     Ok(())

@@ -1,7 +1,7 @@
 use crate::signatures::blobs::{BODIES, CORES};
 use schema::SigKind;
 use sig_copier::{copy_body, is_same};
-use sig_encoder::{encode_body, spelled_len};
+use sig_encoder::{encode_body, encoded_len};
 use sig_recogniser::recognise;
 use signatures::{Signature, decode, encode};
 use std::alloc::Global;
@@ -10,7 +10,7 @@ use std::test::Fail;
 
 /// That bytes in their shortest spelling are decoded as a value that is shown so, encoded again, copied
 /// and equal to their copy.
-fn is_spelled(
+fn is_encoded(
     rt: &impl Abort,
     alloc: Global,
     kind: SigKind,
@@ -32,13 +32,13 @@ fn is_spelled(
 }
 
 #[test]
-fn each_type_is_spelled(rt: HostRuntime) -> Result<(), Fail> {
+fn each_type_is_encoded(rt: HostRuntime) -> Result<(), Fail> {
     for core in CORES {
         let shown = format!(in rt.alloc();
             "TypeSpec(Slot(Slot {{ mods: [], kind: Plain({}) }}))",
             core.shown
         )?;
-        is_spelled(
+        is_encoded(
             &rt,
             rt.alloc(),
             SigKind::TypeSpec,
@@ -50,9 +50,9 @@ fn each_type_is_spelled(rt: HostRuntime) -> Result<(), Fail> {
 }
 
 #[test]
-fn each_signature_is_spelled(rt: HostRuntime) -> Result<(), Fail> {
+fn each_signature_is_encoded(rt: HostRuntime) -> Result<(), Fail> {
     for body in BODIES {
-        is_spelled(&rt, rt.alloc(), body.kind, body.bytes, body.shown)?;
+        is_encoded(&rt, rt.alloc(), body.kind, body.bytes, body.shown)?;
     }
     Ok(())
 }
@@ -63,7 +63,7 @@ fn bodies_are_measured_and_copied(rt: HostRuntime) -> Result<(), Fail> {
     for blob in BODIES {
         let signature = decode(rt.alloc(), blob.bytes, blob.kind).expect(&rt, "spelled");
         let body = signature.body();
-        assert_eq!(rt; spelled_len(body), Some(blob.bytes.len()));
+        assert_eq!(rt; encoded_len(body), Some(blob.bytes.len()));
         let copy = copy_body(rt.alloc(), body)?;
         assert!(rt; is_same(&copy, body), "{body:?}");
         let made = Signature::new(copy).expect(&rt, "spelled");
@@ -76,11 +76,11 @@ fn bodies_are_measured_and_copied(rt: HostRuntime) -> Result<(), Fail> {
 /// Types are equal exactly where their bytes are: none of the table stands twice in it.
 #[test]
 fn other_types_are_not_equal(rt: HostRuntime) {
-    for (place, blob) in CORES.iter().enumerate() {
+    for (offset, blob) in CORES.iter().enumerate() {
         let one = decode(rt.alloc(), blob.bytes, SigKind::TypeSpec).expect(&rt, "spelled");
-        for (other_place, other) in CORES.iter().enumerate() {
+        for (other_offset, other) in CORES.iter().enumerate() {
             let other = decode(rt.alloc(), other.bytes, SigKind::TypeSpec).expect(&rt, "spelled");
-            assert_eq!(rt; one == other, place == other_place, "{one:?} {other:?}");
+            assert_eq!(rt; one == other, offset == other_offset, "{one:?} {other:?}");
         }
     }
 }
@@ -88,18 +88,18 @@ fn other_types_are_not_equal(rt: HostRuntime) {
 /// Signatures are equal exactly where they are shown alike, whatever holds them.
 #[test]
 fn other_signatures_are_not_equal(rt: HostRuntime) {
-    for (place, blob) in BODIES.iter().enumerate() {
+    for (offset, blob) in BODIES.iter().enumerate() {
         let one = decode(rt.alloc(), blob.bytes, blob.kind).expect(&rt, "spelled");
-        for (other_place, other) in BODIES.iter().enumerate() {
+        for (other_offset, other) in BODIES.iter().enumerate() {
             let other = decode(rt.alloc(), other.bytes, other.kind).expect(&rt, "spelled");
-            assert_eq!(rt; one == other, place == other_place, "{one:?} {other:?}");
+            assert_eq!(rt; one == other, offset == other_offset, "{one:?} {other:?}");
         }
     }
 }
 
 /// A number, a count and an index that stand in longer forms than they need.
 #[test]
-fn longer_spellings_are_shortened(rt: HostRuntime) -> Result<(), Fail> {
+fn longer_encodings_are_shortened(rt: HostRuntime) -> Result<(), Fail> {
     for (long, short) in [
         (
             [0x15, 0x12, 0x80, 0x05, 0x01, 0x08].as_slice(),

@@ -36,9 +36,9 @@ fn each_cell(rt: &impl Abort, alloc: Global) -> Result<Vec<Cell>, Fail> {
 fn cells_are_compared_by_what_they_say(rt: HostRuntime) -> Result<(), Fail> {
     let cells = each_cell(&rt, rt.alloc())?;
     let others = each_cell(&rt, rt.alloc())?;
-    for (place, cell) in cells.iter().enumerate() {
-        for (other_place, other) in others.iter().enumerate() {
-            assert_eq!(rt; cell == other, place == other_place, "{cell:?} {other:?}");
+    for (offset, cell) in cells.iter().enumerate() {
+        for (other_offset, other) in others.iter().enumerate() {
+            assert_eq!(rt; cell == other, offset == other_offset, "{cell:?} {other:?}");
         }
     }
     Ok(())
@@ -78,11 +78,11 @@ fn columns_take_cells_of_their_kinds(rt: HostRuntime) -> Result<(), Fail> {
         (ColumnKind::List(TableId::Field), &[7]),
         (ColumnKind::Signature(SigKind::Field), &[8]),
     ];
-    for (kind, places) in taken {
-        for (place, cell) in cells.iter().enumerate() {
+    for (kind, offsets) in taken {
+        for (offset, cell) in cells.iter().enumerate() {
             assert_eq!(rt;
                 cell.is_of_kind(kind),
-                places.contains(&place),
+                offsets.contains(&offset),
                 "{kind:?} {cell:?}"
             );
         }

@@ -1,5 +1,5 @@
 use crate::form::Form;
-use crate::answers::{fault_in, model_in};
+use crate::reports::{fault_in, model_in};
 use sample_roots::{
     NAMES_APART, NAMES_SHARED, NO_ROWS, ONE_MODULE, THREE_TYPES, TWO_TYPES, change, changed, image,
 };
@@ -13,13 +13,13 @@ fn count_answers(
     alloc: Global,
     form: Form,
     bytes: &[u8],
-    places: Range<usize>,
+    offsets: Range<usize>,
 ) -> Result<(u32, u32), Fail> {
     let mut models = 0u32;
     let mut faults = 0u32;
-    for place in places {
+    for offset in offsets {
         for byte in [0, 0xFF] {
-            let other = changed(alloc, bytes, &[(place, byte)])?;
+            let other = changed(alloc, bytes, &[(offset, byte)])?;
             match fault_in(alloc, form, other.as_slice())? {
                 None => models += 1,
                 Some(_) => faults += 1,
@@ -67,8 +67,8 @@ fn changed_bytes_of_nested_types_are_loaded_as_they_are_opened(
 fn changed_heads_of_a_file_are_loaded_as_they_are_opened(rt: HostRuntime) -> Result<(), Fail> {
     let file = image();
     // The PE headers and the section header, and the CLI header.
-    for places in [0..0x1A0, 0x200..0x250] {
-        let (models, faults) = count_answers(rt.alloc(), Form::Image, &file, places)?;
+    for offsets in [0..0x1A0, 0x200..0x250] {
+        let (models, faults) = count_answers(rt.alloc(), Form::Image, &file, offsets)?;
         assert!(rt; 0 < models && 0 < faults);
     }
     Ok(())
@@ -87,8 +87,8 @@ fn changed_bytes_of_a_root_in_a_file_are_loaded_as_they_are_opened(
 fn bytes_that_nothing_names_are_not_read(rt: HostRuntime) -> Result<(), Fail> {
     let alloc = rt.alloc();
     let mut file = image();
-    for place in (0x1A0..0x200).chain(736..1024) {
-        change(&mut file, &[(place, 0xFF)]);
+    for offset in (0x1A0..0x200).chain(736..1024) {
+        change(&mut file, &[(offset, 0xFF)]);
     }
     let module = model_in(alloc, Form::Root, &ONE_MODULE)?;
     assert!(rt; model_in(alloc, Form::Image, &file)? == module);

@@ -1,4 +1,4 @@
-use crate::answers::{has_cell, model_in, text_in};
+use crate::reports::{has_cell, model_in, text_in};
 use crate::form::Form;
 use tables::{Bytes, Cell};
 use sample_roots::{
@@ -96,7 +96,7 @@ fn sorted_bits_are_not_kept(rt: HostRuntime) -> Result<(), Fail> {
 }
 
 #[test]
-fn longer_spellings_say_the_same(rt: HostRuntime) -> Result<(), Fail> {
+fn longer_encodings_say_the_same(rt: HostRuntime) -> Result<(), Fail> {
     let alloc = rt.alloc();
     let long = root_of_signature(alloc, TableId::TypeSpec, b"\x15\x12\x80\x05\x01\x08")?;
     let short = root_of_signature(alloc, TableId::TypeSpec, b"\x15\x12\x05\x01\x08")?;
@@ -106,16 +106,16 @@ fn longer_spellings_say_the_same(rt: HostRuntime) -> Result<(), Fail> {
 }
 
 #[test]
-fn user_bytes_are_filled(rt: HostRuntime) -> Result<(), Fail> {
+fn user_bytes_are_padded(rt: HostRuntime) -> Result<(), Fail> {
     let alloc = rt.alloc();
-    for (size, filled) in [(4, 4), (5, 8), (7, 8), (8, 8), (12, 12)] {
+    for (size, zero_padded) in [(4, 4), (5, 8), (7, 8), (8, 8), (12, 12)] {
         let mut root = RootBuilder::new(alloc);
         root.heap("#US", b"\0\x05A\0B\0\0\x03'\0\x01\0")?;
         // The size of the stream stands at 48, in its header.
         let root = root.finish()?;
         let root = changed(alloc, root.as_slice(), &[(48, size)])?;
         let model = model_in(alloc, Form::Root, root.as_slice())?;
-        assert_eq!(rt; model.user().len(), filled);
+        assert_eq!(rt; model.user().len(), zero_padded);
     }
     Ok(())
 }

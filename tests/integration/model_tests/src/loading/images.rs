@@ -1,5 +1,5 @@
 use crate::form::Form;
-use crate::answers::model_in;
+use crate::reports::model_in;
 use loading::load_image;
 use opening::open_image;
 use sample_roots::{ONE_MODULE, image};

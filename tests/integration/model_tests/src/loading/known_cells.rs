@@ -1,4 +1,4 @@
-use crate::answers::{fault_of_root, has_cell, model_in, text_in};
+use crate::reports::{fault_of_root, has_cell, model_in, text_in};
 use crate::form::Form;
 use loading::load_root;
 use tables::Cell;
@@ -73,8 +73,8 @@ fn changed_indexes_name_what_stands_there(rt: HostRuntime) -> Result<(), Fail> {
         0, 0x61, 0x2E, 0x64, 0x6C, 0x6C, 0, 0, 0, 1, 2, 3, 4, 5, 6, 7,
     ];
     assert!(rt; has_cell(&model, TableId::Module, 1, 2, Cell::Guid(Some(over))));
-    for (place, byte, fault) in [(112, 2, (504, 112)), (110, 8, (501, 110))] {
-        let other = changed(alloc, &ONE_MODULE, &[(place, byte)])?;
+    for (offset, byte, fault) in [(112, 2, (504, 112)), (110, 8, (501, 110))] {
+        let other = changed(alloc, &ONE_MODULE, &[(offset, byte)])?;
         assert_eq!(rt; fault_of_root(alloc, other.as_slice())?, Some(fault));
     }
     Ok(())

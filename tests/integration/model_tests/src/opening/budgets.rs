@@ -42,7 +42,7 @@ fn a_root_without_signatures_needs_no_budget(rt: HostRuntime) -> Result<(), Fail
 
 /// The walk that finds the fault in its row is not counted.
 #[test]
-fn a_fault_is_told_where_the_budget_reaches_it(rt: HostRuntime) -> Result<(), Fail> {
+fn a_fault_is_reported_where_the_budget_reaches_it(rt: HostRuntime) -> Result<(), Fail> {
     let root = misspelled(rt.alloc())?;
     let fault = Fault::new(FaultCode::BadSignature, 116);
     for (budget, error) in [
@@ -70,16 +70,16 @@ fn other_faults_need_no_budget(rt: HostRuntime) -> Result<(), Fail> {
 }
 
 #[test]
-fn errors_are_told(rt: HostRuntime) -> Result<(), Fail> {
+fn errors_are_reported(rt: HostRuntime) -> Result<(), Fail> {
     let fault = Fault::new(FaultCode::BadSignature, 12);
-    for (error, told) in [
+    for (error, reported) in [
         (
             BoundedError::Fault(fault),
             "fault 7 701 at 12: BadSignature",
         ),
         (BoundedError::BudgetSpent, "budget spent"),
     ] {
-        assert_eq!(rt; error.to_string(rt.alloc())?.as_str(), told);
+        assert_eq!(rt; error.to_string(rt.alloc())?.as_str(), reported);
     }
     Ok(())
 }

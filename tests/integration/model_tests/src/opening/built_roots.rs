@@ -27,9 +27,9 @@ pub fn two_types(alloc: Global) -> Result<Vec<u8>, Fail> {
 }
 
 /// Bytes of which one is changed.
-pub fn changed(bytes: Vec<u8>, place: usize, byte: u8) -> Vec<u8> {
+pub fn changed(bytes: Vec<u8>, offset: usize, byte: u8) -> Vec<u8> {
     let mut bytes = bytes;
-    if let Some(slot) = bytes.get_mut(place) {
+    if let Some(slot) = bytes.get_mut(offset) {
         *slot = byte;
     }
     bytes

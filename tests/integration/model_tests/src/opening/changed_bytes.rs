@@ -1,4 +1,4 @@
-use crate::answers::refusal;
+use crate::reports::refusal;
 use crate::form::Form;
 use sample_roots::{ONE_MODULE, TWO_TYPES, changed, fault_of, image};
 use std::alloc::Global;
@@ -206,10 +206,10 @@ const IMAGE_WITH_FF: [(usize, usize, u16, u64); 39] = [
 ];
 
 /// The fault that a table lists for a place: none where it lists none.
-fn listed(faults: &[(usize, usize, u16, u64)], place: usize) -> Option<(u16, u64)> {
+fn listed(faults: &[(usize, usize, u16, u64)], offset: usize) -> Option<(u16, u64)> {
     let (_, _, code, offset) = faults
         .iter()
-        .find(|(first, last, _, _)| *first <= place && place <= *last)?;
+        .find(|(first, last, _, _)| *first <= offset && offset <= *last)?;
     Some((*code, *offset))
 }
 
@@ -221,10 +221,10 @@ fn first_other_byte(
     byte: u8,
     faults: &[(usize, usize, u16, u64)],
 ) -> Result<Option<usize>, Fail> {
-    for place in 0..bytes.len() {
-        let other = changed(alloc, bytes, &[(place, byte)])?;
-        if fault_of(refusal(form, other.as_slice())) != listed(faults, place) {
-            return Ok(Some(place));
+    for offset in 0..bytes.len() {
+        let other = changed(alloc, bytes, &[(offset, byte)])?;
+        if fault_of(refusal(form, other.as_slice())) != listed(faults, offset) {
+            return Ok(Some(offset));
         }
     }
     Ok(None)

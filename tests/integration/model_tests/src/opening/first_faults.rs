@@ -1,4 +1,4 @@
-use crate::answers::{fault_in, fault_of_image, fault_of_root};
+use crate::reports::{fault_in, fault_of_image, fault_of_root};
 use crate::form::Form;
 use opening::Fault;
 use sample_roots::{
@@ -38,7 +38,7 @@ fn first_other_fault(
 }
 
 #[test]
-fn each_demand_on_a_file_is_the_first_to_fail(rt: HostRuntime) -> Result<(), Fail> {
+fn each_rule_on_a_file_is_the_first_to_fail(rt: HostRuntime) -> Result<(), Fail> {
     assert_eq!(rt;
         first_other_fault(rt.alloc(), Form::Image, &image(), &FILE_FAULTS)?,
         None
@@ -47,7 +47,7 @@ fn each_demand_on_a_file_is_the_first_to_fail(rt: HostRuntime) -> Result<(), Fai
 }
 
 #[test]
-fn each_demand_on_a_root_is_the_first_to_fail(rt: HostRuntime) -> Result<(), Fail> {
+fn each_rule_on_a_root_is_the_first_to_fail(rt: HostRuntime) -> Result<(), Fail> {
     let alloc = rt.alloc();
     let one_module = first_other_fault(alloc, Form::Root, &ONE_MODULE, &MODULE_FAULTS)?;
     assert_eq!(rt; one_module, None);
@@ -59,7 +59,7 @@ fn each_demand_on_a_root_is_the_first_to_fail(rt: HostRuntime) -> Result<(), Fai
 }
 
 #[test]
-fn a_count_is_told_before_the_tables_that_it_cuts(rt: HostRuntime) -> Result<(), Fail> {
+fn a_count_is_reported_before_the_tables_that_it_cuts(rt: HostRuntime) -> Result<(), Fail> {
     let both = changed(
         rt.alloc(),
         &TWO_TYPES,

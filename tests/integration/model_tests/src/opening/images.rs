@@ -1,4 +1,4 @@
-use crate::answers::fault_of_image;
+use crate::reports::fault_of_image;
 use crate::opening::samples::is_same_module;
 use opening::{open_image, open_root, read_heads};
 use sample_roots::{ONE_MODULE, TWO_TYPES, changed, image, write_at};
@@ -44,7 +44,7 @@ fn the_heads_of_a_file_are_read_without_its_tables(rt: HostRuntime) -> Result<()
 }
 
 #[test]
-fn places_of_faults_count_in_the_file(rt: HostRuntime) -> Result<(), Fail> {
+fn offsets_of_faults_count_in_the_file(rt: HostRuntime) -> Result<(), Fail> {
     let alloc = rt.alloc();
     let file = image();
     assert_eq!(rt; fault_with(alloc, &[(592 + 41, 0x2D)])?, Some((307, 624)));
@@ -69,7 +69,7 @@ fn places_of_faults_count_in_the_file(rt: HostRuntime) -> Result<(), Fail> {
 #[test]
 fn shows_the_same_of_a_wider_image(rt: HostRuntime) -> Result<(), Fail> {
     let mut wider = image();
-    for (place, part) in [
+    for (offset, part) in [
         (0x094, b"\xF0\0".as_slice()),
         (0x098, b"\x0B\x02"),
         (0x0F4, b"\0\0\0\0"),
@@ -79,7 +79,7 @@ fn shows_the_same_of_a_wider_image(rt: HostRuntime) -> Result<(), Fail> {
         (0x184, b"\0\0\0\0\0\0\0\0\0\0\0\0"),
         (0x194, b"\0\x20\0\0\0\x02\0\0\0\x02\0\0"),
     ] {
-        write_at(&mut wider, place, part);
+        write_at(&mut wider, offset, part);
     }
     let (header, view) = open_image(wider.as_slice())?;
     assert_eq!(rt; header.root, 592..736);

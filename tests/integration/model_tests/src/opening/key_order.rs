@@ -1,4 +1,4 @@
-use crate::answers::fault_of_root;
+use crate::reports::fault_of_root;
 use crate::shown::cell;
 use opening::{CellRef, View, open_root};
 use sample_roots::{

@@ -52,8 +52,8 @@ fn texts_live_as_long_as_the_bytes(rt: HostRuntime) -> Result<(), Fail> {
 
 #[test]
 fn a_text_lies_where_its_bytes_are(rt: HostRuntime) -> Result<(), Fail> {
-    for (place, name) in [(121, "z.dll"), (122, "azdll"), (125, "a.dlz")] {
-        let root = changed(rt.alloc(), &ONE_MODULE, &[(place, b'z')])?;
+    for (offset, name) in [(121, "z.dll"), (122, "azdll"), (125, "a.dlz")] {
+        let root = changed(rt.alloc(), &ONE_MODULE, &[(offset, b'z')])?;
         assert_eq!(rt; module_name(root.as_slice()), Some(name));
     }
     Ok(())

@@ -1,7 +1,7 @@
 use crate::form::Form;
-use crate::answers::{fault_in, model_in};
+use crate::reports::{fault_in, model_in};
 use sample_roots::{
-    FILE_FRONTS, FrontFault, MODULE_FRONTS, ONE_MODULE, TWO_TYPE_FRONTS, TWO_TYPES, fault_of, image,
+    FILE_PREFIXES, PrefixFault, MODULE_PREFIXES, ONE_MODULE, TWO_TYPE_PREFIXES, TWO_TYPES, fault_of, image,
 };
 use std::alloc::Global;
 use std::test::Fail;
@@ -11,10 +11,10 @@ fn first_other_prefix(
     alloc: Global,
     form: Form,
     bytes: &[u8],
-    fronts: &[FrontFault],
+    prefixes: &[PrefixFault],
 ) -> Result<Option<usize>, Fail> {
     for len in 0..=bytes.len() {
-        let listed = fronts.iter().find(|(longest, _, _)| len <= *longest);
+        let listed = prefixes.iter().find(|(longest, _, _)| len <= *longest);
         let found = fault_in(alloc, form, &bytes[..len])?;
         if fault_of(found) != listed.map(|(_, code, offset)| (*code, *offset)) {
             return Ok(Some(len));
@@ -24,25 +24,25 @@ fn first_other_prefix(
 }
 
 #[test]
-fn each_front_of_a_root_is_refused(rt: HostRuntime) -> Result<(), Fail> {
+fn each_prefix_of_a_root_is_refused(rt: HostRuntime) -> Result<(), Fail> {
     let alloc = rt.alloc();
     assert_eq!(rt;
-        first_other_prefix(alloc, Form::Root, &ONE_MODULE, &MODULE_FRONTS)?,
+        first_other_prefix(alloc, Form::Root, &ONE_MODULE, &MODULE_PREFIXES)?,
         None
     );
     assert_eq!(rt;
-        first_other_prefix(alloc, Form::Root, &TWO_TYPES, &TWO_TYPE_FRONTS)?,
+        first_other_prefix(alloc, Form::Root, &TWO_TYPES, &TWO_TYPE_PREFIXES)?,
         None
     );
     Ok(())
 }
 
 #[test]
-fn each_front_of_a_file_is_refused_up_to_the_end_of_its_root(rt: HostRuntime) -> Result<(), Fail> {
+fn each_prefix_of_a_file_is_refused_up_to_the_end_of_its_root(rt: HostRuntime) -> Result<(), Fail> {
     let alloc = rt.alloc();
     let file = image();
     assert_eq!(rt;
-        first_other_prefix(alloc, Form::Image, &file, &FILE_FRONTS)?,
+        first_other_prefix(alloc, Form::Image, &file, &FILE_PREFIXES)?,
         None
     );
     let module = model_in(alloc, Form::Root, &ONE_MODULE)?;

@@ -1,4 +1,4 @@
-use crate::answers::fault_of_root;
+use crate::reports::fault_of_root;
 use crate::opening::built_roots::{changed, one_module, two_types};
 use crate::shown::{are_same, cell};
 use opening::{CellRef, open_root};

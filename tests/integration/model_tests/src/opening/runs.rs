@@ -1,4 +1,4 @@
-use crate::answers::fault_of_root;
+use crate::reports::fault_of_root;
 use crate::opening::built_roots::{changed, two_types};
 use crate::shown::{Members, are_same, cell, run_of};
 use opening::{CellRef, open_root};

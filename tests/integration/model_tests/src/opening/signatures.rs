@@ -1,4 +1,4 @@
-use crate::answers::fault_of_root;
+use crate::reports::fault_of_root;
 use crate::shown::cell;
 use opening::{CellRef, open_root};
 use sample_roots::{RootBuilder, root_of_references, root_of_signature};
@@ -19,7 +19,7 @@ fn signature_cell(table: TableId) -> (usize, u64) {
 }
 
 /// A table with a signature column, a blob, and the code of the fault that it is refused with.
-const SPELLINGS: [(TableId, &[u8], Option<u16>); 27] = [
+const ENCODINGS: [(TableId, &[u8], Option<u16>); 27] = [
     (TableId::Field, b"\x06\x08", None),
     (TableId::Field, b"\x06\x10\x08", None),
     (TableId::Field, b"\x06\x08\0", Some(701)),
@@ -55,11 +55,11 @@ const SPELLINGS: [(TableId, &[u8], Option<u16>); 27] = [
 ];
 
 #[test]
-fn blobs_are_spelled_by_the_grammar_of_their_column(rt: HostRuntime) -> Result<(), Fail> {
-    for (table, blob, code) in SPELLINGS {
+fn blobs_are_encoded_by_the_grammar_of_their_column(rt: HostRuntime) -> Result<(), Fail> {
+    for (table, blob, code) in ENCODINGS {
         let root = root_of_signature(rt.alloc(), table, blob)?;
-        let (column, place) = signature_cell(table);
-        let fault = code.map(|code| (code, place));
+        let (column, offset) = signature_cell(table);
+        let fault = code.map(|code| (code, offset));
         let name = table.name();
         let found = fault_of_root(rt.alloc(), root.as_slice())?;
         assert_eq!(rt; found, fault, "{blob:?} of {name}");

@@ -5,23 +5,23 @@ use std::test::Fail;
 use tables::Cell;
 
 /// Whether a capital stands at a place of a name.
-fn is_capital(name: &[u8], place: usize) -> bool {
-    name.get(place)
+fn is_capital(name: &[u8], offset: usize) -> bool {
+    name.get(offset)
         .is_some_and(|byte| byte.is_ascii_uppercase())
 }
 
 /// Whether a small letter stands at a place of a name.
-fn is_small(name: &[u8], place: usize) -> bool {
-    name.get(place)
+fn is_small(name: &[u8], offset: usize) -> bool {
+    name.get(offset)
         .is_some_and(|byte| byte.is_ascii_lowercase())
 }
 
 /// Whether a letter of a column's name begins a word behind the first: a capital does that stands behind a
 /// small letter, or before one.
-fn begins_word(name: &[u8], place: usize) -> bool {
-    place > 0
-        && is_capital(name, place)
-        && (is_small(name, place.saturating_sub(1)) || is_small(name, place.saturating_add(1)))
+fn begins_word(name: &[u8], offset: usize) -> bool {
+    offset > 0
+        && is_capital(name, offset)
+        && (is_small(name, offset.saturating_sub(1)) || is_small(name, offset.saturating_add(1)))
 }
 
 /// The name of the field of a column: in small letters, with underscores between the words. A field may not
@@ -31,8 +31,8 @@ fn field_name(alloc: Global, column: &str) -> Result<String, Fail> {
         return Ok(String::from_str(alloc, "kind")?);
     }
     let mut name = String::new(alloc);
-    for (place, byte) in column.as_bytes().iter().enumerate() {
-        if begins_word(column.as_bytes(), place) {
+    for (offset, byte) in column.as_bytes().iter().enumerate() {
+        if begins_word(column.as_bytes(), offset) {
             name.push('_')?;
         }
         name.push(byte.to_ascii_lowercase() as char)?;

@@ -31,15 +31,15 @@ fn row_count(table: TableId) -> u32 {
 
 /// The number of a column that stands at a place of a row: one that tells the place where the column is of
 /// numbers, texts or blobs, and else the first row or GUID; the type that is nested is the second.
-fn number_at(table: TableId, kind: ColumnKind, place: u32) -> u32 {
+fn number_at(table: TableId, kind: ColumnKind, offset: u32) -> u32 {
     match kind {
-        ColumnKind::U8 | ColumnKind::U16 | ColumnKind::U32 => place.saturating_add(1),
+        ColumnKind::U8 | ColumnKind::U16 | ColumnKind::U32 => offset.saturating_add(1),
         ColumnKind::Padding => 0,
-        ColumnKind::Text => place.saturating_mul(4).saturating_add(1),
+        ColumnKind::Text => offset.saturating_mul(4).saturating_add(1),
         ColumnKind::Guid => 1,
-        ColumnKind::Blob => place.saturating_mul(2).saturating_add(23),
+        ColumnKind::Blob => offset.saturating_mul(2).saturating_add(23),
         ColumnKind::Signature(column) => signature_index(column),
-        ColumnKind::Row(_) if table == TableId::NestedClass && place == 0 => 2,
+        ColumnKind::Row(_) if table == TableId::NestedClass && offset == 0 => 2,
         ColumnKind::Row(_) | ColumnKind::List(_) => 1,
         ColumnKind::Coded(coded) => {
             let listed = coded.tables().iter().filter_map(|listed| *listed);
@@ -65,8 +65,8 @@ fn rows(alloc: Global) -> Result<Vec<u8>, Fail> {
     let mut bytes = Vec::new(alloc);
     for table in TableId::all() {
         for _ in 0..row_count(*table) {
-            for (place, column) in (0..9).zip(columns(*table)) {
-                let number = number_at(*table, column.kind, place);
+            for (offset, column) in (0..9).zip(columns(*table)) {
+                let number = number_at(*table, column.kind, offset);
                 put(&mut bytes, number as usize, width_of(column.kind))?;
             }
         }

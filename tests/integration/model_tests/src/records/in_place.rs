@@ -55,7 +55,7 @@ fn is_same<'a, R: Record<'a> + FromRow<'a, RefRow<'a>> + PartialEq + Debug + Cop
 }
 
 /// Whether a blob spells a signature in a column of a kind.
-fn spells(alloc: Global, blob: &[u8], column: SigKind, signature: &Signature) -> bool {
+fn encodes(alloc: Global, blob: &[u8], column: SigKind, signature: &Signature) -> bool {
     match decode(alloc, blob, column) {
         Ok(decoded) => decoded == *signature,
         Err(_) => false,
@@ -63,8 +63,8 @@ fn spells(alloc: Global, blob: &[u8], column: SigKind, signature: &Signature) ->
 }
 
 /// The blob of a signature in a table's first row, by the place of its cell.
-fn blob_of<'a>(view: &View<'a>, table: TableId, place: usize) -> &'a [u8] {
-    match view.cell(table, 1, place) {
+fn blob_of<'a>(view: &View<'a>, table: TableId, offset: usize) -> &'a [u8] {
+    match view.cell(table, 1, offset) {
         CellRef::Sig(blob) => blob,
         _ => &[],
     }
@@ -126,7 +126,7 @@ fn signatures_in_place_are_their_blobs(rt: HostRuntime) -> Result<(), Fail> {
     };
     let (mine, its): (Field, Field<_>) = (owned(&model)?, seen(&view)?);
     assert_eq!(rt; (mine.flags, mine.name), (its.flags, its.name));
-    assert!(rt; spells(alloc, its.signature, SigKind::Field, mine.signature));
+    assert!(rt; encodes(alloc, its.signature, SigKind::Field, mine.signature));
     assert!(rt; its.signature == blob_of(&view, TableId::Field, 2));
     let (mine, its): (MethodDef, MethodDef<_>) = (owned(&model)?, seen(&view)?);
     assert_eq!(rt;
@@ -134,26 +134,26 @@ fn signatures_in_place_are_their_blobs(rt: HostRuntime) -> Result<(), Fail> {
         (its.rva, its.impl_flags, its.flags)
     );
     assert_eq!(rt; (mine.name, mine.param_list), (its.name, its.param_list));
-    assert!(rt; spells(alloc, its.signature, SigKind::MethodDef, mine.signature));
+    assert!(rt; encodes(alloc, its.signature, SigKind::MethodDef, mine.signature));
     assert!(rt; its.signature == blob_of(&view, TableId::MethodDef, 4));
     let (mine, its): (MemberRef, MemberRef<_>) = (owned(&model)?, seen(&view)?);
     assert_eq!(rt; (mine.class, mine.name), (its.class, its.name));
-    assert!(rt; spells(alloc, its.signature, SigKind::MemberRef, mine.signature));
+    assert!(rt; encodes(alloc, its.signature, SigKind::MemberRef, mine.signature));
     assert!(rt; its.signature == blob_of(&view, TableId::MemberRef, 2));
     let (mine, its): (StandAloneSig<_>, StandAloneSig<_>) = (owned(&model)?, seen(&view)?);
-    assert!(rt; spells(alloc, its.signature, SigKind::StandAlone, mine.signature));
+    assert!(rt; encodes(alloc, its.signature, SigKind::StandAlone, mine.signature));
     assert!(rt; its.signature == blob_of(&view, TableId::StandAloneSig, 0));
     let (mine, its): (Property, Property<_>) = (owned(&model)?, seen(&view)?);
     assert_eq!(rt; (mine.flags, mine.name), (its.flags, its.name));
-    assert!(rt; spells(alloc, its.kind, SigKind::Property, mine.kind));
+    assert!(rt; encodes(alloc, its.kind, SigKind::Property, mine.kind));
     assert!(rt; its.kind == blob_of(&view, TableId::Property, 2));
     let (mine, its): (TypeSpec<_>, TypeSpec<_>) = (owned(&model)?, seen(&view)?);
-    assert!(rt; spells(alloc, its.signature, SigKind::TypeSpec, mine.signature));
+    assert!(rt; encodes(alloc, its.signature, SigKind::TypeSpec, mine.signature));
     assert!(rt; its.signature == blob_of(&view, TableId::TypeSpec, 0));
     let (mine, its): (MethodSpec<_>, MethodSpec<_>) = (owned(&model)?, seen(&view)?);
     assert_eq!(rt; mine.method, its.method);
     assert!(rt;
-        spells(
+        encodes(
             alloc,
             its.instantiation,
             SigKind::Instance,

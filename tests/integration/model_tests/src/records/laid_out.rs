@@ -10,7 +10,7 @@ pub fn put(bytes: &mut Vec<u8>, number: usize, width: usize) -> Result<(), Fail>
 }
 
 /// Fills bytes with zeros to a multiple of four.
-fn fill(bytes: &mut Vec<u8>) -> Result<(), Fail> {
+fn padding(bytes: &mut Vec<u8>) -> Result<(), Fail> {
     for _ in 0..(4 - bytes.len() % 4) % 4 {
         bytes.push(0)?;
     }
@@ -46,20 +46,20 @@ pub fn root_of(
         b"BSJB\x01\0\x01\0\0\0\0\0\x0C\0\0\0v4.0.30319\0\0\0\0".as_slice(),
     )?;
     put(&mut root, heaps.len().saturating_add(1), 2)?;
-    let mut place = root.len().saturating_add(12);
+    let mut offset = root.len().saturating_add(12);
     for (name, _) in heaps {
-        place = place.saturating_add(8).saturating_add(name.len());
+        offset = offset.saturating_add(8).saturating_add(name.len());
     }
     let mut streams = table_stream(alloc, counts, rows)?;
-    fill(&mut streams)?;
-    put(&mut root, place, 4)?;
+    padding(&mut streams)?;
+    put(&mut root, offset, 4)?;
     put(&mut root, streams.len(), 4)?;
     root.extend_from_slice(b"#~\0\0".as_slice())?;
     for (name, heap) in heaps {
-        put(&mut root, place.saturating_add(streams.len()), 4)?;
+        put(&mut root, offset.saturating_add(streams.len()), 4)?;
         let before = streams.len();
         streams.extend_from_slice(heap)?;
-        fill(&mut streams)?;
+        padding(&mut streams)?;
         put(&mut root, streams.len().saturating_sub(before), 4)?;
         root.extend_from_slice(name)?;
     }

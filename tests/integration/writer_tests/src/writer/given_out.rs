@@ -62,7 +62,7 @@ fn check_written(
 }
 
 #[test]
-fn all_or_a_front_goes_out(rt: HostRuntime) -> Result<(), Fail> {
+fn all_or_a_prefix_goes_out(rt: HostRuntime) -> Result<(), Fail> {
     let alloc = rt.alloc();
     let model = model_of_module(alloc, "a.dll", Some(GUID))?;
     let prepared = prepare(alloc, &model, 144)?;

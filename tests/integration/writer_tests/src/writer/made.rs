@@ -58,8 +58,8 @@ fn a_root_is_refused_above_its_limit_alone(rt: HostRuntime) -> Result<(), Fail> 
 }
 
 /// The fault of a root whose byte at a place is 2.
-fn fault_with(alloc: Global, root: &[u8], place: usize) -> Result<(u16, u64), Fail> {
-    let other = changed(alloc, root, &[(place, 2)])?;
+fn fault_with(alloc: Global, root: &[u8], offset: usize) -> Result<(u16, u64), Fail> {
+    let other = changed(alloc, root, &[(offset, 2)])?;
     match load_root(alloc, other.as_slice()) {
         Err(LoadError::Fault(fault)) => Ok((fault.code, fault.offset)),
         _ => Err(Fail::from("no fault")),

@@ -1,15 +1,15 @@
 use Rattle.std.proofs.Common.{ℕ, subst, refl, sym, ap, ◌∙◌, inl, inr, arith, IsUtf8, ◌≡◌}
 use Rattle.std.specs.Prelude.{IsCharBoundary, unwrap_or}
 use Rattle.std.proofs.lemmas.Bool.{false≢true}
-use Rattle.packed.specs.Demand.{Answers}
-use Rattle.heap_entries.specs.Demands.{at_place, demands_of_text}
+use Rattle.packed.specs.Rule.{Reports}
+use Rattle.heap_entries.specs.Rules.{at_offset, rules_of_text}
 use Rattle.heap_entries.proofs.WholeLemmas.{whole_is, last_is, text_begins, bytes_utf8, ended_up_to}
 use Rattle.heap_entries.proofs.strings.Strings.check.Goals.{then-start-last+else-is_char_boundary, else-start-last}
 use Rattle.heap_entries.proofs.strings.Strings.check.Goals as goal
 
 pub returns-in_default : goal.returns-in_default
 returns-in_default c = record {
-  answers = subst (λ l. (place : ℕ) → Answers (demands_of_text l c.args.index place) (at_place place c.check_alone.result)) c.self.view_is c.check_alone.ensures.answers;
+  reports = subst (λ l. (offset : ℕ) → Reports (rules_of_text l c.args.index offset) (at_offset offset c.check_alone.result)) c.self.view_is c.check_alone.ensures.reports;
 }
 
 pub returns-in-Some-last_nul : goal.returns-in-Some-last_nul
@@ -21,7 +21,7 @@ returns-in-Some-last_nul c =
     let ended = ended_up_to heap index c.in-Some-last_nul.last last c.if-start-last.true in
     let begins = subst (λ l. IsCharBoundary l index) (whole.0 ∙ c.self.view_is) (c.if-is_char_boundary.ensures.test.0 refl) in
     let utf8 = bytes_utf8 heap index ended.0 ended.1 (subst IsUtf8 c.self.view_is whole.1) begins in
-    record { answers = λ place. (inr ended, ((ended.0, inr (omega (arith, c.if-start-eq0.false), ended.1, utf8)), tt)) }
+    record { reports = λ offset. (inr ended, ((ended.0, inr (omega (arith, c.if-start-eq0.false), ended.1, utf8)), tt)) }
 
 pub returns-in-Some-2 : goal.returns-in-Some-2
 returns-in-Some-2 c =
@@ -36,7 +36,7 @@ returns-in-Some-2 c =
       | else-start-last w ↦ λ _. omega (arith, w.if-start-last.false, c.if-start-last-2.true, same)
     ] in
     record {
-      answers = λ place. inr (
+      reports = λ offset. inr (
         inr ended,
         inl (λ text. within (text_begins heap index text.0 (omega (arith, c.if-start-eq0.false)) text.1), refl),
       );
@@ -46,5 +46,5 @@ pub returns-in_default-2 : goal.returns-in_default-2
 returns-in_default-2 c =
     let alone = c.check_alone-in_default-2 in
     record {
-      answers = subst (λ l. (place : ℕ) → Answers (demands_of_text l c.args.index place) (at_place place alone.result)) c.self.view_is alone.ensures.answers;
+      reports = subst (λ l. (offset : ℕ) → Reports (rules_of_text l c.args.index offset) (at_offset offset alone.result)) c.self.view_is alone.ensures.reports;
     }

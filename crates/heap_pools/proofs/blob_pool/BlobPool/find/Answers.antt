@@ -4,8 +4,8 @@ use Rattle.heap_pools.specs.Distinct.{is_among}
 use Rattle.heap_pools.proofs.BlobLemmas.{found_there, found_new}
 use Rattle.heap_pools.proofs.blob_pool.BlobPool.find.Goals as goal
 
-pub returns-clause-found : goal.returns-clause-found
-returns-clause-found c =
+pub returns-clause-sound : goal.returns-clause-sound
+returns-clause-sound c =
     subst (λ (entries : List (List ℕ)). IfSome c.copied.result (λ index. (is_among entries c.args.blob.now ≡ true) × (index ≡ blob_from 1 entries c.args.blob.now))) c.self.view_is
     (found_there c.self.inside.indexes.entries c.args.blob.now c.copied.result c.self.invariant.starts (c.copied.ensures ∙ c.get.ensures.value))
 

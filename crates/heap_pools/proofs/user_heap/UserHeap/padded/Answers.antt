@@ -1,6 +1,6 @@
 use Rattle.std.proofs.Common.{◌≡◌, ◌-◌, ◌++◌, List, ℕ, length, replicate, ap, ◌∙◌, arith}
-use Rattle.heap_entries.specs.Fill.{filled}
-use Rattle.heap_pools.proofs.UserHeapLemmas.{take_zeros, filled_is}
+use Rattle.heap_entries.specs.Padding.{zero_padded}
+use Rattle.heap_pools.proofs.UserHeapLemmas.{take_zeros, padded_is}
 use Rattle.heap_pools.proofs.user_heap.UserHeap.padded.Goals as goal
 
 pub returns-in-Ok-clause-ok : goal.returns-in-Ok-clause-ok
@@ -17,4 +17,4 @@ returns-in-Ok-clause-ok c =
     let short : n - c.len-2.result ≡ n - length old = omega arith in
     c.in-Ok.ensures.items
     ∙ ap (λ (l : List ℕ). old ++ l) (take_zeros (n - c.len-2.result) (omega arith) ∙ ap (λ k. replicate {A = ℕ} k 0) short)
-    ∙ filled_is old n (omega arith) (omega arith) multiple ∙ ap filled c.self.view_is
+    ∙ padded_is old n (omega arith) (omega arith) multiple ∙ ap zero_padded c.self.view_is

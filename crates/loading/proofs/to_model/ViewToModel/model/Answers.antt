@@ -15,8 +15,8 @@ unreachable-requires c = not_there c.root-root.ensures.model (λ some.
 pub returns-clause-model : goal.returns-clause-model
 returns-clause-model c = λ model is. c.in-Ok.ensures.model ∙ c.in_ok-tables.ensures model is
 
-pub returns-clause-found : goal.returns-clause-found
-returns-clause-found c =
+pub returns-clause-sound : goal.returns-clause-sound
+returns-clause-sound c =
     ∥∥₁_map c.root-root.ensures.model (λ some.
     let P : Metadata → Type 0 = λ model. IsModel c.args.self.now model in
     subst P (sym (c.in-Ok.ensures.model ∙ c.in_ok-tables.ensures some.0 some.1)) some.1)

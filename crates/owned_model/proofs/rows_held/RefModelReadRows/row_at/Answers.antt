@@ -10,4 +10,4 @@ returns-clause-only c = λ model same cells says.
     let Q : Metadata → Type 0 = λ it. cells ≡ row_of it c.args.table c.args.row in
     let are = subst P (sym c.cells.ensures) (c.valid_rows_are_of_kinds.ensures c.args.self.now.now c.tables-tables.ensures.valid c.args.table c.args.row
     (c.requires.first, c.requires.last)) in
-    subst Q same (c.owned_cells_are_rows.ensures.only (kinds_of c.args.table) c.cells.result.now cells are says ∙ c.cells.ensures)
+    subst Q same (c.owned_cells_are_rows.ensures.complete (kinds_of c.args.table) c.cells.result.now cells are says ∙ c.cells.ensures)

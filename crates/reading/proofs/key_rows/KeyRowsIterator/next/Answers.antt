@@ -41,7 +41,7 @@ step g c =
         from = w.next_with-row.ensures.from;
         to = w.next_with-row.ensures.to;
         none = w.next_with-row.ensures.none;
-        found = w.next_with-row.ensures.found;
+        found = w.next_with-row.ensures.sound;
       })
     ] in
     let other = c.if-row-self.false in

@@ -1,7 +1,7 @@
 use Rattle.reading.proofs.source.Source.check_guid.Goals as goal
 
 pub returns-in-Ok : goal.returns-in-Ok
-returns-in-Ok c = λ place. rw c.guids.ensures at (c.in-Ok.ensures.answers place)
+returns-in-Ok c = λ offset. rw c.guids.ensures at (c.in-Ok.ensures.reports offset)
 
 pub returns-in-Err : goal.returns-in-Err
-returns-in-Err c = λ place. rw c.code.ensures (rw c.guids.ensures at (c.in-Err.ensures.answers place))
+returns-in-Err c = λ offset. rw c.code.ensures (rw c.guids.ensures at (c.in-Err.ensures.reports offset))

@@ -1,6 +1,6 @@
 use Rattle.std.proofs.Common.{◌≡◌, ℕ, List, get_or, sym, ap, ◌∙◌}
 use Rattle.table_schema.specs.declared.table.TableId.{TableId}
-use Rattle.table_schema.specs.Tables.{tables, position_of}
+use Rattle.table_schema.specs.Tables.{tables, table_index_of}
 use Rattle.schema.specs.Sizes.{Sizes, count_of}
 use Rattle.schema.specs.LaidOut.{tables_bytes}
 use Rattle.metadata.specs.Metadata.{Metadata, count_in}
@@ -24,7 +24,7 @@ plan_is : (c : After-row_start-len) (model : Metadata) → Describes c.args.outl
     → IsTablesPlan model (record { layout = c.of-layout.result; heap_sizes = c.args.heap_sizes; sorted = c.args.outline.now.sorted; len = c.row_start-len.result })
 plan_is c model described is =
     let stand = c.tables_stand.ensures in
-    let they : TheyStand = record { count = stand.count; position = stand.position; number = stand.number; stand = stand.stand; rise = stand.rise } in
+    let they : TheyStand = record { count = stand.count; table_index = stand.table_index; number = stand.number; stand = stand.stand; rise = stand.rise } in
     let found : AreFound flat = record { back = c.numbers_are_put.ensures.back; many = c.numbers_are_put.ensures.many } in
     let sizes : Sizes = c.of-layout.result in
     let counts = described.counts in
@@ -57,7 +57,7 @@ returns-clause-stream c model described heap_sizes =
     let is = plan_is at model described heap_sizes in
     let layout : Sizes = c.of-layout.result in
     let sorted = c.args.outline.now.sorted in
-    let alike = λ (table : TableId). ap (λ (counts : List ℕ). get_or counts (position_of table) 0) is.counts in
+    let alike = λ (table : TableId). ap (λ (counts : List ℕ). get_or counts (table_index_of table) 0) is.counts in
     let header = ap (λ n. table_header n sorted layout) is.heap_sizes ∙ ap (λ n. table_header (sizes_of model).heap_sizes n layout) is.sorted
     ∙ sym (c.table_headers_are_put.ensures model layout is.counts) in
     let rows = ap (tables_bytes layout tables) (c.numbers_are_put.ensures.back model layout (each at model described))

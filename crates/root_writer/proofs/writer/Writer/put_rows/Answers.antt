@@ -11,10 +11,10 @@ put_row-requires-clause-room c =
     let left = count_of sizes c.args.table - c.loop-row._row in
     let next = count_of sizes c.args.table - (c.loop-row._row + 1) in
     let more : left ≡ next + 1 = omega (arith, c.loop-row-test.true, c.count-row-end.ensures.value) in
-    let rest = c.loop-row.rest.now in
-    let front = c.split_at.ensures.front ∙ ap (λ list. take (length list) rest) c.columns-columns.ensures in
-    let back = c.split_at.ensures.back ∙ ap (λ list. drop (length list) rest) c.columns-columns.ensures in
-    here_fits _ _ _ _ _ _ (next_row sizes columns (length columns) left next rest c.split_at.result.0.now c.split_at.result.1.now more front back) c.loop-row.invariant.putting
+    let tail = c.loop-row.tail.now in
+    let prefix = c.split_at.ensures.front ∙ ap (λ list. take (length list) tail) c.columns-columns.ensures in
+    let back = c.split_at.ensures.back ∙ ap (λ list. drop (length list) tail) c.columns-columns.ensures in
+    here_fits _ _ _ _ _ _ (next_row sizes columns (length columns) left next tail c.split_at.result.0.now c.split_at.result.1.now more prefix back) c.loop-row.invariant.putting
 
 pub loop-row-preserved : goal.loop-row-preserved
 loop-row-preserved c =
@@ -23,13 +23,13 @@ loop-row-preserved c =
     let left = count_of sizes c.args.table - c.loop-row._row in
     let next = count_of sizes c.args.table - (c.loop-row._row + 1) in
     let more : left ≡ next + 1 = omega (arith, c.loop-row-test.true, c.count-row-end.ensures.value) in
-    let rest = c.loop-row.rest.now in
-    let front = c.split_at.ensures.front ∙ ap (λ list. take (length list) rest) c.columns-columns.ensures in
-    let back = c.split_at.ensures.back ∙ ap (λ list. drop (length list) rest) c.columns-columns.ensures in
+    let tail = c.loop-row.tail.now in
+    let prefix = c.split_at.ensures.front ∙ ap (λ list. take (length list) tail) c.columns-columns.ensures in
+    let back = c.split_at.ensures.back ∙ ap (λ list. drop (length list) tail) c.columns-columns.ensures in
     record {
-      putting = put_next _ _ _ _ _ _ _ (next_row sizes columns (length columns) left next rest c.split_at.result.0.now c.split_at.result.1.now more front back)
+      putting = put_next _ _ _ _ _ _ _ (next_row sizes columns (length columns) left next tail c.split_at.result.0.now c.split_at.result.1.now more prefix back)
           c.put_row.ensures c.loop-row.invariant.putting;
-      many = fewer (length columns) next rest c.split_at.result.1.now back (c.loop-row.invariant.many ∙ ap (λ count. length columns * count) more);
+      many = fewer (length columns) next tail c.split_at.result.1.now back (c.loop-row.invariant.many ∙ ap (λ count. length columns * count) more);
     }
 
 pub returns : goal.returns
@@ -38,4 +38,4 @@ returns c =
     let columns = columns_of c.args.table in
     let left = count_of sizes c.args.table - c.loop-row._row in
     let none : left ≡ 0 = omega (arith, c.loop-row-test.false, c.count-row-end.ensures.value) in
-    put_all _ _ _ _ (no_row sizes columns (length columns) left c.loop-row.rest.now none) c.loop-row.invariant.putting
+    put_all _ _ _ _ (no_row sizes columns (length columns) left c.loop-row.tail.now none) c.loop-row.invariant.putting

@@ -9,7 +9,7 @@ use Rattle.root_writer.proofs.writer.Writer.put_rows.Given as goal
 -- together with the rows that are left this is the whole table
 abbrev pub invariant-loop-row : goal.invariant-loop-row
 invariant-loop-row l = record {
-  putting : IsPutting l.fn.self l.self (rows_bytes l.layout (columns_of l.table) (rows_in (length (columns_of l.table)) (count_of l.layout l.table - l._row) l.rest))
+  putting : IsPutting l.fn.self l.self (rows_bytes l.layout (columns_of l.table) (rows_in (length (columns_of l.table)) (count_of l.layout l.table - l._row) l.tail))
       (rows_bytes l.layout (columns_of l.table) (table_in l.layout l.table l.numbers));
-  many : length l.rest ≡ length (columns_of l.table) * (count_of l.layout l.table - l._row);
+  many : length l.tail ≡ length (columns_of l.table) * (count_of l.layout l.table - l._row);
 }

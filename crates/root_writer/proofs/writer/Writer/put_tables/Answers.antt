@@ -38,12 +38,12 @@ put_rows-requires c =
     let below : i < length tables = omega (arith, ap length c.all-table-items.ensures.value, c.loop-table-test.true) in
     let cells : length c.columns.result.now * c.count.result ≡ cells_of sizes table =
     ap (λ list. length list * c.count.result) c.columns.ensures ∙ ap (λ count. length (columns_of table) * count) c.count.ensures.value in
-    let rest = c.loop-table.rest.now in
-    let front = c.split_at.ensures.front ∙ ap (λ count. take count rest) cells in
-    let back = c.split_at.ensures.back ∙ ap (λ count. drop count rest) cells in
-    let split = next_table sizes i table rest c.split_at.result.0.now c.split_at.result.1.now is below front back in
+    let tail = c.loop-table.tail.now in
+    let prefix = c.split_at.ensures.front ∙ ap (λ count. take count tail) cells in
+    let back = c.split_at.ensures.back ∙ ap (λ count. drop count tail) cells in
+    let split = next_table sizes i table tail c.split_at.result.0.now c.split_at.result.1.now is below prefix back in
     record {
-      many = c.split_at.ensures.front_len ∙ cells;
+      many = c.split_at.ensures.prefix_len ∙ cells;
       room = here_fits _ _ _ _ _ _ split c.loop-table.invariant.putting;
     }
 
@@ -57,13 +57,13 @@ loop-table-preserved c =
     let below : i < length tables = omega (arith, ap length c.all-table-items.ensures.value, c.loop-table-test.true) in
     let cells : length c.columns.result.now * c.count.result ≡ cells_of sizes table =
     ap (λ list. length list * c.count.result) c.columns.ensures ∙ ap (λ count. length (columns_of table) * count) c.count.ensures.value in
-    let rest = c.loop-table.rest.now in
-    let front = c.split_at.ensures.front ∙ ap (λ count. take count rest) cells in
-    let back = c.split_at.ensures.back ∙ ap (λ count. drop count rest) cells in
-    let split = next_table sizes i table rest c.split_at.result.0.now c.split_at.result.1.now is below front back in
+    let tail = c.loop-table.tail.now in
+    let prefix = c.split_at.ensures.front ∙ ap (λ count. take count tail) cells in
+    let back = c.split_at.ensures.back ∙ ap (λ count. drop count tail) cells in
+    let split = next_table sizes i table tail c.split_at.result.0.now c.split_at.result.1.now is below prefix back in
     record {
       putting = put_next _ _ _ _ _ _ _ split c.put_rows.ensures c.loop-table.invariant.putting;
-      many = ap length back ∙ length-drop (cells_of sizes table) rest ∙ behind _ _ _ _ c.loop-table.invariant.many (cells_more sizes i table is below);
+      many = ap length back ∙ length-drop (cells_of sizes table) tail ∙ behind _ _ _ _ c.loop-table.invariant.many (cells_more sizes i table is below);
     }
 
 pub returns : goal.returns
@@ -71,4 +71,4 @@ returns c =
     let sizes : Sizes = c.args.layout.now in
     let i = c.loop-table.table-index in
     let past : length tables ≤ i = omega (arith, ap length c.all-table-items.ensures.value, c.loop-table-test.false) in
-    put_all _ _ _ _ (no_table sizes i c.loop-table.rest.now past) c.loop-table.invariant.putting
+    put_all _ _ _ _ (no_table sizes i c.loop-table.tail.now past) c.loop-table.invariant.putting

@@ -9,6 +9,6 @@ use Rattle.root_writer.proofs.writer.Writer.put_tables.Given as goal
 -- together with the tables that are left this is the whole
 abbrev pub invariant-loop-table : goal.invariant-loop-table
 invariant-loop-table l = record {
-  putting : IsPutting l.fn.self l.self (bytes_in l.layout (drop l.table-index tables) l.rest) (bytes_in l.layout tables l.numbers);
-  many : length l.rest ≡ sum_by (cells_of l.layout) (drop l.table-index tables);
+  putting : IsPutting l.fn.self l.self (bytes_in l.layout (drop l.table-index tables) l.tail) (bytes_in l.layout tables l.numbers);
+  many : length l.tail ≡ sum_by (cells_of l.layout) (drop l.table-index tables);
 }

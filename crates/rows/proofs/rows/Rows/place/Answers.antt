@@ -1,9 +1,9 @@
 use Rattle.std.proofs.Common.{◌≡◌, ◌∙◌, ◌<◌, length, sym, subst, rules, arith}
-use Rattle.table_schema.specs.Tables.{position_of, tables}
-use Rattle.schema.specs.Places.{cell_start}
+use Rattle.table_schema.specs.Tables.{table_index_of, tables}
+use Rattle.schema.specs.Offsets.{cell_start}
 use Rattle.schema.specs.LaidOut.{StandsAt, number_bytes, number_in}
 use Rattle.schema.specs.Cells.{cell_width}
-use Rattle.rows.proofs.PlaceLemmas.{place_behind}
+use Rattle.rows.proofs.OffsetLemmas.{offset_behind}
 use Rattle.rows.proofs.rows.Rows.place.Goals as goal
 
 pub returns-clause-behind : goal.returns-clause-behind
@@ -11,13 +11,13 @@ returns-clause-behind c = λ numbers laid.
     let stream = c.args.self.now in
     let value : c.cell_start.result ≡ cell_start stream.sizes c.args.table c.args.row c.args.column = search rules in
     let stand = c.tables_stand.ensures in
-    let below : position_of c.args.table < length tables = omega (arith, stand.count, stand.position c.args.table) in
-    value ∙ place_behind stream.bytes stream.sizes numbers c.args.table c.args.row c.args.column below (stand.stand c.args.table) c.requires.first c.requires.last c.requires.column laid
+    let below : table_index_of c.args.table < length tables = omega (arith, stand.count, stand.table_index c.args.table) in
+    value ∙ offset_behind stream.bytes stream.sizes numbers c.args.table c.args.row c.args.column below (stand.stand c.args.table) c.requires.first c.requires.last c.requires.column laid
 
 pub returns-clause-stands : goal.returns-clause-stands
 returns-clause-stands c = λ numbers laid.
     let stream = c.args.self.now in
     let value : c.cell_start.result ≡ cell_start stream.sizes c.args.table c.args.row c.args.column = search rules in
     let here = number_bytes (cell_width stream.sizes c.args.table c.args.column) (number_in numbers c.args.table c.args.row c.args.column) in
-    subst (λ place. StandsAt stream.bytes place here) (sym value)
+    subst (λ offset. StandsAt stream.bytes offset here) (sym value)
     (c.cells_stand.ensures stream.bytes stream.sizes numbers laid c.args.table c.args.row c.args.column c.requires.first c.requires.last c.requires.column).stands

@@ -1,11 +1,11 @@
 use Rattle.std.proofs.Common.{◌≡◌, ℕ, ◌+◌, ◌-◌, ◌≤◌, ◌∙◌, [], ap, get_or, arith, false}
-use Rattle.schema.specs.declared.place.Place.{Place}
+use Rattle.schema.specs.declared.table_layout.TableLayout.{TableLayout}
 use Rattle.table_schema.specs.declared.column.Column.{Column}
 use Rattle.table_schema.specs.declared.column.ColumnKind.TheVariants.{U8}
 use Rattle.table_schema.specs.Columns.{columns_of}
 use Rattle.schema.specs.Sizes.{Sizes, width_of}
 use Rattle.schema.specs.Kept.{sizes_kept}
-use Rattle.schema.proofs.PlaceLemmas.{place_kept, columns_width_more, width_known}
+use Rattle.schema.proofs.TableLayoutLemmas.{table_layout_kept, columns_width_more, width_known}
 use Rattle.schema.proofs.layout.Layout.cell_width.Goals as goal
 
 two_offsets : (a b c d w : ℕ) → a ≡ c → b ≡ d → d ≡ c + w → (a ≤ b) × (b - a ≡ w)
@@ -13,28 +13,28 @@ two_offsets a b c d w e f g = (omega arith, omega arith)
 
 pub overflow_sub-result : goal.overflow_sub-result
 overflow_sub-result c =
-    let none : Place = record { start = 0; row_width = 0; offsets = [] } in
+    let none : TableLayout = record { start = 0; row_width = 0; offsets = [] } in
     let sizes = sizes_kept c.self.inside.header in
-    let kept = place_kept sizes c.self.inside.places c.self.invariant c.args.table c.position.result none c.position.ensures.value in
+    let kept = table_layout_kept sizes c.self.inside.table_layouts c.self.invariant c.args.table c.table_index.result none c.table_index.ensures.value in
     let more = columns_width_more sizes (columns_of c.args.table) c.args.column (record { kind = U8; nullable = false }) c.requires in
     (two_offsets _ _ _ _ _ (kept.offsets c.args.column (omega arith)) (kept.offsets (c.args.column + 1) (omega arith)) more).0
 
 pub returns-clause-value : goal.returns-clause-value
 returns-clause-value c =
-    let none : Place = record { start = 0; row_width = 0; offsets = [] } in
+    let none : TableLayout = record { start = 0; row_width = 0; offsets = [] } in
     let column : Column = record { kind = U8; nullable = false } in
     let sizes = sizes_kept c.self.inside.header in
-    let kept = place_kept sizes c.self.inside.places c.self.invariant c.args.table c.position.result none c.position.ensures.value in
+    let kept = table_layout_kept sizes c.self.inside.table_layouts c.self.invariant c.args.table c.table_index.result none c.table_index.ensures.value in
     let more = columns_width_more sizes (columns_of c.args.table) c.args.column column c.requires in
     (two_offsets _ _ _ _ _ (kept.offsets c.args.column (omega arith)) (kept.offsets (c.args.column + 1) (omega arith)) more).1
     ∙ ap (λ (s : Sizes). width_of s (get_or (columns_of c.args.table) c.args.column column)) c.self.view_is
 
 pub returns-clause-known : goal.returns-clause-known
 returns-clause-known c =
-    let none : Place = record { start = 0; row_width = 0; offsets = [] } in
+    let none : TableLayout = record { start = 0; row_width = 0; offsets = [] } in
     let column : Column = record { kind = U8; nullable = false } in
     let sizes = sizes_kept c.self.inside.header in
-    let kept = place_kept sizes c.self.inside.places c.self.invariant c.args.table c.position.result none c.position.ensures.value in
+    let kept = table_layout_kept sizes c.self.inside.table_layouts c.self.invariant c.args.table c.table_index.result none c.table_index.ensures.value in
     let more = columns_width_more sizes (columns_of c.args.table) c.args.column column c.requires in
     width_known sizes (get_or (columns_of c.args.table) c.args.column column) _
     (two_offsets _ _ _ _ _ (kept.offsets c.args.column (omega arith)) (kept.offsets (c.args.column + 1) (omega arith)) more).1

@@ -1,5 +1,5 @@
 use Rattle.std.proofs.Common.{◌∙◌}
-use Rattle.schema.proofs.PlaceLemmas.{last_end}
+use Rattle.schema.proofs.TableLayoutLemmas.{last_end}
 use Rattle.schema.proofs.layout.Layout.end.Goals as goal
 
 pub returns : goal.returns

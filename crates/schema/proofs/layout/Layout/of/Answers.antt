@@ -6,31 +6,31 @@ use Rattle.table_schema.specs.declared.table.TableId.TheVariants.{Module}
 use Rattle.table_schema.specs.Tables.{table_number, tables}
 use Rattle.schema.specs.Sizes.{Sizes, header_size, sizes_by_number, count_of}
 use Rattle.table_schema.proofs.TableFacts.{length-tables}
-use Rattle.schema.proofs.PlaceLemmas.{number_kept}
-use Rattle.schema.proofs.HeaderLemmas.{place_set, place_clear, counts_are, count_is, same_sizes}
+use Rattle.schema.proofs.TableLayoutLemmas.{number_kept}
+use Rattle.schema.proofs.HeaderLemmas.{table_layout_set, table_layout_clear, counts_are, count_is, same_sizes}
 use Rattle.schema.proofs.layout.Layout.of.Goals as goal
 use Rattle.schema.proofs.layout.Layout.of.Goals.{then-count-gt0, else-count-gt0}
 
-pub loop-position-init : goal.loop-position-init
-loop-position-init c = record { body = refl; small = omega arith; room = refl; listed = λ k h. absurd (omega arith) }
+pub loop-table_index-init : goal.loop-table_index-init
+loop-table_index-init c = record { body = refl; small = omega arith; room = refl; listed = λ k h. absurd (omega arith) }
 
-pub loop-position-preserved : goal.loop-position-preserved
-loop-position-preserved c =
+pub loop-table_index-preserved : goal.loop-table_index-preserved
+loop-table_index-preserved c =
     let counts = c.args.counts.now in
-    let p = c.loop-position.position in
-    let before = c.loop-position.invariant in
+    let p = c.loop-table_index.table_index in
+    let before = c.loop-table_index.invariant in
     let number = c.number.ensures.value ∙ ap (λ (listed : List TableId). table_number (get_or listed p Module)) c.all-table-items.ensures.value in
     let count = ap (λ (n : ℕ). get_or counts n 0) number in
-    let listed = number_kept (λ k. get_or counts (table_number (get_or tables k Module)) 0) c.loop-position.listed p (get_or counts c.number.result 0) (omega arith) count before.listed in
+    let listed = number_kept (λ k. get_or counts (table_number (get_or tables k Module)) 0) c.loop-table_index.listed p (get_or counts c.number.result 0) (omega arith) count before.listed in
     elim c.if-count-gt0.branch [
       | then-count-gt0 w ↦ record {
-        body = w.body-is ∙ place_set (λ table. ltb 0 (get_or counts (table_number table) 0)) p c.loop-position.body (omega arith) before.body (lt-ltb _ _ (omega (arith, count, w.if-count-gt0.true)));
+        body = w.body-is ∙ table_layout_set (λ table. ltb 0 (get_or counts (table_number table) 0)) p c.loop-table_index.body (omega arith) before.body (lt-ltb _ _ (omega (arith, count, w.if-count-gt0.true)));
         small = omega arith;
         room = length-set _ _ _ ∙ before.room;
         listed = listed;
       }
       | else-count-gt0 w ↦ record {
-        body = w.body-is ∙ place_clear (λ table. ltb 0 (get_or counts (table_number table) 0)) p c.loop-position.body (omega arith) before.body (le-ltb _ _ (omega (arith, count, w.if-count-gt0.false)));
+        body = w.body-is ∙ table_layout_clear (λ table. ltb 0 (get_or counts (table_number table) 0)) p c.loop-table_index.body (omega arith) before.body (le-ltb _ _ (omega (arith, count, w.if-count-gt0.false)));
         small = omega arith;
         room = length-set _ _ _ ∙ before.room;
         listed = listed;
@@ -40,17 +40,17 @@ loop-position-preserved c =
 pub new-requires : goal.new-requires
 new-requires c =
     let counts = c.args.counts.now in
-    let listed = counts_are (λ table. get_or counts (table_number table) 0) c.loop-position.listed c.loop-position.invariant.room (λ k h. c.loop-position.invariant.listed k (omega arith)) in
+    let listed = counts_are (λ table. get_or counts (table_number table) 0) c.loop-table_index.listed c.loop-table_index.invariant.room (λ k h. c.loop-table_index.invariant.listed k (omega arith)) in
     record {
-      counts = λ table. rw (count_is (λ t. get_or counts (table_number t) 0) c.loop-position.listed listed table) (c.requires.counts table);
-      body = let small = c.loop-position.invariant.small in omega arith;
+      counts = λ table. rw (count_is (λ t. get_or counts (table_number t) 0) c.loop-table_index.listed listed table) (c.requires.counts table);
+      body = let small = c.loop-table_index.invariant.small in omega arith;
     }
 
 pub returns : goal.returns
 returns c =
     let counts = c.args.counts.now in
-    let listed = counts_are (λ table. get_or counts (table_number table) 0) c.loop-position.listed c.loop-position.invariant.room (λ k h. c.loop-position.invariant.listed k (omega arith)) in
-    let body = c.loop-position.invariant.body ∙ ap (λ (ts : List TableId). header_size (count_by (λ table. ltb 0 (get_or counts (table_number table) 0)) ts)) (take_all c.loop-position.position tables (omega (arith, length-tables))) in
+    let listed = counts_are (λ table. get_or counts (table_number table) 0) c.loop-table_index.listed c.loop-table_index.invariant.room (λ k h. c.loop-table_index.invariant.listed k (omega arith)) in
+    let body = c.loop-table_index.invariant.body ∙ ap (λ (ts : List TableId). header_size (count_by (λ table. ltb 0 (get_or counts (table_number table) 0)) ts)) (take_all c.loop-table_index.table_index tables (omega (arith, length-tables))) in
     let value : c.new.result ≡ sizes_by_number counts c.args.heap_sizes = c.new.ensures ∙ same_sizes _ _ listed refl refl body in
     record {
       value = value;

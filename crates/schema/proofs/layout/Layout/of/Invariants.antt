@@ -6,10 +6,10 @@ use Rattle.table_schema.specs.Tables.{table_number, tables}
 use Rattle.schema.specs.Sizes.{header_size}
 use Rattle.schema.proofs.layout.Layout.of.Given as goal
 
-abbrev pub invariant-loop-position : goal.invariant-loop-position
-invariant-loop-position l = record {
-  body : l.body ≡ header_size (count_by (λ table. ltb 0 (get_or l.counts (table_number table) 0)) (take l.position tables));
-  small : l.body ≤ 24 + 4 * l.position;
+abbrev pub invariant-loop-table_index : goal.invariant-loop-table_index
+invariant-loop-table_index l = record {
+  body : l.body ≡ header_size (count_by (λ table. ltb 0 (get_or l.counts (table_number table) 0)) (take l.table_index tables));
+  small : l.body ≤ 24 + 4 * l.table_index;
   room : length l.listed ≡ 38;
-  listed : (k : ℕ) → k < l.position → get_or l.listed k 0 ≡ get_or l.counts (table_number (get_or tables k Module)) 0;
+  listed : (k : ℕ) → k < l.table_index → get_or l.listed k 0 ≡ get_or l.counts (table_number (get_or tables k Module)) 0;
 }

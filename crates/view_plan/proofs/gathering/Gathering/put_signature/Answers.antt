@@ -1,23 +1,23 @@
 use Rattle.std.proofs.Common.{◌≡◌, ◌⊎◌, ℕ, List, [], Contains, sym, ap, subst, ◌∙◌}
 use Rattle.heap_pools.specs.Distinct.{pooled}
 use Rattle.heap_pools.specs.BlobHeap.{blob_index}
-use Rattle.sig_grammar.specs.Spells.{short}
+use Rattle.sig_grammar.specs.Encodes.{short}
 use Rattle.root_writer.specs.Numbered.{Numbered}
 use Rattle.view_plan.proofs.KnownLemmas.{pooled_there, pooled_again}
 use Rattle.view_plan.proofs.gathering.Gathering.put_signature.Goals as goal
 
 pub returns-in-Some-clause-pools : goal.returns-in-Some-clause-pools
-returns-in-Some-clause-pools c signature spells =
+returns-in-Some-clause-pools c signature encodes =
     let self : Numbered = c.args.self.now in
-    let known = c.in-Some.ensures signature spells in
+    let known = c.in-Some.ensures signature encodes in
     sym (ap (λ (blobs : List (List ℕ)). let n : Numbered = record self { blobs = blobs } in n) (pooled_again self.blobs (short signature) known.0))
 
 pub remember-requires : goal.remember-requires
-remember-requires c signature spells =
+remember-requires c signature encodes =
     let old : Numbered = c.args.self.now in
     let new : Numbered = c.put_blob.new.self in
     let blob = short signature in
-    let same : c.deref.result.now ≡ blob = c.deref.ensures.value ∙ c.in_ok-spelling.ensures.bytes signature spells in
+    let same : c.deref.result.now ≡ blob = c.deref.ensures.value ∙ c.in_ok-encoding.ensures.bytes signature encodes in
     let blobs : pooled old.blobs blob ≡ new.blobs =
     ap (pooled old.blobs) (sym same) ∙ sym (ap (λ (n : Numbered). n.blobs) c.in_ok-index.ensures.pools) in (
       subst (λ (entries : List (List ℕ)). (blob ≡ []) ⊎ Contains entries blob) blobs (pooled_there old.blobs blob),

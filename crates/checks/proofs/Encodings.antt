@@ -1,0 +1,74 @@
+-- What a check of a blob says about the rules for its signature.
+use Rattle.std.proofs.Common.{◌≡◌, ℕ, Bool, true, false, List, [], ◌∷◌, Some, None, Result, refl, sym, ◌⊎◌, slice_index, inl, inr, arith}
+use Rattle.std.specs.List.{AllByRecursion}
+use Rattle.std.proofs.lemmas.Bool.Decides.{nat_tests}
+use Rattle.packed.specs.declared.code.FaultCode.{FaultCode}
+use Rattle.packed.specs.declared.code.FaultCode.TheVariants.{BadSignature, SignatureIndex}
+use Rattle.packed.specs.Rule.{Reports, AllHold, FirstBroken, fault}
+use Rattle.heap_entries.specs.Entries.{IsBlob}
+use Rattle.table_schema.specs.declared.table.TableId.{TableId}
+use Rattle.table_schema.specs.declared.token.Token.{Token}
+use Rattle.table_schema.specs.declared.column.Column.{Column}
+use Rattle.table_schema.specs.declared.column.SigKind.{SigKind}
+use Rattle.table_schema.specs.declared.column.ColumnKind.TheVariants as kind
+use Rattle.table_schema.specs.Tables.{table_number}
+use Rattle.table_schema.specs.Columns.{column_at}
+use Rattle.sig_grammar.specs.Encodes.{Encodes, tokens, has_row, first_bad}
+use Rattle.sig_grammar.specs.Syntax.{Body}
+use Rattle.metadata.specs.Source.{Source, rows_in, number_of, IsThere}
+use Rattle.metadata.specs.SourceAt.{SourceAt, cell_offset}
+use Rattle.metadata.specs.Rules.{rules_of_encoding, rules_of_signature}
+use Rattle.reading.specs.Codes.{code_at}
+
+-- the check of a number in a column reports the rules for its signature
+pub encoding_reports : (here : SourceAt) (table : TableId) (row column number : ℕ) (held : Column) {X : Type 0} (r : Result X FaultCode) → held ≡ column_at table column → number ≡ number_of here.source table row column → ((offset : ℕ) → Reports (rules_of_encoding here.source held.kind number offset) (code_at offset r)) → Reports (rules_of_signature here table row column) (code_at (cell_offset here table row column) r)
+unfolding rules_of_signature
+encoding_reports here table row column number held r is_held is_number reports =
+    rw (is_held, is_number) at (reports (cell_offset here table row column))
+
+-- a blob that encodes no signature, or no blob
+pub no_signature : (source : Source) (column : SigKind) (number offset : ℕ) → ((blob : List ℕ) → IsBlob source.blobs number blob → (signature : Body) → ¬ Encodes column signature blob)
+    → FirstBroken (rules_of_encoding source (kind.Signature column) number offset) (fault BadSignature offset)
+no_signature source column number offset none = inl (λ has. none has.0 has.2 has.1 has.3, refl)
+
+module _ (source : Source) (counts : List ℕ) (counted : (table : TableId) → slice_index counts (table_number table) ≡ rows_in source table) where
+  cases : (b : Bool) → (b ≡ true) ⊎ (b ≡ false)
+  cases true = inl refl
+  cases false = inr refl
+
+  there : (token : Token) → has_row counts token ≡ true → IsThere source token
+  there token e = grind (arith, nat_tests, counted token.table)
+
+  has : (token : Token) → IsThere source token → has_row counts token ≡ true
+  has token is = grind (arith, nat_tests, counted token.table)
+
+  -- each token has a row if none is the first without one
+  pub all_there : (tokens : List Token) → first_bad counts tokens ≡ None → AllByRecursion (IsThere source) tokens
+  all_there [] e = tt
+  all_there (token ∷ tokens) e = elim (cases (has_row counts token)) [
+    | inl has_one ↦ (there token has_one, all_there tokens (rw has_one at e))
+    | inr has_none ↦ absurd (let bad : first_bad counts (token ∷ tokens) ≡ Some token = rw has_none refl in cc)
+  ]
+
+  pub none_bad : (tokens : List Token) → AllByRecursion (IsThere source) tokens → first_bad counts tokens ≡ None
+  none_bad [] all = refl
+  none_bad (token ∷ tokens) all = rw (has token all.0) (none_bad tokens all.1)
+
+  module _ (column : SigKind) (number : ℕ) (offset : ℕ) where
+    -- a blob that encodes a signature whose tokens have rows
+    pub is_met : (blob : List ℕ) → IsBlob source.blobs number blob → (signature : Body) × Encodes column signature blob × (None ≡ first_bad counts (tokens signature)) → AllHold (rules_of_encoding source (kind.Signature column) number offset)
+    is_met blob is some = ((blob, some.0, is, some.1, tt), ((blob, some.0, is, some.1, all_there (tokens some.0) (sym some.2)), tt))
+
+    -- a blob that encodes a signature one of whose tokens has no row
+    pub no_row : (blob : List ℕ) (bad : Token) → IsBlob source.blobs number blob → ((other : List ℕ) → IsBlob source.blobs number other → blob ≡ other) → (signature : Body) × Encodes column signature blob × (Some bad ≡ first_bad counts (tokens signature)) → ((signature : Body) → Encodes column signature blob → Some bad ≡ first_bad counts (tokens signature)) → FirstBroken (rules_of_encoding source (kind.Signature column) number offset) (fault SignatureIndex offset)
+    no_row blob bad is one some only = inr (
+      (blob, some.0, is, some.1, tt),
+      inl (
+        λ has.
+            let same = one has.0 has.2 in
+            let e = only has.1 (rw (← same) at has.3) in
+            let f = none_bad (tokens has.1) has.4 in
+            absurd cc,
+        refl,
+      ),
+    )

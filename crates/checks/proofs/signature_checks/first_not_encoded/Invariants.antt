@@ -1,0 +1,19 @@
+use Rattle.std.proofs.Common.{◌≡◌, ℕ, ◌-◌, ◌≤◌, ◌<◌, length, Ok}
+use Rattle.table_schema.specs.declared.column.ColumnKind.TheVariants as kind
+use Rattle.metadata.specs.Source.{number_of}
+use Rattle.checks.specs.Budgets.{Takes}
+use Rattle.checks.specs.Columns.{IsEncoded}
+use Rattle.checks.specs.Passed.{Keeps}
+use Rattle.checks.specs.Signatures.{blob_length}
+use Rattle.checks.specs.Walks.{walk_over, number_after}
+use Rattle.checks.proofs.signature_checks.first_not_encoded.Given as goal
+
+abbrev pub invariant-loop-row : goal.invariant-loop-row
+invariant-loop-row l = record {
+  before : (row : ℕ) → 1 ≤ row → row < l.row
+      → IsEncoded l.source.source (kind.Signature l.encoded) (number_of l.source.source l.table row l.column) (Ok tt);
+  kept : (number : ℕ) → Keeps l.accepted number → IsEncoded l.source.source (kind.Signature l.encoded) number (Ok tt);
+  walk : (l.accepted ≡ (walk_over (length l.source.source.blobs) (blob_length l.source.source.blobs) (number_after l.source.source l.table l.column) (l.row - 1)).slots)
+      × Takes l.initial.budget l.budget
+      (walk_over (length l.source.source.blobs) (blob_length l.source.source.blobs) (number_after l.source.source l.table l.column) (l.row - 1)).bytes;
+}

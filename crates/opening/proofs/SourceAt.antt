@@ -1,0 +1,67 @@
+-- The parts that are read from a root are those that its bytes encode.
+use Rattle.std.proofs.Common.{◌≡◌, ℕ, ◌+◌, List, ◌++◌, ap, ◌∙◌, subst}
+use Rattle.packed.specs.declared.fault.Fault.{Fault}
+use Rattle.packed.specs.Rule.{AllHold, FirstBroken, rebased}
+use Rattle.root.specs.Rules.{rules_of_root}
+use Rattle.root.specs.declared.kind.Kind.TheVariants.{Strings, Guids, Blobs}
+use Rattle.root.specs.Fields.{root_read}
+use Rattle.schema.specs.Sizes.{Sizes}
+use Rattle.schema.specs.Rules.{rules_of_stream}
+use Rattle.schema.specs.Header.{sizes_of}
+use Rattle.schema.specs.Cells.{numbers_at}
+use Rattle.metadata.specs.Streams.{stream_in}
+use Rattle.metadata.specs.Rules.{rules_of_tables, rules_of_metadata}
+use Rattle.packed.proofs.RuleLemmas.{fails_prefix}
+use Rattle.checks.specs.declared.budget.Budget.{Budget}
+use Rattle.checks.specs.declared.budget.BoundedError.{BoundedError}
+use Rattle.checks.specs.declared.budget.BoundedError.TheVariants as bounded
+use Rattle.checks.specs.Budgets.{FailsWithin, HoldBeforeSignatures, IsBelow}
+use Rattle.checks.specs.Signatures.{signature_bytes}
+use Rattle.opening.specs.Within.{signature_bytes_in}
+use Rattle.opening.proofs.Parts.{second_fails, third_fails, all_hold, before_behind}
+use Rattle.metadata.specs.SourceAt.{SourceAt, tables_in, tables_offset, source_of, source_at}
+
+pub located_is : (root : List ℕ) (offset at : ℕ) (here : SourceAt) (tables texts blobs guids : List ℕ) (sizes : Sizes) → here.source ≡ record { sizes = sizes; numbers = numbers_at tables sizes; texts = texts; blobs = blobs; guids = guids } → here.offset ≡ offset + at → at ≡ tables_offset root → tables ≡ tables_in root → sizes ≡ sizes_of tables → texts ≡ stream_in root (root_read root).headers Strings → blobs ≡ stream_in root (root_read root).headers Blobs → guids ≡ stream_in root (root_read root).headers Guids → here ≡ source_at offset root
+located_is root offset at here tables texts blobs guids sizes source is_offset is_at is_tables is_sizes is_texts is_blobs is_guids =
+    let sizes_are : sizes ≡ sizes_of (tables_in root) = is_sizes ∙ ap sizes_of is_tables in
+    let same : here.source ≡ source_of root = source ∙ (λ i. record { sizes = sizes_are i; numbers = numbers_at (is_tables i) (sizes_are i); texts = is_texts i; blobs = is_blobs i; guids = is_guids i }) in
+    let moved : here.offset ≡ offset + tables_offset root = is_offset ∙ ap (λ n. offset + n) is_at in
+    λ i. record { source = same i; offset = moved i }
+
+module _ (root : List ℕ) (offset at : ℕ) (tables : List ℕ) (is_tables : tables ≡ tables_in root) (is_at : at ≡ tables_offset root) where
+  pub stream_fails : (found : Fault) → AllHold (rebased offset (rules_of_root root)) → FirstBroken (rebased (offset + at) (rules_of_stream tables)) found → FirstBroken (rules_of_metadata offset root) found
+  unfolding rules_of_metadata
+  stream_fails found all first =
+      second_fails (rebased offset (rules_of_root root)) (rebased (offset + tables_offset root) (rules_of_stream (tables_in root))) (rules_of_tables (source_at offset root)) found
+      all (subst (λ n. FirstBroken (rebased (offset + n) (rules_of_stream (tables_in root))) found) is_at (subst (λ t. FirstBroken (rebased (offset + at) (rules_of_stream t)) found) is_tables first))
+
+  pub stream_holds : AllHold (rebased (offset + at) (rules_of_stream tables)) → AllHold (rebased (offset + tables_offset root) (rules_of_stream (tables_in root)))
+  stream_holds more = subst (λ n. AllHold (rebased (offset + n) (rules_of_stream (tables_in root)))) is_at (subst (λ t. AllHold (rebased (offset + at) (rules_of_stream t))) is_tables more)
+
+pub root_fails : (root : List ℕ) (offset : ℕ) (found : Fault) → FirstBroken (rebased offset (rules_of_root root)) found → FirstBroken (rules_of_metadata offset root) found
+unfolding rules_of_metadata
+root_fails root offset found first =
+    fails_prefix (rebased offset (rules_of_root root)) (rebased (offset + tables_offset root) (rules_of_stream (tables_in root)) ++ rules_of_tables (source_at offset root)) found first
+
+module _ (root : List ℕ) (offset : ℕ) (here : SourceAt) (is : here ≡ source_at offset root) (all : AllHold (rebased offset (rules_of_root root))) (more : AllHold (rebased (offset + tables_offset root) (rules_of_stream (tables_in root)))) where
+  pub tables_fail : (found : Fault) → FirstBroken (rules_of_tables here) found → FirstBroken (rules_of_metadata offset root) found
+  unfolding rules_of_metadata
+  tables_fail found first =
+      third_fails (rebased offset (rules_of_root root)) (rebased (offset + tables_offset root) (rules_of_stream (tables_in root))) (rules_of_tables (source_at offset root)) found
+      all more (rw is at first)
+
+  tables_before : HoldBeforeSignatures (rules_of_tables here) → HoldBeforeSignatures (rules_of_metadata offset root)
+  unfolding rules_of_metadata
+  tables_before before =
+      before_behind (rebased offset (rules_of_root root)) (rebased (offset + tables_offset root) (rules_of_stream (tables_in root)) ++ rules_of_tables (source_at offset root)) all
+      (before_behind (rebased (offset + tables_offset root) (rules_of_stream (tables_in root))) (rules_of_tables (source_at offset root)) more (rw is at before))
+
+  pub tables_fail_within : (budget : Budget) (error : BoundedError) → FailsWithin budget (signature_bytes here.source) (rules_of_tables here) error → FailsWithin budget (signature_bytes_in root) (rules_of_metadata offset root) error
+  tables_fail_within budget (bounded.Fault found) reported = tables_fail found reported
+  tables_fail_within budget bounded.BudgetSpent reported = (subst (λ (h : SourceAt). IsBelow budget (signature_bytes h.source)) is reported.0, tables_before reported.1)
+
+  pub metadata_holds : AllHold (rules_of_tables here) → AllHold (rules_of_metadata offset root)
+  unfolding rules_of_metadata
+  metadata_holds holds =
+      all_hold (rebased offset (rules_of_root root)) (rebased (offset + tables_offset root) (rules_of_stream (tables_in root))) (rules_of_tables (source_at offset root))
+      all more (rw is at holds)

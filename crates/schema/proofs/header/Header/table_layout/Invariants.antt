@@ -1,0 +1,12 @@
+use Rattle.std.proofs.Common.{◌≡◌, ◌≤◌, ◌<◌, ◌*◌, ℕ, length, get_or, take}
+use Rattle.schema.specs.TableLayouts.{columns_width}
+use Rattle.schema.specs.Kept.{sizes_kept}
+use Rattle.schema.proofs.header.Header.table_layout.Given as goal
+
+abbrev pub invariant-loop-index : goal.invariant-loop-index
+invariant-loop-index l = record {
+  width : l.row_width ≡ columns_width (sizes_kept l.self) (take l.index l.columns);
+  room : length l.offsets ≡ 10;
+  small : l.row_width ≤ 4 * l.index;
+  offsets : (column : ℕ) → column < l.index → get_or l.offsets column 0 ≡ columns_width (sizes_kept l.self) (take column l.columns);
+}

@@ -1,0 +1,5 @@
+use Rattle.sig_values.proofs.Whole.{short_is_encoding}
+use Rattle.sig_values.proofs.laws.shortest_encodes.Goals as goal
+
+pub returns : goal.returns
+returns c = short_is_encoding

@@ -1,0 +1,11 @@
+use Rattle.std.proofs.Common.{◌≡◌, ℕ, ◌<◌, length, get_or}
+use Rattle.table_schema.specs.declared.table.TableId.TheVariants.{Module}
+use Rattle.table_schema.specs.Tables.{table_number, tables}
+use Rattle.opening.specs.Views.{row_count}
+use Rattle.view_writer.proofs.tables_reported.counts.Given as goal
+
+abbrev pub invariant-loop-table : goal.invariant-loop-table
+invariant-loop-table l = record {
+  room : length l.counts ≡ 45;
+  each : (k : ℕ) → k < l.table-index → get_or l.counts (table_number (get_or tables k Module)) 0 ≡ row_count l.view (get_or tables k Module);
+}

@@ -1,0 +1,16 @@
+use Rattle.std.proofs.Common.{sym, subst, ◌∙◌}
+use Rattle.std.specs.Prelude.{IsSome}
+use Rattle.view_writer.proofs.CountLemmas.{unkeyed, keyed}
+use Rattle.view_writer.proofs.tables_reported.is_sorted.Goals as goal
+
+pub in_order-requires : goal.in_order-requires
+in_order-requires c = subst IsSome c.key.ensures.value (sym c.is_some.ensures ∙ c.if-is_some.true)
+
+pub returns-then-is_some : goal.returns-then-is_some
+returns-then-is_some c model is =
+    keyed c.sorted_bits_report_order.ensures model (c.models_of_roots_are_valid.ensures c.args.view.now model is) c.args.table c.key.result c.key.ensures.value
+    (sym c.is_some.ensures ∙ c.if-is_some.true) c.in_order.result (c.in_order.ensures.model model is)
+
+pub returns-else-is_some : goal.returns-else-is_some
+returns-else-is_some c model is =
+    c.if-is_some.false ∙ unkeyed model c.args.table c.key.result c.key.ensures.value (sym c.is_some.ensures ∙ c.if-is_some.false)

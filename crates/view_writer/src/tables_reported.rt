@@ -1,0 +1,50 @@
+ghost use Rattle.std.specs.Prelude.{◌≡◌, slice_index};
+ghost use Rattle.table_schema.specs.declared.table.TableId.{TableId as Table};
+ghost use Rattle.table_schema.specs.Tables.{tables, table_number};
+ghost use Rattle.schema.specs.LaidOut.{bits_of};
+ghost use Rattle.metadata.specs.Metadata.{Metadata};
+ghost use Rattle.metadata.specs.Model.{IsModel};
+ghost use Rattle.canonical.specs.TableStream.{is_sorted as is_sorted_in};
+ghost use Rattle.opening.specs.Views.{row_count};
+
+use canonical::sorted_bits_report_order;
+use metadata::models_of_roots_are_valid;
+use opening::View;
+use root_plan::bit;
+use schema::bits_are_known;
+use table_schema::{TableId, key, tables_stand};
+
+/// The row count of each table, by table number.
+pub fn counts(view: &View) -> [u32; 45]
+    ensures { (table : Table) → slice_index result (table_number table) ≡ row_count view.now table }
+{
+    tables_stand();
+    let mut counts = [0; 45];
+    for table in TableId::all() {
+        counts[table.number() as usize] = view.count(*table);
+    }
+    counts
+}
+
+/// Whether a table has a key and its rows are in order of it.
+fn is_sorted(view: &View, table: TableId) -> bool
+    ensures { (model : Metadata) → IsModel view.now model → result ≡ is_sorted_in model table }
+{
+    sorted_bits_report_order();
+    models_of_roots_are_valid();
+    key(table).is_some() && view.in_order(table)
+}
+
+/// Sorted: the bits of the keyed tables whose rows are in order.
+pub fn sorted(view: &View) -> u64
+    ensures { (model : Metadata) → IsModel view.now model → result ≡ bits_of (is_sorted_in model) tables }
+{
+    bits_are_known();
+    // The root has a model.
+    let _root = view.root();
+    let mut sorted = 0;
+    for table in TableId::all() {
+        sorted += bit(is_sorted(view, *table), *table);
+    }
+    sorted
+}
