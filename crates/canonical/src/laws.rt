@@ -8,30 +8,22 @@ ghost use Rattle.table_schema.specs.Columns.{key_of};
 ghost use Rattle.canonical.specs.TableStream.{is_sorted};
 ghost use Rattle.canonical.specs.Canonical.{canonical};
 
-use heap_pools::{
-    pooled_are_distinct, pooled_blob_is_found, pooled_guid_is_found, used_text_is_found,
-};
-use metadata::roots_have_models;
-use schema::{bits_are_known, numbers_are_encoded};
-use sig_values::shortest_encodes;
-use table_schema::{columns_stand, tables_stand, tags_fit};
-
 /// The canonical root of a valid model has this model, if the root has at most 2^30 bytes.
 ///
 /// A longer root has no model.
 pub fn canonical_root_has_its_model()
     ensures { (model : Metadata) → IsValid model → length (canonical model) ≤ 2 ^ 30 → IsModel (canonical model) model }
 {
-    used_text_is_found();
-    pooled_blob_is_found();
-    pooled_guid_is_found();
-    pooled_are_distinct();
-    tables_stand();
-    columns_stand();
-    tags_fit();
-    bits_are_known();
-    numbers_are_encoded();
-    shortest_encodes();
+    heap_pools::laws::used_text_is_found();
+    heap_pools::laws::pooled_blob_is_found();
+    heap_pools::laws::pooled_guid_is_found();
+    heap_pools::laws::pooled_are_distinct();
+    table_schema::laws::tables_stand();
+    table_schema::laws::columns_stand();
+    table_schema::laws::tags_fit();
+    schema::laws::bits_are_known();
+    schema::laws::numbers_are_encoded();
+    sig_values::laws::shortest_encodes();
 }
 
 /// A valid model is the only model of its canonical root: every model of that root equals it. Two valid models with the
@@ -42,7 +34,7 @@ pub fn canonical_root_is_one()
         → length (canonical other) ≤ 2 ^ 30 → canonical model ≡ canonical other → model ≡ other }
 {
     canonical_root_has_its_model();
-    roots_have_models();
+    metadata::laws::roots_have_models();
 }
 
 /// The Sorted bit of a keyed table of a valid model is set if and only if the table's keys are in order.
@@ -50,14 +42,14 @@ pub fn sorted_bits_report_order()
     ensures { (model : Metadata) → IsValid model → (table : Table) (key : ℕ) → key_of table ≡ Some key
         → (is_sorted model table ≡ true) ↔ IsKeyOrdered model table }
 {
-    used_text_is_found();
-    pooled_blob_is_found();
-    pooled_guid_is_found();
-    pooled_are_distinct();
-    tables_stand();
-    columns_stand();
-    tags_fit();
-    bits_are_known();
-    numbers_are_encoded();
-    shortest_encodes();
+    heap_pools::laws::used_text_is_found();
+    heap_pools::laws::pooled_blob_is_found();
+    heap_pools::laws::pooled_guid_is_found();
+    heap_pools::laws::pooled_are_distinct();
+    table_schema::laws::tables_stand();
+    table_schema::laws::columns_stand();
+    table_schema::laws::tags_fit();
+    schema::laws::bits_are_known();
+    schema::laws::numbers_are_encoded();
+    sig_values::laws::shortest_encodes();
 }

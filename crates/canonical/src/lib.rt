@@ -10,6 +10,4 @@
 //! ```
 #![tactic(auto)]
 
-mod laws;
-
-pub use laws::{canonical_root_has_its_model, canonical_root_is_one, sorted_bits_report_order};
+pub mod laws;

@@ -4,7 +4,7 @@ ghost use Rattle.metadata.specs.RowRules.{IsInOrder};
 ghost use Rattle.checks.specs.Orders.{ReportsOrder};
 
 use reading::Source;
-use table_schema::{TableId, columns_stand, key, tables_stand};
+use table_schema::{TableId, key};
 
 /// Whether the keys of each table never decrease, by table number; `false` for tables without a key.
 ///
@@ -12,7 +12,7 @@ use table_schema::{TableId, columns_stand, key, tables_stand};
 pub fn find_order(source: &Source) -> [bool; 45]
     ensures { ReportsOrder source.now.source result }
 {
-    tables_stand();
+    table_schema::laws::tables_stand();
     let tables = TableId::all();
     let mut in_order = [false; 45];
     for table_index in 0..tables.len() {
@@ -26,7 +26,7 @@ pub fn find_order(source: &Source) -> [bool; 45]
 fn is_in_order(source: &Source, table: TableId) -> bool
     ensures { (column : ℕ) → key_of table ≡ Some column → IsTrue result ↔ IsInOrder source.now.source table column }
 {
-    columns_stand();
+    table_schema::laws::columns_stand();
     match key(table) {
         Some(key) => never_falls(source, table, key),
         None => false,

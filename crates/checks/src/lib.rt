@@ -16,7 +16,7 @@ mod budget;
 mod cell_checks;
 mod column;
 mod key_order;
-mod laws;
+pub mod laws;
 mod nesting;
 mod order;
 mod passed;
@@ -26,5 +26,4 @@ mod tables;
 mod texts;
 
 pub use budget::{BoundedError, Budget};
-pub use laws::apart_is_walked_once;
 pub use tables::{Checked, check_tables_within};

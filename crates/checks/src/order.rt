@@ -7,7 +7,7 @@ ghost use Rattle.metadata.specs.Rules.{rules_of_key_in, rules_of_keys, rules_of_
 
 use packed::{Fault, FaultCode};
 use reading::Source;
-use table_schema::{TableId, columns_stand, key, tables_stand};
+use table_schema::{TableId, key};
 
 /// Checks that each table whose `Sorted` bit is set is in order of its key (II.22). `in_order` says which are.
 pub fn check_order(source: &Source, in_order: &[bool; 45]) -> Result<(), Fault>
@@ -28,8 +28,8 @@ fn check_order_of(source: &Source, table: TableId, in_order: &[bool; 45]) -> Res
     requires { ReportsOrder source.now.source in_order.now }
     ensures { Reports (rules_of_order_by source.now table (key_of table)) result }
 {
-    columns_stand();
-    tables_stand();
+    table_schema::laws::columns_stand();
+    table_schema::laws::tables_stand();
     let Some(key) = key(table) else {
         return Ok(());
     };

@@ -13,8 +13,8 @@ ghost use Rattle.checks.specs.Walks.{StopsAt, walked_bytes};
 
 use crate::budget::{BoundedError, Budget};
 use crate::passed::Passed;
-use heap_entries::{blob, entries_are_one};
-use packed::{Fault, FaultCode, numbers_are_read};
+use heap_entries::blob;
+use packed::{Fault, FaultCode};
 use reading::{Source, column_at};
 use sig_recogniser::recognise_first_bad;
 use table_schema::{ColumnKind, SigKind, TableId, columns};
@@ -127,7 +127,7 @@ fn first_not_encoded(
     ensures walked { IfSome result (StopsAt source.now.source table column limit budget.old budget.new) }
     ensures spent { IfNone result (IsBelow budget.old (walked_bytes source.now.source table column (limit - 1))) }
 {
-    numbers_are_read();
+    packed::laws::numbers_are_read();
     let heap = source.blobs();
     let mut accepted = Passed::none(heap.len());
     for row in 1..limit {
@@ -199,7 +199,7 @@ fn check_signature_at(source: &Source, column: SigKind, number: u32) -> Result<(
 fn check_blob(source: &Source, column: SigKind, blob: &[u8]) -> Result<(), FaultCode>
     ensures { (number : ℕ) → IsBlob source.now.source.blobs number blob.now → IsEncoded source.now.source (kind.Signature column) number result }
 {
-    entries_are_one();
+    heap_entries::laws::entries_are_one();
     match recognise_first_bad(blob, column, source.counts()) {
         Some(None) => Ok(()),
         Some(Some(_)) => Err(FaultCode::SignatureIndex),

@@ -69,7 +69,12 @@ fn status<E: Write>(outcome: Result<(), Stop<'_>>, err: &mut E) -> u8
 }
 
 /// Reports what `clap` returned instead of matches: a usage error, or help or the version.
-fn report_usage_error<W: Write, E: Write>(alloc: Global, usage_error: &clap::Error, out: &mut W, err: &mut E) -> u8
+fn report_usage_error<W: Write, E: Write>(
+    alloc: Global,
+    usage_error: &clap::Error,
+    out: &mut W,
+    err: &mut E,
+) -> u8
     ensures { result ≤ 3 }
 {
     if usage_error.kind() == ErrorKind::OutOfMemory {
@@ -146,7 +151,11 @@ fn print_usage_error<W: Write>(
     Ok(())
 }
 
-fn write_usage_error<W: Write>(alloc: Global, usage_error: &clap::Error, out: &mut W) -> io::Result<()> {
+fn write_usage_error<W: Write>(
+    alloc: Global,
+    usage_error: &clap::Error,
+    out: &mut W,
+) -> io::Result<()> {
     let mut out = BufWriter::new(alloc, out)?;
     write!(out, "{usage_error}")?;
     out.flush()

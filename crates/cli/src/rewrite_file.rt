@@ -3,10 +3,10 @@ ghost use Rattle.std.specs.Prelude.{IfOk, IfErr};
 ghost use Rattle.cli.specs.Rewritten.{IsRewritten, ReportsUnwritten};
 ghost use Rattle.cli_faults.specs.Status.{IsUnwritten};
 
-use packed::{Fault, FaultCode};
-use root_plan::{Counted, Prepared, WriteError};
 use cli_faults::{Failure, printed};
 use cli_reports::open;
+use packed::{Fault, FaultCode};
+use root_plan::{Counted, Prepared, WriteError};
 use std::alloc::Global;
 use std::io::{BufWriter, Write};
 use std::rt::Files;

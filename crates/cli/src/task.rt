@@ -4,9 +4,9 @@ ghost use Rattle.cli.specs.Tasks.{IsTask, IsExplainTask};
 
 use crate::numbers::{code_of, token_of};
 use cli_arguments::{Ask, Subcommand};
-use packed::FaultCode;
 use cli_faults::Failure;
 use cli_reports::Report;
+use packed::FaultCode;
 
 /// What to do.
 #[derive(Clone, Copy, Debug, PartialEq, Eq)]

@@ -1,6 +1,6 @@
 //! Prints what faults mean.
-use crate::numbered::all_codes;
 use crate::explained::explain;
+use crate::numbered::all_codes;
 use packed::{Fault, FaultCode};
 use std::io;
 use std::io::Write;

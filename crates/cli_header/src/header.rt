@@ -4,7 +4,7 @@ ghost use Rattle.cli_header.specs.Rules.{rules_of_directory, rules_of_cli_header
 ghost use Rattle.cli_header.specs.Header.{IsCliHeader};
 ghost use Rattle.cli_header.specs.Said.{directory_at, header_offset, header_of};
 
-use crate::laws::headers_are_read;
+use crate::laws;
 use packed::{Fault, FaultCode, u16_at, u32_at};
 use pe::Pe;
 use std::ops::Range;
@@ -145,6 +145,6 @@ pub fn read_cli(pe: &Pe) -> Result<CliHeader, Fault>
     // A fault is that of the first broken rule.
     ensures first_error { IfErr result (FirstBroken (rules_of_cli_header pe.now)) }
 {
-    headers_are_read();
+    laws::headers_are_read();
     check_cli(pe)
 }

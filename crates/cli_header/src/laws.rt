@@ -6,8 +6,6 @@ ghost use Rattle.cli_header.specs.Rules.{rules_of_cli_header};
 ghost use Rattle.cli_header.specs.Header.{IsCliHeader};
 ghost use Rattle.cli_header.specs.Said.{header_of};
 
-use packed::fields_are_parts;
-
 /// An image with a CLI header satisfies all rules, and the header has the values of its bytes. An image
 /// that satisfies all rules has a CLI header with the values of its bytes.
 pub fn headers_are_read()
@@ -15,5 +13,5 @@ pub fn headers_are_read()
     ensures said { (image : Image) (header : Header) → IsCliHeader image header → header ≡ header_of image }
     ensures sound { (image : Image) → AllHold (rules_of_cli_header image) → IsCliHeader image (header_of image) }
 {
-    fields_are_parts();
+    packed::laws::fields_are_parts();
 }

@@ -13,8 +13,7 @@
 #![tactic(auto)]
 
 mod header;
-mod laws;
+pub mod laws;
 
 pub use header::{CliHeader, DataDirectory, read_cli};
-pub use laws::headers_are_read;
 pub use pe::{Fault, FaultCode, Pe, read_pe};

@@ -6,8 +6,8 @@ ghost use Rattle.cli_reports.specs.Reported.{LeavesOutput, ReportsFault};
 
 use crate::opened::{open, open_within};
 use crate::stop::Stop;
-use opening::BoundedError;
 use cli_faults::{Failure, printed};
+use opening::BoundedError;
 use std::alloc::Global;
 use std::io;
 use std::io::{BufWriter, Write};

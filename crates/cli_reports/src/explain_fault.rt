@@ -2,8 +2,8 @@
 ghost use Rattle.std.specs.Prelude.{IfErr};
 ghost use Rattle.cli_faults.specs.Status.{IsOutput};
 
-use packed::FaultCode;
 use cli_faults::{Failure, print_explanation, print_list, printed};
+use packed::FaultCode;
 use std::alloc::Global;
 use std::io;
 use std::io::{BufWriter, Write};

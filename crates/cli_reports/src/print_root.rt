@@ -4,13 +4,12 @@ ghost use Rattle.cli_reports.specs.Heads.{AreHeads, HasHeads, rules_of_heads};
 ghost use Rattle.cli_reports.specs.Reported.{LeavesOutput, ReportsFault};
 ghost use Rattle.packed.specs.Rule.{FirstBroken};
 
-use cli_header::{CliHeader, headers_are_read};
+use crate::shown::Escaped;
+use cli_faults::{Failure, printed};
+use cli_header::CliHeader;
 use opening::read_heads;
 use packed::Fault;
-use pe::images_are_read;
-use cli_faults::{Failure, printed};
-use crate::shown::Escaped;
-use root::{Root, StreamHeader, read_root, roots_are_read};
+use root::{Root, StreamHeader, read_root};
 use std::alloc::Global;
 use std::io;
 use std::io::{BufWriter, Write};
@@ -39,9 +38,9 @@ fn heads_of(bytes: &[u8], bare: bool) -> Result<(Option<CliHeader>, Root<'_>), F
     if bare {
         return Ok((None, read_root(bytes)?));
     }
-    images_are_read();
-    headers_are_read();
-    roots_are_read();
+    pe::laws::images_are_read();
+    cli_header::laws::headers_are_read();
+    root::laws::roots_are_read();
     let heads = read_heads(bytes)?;
     Ok((Some(heads.header), heads.root))
 }

@@ -5,12 +5,12 @@ ghost use Rattle.opening.specs.Views.{HasModel, row_count};
 ghost use Rattle.cli_reports.specs.Reported.{HasString, IsMet, IsNamed, LeavesOutput, ReportsNoString, ReportsNone, ReportsUnnamed};
 ghost use Rattle.cli_reports.specs.declared.report.Report.TheVariants as report;
 
+use crate::existing::existing_row;
 use crate::opened::open;
+use crate::row_lines::print_row;
+use cli_faults::{Failure, printed};
 use heap_entries::{UserString, user_string};
 use opening::{Token, View};
-use cli_faults::{Failure, printed};
-use crate::existing::existing_row;
-use crate::row_lines::print_row;
 use std::alloc::{AllocError, Global};
 use std::io;
 use std::io::{BufWriter, Write};

@@ -6,7 +6,7 @@ ghost use Rattle.table_schema.specs.Columns.{columns_of, column_at};
 ghost use Rattle.sig_grammar.specs.Syntax.{Body};
 ghost use Rattle.sig_grammar.specs.Encodes.{Encodes, short};
 
-use crate::shown::{Hex, Escaped};
+use crate::shown::{Escaped, Hex};
 use heap_entries::guid_text;
 use opening::{CellRef, TableId, View};
 use signatures::{SigError, canonical_encoding};
@@ -81,7 +81,10 @@ fn print_cell<W: Write>(
     requires last { row ≤ row_count view.now table }
     requires cell_index { cell_index < cell_count table }
 {
-    match (kind_of(table, cell_index), view.cell(table, row, cell_index)) {
+    match (
+        kind_of(table, cell_index),
+        view.cell(table, row, cell_index),
+    ) {
         (ColumnKind::Signature(kind), CellRef::Sig(blob)) => {
             let encoding = shortest(alloc, kind, blob)?;
             write!(out, "<{}>", Hex(&encoding))

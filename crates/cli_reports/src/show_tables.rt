@@ -4,9 +4,9 @@ ghost use Rattle.cli_reports.specs.Checked.{IsWhole, rules_of};
 ghost use Rattle.cli_reports.specs.Reported.{LeavesOutput, ReportsFault};
 
 use crate::opened::open;
-use opening::View;
-use cli_faults::{Failure, printed};
 use crate::table_lines::print_tables;
+use cli_faults::{Failure, printed};
+use opening::View;
 use std::alloc::Global;
 use std::io;
 use std::io::{BufWriter, Write};

@@ -7,7 +7,6 @@ ghost use Rattle.opening.specs.Views.{row_count, HasModel};
 ghost use Rattle.table_schema.specs.declared.table.TableId.TheVariants.{TypeDef};
 
 use crate::shown::Escaped;
-use metadata::models_are_read;
 use opening::{CellRef, TableId, Token, View};
 use std::io;
 use std::io::Write;
@@ -59,7 +58,7 @@ fn text_of<'a>(view: &View<'a>, row: u32, cell_index: usize) -> &'a str
     requires cell_index { (cell_index ≡ 1) ⊎ (cell_index ≡ 2) }
     ensures { (model : Metadata) → IsModel view.now model → cell_in model TypeDef row cell_index ≡ Text result.now }
 {
-    models_are_read();
+    metadata::laws::models_are_read();
     match view.cell(TableId::TypeDef, row, cell_index) {
         CellRef::Text(text) => text,
         _ => unreachable!(),

@@ -18,8 +18,8 @@ mod look_ups;
 mod names;
 mod opened;
 mod read_header;
-mod shown;
 mod reported_cell;
+mod shown;
 mod view;
 mod view_parts;
 
@@ -29,7 +29,7 @@ pub use look_ups::{clim_find_type, clim_members, clim_rows_by_key};
 pub use names::{clim_cell_count, clim_column_name, clim_fault_name, clim_table_name};
 pub use opened::{clim_open, clim_open_root};
 pub use read_header::{ClimDirectory, ClimHeader, clim_read_header};
-pub use shown::{clim_cell_at, clim_cells};
 pub use reported_cell::ClimCell;
+pub use shown::{clim_cell_at, clim_cells};
 pub use view::ClimView;
 pub use view_parts::{clim_count, clim_user, clim_version};

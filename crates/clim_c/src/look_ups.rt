@@ -13,7 +13,6 @@ ghost use Rattle.clim_c.specs.LookUps.{AreFirstByKey, IsOwned, Owns};
 
 use crate::opened::seen;
 use crate::view::ClimView;
-use metadata::models_are_read;
 use opening::{KeyRows, KeysOf, TableId, Token, View};
 use std::ops::Range;
 use std::str;
@@ -28,7 +27,7 @@ pub extern "C" fn clim_find_type(view: &ClimView, namespace: &[u8], name: &[u8])
         → (row : ℕ) → HasRow model TypeDef row → ¬ HasNames model namespace.now name.now row }
     ensures closed { view.now.is_open ≡ false → result ≡ 0 }
 {
-    models_are_read();
+    metadata::laws::models_are_read();
     let (Ok(namespace), Ok(name)) = (str::from_utf8(namespace), str::from_utf8(name)) else {
         return 0;
     };

@@ -5,8 +5,8 @@ ghost use Rattle.table_schema.specs.Tables.{table_number, table_name};
 ghost use Rattle.table_schema.specs.CellColumns.{cell_count, column_of};
 ghost use Rattle.schema.specs.ColumnNames.{column_names_of};
 
-use schema::column_names;
 use opening::{Fault, TableId};
+use schema::column_names;
 use table_schema::{cell_count, column_of_cell};
 
 /// The name of the rule with a number; no bytes if no rule has it.

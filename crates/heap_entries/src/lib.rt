@@ -15,7 +15,7 @@ mod blobs;
 mod fault;
 mod guid_format;
 mod guids;
-mod laws;
+pub mod laws;
 mod strings;
 mod user_strings;
 
@@ -23,6 +23,5 @@ pub use blobs::blob;
 pub use fault::HeapFault;
 pub use guid_format::guid_text;
 pub use guids::guid;
-pub use laws::entries_are_one;
 pub use strings::{Strings, text};
 pub use user_strings::{Units, UserString, user_string};

@@ -18,7 +18,7 @@ mod blob_pool;
 mod ending;
 mod first_byte;
 mod guid_pool;
-mod laws;
+pub mod laws;
 mod pool_error;
 mod text_plan;
 mod text_pool;
@@ -27,10 +27,6 @@ mod user_heap;
 pub use blob_pool::BlobPool;
 pub use first_byte::begin;
 pub use guid_pool::GuidPool;
-pub use laws::{
-    heaps_grow, indexes_stay, pooled_are_distinct, pooled_blob_is_found, pooled_guid_is_found,
-    pushed_string_is_found, used_text_is_found,
-};
 pub use pool_error::{HEAP_LIMIT, PoolError};
 pub use text_pool::TextPool;
 pub use user_heap::UserHeap;

@@ -15,12 +15,7 @@
 #![tactic(auto)]
 
 pub use heap_entries::{
-    HeapFault, Strings, Units, UserString, blob, entries_are_one, guid, guid_text, text,
-    user_string,
+    HeapFault, Strings, Units, UserString, blob, guid, guid_text, text, user_string,
 };
-pub use heap_pools::{
-    BlobPool, GuidPool, HEAP_LIMIT, PoolError, TextPool, UserHeap, begin, heaps_grow, indexes_stay,
-    pooled_are_distinct, pooled_blob_is_found, pooled_guid_is_found, pushed_string_is_found,
-    used_text_is_found,
-};
+pub use heap_pools::{BlobPool, GuidPool, HEAP_LIMIT, PoolError, TextPool, UserHeap, begin};
 pub use packed::{Fault, FaultCode};

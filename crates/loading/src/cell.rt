@@ -7,11 +7,11 @@ ghost use Rattle.reading.specs.Shown.{Shows, ShowsSignature};
 ghost use Rattle.tables.specs.Said.{said};
 ghost use Rattle.opening.specs.Views.{HasModel, row_count};
 
-use tables::{Bytes, Cell, ColumnKind, Text};
 use opening::{CellRef, TableId, View};
 use signatures::{SigError, decode};
 use std::alloc::{AllocError, Global};
 use table_schema::{column_of_cell, columns};
+use tables::{Bytes, Cell, ColumnKind, Text};
 
 /// Decodes the signature that a blob encodes in a column of signatures.
 fn own_signature(alloc: Global, blob: &[u8], kind: ColumnKind) -> Result<Cell, AllocError>

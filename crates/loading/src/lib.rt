@@ -12,8 +12,8 @@
 
 mod cell;
 mod error;
-mod padding;
 mod load;
+mod padding;
 mod table_rows;
 mod to_model;
 

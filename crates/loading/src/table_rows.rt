@@ -7,11 +7,10 @@ ghost use Rattle.opening.specs.Views.{row_count};
 ghost use Rattle.loading.specs.Padded.{with_rows};
 
 use crate::cell::load_cell;
-use tables::{Cell, Tables};
-use metadata::models_are_read;
 use opening::View;
 use std::alloc::{AllocError, Global};
-use table_schema::{TableId, cell_count, tables_stand};
+use table_schema::{TableId, cell_count};
+use tables::{Cell, Tables};
 
 /// Loads the cells of a row.
 fn load_row(alloc: Global, view: &View, table: TableId, row: u32) -> Result<Vec<Cell>, AllocError>
@@ -19,7 +18,7 @@ fn load_row(alloc: Global, view: &View, table: TableId, row: u32) -> Result<Vec<
     requires last { row ≤ row_count view.now table }
     ensures { (model : Metadata) → IsModel view.now model → IfOk result (λ cells. all_said cells.items ≡ row_of model table row) }
 {
-    models_are_read();
+    metadata::laws::models_are_read();
     let count = cell_count(table);
     let mut cells = Vec::with_capacity(alloc, count)?;
     for column in 0..count {
@@ -39,7 +38,7 @@ fn load_rows(
     ensures { (model : Metadata) → IsModel view.now model → length tables.old.tables ≡ 38 → rows_of tables.old table ≡ []
         → OnOk result (tables.new ≡ with_rows tables.old table (rows_of model table)) }
 {
-    tables_stand();
+    table_schema::laws::tables_stand();
     let count = view.count(table);
     tables.reserve(table, count as usize)?;
     for row in 0..count {
@@ -57,8 +56,8 @@ pub fn load_tables(alloc: Global, view: &View, tables: &mut Tables) -> Result<()
     requires empty { (table : Table) → rows_of tables.old table ≡ [] }
     ensures { (model : Metadata) → IsModel view.now model → OnOk result (tables.new ≡ record tables.old { tables = model.tables }) }
 {
-    models_are_read();
-    tables_stand();
+    metadata::laws::models_are_read();
+    table_schema::laws::tables_stand();
     for table in TableId::all() {
         load_rows(alloc, view, *table, tables)?;
     }

@@ -4,7 +4,6 @@ ghost use Rattle.metadata.specs.Model.{IsModel};
 
 use crate::padding::copy_padded;
 use crate::table_rows::load_tables;
-use metadata::{models_are_read, models_of_roots_are_valid};
 use opening::View;
 use owned_model::Model;
 use std::alloc::{AllocError, Global};
@@ -14,7 +13,7 @@ use tables::Tables;
 fn tables_of(alloc: Global, view: &View) -> Result<Tables, AllocError>
     ensures { (model : Metadata) → IsModel view.now model → IfOk result (λ tables. tables ≡ model) }
 {
-    models_are_read();
+    metadata::laws::models_are_read();
     let mut tables = Tables::new(alloc, view.version())?;
     tables.set_user(copy_padded(alloc, view.user())?);
     load_tables(alloc, view, &mut tables)?;
@@ -45,7 +44,7 @@ impl ToModel for View<'_> {
         ensures model { (model : Metadata) → IsModel self.now model → IfOk result (λ loaded. loaded ≡ model) }
         ensures sound { IfOk result (λ loaded. ∥ IsModel self.now loaded ∥₁) }
     {
-        models_of_roots_are_valid();
+        metadata::laws::models_of_roots_are_valid();
         let tables = tables_of(alloc, self)?;
         // The root has a model.
         let _root = self.root();

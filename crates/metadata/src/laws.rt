@@ -25,14 +25,6 @@ ghost use Rattle.metadata.specs.Same.{SaysSame};
 ghost use Rattle.metadata.specs.Refusals.{refusals_of};
 ghost use Rattle.metadata.specs.Rules.{rules_of_metadata, rules_of_file};
 
-use cli_header::headers_are_read;
-use heap_entries::entries_are_one;
-use pe::images_are_read;
-use root::roots_are_read;
-use schema::{cells_stand, numbers_are_read, streams_are_read};
-use sig_values::{signatures_are_read, encoded_is_encodable};
-use table_schema::{cells_have_columns, columns_stand, tables_stand, tags_fit};
-
 /// A list of bytes satisfies all rules for a root if and only if it has a model. It has at most one model.
 pub fn roots_have_models()
     ensures met { (offset : ℕ) (root : List ℕ) (model : Metadata) → IsModel root model → AllHold (rules_of_metadata offset root) }
@@ -40,13 +32,13 @@ pub fn roots_have_models()
         → (model : Metadata) × IsModel root model }
     ensures one { (root : List ℕ) (model other : Metadata) → IsModel root model → IsModel root other → model ≡ other }
 {
-    roots_are_read();
-    streams_are_read();
-    numbers_are_read();
-    cells_have_columns();
-    entries_are_one();
-    tags_fit();
-    signatures_are_read();
+    root::laws::roots_are_read();
+    schema::laws::streams_are_read();
+    schema::laws::numbers_are_read();
+    table_schema::laws::cells_have_columns();
+    heap_entries::laws::entries_are_one();
+    table_schema::laws::tags_fit();
+    sig_values::laws::signatures_are_read();
 }
 
 /// A list of bytes satisfies all rules for a file if and only if it has a CLI header and a model. It has at
@@ -58,8 +50,8 @@ pub fn files_have_models()
     ensures one { (file : List ℕ) (header other : CliHeader) (model more : Metadata) → IsModelOfFile file header model → IsModelOfFile file other more
         → (header ≡ other) × (model ≡ more) }
 {
-    images_are_read();
-    headers_are_read();
+    pe::laws::images_are_read();
+    cli_header::laws::headers_are_read();
     roots_have_models();
     models_are_read();
 }
@@ -79,11 +71,11 @@ pub fn models_are_read()
     ensures rules { (root : List ℕ) (model : Metadata) → IsModel root model
         → AreByKey (source_of root) × AreOwned (source_of root) × AreNested (source_of root) }
 {
-    roots_are_read();
-    streams_are_read();
-    numbers_are_read();
-    cells_have_columns();
-    tables_stand();
+    root::laws::roots_are_read();
+    schema::laws::streams_are_read();
+    schema::laws::numbers_are_read();
+    table_schema::laws::cells_have_columns();
+    table_schema::laws::tables_stand();
 }
 
 /// A number represents at most one cell.
@@ -91,19 +83,19 @@ pub fn cells_are_one()
     ensures { (source : Source) (table : Table) (row cell_index : ℕ) (cell other : Cell) → IsCell source table row cell_index cell
         → IsCell source table row cell_index other → cell ≡ other }
 {
-    entries_are_one();
-    tags_fit();
-    signatures_are_read();
+    heap_entries::laws::entries_are_one();
+    table_schema::laws::tags_fit();
+    sig_values::laws::signatures_are_read();
 }
 
 /// The model of a root is valid, so a model that is built from its parts is never refused.
 pub fn models_of_roots_are_valid()
     ensures { (root : List ℕ) (model : Metadata) → IsModel root model → IsValid model }
 {
-    tables_stand();
-    cells_stand();
-    cells_have_columns();
-    encoded_is_encodable();
+    table_schema::laws::tables_stand();
+    schema::laws::cells_stand();
+    table_schema::laws::cells_have_columns();
+    sig_values::laws::encoded_is_encodable();
 }
 
 /// All rules for a model with 38 tables hold if and only if it is valid.
@@ -111,7 +103,7 @@ pub fn valid_models_are_not_refused()
     ensures met { (model : Metadata) → IsValid model → AllHold (refusals_of model) }
     ensures sound { (model : Metadata) → length model.tables ≡ 38 → AllHold (refusals_of model) → IsValid model }
 {
-    tables_stand();
+    table_schema::laws::tables_stand();
 }
 
 /// The key numbers of a table in a root are those in its model, so they are in order in both or in neither.
@@ -123,10 +115,10 @@ pub fn keys_are_in_order()
         → number_of (source_of root) table row (column_of table cell) ≡ key_in model table cell row }
 {
     models_are_read();
-    tables_stand();
-    columns_stand();
-    cells_have_columns();
-    tags_fit();
+    table_schema::laws::tables_stand();
+    table_schema::laws::columns_stand();
+    table_schema::laws::cells_have_columns();
+    table_schema::laws::tags_fit();
 }
 
 /// Two rows have different numbers in a key column that can refer to both.
@@ -135,15 +127,15 @@ pub fn key_numbers_are_one()
         → (key : Cell) → IsOfKind (kind_at table cell) key
         → (key ≡ Ref (Some token)) ↔ (key_number (kind_at table cell) key ≡ row_number (kind_at table cell) token) }
 {
-    tables_stand();
-    columns_stand();
-    cells_have_columns();
-    tags_fit();
+    table_schema::laws::tables_stand();
+    table_schema::laws::columns_stand();
+    table_schema::laws::cells_have_columns();
+    table_schema::laws::tags_fit();
 }
 
 /// Two models with the same parts are equal.
 pub fn models_of_same_parts_are_one()
     ensures { (model other : Metadata) → SaysSame model other → model ≡ other }
 {
-    tables_stand();
+    table_schema::laws::tables_stand();
 }

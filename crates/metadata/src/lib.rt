@@ -12,15 +12,10 @@
 //! ```
 #![tactic(auto)]
 
-mod laws;
+pub mod laws;
 mod refusal;
 mod row_numbers;
 
-pub use laws::{
-    cells_are_one, files_have_models, key_numbers_are_one, keys_are_in_order, models_are_read,
-    models_of_roots_are_valid, models_of_same_parts_are_one, roots_have_models,
-    valid_models_are_not_refused,
-};
 pub use packed::FaultCode;
 pub use refusal::Refusal;
 pub use row_numbers::row_number;

@@ -4,7 +4,7 @@ ghost use Rattle.table_schema.specs.CodedIndexes.{tables_of, tag_bits};
 ghost use Rattle.sig_grammar.specs.Parts.{is_table as is_table_of};
 ghost use Rattle.metadata.specs.KeyOrder.{row_number as number_of_row};
 
-use table_schema::{Coded, ColumnKind, TableId, Token, tags_fit};
+use table_schema::{Coded, ColumnKind, TableId, Token};
 
 /// The number by which a column of a kind refers to a row (II.24.2.6).
 ///
@@ -14,7 +14,7 @@ pub fn row_number(kind: ColumnKind, token: Token) -> u64
     ensures value { result ≡ number_of_row kind token }
     ensures limit { token.row ≤ 0xFFFFFF → result < 2 ^ 32 }
 {
-    tags_fit();
+    table_schema::laws::tags_fit();
     let row = token.row as u64;
     match kind {
         ColumnKind::Coded(coded) => row * tag_count(coded) + tag_of(coded, token.table) as u64,

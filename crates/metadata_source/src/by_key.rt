@@ -12,7 +12,6 @@ use crate::key_cells::{key_cell, kind_of};
 use crate::keys_of::KeysOf;
 use crate::row_numbers::number_of;
 use crate::source::ReadMetadata;
-use metadata::key_numbers_are_one;
 use reading::KeyRows;
 use table_schema::{TableId, Token};
 
@@ -59,7 +58,7 @@ fn key_number<S: ReadMetadata>(source: &S, table: TableId, cell: usize, token: T
     ensures none { (model : Metadata) → S.shows source.now model
         → IfNone result ((row : ℕ) → HasRow model table row → cell_in model table row cell ≢ Ref (Some token)) }
 {
-    key_numbers_are_one();
+    metadata::laws::key_numbers_are_one();
     source.holds_one();
     if token.row == 0 || source.count(token.table) < token.row {
         return None;

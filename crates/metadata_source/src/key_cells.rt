@@ -4,18 +4,15 @@ ghost use Rattle.table_schema.specs.CellColumns.{cell_count};
 ghost use Rattle.metadata.specs.Lookups.{IsKeyCell};
 ghost use Rattle.metadata.specs.Valid.{kind_at};
 
-use table_schema::{
-    ColumnKind, TableId, cell_count, cells_have_columns, column_of_cell, columns, columns_stand,
-    key,
-};
+use table_schema::{ColumnKind, TableId, cell_count, column_of_cell, columns, key};
 
 /// The index of a table's key among the cells of its rows.
 pub fn key_cell(table: TableId) -> usize
     requires { IsSome (key_of table) }
     ensures { IsKeyCell table result }
 {
-    cells_have_columns();
-    columns_stand();
+    table_schema::laws::cells_have_columns();
+    table_schema::laws::columns_stand();
     let key = key(table);
     for cell in 0..cell_count(table) {
         if key == Some(column_of_cell(table, cell)) {

@@ -68,7 +68,7 @@ pub use sig_text::{NamedText, TextSink, TokenNames, write_signature};
 pub use signatures::{
     Core, Element, FieldSig, InstanceSig, Local, LocalsSig, MethodSig, Modifier, Prefix,
     PropertySig, Ret, Shape, SigBody, SigError, SigKind, Signature, Slot, SlotKind, TypeSig,
-    decode, encode, recognise, canonical_encoding,
+    canonical_encoding, decode, encode, recognise,
 };
 
 // Rows as records.

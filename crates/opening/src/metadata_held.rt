@@ -5,7 +5,6 @@ ghost use Rattle.metadata.specs.SourceAt.{source_of};
 ghost use Rattle.opening.specs.Views.{row_count};
 
 use crate::view::View;
-use metadata::{keys_are_in_order, models_are_read, models_of_roots_are_valid};
 use metadata_source::{MemberList, ReadMetadata};
 use reading::{is_text_at, start_at};
 use table_schema::{TableId, column_of_cell};
@@ -18,9 +17,9 @@ impl ReadMetadata for View<'_> {
     ghost key_number = { λ root table cell row. number_of (source_of root) table row (column_of table cell) };
 
     fn holds_one(&self) {
-        models_are_read();
-        models_of_roots_are_valid();
-        keys_are_in_order();
+        metadata::laws::models_are_read();
+        metadata::laws::models_of_roots_are_valid();
+        metadata::laws::keys_are_in_order();
         // The root has a model.
         let _root = self.root();
     }

@@ -25,7 +25,6 @@ ghost use Rattle.opening.specs.Views.{HasModel, AreFound, row_count, user_of};
 
 use crate::found::Found;
 use checks::Checked;
-use metadata::{keys_are_in_order, models_are_read};
 use metadata_source::KeysOf;
 use reading::{CellRef, KeyRows, KnownRuns, Source, Starts, cell_of, starts_of};
 use std::marker::Model;
@@ -89,7 +88,7 @@ impl<'a> View<'a> {
         ensures readable { IsReadable result.now.source }
         ensures read { (model : Metadata) → IsModel self.now model → IsReadFrom result.now.source model }
     {
-        models_are_read();
+        metadata::laws::models_are_read();
         &self.source
     }
 
@@ -123,7 +122,7 @@ impl<'a> View<'a> {
     pub fn version(&self) -> &'a str
         ensures { (model : Metadata) → IsModel self.now model → result.now ≡ model.version }
     {
-        models_are_read();
+        metadata::laws::models_are_read();
         self.version
     }
 
@@ -132,7 +131,7 @@ impl<'a> View<'a> {
         ensures stream { result.now ≡ user_of self.now }
         ensures model { (model : Metadata) → IsModel self.now model → zero_padded result.now ≡ model.user }
     {
-        models_are_read();
+        metadata::laws::models_are_read();
         self.user
     }
 
@@ -254,7 +253,7 @@ impl<'a> View<'a> {
         ensures bytes { IfSome (key_of table) (λ key. IsTrue result ↔ IsInOrder (source_of self.now) table key) }
         ensures model { (model : Metadata) → IsModel self.now model → IsTrue result ↔ IsKeyOrdered model table }
     {
-        keys_are_in_order();
+        metadata::laws::keys_are_in_order();
         self.found.in_order[table.number() as usize]
     }
 

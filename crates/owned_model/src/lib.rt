@@ -13,13 +13,12 @@
 //! ```
 #![tactic(auto)]
 
-mod laws;
+pub mod laws;
 mod lookups;
 mod metadata_held;
 mod rows_held;
 mod valid_model;
 
-pub use laws::equality_is_tested;
 pub use metadata_source::{KeysOf, MemberList, ReadMetadata};
 pub use reading::{KeyNumbers, KeyRows};
 pub use refusals::Refusal;

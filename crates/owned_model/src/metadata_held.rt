@@ -5,10 +5,10 @@ ghost use Rattle.metadata.specs.Valid.{row_in};
 ghost use Rattle.metadata.specs.KeyOrder.{key_in, key_number};
 
 use crate::valid_model::Model;
-use tables::Cell;
 use metadata::row_number;
 use metadata_source::{MemberList, ReadMetadata};
 use table_schema::{ColumnKind, TableId, column_of_cell, columns};
+use tables::Cell;
 
 impl ReadMetadata for Model {
     ghost shows = { λ model other. model ≡ other };

@@ -4,7 +4,7 @@ ghost use Rattle.metadata.specs.Metadata.{Metadata, row_of, count_in};
 ghost use Rattle.metadata.specs.Lookups.{HasRow};
 
 use crate::valid_model::Model;
-use records::{CellRow, CodedRow, FromRow, owned_cells_are_rows, valid_rows_are_of_kinds};
+use records::{CellRow, CodedRow, FromRow};
 use table_schema::{TableId, Token};
 use typed_rows::{ReadRows, Records};
 
@@ -20,8 +20,8 @@ impl<'m> ReadRows<'m> for &'m Model {
     }
 
     fn row_at(&self, table: TableId, row: u32) -> CellRow<'m> {
-        valid_rows_are_of_kinds();
-        owned_cells_are_rows();
+        records::laws::valid_rows_are_of_kinds();
+        records::laws::owned_cells_are_rows();
         // The cells are those of a valid model.
         let _tables = self.tables();
         CellRow {

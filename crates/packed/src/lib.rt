@@ -15,7 +15,7 @@
 
 mod code;
 mod fault;
-mod laws;
+pub mod laws;
 mod limit;
 mod number;
 mod signed;
@@ -23,7 +23,6 @@ mod unsigned;
 
 pub use code::FaultCode;
 pub use fault::Fault;
-pub use laws::{fields_are_parts, numbers_are_read, shortest_forms_encode};
 pub use limit::BYTE_LIMIT;
 pub use number::{u16_at, u32_at, u64_at};
 pub use signed::{put_signed, read_signed};

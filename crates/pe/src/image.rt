@@ -8,7 +8,7 @@ ghost use Rattle.pe.specs.Offset.{IsFileOffset};
 use crate::headers::{
     OPTIONAL_HEADER, check_sections, read_dos_header, read_file_header, read_optional_header,
 };
-use crate::laws::images_are_read;
+use crate::laws;
 use crate::section::find_section;
 use packed::{Fault, u32_at};
 use std::marker::Model;
@@ -118,6 +118,6 @@ pub fn read_pe(bytes: &[u8]) -> Result<Pe<'_>, Fault>
     // The fault's offset is within the bytes, or at their end.
     ensures within { IfErr result (λ fault. fault.offset ≤ length bytes.now) }
 {
-    images_are_read();
+    laws::images_are_read();
     check_image(bytes)
 }

@@ -4,8 +4,6 @@ ghost use Rattle.pe.specs.Rules.{rules_of_image};
 ghost use Rattle.pe.specs.Headers.{image_of};
 ghost use Rattle.pe.specs.Image.{Image, IsImage};
 
-use packed::fields_are_parts;
-
 /// An image satisfies all rules and has the values of its headers. A file that satisfies all rules is
 /// an image with the values of its headers.
 pub fn images_are_read()
@@ -13,5 +11,5 @@ pub fn images_are_read()
     ensures said { (file : List ℕ) (image : Image) → IsImage file image → image ≡ image_of file }
     ensures sound { (file : List ℕ) → AllHold (rules_of_image file) → IsImage file (image_of file) }
 {
-    fields_are_parts();
+    packed::laws::fields_are_parts();
 }

@@ -14,9 +14,8 @@
 
 mod headers;
 mod image;
-mod laws;
+pub mod laws;
 mod section;
 
 pub use image::{Pe, read_pe};
-pub use laws::images_are_read;
 pub use packed::{Fault, FaultCode};

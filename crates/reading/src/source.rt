@@ -1,7 +1,6 @@
 use heap_entries::{Strings, blob, guid};
 use packed::{Fault, FaultCode};
 use rows::Rows;
-use schema::numbers_are_read;
 use std::marker::Model;
 use table_schema::TableId;
 
@@ -97,7 +96,7 @@ impl<'a> Source<'a> {
         ensures value { result ≡ number_of self.now.source table row column }
         ensures fits { result < 256 ^ cell_width self.now.source.sizes table column }
     {
-        numbers_are_read();
+        schema::laws::numbers_are_read();
         self.rows.number(table, row, column)
     }
 

@@ -3,8 +3,8 @@ ghost use Rattle.tables.specs.Said.{said};
 ghost use Rattle.records.specs.Shapes.{IsOfShape};
 
 use crate::row::Row;
-use tables::{Cell, Signature, Token};
 use table_schema::SigKind;
+use tables::{Cell, Signature, Token};
 
 /// A row of owned cells.
 #[derive(Clone, Copy, Debug)]

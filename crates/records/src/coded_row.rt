@@ -11,8 +11,8 @@ ghost use Rattle.records.specs.Shapes.{AreHeld, AreSaid};
 use crate::cell_row::CellRow;
 use crate::kinds::is_row_of;
 use crate::row::Row;
-use tables::Cell;
 use table_schema::{Coded, TableId};
+use tables::Cell;
 
 /// A row that a coded index names, as a record of one of the tables that the index lists (II.24.2.6).
 pub trait CodedRow<'m, W: Row<'m>>: Sized {

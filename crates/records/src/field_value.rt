@@ -2,8 +2,8 @@ ghost use Rattle.std.specs.Prelude.{◌≡◌, IfOk, map};
 ghost use Rattle.tables.specs.Said.{said, all_said};
 ghost use Rattle.records.specs.Values.{reported};
 
-use tables::{Bytes, Cell, Signature, Text, Token};
 use std::alloc::{AllocError, Global};
+use tables::{Bytes, Cell, Signature, Text, Token};
 
 /// The content of a record's field, borrowed, by the kind of its column (II.22).
 #[derive(Clone, Copy)]

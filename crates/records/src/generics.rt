@@ -8,9 +8,9 @@ use crate::field_value::{FieldValue, owned_cells};
 use crate::record::{FromRow, Record};
 use crate::row::Row;
 use crate::signature::IsSignature;
-use tables::{Cell, Signature, Token};
 use std::alloc::{AllocError, Global};
 use table_schema::{SigKind, TableId};
+use tables::{Cell, Signature, Token};
 
 /// A generic parameter of a type or method (II.22.20).
 #[derive(Clone, Copy, Debug, PartialEq, Eq)]

@@ -2,8 +2,8 @@ ghost use Rattle.std.specs.Prelude.{◌↔◌, IsTrue};
 ghost use Rattle.tables.specs.Said.{all_said};
 ghost use Rattle.records.specs.Kinds.{kinds_in, kinds_of, AreOfKinds};
 
-use tables::Cell;
 use table_schema::{Column, ColumnKind, TableId, columns};
+use tables::Cell;
 
 /// Whether there is a cell of the right kind for each column except padding, and no other cell.
 fn are_of_kinds(columns: &[Column], cells: &[Cell]) -> bool

@@ -16,13 +16,11 @@ ghost use Rattle.records.specs.Kinds.{kinds_of, AreOfKinds};
 ghost use Rattle.records.specs.Shapes.{IsOfShape, AreHeld, AreSaid};
 ghost use Rattle.records.specs.Signatures.{encoded};
 
-use sig_values::signatures_are_read;
-
 /// A blob that encodes a signature in a column of a kind has this signature as its content there (II.23.2).
 pub fn blobs_say_signatures()
     ensures { (column : Kind) (signature : Body) (blob : List ℕ) → Encodes column signature blob → encoded column blob ≡ signature }
 {
-    signatures_are_read();
+    sig_values::laws::signatures_are_read();
 }
 
 /// The kinds of a table's cells are the kinds of the columns that have a cell (II.22).

@@ -17,23 +17,20 @@ mod coded_row;
 mod field_value;
 mod generics;
 mod kinds;
-mod laws;
+pub mod laws;
 mod record;
 mod row;
 mod signature;
 mod types;
 
 pub use cell_row::CellRow;
-pub use tables::{Bytes, Cell, Signature, Text, Token};
 pub use coded_row::{CodedRow, coded_row_of, lists};
 pub use field_value::{FieldValue, owned_cells};
 pub use generics::{GenericParam, GenericParamConstraint, MethodSpec};
 pub use kinds::is_row_of;
-pub use laws::{
-    blobs_say_signatures, cells_have_kinds, owned_cells_are_rows, valid_rows_are_of_kinds,
-};
 pub use record::{FromRow, Record, record_of};
 pub use row::Row;
 pub use signature::IsSignature;
 pub use table_schema::{SigKind, TableId};
+pub use tables::{Bytes, Cell, Signature, Text, Token};
 pub use types::{ClassLayout, InterfaceImpl, Module, NestedClass, TypeDef, TypeRef, TypeSpec};

@@ -8,9 +8,9 @@ ghost use Rattle.records.specs.Shapes.{AreHeld, AreSaid};
 use crate::cell_row::CellRow;
 use crate::kinds::is_row_of;
 use crate::row::Row;
-use tables::Cell;
 use std::alloc::{AllocError, Global};
 use table_schema::TableId;
+use tables::Cell;
 
 /// A record that can be read from any kind of row.
 pub trait FromRow<'m, W: Row<'m>>: Sized {

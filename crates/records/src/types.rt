@@ -9,10 +9,10 @@ use crate::field_value::{FieldValue, owned_cells};
 use crate::record::{FromRow, Record};
 use crate::row::Row;
 use crate::signature::IsSignature;
-use tables::{Cell, Signature, Token};
 use std::alloc::{AllocError, Global};
 use std::fmt;
 use table_schema::{SigKind, TableId};
+use tables::{Cell, Signature, Token};
 
 /// This module, the only row of its table (II.22.30).
 #[derive(Clone, Copy, Debug, PartialEq, Eq)]

@@ -9,10 +9,10 @@ ghost use Rattle.metadata.specs.Refusals.{refusals_of_cell, refusals_of_row, ref
 
 use crate::column::column_at;
 use crate::counted::Counted;
-use tables::Cell;
 use metadata::Refusal;
 use packed::FaultCode;
 use table_schema::{ColumnKind, TableId, cell_count};
+use tables::Cell;
 
 /// Checks that each row has the cells of its table, and that each cell fits its column (II.22). The content
 /// of signatures is checked later.
@@ -55,7 +55,12 @@ fn check_row(counted: &Counted, table: TableId, row: u32) -> Result<(), Refusal>
 
 /// Checks that each cell of a row fits its column.
 #[tactic(auto, using(packed::proofs::RuleLemmas::before_none, packed::proofs::RuleLemmas::before_more, packed::proofs::RuleLemmas::before_all, packed::proofs::RuleLemmas::before_fails, crate::proofs::CellLemmas::item_said))]
-fn check_each_cell(counted: &Counted, table: TableId, row: u32, cells: &[Cell]) -> Result<(), Refusal>
+fn check_each_cell(
+    counted: &Counted,
+    table: TableId,
+    row: u32,
+    cells: &[Cell],
+) -> Result<(), Refusal>
     requires cells { all_said cells.now ≡ row_of counted.now table row }
     requires long { length cells.now ≡ cell_count table }
     ensures { Reports (rules_from (refusals_of_cell counted.now table row) 0 (cell_count table)) result }

@@ -4,11 +4,11 @@ ghost use Rattle.metadata.specs.Metadata.{count_in};
 ghost use Rattle.metadata.specs.Rows.{table_at};
 ghost use Rattle.metadata.specs.Refusals.{refusals_of_count};
 
-use tables::{Cell, Tables};
 use metadata::Refusal;
 use packed::FaultCode;
 use std::marker::Model;
-use table_schema::{TableId, tables_stand};
+use table_schema::TableId;
+use tables::{Cell, Tables};
 
 /// The greatest number of rows of a table (II.22).
 const ROW_LIMIT: usize = 0xFF_FFFF;
@@ -52,7 +52,7 @@ impl<'a> Counted<'a> {
         ensures reports { Reports (refusals_of_counts tables.now) result }
         ensures tables { IfOk result (λ counted. counted ≡ tables.now) }
     {
-        tables_stand();
+        table_schema::laws::tables_stand();
         let all = TableId::all();
         let mut counts = [0; 45];
         for table_index in 0..all.len() {

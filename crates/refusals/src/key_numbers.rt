@@ -4,9 +4,9 @@ ghost use Rattle.tables.specs.Said.{said};
 ghost use Rattle.metadata.specs.Cell.{Number as NumberCell};
 ghost use Rattle.metadata.specs.KeyOrder.{key_number};
 
-use tables::Cell;
 use metadata::row_number;
 use table_schema::ColumnKind;
+use tables::Cell;
 
 /// The number of a reference in a column of a kind (II.24.2.6); 0 for null, any other cell or no cell.
 pub fn key_number(kind: ColumnKind, cell: Option<&Cell>) -> u64

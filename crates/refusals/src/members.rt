@@ -8,10 +8,10 @@ ghost use Rattle.metadata.specs.Valid.{start_in};
 ghost use Rattle.metadata.specs.Refusals.{refusals_of_start, refusals_of_run, refusals_of_runs};
 
 use crate::counted::Counted;
-use tables::Cell;
 use metadata::Refusal;
 use packed::FaultCode;
 use table_schema::TableId;
+use tables::Cell;
 
 /// Checks that each member of the five runs has one owner (II.22.37, II.22.26, II.22.12 and II.22.35).
 #[tactic(auto, using(packed::proofs::RuleLemmas::fails_prefix, packed::proofs::RuleLemmas::fails_back, packed::proofs::RuleLemmas::all_append), unfolding(metadata::specs::Refusals::refusals_of_runs))]
@@ -60,7 +60,12 @@ fn check_starts(counted: &Counted, owner: TableId, cell_index: usize) -> Result<
 
 /// Checks that a start is not less than that of the owner before.
 #[tactic(auto, unfolding(metadata::specs::Refusals::refusals_of_start))]
-fn check_start(counted: &Counted, owner: TableId, cell_index: usize, row: u32) -> Result<(), Refusal>
+fn check_start(
+    counted: &Counted,
+    owner: TableId,
+    cell_index: usize,
+    row: u32,
+) -> Result<(), Refusal>
     requires first { 2 ≤ row }
     requires last { row ≤ count_in counted.now owner }
     ensures { Reports (refusals_of_start counted.now owner cell_index row) result }

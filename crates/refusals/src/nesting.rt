@@ -9,10 +9,10 @@ ghost use Rattle.metadata.specs.Valid.{row_in};
 ghost use Rattle.metadata.specs.Refusals.{refusals_of_nesting_in, refusals_of_nesting};
 
 use crate::counted::Counted;
-use tables::Cell;
 use metadata::Refusal;
 use packed::FaultCode;
 use table_schema::TableId;
+use tables::Cell;
 
 /// The cells of a nested type and of its enclosing type.
 const NESTED: usize = 0;

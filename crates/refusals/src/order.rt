@@ -8,7 +8,7 @@ ghost use Rattle.refusals.specs.Orders.{ReportsOrder};
 
 use crate::column::column_at;
 use crate::key_numbers::key_number;
-use table_schema::{ColumnKind, TableId, cell_count, column_of_cell, key, tables_stand};
+use table_schema::{ColumnKind, TableId, cell_count, column_of_cell, key};
 use tables::{Row, Tables};
 
 /// Whether each table with a key is in order of it (II.22), by table number; `false` for tables without a
@@ -16,7 +16,7 @@ use tables::{Row, Tables};
 pub fn find_order(tables: &Tables) -> [bool; 45]
     ensures { ReportsOrder tables.now result }
 {
-    tables_stand();
+    table_schema::laws::tables_stand();
     let all = TableId::all();
     let mut in_order = [false; 45];
     for table_index in 0..all.len() {

@@ -8,10 +8,10 @@ ghost use Rattle.metadata.specs.Refusals.{refusals_of_signature, refusals_of_sig
 
 use crate::column::column_at;
 use crate::counted::Counted;
-use tables::Cell;
 use metadata::Refusal;
 use packed::FaultCode;
 use table_schema::{TableId, cell_count};
+use tables::Cell;
 
 /// Checks that each signature is one that its column holds, and that the rows of its type indexes exist (II.23.2).
 #[tactic(auto, using(packed::proofs::RuleLemmas::before_none, packed::proofs::RuleLemmas::before_more, packed::proofs::RuleLemmas::before_all, packed::proofs::RuleLemmas::before_fails), unfolding(metadata::specs::Refusals::refusals_of_signatures, metadata::specs::Refusals::refusals_of_signatures_at))]
@@ -52,7 +52,12 @@ fn check_row(counted: &Counted, table: TableId, row: u32) -> Result<(), Refusal>
 
 /// Checks the signature in the cell with this index, if that cell is a signature.
 #[tactic(auto, unfolding(metadata::specs::Refusals::refusals_of_signature))]
-fn check_signature(counted: &Counted, table: TableId, row: u32, cell_index: usize) -> Result<(), Refusal>
+fn check_signature(
+    counted: &Counted,
+    table: TableId,
+    row: u32,
+    cell_index: usize,
+) -> Result<(), Refusal>
     requires first { 1 ≤ row }
     requires last { row ≤ count_in counted.now table }
     requires cell_index { cell_index < cell_count table }

@@ -9,7 +9,7 @@ use crate::heads::{is_user, is_version};
 use crate::members::check_members;
 use crate::nesting::check_nesting;
 use crate::signature_checks::check_signatures;
-use metadata::{Refusal, valid_models_are_not_refused};
+use metadata::Refusal;
 use packed::FaultCode;
 use tables::Tables;
 
@@ -23,7 +23,7 @@ pub fn check_tables(tables: &Tables) -> Result<(), Refusal>
     ensures reports { Reports (refusals_of tables.now) result }
     ensures valid { IsOk result ↔ IsValid tables.now }
 {
-    valid_models_are_not_refused();
+    metadata::laws::valid_models_are_not_refused();
     check_rules(tables)
 }
 

@@ -13,17 +13,16 @@
 //! ```
 #![tactic(auto)]
 
-mod root_header;
 mod header;
 mod headers;
 mod kind;
-mod laws;
+pub mod laws;
 mod root;
+mod root_header;
 mod walk;
 
 pub use header::StreamHeader;
 pub use headers::Headers;
 pub use kind::Kind;
-pub use laws::roots_are_read;
 pub use packed::{Fault, FaultCode};
 pub use root::{Root, read_root};

@@ -7,9 +7,9 @@ ghost use Rattle.root.specs.Fields.{root_read};
 ghost use Rattle.root.specs.Root.{IsRoot};
 ghost use Rattle.root.specs.Streams.{Header, RootRead, range_of, stream_of};
 
-use crate::root_header::read_root_header;
 use crate::headers::Headers;
 use crate::kind::Kind;
+use crate::root_header::read_root_header;
 use crate::walk::{check_headers, check_tables, find_header};
 use packed::Fault;
 use std::marker::Model;

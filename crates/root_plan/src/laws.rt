@@ -6,8 +6,6 @@ ghost use Rattle.canonical.specs.Pools.{pools_of};
 ghost use Rattle.canonical.specs.Canonical.{canonical, stream};
 ghost use Rattle.root_writer.specs.Numbered.{IsTooLong};
 
-use root_writer::canonical_roots_are_put;
-
 /// A stream of a canonical root, with its padding, is not longer than the root. So if a heap of a model exceeds 2^30
 /// bytes, its canonical root does too.
 pub fn streams_are_within_roots()
@@ -15,5 +13,5 @@ pub fn streams_are_within_roots()
     ensures texts { (model : Metadata) → 2 ^ 30 < length (text_heap (pools_of model).texts) → 2 ^ 30 < length (canonical model) }
     ensures pools { (model : Metadata) → IsTooLong model → 2 ^ 30 < length (canonical model) }
 {
-    canonical_roots_are_put();
+    root_writer::laws::canonical_roots_are_put();
 }

@@ -8,7 +8,7 @@ ghost use Rattle.root_plan.specs.Outlined.{Describes};
 ghost use Rattle.root_plan.specs.Planned.{AreHeapLens, ArePooled, IsRootPlan, IsTablesPlan};
 
 use crate::heap_lens::HeapLens;
-use crate::laws::streams_are_within_roots;
+use crate::laws;
 use crate::outline::Outline;
 use crate::plan_error::PlanError;
 use crate::stream_lens::{padded_len, root_len};
@@ -55,7 +55,7 @@ fn lens_of(
     ensures too_large { (model : Metadata) → Describes outline.now model → AreHeapLens model heaps.now → IsTablesPlan model tables.now
         → IfNone result (limit < length (canonical model)) }
 {
-    streams_are_within_roots();
+    laws::streams_are_within_roots();
     if tables.len > limit as usize {
         return None;
     }

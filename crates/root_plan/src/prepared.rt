@@ -5,10 +5,10 @@ ghost use Rattle.root_writer.specs.Root.{CanBePut, ArePartsOf};
 ghost use Rattle.root_plan.specs.Planned.{IsRootPlan, IsPlan};
 
 use crate::error::WriteError;
-use root_writer::{RootParts, Writer, parts_are_canonical};
 use crate::planned::RootPlan;
-use crate::sink::Sink;
 use crate::send::send_all;
+use crate::sink::Sink;
+use root_writer::{RootParts, Writer};
 use std::alloc::{AllocError, Global};
 use std::marker;
 
@@ -107,7 +107,7 @@ pub fn make(alloc: Global, plan: &RootPlan) -> Result<Prepared, AllocError>
     requires { IsPlan plan.now }
     ensures { (model : Metadata) → IsRootPlan model plan.now → IfOk result (λ prepared. prepared ≡ canonical model) }
 {
-    parts_are_canonical();
+    root_writer::laws::parts_are_canonical();
     let mut writer = Writer::with_room(alloc, plan.len as usize)?;
     writer.put_root(&parts_of(plan));
     Ok(Prepared {

@@ -5,7 +5,7 @@ ghost use Rattle.metadata.specs.Metadata.{Metadata};
 ghost use Rattle.canonical.specs.Canonical.{canonical, stream};
 ghost use Rattle.root_writer.specs.Heading.{size_of, held, heading_size};
 
-use root_writer::{HeldKinds, StreamSizes, canonical_roots_are_put, heading_len};
+use root_writer::{HeldKinds, StreamSizes, heading_len};
 
 /// The largest length of a stream, and of a root, in bytes.
 const STREAM_LIMIT: usize = 1 << 30;
@@ -28,7 +28,7 @@ pub fn root_len(version: &str, sizes: &StreamSizes) -> usize
         → result ≡ length (canonical model) }
     ensures limit { result < 2 ^ 33 }
 {
-    canonical_roots_are_put();
+    root_writer::laws::canonical_roots_are_put();
     let kinds = HeldKinds::new(sizes);
     let mut len = heading_len(version, kinds.as_slice());
     len += sizes.tables as usize;

@@ -9,9 +9,8 @@ ghost use Rattle.root_plan.specs.Outlined.{Describes};
 ghost use Rattle.root_plan.specs.Planned.{IsTablesPlan, planned_tables};
 
 use crate::outline::Outline;
-use root_writer::{numbers_are_put, table_headers_are_put};
-use schema::{Layout, widths_follow_from_counts};
-use table_schema::{TableId, tables_stand};
+use schema::Layout;
+use table_schema::TableId;
 
 /// The plan of a table stream (II.24.2.6).
 #[derive(Drop)]
@@ -35,10 +34,10 @@ impl TablesPlan {
         ensures stream { (model : Metadata) → Describes outline.now model → heap_sizes ≡ (sizes_of model).heap_sizes
             → planned_tables result (flat (numbers model)) ≡ table_stream model }
     {
-        tables_stand();
-        widths_follow_from_counts();
-        numbers_are_put();
-        table_headers_are_put();
+        table_schema::laws::tables_stand();
+        schema::laws::widths_follow_from_counts();
+        root_writer::laws::numbers_are_put();
+        root_writer::laws::table_headers_are_put();
         let layout = Layout::of(&outline.counts, heap_sizes);
         let last = TableId::GenericParamConstraint;
         let len = layout.row_start(last, layout.count(last) + 1);

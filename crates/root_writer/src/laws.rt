@@ -9,7 +9,10 @@ ghost use Rattle.root_writer.specs.TableHeader.{table_header};
 ghost use Rattle.root_writer.specs.declared.root_parts.RootParts.{RootParts as TheParts};
 ghost use Rattle.root_writer.specs.Root.{root_bytes, ArePartsOf};
 
-use table_schema::tables_stand;
+use crate::laws;
+pub use crate::numbering_laws::{
+    cells_can_be_numbered, heaps_stay_too_long, numberings_are_of_models, numbers_are_put,
+};
 
 /// The canonical root is what [`Writer::put_heading`](crate::Writer::put_heading) writes for the sizes of its streams,
 /// followed by the streams that have bytes.
@@ -24,7 +27,7 @@ pub fn table_headers_are_put()
     ensures { (model : Metadata) (sizes : Sizes) → sizes.counts ≡ (sizes_of model).counts
         → header_bytes model ≡ table_header (sizes_of model).heap_sizes (sizes_of model).sorted sizes }
 {
-    tables_stand();
+    table_schema::laws::tables_stand();
 }
 
 /// [`Writer::put_root`](crate::Writer::put_root) writes the canonical root of a model if it is given the parts of that

@@ -19,7 +19,7 @@
 
 mod heading;
 mod held;
-mod laws;
+pub mod laws;
 mod numbering;
 mod numbering_laws;
 mod references;
@@ -31,9 +31,7 @@ mod writer;
 
 pub use heading::heading_len;
 pub use held::HeldKinds;
-pub use laws::{canonical_roots_are_put, parts_are_canonical, table_headers_are_put};
 pub use numbering::Numbering;
-pub use numbering_laws::{cells_can_be_numbered, heaps_stay_too_long, numberings_are_of_models, numbers_are_put};
 pub use references::row_number;
 pub use root_parts::RootParts;
 pub use sizes::StreamSizes;

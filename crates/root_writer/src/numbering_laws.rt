@@ -16,9 +16,6 @@ ghost use Rattle.canonical.specs.Pools.{texts_of, used, pools_of};
 ghost use Rattle.root_writer.specs.Flat.{cells_of, tables_in};
 ghost use Rattle.root_writer.specs.Numbered.{flat, Numbered, CanBeNumbered, IsNumbering, IsOver, IsTooLong, with_row, with_rows, with_tables, none_numbered};
 
-use heap_pools::{indexes_stay, pooled_are_distinct};
-use table_schema::tables_stand;
-
 /// The numbers of a model as one list are what `Writer` needs for tables with these row counts: it finds them again by
 /// table, row and column, and their number is right.
 pub fn numbers_are_put()
@@ -35,7 +32,7 @@ pub fn cells_can_be_numbered()
         → CanBeNumbered (cell_in model table row cell_index) }
     ensures rows { (model : Metadata) → IsValid model → (table : Table) → AllByRecursion (AllByRecursion CanBeNumbered) (rows_of model table) }
 {
-    tables_stand();
+    table_schema::laws::tables_stand();
 }
 
 /// The numbering of all tables of a valid model is the numbering of the model, if the text indexes are given in order
@@ -48,9 +45,9 @@ pub fn numberings_are_of_models()
         → indexes ≡ map (text_index (pools_of model).texts) (used texts_of model)
         → IsOver (with_tables indexes model tables none_numbered) → IsTooLong model }
 {
-    tables_stand();
-    pooled_are_distinct();
-    indexes_stay();
+    table_schema::laws::tables_stand();
+    heap_pools::laws::pooled_are_distinct();
+    heap_pools::laws::indexes_stay();
 }
 
 /// A heap that exceeds 2^30 bytes still does after more cells are numbered.

@@ -5,7 +5,7 @@ ghost use Rattle.root_writer.specs.Written.{Puts};
 ghost use Rattle.root_writer.specs.TableHeader.{bit_if, count_bytes, is_counted, table_header};
 
 use crate::writer::Writer;
-use schema::{Layout, bits_are_known};
+use schema::Layout;
 use table_schema::TableId;
 
 /// The bit of a table if it is set, else 0.
@@ -19,7 +19,7 @@ fn bit(set: bool, table: TableId) -> u64
 fn valid(layout: &Layout) -> u64
     ensures { result ≡ bits_of (is_counted layout.now) tables }
 {
-    bits_are_known();
+    schema::laws::bits_are_known();
     let mut valid = 0;
     for table in TableId::all() {
         valid += bit(layout.count(*table) > 0, *table);

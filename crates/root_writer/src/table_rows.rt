@@ -7,7 +7,7 @@ ghost use Rattle.root_writer.specs.Flat.{cells_of, table_in, tables_in};
 
 use crate::writer::Writer;
 use schema::Layout;
-use table_schema::{TableId, columns, columns_stand};
+use table_schema::{TableId, columns};
 
 impl Writer {
     /// Writes a row of a table by its numbers, one per column. A number that is too great for its column is truncated
@@ -43,7 +43,7 @@ impl Writer {
         requires room { length (tables_bytes layout.now tables (tables_in layout.now tables numbers.now)) ≤ self.old.room }
         ensures { Puts self.old self.new (tables_bytes layout.now tables (tables_in layout.now tables numbers.now)) }
     {
-        columns_stand();
+        table_schema::laws::columns_stand();
         let mut tail = numbers;
         for table in TableId::all() {
             let count = columns(*table).len() * layout.count(*table) as usize;

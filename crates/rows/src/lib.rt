@@ -14,9 +14,10 @@
 #![tactic(auto)]
 
 mod keys;
+pub mod laws;
 mod put;
 mod rows;
 
 pub use keys::{Found, Keys, find_key};
-pub use put::{put_row, rows_are_read_again};
+pub use put::put_row;
 pub use rows::Rows;

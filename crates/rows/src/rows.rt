@@ -4,9 +4,9 @@ ghost use Rattle.packed.specs.Offsets.{part};
 ghost use Rattle.schema.specs.Sizes.{IsWidth};
 
 use packed::{u16_at, u32_at};
-use schema::{Layout, cells_stand, tables_end_within};
+use schema::Layout;
 use std::marker::Model;
-use table_schema::{TableId, tables_stand};
+use table_schema::TableId;
 
 /// The number in `width` bytes at offset `offset`.
 fn number_of(bytes: &[u8], offset: usize, width: usize) -> u32
@@ -55,7 +55,7 @@ impl<'a> Rows<'a> {
         requires { IsTableStream bytes.now layout }
         ensures { result ≡ record { bytes = bytes.now; sizes = layout } }
     {
-        tables_end_within();
+        schema::laws::tables_end_within();
         Rows { bytes, layout }
     }
 
@@ -80,8 +80,8 @@ impl<'a> Rows<'a> {
         ensures stands { (numbers : List (List (List ℕ))) → IsLaidOut self.now.bytes self.now.sizes numbers
             → StandsAt self.now.bytes result (number_bytes (cell_width self.now.sizes table column) (number_in numbers table row column)) }
     {
-        tables_stand();
-        cells_stand();
+        table_schema::laws::tables_stand();
+        schema::laws::cells_stand();
         self.layout.cell_start(table, row, column)
     }
 
@@ -96,7 +96,7 @@ impl<'a> Rows<'a> {
             → result ≡ number_in numbers table row column }
         ensures fits { result < 256 ^ cell_width self.now.sizes table column }
     {
-        cells_stand();
+        schema::laws::cells_stand();
         let offset = self.place(table, row, column);
         number_of(self.bytes, offset, self.layout.cell_width(table, column))
     }

@@ -8,6 +8,14 @@ ghost use Rattle.schema.specs.Offsets.{tables_end};
 ghost use Rattle.schema.specs.LaidOut.{number_bytes, IsLaidOut};
 ghost use Rattle.schema.specs.Cells.{HoldsCell};
 
+pub use crate::bit_laws::bits_are_known;
+pub use crate::field_laws::{low_bytes_stand, widths_follow_from_counts};
+use crate::laws;
+pub use crate::read_laws::{numbers_are_read, streams_are_read};
+pub use table_schema::laws::{
+    cells_have_columns, columns_stand, tables_stand, tags_fit, tokens_are_in_order,
+};
+
 /// A column has one, two or four bytes.
 pub fn widths_are_known()
     ensures { (sizes : Sizes) (column : TheColumn) → IsWidth (width_of sizes column) }

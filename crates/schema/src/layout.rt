@@ -77,7 +77,10 @@ impl Layout {
             table_layouts[table_index] = table_layout;
             start += header.count(*table) as usize * table_layout.row_width as usize;
         }
-        Layout { header, table_layouts }
+        Layout {
+            header,
+            table_layouts,
+        }
     }
 
     /// The layout of tables with these row counts, by table number, and this HeapSizes.

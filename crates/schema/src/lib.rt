@@ -19,18 +19,17 @@
 mod bit_laws;
 mod field_laws;
 mod header;
-mod laws;
+pub mod laws;
 mod layout;
 mod name_lists;
-mod table_layout;
 mod read;
 mod read_laws;
+mod table_layout;
 
-pub use bit_laws::bits_are_known;
-pub use field_laws::{low_bytes_stand, widths_follow_from_counts};
-pub use laws::{cells_stand, numbers_are_encoded, stream_is_one, tables_end_within, widths_are_known};
 pub use layout::Layout;
 pub use name_lists::column_names;
 pub use packed::{Fault, FaultCode};
-pub use read_laws::{numbers_are_read, streams_are_read};
-pub use table_schema::{Coded, Column, ColumnKind, SigKind, TableId, Token, cell_count, cells_have_columns, column_of_cell, columns, columns_stand, join, key, split, tables_stand, tags_fit, tokens_are_in_order};
+pub use table_schema::{
+    Coded, Column, ColumnKind, SigKind, TableId, Token, cell_count, column_of_cell, columns, join,
+    key, split,
+};

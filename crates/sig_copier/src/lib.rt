@@ -14,6 +14,7 @@
 
 mod copied_body;
 mod copied_types;
+pub mod laws;
 mod row_checker;
 mod same_body;
 mod same_parts;
@@ -21,4 +22,4 @@ mod same_types;
 
 pub use copied_body::copy_body;
 pub use row_checker::first_bad;
-pub use same_body::{equality_is_tested, is_same};
+pub use same_body::is_same;

@@ -2,9 +2,9 @@ ghost use Rattle.std.specs.Prelude.{◌≡◌};
 ghost use Rattle.sig_grammar.specs.Views.{body_of};
 ghost use Rattle.sig_grammar.specs.Encodes.{tokens, first_bad as first_bad_of};
 
+use sig_encoder::{PartSink, visit_body};
 use sig_grammar::{SigBody, names_row};
 use table_schema::Token;
-use sig_encoder::{PartSink, items_are_parts, visit_body};
 
 /// Searches for a type index whose row does not exist, and stops at the first.
 #[derive(Drop)]
@@ -59,7 +59,7 @@ impl<'a> PartSink for RowChecker<'a> {
 pub fn first_bad(body: &SigBody, counts: &[u32; 45]) -> Option<Token>
     ensures { result ≡ first_bad_of counts.now (tokens (body_of body.now)) }
 {
-    items_are_parts();
+    sig_encoder::laws::items_are_parts();
     let mut checker = RowChecker { counts, bad: None };
     let _ = visit_body(&mut checker, body, u8::MAX);
     checker.bad

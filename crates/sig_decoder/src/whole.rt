@@ -6,9 +6,8 @@ ghost use Rattle.sig_decoder.specs.declared.error.SigError.TheVariants.{Bad};
 
 use crate::columns::body;
 use crate::error::SigError;
-use sig_recogniser::recognise;
 use sig_grammar::SigBody;
-use sig_values::signatures_are_read;
+use sig_recogniser::recognise;
 use std::alloc::Global;
 use table_schema::SigKind;
 
@@ -32,7 +31,7 @@ pub fn decode_body(alloc: Global, bytes: &[u8], kind: SigKind) -> Result<SigBody
     // The result is `Bad` if and only if they encode nothing.
     ensures bad { IsErrOf result Bad ↔ ¬ ((signature : Body) × Encodes kind signature bytes.now) }
 {
-    signatures_are_read();
+    sig_values::laws::signatures_are_read();
     if !recognise(bytes, kind) {
         return Err(SigError::Bad);
     }

@@ -2,12 +2,12 @@ ghost use Rattle.std.specs.Prelude.{◌≡◌, ◌+◌, ◌≤◌, ◌++◌, IfO
 ghost use Rattle.sig_grammar.specs.Views.{body_of};
 ghost use Rattle.sig_grammar.specs.Encodes.{IsEncodable, short};
 
+use crate::bodies::visit_body;
+use crate::laws;
 use crate::length::{DEPTH, encoded_len};
 use crate::writer::Writer;
 use sig_grammar::SigBody;
 use std::alloc::{AllocError, Global};
-use crate::laws::items_are_parts;
-use crate::bodies::visit_body;
 
 /// Appends the canonical encoding of a signature (II.23.2) to the bytes. The signature has an encoding, and
 /// the vector has the capacity for it. So this does not allocate and cannot fail.
@@ -16,7 +16,7 @@ pub fn encode_into(bytes: Vec<u8>, body: &SigBody) -> Vec<u8>
     requires room { vec_len bytes + length (short (body_of body.now)) ≤ vec_capacity bytes }
     ensures { result.items ≡ bytes.items ++ short (body_of body.now) }
 {
-    items_are_parts();
+    laws::items_are_parts();
     let left = bytes.capacity() - bytes.len();
     let mut writer = Writer { bytes, left };
     let _ = visit_body(&mut writer, body, DEPTH);

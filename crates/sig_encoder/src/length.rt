@@ -2,10 +2,10 @@ ghost use Rattle.std.specs.Prelude.{◌≡◌, ◌↔◌, IfSome, IsSome, length
 ghost use Rattle.sig_grammar.specs.Views.{body_of};
 ghost use Rattle.sig_grammar.specs.Encodes.{IsEncodable, short};
 
+use crate::bodies::visit_body;
+use crate::laws;
 use crate::measurer::Measurer;
 use sig_grammar::SigBody;
-use crate::laws::items_are_parts;
-use crate::bodies::visit_body;
 
 /// The greatest depth to which types may nest.
 pub(crate) const DEPTH: u8 = 128;
@@ -24,7 +24,7 @@ pub fn encoded_len(body: &SigBody) -> Option<usize>
     ensures encodable { IsSome result ↔ IsEncodable (body_of body.now) }
     ensures length { IfSome result (λ count. count ≡ length (short (body_of body.now))) }
 {
-    items_are_parts();
+    laws::items_are_parts();
     let mut measurer = Measurer { left: ROOM };
     visit_body(&mut measurer, body, DEPTH)?;
     Some(ROOM - measurer.left)

@@ -19,7 +19,7 @@
 mod bodies;
 mod encode;
 mod items;
-mod laws;
+pub mod laws;
 mod length;
 mod measurer;
 mod sink;
@@ -28,7 +28,6 @@ mod writer;
 
 pub use bodies::visit_body;
 pub use encode::{encode_body, encode_into};
-pub use laws::items_are_parts;
 pub use length::encoded_len;
 pub use sig_grammar::SigBody;
 pub use sink::PartSink;

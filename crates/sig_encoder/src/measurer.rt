@@ -3,9 +3,9 @@ ghost use Rattle.packed.specs.Packed.{short_signed};
 ghost use Rattle.sig_encoder.specs.Run.{after};
 ghost use Rattle.sig_encoder.specs.Lengths.{number_of, take_room};
 
+use crate::sink::PartSink;
 use packed::unsigned_len;
 use table_schema::{Coded, Token, join};
-use crate::sink::PartSink;
 
 /// The least number that is too large for a packed number.
 const TOO_GREAT: usize = 1 << 29;

@@ -4,7 +4,7 @@ ghost use Rattle.sig_grammar.specs.Grammar.{flag, method_code, named_code, count
 ghost use Rattle.sig_encoder.specs.Run.{after, run};
 ghost use Rattle.sig_encoder.specs.Items.{parts_items, level, leaf_items, core_items, first_items, typed_items, types_items, content_items, slot_items, slots_items, ret_items, method_items, may_stand, is_call, stands_at, param_items};
 
-use crate::items::{visit_rule, visit_modifiers, visit_shape};
+use crate::items::{visit_modifiers, visit_rule, visit_shape};
 use crate::sink::PartSink;
 use sig_grammar::element_type::{
     ARRAY, BYREF, CLASS, FNPTR, GENERICINST, MVAR, PTR, SENTINEL, SZARRAY, TYPEDBYREF, VALUETYPE,

@@ -3,11 +3,11 @@ ghost use Rattle.packed.specs.Packed.{short_unsigned, short_signed};
 ghost use Rattle.sig_encoder.specs.Run.{after};
 ghost use Rattle.sig_encoder.specs.Written.{put_short};
 
-use crate::measurer::{index_number, signed_len, encoded_number};
+use crate::measurer::{encoded_number, index_number, signed_len};
+use crate::sink::PartSink;
 use packed::{put_signed, put_unsigned, unsigned_len};
 use std::marker::Model;
 use table_schema::Token;
-use crate::sink::PartSink;
 
 /// Appends an encoding to bytes, within the capacity that was reserved for it.
 #[derive(Drop)]

@@ -2,14 +2,14 @@ ghost use Rattle.std.specs.Prelude.{◌≡◌};
 ghost use Rattle.sig_grammar.specs.Reading.{token_of};
 ghost use Rattle.sig_grammar.specs.Encodes.{has_row};
 
-use crate::laws::indexes_are_read;
+use crate::laws;
 use table_schema::{Coded, Token, split};
 
 /// The token that a type index encodes (II.23.2.8): a row of TypeDef, TypeRef or TypeSpec. `None` if its tag is 3.
 pub fn token_of_index(number: u32) -> Option<Token>
     ensures { result ≡ token_of number }
 {
-    indexes_are_read();
+    laws::indexes_are_read();
     let (table, row) = split(Coded::TypeDefOrRef, number)?;
     Some(Token { table, row })
 }

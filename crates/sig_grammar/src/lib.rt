@@ -17,12 +17,11 @@ mod body;
 mod element;
 pub mod element_type;
 mod index;
-mod laws;
+pub mod laws;
 pub mod method_byte;
 mod types;
 
 pub use body::{FieldSig, InstanceSig, Local, LocalsSig, Prefix, PropertySig, SigBody};
 pub use element::Element;
 pub use index::{names_row, token_of_index};
-pub use laws::indexes_are_read;
 pub use types::{Core, MethodSig, Modifier, Ret, Shape, Slot, SlotKind, TypeSig};

@@ -10,12 +10,11 @@ use crate::follow::followed;
 use crate::frames::Frames;
 use crate::item::Item;
 use crate::methods::method;
-use crate::table_layout::Position;
 use crate::shape::{low_bound, low_count, shape, size};
 use crate::step::Step;
+use crate::table_layout::Position;
 use crate::types::{local, marked, ret, slot, target, typed};
 use sig_recogniser::recognise;
-use sig_values::signatures_are_read;
 use std::marker::Model;
 use table_schema::SigKind;
 
@@ -70,7 +69,7 @@ impl<'a> Items<'a> {
         ensures sound { IfSome result (λ items. (signature : Body) × Encodes kind signature bytes.now × (items ≡ items_of signature)) }
         ensures complete { (signature : Body) → Encodes kind signature bytes.now → IsSomeAnd result (λ items. items ≡ items_of signature) }
     {
-        signatures_are_read();
+        sig_values::laws::signatures_are_read();
         if !recognise(bytes, kind) {
             return None;
         }

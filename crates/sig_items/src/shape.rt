@@ -4,8 +4,8 @@ ghost use Rattle.sig_items.specs.Positions.{position_at, sizes_at, bounds_at, ne
 ghost use Rattle.sig_items.specs.Steps.{reported, IsWithin};
 
 use crate::item::Item;
-use crate::table_layout::Position;
 use crate::step::Step;
+use crate::table_layout::Position;
 use sig_recogniser::{number, signed};
 
 /// The position of `count` sizes of an array, and then its lower bounds.
@@ -49,7 +49,11 @@ pub fn shape(bytes: &[u8]) -> Option<Step<'_>>
     if rank < sizes {
         return None;
     }
-    Some(Step::before(Item::Shape { rank, sizes }, sizes_position(sizes, rank), tail))
+    Some(Step::before(
+        Item::Shape { rank, sizes },
+        sizes_position(sizes, rank),
+        tail,
+    ))
 }
 
 /// Reads a size, with `further` sizes after it.

@@ -1,8 +1,8 @@
 ghost use Rattle.std.specs.Prelude.{◌≡◌, option_map};
 ghost use Rattle.sig_recogniser.specs.Skips.{left, skip_core, skip_many, skip_slot, skip_typed, skip_local, skip_counted, skip_headed, skip_body};
 
-use crate::type_index::after_prefixes;
 use crate::tail::{Tail, byte, number};
+use crate::type_index::after_prefixes;
 use crate::walk::{after_content, after_method, after_ret, after_slot, after_types};
 use table_schema::SigKind;
 

@@ -4,10 +4,10 @@ ghost use Rattle.sig_grammar.specs.Parts.{part_tokens};
 ghost use Rattle.sig_grammar.specs.Grammar.{prefix_parts};
 ghost use Rattle.sig_recogniser.specs.Skips.{left, noted, skip_index, skip_modifiers, skip_prefixes};
 
+use crate::head::index;
+use crate::items::{has_modifier, has_prefix, modifier, prefix};
 use crate::tail::Tail;
 use sig_grammar::{Prefix, names_row};
-use crate::items::{has_modifier, has_prefix, modifier, prefix};
-use crate::head::index;
 use table_schema::Token;
 
 /// The first token without a row, after one more token.

@@ -1,15 +1,15 @@
 ghost use Rattle.std.specs.Prelude.{◌≡◌, ◌/◌, ◌%◌, ◌==◌, option_map};
 ghost use Rattle.sig_recogniser.specs.Skips.{left, skip_core, skip_by, skip_typed, skip_target, skip_instance, skip_many, skip_content, skip_slot, skip_ret, skip_params, skip_generic, skip_method};
 
-use crate::type_index::{after_index, after_modifiers};
-use crate::tail::{Tail, after_number, byte, number};
+use crate::head::sentinel;
 use crate::shape::after_shape;
+use crate::tail::{Tail, after_number, byte, number};
+use crate::type_index::{after_index, after_modifiers};
 use sig_grammar::Element;
 use sig_grammar::element_type::{
     ARRAY, BYREF, CLASS, FNPTR, GENERICINST, MVAR, PTR, SZARRAY, TYPEDBYREF, VALUETYPE, VAR, VOID,
 };
 use sig_grammar::method_byte::{begins_method, is_generic, may_have_sentinel};
-use crate::head::sentinel;
 
 /// The remainder after a core of at most the given depth (II.23.2.12).
 #[cycle(walk)]

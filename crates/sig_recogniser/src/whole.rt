@@ -4,7 +4,6 @@ ghost use Rattle.sig_grammar.specs.Encodes.{Encodes, tokens, first_bad};
 
 use crate::columns::after_body;
 use crate::tail::Tail;
-use sig_values::signatures_are_read;
 use table_schema::{SigKind, Token};
 
 /// The greatest depth to which types may nest.
@@ -26,7 +25,7 @@ pub fn recognise_first_bad(bytes: &[u8], kind: SigKind, counts: &[u32; 45]) -> O
     ensures sound { IfSome result (λ bad. (signature : Body) × Encodes kind signature bytes.now × (bad ≡ first_bad counts.now (tokens signature))) }
     ensures complete { (signature : Body) → Encodes kind signature bytes.now → result ≡ Some (first_bad counts.now (tokens signature)) }
 {
-    signatures_are_read();
+    sig_values::laws::signatures_are_read();
     if bytes.len() >= TOO_MANY {
         return None;
     }
@@ -46,7 +45,7 @@ pub fn recognise(bytes: &[u8], kind: SigKind) -> bool
     // No bytes encode two signatures.
     ensures one { (first second : Body) → Encodes kind first bytes.now → Encodes kind second bytes.now → first ≡ second }
 {
-    signatures_are_read();
+    sig_values::laws::signatures_are_read();
     recognise_first_bad(bytes, kind, &NO_ROWS).is_some()
 }
 

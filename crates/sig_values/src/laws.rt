@@ -8,7 +8,7 @@ ghost use Rattle.sig_grammar.specs.Encodes.{Holds, Encodes, IsEncodable, HasRow,
 ghost use Rattle.sig_grammar.specs.Reading.{core_at};
 ghost use Rattle.sig_grammar.specs.Columns.{body_at};
 
-use packed::numbers_are_read;
+pub use sig_grammar::laws::indexes_are_read;
 
 /// A signature that bytes encode is read from them. If fewer than 2^29 bytes are read to their end, they
 /// encode what is read. So no bytes encode two signatures in a column of one kind.
@@ -20,7 +20,7 @@ pub fn signatures_are_read()
     ensures one { (kind : SigKind) (first second : Body) (bytes : List ℕ) → Encodes kind first bytes → Encodes kind second bytes
         → first ≡ second }
 {
-    numbers_are_read();
+    packed::laws::numbers_are_read();
 }
 
 /// If a signature has an encoding, its canonical encoding encodes it, in each kind of column that holds it.

@@ -14,14 +14,10 @@
 //! ```
 #![tactic(auto)]
 
-mod laws;
+pub mod laws;
 
-pub use laws::{
-    first_bad_is_first, indexes_name_types, shortest_encodes, signatures_are_read,
-    encoded_is_encodable,
-};
 pub use sig_grammar::{
     Core, Element, FieldSig, InstanceSig, Local, LocalsSig, MethodSig, Modifier, Prefix,
-    PropertySig, Ret, Shape, SigBody, Slot, SlotKind, TypeSig, element_type, indexes_are_read,
-    method_byte, names_row, token_of_index,
+    PropertySig, Ret, Shape, SigBody, Slot, SlotKind, TypeSig, element_type, method_byte,
+    names_row, token_of_index,
 };

@@ -4,7 +4,6 @@ ghost use Rattle.sig_grammar.specs.Syntax.{Body};
 ghost use Rattle.sig_grammar.specs.Encodes.{Holds, Encodes, IsEncodable, short};
 
 use crate::signature::Signature;
-use sig_values::{shortest_encodes, signatures_are_read};
 
 /// The bytes that [`encode`](crate::encode) writes decode to the same signature. In each kind of column that
 /// holds the signature, its canonical encoding encodes it and no other.
@@ -14,8 +13,8 @@ pub fn encoded_is_decoded()
     ensures one { (kind : SigKind) (signature other : Body) → Holds kind signature → IsEncodable signature
         → Encodes kind other (short signature) → other ≡ signature }
 {
-    shortest_encodes();
-    signatures_are_read();
+    sig_values::laws::shortest_encodes();
+    sig_values::laws::signatures_are_read();
 }
 
 /// `==` is true of two signatures if and only if they are equal: if their content is the same.

@@ -14,15 +14,14 @@
 #![tactic(auto)]
 
 mod columns;
-mod laws;
+pub mod laws;
 mod signature;
 
 pub use sig_decoder::SigError;
-pub use laws::{encoded_is_decoded, equality_is_tested};
-pub use sig_recogniser::{index_of_first_bad, recognise, recognise_first_bad};
 pub use sig_grammar::{
     Core, Element, FieldSig, InstanceSig, Local, LocalsSig, MethodSig, Modifier, Prefix,
     PropertySig, Ret, Shape, SigBody, Slot, SlotKind, TypeSig,
 };
-pub use signature::{Signature, decode, encode, canonical_encoding};
+pub use sig_recogniser::{index_of_first_bad, recognise, recognise_first_bad};
+pub use signature::{Signature, canonical_encoding, decode, encode};
 pub use table_schema::{SigKind, Token};

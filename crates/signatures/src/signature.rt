@@ -12,7 +12,6 @@ use sig_copier::{copy_body, first_bad, is_same};
 use sig_decoder::{SigError, decode_body};
 use sig_encoder::{encode_body, encoded_len};
 use sig_grammar::SigBody;
-use sig_values::encoded_is_encodable;
 use std::alloc::{AllocError, Global};
 use std::marker::Model;
 use table_schema::{SigKind, Token};
@@ -139,7 +138,7 @@ pub fn decode(alloc: Global, bytes: &[u8], kind: SigKind) -> Result<Signature, S
     // The result is `Bad` if and only if they encode nothing.
     ensures bad { IsErrOf result Bad ↔ ¬ ((signature : Body) × Encodes kind signature bytes.now) }
 {
-    encoded_is_encodable();
+    sig_values::laws::encoded_is_encodable();
     let body = decode_body(alloc, bytes, kind)?;
     Ok(Signature { body })
 }
@@ -156,7 +155,7 @@ pub fn canonical_encoding(alloc: Global, bytes: &[u8], kind: SigKind) -> Result<
     // The result is `Bad` if and only if they encode nothing.
     ensures bad { IsErrOf result Bad ↔ ¬ ((signature : Body) × Encodes kind signature bytes.now) }
 {
-    encoded_is_encodable();
+    sig_values::laws::encoded_is_encodable();
     let signature = decode(alloc, bytes, kind)?;
     let encoding = encode(alloc, &signature);
     drop(signature);

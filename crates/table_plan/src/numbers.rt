@@ -10,10 +10,10 @@ ghost use Rattle.metadata.specs.Metadata.{rows_of, count_in};
 ghost use Rattle.root_writer.specs.Numbered.{Numbered, CanBeNumbered, IsOver, with_cell, with_next_cell, with_row, with_rows, with_tables, none_numbered, numbers_in};
 
 use heap_pools::PoolError;
-use root_writer::{Numbering, heaps_stay_too_long, row_number};
+use root_writer::{Numbering, row_number};
 use signatures::encode;
 use std::alloc::Global;
-use table_schema::{Column, ColumnKind, TableId, columns, columns_stand};
+use table_schema::{Column, ColumnKind, TableId, columns};
 use tables::{Cell, Row, Tables};
 
 /// The number of numbers in the rows of all tables, one per column.
@@ -21,7 +21,7 @@ fn count_numbers(tables: &Tables) -> usize
     requires { (table : Table) → count_in tables.now table ≤ 0xFFFFFF }
     ensures { result ≡ sum_by (numbers_in tables.now) all_tables }
 {
-    columns_stand();
+    table_schema::laws::columns_stand();
     let mut count = 0;
     for table in TableId::all() {
         count += columns(*table).len() * tables.count(*table);
@@ -102,7 +102,7 @@ fn put_row(
     ensures ok { OnOk result (numbering.new ≡ with_row indexes.now columns.now (all_said cells.now) numbering.old) }
     ensures full { result ≡ Err PoolError.Full → IsOver (with_row indexes.now columns.now (all_said cells.now) numbering.old) }
 {
-    heaps_stay_too_long();
+    root_writer::laws::heaps_stay_too_long();
     let mut tail = cells;
     for column in columns {
         tail = put_next(alloc, numbering, indexes, column.kind, tail)?;
@@ -122,7 +122,7 @@ fn put_rows(
     ensures ok { OnOk result (numbering.new ≡ with_rows indexes.now columns.now rows.now numbering.old) }
     ensures full { result ≡ Err PoolError.Full → IsOver (with_rows indexes.now columns.now rows.now numbering.old) }
 {
-    heaps_stay_too_long();
+    root_writer::laws::heaps_stay_too_long();
     for row in rows {
         put_row(alloc, numbering, indexes, columns, row.as_slice())?;
     }
@@ -140,7 +140,7 @@ fn put_tables(
     ensures ok { OnOk result (numbering.new ≡ with_tables indexes.now tables.now all_tables numbering.old) }
     ensures full { result ≡ Err PoolError.Full → IsOver (with_tables indexes.now tables.now all_tables numbering.old) }
 {
-    heaps_stay_too_long();
+    root_writer::laws::heaps_stay_too_long();
     for table in TableId::all() {
         put_rows(
             alloc,

@@ -8,7 +8,7 @@ ghost use Rattle.root_writer.specs.Numbered.{IsNumbering, IsTooLong};
 use crate::numbers::numbers_of;
 use crate::texts::text_pool;
 use heap_pools::{PoolError, TextPool};
-use root_writer::{Numbering, cells_can_be_numbered, numberings_are_of_models};
+use root_writer::Numbering;
 use std::alloc::Global;
 use tables::Tables;
 
@@ -25,8 +25,8 @@ pub fn pools_of_tables(alloc: Global, tables: &Tables) -> Result<(TextPool, Numb
     ensures pools { IfOk result (λ pools. (pools.0.entries ≡ (pools_of tables.now).texts) × IsNumbering tables.now pools.1) }
     ensures full { result ≡ Err PoolError.Full → (2 ^ 30 < length (text_heap (pools_of tables.now).texts)) ⊎ IsTooLong tables.now }
 {
-    cells_can_be_numbered();
-    numberings_are_of_models();
+    root_writer::laws::cells_can_be_numbered();
+    root_writer::laws::numberings_are_of_models();
     let texts = text_pool(alloc, tables)?;
     let numbering = numbers_of(alloc, texts.indexes(), tables)?;
     Ok((texts, numbering))

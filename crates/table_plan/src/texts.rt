@@ -7,9 +7,8 @@ ghost use Rattle.metadata.specs.Valid.{IsValid};
 ghost use Rattle.canonical.specs.Pools.{texts_of, used, pools_of};
 
 use heap_pools::{PoolError, TextPool};
-use root_writer::cells_can_be_numbered;
 use std::alloc::{AllocError, Global};
-use table_schema::{TableId, tables_stand};
+use table_schema::TableId;
 use tables::{Cell, Row, Tables};
 
 /// Adds the text of a cell, if it is a text.
@@ -48,7 +47,7 @@ fn used_texts<'a>(alloc: Global, tables: &'a Tables) -> Result<Vec<&'a str>, All
     requires valid { IsValid tables.now }
     ensures { IfOk result (λ texts. bytes_of texts.items ≡ used texts_of tables.now) }
 {
-    tables_stand();
+    table_schema::laws::tables_stand();
     let mut texts = Vec::new(alloc);
     for table in TableId::all() {
         add_rows(&mut texts, tables.rows(*table))?;
@@ -63,7 +62,7 @@ pub fn text_pool(alloc: Global, tables: &Tables) -> Result<TextPool, PoolError>
     ensures indexes { IfOk result (λ pool. pool.indexes ≡ map (text_index (pools_of tables.now).texts) (used texts_of tables.now)) }
     ensures full { result ≡ Err PoolError.Full → 2 ^ 30 < length (text_heap (pools_of tables.now).texts) }
 {
-    cells_can_be_numbered();
+    root_writer::laws::cells_can_be_numbered();
     let texts = used_texts(alloc, tables)?;
     TextPool::plan(alloc, &texts)
 }

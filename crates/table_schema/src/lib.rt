@@ -15,15 +15,14 @@ mod coded;
 mod coded_index;
 mod column;
 mod column_lists;
-mod laws;
+pub mod laws;
 mod table;
 mod token;
 
-pub use cell_columns::{cell_count, cells_have_columns, column_of_cell};
+pub use cell_columns::{cell_count, column_of_cell};
 pub use coded::Coded;
 pub use coded_index::{join, split};
 pub use column::{Column, ColumnKind, SigKind};
 pub use column_lists::{columns, key};
-pub use laws::{columns_stand, tables_stand, tags_fit};
 pub use table::TableId;
-pub use token::{Token, tokens_are_in_order};
+pub use token::Token;

@@ -5,7 +5,6 @@ ghost use Rattle.metadata.specs.Metadata.{Metadata, rows_of};
 ghost use Rattle.tables.specs.Push.{with_row};
 
 use crate::tables::Tables;
-use table_schema::tables_stand;
 
 /// `==` is true of two tables if and only if their versions, user bytes and cells are equal.
 pub fn equality_is_tested()
@@ -22,5 +21,5 @@ pub fn rows_are_added()
         → rows_of (with_row model table row) other ≡ rows_of model other }
     ensures tables { (model : Metadata) (table : Table) (row : List Cell) → length (with_row model table row).tables ≡ length model.tables }
 {
-    tables_stand();
+    table_schema::laws::tables_stand();
 }

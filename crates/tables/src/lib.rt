@@ -21,14 +21,13 @@ mod bytes;
 mod cell;
 mod cell_laws;
 mod kinds;
-mod laws;
+pub mod laws;
 mod table_rows;
 mod tables;
 mod text;
 
 pub use bytes::Bytes;
 pub use cell::Cell;
-pub use laws::{equality_is_tested, rows_are_added};
 pub use signatures::Signature;
 pub use table_rows::Row;
 pub use table_schema::{ColumnKind, TableId, Token};

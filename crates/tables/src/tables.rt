@@ -4,9 +4,9 @@ ghost use Rattle.tables.specs.Said.{all_said};
 ghost use Rattle.metadata.specs.Metadata.{rows_of, row_of, count_in};
 ghost use Rattle.tables.specs.Push.{with_row};
 
-use crate::table_rows::{Row, Rows};
 use crate::bytes::Bytes;
 use crate::cell::Cell;
+use crate::table_rows::{Row, Rows};
 use crate::text::Text;
 use std::alloc::{AllocError, Global};
 use std::array;

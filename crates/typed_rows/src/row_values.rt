@@ -8,10 +8,8 @@ ghost use Rattle.records.specs.Shapes.{AreHeld, AreSaid};
 ghost use Rattle.typed_rows.specs.RefRows.{IsShown, HoldsAt, SaysAt};
 
 use crate::ref_row::RefRow;
-use metadata::{models_are_read, models_of_roots_are_valid};
 use opening::{CellRef, TableId, View};
-use records::{blobs_say_signatures, cells_have_kinds, valid_rows_are_of_kinds};
-use table_schema::{cell_count, columns_stand};
+use table_schema::cell_count;
 
 /// The values of a row's cells, by their indexes.
 fn values_of<'a>(view: &View<'a>, table: TableId, row: u32) -> [CellRef<'a>; 9]
@@ -20,7 +18,7 @@ fn values_of<'a>(view: &View<'a>, table: TableId, row: u32) -> [CellRef<'a>; 9]
     ensures { (model : Metadata) → IsModel view.now model → (cell_index : ℕ) → cell_index < cell_count table
         → IsShown (slice_get result cell_index) table cell_index (cell_in model table row cell_index) }
 {
-    columns_stand();
+    table_schema::laws::columns_stand();
     let mut values = [CellRef::Number(0); 9];
     for cell_index in 0..cell_count(table) {
         values[cell_index] = view.cell(table, row, cell_index);
@@ -37,11 +35,11 @@ pub fn cells_of<'a>(view: &View<'a>, table: TableId, row: u32) -> RefRow<'a>
     // They denote the cells of the row in every model.
     ensures model { (model : Metadata) → IsModel view.now model → AreSaid (SaysAt result) 0 (kinds_of table) (row_of model table row) }
 {
-    models_are_read();
-    models_of_roots_are_valid();
-    valid_rows_are_of_kinds();
-    cells_have_kinds();
-    blobs_say_signatures();
+    metadata::laws::models_are_read();
+    metadata::laws::models_of_roots_are_valid();
+    records::laws::valid_rows_are_of_kinds();
+    records::laws::cells_have_kinds();
+    records::laws::blobs_say_signatures();
     // The root has a model.
     let _root = view.root();
     RefRow {

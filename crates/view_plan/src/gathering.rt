@@ -9,7 +9,7 @@ ghost use Rattle.root_writer.specs.Numbered.{none_numbered, with_blob, with_guid
 ghost use Rattle.view_plan.specs.Known.{IsKnown};
 
 use crate::shortest::shortest;
-use heap_pools::{PoolError, indexes_stay};
+use heap_pools::PoolError;
 use indexmap::IndexMap;
 use root_writer::Numbering;
 use std::alloc::{AllocError, Global};
@@ -79,7 +79,7 @@ impl<'a> Gathering<'a> {
         ensures index { IfOk result (λ index. index ≡ blob_index self.new.blobs blob.now) }
         ensures full { result ≡ Err PoolError.Full → 2 ^ 30 < length (blob_heap (pooled self.old.blobs blob.now)) }
     {
-        indexes_stay();
+        heap_pools::laws::indexes_stay();
         self.numbering.put_blob(blob)
     }
 

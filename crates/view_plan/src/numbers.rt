@@ -16,11 +16,10 @@ ghost use Rattle.view_plan.specs.CellIndexes.{IsCellIndexOf};
 
 use crate::gathering::Gathering;
 use heap_pools::PoolError;
-use metadata::{models_are_read, models_of_roots_are_valid};
 use opening::{CellRef, View};
-use root_writer::{Numbering, cells_can_be_numbered, heaps_stay_too_long, row_number};
+use root_writer::{Numbering, row_number};
 use std::alloc::Global;
-use table_schema::{ColumnKind, TableId, column_of_cell, columns, columns_stand, tables_stand};
+use table_schema::{ColumnKind, TableId, column_of_cell, columns};
 
 /// The number of a signature blob in a column of a kind. Its canonical encoding is pooled.
 fn signature_number<'a>(
@@ -83,9 +82,9 @@ fn put_cell<'a>(
     ensures full { (model : Metadata) → IsModel view.now model → result ≡ Err PoolError.Full
         → IsOver (with_cell indexes.now (kind_at table cell_index) (cell_in model table row cell_index) gathering.old) }
 {
-    models_are_read();
-    models_of_roots_are_valid();
-    cells_can_be_numbered();
+    metadata::laws::models_are_read();
+    metadata::laws::models_of_roots_are_valid();
+    root_writer::laws::cells_can_be_numbered();
     // The root has a model.
     let _root = view.root();
     let kind = columns(table)[column_of_cell(table, cell_index)].kind;
@@ -121,8 +120,8 @@ fn put_next<'a>(
         → IsOver (with_next_cell (is_padding (column_at table index).kind) (with_cell indexes.now (column_at table index).kind)
         tail (drop cell_index (row_of model table row)) gathering.old) }
 {
-    models_are_read();
-    columns_stand();
+    metadata::laws::models_are_read();
+    table_schema::laws::columns_stand();
     match columns(table)[index].kind {
         ColumnKind::Padding => {
             gathering.put_number(0)?;
@@ -150,7 +149,7 @@ fn put_row<'a>(
     ensures full { (model : Metadata) → IsModel view.now model → result ≡ Err PoolError.Full
         → IsOver (with_row indexes.now (columns_of table) (row_of model table row) gathering.old) }
 {
-    heaps_stay_too_long();
+    root_writer::laws::heaps_stay_too_long();
     let mut cell_index = 0;
     for index in 0..columns(table).len() {
         cell_index = put_next(gathering, indexes, view, table, row, index, cell_index)?;
@@ -170,7 +169,7 @@ fn put_rows<'a>(
     ensures full { (model : Metadata) → IsModel view.now model → result ≡ Err PoolError.Full
         → IsOver (with_rows indexes.now (columns_of table) (rows_of model table) gathering.old) }
 {
-    heaps_stay_too_long();
+    root_writer::laws::heaps_stay_too_long();
     let count = view.count(table);
     for row in 0..count {
         put_row(gathering, indexes, view, table, row + 1)?;
@@ -180,7 +179,7 @@ fn put_rows<'a>(
 
 /// The number of numbers in the rows of all tables, one per column.
 fn count_numbers(view: &View) -> usize {
-    columns_stand();
+    table_schema::laws::columns_stand();
     let mut count = 0;
     for table in TableId::all() {
         count += columns(*table).len() * view.count(*table) as usize;
@@ -199,8 +198,8 @@ fn put_tables<'a>(
     ensures full { (model : Metadata) → IsModel view.now model → result ≡ Err PoolError.Full
         → IsOver (with_tables indexes.now model all_tables gathering.old) }
 {
-    heaps_stay_too_long();
-    tables_stand();
+    root_writer::laws::heaps_stay_too_long();
+    table_schema::laws::tables_stand();
     for table in TableId::all() {
         put_rows(gathering, indexes, view, *table)?;
     }

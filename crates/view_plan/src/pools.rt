@@ -9,9 +9,8 @@ ghost use Rattle.root_writer.specs.Numbered.{IsNumbering, IsTooLong};
 use crate::numbers::numbers_of;
 use crate::texts::used_texts;
 use heap_pools::{PoolError, TextPool};
-use metadata::models_of_roots_are_valid;
 use opening::View;
-use root_writer::{Numbering, cells_can_be_numbered, numberings_are_of_models};
+use root_writer::Numbering;
 use std::alloc::Global;
 
 /// The strings heap of the canonical root, planned from the texts of all cells, and their indexes in order of use
@@ -23,8 +22,8 @@ fn text_pool(alloc: Global, view: &View) -> Result<TextPool, PoolError>
     ensures full { (model : Metadata) → IsModel view.now model → result ≡ Err PoolError.Full
         → 2 ^ 30 < length (text_heap (pools_of model).texts) }
 {
-    models_of_roots_are_valid();
-    cells_can_be_numbered();
+    metadata::laws::models_of_roots_are_valid();
+    root_writer::laws::cells_can_be_numbered();
     // The root has a model.
     let _root = view.root();
     let texts = used_texts(alloc, view)?;
@@ -46,8 +45,8 @@ pub fn pools_of_view<'a>(alloc: Global, view: &View<'a>) -> Result<(TextPool, Nu
     ensures full { (model : Metadata) → IsModel view.now model → result ≡ Err PoolError.Full
         → (2 ^ 30 < length (text_heap (pools_of model).texts)) ⊎ IsTooLong model }
 {
-    models_of_roots_are_valid();
-    numberings_are_of_models();
+    metadata::laws::models_of_roots_are_valid();
+    root_writer::laws::numberings_are_of_models();
     let texts = text_pool(alloc, view)?;
     let numbering = numbers_of(alloc, texts.indexes(), view)?;
     Ok((texts, numbering))

@@ -6,10 +6,9 @@ ghost use Rattle.metadata.specs.Model.{IsModel};
 ghost use Rattle.opening.specs.Views.{row_count};
 ghost use Rattle.canonical.specs.Pools.{texts_of, used};
 
-use metadata::{models_are_read, models_of_roots_are_valid};
 use opening::{CellRef, View};
 use std::alloc::{AllocError, Global};
-use table_schema::{ColumnKind, TableId, cell_count, column_of_cell, columns, tables_stand};
+use table_schema::{ColumnKind, TableId, cell_count, column_of_cell, columns};
 
 /// Adds the text of a cell, if it is a text. No other column is read.
 fn add_cell<'a>(
@@ -25,8 +24,8 @@ fn add_cell<'a>(
     ensures { (model : Metadata) → IsModel view.now model
         → OnOk result (bytes_of texts.new.items ≡ bytes_of texts.old.items ++ texts_of (cell_in model table row cell_index)) }
 {
-    models_are_read();
-    models_of_roots_are_valid();
+    metadata::laws::models_are_read();
+    metadata::laws::models_of_roots_are_valid();
     let ColumnKind::Text = columns(table)[column_of_cell(table, cell_index)].kind else {
         return Ok(());
     };
@@ -48,7 +47,7 @@ fn add_row<'a>(
     ensures { (model : Metadata) → IsModel view.now model
         → OnOk result (bytes_of texts.new.items ≡ bytes_of texts.old.items ++ flat_map texts_of (row_of model table row)) }
 {
-    models_are_read();
+    metadata::laws::models_are_read();
     for cell_index in 0..cell_count(table) {
         add_cell(texts, view, table, row, cell_index)?;
     }
@@ -72,8 +71,8 @@ fn add_rows<'a>(texts: &mut Vec<&'a str>, view: &View<'a>, table: TableId) -> Re
 pub fn used_texts<'a>(alloc: Global, view: &View<'a>) -> Result<Vec<&'a str>, AllocError>
     ensures { (model : Metadata) → IsModel view.now model → IfOk result (λ texts. bytes_of texts.items ≡ used texts_of model) }
 {
-    models_are_read();
-    tables_stand();
+    metadata::laws::models_are_read();
+    table_schema::laws::tables_stand();
     let mut texts = Vec::new(alloc);
     for table in TableId::all() {
         add_rows(&mut texts, view, *table)?;

@@ -5,7 +5,6 @@ ghost use Rattle.canonical.specs.Canonical.{canonical};
 ghost use Rattle.root_plan.specs.Errors.{MatchError};
 
 use crate::planned::plan_of;
-use metadata::models_of_roots_are_valid;
 use opening::View;
 use root_plan::{Prepared, WriteError, make};
 use std::alloc::Global;
@@ -27,7 +26,7 @@ pub fn prepare_view(alloc: Global, view: &View, limit: u32) -> Result<Prepared, 
     ensures refused { (model : Metadata) → IsModel view.now model
         → IfErr result (MatchError (limit < length (canonical model)) ⊤ (λ given. ⊥)) }
 {
-    models_of_roots_are_valid();
+    metadata::laws::models_of_roots_are_valid();
     let plan = plan_of(alloc, view, limit)?;
     // The root has a model.
     let _root = view.root();

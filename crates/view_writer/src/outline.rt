@@ -3,7 +3,6 @@ ghost use Rattle.metadata.specs.Model.{IsModel};
 ghost use Rattle.root_plan.specs.Outlined.{Describes};
 
 use crate::tables_reported;
-use metadata::{models_are_read, models_of_roots_are_valid};
 use opening::View;
 use root_plan::Outline;
 
@@ -11,8 +10,8 @@ use root_plan::Outline;
 pub fn outline_of<'a>(view: &View<'a>) -> Outline<'a>
     ensures { (model : Metadata) → IsModel view.now model → Describes result model }
 {
-    models_of_roots_are_valid();
-    models_are_read();
+    metadata::laws::models_of_roots_are_valid();
+    metadata::laws::models_are_read();
     // The root has a model.
     let _root = view.root();
     Outline {

@@ -8,8 +8,8 @@ ghost use Rattle.root_plan.specs.Planned.{ArePooled, IsRootPlan};
 use crate::outline::outline_of;
 use heap_pools::TextPool;
 use opening::View;
+use root_plan::{PlanError, RootPlan};
 use root_writer::Numbering;
-use root_plan::{PlanError, RootPlan, streams_are_within_roots};
 use std::alloc::Global;
 use view_plan::pools_of_view;
 
@@ -18,7 +18,7 @@ fn pools(alloc: Global, view: &View) -> Result<(TextPool, Numbering), PlanError>
     ensures pools { (model : Metadata) → IsModel view.now model → IfOk result (λ pools. ArePooled model pools.0 pools.1) }
     ensures too_large { (model : Metadata) → IsModel view.now model → result ≡ Err PlanError.TooLarge → 2 ^ 30 < length (canonical model) }
 {
-    streams_are_within_roots();
+    root_plan::laws::streams_are_within_roots();
     Ok(pools_of_view(alloc, view)?)
 }
 

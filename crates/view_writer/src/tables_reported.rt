@@ -7,18 +7,15 @@ ghost use Rattle.metadata.specs.Model.{IsModel};
 ghost use Rattle.canonical.specs.TableStream.{is_sorted as is_sorted_in};
 ghost use Rattle.opening.specs.Views.{row_count};
 
-use canonical::sorted_bits_report_order;
-use metadata::models_of_roots_are_valid;
 use opening::View;
 use root_plan::bit;
-use schema::bits_are_known;
-use table_schema::{TableId, key, tables_stand};
+use table_schema::{TableId, key};
 
 /// The row count of each table, by table number.
 pub fn counts(view: &View) -> [u32; 45]
     ensures { (table : Table) → slice_index result (table_number table) ≡ row_count view.now table }
 {
-    tables_stand();
+    table_schema::laws::tables_stand();
     let mut counts = [0; 45];
     for table in TableId::all() {
         counts[table.number() as usize] = view.count(*table);
@@ -30,8 +27,8 @@ pub fn counts(view: &View) -> [u32; 45]
 fn is_sorted(view: &View, table: TableId) -> bool
     ensures { (model : Metadata) → IsModel view.now model → result ≡ is_sorted_in model table }
 {
-    sorted_bits_report_order();
-    models_of_roots_are_valid();
+    canonical::laws::sorted_bits_report_order();
+    metadata::laws::models_of_roots_are_valid();
     key(table).is_some() && view.in_order(table)
 }
 
@@ -39,7 +36,7 @@ fn is_sorted(view: &View, table: TableId) -> bool
 pub fn sorted(view: &View) -> u64
     ensures { (model : Metadata) → IsModel view.now model → result ≡ bits_of (is_sorted_in model) tables }
 {
-    bits_are_known();
+    schema::laws::bits_are_known();
     // The root has a model.
     let _root = view.root();
     let mut sorted = 0;

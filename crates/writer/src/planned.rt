@@ -7,8 +7,8 @@ ghost use Rattle.root_plan.specs.Planned.{ArePooled, IsRootPlan};
 use crate::outline::outline_of;
 use heap_pools::TextPool;
 use owned_model::{Model, Tables};
+use root_plan::{PlanError, RootPlan};
 use root_writer::Numbering;
-use root_plan::{PlanError, RootPlan, streams_are_within_roots};
 use std::alloc::Global;
 use table_plan::pools_of_tables;
 
@@ -18,7 +18,7 @@ fn pools(alloc: Global, tables: &Tables) -> Result<(TextPool, Numbering), PlanEr
     ensures pools { IfOk result (λ pools. ArePooled tables.now pools.0 pools.1) }
     ensures too_large { result ≡ Err PlanError.TooLarge → 2 ^ 30 < length (canonical tables.now) }
 {
-    streams_are_within_roots();
+    root_plan::laws::streams_are_within_roots();
     Ok(pools_of_tables(alloc, tables)?)
 }
 

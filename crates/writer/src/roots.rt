@@ -6,7 +6,6 @@ ghost use Rattle.canonical.specs.Canonical.{canonical};
 ghost use Rattle.root_plan.specs.Errors.{MatchError};
 
 use crate::canonical_root::prepare;
-use canonical::{canonical_root_has_its_model, canonical_root_is_one};
 use owned_model::Model;
 use root_plan::{Sink, WriteError};
 use std::alloc::Global;
@@ -28,8 +27,8 @@ pub fn write_root_within(alloc: Global, model: &Model, limit: u32) -> Result<Vec
     ensures model { IfOk result (λ root. IsModel root.items model.now) }
     ensures unique { IfOk result (λ root. (other : Metadata) → IsModel root.items other → other ≡ model.now) }
 {
-    canonical_root_has_its_model();
-    canonical_root_is_one();
+    canonical::laws::canonical_root_has_its_model();
+    canonical::laws::canonical_root_is_one();
     // The model is valid.
     let _tables = model.tables();
     let prepared = prepare(alloc, model, limit)?;

@@ -6,17 +6,15 @@ ghost use Rattle.metadata.specs.Metadata.{count_in};
 ghost use Rattle.metadata.specs.Valid.{IsValid};
 ghost use Rattle.canonical.specs.TableStream.{is_sorted as is_sorted_in};
 
-use canonical::sorted_bits_report_order;
 use owned_model::Model;
 use root_plan::bit;
-use schema::bits_are_known;
-use table_schema::{TableId, key, tables_stand};
+use table_schema::{TableId, key};
 
 /// The row count of each table, by table number.
 pub fn counts(model: &Model) -> [u32; 45]
     ensures { (table : Table) → slice_index result (table_number table) ≡ count_in model.now table }
 {
-    tables_stand();
+    table_schema::laws::tables_stand();
     let mut counts = [0; 45];
     for table in TableId::all() {
         counts[table.number() as usize] = model.count(*table);
@@ -29,7 +27,7 @@ fn is_sorted(model: &Model, table: TableId) -> bool
     requires { IsValid model.now }
     ensures { result ≡ is_sorted_in model.now table }
 {
-    sorted_bits_report_order();
+    canonical::laws::sorted_bits_report_order();
     key(table).is_some() && model.in_order(table)
 }
 
@@ -38,7 +36,7 @@ pub fn sorted(model: &Model) -> u64
     requires { IsValid model.now }
     ensures { result ≡ bits_of (is_sorted_in model.now) tables }
 {
-    bits_are_known();
+    schema::laws::bits_are_known();
     let mut sorted = 0;
     for table in TableId::all() {
         sorted += bit(is_sorted(model, *table), *table);

@@ -3,7 +3,7 @@
 ghost use Rattle.std.specs.Prelude.{◌≤◌, length};
 
 use rows::{Keys, Rows, find_key, put_row};
-use schema::{Layout, TableId, columns, widths_are_known};
+use schema::{Layout, TableId, columns};
 use std::alloc::Global;
 use std::test::Fail;
 
@@ -74,7 +74,7 @@ fn row_behind_a_byte(
     table: TableId,
     numbers: &[u32],
 ) -> Result<Vec<u8>, Fail> {
-    widths_are_known();
+    schema::laws::widths_are_known();
     let mut bytes = vec![in alloc; 0xFF]?;
     put_row(&mut bytes, &Layout::read(stream)?, table, numbers)?;
     Ok(bytes)
