@@ -5,7 +5,7 @@ use Rattle.std.specs.Str.{bytes_eq}
 use Rattle.std.specs.List.{list_any}
 use Rattle.std.specs.Option.{option_map_or}
 use Rattle.clap.specs.Walk.{Row, Rule, Text, answers_to, first_of, nothing_held, reading_by, stop_after, used, values_or_missing, walk, with_values, without, finished}
-use Rattle.clap.specs.Simple.{App, Shape, argument_words, built, built_leaf, entered, inherited, supplied, label_of, names_of, rows_at, subcommand_of, with_index}
+use Rattle.clap.specs.Simple.{App, Shape, argument_words, built, built_leaf, entered, inherited, filled, label_of, names_of, rows_at, subcommand_of, with_index}
 use Rattle.clap.specs.Kinds.{check_kinds}
 use Rattle.clap.specs.Takes.{is_given}
 use Rattle.clap.specs.Words.{with_rule}
@@ -34,10 +34,10 @@ set_supplies a replaces some again values rows none f =
 
 -- the arguments of a subcommand, as `clap` completes them
 abbrev built_value : ℕ → Rule → Rule
-built_value index a = with_index index (supplied a)
+built_value index a = with_index index (filled a)
 
 abbrev built_bare : Rule
-built_bare = with_index 2 (supplied bare)
+built_bare = with_index 2 (filled bare)
 
 -- the values that a subcommand needs, by its name
 abbrev pub values_in : Text → List Text
