@@ -3,8 +3,8 @@
 #![tactic(auto)]
 
 ghost use Rattle.std.specs.Prelude.{◌≡◌, true, All};
-ghost use Rattle.heaps.specs.Entries.{HasNoNul};
-ghost use Rattle.heaps.specs.Uses.{bytes_of};
+ghost use Rattle.heap_entries.specs.Entries.{HasNoNul};
+ghost use Rattle.heap_pools.specs.Uses.{bytes_of};
 
 mod hostile_roots;
 mod rows_opened;

@@ -1,0 +1,210 @@
+#!/usr/bin/env python3
+"""Compares the pages for newcomers with the repository.
+
+- CONTRIBUTING.md: each file of a recipe is there, and contains each text of its row's last column; the contract that it
+  explains is that of the code.
+- Each command of these pages that is a file of the repository is there and can be run.
+- docs/ARCHITECTURE.md and README.md name each crate of crates.txt, and ARCHITECTURE.md has a row for no other crate. The
+  program and the library for C stand on no crate that owns cells.
+- README.md has at most 100 lines, and the line of the toolchain that proves the crates.
+- The version is the same in cli_arguments, CHANGELOG.md and the man page.
+- docs/TRUST.md: its files are there, and its counts of lines are those of the definitions.
+- Each relative link of these pages leads to a file.
+
+With --lines it only prints the definitions that docs/TRUST.md counts, with their lines. The last line is otherwise
+'N passed, M failed'.
+"""
+
+import os
+import re
+import sys
+
+TOP = os.path.dirname(os.path.dirname(os.path.dirname(os.path.realpath(__file__))))
+PAGES = ["README.md", "CONTRIBUTING.md", "CHANGELOG.md", "docs/ARCHITECTURE.md", "docs/STABILITY.md", "docs/TRUST.md"]
+README_LINES = 100
+# What the clauses of `open_image` and `open_root` cite: what a model is, and the rules in order.
+MODEL = ["Rattle.metadata.specs.Model"]
+RULES = ["Rattle.metadata.specs.Rules"]
+# The crates of cells that own their content, and those that are above them.
+OWNERS = {"tables", "refusals", "owned_model", "loading", "records", "member_records", "assembly_records", "typed_rows"}
+# How far a count on a page may be from the count of the files.
+TOLERANCE = 0.05
+
+
+class Counts:
+    """What passed, and what failed, which is printed at once."""
+
+    def __init__(self):
+        self.passed = self.failed = 0
+
+    def expect(self, holds, why):
+        """Counts one fact, and prints why it does not hold."""
+        if holds:
+            self.passed += 1
+        else:
+            self.failed += 1
+            print(why)
+
+
+def text_of(path):
+    """The text of a file of the repository, or None if it is not there."""
+    if not os.path.isfile(f"{TOP}/{path}"):
+        return None
+    with open(f"{TOP}/{path}", encoding="utf-8") as it:
+        return it.read()
+
+
+def in_backticks(text):
+    return re.findall(r"`([^`]+)`", text)
+
+
+def table_rows(text):
+    """The cells of each row of each table in a page, without heads and rules."""
+    lines = text.splitlines()
+    for line, after in zip(lines, [*lines[1:], ""]):
+        if line.startswith("|") and not line.startswith("|---") and not after.startswith("|---"):
+            yield [it.strip() for it in line[1:].rstrip().removesuffix("|").split("|")]
+
+
+def check_recipes(counts):
+    """Each file of a recipe is there, and contains what its row says."""
+    recipes = text_of("CONTRIBUTING.md").split("\n## Recipes\n")[1].split("\n## ")[0]
+    for file, _, example in table_rows(recipes):
+        path = in_backticks(file)[0]
+        text = text_of(path)
+        counts.expect(text is not None, f"CONTRIBUTING.md: {path} is not there")
+        for wanted in in_backticks(example) if text is not None else []:
+            counts.expect(wanted in text, f"CONTRIBUTING.md: {path} does not contain {wanted}")
+
+
+def check_contract(counts):
+    """The contract that CONTRIBUTING.md explains is that of `read_root`."""
+    code = text_of("crates/root/src/root.rt") or ""
+    block = re.search(r"^```text\n(.*?)^```", text_of("CONTRIBUTING.md"), re.M | re.S)[1]
+    for line in block.splitlines():
+        counts.expect(f"{line}\n" in code, f"CONTRIBUTING.md: crates/root/src/root.rt has no line {line.strip()}")
+
+
+def check_commands(counts):
+    """Each command of the repository that a page names is there, and can be run."""
+    for page in PAGES:
+        for command in re.findall(r"(?:^|`)((?:\./|edits/|tests/|c/)[a-z]+)(?= |`|$)", text_of(page), re.M):
+            path = f"{TOP}/{command}"
+            if not os.path.isdir(path):
+                counts.expect(os.access(path, os.X_OK), f"{page}: {command} is not there, or cannot be run")
+
+
+def libraries():
+    """The crates of crates.txt, each with what it stands on."""
+    lines = re.findall(r"^([a-z_]+)(?: \w+)*:(.*)$", text_of("crates.txt"), re.M)
+    return {name: below.split() for name, below in lines}
+
+
+def all_below(name, listed):
+    """What a crate stands on, near and far."""
+    near = listed.get(name, [])
+    return {*near}.union(*(all_below(it, listed) for it in near))
+
+
+def check_crates(counts):
+    """The pages name the crates that are there, and no other."""
+    names, readme = libraries(), text_of("README.md")
+    rows = [in_backticks(cells[0]) for cells in table_rows(text_of("docs/ARCHITECTURE.md")) if len(cells) == 4]
+    described = [name for row in rows for name in row]
+    for name in names:
+        counts.expect(f"`{name}`" in readme, f"README.md does not name the crate {name}")
+        counts.expect(described.count(name) == 1, f"docs/ARCHITECTURE.md has {described.count(name)} rows for {name}")
+    for name in described:
+        counts.expect(name in names, f"docs/ARCHITECTURE.md has a row for {name}, which is no crate")
+    for top in ("clim", "clim_c"):
+        owners = all_below(top, names) & OWNERS
+        counts.expect(not owners, f"docs/ARCHITECTURE.md: {top} stands on {', '.join(sorted(owners))}")
+
+
+def check_readme(counts):
+    """README is short, and names the toolchain as docs/PROVED.md does."""
+    readme = text_of("README.md")
+    lines = readme.count("\n")
+    counts.expect(lines <= README_LINES, f"README.md has {lines} lines, more than {README_LINES}")
+    toolchain = re.search(r"rattle-kit-\S+ logic [0-9a-f]+", text_of("docs/PROVED.md"))
+    counts.expect(toolchain and toolchain[0] in readme, "README.md and docs/PROVED.md name different toolchains")
+
+
+def check_version(counts):
+    """The version of the program is that of the pages."""
+    version = re.search(r'\.version\("([^"]+)"\)', text_of("crates/cli_arguments/src/arguments.rt") or "")
+    counts.expect(version, "crates/cli_arguments/src/arguments.rt has no version")
+    wanted = version[1] if version else ""
+    newest = re.search(r"^## (\S+)", text_of("CHANGELOG.md"), re.M)
+    counts.expect(newest and newest[1] == wanted, f"CHANGELOG.md does not begin with {wanted}")
+    counts.expect(f'"clim {wanted}"' in text_of("docs/clim.1"), f"docs/clim.1 is not of {wanted}")
+
+
+def cited(modules):
+    """The files of definitions that some modules name, near and far, and these modules' own."""
+    found, left = set(), [*modules]
+    while left:
+        _, crate, part, *names = left.pop().split(".")
+        path = f"crates/{crate}/{part}/{'/'.join(names)}.antt"
+        text = None if path in found or part != "specs" else text_of(path)
+        if text is not None:
+            found.add(path)
+            left += re.findall(r"^use (Rattle(?:\.\w+){3,})", text, re.M)
+    return sorted(found)
+
+
+def counted(paths):
+    """The lines of some files, and those of them that are no import, no comment and not empty."""
+    lines = [line for path in paths for line in text_of(path).splitlines()]
+    return len(lines), sum(bool(line.strip()) and not line.startswith(("use ", "--")) for line in lines)
+
+
+def check_trust(counts):
+    """The files that docs/TRUST.md names are there, and its counts are near those of the definitions."""
+    page = text_of("docs/TRUST.md")
+    for path in in_backticks(page):
+        if re.fullmatch(r"(crates|c|docs|tests|edits)/[\w/.]+\.\w+", path):
+            counts.expect(text_of(path) is not None, f"docs/TRUST.md: {path} is not there")
+    for modules, name in ((MODEL, "a model"), (MODEL + RULES, "a model and the rules")):
+        found = cited(modules)
+        wanted = [len(found), *counted(found)]
+        row = re.search(rf"^\| {name} \| ([\d,]+) \| ([\d,]+) \| ([\d,]+) \|$", page, re.M)
+        stated = [int(it.replace(",", "")) for it in row.groups()] if row else []
+        is_near = stated and all(abs(a - b) <= TOLERANCE * b for a, b in zip(stated, wanted))
+        counts.expect(is_near, f"docs/TRUST.md: of {name}, {stated} is not near {wanted}")
+
+
+def check_links(counts):
+    """Each relative link of a page leads to a file."""
+    for page in PAGES:
+        for link in re.findall(r"\]\((?!https?:|#)([^)#]+)", text_of(page)):
+            path = os.path.normpath(f"{os.path.dirname(page)}/{link}".lstrip("/"))
+            counts.expect(os.path.exists(f"{TOP}/{path}"), f"{page}: {link} leads nowhere")
+
+
+def print_lines():
+    """Prints the definitions that the main theorem cites, with their lines."""
+    found = cited(MODEL + RULES)
+    for path in found:
+        print(f"{counted([path])[0]:5} {path}")
+    print(f"{counted(found)[0]:5} lines, of which {counted(found)[1]} are no import, no comment and not empty")
+
+
+def main():
+    if sys.argv[1:] == ["--lines"]:
+        print_lines()
+        return 0
+    counts = Counts()
+    for page in PAGES:
+        if text_of(page) is None:
+            print(f"{page} is not there\n0 passed, 1 failed")
+            return 1
+    checks = [check_recipes, check_contract, check_commands, check_crates, check_readme, check_version, check_trust, check_links]
+    for check in checks:
+        check(counts)
+    print(f"{counts.passed} passed, {counts.failed} failed")
+    return 1 if counts.failed else 0
+
+
+if __name__ == "__main__":
+    sys.exit(main())
