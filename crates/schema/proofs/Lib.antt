@@ -4,7 +4,7 @@ pub mod FieldLemmas
 pub mod HeaderLemmas
 pub mod NumberLemmas
 pub mod OneLemmas
-pub mod OffsetLemmas
+pub mod TableLayoutLemmas
 pub mod ReadLemmas
 pub mod Samples
 pub mod StreamLemmas

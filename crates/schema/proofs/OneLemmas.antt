@@ -13,7 +13,7 @@ use Rattle.schema.specs.LaidOut.{FitRow, IsLaidOut, StandsAt}
 use Rattle.schema.specs.Cells.{HoldsCell}
 use Rattle.table_schema.proofs.TableFacts.{table_index_below, table_at_index, length-tables}
 use Rattle.schema.proofs.NumberLemmas.{number_read}
-use Rattle.schema.proofs.OffsetLemmas.{cell_within}
+use Rattle.schema.proofs.TableLayoutLemmas.{cell_within}
 use Rattle.schema.proofs.CellLemmas.{Begins, in_cells, in_tables, in_rows}
 use Rattle.schema.proofs.StreamLemmas.{sizes_laid, counted_rows, body_laid, end_laid, fit_long}
 

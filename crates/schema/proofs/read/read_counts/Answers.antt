@@ -7,7 +7,7 @@ use Rattle.table_schema.specs.declared.table.TableId.TheVariants.{Module}
 use Rattle.table_schema.specs.Tables.{tables}
 use Rattle.schema.specs.Header.{has_bit, valid_of, count_in}
 use Rattle.schema.specs.Rules.{rules_of_count, rules_of_count_at}
-use Rattle.schema.proofs.OffsetLemmas.{number_kept}
+use Rattle.schema.proofs.TableLayoutLemmas.{number_kept}
 use Rattle.schema.proofs.HeaderLemmas.{offset_at, offset_set, offset_clear, counts_are, bit_there}
 use Rattle.schema.proofs.read.read_counts.Goals as goal
 use Rattle.schema.proofs.read.read_counts.Goals.{then-is_set, else-is_set}
