@@ -1,4 +1,4 @@
-pub mod Shown
+pub mod Escaped
 pub mod Named
 pub mod Checked
 pub mod Heads

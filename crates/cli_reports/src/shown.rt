@@ -1,7 +1,7 @@
 //! Texts, bytes and UTF-16 units, escaped as printable ASCII.
 ghost use Rattle.std.specs.Prelude.{◌≡◌, ◌<◌, IsTrue, Some, [], ◌∷◌};
 ghost use Rattle.std.specs.Fmt.{WritesOnOk};
-ghost use Rattle.cli_reports.specs.Shown.{is_printable, escaped_byte, escaped_bytes, escaped_text, escaped_unit};
+ghost use Rattle.cli_reports.specs.Escaped.{is_printable, escaped_byte, escaped_bytes, escaped_text, escaped_unit};
 
 use std::fmt;
 

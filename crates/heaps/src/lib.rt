@@ -14,6 +14,8 @@
 //! ```
 #![tactic(auto)]
 
+pub mod laws;
+
 pub use heap_entries::{
     HeapFault, Strings, Units, UserString, blob, guid, guid_text, text, user_string,
 };

@@ -12,7 +12,7 @@ use Rattle.table_schema.specs.declared.column.ColumnKind.TheVariants as kind
 use Rattle.table_schema.specs.Tables.{table_index_of, tables}
 use Rattle.table_schema.specs.Columns.{columns_of}
 use Rattle.schema.specs.Sizes.{Sizes, count_of, width_of, kind_width, narrow_or_wide, IsWidth}
-use Rattle.schema.specs.TableLayouts.{columns_width, tables_size, table_size, row_width, table_start, row_start, cell_start, tables_end}
+use Rattle.schema.specs.Offsets.{columns_width, tables_size, table_size, row_width, table_start, row_start, cell_start, tables_end}
 use Rattle.schema.specs.Kept.{IsTableLayout, AreTableLayouts, AreFew}
 use Rattle.table_schema.proofs.TableFacts.{table_index_below, table_index_at, table_at_index, length-tables}
 

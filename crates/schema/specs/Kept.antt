@@ -7,7 +7,7 @@ use Rattle.table_schema.specs.declared.table.TableId.TheVariants.{Module}
 use Rattle.table_schema.specs.Tables.{tables}
 use Rattle.table_schema.specs.Columns.{columns_of}
 use Rattle.schema.specs.Sizes.{Sizes, count_of}
-use Rattle.schema.specs.TableLayouts.{row_width, offset_in_row, table_start}
+use Rattle.schema.specs.Offsets.{row_width, offset_in_row, table_start}
 
 -- the sizes in a header
 abbrev pub sizes_kept : Header → Sizes

@@ -27,7 +27,7 @@ impl Model for Layout {
 
 impl Header {
     ghost use Rattle.std.specs.Prelude.{◌≤◌, ◌^◌, ◌≡◌};
-    ghost use Rattle.schema.specs.TableLayouts.{table_start};
+    ghost use Rattle.schema.specs.Offsets.{table_start};
     ghost use Rattle.schema.specs.Kept.{sizes_kept, IsTableLayout};
 
     /// The offsets of a table that begins at `start`.
@@ -58,7 +58,7 @@ impl Layout {
     ghost use Rattle.table_schema.specs.Tables.{table_number};
     ghost use Rattle.table_schema.specs.Columns.{columns_of, column_at};
     ghost use Rattle.schema.specs.Sizes.{sizes_by_number, count_of, width_of, IsWidth};
-    ghost use Rattle.schema.specs.TableLayouts.{row_width, row_start, cell_start, tables_end};
+    ghost use Rattle.schema.specs.Offsets.{row_width, row_start, cell_start, tables_end};
     ghost use Rattle.schema.specs.Kept.{sizes_kept, AreFew};
 
     /// The layout with these sizes.

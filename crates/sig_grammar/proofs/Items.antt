@@ -1,7 +1,7 @@
 -- Items at the start, one by one: modifiers, and modifiers with PINNED.
 use Rattle.std.proofs.Common.{◌≡◌, ℕ, zero, suc, ◌<◌, ◌≤◌, ◌||◌, Bool, true, false, cond, eqb, ltb, Option, Some, None, List, [], ◌∷◌, length, drop, length-drop, refl, ap, arith, IfSome}
 use Rattle.std.specs.Prelude.{⊤, option_map, option_and_then}
-use Rattle.packed.specs.Head as head
+use Rattle.packed.specs.Prefix as head
 use Rattle.table_schema.specs.declared.token.Token.{Token}
 use Rattle.sig_grammar.specs.declared.types.Modifier.{Modifier}
 use Rattle.sig_grammar.specs.declared.body.Prefix.TheVariants.{Pinned}

@@ -1,7 +1,7 @@
 -- Readers as functions on lists: each returns the first value and the remaining bytes. Private functions compute them.
 -- It is proved that they read what the grammar encodes, and nothing else.
 use Rattle.std.specs.Prelude.{ℕ, ℤ, zero, suc, ◌/◌, ◌%◌, nat_lt, ◌==◌, ◌&&◌, ◌||◌, Bool, true, false, if◌then◌else◌, Option, Some, None, option_map, option_and_then, slice_get, drop, List, [], ◌∷◌, length}
-use Rattle.packed.specs.Head as head
+use Rattle.packed.specs.Prefix as head
 use Rattle.table_schema.specs.declared.token.Token.{Token}
 use Rattle.table_schema.specs.declared.table.TableId.{TableId}
 use Rattle.table_schema.specs.declared.coded.Coded.TheVariants.{TypeDefOrRef}

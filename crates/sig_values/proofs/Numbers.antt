@@ -3,7 +3,7 @@ use Rattle.std.proofs.Common.{◌≡◌, ℕ, ◌<◌, ◌≤◌, Option, Some, 
 use Rattle.std.specs.Prelude.{⊤, ℤ, option_map}
 use Rattle.std.proofs.lemmas.List.{take-append-drop}
 use Rattle.std.proofs.Math.Seq.{drop-append_seam}
-use Rattle.packed.specs.Head as head
+use Rattle.packed.specs.Prefix as head
 use Rattle.packed.specs.Packed.{IsPacked, IsPackedSigned}
 use Rattle.table_schema.specs.declared.token.Token.{Token}
 use Rattle.sig_grammar.specs.Parts.{Part, number, signed, index, EncodesPart}

@@ -19,9 +19,9 @@ pub IsBytes-from_each : (b : List ℕ) → ((k : ℕ) → get_or b k 0 < 2 ^ 8) 
 IsBytes-from_each [] h = tt
 IsBytes-from_each (x ∷ b) h = (h 0, IsBytes-from_each b (λ k. h (suc k)))
 
-pub IsBytes-remainder : (a b : List ℕ) → IsBytes (a ++ b) → IsBytes b
-IsBytes-remainder [] b h = h
-IsBytes-remainder (x ∷ a) b h = IsBytes-remainder a b h.1
+pub IsBytes-tail : (a b : List ℕ) → IsBytes (a ++ b) → IsBytes b
+IsBytes-tail [] b h = h
+IsBytes-tail (x ∷ a) b h = IsBytes-tail a b h.1
 
 -- b starts with encodings of the parts, and rest is the remainder
 abbrev pub Head : List Part → List ℕ → List ℕ → Type 0

@@ -1,6 +1,6 @@
 use Rattle.std.proofs.Common.{take}
 use Rattle.std.specs.Fmt.{HasWritten, IsPlainFormatter}
-use Rattle.cli_reports.specs.Shown.{escaped_text}
+use Rattle.cli_reports.specs.Escaped.{escaped_text}
 use Rattle.cli_reports.proofs.shown.EscapedDisplay.fmt.Given as goal
 
 abbrev pub invariant-loop-byte : goal.invariant-loop-byte

@@ -1,6 +1,6 @@
 use Rattle.std.proofs.Common.{take}
 use Rattle.std.specs.Fmt.{HasWritten, IsPlainFormatter}
-use Rattle.cli_reports.specs.Shown.{escaped_bytes}
+use Rattle.cli_reports.specs.Escaped.{escaped_bytes}
 use Rattle.cli_reports.proofs.shown.HexDisplay.fmt.Given as goal
 
 abbrev pub invariant-loop-byte : goal.invariant-loop-byte

@@ -2,7 +2,7 @@ use Rattle.std.proofs.Common.{◌≡◌, ◌≤◌, ℕ, ◌<◌, length, take, 
 use Rattle.std.proofs.lemmas.List.{take_all}
 use Rattle.table_schema.specs.declared.column.ColumnKind.TheVariants.{U8}
 use Rattle.table_schema.specs.declared.column.Column.{Column}
-use Rattle.schema.specs.TableLayouts.{columns_width}
+use Rattle.schema.specs.Offsets.{columns_width}
 use Rattle.schema.specs.Kept.{sizes_kept}
 use Rattle.table_schema.proofs.TableFacts.{columns_few}
 use Rattle.schema.proofs.TableLayoutLemmas.{columns_width_more, no_columns_width, number_kept}

@@ -1,5 +1,5 @@
 use Rattle.std.proofs.Common.{◌≡◌, ◌≤◌, ◌<◌, ◌*◌, ℕ, length, get_or, take}
-use Rattle.schema.specs.TableLayouts.{columns_width}
+use Rattle.schema.specs.Offsets.{columns_width}
 use Rattle.schema.specs.Kept.{sizes_kept}
 use Rattle.schema.proofs.header.Header.table_layout.Given as goal
 

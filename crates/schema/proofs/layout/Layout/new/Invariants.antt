@@ -1,6 +1,6 @@
 use Rattle.std.proofs.Common.{◌≡◌, ◌≤◌, ◌*◌, ◌+◌, take, length}
 use Rattle.table_schema.specs.Tables.{tables}
-use Rattle.schema.specs.TableLayouts.{tables_size}
+use Rattle.schema.specs.Offsets.{tables_size}
 use Rattle.schema.specs.Kept.{sizes_kept, AreFirstTableLayouts}
 use Rattle.schema.proofs.layout.Layout.new.Given as goal
 

@@ -7,7 +7,7 @@ use Rattle.table_schema.specs.Tables.{table_number, tables}
 use Rattle.schema.specs.Sizes.{Sizes, header_size, sizes_by_number, count_of}
 use Rattle.table_schema.proofs.TableFacts.{length-tables}
 use Rattle.schema.proofs.TableLayoutLemmas.{number_kept}
-use Rattle.schema.proofs.HeaderLemmas.{table_layout_set, table_layout_clear, counts_are, count_is, same_sizes}
+use Rattle.schema.proofs.HeaderLemmas.{offset_set, offset_clear, counts_are, count_is, same_sizes}
 use Rattle.schema.proofs.layout.Layout.of.Goals as goal
 use Rattle.schema.proofs.layout.Layout.of.Goals.{then-count-gt0, else-count-gt0}
 
@@ -24,13 +24,13 @@ loop-table_index-preserved c =
     let listed = number_kept (λ k. get_or counts (table_number (get_or tables k Module)) 0) c.loop-table_index.listed p (get_or counts c.number.result 0) (omega arith) count before.listed in
     elim c.if-count-gt0.branch [
       | then-count-gt0 w ↦ record {
-        body = w.body-is ∙ table_layout_set (λ table. ltb 0 (get_or counts (table_number table) 0)) p c.loop-table_index.body (omega arith) before.body (lt-ltb _ _ (omega (arith, count, w.if-count-gt0.true)));
+        body = w.body-is ∙ offset_set (λ table. ltb 0 (get_or counts (table_number table) 0)) p c.loop-table_index.body (omega arith) before.body (lt-ltb _ _ (omega (arith, count, w.if-count-gt0.true)));
         small = omega arith;
         room = length-set _ _ _ ∙ before.room;
         listed = listed;
       }
       | else-count-gt0 w ↦ record {
-        body = w.body-is ∙ table_layout_clear (λ table. ltb 0 (get_or counts (table_number table) 0)) p c.loop-table_index.body (omega arith) before.body (le-ltb _ _ (omega (arith, count, w.if-count-gt0.false)));
+        body = w.body-is ∙ offset_clear (λ table. ltb 0 (get_or counts (table_number table) 0)) p c.loop-table_index.body (omega arith) before.body (le-ltb _ _ (omega (arith, count, w.if-count-gt0.false)));
         small = omega arith;
         room = length-set _ _ _ ∙ before.room;
         listed = listed;
