@@ -43,7 +43,7 @@ put_rows-requires c =
     let back = c.split_at.ensures.back ∙ ap (λ count. drop count tail) cells in
     let split = next_table sizes i table tail c.split_at.result.0.now c.split_at.result.1.now is below prefix back in
     record {
-      many = c.split_at.ensures.prefix_len ∙ cells;
+      many = c.split_at.ensures.front_len ∙ cells;
       room = here_fits _ _ _ _ _ _ split c.loop-table.invariant.putting;
     }
 
