@@ -9,7 +9,6 @@ ghost use Rattle.root_writer.specs.TableHeader.{table_header};
 ghost use Rattle.root_writer.specs.declared.root_parts.RootParts.{RootParts as TheParts};
 ghost use Rattle.root_writer.specs.Root.{root_bytes, ArePartsOf};
 
-use crate::laws;
 pub use crate::numbering_laws::{
     cells_can_be_numbered, heaps_stay_too_long, numberings_are_of_models, numbers_are_put,
 };

@@ -5,7 +5,6 @@ ghost use Rattle.table_schema.specs.CodedIndexes.{IsCoded};
 ghost use Rattle.sig_grammar.specs.Reading.{token_of};
 
 pub use crate::element_type::element_types_are_reported;
-use crate::laws;
 
 /// The token that is read from a type index is the token that the index encodes.
 pub fn indexes_are_read()

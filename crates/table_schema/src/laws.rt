@@ -7,7 +7,6 @@ ghost use Rattle.table_schema.specs.Columns.{columns_of, column_at, key_of, IsRe
 ghost use Rattle.table_schema.specs.CodedIndexes.{tables_of, tag_bits};
 
 pub use crate::cell_columns::cells_have_columns;
-use crate::laws;
 pub use crate::token::tokens_are_in_order;
 
 /// The tables are in the order of their numbers, each at its table index.
