@@ -59,7 +59,7 @@ typedef struct clim_directory {
 
 /* The CLI header (II.25.3.3), its offset in the file, and the offsets where the metadata root begins and ends. */
 typedef struct clim_header {
-    size_t place;
+    size_t offset;
     size_t root_start;
     size_t root_end;
     uint32_t cb;

@@ -58,7 +58,7 @@ class _Directory(ctypes.Structure):
 
 class _Header(ctypes.Structure):
     _fields_ = [
-        ("place", c_size_t),
+        ("offset", c_size_t),
         ("root_start", c_size_t),
         ("root_end", c_size_t),
         ("cb", c_uint32),

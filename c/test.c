@@ -356,7 +356,7 @@ static void ask_header(guarded file, const clim_view *view) {
     clim_fault fault = {7, 7, 7};
     CHECK(clim_read_header(file.at, file.len, &header, &fault) && fault.code == 7 && header.cb >= 72);
     CHECK(view->root.at == file.at + header.root_start && view->root.len == header.root_end - header.root_start);
-    CHECK(header.metadata.size == view->root.len && header.place + 72 <= file.len);
+    CHECK(header.metadata.size == view->root.len && header.offset + 72 <= file.len);
     clim_header same = header;
     CHECK(!clim_read_header(file.at, 0, &same, &fault) && fault.code == 102);
     CHECK(memcmp(&same, &header, sizeof same) == 0);
@@ -429,10 +429,10 @@ static void times(guarded file, bool bare) {
     for (size_t i = 0; i < 1 << 14; i++) column[i] = NO_CELL;
     begun = now();
     for (unsigned table = 0; table < 256; table++) {
-        for (size_t place = 0; place < clim_cell_count((uint8_t)table); place++) {
+        for (size_t cell = 0; cell < clim_cell_count((uint8_t)table); cell++) {
             uint32_t row = 1;
             size_t count;
-            while ((count = clim_cells(&view, (uint8_t)table, row, place, column, 1 << 14)) > 0) {
+            while ((count = clim_cells(&view, (uint8_t)table, row, cell, column, 1 << 14)) > 0) {
                 row += (uint32_t)count;
                 cells += count;
             }

@@ -27,9 +27,9 @@ def check(fact, text):
 def inputs(data):
     for count in range(len(data) + 1):
         yield data[:count]
-    for place in range(len(data)):
+    for offset in range(len(data)):
         for byte in (b"\x00", b"\xff"):
-            yield data[:place] + byte + data[place + 1 :]
+            yield data[:offset] + byte + data[offset + 1 :]
 
 
 def vary(data, bare):

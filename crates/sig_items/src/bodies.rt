@@ -5,8 +5,8 @@ ghost use Rattle.sig_items.specs.Steps.{reported, reported_by, IsWithin};
 
 use crate::item::Item;
 use crate::methods::{method, params};
+use crate::position::Position;
 use crate::step::Step;
-use crate::table_layout::Position;
 use crate::types::{ret, types, variables};
 use sig_recogniser::{byte, number};
 use table_schema::SigKind;

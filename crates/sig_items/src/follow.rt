@@ -5,8 +5,8 @@ ghost use Rattle.sig_items.specs.Steps.{pushed, all_at, HasRoom, IsStacked, IsRo
 
 use crate::frames::Frames;
 use crate::methods::params;
+use crate::position::{Frame, Position};
 use crate::step::Step;
-use crate::table_layout::{Frame, Position};
 use crate::types::{types, variables};
 use sig_recogniser::sentinel;
 

@@ -1,7 +1,7 @@
 ghost use Rattle.std.specs.Prelude.{◌≡◌, ◌<◌, ◌≤◌, [], ◌∷◌, ◌++◌, List, length, take, MatchOption};
 ghost use Rattle.sig_items.specs.declared.position.Frame.{Frame};
 
-use crate::table_layout::Frame;
+use crate::position::Frame;
 use std::marker::Model;
 
 /// The greatest number of frames: one for each level of types, and one for the outermost level.

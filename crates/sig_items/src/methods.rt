@@ -4,8 +4,8 @@ ghost use Rattle.sig_items.specs.Positions.{next_at, params_reported, method_rep
 ghost use Rattle.sig_items.specs.Steps.{reported, IsWithin};
 
 use crate::item::{Item, MethodHead};
+use crate::position::{Frame, Position};
 use crate::step::Step;
-use crate::table_layout::{Frame, Position};
 use sig_grammar::method_byte::{
     begins_method, calling_convention, has_explicit_this, has_this, is_generic, may_have_sentinel,
 };

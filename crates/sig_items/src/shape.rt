@@ -4,8 +4,8 @@ ghost use Rattle.sig_items.specs.Positions.{position_at, sizes_at, bounds_at, ne
 ghost use Rattle.sig_items.specs.Steps.{reported, IsWithin};
 
 use crate::item::Item;
+use crate::position::Position;
 use crate::step::Step;
-use crate::table_layout::Position;
 use sig_recogniser::{number, signed};
 
 /// The position of `count` sizes of an array, and then its lower bounds.

@@ -3,7 +3,7 @@ ghost use Rattle.sig_items.specs.Positions.{item_then, position_at, position_dep
 ghost use Rattle.sig_items.specs.Steps.{reported_by, IsWithin};
 
 use crate::item::Item;
-use crate::table_layout::{Frame, Position};
+use crate::position::{Frame, Position};
 
 /// The result of reading at a position: an item, and what remains.
 #[derive(Clone, Copy)]

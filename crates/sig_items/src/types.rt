@@ -6,8 +6,8 @@ ghost use Rattle.sig_items.specs.Positions.{item_then, position_at, next_at, cor
 ghost use Rattle.sig_items.specs.Steps.{reported, IsWithin};
 
 use crate::item::Item;
+use crate::position::{Frame, Position};
 use crate::step::Step;
-use crate::table_layout::{Frame, Position};
 use sig_grammar::element_type::{
     ARRAY, BYREF, CLASS, FNPTR, GENERICINST, MVAR, PTR, SENTINEL, SZARRAY, TYPEDBYREF, VALUETYPE,
     VAR, VOID,

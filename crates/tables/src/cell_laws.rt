@@ -7,5 +7,5 @@ use crate::cell::Cell;
 pub fn equality_is_tested()
     ensures { (first second : TheCell) → IsTrue (⟦<Cell as PartialEq>⟧.eq first second) ↔ (first ≡ second) }
 {
-    signatures::equality_is_tested();
+    signatures::laws::equality_is_tested();
 }
