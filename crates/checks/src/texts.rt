@@ -179,7 +179,8 @@ fn keep_text(starts: &mut [u32; PARTS], heap: &[u8], part: usize, index: u32, re
     requires part { part ≡ length heap.now / 1024 + 1 }
     requires reaches { Reaches heap.now index reach }
     requires starts { AreStarts heap.now part starts.old }
-    ensures { AreStarts heap.now part starts.new }
+    ensures starts { AreStarts heap.now part starts.new }
+    ensures kept { index / part < 1024 → index / part < reach / part → slice_index starts.new (index / part) ≡ index }
 {
     let slot = index as usize / part;
     if slot >= PARTS || reach / part <= slot {
