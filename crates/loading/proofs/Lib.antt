@@ -1,3 +1,3 @@
-pub mod Padding
+pub mod PaddingLemmas
 pub mod Zeros
 pub mod Refusing

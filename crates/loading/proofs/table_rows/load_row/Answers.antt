@@ -4,7 +4,7 @@ use Rattle.tables.specs.Said.{all_said}
 use Rattle.metadata.specs.Cell.{Number}
 use Rattle.metadata.specs.Metadata.{row_of}
 use Rattle.opening.specs.Views.{row_count}
-use Rattle.loading.proofs.Padding.{next_cell}
+use Rattle.loading.proofs.PaddingLemmas.{next_cell}
 use Rattle.loading.proofs.table_rows.load_row.Goals as goal
 
 pub loop-column-preserved : goal.loop-column-preserved

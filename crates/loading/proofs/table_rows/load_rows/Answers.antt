@@ -6,7 +6,7 @@ use Rattle.metadata.specs.Cell.{Cell}
 use Rattle.metadata.specs.Metadata.{Metadata, rows_of}
 use Rattle.tables.specs.Push.{with_row}
 use Rattle.loading.specs.Padded.{with_rows}
-use Rattle.loading.proofs.Padding.{next_row}
+use Rattle.loading.proofs.PaddingLemmas.{next_row}
 use Rattle.loading.proofs.table_rows.load_rows.Goals as goal
 
 pub loop-row-preserved : goal.loop-row-preserved

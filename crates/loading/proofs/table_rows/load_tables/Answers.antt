@@ -5,7 +5,7 @@ use Rattle.table_schema.specs.Tables.{table_index_of}
 use Rattle.metadata.specs.Cell.{Cell}
 use Rattle.metadata.specs.Metadata.{Metadata, rows_of}
 use Rattle.loading.specs.Padded.{with_rows}
-use Rattle.loading.proofs.Padding.{next_left, padded_length, all_padded, table_index_at, next_table}
+use Rattle.loading.proofs.PaddingLemmas.{next_left, padded_length, all_padded, table_index_at, next_table}
 use Rattle.loading.proofs.table_rows.load_tables.Goals as goal
 
 pub loop-table-preserved : goal.loop-table-preserved
