@@ -43,8 +43,8 @@ fn shows_the_sample(rt: HostRuntime) -> Result<(), Fail> {
     assert_eq!(rt; root.version(), "v4.0.30319");
     let mut names = String::new(rt.alloc());
     for header in root.headers() {
-        let (offset, offset, size, name) = (header.place, header.offset, header.size, header.name);
-        write!(names, "{offset} {offset} {size} {name};")?;
+        let (at, offset, size, name) = (header.place, header.offset, header.size, header.name);
+        write!(names, "{at} {offset} {size} {name};")?;
     }
     assert_eq!(rt;
         names.as_str(),
@@ -164,8 +164,8 @@ fn lists_headers_of_other_names(rt: HostRuntime) -> Result<(), Fail> {
     let bytes = root_of(alloc, b"v\0\0\0".as_slice(), headers.as_slice())?;
     let mut names = String::new(alloc);
     for header in read_root(bytes.as_slice())?.headers() {
-        let (offset, offset, size, name) = (header.place, header.offset, header.size, header.name);
-        write!(names, "{offset} {offset} {size} {name};")?;
+        let (at, offset, size, name) = (header.place, header.offset, header.size, header.name);
+        write!(names, "{at} {offset} {size} {name};")?;
     }
     let expected =
         "24 0 0 #~;36 16 255 ;48 16 255 abcdefghijklmnopqrstuvwxyz012345;92 16 255 abcdefghijklmnopqrstuvwxyz012345;136 16 255 ab;";

@@ -105,7 +105,7 @@ fn refuses_each_prefix(rt: HostRuntime) {
 
 #[test]
 fn refuses_a_changed_byte(rt: HostRuntime) {
-    for (offset, byte, code, offset) in [
+    for (changed, byte, code, offset) in [
         (4, 1, 402, 4),
         (5, 1, 402, 4),
         (6, 8, 403, 6),
@@ -115,7 +115,7 @@ fn refuses_a_changed_byte(rt: HostRuntime) {
         (27, 1, 406, 24),
     ] {
         let mut stream = STREAM;
-        stream[offset] = byte;
+        stream[changed] = byte;
         assert_eq!(rt; refusal(&stream), fault(code, offset));
     }
     let mut stream = STREAM;
