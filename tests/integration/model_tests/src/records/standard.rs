@@ -44,7 +44,7 @@ GenericParamConstraint: Owner Constraint
 
 /// The names that the standard gives the columns of a table, in order, with a space between two.
 pub fn standard_names(table: TableId) -> Option<&'static str> {
-    let line = TABLES.lines().nth(table.position())?;
+    let line = TABLES.lines().nth(table.table_index())?;
     let (name, names) = line.split_once(": ")?;
     (name == table.name()).then_some(names)
 }
