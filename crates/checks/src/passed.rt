@@ -59,7 +59,7 @@ impl Passed {
     pub fn keep(&mut self, number: u32, bytes: usize)
         ensures value { self.new ≡ keep self.old number bytes }
         ensures kept { number ≢ 0 → Keeps self.new number }
-        ensures complete { (other : ℕ) → Keeps self.new other → (other ≡ number) ⊎ Keeps self.old other }
+        ensures nothing_else { (other : ℕ) → Keeps self.new other → (other ≡ number) ⊎ Keeps self.old other }
     {
         let offset = number as usize;
         self.recent[offset % SLOTS] = number;

@@ -55,7 +55,7 @@ loop-row-preserved c =
     (sym (blob_is c.numbers_are_read.ensures.unsigned_only source.blobs c.number-number.result c.in-Ok.blob.now found)) c.in_ok-spend.ensures.takes in
     record {
       before = one_more P (λ row. number_of source c.args.table row c.args.column) row c.number-number.result c.loop-row.invariant.before c.number-number.ensures.value here;
-      kept = λ other keeps. elim (c.keep.ensures.complete other keeps) [
+      kept = λ other keeps. elim (c.keep.ensures.nothing_else other keeps) [
         | inl same ↦ subst P (sym same) here
         | inr before ↦ c.loop-row.invariant.kept other before
       ];

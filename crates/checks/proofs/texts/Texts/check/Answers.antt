@@ -31,7 +31,7 @@ end_through-requires-clause-order c =
             | else-known-ne0-via-else-known-ne0 w ↦ absurd (known (omega (arith, here, w.if-known-ne0.false)))
           ]
       | inr other ↦
-          let order = mul-le (slot + 1) part next part (omega (arith, c.next_known-next.ensures.first_error)) (omega arith) in
+          let order = mul-le (slot + 1) part next part (omega (arith, c.next_known-next.ensures.first)) (omega arith) in
           omega (arith, order, c.self.invariant.starts.low next known, div-add-mod' c.args.index part, mod_below c.args.index part (omega (arith, c.self.invariant.part)))
     ]
 
