@@ -157,11 +157,11 @@ fn visit_param<S: PartSink>(sink: &mut S, slot: &Slot, marked: bool, depth: u8) 
 }
 
 /// Whether SENTINEL precedes the parameter with this index.
-fn stands_before(sentinel: Option<u32>, index: usize) -> bool
-    ensures { result ≡ stands_at sentinel index }
+fn stands_before(sentinel: Option<u32>, param_index: usize) -> bool
+    ensures { result ≡ stands_at sentinel param_index }
 {
     match sentinel {
-        Some(before) => before as usize == index,
+        Some(before) => before as usize == param_index,
         None => false,
     }
 }
@@ -177,8 +177,8 @@ pub fn visit_params<S: PartSink>(
 ) -> Option<()>
     ensures { after result sink.new ≡ run S.step (slots_items (slots_from (map slot_of params.now)) sentinel depth) sink.old }
 {
-    for (index, slot) in params.iter().enumerate() {
-        visit_param(sink, slot, stands_before(sentinel, index), depth)?;
+    for (param_index, slot) in params.iter().enumerate() {
+        visit_param(sink, slot, stands_before(sentinel, param_index), depth)?;
     }
     Some(())
 }

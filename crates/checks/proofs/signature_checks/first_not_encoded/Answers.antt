@@ -46,7 +46,7 @@ loop-row-preserved c =
     let row = c.loop-row.row in
     let number = number_after source c.args.table c.args.column in
     let again : row - 1 + 1 ≡ row = omega arith in
-    let found = rw c.blobs-heap.ensures at c.in-Ok.ensures.found in
+    let found = rw c.blobs-heap.ensures at c.in-Ok.ensures.sound in
     let P : ℕ → Type 0 = λ number. IsEncoded source (kind.Signature c.args.encoded) number (Ok tt) in
     let here : P c.number-number.result = c.in-Ok-check_blob.ensures c.number-number.result found in
     let walk = row_walked (length source.blobs) (blob_length source.blobs) number row c.loop-row.auto.row c.args.budget.now c.loop-row.budget c.loop-row.accepted
@@ -71,7 +71,7 @@ returns-in_err-spend-clause-spent c =
     let row = c.loop-row.row in
     let number = number_after source c.args.table c.args.column in
     let again : row - 1 + 1 ≡ row = omega arith in
-    let found = rw c.blobs-heap.ensures at c.in-Ok.ensures.found in
+    let found = rw c.blobs-heap.ensures at c.in-Ok.ensures.sound in
     rw c.from_residual.ensures (row_refused (length source.blobs) (blob_length source.blobs) number row c.loop-row.auto.row c.args.budget.now c.loop-row.budget c.loop-row.accepted
     c.number-number.result c.loop-row.invariant.walk.0 c.loop-row.invariant.walk.1 (rw again c.number-number.ensures.value)
     (length c.in-Ok.blob.now) (c.args.limit - 1) (sym c.has.ensures ∙ c.if-has.false)
@@ -83,7 +83,7 @@ returns-in-Err-clause-walked c =
     let row = c.loop-row.row in
     let number = number_after source c.args.table c.args.column in
     let again : row - 1 + 1 ≡ row = omega arith in
-    let found = rw c.blobs-heap.ensures at c.in-Ok.ensures.found in
+    let found = rw c.blobs-heap.ensures at c.in-Ok.ensures.sound in
     let walk = row_walked (length source.blobs) (blob_length source.blobs) number row c.loop-row.auto.row c.args.budget.now c.loop-row.budget c.loop-row.accepted
     c.number-number.result c.loop-row.invariant.walk.0 c.loop-row.invariant.walk.1 (rw again c.number-number.ensures.value)
     c.spend.new.self (length c.in-Ok.blob.now) (sym c.has.ensures ∙ c.if-has.false)

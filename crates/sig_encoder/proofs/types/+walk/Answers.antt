@@ -17,12 +17,12 @@ visit_types-loop-of-preserved g t c =
 pub visit_params-returns-in_err-visit_param : goal.visit_params-returns-in_err-visit_param
 visit_params-returns-in_err-visit_param g t c =
     stops_by _ _ _ _ _ _ c.from_residual.ensures c.in_err-visit_param.ensures
-    (params_next g.S.PartSink.step c.args.params.now c.loop-index.index c.index-params-index.result c.args.sentinel c.args.depth c.loop-index.sink _ c.loop-index-test.true c.index-params-index.is c.stands_before.ensures) c.loop-index.invariant
+    (params_next g.S.PartSink.step c.args.params.now c.loop-param_index.param_index c.index-params-param_index.result c.args.sentinel c.args.depth c.loop-param_index.sink _ c.loop-param_index-test.true c.index-params-param_index.is c.stands_before.ensures) c.loop-param_index.invariant
 
-pub visit_params-loop-index-preserved : goal.visit_params-loop-index-preserved
-visit_params-loop-index-preserved g t c =
+pub visit_params-loop-param_index-preserved : goal.visit_params-loop-param_index-preserved
+visit_params-loop-param_index-preserved g t c =
     goes_by _ _ _ _ _ c.in_ok-visit_param.ensures
-    (params_next g.S.PartSink.step c.args.params.now c.loop-index.index c.index-params-index.result c.args.sentinel c.args.depth c.loop-index.sink _ c.loop-index-test.true c.index-params-index.is c.stands_before.ensures) c.loop-index.invariant
+    (params_next g.S.PartSink.step c.args.params.now c.loop-param_index.param_index c.index-params-param_index.result c.args.sentinel c.args.depth c.loop-param_index.sink _ c.loop-param_index-test.true c.index-params-param_index.is c.stands_before.ensures) c.loop-param_index.invariant
 
 pub visit_method-returns-in_err-visit_rule : goal.visit_method-returns-in_err-visit_rule
 visit_method-returns-in_err-visit_rule g t c =
@@ -195,8 +195,8 @@ visit_types-returns g t c = grind (arith, types_end)
 pub visit_params-returns : goal.visit_params-returns
 visit_params-returns g t c = grind (arith, params_end)
 
-pub visit_params-loop-index-init : goal.visit_params-loop-index-init
-visit_params-loop-index-init g t c = grind (arith, params_start)
+pub visit_params-loop-param_index-init : goal.visit_params-loop-param_index-init
+visit_params-loop-param_index-init g t c = grind (arith, params_start)
 
 pub visit_param-returns : goal.visit_param-returns
 visit_param-returns g t c = grind (arith, steps)
