@@ -16,6 +16,8 @@ import sys
 
 TOP = os.path.dirname(os.path.dirname(os.path.dirname(os.path.realpath(__file__))))
 
+RUST, ANTT, C, PYTHON, SHELL, PAGE = "rust", "antt", "c", "python", "shell", "page"
+
 # Words of identifiers, in any case, and what to say.
 IDENTIFIER_WORDS = {
     "rule": "demand demands demanded demanding",
@@ -34,26 +36,46 @@ IDENTIFIERS = {
     r"Answers\w*": "Reports",
     r"shown_text": "escaped_text",
 }
-# Forms of code.
+# Forms of code. A clause `first` or `found` is meant only if it speaks of the first broken rule, or of a relation.
 FORMS = {
-    r"\bensures found \{": "ensures sound {",
+    r"\bensures found \{(?=[^\n]*\b(?:Is|Has|Encodes)[A-Z ])": "ensures sound {",
     r"\bensures only \{": "ensures complete {",
-    r"\bensures first \{": "ensures first_error {",
+    r"\bensures first \{(?=[^\n]*\b(?:FirstBroken|Reports)\b)": "ensures first_error {",
     r"\.position\(\)": ".table_index()",
 }
 # Names that the requirements of the crates fix, and names of the standard library and of the toolchain.
 FIXED = {
     "stream_place",
-    "fill", "fill_with", "fill_buf", "resize_with", "push_front", "pop_front", "front_mut", "front", "is_char_boundary",
-    "raise",
+    "fill", "fill_with", "fill_buf", "resize_with", "push_front", "pop_front", "front_mut", "is_char_boundary",
 }
-# Forms of code in which such a name is a fixed field or method: the offset of a header and that of a cell.
+# Names of lemmas and of a clause of the toolchain's library.
+FIXED |= {"end_rest", "eqb_tells", "from_rest", "take_rest", "same_from_place", "front_len", "rests"}
+# Files that the toolchain names.
+FIXED_FILES = {"Answers.antt", "Answers.txt"}
+# Names, and single words, that are fixed in a folder.
+FIXED_IN = {
+    # The fields StreamHeader::place and CliHeader::place are fixed, and what fills them has their name.
+    "crates/root/": {"place"},
+    "crates/cli_header/": {"place"},
+    # The method Rows::place is fixed.
+    "crates/rows/": {"place"},
+    # A definition of the library clap.
+    "crates/cli_arguments/proofs/": {"filled"},
+}
+# Forms of code that end with a name which is fixed there.
 FIXED_FORMS = [
+    # The fields StreamHeader::place and CliHeader::place, and the method Rows::place.
     r"\.place\b",
-    r"\bfn place\(",
-    r"\bpub place:",
+    r"\bfn place(?=\()",
+    r"\bpub place(?=:)",
     r"\b(?:stream|cli|rows?|header)\w*::place\b",
+    r"\b(?:StreamHeader|CliHeader)\s*\{[^{}]*?\bplace\b",
+    # A clause of the library's functions that split, and a fact of the toolchain about an argument.
+    r"\bensures\.front\b",
+    r"\bc\.told(?=-)",
 ]
+# Words that a language itself has: the exceptions of Python.
+WORDS_OF = {PYTHON: {"raise", "raises", "raised"}}
 # Words of prose, as patterns, and what to say.
 PROSE = {
     r"exactly (?:where|when|if)": "if and only if",
@@ -84,9 +106,10 @@ PROSE = {
 FINE = [
     r"in[- ]place", r"takes? (?:the|its|their) places?", r"in (?:the|its|their|that|one) places?", r"takes? place",
     r"front (?:door|end|page)", r"in front of", r"left behind",
+    # A line that the program prints.
+    r"null where it is not allowed",
 ]
 
-RUST, ANTT, C, PYTHON, SHELL, PAGE = "rust", "antt", "c", "python", "shell", "page"
 LANGUAGES = {".rt": RUST, ".rs": RUST, ".antt": ANTT, ".c": C, ".h": C, ".py": PYTHON, ".md": PAGE, ".1": PAGE}
 LANGUAGES |= {".bash": SHELL, ".fish": SHELL, ".toml": SHELL}
 # Folders and files that are not searched: what the prover writes, edits, and this file.
@@ -141,20 +164,21 @@ def split(text, language):
     return "".join([*code, text[end:]]), "".join([*prose, blank(text[end:])])
 
 
-def better_name(name):
-    """The old words of an identifier, each with what to say, unless the name is fixed."""
-    if name in FIXED:
+def better_name(name, fixed=frozenset()):
+    """The old words of an identifier, each with what to say, unless the name or the word is fixed."""
+    if name in FIXED | fixed:
         return []
-    found = [(word.lower(), BY_WORD[word.lower()]) for word in WORD.findall(name) if word.lower() in BY_WORD]
+    words = [word.lower() for word in WORD.findall(name.replace("in_place", ""))]
+    found = [(word, BY_WORD[word]) for word in words if word in BY_WORD and word not in fixed]
     return found + [(it, better) for it, better in IDENTIFIERS.items() if re.fullmatch(it, name)]
 
 
-def hits_of_code(code):
+def hits_of_code(code, fixed):
     """The hits in the code of a file: the offset, the text, the entry of a table and what to say."""
-    fixed = {at for form in FIXED_FORMS for it in re.finditer(form, code) for at in range(it.start(), it.end())}
+    ends = {it.end() for form in FIXED_FORMS for it in re.finditer(form, code)}
     for it in NAME.finditer(code):
-        if it[0] != "place" or it.start() not in fixed:
-            for entry, better in better_name(it[0]):
+        if it.end() not in ends:
+            for entry, better in better_name(it[0], fixed):
                 yield it.start(), it[0], entry, better
     for form, better in FORMS.items():
         for it in re.finditer(form, code):
@@ -172,13 +196,13 @@ def flat(prose):
     return "".join(said), origins
 
 
-def hits_of_prose(prose):
+def hits_of_prose(prose, fixed):
     """The hits in the prose of a file."""
     said, origins = flat(prose)
     fine = {at for form in FINE for it in re.finditer(rf"\b(?:{form})\b", said, re.I) for at in range(it.start(), it.end())}
     for form, better in PROSE.items():
         for it in re.finditer(rf"(?<![\w-])(?:{form})(?![\w-])", said, re.I):
-            if not fine & {it.start(), it.end() - 1}:
+            if not fine & {it.start(), it.end() - 1} and it[0].split()[0].lower() not in fixed:
                 yield origins[it.start()], it[0], form, better
 
 
@@ -187,12 +211,15 @@ def hits_of(path):
     language = language_of(path)
     if not language:
         return
-    for entry, better in better_name(os.path.splitext(os.path.basename(path))[0]):
-        yield 1, "file", os.path.basename(path), entry, better
+    name = os.path.basename(path)
+    for entry, better in better_name(os.path.splitext(name)[0]) if name not in FIXED_FILES else []:
+        yield 1, "file", name, entry, better
     with open(path, encoding="utf-8", errors="replace") as it:
         text = it.read()
     code, prose = split(text, language)
-    for kind, found in (("name", hits_of_code(code)), ("prose", hits_of_prose(prose))):
+    own = WORDS_OF.get(language, set())
+    names = own.union(*(it for folder, it in FIXED_IN.items() if os.path.relpath(path, TOP).startswith(folder)))
+    for kind, found in (("name", hits_of_code(code, names)), ("prose", hits_of_prose(prose, own))):
         for at, said, entry, better in sorted(found):
             yield text.count("\n", 0, at) + 1, kind, said, entry, better
 
