@@ -143,15 +143,15 @@ def _address(data):
     return ctypes.cast(ctypes.c_char_p(data), c_void_p).value
 
 
-def _told(call, *arguments):
+def _text(call, *arguments):
     """The bytes that a call writes."""
     text = _Bytes(_EMPTY_AT, 0)
     call(*arguments, byref(text))
     return ctypes.string_at(text.at, text.len)
 
 
-def _fault(told):
-    return Fault(told.layer, told.code, told.offset, _told(_library.clim_fault_name, told.code).decode())
+def _fault(it):
+    return Fault(it.layer, it.code, it.offset, _text(_library.clim_fault_name, it.code).decode())
 
 
 def check(data, bare=False):
@@ -176,11 +176,11 @@ def open(data, bare=False):
 
 
 # The tables, by number, and the names of their columns.
-_NAMES = {number: name for number in range(256) if (name := _told(_library.clim_table_name, number).decode())}
+_NAMES = {number: name for number in range(256) if (name := _text(_library.clim_table_name, number).decode())}
 _NUMBERS = {name: number for number, name in _NAMES.items()}
 _COLUMNS = {
     number: [
-        _told(_library.clim_column_name, number, column).decode() for column in range(_library.clim_cell_count(number))
+        _text(_library.clim_column_name, number, column).decode() for column in range(_library.clim_cell_count(number))
     ]
     for number in _NAMES
 }
@@ -220,12 +220,12 @@ class Assembly:
     @property
     def version(self):
         """The version string of the root (II.24.2.1)."""
-        return _told(_library.clim_version, byref(self._view)).decode()
+        return _text(_library.clim_version, byref(self._view)).decode()
 
     @property
     def user(self):
         """The bytes of #US, as they are in the root (II.24.2.4)."""
-        return _told(_library.clim_user, byref(self._view))
+        return _text(_library.clim_user, byref(self._view))
 
     def row(self, token):
         """The row that a Token names."""

@@ -285,30 +285,31 @@ static void compare_types(const clim_view *view) {
 /* The rows with the key of a row are in ascending order and have that key. The row is one of them. */
 static void compare_keys(const clim_view *view, uint8_t table, size_t column) {
     uint32_t rows = clim_count(view, table), step = rows / 200 + 1;
-    uint32_t *told = malloc((rows + 1) * sizeof *told);
+    uint32_t *listed = malloc((rows + 1) * sizeof *listed);
     clim_cell key = NO_CELL, its_key = NO_CELL;
-    bool is_there = true, keyed = true, front = true;
-    if (told == NULL) stop("no memory");
+    bool is_there = true, keyed = true, prefix = true;
+    if (listed == NULL) stop("no memory");
     for (uint32_t row = 1; row <= rows; row += step) {
         clim_cell_at(view, table, row, column, &key);
-        told[rows] = 7;
-        size_t count = clim_rows_by_key(view, table, key.table, key.number, told, rows);
+        listed[rows] = 7;
+        size_t count = clim_rows_by_key(view, table, key.table, key.number, listed, rows);
         bool found = false;
         for (size_t i = 0; i < count; i++) {
-            found |= told[i] == row;
-            keyed &= (i == 0 || told[i - 1] < told[i]) && clim_cell_at(view, table, told[i], column, &its_key);
+            found |= listed[i] == row;
+            keyed &= (i == 0 || listed[i - 1] < listed[i]) && clim_cell_at(view, table, listed[i], column, &its_key);
             keyed &= its_key.table == key.table && its_key.number == key.number && its_key.kind == CLIM_ROW;
         }
-        is_there &= found && told[rows] == 7;
+        is_there &= found && listed[rows] == 7;
         uint32_t one[2] = {7, 7};
-        front &= clim_rows_by_key(view, table, key.table, key.number, one, 1) == 1 && one[0] == told[0] && one[1] == 7;
-        front &= clim_rows_by_key(view, table, key.table, key.number, one, 0) == 0;
-        front &= clim_rows_by_key(view, table, 0xFF, key.number, one, 1) == 0;
+        prefix &= clim_rows_by_key(view, table, key.table, key.number, one, 1) == 1;
+        prefix &= one[0] == listed[0] && one[1] == 7;
+        prefix &= clim_rows_by_key(view, table, key.table, key.number, one, 0) == 0;
+        prefix &= clim_rows_by_key(view, table, 0xFF, key.number, one, 1) == 0;
     }
     CHECK(is_there);
     CHECK(keyed);
-    CHECK(front);
-    free(told);
+    CHECK(prefix);
+    free(listed);
 }
 
 /* A view that is not open returns nothing, and nothing is written. */

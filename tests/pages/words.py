@@ -23,7 +23,7 @@ IDENTIFIER_WORDS = {
     "rule": "demand demands demanded demanding",
     "rebased": "raise raises raised raising",
     "offset, cell, use_index, position or span": "place places placed",
-    "encode, encoded or encoding": "spell spells spelled spelling spellings misspelled",
+    "encode, encoded or encoding": "spell spells spelled spelling spellings misspelled unspelled respelled",
     "report or reported": "tell tells told telling",
     "prefix or header": "front fronts",
     "remainder or tail": "rest rests",
@@ -95,7 +95,7 @@ PROSE = {
     r"words? (?:of|on|in) (?:a|the|its) command line|(?:all )?(?:its|these|the program's) words(?= (?:ask|lack|name|are|of))|words that (?:ask|name|follow)": "arguments",
     r"(?:is|are|be|was|were|been) made into|makes? \w+ into": "is converted to, or becomes",
     r"hand(?:s|ed|ing)? (?:\w+ ){0,2}back": "return",
-    r"(?:mis)?spell(?:s|ed|ing|ings)?": "encode, or encoding",
+    r"(?:mis|un|re)?spell(?:s|ed|ing|ings)?": "encode, or encoding",
     r"fronts?": "prefix, or header",
     r"the fill|filled (?:with|to|by) (?:zeros?|a multiple)|unfilled": "padding, or padded",
     r"raised (?:by|to)|raises? (?:a|the|an) (?:fault|offset|place)": "rebased",
@@ -108,6 +108,8 @@ FINE = [
     r"front (?:door|end|page)", r"in front of", r"left behind",
     # A line that the program prints.
     r"null where it is not allowed",
+    # A call of the method Rows::place in an example.
+    r"rows\.place",
 ]
 
 LANGUAGES = {".rt": RUST, ".rs": RUST, ".antt": ANTT, ".c": C, ".h": C, ".py": PYTHON, ".md": PAGE, ".1": PAGE}

@@ -18,7 +18,7 @@ fn length_of(bytes: &[u8]) -> u32 {
     bytes.len().min(0xFFFF_FFFF) as u32
 }
 
-/// Puts the header of a stream, whose name is filled, and answers where the next one stands.
+/// Puts the header of a stream, whose name is padded. Returns the offset of the next header.
 fn put_header(root: &mut Vec<u8>, at: u32, stream: &[u8], name: &[u8]) -> Result<u32, AllocError> {
     root.extend_from_slice(&at.to_le_bytes())?;
     root.extend_from_slice(&length_of(stream).to_le_bytes())?;
@@ -44,7 +44,7 @@ fn root_of(
     Ok(root)
 }
 
-/// A table stream of one table with so many rows, up to them.
+/// A table stream of one table with this number of rows, without the rows.
 fn table_of(alloc: Global, table: TableId, count: u32) -> Result<Vec<u8>, AllocError> {
     let mut tables = Vec::new(alloc);
     tables.extend_from_slice(TABLES)?;
@@ -60,7 +60,7 @@ fn put_packed(bytes: &mut Vec<u8>, number: u32) -> Result<(), AllocError> {
     Ok(())
 }
 
-/// A blob that spells so many local variables.
+/// A blob that encodes this number of local variables.
 fn put_locals(blobs: &mut Vec<u8>, count: u32) -> Result<(), AllocError> {
     put_packed(blobs, count.wrapping_add(5))?;
     blobs.push(0x07)?;

@@ -125,7 +125,7 @@ fn random_texts(
     Ok(texts)
 }
 
-/// So many texts of letters.
+/// This number of texts of letters.
 fn report_random(
     rt: &HostRuntime,
     alloc: Global,

@@ -4,7 +4,7 @@ use opening::open_root;
 use std::alloc::{AllocError, Global};
 use std::time::Instant;
 
-/// The root up to the size of its table stream, which stands at 64.
+/// The root up to the size of its table stream, which is at 64.
 const ROOT: &[u8] = b"BSJB\x01\0\x01\0\0\0\0\0\x04\0\0\0v\0\0\0\0\0\x02\0\x40\0\0\0";
 
 /// The rest of the headers, and the texts.
@@ -13,7 +13,7 @@ const TEXTS: &[u8] = b"#~\0\0\x38\0\0\0\x08\0\0\0#Strings\0\0\0\0\0abcdef\0";
 /// The header of a table stream that holds rows of TypeRef, up to their count.
 const TABLES: &[u8] = b"\0\0\0\0\x02\0\0\x01\x02\0\0\0\0\0\0\0\0\xFA\x01\x33\0\x16\0\0";
 
-/// A root of so many rows of TypeRef, each without a scope and with a name (II.22.38).
+/// A root of this number of rows of TypeRef, each without a scope and with a name (II.22.38).
 fn root_of(alloc: Global, count: u32) -> Result<Vec<u8>, AllocError> {
     let scope: &[u8] = if count < 0x4000 { b"\0\0" } else { b"\0\0\0\0" };
     let width = if count < 0x4000 { 6 } else { 8 };
@@ -31,7 +31,7 @@ fn root_of(alloc: Global, count: u32) -> Result<Vec<u8>, AllocError> {
     Ok(root)
 }
 
-/// How many microseconds it takes to open a root of so many rows, so many times; `None` where it has
+/// How many microseconds it takes to open a root of `count` rows `times` times; `None` if it has
 /// a fault.
 fn time_open(rt: &HostRuntime, alloc: Global, count: u32, times: u32) -> Result<Option<u128>> {
     let root = root_of(alloc, count)?;

@@ -29,7 +29,7 @@ fn explains_a_fault(rt: HostRuntime) -> Result<(), Fail> {
     Ok(())
 }
 
-/// Each line of the list is the first line of what is told of its fault.
+/// Each line of the list is the first line of the explanation of its fault.
 #[test]
 fn lists_all_faults(rt: HostRuntime) -> Result<(), Fail> {
     let (status, list, err) = answer(&rt, &["clim", "explain"])?;

@@ -13,7 +13,7 @@ pub fn answer(rt: &HostRuntime, words: &[&str]) -> Result<(u8, String, String), 
     Ok((status, out, err))
 }
 
-/// What is told of a file's first `len` bytes, some of them changed, and with which status.
+/// What the program prints for a file's first `len` bytes, some of them changed, and its exit code.
 #[derive(Clone, Copy)]
 pub struct Case<'a> {
     len: usize,
@@ -24,8 +24,8 @@ pub struct Case<'a> {
 }
 
 impl<'a> Case<'a> {
-    /// What is told of the first `len` bytes with `bytes` put over those at `offset`, on the output where
-    /// the status is 0, and else on standard error.
+    /// What the program prints for the first `len` bytes with `bytes` written over those at `offset`: on the
+    /// output if the exit code is 0, else on standard error.
     pub const fn new(len: usize, offset: usize, bytes: &'a [u8], status: u8, reported: &'a str) -> Self {
         Case {
             len,
@@ -37,8 +37,8 @@ impl<'a> Case<'a> {
     }
 }
 
-/// What the program answers to a case of a file, by the words before the file's name, where that is
-/// not what is told of the case.
+/// What the program prints for a case of a file, by the arguments before the file's name, if that is
+/// not what the case expects.
 pub fn other_answer(
     rt: &HostRuntime,
     words: &[&str],

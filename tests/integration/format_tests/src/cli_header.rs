@@ -1,4 +1,4 @@
-//! Tests of `cli_header`: a CLI header, each of its demands, and those of `pe` that come first.
+//! Tests of `cli_header`: a CLI header, each of its rules, and those of `pe` that come first.
 
 use crate::images::sample_with;
 use cli_header::{CliHeader, DataDirectory, Fault, read_cli, read_pe};
@@ -101,7 +101,7 @@ fn reads_each_field_at_its_offset(rt: HostRuntime) -> Result<(), Fail> {
 #[test]
 fn names_the_first_rule(rt: HostRuntime) -> Result<(), Fail> {
     for (changes, fault) in [
-        // Demands of the image come first.
+        // Rules of the image come first.
         (
             [(0x94, b"\xD7\0".as_slice()), (0, b"MZ")],
             Some((1, 104, 148)),
@@ -119,13 +119,13 @@ fn names_the_first_rule(rt: HostRuntime) -> Result<(), Fail> {
         // A header that no section has.
         ([(0x168, b"\xB9\x21\0\0"), (0, b"MZ")], Some((2, 202, 360))),
         ([(0x168, b"\xFF\x1F\0\0"), (0, b"MZ")], Some((2, 202, 360))),
-        // Cb of 71 bytes, also where the metadata has no place.
+        // Cb of 71 bytes, even if no section has the metadata.
         ([(0x208, b"\x47\0\0\0"), (0, b"MZ")], Some((2, 203, 520))),
         (
             [(0x208, b"\x47\0\0\0"), (0x210, b"\0\0\0\0")],
             Some((2, 203, 520)),
         ),
-        // Metadata that no section has, that ends with the section, and one byte behind it.
+        // Metadata that no section has, that ends with the section, and that ends one byte after it.
         ([(0x210, b"\0\0\0\0"), (0, b"MZ")], Some((2, 204, 528))),
         ([(0x214, b"\xB0\x01\0\0"), (0, b"MZ")], None),
         ([(0x214, b"\xB1\x01\0\0"), (0, b"MZ")], Some((2, 204, 528))),

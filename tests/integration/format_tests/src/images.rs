@@ -2,7 +2,7 @@ use sample_roots::{image, write_at};
 use std::alloc::Global;
 use std::test::Fail;
 
-/// A file of so many bytes that begins as the sample does, with these parts at their places.
+/// A file of `len` bytes that begins as the sample does, with these parts at their offsets.
 fn file_of(alloc: Global, len: usize, parts: &[(usize, &[u8])]) -> Result<Vec<u8>, Fail> {
     let mut file = vec![in alloc; 0; len]?;
     write_at(file.as_mut_slice(), 0, &image());

@@ -1,4 +1,4 @@
-//! Tests of `pe`: a PE file, each of its demands, and where its sections put the bytes of an address.
+//! Tests of `pe`: a PE file, each of its rules, and the file offset of an address.
 
 use crate::images::{sample_with, sections_of};
 use packed::Fault;
@@ -74,7 +74,7 @@ fn names_the_first_rule(rt: HostRuntime) -> Result<(), Fail> {
         // Fourteen data directories, and fifteen.
         ([(0xF4, b"\x0E\0\0\0"), (0, b"MZ")], Some((107, 244))),
         ([(0xF4, b"\x0F\0\0\0"), (0, b"MZ")], None),
-        // As many sections as there is room for, and one more.
+        // The largest number of sections that there is room for, and one more.
         ([(0x86, b"\x10\0"), (0, b"MZ")], None),
         ([(0x86, b"\x11\0"), (0, b"MZ")], Some((108, 134))),
         ([(0x86, b"\xFF\xFF"), (0, b"MZ")], Some((108, 134))),

@@ -1,4 +1,4 @@
-//! Tests of `root`: a metadata root, each of its demands, and what stands on both sides of a limit.
+//! Tests of `root`: a metadata root, each of its rules, and both sides of each limit.
 
 use packed::Fault;
 use root::{Kind, read_root};
@@ -6,7 +6,7 @@ use sample_roots::{ONE_MODULE, fault_of};
 use std::alloc::Global;
 use std::test::Fail;
 
-/// What reading the first so many bytes of the sample answers.
+/// What reading the first `len` bytes of the sample returns.
 fn fault_of_prefix(len: usize) -> Option<Fault> {
     let (code, offset) = match len {
         0..=15 => (301, 0),
@@ -83,14 +83,14 @@ fn names_the_first_rule(rt: HostRuntime) {
         // A version without a NUL, and one that is not UTF-8.
         ([(26, 1), (27, 1)], Some((302, 12))),
         ([(20, 0xFF), (20, 0xFF)], Some((302, 12))),
-        // What stands behind the first NUL is not read.
+        // What follows the first NUL is not read.
         ([(27, 0xFF), (27, 0xFF)], None),
-        // 255 headers: the bytes from 80 on are read as four that are ignored, and none stands at 128.
+        // 255 headers: the bytes from 80 on are read as four that are ignored, and none is at 128.
         ([(30, 0xFF), (30, 0xFF)], Some((304, 128))),
         // A name that is not ASCII, and a third header that names the tables again.
         ([(53, 0x80), (53, 0x80)], Some((304, 44))),
         ([(73, 0x7E), (74, 0)], Some((306, 64))),
-        // A stream that ends one byte behind the root, and one of another name that does.
+        // A stream that ends one byte after the root, and one of another name that does.
         ([(68, 17), (68, 17)], Some((305, 64))),
         ([(68, 17), (73, 0x48)], None),
         // The name `#-`, which comes before the missing tables, and the tables under another name.

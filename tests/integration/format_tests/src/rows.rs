@@ -29,7 +29,7 @@ const CONSTANTS: [u8; 54] = [
     0x08, 0xFF, 0x05, 0x12, 0x03, 0x00,
 ];
 
-/// The place and the number of a cell, `None` where the stream has no such cell.
+/// The offset and the number of a cell, `None` if the stream has no such cell.
 fn cell(stream: &[u8], table: TableId, row: u32, column: usize) -> Option<(usize, u32)> {
     let rows = Rows::new(stream, Layout::read(stream).ok()?);
     let is_there = 1 <= row && row <= rows.layout().count(table) && column < columns(table).len();

@@ -73,7 +73,7 @@ fn rows_stand_in_the_order_in_which_they_are_pushed(rt: HostRuntime) -> Result<(
 }
 
 #[test]
-fn user_bytes_take_the_place_of_those_before(rt: HostRuntime) -> Result<(), Fail> {
+fn user_bytes_replace_those_before(rt: HostRuntime) -> Result<(), Fail> {
     let alloc = rt.alloc();
     let mut tables = Tables::new(alloc, "")?;
     for user in [b"\0\x01".as_slice(), b"\x02", b""] {

@@ -79,7 +79,7 @@ fn table_says(alloc: Global, model: &Model, view: &View, table: TableId) -> Resu
     Ok(model.count(table) == view.count(table))
 }
 
-/// Whether the user bytes are those that a view shows, filled with zeros to a multiple of four.
+/// Whether the user bytes are those that a view shows, zero-padded to a multiple of four.
 fn user_says(model: &Model, view: &View) -> bool {
     let user = model.user();
     let padding = user.iter().skip(view.user().len());
@@ -138,12 +138,12 @@ pub enum Answer {
     Fault(Fault),
 }
 
-/// Loads bytes and opens them, which has to answer alike.
+/// Loads bytes and opens them, which has to give the same result.
 pub fn loaded(alloc: Global, form: Form, bytes: &[u8]) -> Result<Answer, Fail> {
     match (load(alloc, form, bytes), open(form, bytes)) {
         (Ok(model), Ok(view)) => Ok(Answer::Model(seen(alloc, model, &view)?)),
         (Err(LoadError::Fault(fault)), Err(opened)) if fault == opened => Ok(Answer::Fault(fault)),
-        _ => Err(Fail::from("loading answers otherwise than opening")),
+        _ => Err(Fail::from("loading and opening give different results")),
     }
 }
 
@@ -178,7 +178,7 @@ pub fn fault_of_image(alloc: Global, file: &[u8]) -> Result<Option<(u16, u64)>, 
     Ok(fault_of(fault_in(alloc, Form::Image, file)?))
 }
 
-/// A cell of a model, by its row from 1 and its place from 0.
+/// A cell of a model, by its row from 1 and its index in the row from 0.
 fn cell_in(model: &Model, table: TableId, row: u32, cell_index: usize) -> Option<&Cell> {
     if 1 <= row && row <= model.count(table) {
         model.cells(table, row).get(cell_index)
@@ -187,7 +187,7 @@ fn cell_in(model: &Model, table: TableId, row: u32, cell_index: usize) -> Option
     }
 }
 
-/// Whether a model has this cell, by its row from 1 and its place from 0.
+/// Whether a model has this cell, by its row from 1 and its index in the row from 0.
 pub fn has_cell(model: &Model, table: TableId, row: u32, cell_index: usize, cell: Cell) -> bool {
     match cell_in(model, table, row, cell_index) {
         Some(found) => *found == cell,

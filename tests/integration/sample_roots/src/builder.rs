@@ -3,7 +3,7 @@ use std::alloc::{AllocError, Global};
 /// The Sorted bits of all tables that have a key.
 pub const ALL_SORTED: u64 = 0x1600_3301_FA00;
 
-/// A stream behind `#~`.
+/// A stream after `#~`.
 #[derive(Drop)]
 struct Stream {
     name: &'static str,
@@ -11,7 +11,7 @@ struct Stream {
 }
 
 /// A root that is laid out from rows and heaps: its streams follow the headers in their order, without
-/// gaps, each filled with zeros to a multiple of four.
+/// gaps, each zero-padded to a multiple of four.
 #[derive(Drop)]
 pub struct RootBuilder {
     /// The version.
@@ -26,12 +26,12 @@ pub struct RootBuilder {
     streams: Vec<Stream>,
 }
 
-/// A length filled to a multiple of four.
+/// A length padded to a multiple of four.
 fn zero_padded(len: usize) -> usize {
     len.saturating_add(3) / 4 * 4
 }
 
-/// Appends bytes, filled with zeros to so many.
+/// Appends bytes, zero-padded to a length.
 fn put_padded(bytes: &mut Vec<u8>, part: &[u8], len: usize) -> Result<(), AllocError> {
     bytes.extend_from_slice(part)?;
     for _ in part.len()..len {
@@ -73,7 +73,7 @@ impl RootBuilder {
         }
     }
 
-    /// Adds a row to the table of a number, which is below 64, behind the rows of that table and of those
+    /// Adds a row to the table of a number, which is below 64, after the rows of that table and of those
     /// of lower numbers.
     pub fn row(&mut self, number: u8, row: &[u8]) -> Result<(), AllocError> {
         if let Some(count) = self.counts.get_mut(number as usize) {
@@ -83,7 +83,7 @@ impl RootBuilder {
         Ok(())
     }
 
-    /// Adds a stream behind the others.
+    /// Adds a stream after the others.
     pub fn heap(&mut self, name: &'static str, bytes: &[u8]) -> Result<(), AllocError> {
         let bytes = Vec::from_slice(self.alloc, bytes)?;
         self.streams.push(Stream { name, bytes })?;

@@ -1,6 +1,6 @@
 use std::alloc::{AllocError, Global};
 
-/// Writes bytes over those that stand at a place; what lies behind the end is left out.
+/// Writes bytes over those at an offset. What would be past the end is left out.
 pub fn write_at(bytes: &mut [u8], offset: usize, part: &[u8]) {
     for (i, byte) in part.iter().enumerate() {
         if let Some(slot) = bytes.get_mut(offset.saturating_add(i)) {
@@ -9,14 +9,14 @@ pub fn write_at(bytes: &mut [u8], offset: usize, part: &[u8]) {
     }
 }
 
-/// Writes each byte at its place.
+/// Writes each byte at its offset.
 pub fn change(bytes: &mut [u8], changes: &[(usize, u8)]) {
     for (offset, byte) in changes {
         write_at(bytes, *offset, &[*byte]);
     }
 }
 
-/// Bytes of which some are changed. An error is want of memory alone.
+/// Bytes of which some are changed. The only error is lack of memory.
 pub fn changed(
     alloc: Global,
     bytes: &[u8],

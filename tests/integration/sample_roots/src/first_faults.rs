@@ -1,5 +1,5 @@
-/// Changes to a sample by which one demand is the first that it does not meet: the places and the bytes that
-/// stand there then, and the code, the place and the name of the fault.
+/// Changes to a sample by which one rule is the first that it breaks: the offsets and the new bytes there, and
+/// the code, the offset and the name of the fault.
 pub type FirstFault = (&'static [(usize, u8)], u16, u64, &'static str);
 
 /// Of the file that `image` gives.
@@ -71,7 +71,7 @@ pub const NESTED_TYPE_FAULTS: [FirstFault; 2] = [
     (&[(124, 3)], 604, 124, "NestedOrder"),
 ];
 
-/// The length of the longest front of a sample that has this fault, and the code and the place.
+/// The length of the longest prefix of a sample that has this fault, and the code and the offset.
 pub type PrefixFault = (usize, u16, u64);
 
 /// Of the file, whose root ends at 736.

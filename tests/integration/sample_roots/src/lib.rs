@@ -1,8 +1,8 @@
 //! Metadata roots and a file for tests (ECMA-335 II.24.2 and II.25), byte by byte or laid out from rows.
 //!
-//! [`ONE_MODULE`], [`TWO_TYPES`], [`THREE_TYPES`], [`NO_ROWS`] and [`image`] are small and take no memory.
-//! The lists of [`FirstFault`] say by which changes of these each demand of ECMA-335 Partition II (22 to
-//! 25) is the first to fail, and those of [`PrefixFault`] what their fronts are refused with.
+//! [`ONE_MODULE`], [`TWO_TYPES`], [`THREE_TYPES`], [`NO_ROWS`] and [`image`] are small and do not allocate.
+//! The lists of [`FirstFault`] say by which changes of these each rule of ECMA-335 Partition II (22 to
+//! 25) is the first to break, and those of [`PrefixFault`] what their prefixes are refused with.
 //! [`RootBuilder`] lays out a root from rows and heaps, and the functions `root_of_..` lay out those that
 //! several crates ask about. [`fault_of`] is what tests compare of a fault.
 

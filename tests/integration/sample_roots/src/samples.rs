@@ -13,7 +13,7 @@ pub const ONE_MODULE: [u8; 144] = [
     0x00, 0x01, 0x02, 0x03, 0x04, 0x05, 0x06, 0x07, 0x08, 0x09, 0x0A, 0x0B, 0x0C, 0x0D, 0x0E, 0x0F,
 ];
 
-/// A root of two types, of which the second has two fields and a method: the rows of TypeDef stand at 116,
+/// A root of two types, of which the second has two fields and a method: the rows of TypeDef are at 116,
 /// those of Field at 144, that of MethodDef at 156.
 pub const TWO_TYPES: [u8; 200] = [
     0x42, 0x53, 0x4A, 0x42, 0x01, 0x00, 0x01, 0x00, 0x00, 0x00, 0x00, 0x00, 0x0C, 0x00, 0x00, 0x00,
@@ -39,7 +39,7 @@ pub const NO_ROWS: [u8; 60] = [
     0x00, 0x00, 0x00, 0x00, 0x00, 0xFA, 0x01, 0x33, 0x00, 0x16, 0x00, 0x00,
 ];
 
-/// A root of three types, of which the second and the third stand within the first: the rows of TypeDef stand
+/// A root of three types, of which the second and the third are nested in the first: the rows of TypeDef are
 /// at 76, those of NestedClass at 118.
 pub const THREE_TYPES: [u8; 128] = [
     0x42, 0x53, 0x4A, 0x42, 0x01, 0x00, 0x01, 0x00, 0x00, 0x00, 0x00, 0x00, 0x0C, 0x00, 0x00, 0x00,
@@ -74,7 +74,7 @@ pub const NAMES_APART: [u8; 112] = [
     0x06, 0x00, 0x00, 0x00, 0x00, 0x4E, 0x61, 0x6D, 0x65, 0x00, 0x6D, 0x65, 0x00, 0x00, 0x00, 0x00,
 ];
 
-/// A PE32 file of one section and a CLI header: where its bytes that are not 0 stand. Its root stands at 592.
+/// A PE32 file of one section and a CLI header: the offsets of its bytes that are not 0. Its root is at 592.
 const IMAGE: [(usize, &[u8]); 14] = [
     (0x000, b"MZ"),
     (0x03C, b"\x80\0\0\0"),

@@ -8,10 +8,10 @@ pub fn type_row(fields: u8, methods: u8) -> [u8; 14] {
     [0, 0, 0, 0, 0, 0, 0, 0, 0, 0, fields, 0, methods, 0]
 }
 
-/// A row of Field: its blob stands at 1, and spells a four byte number.
+/// A row of Field: its blob is at 1, and encodes a four byte number.
 pub const FIELD: &[u8] = b"\0\0\0\0\x01\0";
 
-/// A root of three types, whose runs of fields start at these rows of two: the rows of TypeDef stand at 92.
+/// A root of three types, whose runs of fields start at these rows of two: the rows of TypeDef are at 92.
 pub fn root_of_starts(alloc: Global, starts: [u8; 3]) -> Result<Vec<u8>, AllocError> {
     let mut root = RootBuilder::new(alloc);
     for start in starts {
@@ -23,7 +23,7 @@ pub fn root_of_starts(alloc: Global, starts: [u8; 3]) -> Result<Vec<u8>, AllocEr
     root.finish()
 }
 
-/// A root of two methods and 65535 parameters, which start at row 1 and, by a null, behind the last.
+/// A root of two methods and 65535 parameters, which start at row 1 and, by a null, after the last.
 pub fn root_of_params(alloc: Global) -> Result<Vec<u8>, AllocError> {
     let mut root = RootBuilder::new(alloc);
     root.row(0x02, &type_row(1, 1))?;
@@ -45,7 +45,7 @@ pub const OF_MODULE: &[u8] = b"\x27\0\x0B\0\0\0";
 pub const OTHERS_SORTED: u64 = ALL_SORTED - (1 << 0x0C);
 
 /// A root of a module, an assembly and custom attributes, with these Sorted bits: the rows of
-/// CustomAttribute stand at 126.
+/// CustomAttribute are at 126.
 pub fn root_of_attributes(
     alloc: Global,
     sorted: u64,
@@ -77,7 +77,7 @@ pub fn root_of_wide_indexes(alloc: Global) -> Result<Vec<u8>, AllocError> {
     root.finish()
 }
 
-/// A root of one exported type with this Implementation, which stands at 84.
+/// A root of one exported type with this Implementation, which is at 84.
 pub fn root_of_implementation(alloc: Global, implementation: u8) -> Result<Vec<u8>, AllocError> {
     let mut root = RootBuilder::new(alloc);
     root.row(
@@ -104,8 +104,8 @@ pub fn root_of_long_text(alloc: Global) -> Result<Vec<u8>, AllocError> {
     root.finish()
 }
 
-/// A root of so many rows of TypeRef and one of TypeSpec, which stands at 98 behind two of them: the class of
-/// the first behind a modifier of the second.
+/// A root of this number of rows of TypeRef and one of TypeSpec, which is at 98 after two of them: the class of
+/// the first after a modifier of the second.
 pub fn root_of_references(alloc: Global, references: u8) -> Result<Vec<u8>, AllocError> {
     let mut root = RootBuilder::new(alloc);
     for _ in 0..references {

@@ -1,7 +1,7 @@
 use owned_model::{Bytes, Cell, Text};
 use std::alloc::{AllocError, Global};
 
-/// A cell that says the same as another, and shares nothing with it. An error is want of memory alone.
+/// A cell that says the same as another, and shares nothing with it. The only error is lack of memory.
 pub fn copy_cell(alloc: Global, cell: &Cell) -> Result<Cell, AllocError> {
     match cell {
         Cell::Number(number) => Ok(Cell::Number(*number)),

@@ -237,7 +237,7 @@ pub enum Change {
     User(&'static [u8]),
     /// Other cells of a row.
     Cells(TableId, usize, &'static [Written]),
-    /// Another cell, by its row from 1 and its place from 0.
+    /// Another cell, by its row from 1 and its index in the row from 0.
     Cell(TableId, usize, usize, Written),
     /// No rows of a table.
     NoRows(TableId),

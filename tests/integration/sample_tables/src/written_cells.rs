@@ -22,7 +22,7 @@ pub enum Written {
     NoRow,
     /// The first row of an owner's run.
     Start(u32),
-    /// The signature that bytes spell in a column of a kind.
+    /// The signature that bytes encode in a column of a kind.
     Sig(SigKind, &'static [u8]),
 }
 

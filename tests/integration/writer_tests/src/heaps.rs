@@ -5,7 +5,7 @@ use std::alloc::{AllocError, Global};
 use std::mem;
 use std::test::Fail;
 
-/// How many letters there are: 2^20 for a part, and more, so that parts begin at different places.
+/// How many letters there are: 2^20 for a part, and more, so that parts begin at different offsets.
 const LETTERS: usize = (1 << 20) + (1 << 12);
 
 /// A text of 2^20 letters and 2^12 more, of which no long part comes twice.

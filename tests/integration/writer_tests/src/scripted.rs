@@ -5,7 +5,7 @@ use std::io::{ErrorKind, Write};
 /// What a writer does when it is called.
 #[derive(Clone, Copy, Debug, PartialEq, Eq)]
 pub enum Step {
-    /// It takes so many bytes, or all where there are fewer.
+    /// It takes this number of bytes, or all if there are fewer.
     Take(usize),
     /// It fails.
     Fail,
@@ -13,7 +13,7 @@ pub enum Step {
     Interrupt,
 }
 
-/// A writer into memory that follows a list of steps, one a call, and behind the last one takes all.
+/// A writer into memory that follows a list of steps, one a call, and after the last one takes all.
 #[derive(Drop)]
 pub struct Scripted<'a> {
     bytes: Vec<u8>,

@@ -96,7 +96,7 @@ fn a_view_reports_which_tables_are_in_order(rt: HostRuntime) -> Result<(), Fail>
     Ok(())
 }
 
-/// A root of no rows whose `#US` has so many bytes, of which the last is 5; its fill stands behind it, or the end.
+/// A root of no rows whose `#US` has `len` bytes, of which the last is 5. Its padding follows it, or the end.
 fn root_of_user_bytes(alloc: Global, len: usize) -> Result<Vec<u8>, Fail> {
     let mut user = Vec::new(alloc);
     user.resize(len - 1, 0)?;
@@ -104,7 +104,7 @@ fn root_of_user_bytes(alloc: Global, len: usize) -> Result<Vec<u8>, Fail> {
     let mut builder = RootBuilder::new(alloc);
     builder.heap("#US", &user)?;
     let mut root = builder.finish()?;
-    // The header of `#US` stands at 44, behind that of `#~`, and its size at 48.
+    // The header of `#US` is at 44, after that of `#~`, and its size at 48.
     root[48] = len.min(0xFF) as u8;
     Ok(root)
 }

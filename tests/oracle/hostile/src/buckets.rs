@@ -3,7 +3,7 @@ use std::alloc::{AllocError, Global};
 /// How many buckets there are.
 const COUNT: usize = 256;
 
-/// The places of values, by their first bytes, so that an equal one is found soon.
+/// The offsets of values, by their first bytes, so that an equal one is found soon.
 #[derive(Drop)]
 pub struct Buckets {
     offsets: Vec<Vec<usize>>,
@@ -19,13 +19,13 @@ impl Buckets {
         Ok(Buckets { offsets })
     }
 
-    /// Notes the place of a value.
+    /// Notes the offset of a value.
     pub fn note(&mut self, value: &[u8], offset: usize) -> Result<(), AllocError> {
         self.offsets[bucket_of(value)].push(offset)?;
         Ok(())
     }
 
-    /// The places of the values among which one stands.
+    /// The offsets of the values among which a value is.
     pub fn near(&self, value: &[u8]) -> &[usize] {
         self.offsets[bucket_of(value)].as_slice()
     }

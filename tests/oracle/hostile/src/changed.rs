@@ -9,7 +9,7 @@ const CODES: [u8; 32] = [
     0x1A, 0x1B, 0x1D, 0x1E, 0x1F, 0x20, 0x28, 0x41, 0x45, 0x80, 0xC0, 0xE0,
 ];
 
-/// A root with a change or a few near places that mean something, and sometimes cut off.
+/// A root with a change or a few near offsets that mean something, and sometimes cut off.
 pub fn changed(
     alloc: Global,
     random: &mut Random,

@@ -5,7 +5,7 @@ use crate::random::Random;
 use crate::encoded_tables::{EncodedTables, encoded_tables};
 use std::alloc::{AllocError, Global};
 
-/// A root, and the places in it that mean something, each with how many bytes it has.
+/// A root, and the offsets in it that mean something, each with its number of bytes.
 #[derive(Drop)]
 pub struct EncodedRoot {
     pub bytes: Vec<u8>,
@@ -27,7 +27,7 @@ const OTHERS: [&[u8]; 6] = [
     b"12345678901234567890123456789012",
 ];
 
-/// A stream: its name, its place in the headers' order, and where it lies.
+/// A stream: its name, its index in the headers' order, its offset and its length.
 #[derive(Clone, Copy)]
 struct Named {
     name: &'static [u8],
@@ -35,8 +35,8 @@ struct Named {
     len: usize,
 }
 
-/// Spells a valid model as no writer does: any numbers where they mean nothing, more padding than is needed, headers
-/// of names that mean nothing, streams in any order with bytes between them, and tables as strangers spell them.
+/// Encodes a valid model as no writer does: any numbers where they mean nothing, more padding than is needed, headers
+/// of names that mean nothing, streams in any order with bytes between them, and tables as strangers encode them.
 pub fn encoded_root(
     alloc: Global,
     random: &mut Random,
@@ -114,7 +114,7 @@ fn without_padding<'a>(random: &mut Random, user: &'a [u8]) -> &'a [u8] {
     &user[..len]
 }
 
-/// The headers of the streams, among others that mean nothing; their offsets count from behind the headers.
+/// The headers of the streams, among others that mean nothing; their offsets count from the end of the headers.
 fn named_streams(
     alloc: Global,
     random: &mut Random,
@@ -198,7 +198,7 @@ impl EncodedRoot {
         Ok(())
     }
 
-    /// Notes the places of a stream that lies here.
+    /// Notes the offsets of a stream that lies here.
     fn note_offsets(
         &mut self,
         stream: usize,

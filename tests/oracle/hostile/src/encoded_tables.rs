@@ -1,13 +1,13 @@
 use crate::numbers::put_number;
 use crate::plain_model::{PlainCell, PlainModel};
-use crate::plain_signatures::respelled;
+use crate::plain_signatures::reencoded;
 use crate::plain_writer::{is_in_order, number_of_row};
 use crate::random::Random;
 use crate::encoded_heap::EncodedHeap;
 use crate::standard::{Counts, Kind, TABLES, Table, columns, key_column, listed, width};
 use std::alloc::{AllocError, Global};
 
-/// A table stream and the heaps behind it, spelled as no writer does.
+/// A table stream and the heaps after it, encoded as no writer does.
 #[derive(Drop)]
 pub struct EncodedTables {
     pub bytes: Vec<u8>,
@@ -20,9 +20,9 @@ pub struct EncodedTables {
     pub cells: Vec<(usize, usize)>,
 }
 
-/// Spells the tables of a valid model: indexes are wider than they need to be, tables without rows are named, Sorted
+/// Encodes the tables of a valid model: indexes are wider than they need to be, tables without rows are named, Sorted
 /// says what it likes where it may, nulls have any tag, starts are null where the next one is the same, padding is
-/// any byte, and bytes stand behind the last table.
+/// any byte, and bytes follow the last table.
 pub fn encoded_tables(
     alloc: Global,
     random: &mut Random,
@@ -110,7 +110,7 @@ impl EncodedTables {
                 } else {
                     None
                 };
-                match respelled(alloc, blob.as_slice(), *kind, forms) {
+                match reencoded(alloc, blob.as_slice(), *kind, forms) {
                     Ok(signature) => self.blobs.blob(random, signature.bytes.as_slice()),
                     Err(_) => Err(AllocError),
                 }
@@ -185,7 +185,7 @@ impl EncodedTables {
     }
 }
 
-/// The start that a null one stands for: that of the next owner, and behind the last the end of the members.
+/// The start that a null one stands for: that of the next owner, and after the last the end of the members.
 fn end_of_run(model: &PlainModel, table: Table, row: usize, offset: usize, kind: Kind) -> u32 {
     let next = model.rows(table).get(row + 1).map(|cells| &cells[offset]);
     match (next, kind) {

@@ -75,7 +75,7 @@ impl Tally {
     }
 }
 
-/// Whether a fault is of a demand at an offset.
+/// Whether a fault is of a rule at an offset.
 pub fn is_fault(fault: &Fault, code: u16, offset: usize) -> bool {
     fault.code == code
         && fault.offset == offset as u64
@@ -103,8 +103,8 @@ where
     }
 }
 
-/// Opens and loads a root, and holds what is answered against what the standard says, read plainly. Where a
-/// model is told, the root is one of its.
+/// Opens and loads a root, and compares the result with what the standard says, read plainly. If the result
+/// is a model, the root is one of its roots.
 pub fn judge_root(
     alloc: Global,
     random: &mut Random,

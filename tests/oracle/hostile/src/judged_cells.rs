@@ -1,6 +1,6 @@
 use crate::judged::{Stop, broken};
 use crate::plain_model::{PlainCell, PlainModel};
-use crate::plain_signatures::{Unspelled, respelled};
+use crate::plain_signatures::{NotEncoded, reencoded};
 use crate::standard::{TABLES, Table};
 use model::{
     Bytes, Cell, CellRef, Model, SigError, TableId, Tables, Text, Token, View, decode, encode,
@@ -105,10 +105,10 @@ fn shows(alloc: Global, cell: CellRef, expected: &PlainCell) -> Result<bool, Sto
         (CellRef::Ref(reference), PlainCell::Row(named)) => names(&reference, named),
         (CellRef::Start(start), PlainCell::Start(other)) => start == *other,
         (CellRef::Sig(blob), PlainCell::Signature(kind, other)) => {
-            match respelled(alloc, blob, *kind, None) {
+            match reencoded(alloc, blob, *kind, None) {
                 Ok(signature) => signature.bytes == *other,
-                Err(Unspelled::Memory) => return Err(Stop::Memory),
-                Err(Unspelled::Bad) => false,
+                Err(NotEncoded::Memory) => return Err(Stop::Memory),
+                Err(NotEncoded::Bad) => false,
             }
         }
         _ => false,

@@ -7,8 +7,8 @@ use crate::plain_root::Refused;
 use model::{CliHeader, LoadError, load_image, open_image, read_heads};
 use std::alloc::Global;
 
-/// Opens and loads a file, and holds what is answered against what the standard says, read plainly. Where a model
-/// is told, the file has it.
+/// Opens and loads a file, and compares the result with what the standard says, read plainly. If the result is a
+/// model, the file has it.
 pub fn judge_image(
     alloc: Global,
     file: &[u8],

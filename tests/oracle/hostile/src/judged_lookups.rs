@@ -194,7 +194,7 @@ fn judge_keys(
     if model.in_order(id) != is_ordered || view.in_order(id) != is_ordered {
         return Err(broken(
             alloc,
-            "a table is in order, and told not to be, or the other way round",
+            "a table is in order, and reported not to be, or the other way round",
         ));
     }
     let count = plain.count(table);

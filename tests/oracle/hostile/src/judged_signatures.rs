@@ -1,7 +1,7 @@
 use crate::changed::change_value;
 use crate::judged::{Stop, Tally, broken};
 use crate::made_signatures::made_signature;
-use crate::plain_signatures::{Unspelled, respelled};
+use crate::plain_signatures::{NotEncoded, reencoded};
 use crate::random::Random;
 use crate::standard::{Counts, TYPE_DEF, TYPE_REF, TYPE_SPEC};
 use model::{SigError, SigKind, decode, encode, recognise};
@@ -28,7 +28,7 @@ pub fn judge_signatures(alloc: Global, random: &mut Random, tally: &mut Tally) -
     let mut blob = made_signature(alloc, random, &counts, kind)?;
     if random.is_one_in(2) {
         let forms = Some(*random);
-        if let Ok(signature) = respelled(alloc, blob.as_slice(), kind, forms) {
+        if let Ok(signature) = reencoded(alloc, blob.as_slice(), kind, forms) {
             blob = signature.bytes;
         }
     }
@@ -58,11 +58,11 @@ pub fn judge_signatures(alloc: Global, random: &mut Random, tally: &mut Tally) -
 fn is_read(alloc: Global, blob: &[u8], kind: SigKind, counts: &Counts) -> Result<bool, Stop> {
     let is_recognised = recognise(blob, kind);
     match (
-        respelled(alloc, blob, kind, None),
+        reencoded(alloc, blob, kind, None),
         decode(alloc, blob, kind),
     ) {
-        (Err(Unspelled::Memory), _) | (_, Err(SigError::Memory)) => Err(Stop::Memory),
-        (Err(Unspelled::Bad), Err(SigError::Bad)) => Ok(!is_recognised),
+        (Err(NotEncoded::Memory), _) | (_, Err(SigError::Memory)) => Err(Stop::Memory),
+        (Err(NotEncoded::Bad), Err(SigError::Bad)) => Ok(!is_recognised),
         (Ok(plain), Ok(signature)) => {
             let mut bad = None;
             for (table, row) in plain.indexes.iter().rev() {

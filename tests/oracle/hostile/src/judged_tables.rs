@@ -10,7 +10,7 @@ use crate::standard::{Kind, NESTED_CLASS, RUNS, TABLES, Table, columns};
 use model::Model;
 use std::alloc::{AllocError, Global};
 
-/// Makes a model of tables of which something may be wrong, and holds what is answered against the rules.
+/// Makes a model of tables of which something may be wrong, and compares the result with the rules.
 pub fn judge_tables(
     alloc: Global,
     random: &mut Random,
@@ -98,7 +98,7 @@ pub fn broken_root(
             1 => plain.tables[owner as usize].clear(),
             2 => change_start(random, &mut plain, owner, column),
             3 => {
-                // An enclosing type stands behind the type in it.
+                // An enclosing type follows the type in it.
                 for cells in plain.tables[NESTED_CLASS as usize].iter_mut() {
                     cells.swap(0, 1);
                 }

@@ -81,7 +81,7 @@ impl CellMaker {
         }
     }
 
-    /// A number of so many bytes, often at an end of what they hold.
+    /// A number of `width` bytes, often the least or the greatest.
     fn number(&mut self, width: usize) -> PlainCell {
         let any = self.random.number() & 0x7FFF_FFFF;
         let number = self.random.pick(&[
@@ -115,7 +115,7 @@ impl CellMaker {
         Ok(PlainCell::Text(text))
     }
 
-    /// Bytes; some of them spell others with their length before them.
+    /// Bytes; some of them encode others with their length before them.
     fn bytes(&mut self) -> Result<PlainCell, AllocError> {
         let blob = self.random.pick(&BLOBS);
         let mut bytes = Vec::new(self.alloc);

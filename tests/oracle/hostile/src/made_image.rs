@@ -4,7 +4,7 @@ use crate::encoded_root::EncodedRoot;
 use crate::standard::{FILE, METHOD_DEF};
 use std::alloc::{AllocError, Global};
 
-/// A section: its address, how many bytes it has, and where they stand.
+/// A section: its address, its number of bytes, and their offset.
 #[derive(Clone, Copy)]
 struct Section {
     address: u32,
@@ -13,7 +13,7 @@ struct Section {
 }
 
 /// A file around a root: its headers stand anywhere, the CLI header and the root in one section or in two, and there
-/// are sections before and behind them that are not meant.
+/// are sections before and after them that are not meant.
 pub fn made_image(
     alloc: Global,
     random: &mut Random,
@@ -98,7 +98,7 @@ fn sections_of(random: &mut Random, count: u32, header: u32, start: u32, end: u3
     sections
 }
 
-/// The address of bytes at a place of the file, by the first section that holds them there.
+/// The address of bytes at an offset of the file, by the first section that holds them there.
 fn address_of(sections: &[Section], offset: u32, len: u32) -> u32 {
     for section in sections {
         let is_held = section.offset <= offset && offset + len <= section.offset + section.len;
@@ -126,14 +126,14 @@ fn entry_of(random: &mut Random, model: &PlainModel) -> (u32, u32) {
 }
 
 impl EncodedRoot {
-    /// Puts bytes at a place.
+    /// Puts bytes at an offset.
     fn put(&mut self, offset: u32, part: &[u8]) {
         for (byte, new) in self.bytes.iter_mut().skip(offset as usize).zip(part.iter()) {
             *byte = *new;
         }
     }
 
-    /// Puts a number at a place that means something.
+    /// Puts a number at an offset that means something.
     fn put_head(&mut self, offset: u32, number: u32, width: usize) -> Result<(), AllocError> {
         self.put(offset, &number.to_le_bytes()[..width]);
         self.heads.push((offset as usize, width))?;
@@ -151,7 +151,7 @@ impl EncodedRoot {
         Ok(())
     }
 
-    /// Notes some places of the root.
+    /// Notes some offsets of the root.
     fn note_root(
         &mut self,
         random: &mut Random,

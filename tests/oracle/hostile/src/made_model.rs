@@ -18,7 +18,7 @@ pub enum Shape {
     Sparse,
     /// A few rows of all tables.
     Full,
-    /// A table of as many rows as make an index of custom attributes wider, or of one less.
+    /// A table with enough rows to make an index of custom attributes wider, or one less.
     Long,
     /// The same for any index, which takes long to try.
     Longest,
@@ -151,7 +151,7 @@ fn made_counts(random: &mut Random, shape: Shape) -> Counts {
     counts
 }
 
-/// Gives a table that an index names as many rows as make the index wider, or one less, and those rows that others
+/// Gives a table that an index names enough rows to make the index wider, or one less, and those rows that others
 /// need.
 fn lengthen(random: &mut Random, shape: Shape, counts: &mut Counts) {
     let coded = match shape {
@@ -165,7 +165,7 @@ fn lengthen(random: &mut Random, shape: Shape, counts: &mut Counts) {
         }
     }
     if shape == Shape::Long && random.is_one_in(3) {
-        // Owners of so many rows that not all of their starts are kept.
+        // Owners with more rows than starts are kept.
         table = random.pick(&[TYPE_DEF, METHOD_DEF]);
     }
     let limit = if shape == Shape::Longest && random.is_one_in(10) {
@@ -237,7 +237,7 @@ fn number_guids(rows: &mut Vec<Vec<PlainCell>>) {
     }
 }
 
-/// A nested type, behind the one around it.
+/// A nested type, after the one around it.
 fn nested_row(maker: &mut CellMaker) -> Result<Vec<PlainCell>, AllocError> {
     let nested = maker.random.between(2, maker.counts[TYPE_DEF as usize]);
     let around = maker.random.between(1, nested - 1);
@@ -274,7 +274,7 @@ fn made_row(
     Ok(cells)
 }
 
-/// Makes a text or a blob so long that its heap has about as many bytes as make an index wider.
+/// Makes a text or a blob so long that its heap has about the size that makes an index wider.
 fn widen(alloc: Global, random: &mut Random, model: &mut PlainModel) -> Result<(), AllocError> {
     let is_text = random.is_one_in(2);
     let (table, column) = if is_text { (MODULE, 1) } else { (FILE, 2) };
@@ -292,7 +292,7 @@ fn widen(alloc: Global, random: &mut Random, model: &mut PlainModel) -> Result<(
     Ok(())
 }
 
-/// How long a text or a blob of one byte has to become, so that its heap has so many bytes.
+/// How long a text or a blob of one byte has to become, so that its heap has this number of bytes.
 fn missing(
     alloc: Global,
     model: &PlainModel,

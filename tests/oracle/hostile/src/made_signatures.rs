@@ -5,7 +5,7 @@ use crate::standard::{Counts, TYPE_DEF, TYPE_REF, TYPE_SPEC};
 use model::SigKind;
 use std::alloc::{AllocError, Global};
 
-/// The element types that one byte spells (II.23.1.16).
+/// The element types that one byte encodes (II.23.1.16).
 const SIMPLE: [u8; 16] = [2, 3, 4, 5, 6, 7, 8, 9, 10, 11, 12, 13, 14, 0x18, 0x19, 0x1C];
 
 /// Numbers at the ends of the forms that they are packed in.
@@ -37,7 +37,7 @@ const BOUNDS: [i64; 12] = [
     -0x1000_0000,
 ];
 
-/// The shortest spelling of a signature of a kind of column, whose types are rows that are there.
+/// The shortest encoding of a signature of a kind of column, whose types are rows that are there.
 pub fn made_signature(
     alloc: Global,
     random: &mut Random,
@@ -87,7 +87,7 @@ impl Maker {
         self.number(number)
     }
 
-    /// How many parts something has: few, and sometimes as many as take two bytes to tell.
+    /// How many parts something has: few, and sometimes a number that takes two bytes.
     fn count(&mut self) -> u32 {
         if self.random.is_one_in(200) {
             self.random.between(126, 130)

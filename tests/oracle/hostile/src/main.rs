@@ -1,9 +1,9 @@
-//! Roots and files as strangers could make them, always the same for a seed: models of all 38 tables, spelled as no
-//! writer spells them, and each with changes near the places that mean something.
+//! Roots and files as strangers could make them, always the same for a seed: models of all 38 tables, encoded as no
+//! writer encodes them, and each with changes near the offsets that mean something.
 //!
 //! What the library answers is held against the standard, read a second time, plainly and without the library's
 //! code: the fault, or the cells, the look-ups and the canonical root. The words are a seed, how many cases, and the
-//! first case. A case that fails is told with its number, and its bytes where they are few. The last line counts.
+//! first case. A case that fails is printed with its number, and its bytes if they are few. The last line counts.
 #![tactic(auto)]
 
 mod buckets;
@@ -52,10 +52,10 @@ use std::time::Instant;
 /// How many cases are tried where no word tells.
 const CASES: u64 = 12;
 
-/// How many bytes of a case that fails are told at most.
+/// How many bytes of a case that fails are printed at most.
 const REPORTED: usize = 4096;
 
-/// How many cases that fail are told.
+/// How many cases that fail are printed.
 const FAILURES: u64 = 20;
 
 /// A case that fails.
@@ -99,7 +99,7 @@ fn main(rt: HostRuntime) -> ExitCode {
     ExitCode::from(u8::from(failures > 0))
 }
 
-/// The first three words behind the program's name, as numbers.
+/// The first three arguments, after the program's name, as numbers.
 fn words(rt: &HostRuntime) -> [Option<u64>; 3] {
     let mut numbers = [None; 3];
     if let Ok(words) = env::args(rt) {

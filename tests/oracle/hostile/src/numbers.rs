@@ -1,6 +1,6 @@
 use std::alloc::{AllocError, Global};
 
-/// The number of so many bytes at a place, the low byte first (II.24.2); `None` past the end.
+/// The number of `width` bytes at an offset, the low byte first (II.24.2); `None` past the end.
 pub fn number_at(bytes: &[u8], offset: usize, width: usize) -> Option<u32> {
     let part = bytes.get(offset..offset.checked_add(width)?)?;
     let mut number = 0u32;
@@ -15,7 +15,7 @@ pub fn put_number(bytes: &mut Vec<u8>, number: u32, width: usize) -> Result<(), 
     bytes.extend_from_slice(&number.to_le_bytes()[..width])
 }
 
-/// The packed number at a place and how many bytes it takes (II.23.2); `None` where there is none.
+/// The packed number at an offset and how many bytes it takes (II.23.2), if any.
 pub fn packed_at(bytes: &[u8], offset: usize) -> Option<(u32, usize)> {
     let (width, mask) = match *bytes.get(offset)? {
         0..=0x7F => (1, 0x7F),
@@ -31,7 +31,7 @@ pub fn packed_at(bytes: &[u8], offset: usize) -> Option<(u32, usize)> {
     Some((number & mask, width))
 }
 
-/// Writes a packed number in the form of so many bytes.
+/// Writes a packed number in the form of `width` bytes.
 pub fn put_packed(bytes: &mut Vec<u8>, number: u32, width: usize) -> Result<(), AllocError> {
     let marked = match width {
         1 => number,
@@ -50,7 +50,7 @@ pub fn packed_width(number: u32) -> usize {
     }
 }
 
-/// How many bits a packed number of so many bytes has.
+/// How many bits a packed number of `width` bytes has.
 fn bits_of(width: usize) -> u32 {
     match width {
         1 => 7,
@@ -59,7 +59,7 @@ fn bits_of(width: usize) -> u32 {
     }
 }
 
-/// The signed number that a packed number of so many bytes stands for: its sign is the lowest bit (II.23.2).
+/// The signed number that a packed number of `width` bytes stands for: its sign is the lowest bit (II.23.2).
 pub fn signed_of(number: u32, width: usize) -> i64 {
     let half = i64::from(number >> 1);
     if number & 1 == 1 {
@@ -69,7 +69,7 @@ pub fn signed_of(number: u32, width: usize) -> i64 {
     }
 }
 
-/// The packed number of so many bytes that stands for a signed number.
+/// The packed number of `width` bytes that stands for a signed number.
 pub fn unsigned_of(number: i64, width: usize) -> u32 {
     let bits = bits_of(width);
     if number < 0 {
@@ -88,7 +88,7 @@ pub fn signed_width(number: i64) -> usize {
     }
 }
 
-/// A copy of bytes, filled with zeros to a multiple of four.
+/// A copy of bytes, zero-padded to a multiple of four.
 pub fn zero_padded(alloc: Global, bytes: &[u8]) -> Result<Vec<u8>, AllocError> {
     let mut copy = bytes.to_vec(alloc)?;
     while copy.len() % 4 != 0 {

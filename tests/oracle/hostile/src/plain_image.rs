@@ -20,7 +20,7 @@ fn field(file: &[u8], offset: usize, width: usize) -> usize {
     number_at(file, offset, width).unwrap_or(0) as usize
 }
 
-/// The header and the model of a file, or the first demand that fails.
+/// The header and the model of a file, or the first rule that it breaks.
 pub fn read_plain_image(alloc: Global, file: &[u8]) -> Result<(PlainHeader, PlainModel), Refused> {
     let header = read_plain_header(file)?;
     let root = &file[header.root..header.root + header.len];
@@ -48,7 +48,7 @@ fn has_entry_point(file: &[u8], header: &PlainHeader, model: &PlainModel) -> boo
         || is_known && row > 0 && row <= model.rows(table as u8).len()
 }
 
-/// The CLI header of a file, or the first demand that fails before its root.
+/// The CLI header of a file, or the first rule that it breaks before its root.
 pub fn read_plain_header(file: &[u8]) -> Result<PlainHeader, Refused> {
     let (pe, wide) = read_pe_header(file)?;
     let directory = pe + 232 + wide;
@@ -98,7 +98,7 @@ fn read_pe_header(file: &[u8]) -> Result<(usize, usize), Refused> {
     Ok((pe, wide))
 }
 
-/// Where so many bytes at an address stand: in the first section that has them all.
+/// The offset of `len` bytes at an address: in the first section that has them all.
 fn offset_of(file: &[u8], pe: usize, rva: usize, len: usize) -> Option<usize> {
     let first = pe + 24 + field(file, pe + 20, 2);
     for section in 0..field(file, pe + 6, 2) {

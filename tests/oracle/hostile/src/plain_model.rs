@@ -12,7 +12,7 @@ pub enum PlainCell {
     /// A table and a row, or null.
     Row(Option<(Table, u32)>),
     Start(u32),
-    /// A signature of a kind of column, in its shortest spelling.
+    /// A signature of a kind of column, in its shortest encoding.
     Signature(SigKind, Vec<u8>),
 }
 
@@ -45,7 +45,7 @@ impl PlainModel {
         counts
     }
 
-    /// A cell, by its row, counted from 1, and its place.
+    /// A cell, by its row, counted from 1, and its index in the row.
     pub fn cell(&self, table: Table, row: u32, offset: usize) -> &PlainCell {
         &self.rows(table)[row as usize - 1][offset]
     }

@@ -1,10 +1,10 @@
-//! Reads a root as the standard tells it, plainly: each demand in its turn, over all rows, with no thought of
+//! Reads a root as the standard says it, plainly: each rule in its turn, over all rows, with no thought of
 //! time. It shares no code with the library.
 
 use crate::numbers::{zero_padded, packed_at};
 use crate::plain_model::{PlainCell, PlainModel};
 use crate::plain_root::{PlainRoot, Refused, read_plain_root};
-use crate::plain_signatures::{Unspelled, respelled};
+use crate::plain_signatures::{NotEncoded, reencoded};
 use crate::plain_tables::{PlainLayout, read_plain_layout};
 use crate::standard::{
     Counts, Kind, NESTED_CLASS, RUNS, TABLES, Table, columns, key_column, listed, tag_bits,
@@ -13,7 +13,7 @@ use model::{Coded, SigKind};
 use std::alloc::Global;
 use std::str;
 
-/// The model of a root, or the first demand that fails.
+/// The model of a root, or the first rule that it breaks.
 pub fn read_plain(alloc: Global, bytes: &[u8]) -> Result<PlainModel, Refused> {
     let root = read_plain_root(bytes)?;
     let (stream, len) = root.streams[0].unwrap_or((0, 0));
@@ -94,7 +94,7 @@ impl Reader<'_> {
         Ok(cells)
     }
 
-    /// What a number in a column stands for; else the code of the demand that fails, at no offset.
+    /// What a number in a column stands for; else the code of the rule that it breaks, at no offset.
     fn cell(&self, kind: Kind, number: u32) -> Result<PlainCell, Refused> {
         match kind {
             Kind::Number(_) | Kind::Padding => Ok(PlainCell::Number(number)),
@@ -235,7 +235,7 @@ impl Reader<'_> {
         Ok(())
     }
 
-    /// Puts the shortest spelling of each signature in place of its blob.
+    /// Puts the shortest encoding of each signature in place of its blob.
     fn encode_signatures(&self, model: &mut PlainModel) -> Result<(), Refused> {
         for table in TABLES {
             for (column, kind) in columns(table).iter().enumerate() {
@@ -265,17 +265,17 @@ impl Reader<'_> {
     }
 }
 
-/// The shortest spelling of a signature whose types have rows; else the code of the demand that fails.
+/// The shortest encoding of a signature whose types have rows; else the code of the rule that it breaks.
 pub fn encoded_again(
     alloc: Global,
     blob: &[u8],
     kind: SigKind,
     counts: &Counts,
 ) -> Result<Vec<u8>, Refused> {
-    let signature = match respelled(alloc, blob, kind, None) {
+    let signature = match reencoded(alloc, blob, kind, None) {
         Ok(signature) => signature,
-        Err(Unspelled::Memory) => return Err(Refused::Memory),
-        Err(Unspelled::Bad) => return Err(Refused::Fault(701, 0)),
+        Err(NotEncoded::Memory) => return Err(Refused::Memory),
+        Err(NotEncoded::Bad) => return Err(Refused::Fault(701, 0)),
     };
     for (table, row) in signature.indexes.iter() {
         if *row == 0 || *row > counts[*table as usize] {

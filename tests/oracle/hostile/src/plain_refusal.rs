@@ -3,12 +3,12 @@
 use crate::plain_model::{PlainCell, PlainModel};
 use crate::plain_reader::encoded_again;
 use crate::plain_root::Refused;
-use crate::plain_signatures::respelled;
+use crate::plain_signatures::reencoded;
 use crate::standard::{CONSTANT, Counts, Kind, NESTED_CLASS, RUNS, TABLES, Table, columns, listed};
 use model::{Coded, SigKind};
 use std::alloc::Global;
 
-/// A demand that tables do not meet, and the cell where they do not.
+/// A rule that tables break, and the cell that breaks it.
 #[derive(Clone, Copy, Debug, PartialEq, Eq)]
 pub struct PlainRefusal {
     pub code: u16,
@@ -17,7 +17,7 @@ pub struct PlainRefusal {
     pub column: usize,
 }
 
-/// The first demand that fails, if any.
+/// The first rule that is broken, if any.
 pub fn refusal_of(alloc: Global, model: &PlainModel) -> Option<PlainRefusal> {
     let at_cell = |(code, table, row, column)| PlainRefusal {
         code,
@@ -122,7 +122,7 @@ fn bad_run(model: &PlainModel) -> Option<At> {
     None
 }
 
-/// The first type that does not stand behind the type around it.
+/// The first type that does not follow the type around it.
 fn bad_nesting(model: &PlainModel) -> Option<At> {
     for row in 1..model.count(NESTED_CLASS) + 1 {
         let nested = model.cell(NESTED_CLASS, row, 0);
@@ -191,7 +191,7 @@ fn is_taken(alloc: Global, bytes: &[u8], made: SigKind, kind: SigKind) -> bool {
     match kind {
         SigKind::Field => body == Body::Field,
         SigKind::MethodDef => {
-            body == Body::Method && respelled(alloc, bytes, SigKind::MethodDef, None).is_ok()
+            body == Body::Method && reencoded(alloc, bytes, SigKind::MethodDef, None).is_ok()
         }
         SigKind::MemberRef => matches!(body, Body::Field | Body::Method),
         SigKind::StandAlone => matches!(body, Body::Field | Body::Method | Body::Locals),

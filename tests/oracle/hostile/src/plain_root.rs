@@ -7,7 +7,7 @@ use std::str;
 pub enum Refused {
     /// Memory was refused.
     Memory,
-    /// The demand of a code fails at an offset.
+    /// The rule of a code is broken at an offset.
     Fault(u16, usize),
 }
 
@@ -70,7 +70,7 @@ fn version_of(bytes: &[u8]) -> Option<(&[u8], usize)> {
     Some((version, field))
 }
 
-/// Where the streams lie that the headers behind the version name.
+/// Where the streams lie that the headers after the version name.
 fn read_headers(bytes: &[u8], flags: usize) -> Result<[Option<(usize, usize)>; 5], Refused> {
     let Some(count) = number_at(bytes, flags + 2, 2) else {
         return Err(Refused::Fault(303, flags));
@@ -100,7 +100,7 @@ fn read_headers(bytes: &[u8], flags: usize) -> Result<[Option<(usize, usize)>; 5
     Ok(streams)
 }
 
-/// A stream header, and where it ends.
+/// A stream header, and the offset of its end.
 #[derive(Clone, Copy, Debug)]
 struct Header<'a> {
     offset: usize,

@@ -7,28 +7,28 @@ use std::alloc::{AllocError, AllocFailed, Global};
 /// How deep types nest at most.
 pub const DEPTH: u32 = 128;
 
-/// Why bytes are not spelled again.
+/// Why bytes are not encoded again.
 #[derive(Clone, Copy, Debug, PartialEq, Eq)]
-pub enum Unspelled {
-    /// They spell nothing.
+pub enum NotEncoded {
+    /// They encode nothing.
     Bad,
     /// Memory was refused.
     Memory,
 }
 
-impl From<AllocError> for Unspelled {
-    fn from(_: AllocError) -> Unspelled {
-        Unspelled::Memory
+impl From<AllocError> for NotEncoded {
+    fn from(_: AllocError) -> NotEncoded {
+        NotEncoded::Memory
     }
 }
 
-impl<T: Drop> From<AllocFailed<T>> for Unspelled {
-    fn from(_: AllocFailed<T>) -> Unspelled {
-        Unspelled::Memory
+impl<T: Drop> From<AllocFailed<T>> for NotEncoded {
+    fn from(_: AllocFailed<T>) -> NotEncoded {
+        NotEncoded::Memory
     }
 }
 
-/// A signature that was spelled again.
+/// A signature that was encoded again.
 #[derive(Debug, Drop)]
 pub struct Encoding {
     /// The bytes.
@@ -37,14 +37,14 @@ pub struct Encoding {
     pub indexes: Vec<(Table, u32)>,
 }
 
-/// Reads a signature of a kind of column and spells it again (II.23.2): with shortest numbers, or in forms that
+/// Reads a signature of a kind of column and encodes it again (II.23.2): with shortest numbers, or in forms that
 /// are as long as chance has them.
-pub fn respelled(
+pub fn reencoded(
     alloc: Global,
     blob: &[u8],
     kind: SigKind,
     forms: Option<Random>,
-) -> Result<Encoding, Unspelled> {
+) -> Result<Encoding, NotEncoded> {
     let mut walk = Walk {
         blob,
         offset: 0,
@@ -54,7 +54,7 @@ pub fn respelled(
     };
     walk.signature(kind)?;
     if walk.offset < blob.len() {
-        return Err(Unspelled::Bad);
+        return Err(NotEncoded::Bad);
     }
     Ok(Encoding {
         bytes: walk.bytes,
@@ -79,15 +79,15 @@ impl Walk<'_> {
     }
 
     /// Goes past a byte.
-    fn code(&mut self) -> Result<u8, Unspelled> {
-        let byte = self.next().ok_or(Unspelled::Bad)?;
+    fn code(&mut self) -> Result<u8, NotEncoded> {
+        let byte = self.next().ok_or(NotEncoded::Bad)?;
         self.bytes.push(byte)?;
         self.offset += 1;
         Ok(byte)
     }
 
     /// Whether the next byte is this one, and past it then.
-    fn takes(&mut self, code: u8) -> Result<bool, Unspelled> {
+    fn takes(&mut self, code: u8) -> Result<bool, NotEncoded> {
         if self.next() != Some(code) {
             return Ok(false);
         }
@@ -96,15 +96,15 @@ impl Walk<'_> {
     }
 
     /// Goes past a byte that has to be this one.
-    fn expect_code(&mut self, code: u8) -> Result<(), Unspelled> {
+    fn expect_code(&mut self, code: u8) -> Result<(), NotEncoded> {
         if self.takes(code)? {
             Ok(())
         } else {
-            Err(Unspelled::Bad)
+            Err(NotEncoded::Bad)
         }
     }
 
-    /// How many bytes a number is written in that needs so many.
+    /// How many bytes a number is written in that needs `least`.
     fn form(&mut self, least: usize) -> usize {
         let Some(random) = &mut self.forms else {
             return least;
@@ -116,16 +116,16 @@ impl Walk<'_> {
         }
     }
 
-    fn number(&mut self) -> Result<u32, Unspelled> {
-        let (number, width) = packed_at(self.blob, self.offset).ok_or(Unspelled::Bad)?;
+    fn number(&mut self) -> Result<u32, NotEncoded> {
+        let (number, width) = packed_at(self.blob, self.offset).ok_or(NotEncoded::Bad)?;
         let form = self.form(packed_width(number));
         put_packed(&mut self.bytes, number, form)?;
         self.offset += width;
         Ok(number)
     }
 
-    fn signed(&mut self) -> Result<(), Unspelled> {
-        let (number, width) = packed_at(self.blob, self.offset).ok_or(Unspelled::Bad)?;
+    fn signed(&mut self) -> Result<(), NotEncoded> {
+        let (number, width) = packed_at(self.blob, self.offset).ok_or(NotEncoded::Bad)?;
         let number = signed_of(number, width);
         let form = self.form(signed_width(number));
         put_packed(&mut self.bytes, unsigned_of(number, form), form)?;
@@ -134,20 +134,20 @@ impl Walk<'_> {
     }
 
     /// An index of a type: its row, and a tag of two bits (II.23.2.8).
-    fn index(&mut self) -> Result<(), Unspelled> {
+    fn index(&mut self) -> Result<(), NotEncoded> {
         let number = self.number()?;
         let table = match number % 4 {
             0 => TYPE_DEF,
             1 => TYPE_REF,
             2 => TYPE_SPEC,
-            _ => return Err(Unspelled::Bad),
+            _ => return Err(NotEncoded::Bad),
         };
         self.indexes.push((table, number / 4))?;
         Ok(())
     }
 
     /// Modifiers, and among them PINNED where it may stand.
-    fn modifiers(&mut self, may_pin: bool) -> Result<(), Unspelled> {
+    fn modifiers(&mut self, may_pin: bool) -> Result<(), NotEncoded> {
         while let Some(code) = self.next() {
             match code {
                 0x1F | 0x20 => {
@@ -163,7 +163,7 @@ impl Walk<'_> {
         Ok(())
     }
 
-    fn signature(&mut self, kind: SigKind) -> Result<(), Unspelled> {
+    fn signature(&mut self, kind: SigKind) -> Result<(), NotEncoded> {
         let first = self.next();
         match (kind, first) {
             (SigKind::Field, _) | (SigKind::MemberRef | SigKind::StandAlone, Some(6)) => {
@@ -182,7 +182,7 @@ impl Walk<'_> {
         }
     }
 
-    fn locals(&mut self) -> Result<(), Unspelled> {
+    fn locals(&mut self) -> Result<(), NotEncoded> {
         self.expect_code(7)?;
         for _local in 0..self.number()? {
             self.modifiers(true)?;
@@ -191,9 +191,9 @@ impl Walk<'_> {
         Ok(())
     }
 
-    fn property(&mut self) -> Result<(), Unspelled> {
+    fn property(&mut self) -> Result<(), NotEncoded> {
         if !matches!(self.code()?, 0x08 | 0x28) {
-            return Err(Unspelled::Bad);
+            return Err(NotEncoded::Bad);
         }
         let count = self.number()?;
         self.slot(DEPTH)?;
@@ -203,11 +203,11 @@ impl Walk<'_> {
         Ok(())
     }
 
-    fn method(&mut self, left: u32, may_pause: bool) -> Result<(), Unspelled> {
+    fn method(&mut self, left: u32, may_pause: bool) -> Result<(), NotEncoded> {
         let first = self.code()?;
         let convention = first & 0x0F;
         if first & 0x80 != 0 || !matches!(convention, 0..=5 | 9) {
-            return Err(Unspelled::Bad);
+            return Err(NotEncoded::Bad);
         }
         if first & 0x10 != 0 {
             self.number()?;
@@ -225,7 +225,7 @@ impl Walk<'_> {
     }
 
     /// What a method answers: VOID or a slot.
-    fn answer(&mut self, left: u32) -> Result<(), Unspelled> {
+    fn answer(&mut self, left: u32) -> Result<(), NotEncoded> {
         self.modifiers(false)?;
         if left > 0 && self.takes(0x01)? {
             return Ok(());
@@ -233,12 +233,12 @@ impl Walk<'_> {
         self.slot_behind_modifiers(left)
     }
 
-    fn slot(&mut self, left: u32) -> Result<(), Unspelled> {
+    fn slot(&mut self, left: u32) -> Result<(), NotEncoded> {
         self.modifiers(false)?;
         self.slot_behind_modifiers(left)
     }
 
-    fn slot_behind_modifiers(&mut self, left: u32) -> Result<(), Unspelled> {
+    fn slot_behind_modifiers(&mut self, left: u32) -> Result<(), NotEncoded> {
         if left > 0 && self.takes(0x16)? {
             return Ok(());
         }
@@ -248,22 +248,22 @@ impl Walk<'_> {
         self.core(left)
     }
 
-    fn types(&mut self, left: u32) -> Result<(), Unspelled> {
+    fn types(&mut self, left: u32) -> Result<(), NotEncoded> {
         for _argument in 0..self.number()? {
             self.whole_type(left)?;
         }
         Ok(())
     }
 
-    fn whole_type(&mut self, left: u32) -> Result<(), Unspelled> {
+    fn whole_type(&mut self, left: u32) -> Result<(), NotEncoded> {
         self.modifiers(false)?;
         self.core(left)
     }
 
-    /// A type behind its modifiers, which nests so deep at most.
-    fn core(&mut self, left: u32) -> Result<(), Unspelled> {
+    /// A type after its modifiers, which nests at most `left` levels.
+    fn core(&mut self, left: u32) -> Result<(), NotEncoded> {
         if left == 0 {
-            return Err(Unspelled::Bad);
+            return Err(NotEncoded::Bad);
         }
         match self.code()? {
             0x02..=0x0E | 0x18 | 0x19 | 0x1C => Ok(()),
@@ -279,18 +279,18 @@ impl Walk<'_> {
             }
             0x15 => {
                 if !matches!(self.code()?, 0x11 | 0x12) {
-                    return Err(Unspelled::Bad);
+                    return Err(NotEncoded::Bad);
                 }
                 self.index()?;
                 self.types(left - 1)
             }
             0x1B => self.method(left - 1, true),
             0x1D => self.whole_type(left - 1),
-            _ => Err(Unspelled::Bad),
+            _ => Err(NotEncoded::Bad),
         }
     }
 
-    fn pointed(&mut self, left: u32) -> Result<(), Unspelled> {
+    fn pointed(&mut self, left: u32) -> Result<(), NotEncoded> {
         self.modifiers(false)?;
         if left > 0 && self.takes(0x01)? {
             return Ok(());
@@ -298,18 +298,18 @@ impl Walk<'_> {
         self.core(left)
     }
 
-    fn shape(&mut self) -> Result<(), Unspelled> {
+    fn shape(&mut self) -> Result<(), NotEncoded> {
         let rank = self.number()?;
         let sizes = self.number()?;
         if rank == 0 || sizes > rank {
-            return Err(Unspelled::Bad);
+            return Err(NotEncoded::Bad);
         }
         for _size in 0..sizes {
             self.number()?;
         }
         let bounds = self.number()?;
         if bounds > rank {
-            return Err(Unspelled::Bad);
+            return Err(NotEncoded::Bad);
         }
         for _bound in 0..bounds {
             self.signed()?;

@@ -29,7 +29,7 @@ impl PlainLayout {
     }
 }
 
-/// Whether a bit of eight bytes at a place is set.
+/// Whether a bit of eight bytes at an offset is set.
 fn is_set(bytes: &[u8], offset: usize, bit: usize) -> bool {
     bytes[offset + bit / 8] >> (bit % 8) & 1 == 1
 }

@@ -37,7 +37,7 @@ impl Random {
         first.saturating_add(self.below(last.saturating_sub(first).saturating_add(1)))
     }
 
-    /// A place below a length, which is not 0.
+    /// An offset below a length, which is not 0.
     pub fn offset(&mut self, len: usize) -> usize {
         self.below(u32::try_from(len).unwrap_or(u32::MAX)) as usize
     }
@@ -47,7 +47,7 @@ impl Random {
         (self.next() >> 56) as u8
     }
 
-    /// Whether the next of so many chances is the one.
+    /// Whether the next of `chances` chances is the one.
     pub fn is_one_in(&mut self, chances: u32) -> bool {
         self.below(chances) == 0
     }

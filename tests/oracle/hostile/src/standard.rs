@@ -1,4 +1,4 @@
-//! The tables of the standard (ECMA-335 II.22), told a second time and without the library's own lists, so
+//! The tables of the standard (ECMA-335 II.22), listed a second time and without the library's own lists, so
 //! that a mistake there is seen.
 
 use model::{Coded, SigKind};
@@ -130,7 +130,7 @@ pub type Counts = [u32; 45];
 /// What a column holds.
 #[derive(Clone, Copy, Debug, PartialEq, Eq)]
 pub enum Kind {
-    /// A number of so many bytes.
+    /// A number of this number of bytes.
     Number(usize),
     /// A byte that means nothing.
     Padding,

@@ -7,7 +7,7 @@ use writer::write_root;
 /// How a root begins (II.24.2.1); a file begins otherwise.
 const SIGNATURE: &[u8] = b"BSJB";
 
-/// How long a file is at most of which each front is loaded too, and the file with each byte changed.
+/// How long a file is at most of which each prefix is loaded too, and the file with each byte changed.
 const SMALL: usize = 2048;
 
 /// The model of a file, or of a bare root.
@@ -39,7 +39,7 @@ fn judge_model(alloc: Global, model: &Model) -> Result<(), &'static str> {
     Ok(())
 }
 
-/// What is not as it has to be of what loads among the fronts of a file, and among the files that have one byte
+/// What is not as it has to be of what loads among the prefixes of a file, and among the files that have one byte
 /// 00 or FF in its place.
 fn judge_changed(alloc: Global, bytes: &[u8], is_root: bool) -> Result<(), &'static str> {
     for end in 0..bytes.len() {
@@ -58,7 +58,7 @@ fn judge_changed(alloc: Global, bytes: &[u8], is_root: bool) -> Result<(), &'sta
     Ok(())
 }
 
-/// The bytes, with another one at a place.
+/// The bytes, with another one at an offset.
 fn with_byte(alloc: Global, bytes: &[u8], offset: usize, byte: u8) -> Result<Vec<u8>, AllocError> {
     let mut changed = bytes.to_vec(alloc)?;
     changed[offset] = byte;

@@ -1,6 +1,6 @@
 //! Loads a file or a bare root, writes its canonical root, and loads and writes that again. The models have to be
 //! equal, and the two roots the same bytes; and the tables of the model, copied cell by cell, have to make an equal
-//! model. The same holds of each front of a small file that loads, and of it with each byte 00 or FF.
+//! model. The same holds of each prefix of a small file that loads, and of it with each byte 00 or FF.
 #![tactic(auto)]
 
 mod copied;

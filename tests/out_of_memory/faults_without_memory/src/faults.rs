@@ -6,7 +6,7 @@ use sample_roots::{
 };
 use std::alloc::Global;
 
-/// How many loads told the fault that they have to tell, and how many did not.
+/// How many loads reported the expected fault, and how many did not.
 type Reported = (u32, u32);
 
 /// Counts one load more.
@@ -19,7 +19,7 @@ fn counted(reported: Reported, is_reported: bool) -> Reported {
     }
 }
 
-/// What both have told.
+/// What both have reported.
 fn both(one: Reported, other: Reported) -> Reported {
     (one.0 + other.0, one.1 + other.1)
 }
@@ -54,7 +54,7 @@ fn of_changed_files(alloc: Global) -> Reported {
     reported
 }
 
-/// Loads the longest front of a root with each fault.
+/// Loads the longest prefix of a root with each fault.
 fn of_prefixes(alloc: Global, root: &[u8], prefixes: &[PrefixFault]) -> Reported {
     prefixes.iter().fold((0, 0), |reported, (len, code, offset)| {
         counted(
@@ -64,7 +64,7 @@ fn of_prefixes(alloc: Global, root: &[u8], prefixes: &[PrefixFault]) -> Reported
     })
 }
 
-/// Loads the longest front of the file with each fault.
+/// Loads the longest prefix of the file with each fault.
 fn of_file_prefixes(alloc: Global) -> Reported {
     let file = image();
     FILE_PREFIXES

@@ -1,5 +1,5 @@
-//! Loads every changed sample, and each front of one, whose first fault is known. It asks for no memory, so a
-//! load tells its fault also where all memory is refused.
+//! Loads every changed sample, and each prefix of one, whose first fault is known. It does not allocate, so a
+//! load reports its fault even if all memory is refused.
 
 mod faults;
 

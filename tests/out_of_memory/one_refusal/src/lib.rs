@@ -2,8 +2,8 @@
 //!
 //! Standard input has the number of a section and that of the allocations that are made before it. So the one
 //! which is refused, always of the same number, is each of the section in turn. What is printed says whether one
-//! was refused, and that each call kept its promises: that a refused call changes nothing, that it answers with
-//! memory, when it is made again, as with ample memory, and that a call which takes none does not want any.
+//! was refused, and that each call kept its promises: that a refused call changes nothing, that it returns with
+//! memory, when it is made again, the same as with ample memory, and that a call which takes none does not want any.
 //! Else the run stops like a failed check.
 
 mod stop;

@@ -37,12 +37,12 @@ impl Run {
         }
     }
 
-    /// What a call answers that is made again. A run has one refusal, so this call has its memory.
+    /// What a call returns that is made again. A run has one refusal, so this call has its memory.
     pub fn again<T: Drop, E: Drop>(&self, answer: Result<T, E>) -> Result<T, Stop> {
         self.refused.set(true);
         match answer {
             Ok(value) => Ok(value),
-            Err(_) => Err(Stop::Broken("a refused call answers where it is made again")),
+            Err(_) => Err(Stop::Broken("a refused call succeeds when it is made again")),
         }
     }
 
@@ -68,7 +68,7 @@ impl From<SigError> for Stop {
     fn from(error: SigError) -> Stop {
         match error {
             SigError::Memory => Stop::Memory,
-            SigError::Bad => Stop::Broken("a signature that is spelled is not bad"),
+            SigError::Bad => Stop::Broken("a signature that is encoded is not bad"),
         }
     }
 }

@@ -73,7 +73,7 @@ fn push(
     match tables.push(table, copied(run, cells)?) {
         Ok(()) => Ok(()),
         Err(row) => {
-            kept(row.as_slice() == cells, "a refused row is handed back")?;
+            kept(row.as_slice() == cells, "a refused row is returned")?;
             kept(*tables == *twin, "a refused row leaves the tables")?;
             run.again(tables.push(table, row))
         }

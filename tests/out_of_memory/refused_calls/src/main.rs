@@ -1,5 +1,5 @@
-//! Every call of `tables`, `loading`, `writer`, `view_writer` and the crates of records that has an answer for want of
-//! memory, once and, where it gives that answer, once more.
+//! Every call of `tables`, `loading`, `writer`, `view_writer` and the crates of records that can run out of
+//! memory, once and, if it does, once more.
 
 mod errors;
 mod loaded_models;

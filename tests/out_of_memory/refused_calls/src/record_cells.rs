@@ -11,7 +11,7 @@ use owned_model::{Bytes, Cell, TableId, Text, Token};
 use schema::{ColumnKind, SigKind, columns};
 use signatures::decode;
 
-/// A blob that spells a signature in each kind of column.
+/// A blob that encodes a signature in each kind of column.
 fn encoded(kind: SigKind) -> &'static [u8] {
     match kind {
         SigKind::Field | SigKind::MemberRef => b"\x06\x1D\x08",

@@ -1,5 +1,5 @@
-//! Every call of `packed`, `heaps`, `rows` and `signatures` that has an answer for want of memory, once
-//! and, where it gives that answer, once more.
+//! Every call of `packed`, `heaps`, `rows` and `signatures` that can run out of memory, once
+//! and, if it does, once more.
 
 mod module_row;
 mod numbers;

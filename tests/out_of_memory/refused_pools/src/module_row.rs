@@ -10,7 +10,7 @@ const BEHIND_A_BYTE: [u8; 11] = [
     0xFF, 0x00, 0x00, 0x01, 0x00, 0x01, 0x00, 0x00, 0x00, 0x00, 0x00,
 ];
 
-/// A row of Module behind a byte, put again where memory was refused.
+/// A row of Module after a byte, put again when memory was refused.
 pub fn module_behind_a_byte(run: &Run) -> Result<(), Stop> {
     let layout = Layout::of(&[1; 45], 0);
     let mut bytes = Vec::from_slice(run.alloc, &[0xFF])?;

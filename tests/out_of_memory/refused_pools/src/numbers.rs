@@ -1,7 +1,7 @@
 use one_refusal::{Run, Stop, kept};
 use packed::{put_signed, put_unsigned};
 
-/// What the spellings of the numbers below are, one after another.
+/// The encodings of the numbers below, one after another.
 const ENCODED: [u8; 18] = [
     0x05, 0x80, 0x80, 0xC0, 0x00, 0x40, 0x00, 0x06, 0x7B, 0x80, 0x80, 0x80, 0x01, 0xC0, 0x00, 0x00,
     0x01, 0x00,
@@ -27,7 +27,7 @@ fn signed(run: &Run, bytes: &mut Vec<u8>, number: i32) -> Result<(), Stop> {
     run.again(put_signed(bytes, number))
 }
 
-/// That the spellings of some numbers are those, each put again where memory was refused.
+/// The encodings of some numbers are those, each put again when memory was refused.
 pub fn encoded(run: &Run) -> Result<(), Stop> {
     let mut bytes = Vec::new(run.alloc);
     unsigned(run, &mut bytes, 5)?;
@@ -41,6 +41,6 @@ pub fn encoded(run: &Run) -> Result<(), Stop> {
     signed(run, &mut bytes, 0)?;
     kept(
         bytes.as_slice() == ENCODED.as_slice(),
-        "the spellings are those",
+        "the encodings are those",
     )
 }

@@ -7,7 +7,7 @@ const TEXTS: [u8; 11] = *b"\0Name\0Game\0";
 /// What stands before the 128 zeros of the long blob below.
 const BLOBS_BEFORE: [u8; 6] = [0x00, 0x02, 0xAA, 0xBB, 0x80, 0x80];
 
-/// What stands behind them.
+/// What follows them.
 const BLOBS_BEHIND: [u8; 2] = [0x01, 0x01];
 
 /// The heap of the GUIDs below.

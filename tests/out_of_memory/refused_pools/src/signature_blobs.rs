@@ -8,13 +8,13 @@ pub struct SignatureBlob<'a> {
     pub kind: SigKind,
     /// The bytes, all of them.
     pub bytes: &'a [u8],
-    /// What `recognise_first_bad` answers where each table has one row: `None` where the bytes
-    /// spell no signature of the kind.
+    /// What `recognise_first_bad` returns if each table has one row: `None` if the bytes
+    /// encode no signature of the kind.
     pub first_without_row: Option<Option<Token>>,
 }
 
 impl<'a> SignatureBlob<'a> {
-    /// Bytes that spell no type.
+    /// Bytes that encode no type.
     pub fn of_type(bytes: &'a [u8]) -> SignatureBlob<'a> {
         SignatureBlob {
             kind: SigKind::TypeSpec,
@@ -24,24 +24,24 @@ impl<'a> SignatureBlob<'a> {
     }
 }
 
-/// The bytes spell a signature, and each type index names a row.
+/// The bytes encode a signature, and each type index names a row.
 const EACH_ROW: Option<Option<Token>> = Some(None);
 
-/// The bytes spell a signature, whose first type index without a row names row 2 of TypeRef.
+/// The bytes encode a signature, whose first type index without a row names row 2 of TypeRef.
 const SECOND: Option<Option<Token>> = Some(Some(Token {
     table: TableId::TypeRef,
     row: 2,
 }));
 
-/// The bytes spell a signature, whose first type index without a row names row 0 of TypeRef.
+/// The bytes encode a signature, whose first type index without a row names row 0 of TypeRef.
 const NULL: Option<Option<Token>> = Some(Some(Token {
     table: TableId::TypeRef,
     row: 0,
 }));
 
-/// Signatures of each form (II.23.2), each in its shortest spelling.
+/// Signatures of each form (II.23.2), each in its shortest encoding.
 pub const ENCODED: [SignatureBlob<'static>; 21] = [
-    // A field of an integer; and one of a reference, behind a modifier, to a vector, behind another.
+    // A field of an integer; and one of a reference, after a modifier, to a vector, after another.
     SignatureBlob {
         kind: SigKind::Field,
         bytes: &[0x06, 0x08],
@@ -63,7 +63,7 @@ pub const ENCODED: [SignatureBlob<'static>; 21] = [
         bytes: &[0x30, 0x01, 0x01, 0x1E, 0x00, 0x1E, 0x00],
         first_without_row: EACH_ROW,
     },
-    // A pointer to a vararg method, behind SENTINEL an integer; and such a method, behind SENTINEL a class.
+    // A pointer to a vararg method, after SENTINEL an integer; and such a method, after SENTINEL a class.
     SignatureBlob {
         kind: SigKind::MethodDef,
         bytes: &[0x00, 0x00, 0x1B, 0x05, 0x01, 0x01, 0x41, 0x08],
@@ -86,7 +86,7 @@ pub const ENCODED: [SignatureBlob<'static>; 21] = [
         bytes: &[0x28, 0x01, 0x08, 0x0E],
         first_without_row: EACH_ROW,
     },
-    // Variables: an integer and a pinned reference; a typed reference, and a text behind modifiers and PINNED.
+    // Variables: an integer and a pinned reference; a typed reference, and a text after modifiers and PINNED.
     SignatureBlob {
         kind: SigKind::StandAlone,
         bytes: &[0x07, 0x02, 0x08, 0x45, 0x10, 0x08],
@@ -122,7 +122,7 @@ pub const ENCODED: [SignatureBlob<'static>; 21] = [
         ],
         first_without_row: SECOND,
     },
-    // A class behind modifiers, a pointer to VOID behind one, a vector of pointers to vectors, and VOID.
+    // A class after modifiers, a pointer to VOID after one, a vector of pointers to vectors, and VOID.
     SignatureBlob {
         kind: SigKind::TypeSpec,
         bytes: &[0x1F, 0x05, 0x20, 0x09, 0x12, 0x05],
@@ -168,10 +168,10 @@ pub const LONGER: SignatureBlob<'static> = SignatureBlob {
     first_without_row: EACH_ROW,
 };
 
-/// The shortest spelling of `LONGER`.
+/// The shortest encoding of `LONGER`.
 pub const SHORTENED: [u8; 5] = [0x15, 0x12, 0x05, 0x01, 0x08];
 
-/// Blobs that spell no signature of their kind.
+/// Blobs that encode no signature of their kind.
 pub const BAD: [SignatureBlob<'static>; 15] = [
     // More variables than there are bytes.
     SignatureBlob {
@@ -218,7 +218,7 @@ pub const BAD: [SignatureBlob<'static>; 15] = [
         bytes: &[0x06],
         first_without_row: None,
     },
-    // SENTINEL in a method that this module defines, and behind the last parameter.
+    // SENTINEL in a method that this module defines, and after the last parameter.
     SignatureBlob {
         kind: SigKind::MethodDef,
         bytes: &[0x05, 0x01, 0x01, 0x41, 0x08],

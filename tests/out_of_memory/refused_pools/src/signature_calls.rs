@@ -28,7 +28,7 @@ fn copied(run: &Run, signature: &Signature, twin: &Signature) -> Result<Signatur
     Ok(copy)
 }
 
-/// The spelling of a signature that is equal to its twin, encoded again where memory was refused.
+/// The encoding of a signature that is equal to its twin, made again when memory was refused.
 fn encoded(run: &Run, signature: &Signature, twin: &Signature) -> Result<Vec<u8>, Stop> {
     match encode(run.alloc, signature) {
         Ok(bytes) => Ok(bytes),
@@ -39,22 +39,22 @@ fn encoded(run: &Run, signature: &Signature, twin: &Signature) -> Result<Vec<u8>
     }
 }
 
-/// The shortest spelling of the signature of a blob, asked for again where memory was refused.
+/// The shortest encoding of the signature of a blob, made again when memory was refused.
 fn shortened(run: &Run, blob: SignatureBlob, bytes: &[u8]) -> Result<Vec<u8>, Stop> {
     match canonical_encoding(run.alloc, bytes, blob.kind) {
         Err(SigError::Memory) => {
-            kept(bytes == blob.bytes, "a refused spelling leaves its bytes")?;
+            kept(bytes == blob.bytes, "a refused encoding leaves its bytes")?;
             run.again(canonical_encoding(run.alloc, bytes, blob.kind))
         }
         answer => Ok(answer?),
     }
 }
 
-/// That the calls which take no memory answer of a blob what is known.
+/// The calls that do not allocate return what is known of a blob.
 fn recognised(blob: SignatureBlob, bytes: &[u8]) -> Result<(), Stop> {
     kept(
         recognise(bytes, blob.kind) == blob.first_without_row.is_some(),
-        "what is spelled, and no more, is recognised",
+        "what is encoded, and no more, is recognised",
     )?;
     kept(
         recognise_first_bad(bytes, blob.kind, &[1; 45]) == blob.first_without_row,
@@ -62,7 +62,7 @@ fn recognised(blob: SignatureBlob, bytes: &[u8]) -> Result<(), Stop> {
     )
 }
 
-/// That the spelling of a copy of the signature of a blob is the shortest one.
+/// The encoding of a copy of the signature of a blob is the shortest one.
 fn encoded(run: &Run, blob: SignatureBlob, short: &[u8]) -> Result<(), Stop> {
     let bytes = Vec::from_slice(run.alloc, blob.bytes)?;
     let signature = decoded(run, blob, &bytes)?;
@@ -71,12 +71,12 @@ fn encoded(run: &Run, blob: SignatureBlob, short: &[u8]) -> Result<(), Stop> {
     kept(signature == twin, "what is decoded twice is equal")?;
     let copy = copied(run, &signature, &twin)?;
     let encoding = encoded(run, &copy, &twin)?;
-    kept(encoding.as_slice() == short, "the spelling is the shortest")?;
+    kept(encoding.as_slice() == short, "the encoding is the shortest")?;
     let encoding = shortened(run, blob, &bytes)?;
-    kept(encoding.as_slice() == short, "bytes are spelled the shortest way")
+    kept(encoding.as_slice() == short, "bytes are encoded the shortest way")
 }
 
-/// That signatures are spelled as they were, each decoded, copied and encoded again where memory was refused.
+/// Signatures are encoded as they were, each decoded, copied and encoded again when memory was refused.
 pub fn all_encoded(run: &Run) -> Result<(), Stop> {
     for blob in ENCODED {
         encoded(run, blob, blob.bytes)?;
@@ -84,21 +84,21 @@ pub fn all_encoded(run: &Run) -> Result<(), Stop> {
     encoded(run, LONGER, &SHORTENED)
 }
 
-/// That a blob which spells nothing is bad, whatever memory is refused.
+/// A blob that encodes nothing is bad, whatever memory is refused.
 fn bad(run: &Run, blob: SignatureBlob) -> Result<(), Stop> {
     match decode(run.alloc, blob.bytes, blob.kind) {
-        Ok(_) => return Err(Stop::Broken("what spells nothing is not decoded")),
-        Err(SigError::Memory) => return Err(Stop::Broken("what spells nothing wants no memory")),
+        Ok(_) => return Err(Stop::Broken("what encodes nothing is not decoded")),
+        Err(SigError::Memory) => return Err(Stop::Broken("what encodes nothing does not run out of memory")),
         Err(SigError::Bad) => {}
     }
     kept(
         canonical_encoding(run.alloc, blob.bytes, blob.kind) == Err(SigError::Bad),
-        "what spells nothing has no shortest spelling",
+        "what encodes nothing has no shortest encoding",
     )?;
     recognised(blob, blob.bytes)
 }
 
-/// That types of 129 levels are bad: vectors of vectors, and pointers to methods that answer such pointers.
+/// Types of 129 levels are bad: vectors of vectors, and pointers to methods that return such pointers.
 fn deep_are_bad(run: &Run) -> Result<(), Stop> {
     let mut vectors = [0x1D; 129];
     vectors[128] = 0x08;
@@ -113,7 +113,7 @@ fn deep_are_bad(run: &Run) -> Result<(), Stop> {
     bad(run, SignatureBlob::of_type(&pointers))
 }
 
-/// That each blob which spells nothing is bad, and makes no allocation: one behind is the first of the section.
+/// Each blob that encodes nothing is bad, and makes no allocation: one after it is the first of the section.
 pub fn all_bad(run: &Run) -> Result<(), Stop> {
     for blob in BAD {
         bad(run, blob)?;

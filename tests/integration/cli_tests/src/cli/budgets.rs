@@ -25,7 +25,7 @@ fn checks_within_a_budget(rt: HostRuntime) -> Result<(), Fail> {
     Ok(())
 }
 
-/// A file without signatures needs no budget, and its first fault is told whatever that is.
+/// A file without signatures needs no budget, and its first fault is reported whatever that is.
 #[test]
 fn checks_a_file_within_no_budget(rt: HostRuntime) -> Result<(), Fail> {
     let mut file = image();

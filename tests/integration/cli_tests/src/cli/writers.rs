@@ -74,7 +74,7 @@ fn stands_full_devices(rt: HostRuntime) -> Result<(), Fail> {
     Ok(())
 }
 
-/// A device that takes so many bytes, a few at a time, and then no more.
+/// A device that takes a number of bytes, a few at a time, and then no more.
 #[derive(Drop)]
 struct Narrow {
     taken: Vec<u8>,

@@ -3,8 +3,8 @@ use sample_roots::{ONE_MODULE, TWO_TYPES, image};
 use std::fs;
 use std::test::Fail;
 
-/// Runs an example of help, which begins behind its prompt: the words, and then in lines of their own, two columns
-/// in, what they print. The error is what they print where that is something else.
+/// Runs an example of help, which begins after its prompt. The arguments come first. What they print follows in lines
+/// of its own, two columns in. The error is what they print if that is something else.
 fn run_example(rt: &HostRuntime, example: &str) -> Result<(), Fail> {
     let (command, below) = example.split_once('\n').ok_or("no line below")?;
     let words: Vec<&str> = command.split_whitespace().collect(rt.alloc())?;
@@ -22,7 +22,7 @@ fn run_example(rt: &HostRuntime, example: &str) -> Result<(), Fail> {
     Ok(())
 }
 
-/// Runs the examples in the help of a subcommand, and answers how many there are.
+/// Runs the examples in the help of a subcommand. Returns how many there are.
 fn run_examples(rt: &HostRuntime, name: &str) -> Result<usize, Fail> {
     let (_, help, _) = answer(rt, &["clim", name, "--help"])?;
     let (_, examples) = help.split_once("\nExamples:\n").ok_or("no examples")?;

@@ -13,7 +13,7 @@ const LINES_IN_HELP: &str = "\
   stream 128 16 #GUID
 ";
 
-/// Words that ask for nothing that the program does, and what is told of them.
+/// Arguments that are a usage error, and what the program prints for them.
 const REFUSED: [(&[&str], &str); 31] = [
     (&[], "Usage: clim <COMMAND>"),
     (&["clim"], "Usage: clim <COMMAND>"),
@@ -111,7 +111,7 @@ fn reports_what_the_words_lack(rt: HostRuntime) -> Result<(), Fail> {
     Ok(())
 }
 
-/// Whether the words print these texts with status 0, and nothing else is told.
+/// Whether the arguments print these texts with exit code 0, and nothing else.
 fn prints(rt: &HostRuntime, words: &[&str], texts: &[&str]) -> Result<bool, Fail> {
     let (status, out, err) = answer(rt, words)?;
     for text in texts {

@@ -100,7 +100,7 @@ fn lists_types(rt: HostRuntime) -> Result<(), Fail> {
     Ok(())
 }
 
-/// What is told of a token, and with which status.
+/// What the program prints for a token, and its exit code.
 #[derive(Clone, Copy)]
 struct Named<'a> {
     hex: &'a str,
@@ -114,7 +114,7 @@ impl<'a> Named<'a> {
     }
 }
 
-/// What the program answers to a token of a bare root, where that is not what is told of it.
+/// What the program prints for a token of a bare root, if that is not what is expected.
 fn other_name(rt: &HostRuntime, root: &[u8], named: &Named) -> Result<Option<String>, Fail> {
     fs::write(rt, "token.root", root)?;
     let words = ["clim", "token", "--bare", "token.root", named.hex];

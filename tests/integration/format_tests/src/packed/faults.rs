@@ -29,7 +29,7 @@ fn numbers_and_names_each_rule(rt: HostRuntime) {
 }
 
 #[test]
-fn raises_a_fault(rt: HostRuntime) {
+fn rebases_a_fault(rt: HostRuntime) {
     let fault = Fault::new(FaultCode::Version, 12);
     assert_eq!(rt; fault.rebased(0x200), Fault::new(FaultCode::Version, 0x20C));
 }

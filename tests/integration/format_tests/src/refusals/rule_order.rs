@@ -12,11 +12,11 @@ pub const LONG: &str = "0123456789abcdef0123456789abcdef0123456789abcdef01234567
     0123456789abcdef0123456789abcdef0123456789abcdef0123456789abcdef\
     0123456789abcdef0123456789abcdef0123456789abcdef0123456789abcde";
 
-/// A change to the whole tables, by which they do not meet one demand, and the code, the table, the row and
-/// the column of their refusal then.
+/// A change to the whole tables, by which they break one rule, and the code, the table, the row and
+/// the column of their refusal.
 type Broken = (Change, u16, u8, u32, usize);
 
-/// From the first demand to the last.
+/// From the first rule to the last.
 const RULES: [Broken; 38] = [
     (Change::Version(LONG), 302, 0, 0, 0),
     (Change::User(b"\0\0"), 510, 0, 0, 0),
@@ -290,17 +290,17 @@ const RULES: [Broken; 38] = [
     ),
 ];
 
-/// What tables are refused with that have these changes; they have to be handed back as they were.
+/// What tables are refused with that have these changes. They have to be returned as they were.
 pub fn refusal_with(alloc: Global, changes: &[Change]) -> Result<Option<Refusal>, Fail> {
     let twin = tables_with(alloc, changes)?;
     match refusal(tables_with(alloc, changes)?) {
         None => Ok(None),
         Some((refused, tables)) if tables == twin => Ok(Some(refused)),
-        Some(_) => Err(Fail::from("refused tables are not handed back as they were")),
+        Some(_) => Err(Fail::from("refused tables are not returned as they were")),
     }
 }
 
-/// What the tables are refused with that do not meet a demand.
+/// What the tables are refused with that break a rule.
 fn refusal_of(broken: Broken) -> Option<Refusal> {
     let (_, code, table, row, column) = broken;
     Some(Refusal {

@@ -6,13 +6,13 @@ use std::fmt;
 use std::test::Fail;
 
 /// The tables as II.22 lists them, one a line: the number in hexadecimal, the name, how many bytes a row
-/// takes in a stream without rows where no and where all heap indexes have four, and the columns.
+/// takes in a stream without rows if no heap index and if each heap index has four, and the columns.
 ///
-/// Behind a column's name stands what its cells are: u1, u2 and u4 are numbers of so many bytes, and -
+/// After a column's name follows what its cells are: u1, u2 and u4 are numbers of 1, 2 and 4 bytes, and -
 /// is a byte of padding; S, G and B are indexes into `#Strings`, `#GUID` and `#Blob`; B:K is one into
 /// `#Blob` of a signature of the kind K; =T is a row of the table T; ~L is a coded index of the list L;
-/// +T is the first row of a run in T. A column that may be null has a 0 behind it, and the column by
-/// which the rows are in order a * before it.
+/// +T is the first row of a run in T. A column that may be null has a 0 after it. The column by
+/// which the rows are in order has a * before it.
 const TABLES: &str = "\
 00 Module 10 18: Generation u2, Name S, Mvid G, EncId G, EncBaseId G
 01 TypeRef 6 10: ResolutionScope ~ResolutionScope 0, TypeName S, TypeNamespace S

@@ -54,8 +54,8 @@ fn layout_of(counts: &[(u8, u32)]) -> Layout {
 
 #[test]
 fn numbers_each_table(rt: HostRuntime) {
-    for (position, table) in TableId::all().iter().enumerate() {
-        assert_eq!(rt; table.table_index(), position);
+    for (index, table) in TableId::all().iter().enumerate() {
+        assert_eq!(rt; table.table_index(), index);
         assert_eq!(rt; TableId::from_number(table.number()), Some(*table));
     }
     for number in [0x03, 0x05, 0x07, 0x13, 0x16, 0x1E, 0x1F, 0x2D, 0x70, 0xFF] {

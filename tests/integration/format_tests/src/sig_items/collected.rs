@@ -4,7 +4,7 @@ use sig_values::Modifier;
 use std::alloc::Global;
 use std::test::Fail;
 
-/// The items of a blob; `None` where it spells nothing in a column of this kind.
+/// The items of a blob; `None` if it encodes nothing in a column of this kind.
 pub fn reported(alloc: Global, bytes: &[u8], kind: SigKind) -> Result<Option<Vec<Item>>, Fail> {
     match Items::of(bytes, kind) {
         Some(items) => Ok(Some(items.collect(alloc)?)),

@@ -165,7 +165,7 @@ const CORES: [Reported; 22] = [
             Item::Simple(Element::R4),
         ],
     ),
-    // A method whose one parameter is a pointer to a method, behind which an argument follows.
+    // A method whose one parameter is a pointer to a method, after which an argument follows.
     (
         &[
             0x15, 0x12, 0x05, 0x02, 0x1B, 0x00, 0x01, 0x01, 0x1B, 0x00, 0x01, 0x08, 0x16, 0x18,

@@ -42,7 +42,7 @@ fn nothing_comes_behind_the_last_item(rt: HostRuntime) -> Result<(), Fail> {
     Ok(())
 }
 
-/// A column's kind, and bytes that spell nothing in it.
+/// A column's kind, and bytes that encode nothing in it.
 const NOTHING: [(SigKind, &[u8]); 5] = [
     (SigKind::Field, &[]),
     (SigKind::Field, &[0x06, 0x08, 0x00]),

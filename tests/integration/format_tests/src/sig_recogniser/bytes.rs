@@ -4,7 +4,7 @@ use sig_recogniser::{SigKind, recognise};
 use signatures::{SigError, decode};
 use std::test::Fail;
 
-/// What the grammar does not spell is not recognised, and bad, also where there is memory.
+/// What the grammar does not encode is not recognised, and is bad even with ample memory.
 #[test]
 fn what_is_not_encoded_is_bad(rt: HostRuntime) {
     for blob in REFUSED {

@@ -6,8 +6,8 @@ use signatures::decode;
 use std::alloc::Global;
 use std::process::Abort;
 
-/// That the first type index without a row of what bytes spell, where each table has so many rows, is
-/// told by all calls that tell one.
+/// All calls that return the first type index without a row return the same one, for what bytes encode
+/// and tables of `count` rows each.
 fn is_first_bad(
     rt: &impl Abort,
     alloc: Global,
@@ -115,7 +115,7 @@ fn modifiers_are_met_in_order(rt: HostRuntime) {
     }
 }
 
-/// What spells nothing has no index.
+/// What encodes nothing has no index.
 #[test]
 fn no_index_is_reported_of_what_is_not_encoded(rt: HostRuntime) {
     let cut = [0x1F, 0x09, 0x12];

@@ -100,7 +100,7 @@ fn each_form_of_a_type_is_shown(rt: HostRuntime) -> Result<(), Fail> {
 /// A column's kind, a signature in it, and its text.
 type Body = (SigKind, &'static [u8], &'static str);
 
-/// Each kind of a signature (II.23.2.1 to II.23.2.6, II.23.2.15), and bytes that spell nothing.
+/// Each kind of a signature (II.23.2.1 to II.23.2.6, II.23.2.15), and bytes that encode nothing.
 const BODIES: [Body; 14] = [
     (SigKind::Field, &[0x06, 0x08], "int32"),
     (
@@ -163,7 +163,7 @@ fn each_kind_of_a_signature_is_shown(rt: HostRuntime) -> Result<(), Fail> {
     Ok(())
 }
 
-/// A thousand modifiers, those of odd places by the first row and those of even places by the second.
+/// A thousand modifiers: those of odd positions by the first row, those of even positions by the second.
 #[test]
 fn modifiers_follow_from_the_last_to_the_first(rt: HostRuntime) -> Result<(), Fail> {
     let mut bytes = Vec::new(rt.alloc());

@@ -1,6 +1,6 @@
 use sig_text::{SigKind, TextSink, Token, write_signature};
 
-/// A sink that refuses one word, and takes those before it and behind it.
+/// A sink that refuses one word, and takes those before it and after it.
 #[derive(Drop)]
 struct Words {
     bad: usize,
@@ -9,7 +9,7 @@ struct Words {
 }
 
 impl Words {
-    /// A sink that refuses the word behind so many.
+    /// A sink that refuses the word at this index.
     fn new(bad: usize) -> Words {
         Words {
             bad,
@@ -49,7 +49,7 @@ impl TextSink for Words {
     }
 }
 
-/// An instance method of two generic parameters, whose parameters are an array, an instance behind a modifier and
+/// An instance method of two generic parameters, whose parameters are an array, an instance after a modifier and
 /// a pointer to a method.
 const METHOD: &[u8] = &[
     0x30, 0x02, 0x03, 0x01, 0x14, 0x08, 0x02, 0x01, 0x03, 0x01, 0x00, 0x1F, 0x05, 0x15, 0x12, 0x09,
@@ -62,7 +62,7 @@ const FIELD: &[u8] = &[
     0x7F,
 ];
 
-/// The first word behind whose refusal the text of a signature goes on; `None` where it ends at each of so many.
+/// The first word after whose refusal the text of a signature goes on; `None` if it ends at each of the `count`.
 fn first_passed_over(blob: &[u8], kind: SigKind, count: usize) -> Option<usize> {
     (0..count).find(|bad| {
         let mut words = Words::new(*bad);

@@ -3,7 +3,7 @@ use schema::SigKind;
 /// A type, as a TypeSpec of it alone, and what `Debug` shows of its value.
 #[derive(Clone, Copy)]
 pub struct CoreBlob {
-    /// The bytes, all of them, in the shortest spelling.
+    /// The bytes, all of them, in the shortest encoding.
     pub bytes: &'static [u8],
     /// The value of the type.
     pub shown: &'static str,
@@ -14,13 +14,13 @@ pub struct CoreBlob {
 pub struct BodyBlob {
     /// The kind of the column.
     pub kind: SigKind,
-    /// The bytes, all of them, in the shortest spelling.
+    /// The bytes, all of them, in the shortest encoding.
     pub bytes: &'static [u8],
     /// The value of the signature.
     pub shown: &'static str,
 }
 
-/// Bytes that spell nothing in a column of a kind.
+/// Bytes that encode nothing in a column of a kind.
 #[derive(Clone, Copy)]
 pub struct RefusedBlob {
     /// The kind of the column.
@@ -96,7 +96,7 @@ pub const CORES: [CoreBlob; 47] = [
         bytes: &[0x1C],
         shown: "Simple(Object)",
     },
-    // PTR: to VOID and to a type, behind no modifiers, one and three.
+    // PTR: to VOID and to a type, after no modifiers, one and three.
     CoreBlob {
         bytes: &[0x0F, 0x01],
         shown: "Pointer([], None)",
@@ -236,7 +236,7 @@ pub const CORES: [CoreBlob; 47] = [
 
 /// Every form of a signature (II.23.2).
 pub const BODIES: [BodyBlob; 33] = [
-    // Fields: of an integer, of a reference with its type, and of a reference behind three modifiers and one.
+    // Fields: of an integer, of a reference with its type, and of a reference after three modifiers and one.
     BodyBlob {
         kind: SigKind::Field,
         bytes: &[0x06, 0x08],
@@ -315,7 +315,7 @@ pub const BODIES: [BodyBlob; 33] = [
         bytes: &[0x30, 0x01, 0x01, 0x1E, 0x00, 0x1E, 0x00],
         shown: "Method(MethodSig { kind: 0, this: true, explicit: false, generic: Some(1), ret: Slot(Slot { mods: [], kind: Plain(MVar(0)) }), params: [Slot { mods: [], kind: Plain(MVar(0)) }], sentinel: None })",
     },
-    // VOID behind a modifier, and three parameters: behind a modifier, by reference, and a reference with its type.
+    // VOID after a modifier, and three parameters: after a modifier, by reference, and a reference with its type.
     BodyBlob {
         kind: SigKind::MethodDef,
         bytes: &[
@@ -360,7 +360,7 @@ pub const BODIES: [BodyBlob; 33] = [
         bytes: &[0x08, 0x03, 0x0E, 0x08, 0x0C, 0x0D],
         shown: "Property(PropertySig { this: false, of: Slot { mods: [], kind: Plain(Simple(String)) }, params: [Slot { mods: [], kind: Plain(Simple(I4)) }, Slot { mods: [], kind: Plain(Simple(R4)) }, Slot { mods: [], kind: Plain(Simple(R8)) }] })",
     },
-    // Local variables: none, three, the last of them behind PINNED between modifiers, and one by reference.
+    // Local variables: none, three, the last of them after PINNED between modifiers, and one by reference.
     BodyBlob {
         kind: SigKind::StandAlone,
         bytes: &[0x07, 0x00],
@@ -389,7 +389,7 @@ pub const BODIES: [BodyBlob; 33] = [
         bytes: &[0x0A, 0x03, 0x08, 0x1F, 0x09, 0x1D, 0x0E, 0x1E, 0x00],
         shown: "Instance(InstanceSig([TypeSig { mods: [], core: Simple(I4) }, TypeSig { mods: [Modifier { required: true, of: Token { table: TypeRef, row: 2 } }], core: Vector(TypeSig { mods: [], core: Simple(String) }) }, TypeSig { mods: [], core: MVar(0) }]))",
     },
-    // Types: VOID, without a modifier and behind one, by reference, a reference with its type, and a class behind a modifier.
+    // Types: VOID without and after a modifier, by reference, a reference with its type, and a class after a modifier.
     BodyBlob {
         kind: SigKind::TypeSpec,
         bytes: &[0x01],
@@ -417,7 +417,7 @@ pub const BODIES: [BodyBlob; 33] = [
     },
 ];
 
-/// What the grammar does not spell.
+/// What the grammar does not encode.
 pub const REFUSED: [RefusedBlob; 40] = [
     // Nothing, a byte too few, and a byte too many.
     RefusedBlob {
@@ -495,7 +495,7 @@ pub const REFUSED: [RefusedBlob; 40] = [
         kind: SigKind::MethodDef,
         bytes: &[0x0F, 0x00, 0x01],
     },
-    // SENTINEL where a method is defined, behind the last parameter, twice, and in a kind without it.
+    // SENTINEL where a method is defined, after the last parameter, twice, and in a kind without it.
     RefusedBlob {
         kind: SigKind::MethodDef,
         bytes: &[0x05, 0x01, 0x01, 0x41, 0x08],

@@ -5,19 +5,19 @@ use signatures::{Core, SigBody, Signature};
 use std::process::Abort;
 use std::test::Fail;
 
-/// That no bytes spell a body: it is handed back.
+/// No bytes encode a body: it is returned.
 fn is_handed_back(rt: &impl Abort, body: SigBody) {
     assert_eq!(rt; encoded_len(&body), None);
     assert!(rt; Signature::new(body).is_err());
 }
 
-/// That bytes spell a body, as many as that.
+/// This number of bytes encodes a body.
 fn has_length(rt: &impl Abort, body: SigBody, len: usize) {
     assert_eq!(rt; encoded_len(&body), Some(len));
     assert!(rt; Signature::new(body).is_ok());
 }
 
-/// Kinds that there are not; SENTINEL behind the last parameter, and in a method of the default kind.
+/// Kinds that there are not; SENTINEL after the last parameter, and in a method of the default kind.
 #[test]
 fn methods_of_no_kind_are_handed_back(rt: HostRuntime) -> Result<(), Fail> {
     for kind in [6, 7, 8, 10, 15, 16, 255] {
@@ -77,7 +77,7 @@ fn types_that_nothing_encodes_are_handed_back(rt: HostRuntime) -> Result<(), Fai
     Ok(())
 }
 
-/// A spelling stands behind the bytes that there are, where there is room for it.
+/// An encoding follows the bytes that there are, if there is room for it.
 #[test]
 fn encodings_stand_behind_bytes(rt: HostRuntime) -> Result<(), Fail> {
     let core = Core::Instance {

@@ -8,7 +8,7 @@ use std::alloc::Global;
 use std::process::Abort;
 use std::test::Fail;
 
-/// That bytes in their shortest spelling are decoded as a value that is shown so, encoded again, copied
+/// Bytes in their shortest encoding are decoded as a value that is shown so, encoded again, copied
 /// and equal to their copy.
 fn is_encoded(
     rt: &impl Abort,
@@ -73,7 +73,7 @@ fn bodies_are_measured_and_copied(rt: HostRuntime) -> Result<(), Fail> {
     Ok(())
 }
 
-/// Types are equal exactly where their bytes are: none of the table stands twice in it.
+/// Types are equal if and only if their bytes are: none is twice in the table.
 #[test]
 fn other_types_are_not_equal(rt: HostRuntime) {
     for (offset, blob) in CORES.iter().enumerate() {
@@ -85,7 +85,7 @@ fn other_types_are_not_equal(rt: HostRuntime) {
     }
 }
 
-/// Signatures are equal exactly where they are shown alike, whatever holds them.
+/// Signatures are equal if and only if they are shown alike, whatever holds them.
 #[test]
 fn other_signatures_are_not_equal(rt: HostRuntime) {
     for (offset, blob) in BODIES.iter().enumerate() {

@@ -61,7 +61,7 @@ pub fn array(alloc: Global, rank: u32, sizes: &[u32], low: &[i32]) -> Result<Sig
     Ok(specified(alloc, Core::Array(of, shape)))
 }
 
-/// A 4-byte integer in so many arrays of one dimension.
+/// A 4-byte integer in `count` arrays of one dimension.
 pub fn vectors(alloc: Global, count: usize) -> Result<SigBody, Fail> {
     let mut core = integer();
     for _ in 0..count {

@@ -7,8 +7,8 @@ use std::alloc::Global;
 use std::ops::Range;
 use std::test::Fail;
 
-/// Loads and opens bytes of which one is set to 0 and to 0xFF, at each of these places, which has to answer
-/// alike: how many have a model and how many a fault.
+/// Loads and opens bytes of which one is set to 0 and to 0xFF, at each of these offsets. Both have to give the
+/// same result. Returns how many have a model and how many a fault.
 fn count_answers(
     alloc: Global,
     form: Form,

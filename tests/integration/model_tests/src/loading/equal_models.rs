@@ -111,7 +111,7 @@ fn user_bytes_are_padded(rt: HostRuntime) -> Result<(), Fail> {
     for (size, zero_padded) in [(4, 4), (5, 8), (7, 8), (8, 8), (12, 12)] {
         let mut root = RootBuilder::new(alloc);
         root.heap("#US", b"\0\x05A\0B\0\0\x03'\0\x01\0")?;
-        // The size of the stream stands at 48, in its header.
+        // The size of the stream is at 48, in its header.
         let root = root.finish()?;
         let root = changed(alloc, root.as_slice(), &[(48, size)])?;
         let model = model_in(alloc, Form::Root, root.as_slice())?;

@@ -84,7 +84,7 @@ fn changed_indexes_name_what_stands_there(rt: HostRuntime) -> Result<(), Fail> {
 fn changed_starts_move_members(rt: HostRuntime) -> Result<(), Fail> {
     let alloc = rt.alloc();
     let types = model_in(alloc, Form::Root, &TWO_TYPES)?;
-    // A null start of the first type is that of the second; one of the second is behind the last field.
+    // A null start of the first type is that of the second; one of the second is after the last field.
     let first = changed(alloc, &TWO_TYPES, &[(126, 0)])?;
     assert!(rt; model_in(alloc, Form::Root, first.as_slice())? == types);
     let second = changed(alloc, &TWO_TYPES, &[(140, 0)])?;

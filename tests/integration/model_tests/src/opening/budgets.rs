@@ -4,9 +4,9 @@ use sample_roots::RootBuilder;
 use std::alloc::Global;
 use std::test::Fail;
 
-/// A root of two fields, of which the second has a byte behind its signature: their blobs have two and
-/// three bytes. The rows of Field stand at 106 and 112.
-fn misspelled(alloc: Global) -> Result<Vec<u8>, Fail> {
+/// A root of two fields, of which the second has a byte after its signature: their blobs have two and
+/// three bytes. The rows of Field are at 106 and 112.
+fn with_extra_byte(alloc: Global) -> Result<Vec<u8>, Fail> {
     let mut root = RootBuilder::new(alloc);
     root.row(0x02, b"\0\0\0\0\0\0\0\0\0\0\x01\0\x01\0")?;
     root.row(0x04, b"\0\0\0\0\x01\0")?;
@@ -43,7 +43,7 @@ fn a_root_without_signatures_needs_no_budget(rt: HostRuntime) -> Result<(), Fail
 /// The walk that finds the fault in its row is not counted.
 #[test]
 fn a_fault_is_reported_where_the_budget_reaches_it(rt: HostRuntime) -> Result<(), Fail> {
-    let root = misspelled(rt.alloc())?;
+    let root = with_extra_byte(rt.alloc())?;
     let fault = Fault::new(FaultCode::BadSignature, 116);
     for (budget, error) in [
         (0, BoundedError::BudgetSpent),
@@ -56,7 +56,7 @@ fn a_fault_is_reported_where_the_budget_reaches_it(rt: HostRuntime) -> Result<()
     Ok(())
 }
 
-/// What does not depend on signatures is told whatever the budget is.
+/// What does not depend on signatures is reported whatever the budget is.
 #[test]
 fn other_faults_need_no_budget(rt: HostRuntime) -> Result<(), Fail> {
     let mut root = RootBuilder::new(rt.alloc());

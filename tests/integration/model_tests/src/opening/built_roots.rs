@@ -3,7 +3,7 @@ use sample_tables::GUID;
 use std::alloc::Global;
 use std::test::Fail;
 
-/// A root of 144 bytes, of one row of Module, which stands at 108.
+/// A root of 144 bytes, of one row of Module, which is at 108.
 pub fn one_module(alloc: Global) -> Result<Vec<u8>, Fail> {
     let mut root = RootBuilder::new(alloc);
     root.row(0x00, b"\0\0\x01\0\x01\0\0\0\0\0")?;
@@ -12,7 +12,7 @@ pub fn one_module(alloc: Global) -> Result<Vec<u8>, Fail> {
     Ok(root.finish()?)
 }
 
-/// A root of two types, of which the second has two fields and a method: the rows of TypeDef stand at 116
+/// A root of two types, of which the second has two fields and a method: the rows of TypeDef are at 116
 /// and 130.
 pub fn two_types(alloc: Global) -> Result<Vec<u8>, Fail> {
     let mut root = RootBuilder::new(alloc);

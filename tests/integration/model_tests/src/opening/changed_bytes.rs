@@ -4,7 +4,7 @@ use sample_roots::{ONE_MODULE, TWO_TYPES, changed, fault_of, image};
 use std::alloc::Global;
 use std::test::Fail;
 
-/// The first and the last place of a run of bytes, and the fault of the root of one module with one of them 0.
+/// The first and the last offset of a run of bytes, and the fault of the root of one module with one of them 0.
 const ONE_MODULE_WITH_00: [(usize, usize, u16, u64); 12] = [
     (0, 3, 301, 0),
     (12, 12, 302, 12),
@@ -205,7 +205,7 @@ const IMAGE_WITH_FF: [(usize, usize, u16, u64); 39] = [
     (713, 718, 502, 702),
 ];
 
-/// The fault that a table lists for a place: none where it lists none.
+/// The fault that a table lists for an offset, if any.
 fn listed(faults: &[(usize, usize, u16, u64)], offset: usize) -> Option<(u16, u64)> {
     let (_, _, code, offset) = faults
         .iter()
@@ -213,7 +213,7 @@ fn listed(faults: &[(usize, usize, u16, u64)], offset: usize) -> Option<(u16, u6
     Some((*code, *offset))
 }
 
-/// The first place at which a byte leads to another answer than the one that is listed.
+/// The first offset at which a byte leads to another result than the one that is listed.
 fn first_other_byte(
     alloc: Global,
     form: Form,

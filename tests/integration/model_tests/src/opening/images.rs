@@ -52,7 +52,7 @@ fn offsets_of_faults_count_in_the_file(rt: HostRuntime) -> Result<(), Fail> {
     assert_eq!(rt; fault_with(alloc, &[(592 + 110, 8)])?, Some((501, 702)));
     assert_eq!(rt; fault_with(alloc, &[(592 + 112, 2)])?, Some((504, 704)));
     assert_eq!(rt; fault_with(alloc, &[(0x99, 0x02)])?, Some((105, 148)));
-    // As many sections as the file has room for.
+    // The largest number of sections that the file has room for.
     assert_eq!(rt; fault_with(alloc, &[(0x86, 0x10)])?, None);
     // A root of no bytes.
     assert_eq!(rt; fault_with(alloc, &[(0x214, 0)])?, Some((301, 592)));

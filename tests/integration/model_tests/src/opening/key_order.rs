@@ -53,7 +53,7 @@ fn rising_keys_are_in_order_whatever_the_bit(rt: HostRuntime) -> Result<(), Fail
 
 #[test]
 fn rows_out_of_order_are_refused(rt: HostRuntime) -> Result<(), Fail> {
-    // The rows of TypeDef stand at 76, those of NestedClass at 118.
+    // The rows of TypeDef are at 76, those of NestedClass at 118.
     for (nestings, code, offset, name) in [
         (
             [b"\x03\0\x01\0".as_slice(), b"\x02\0\x01\0"],

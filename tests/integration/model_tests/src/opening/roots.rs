@@ -191,7 +191,7 @@ fn user_bytes_stand_as_in_the_root(rt: HostRuntime) -> Result<(), Fail> {
     root.heap("#US", user)?;
     let root = root.finish()?;
     assert_eq!(rt; open_root(root.as_slice())?.user(), user);
-    // The header of the stream stands at 44, its size at 48: two bytes fewer.
+    // The header of the stream is at 44, its size at 48: two bytes fewer.
     let cut = changed(root, 48, 10);
     assert_eq!(rt; open_root(cut.as_slice())?.user().len(), 10);
     Ok(())

@@ -59,7 +59,7 @@ fn null_starts_of_many_owners_are_found(rt: HostRuntime) -> Result<(), Fail> {
 
 #[test]
 fn runs_start_at_1_and_never_fall(rt: HostRuntime) -> Result<(), Fail> {
-    // The rows of TypeDef stand at 92, 106 and 120, FieldList ten bytes further.
+    // The rows of TypeDef are at 92, 106 and 120, FieldList ten bytes further.
     for (starts, fault) in [
         ([1, 1, 1], None),
         ([1, 2, 3], None),

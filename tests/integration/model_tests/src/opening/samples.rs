@@ -68,7 +68,7 @@ fn shows_the_sample_of_no_rows(rt: HostRuntime) -> Result<(), Fail> {
 #[test]
 fn a_changed_byte_shows(rt: HostRuntime) -> Result<(), Fail> {
     let alloc = rt.alloc();
-    // The name at 110 is that of the NUL behind `a.dll`, and then none; the GUID at 112 is none.
+    // The name at 110 is that of the NUL after `a.dll`, and then none; the GUID at 112 is none.
     let root = changed(alloc, &ONE_MODULE, &[(110, 7)])?;
     let view = open_root(root.as_slice())?;
     assert_eq!(rt; module_cell(&view, 1), Some(CellRef::Text("")));

@@ -5,7 +5,7 @@ use sample_roots::{RootBuilder, root_of_references, root_of_signature};
 use schema::TableId;
 use std::test::Fail;
 
-/// Which cell of the one row of a table is its signature, and where that stands.
+/// Which cell of the one row of a table is its signature, and the offset of that cell.
 fn signature_cell(table: TableId) -> (usize, u64) {
     match table {
         TableId::Field => (2, 148),

@@ -4,20 +4,20 @@ use std::alloc::Global;
 use std::test::Fail;
 use tables::Cell;
 
-/// Whether a capital stands at a place of a name.
+/// Whether a capital is at an offset of a name.
 fn is_capital(name: &[u8], offset: usize) -> bool {
     name.get(offset)
         .is_some_and(|byte| byte.is_ascii_uppercase())
 }
 
-/// Whether a small letter stands at a place of a name.
+/// Whether a small letter is at an offset of a name.
 fn is_small(name: &[u8], offset: usize) -> bool {
     name.get(offset)
         .is_some_and(|byte| byte.is_ascii_lowercase())
 }
 
-/// Whether a letter of a column's name begins a word behind the first: a capital does that stands behind a
-/// small letter, or before one.
+/// Whether a letter of a column's name begins a word after the first: a capital does if it follows a
+/// small letter, or comes before one.
 fn begins_word(name: &[u8], offset: usize) -> bool {
     offset > 0
         && is_capital(name, offset)

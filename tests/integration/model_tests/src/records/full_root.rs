@@ -3,10 +3,10 @@ use schema::{ColumnKind, SigKind, TableId, columns, join};
 use std::alloc::Global;
 use std::test::Fail;
 
-/// Texts of three bytes, of which each takes four with its end, so that the text of place 0 is at 1.
+/// Texts of three bytes, of which each takes four with its end, so that the text of cell 0 is at 1.
 const TEXTS: &[u8] = b"\0t.0\0t.1\0t.2\0t.3\0t.4\0t.5\0t.6\0t.7\0t.8\0";
 
-/// Blobs: a signature of each kind, and from 23 on one of a byte for each place.
+/// Blobs: a signature of each kind, and from 23 on one of a byte for each cell.
 const BLOBS: &[u8] = &[
     0, 2, 0x06, 0x08, 3, 0x00, 0x00, 0x01, 3, 0x07, 0x01, 0x08, 3, 0x08, 0x00, 0x08, 2, 0x0F, 0x01,
     3, 0x0A, 0x01, 0x08, 1, 0, 1, 1, 1, 2, 1, 3, 1, 4, 1, 5, 1, 6, 1, 7, 1, 8,
@@ -29,8 +29,8 @@ fn row_count(table: TableId) -> u32 {
     if table == TableId::TypeDef { 2 } else { 1 }
 }
 
-/// The number of a column that stands at a place of a row: one that tells the place where the column is of
-/// numbers, texts or blobs, and else the first row or GUID; the type that is nested is the second.
+/// The number of a column at an offset of a row. It depends on the offset if the column is of numbers,
+/// texts or blobs. Otherwise it is the first row or GUID; the type that is nested is the second.
 fn number_at(table: TableId, kind: ColumnKind, offset: u32) -> u32 {
     match kind {
         ColumnKind::U8 | ColumnKind::U16 | ColumnKind::U32 => offset.saturating_add(1),

@@ -54,7 +54,7 @@ fn is_same<'a, R: Record<'a> + FromRow<'a, RefRow<'a>> + PartialEq + Debug + Cop
     Ok(())
 }
 
-/// Whether a blob spells a signature in a column of a kind.
+/// Whether a blob encodes a signature in a column of a kind.
 fn encodes(alloc: Global, blob: &[u8], column: SigKind, signature: &Signature) -> bool {
     match decode(alloc, blob, column) {
         Ok(decoded) => decoded == *signature,
@@ -62,7 +62,7 @@ fn encodes(alloc: Global, blob: &[u8], column: SigKind, signature: &Signature) -
     }
 }
 
-/// The blob of a signature in a table's first row, by the place of its cell.
+/// The blob of a signature in a table's first row, by the index of its cell.
 fn blob_of<'a>(view: &View<'a>, table: TableId, offset: usize) -> &'a [u8] {
     match view.cell(table, 1, offset) {
         CellRef::Sig(blob) => blob,

@@ -67,7 +67,7 @@ pub fn root_of(
     Ok(root)
 }
 
-/// The names of heaps, filled with zeros to a multiple of four.
+/// The names of heaps, zero-padded to a multiple of four.
 pub const STRINGS: &[u8] = b"#Strings\0\0\0\0";
 
 pub const BLOB: &[u8] = b"#Blob\0\0\0";

@@ -120,7 +120,7 @@ fn the_members_of_two_types(rt: HostRuntime) -> Result<(), Fail> {
     Ok(())
 }
 
-/// A start of 0 is that of the next owner, and behind the last member at the last one.
+/// A start of 0 is that of the next owner, and after the last member at the last one.
 #[test]
 fn starts_that_are_null(rt: HostRuntime) -> Result<(), Fail> {
     let alloc = rt.alloc();

@@ -7,7 +7,7 @@ use std::process::Abort;
 use std::test::Fail;
 use writer::{Counted, Prepared, Sink, WriteError, prepare, write_root_to};
 
-/// Compares the answer of giving out a root, the failures and what went out: all, or so many bytes.
+/// Compares the result of writing a root, the failures and what was written: all, or this number of bytes.
 fn compare(
     rt: &impl Abort,
     answer: Result<(), WriteError>,

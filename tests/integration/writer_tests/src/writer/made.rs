@@ -57,7 +57,7 @@ fn a_root_is_refused_above_its_limit_alone(rt: HostRuntime) -> Result<(), Fail> 
     Ok(())
 }
 
-/// The fault of a root whose byte at a place is 2.
+/// The fault of a root whose byte at an offset is 2.
 fn fault_with(alloc: Global, root: &[u8], offset: usize) -> Result<(u16, u64), Fail> {
     let other = changed(alloc, root, &[(offset, 2)])?;
     match load_root(alloc, other.as_slice()) {
@@ -66,7 +66,7 @@ fn fault_with(alloc: Global, root: &[u8], offset: usize) -> Result<(u16, u64), F
     }
 }
 
-/// The root of one row of Module, whose name is so many letters.
+/// The root of one row of Module, whose name has this number of letters.
 fn named_by(alloc: Global, letters: usize) -> Result<Vec<u8>, Fail> {
     let mut name = String::new(alloc);
     for _ in 0..letters {
@@ -88,7 +88,7 @@ fn indexes_are_narrow_below_65536_bytes(rt: HostRuntime) -> Result<(), Fail> {
         narrow.as_slice().get(92..106),
         Some(b"\0\0\x01\0\0\0\0\0\0\0\0\0\0x".as_slice())
     );
-    // The GUID of the module stands at 96: there is no second one.
+    // The GUID of the module is at 96: there is no second one.
     assert_eq!(rt; fault_with(rt.alloc(), narrow.as_slice(), 96)?, (504, 96));
     Ok(())
 }
@@ -106,7 +106,7 @@ fn indexes_are_wide_from_65536_bytes_on(rt: HostRuntime) -> Result<(), Fail> {
         wide.as_slice().get(92..106),
         Some(b"\0\0\x01\0\0\0\0\0\0\0\0\0\0x".as_slice())
     );
-    // The GUID of the module stands at 98.
+    // The GUID of the module is at 98.
     assert_eq!(rt; fault_with(rt.alloc(), wide.as_slice(), 98)?, (504, 98));
     Ok(())
 }

@@ -34,7 +34,7 @@ fn a_table_has_its_sorted_bit_where_it_is_in_order(rt: HostRuntime) -> Result<()
 #[test]
 fn made_tables_have_the_bits_of_those_in_order(rt: HostRuntime) -> Result<(), Fail> {
     let alloc = rt.alloc();
-    // The classes of the first and the last interface change places: 1, 2, 3 are 3, 2, 1.
+    // The classes of the first and the last interface are swapped: 1, 2, 3 are 3, 2, 1.
     let model = model_of(tables_with(
         alloc,
         &[
@@ -43,8 +43,8 @@ fn made_tables_have_the_bits_of_those_in_order(rt: HostRuntime) -> Result<(), Fa
         ],
     )?)?;
     let mut expected = root_of_whole_tables(alloc)?;
-    // The table stream begins at 108: Sorted stands there at 16, and the rows from 96 on, of which
-    // the interfaces stand behind 168 bytes of others.
+    // The table stream begins at 108: Sorted is there at 16, and the rows from 96 on, of which
+    // the interfaces follow 168 bytes of others.
     let sorted = ALL_SORTED - (1 << 0x09);
     write_at(
         expected.as_mut_slice(),
