@@ -83,7 +83,7 @@ PROSE = {
     r"demand(?:s|ed|ing)?": "rule, or to require",
     r"(?:it|that|which|what|call|calls|function|functions|reader|both|and|all|each) answers?(?= )|answers (?:a|an|the|as|with|no|what|whether|how|that|each|alike|otherwise|for|to)\b|(?:is|are|was|be|been) answered|(?:has|have) to answer|answering": "return",
     r"(?:for )?want of memory": "out of memory",
-    r"tells? (?!\w+ apart)|told|telling": "report, or print",
+    r"tells?(?! \w+ apart)|told|telling": "report, or print",
     r"behind": "after, or following",
     r"(?:stand|stands|stood|standing) (?:at|behind)": "be at, or follow",
     r"(?:so|as) many": "the number of, or N",

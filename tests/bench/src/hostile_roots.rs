@@ -90,10 +90,10 @@ fn two_signatures(alloc: Global, size: u32) -> Result<Vec<u8>, AllocError> {
 fn overlapping_blobs(alloc: Global, size: u32) -> Result<Vec<u8>, AllocError> {
     let mut tables = table_of(alloc, TableId::TypeSpec, size.wrapping_mul(2))?;
     let mut blobs = vec![in alloc; 0u8; 1]?;
-    for behind in (0..size).rev() {
+    for following in (0..size).rev() {
         blobs.push(0x20)?;
         tables.extend_from_slice(&length_of(&blobs).to_le_bytes())?;
-        put_packed(&mut blobs, behind.wrapping_mul(8).wrapping_add(6))?;
+        put_packed(&mut blobs, following.wrapping_mul(8).wrapping_add(6))?;
         blobs.extend_from_slice(&[0x20, 0x80, 0x06])?;
     }
     let last = length_of(&blobs).wrapping_sub(7);
@@ -105,7 +105,7 @@ fn overlapping_blobs(alloc: Global, size: u32) -> Result<Vec<u8>, AllocError> {
 }
 
 /// Type references without a scope, whose names are the endings of one text.
-fn endings(alloc: Global, size: u32, behind: &[u8]) -> Result<Vec<u8>, AllocError> {
+fn endings(alloc: Global, size: u32, tail: &[u8]) -> Result<Vec<u8>, AllocError> {
     let mut tables = table_of(alloc, TableId::TypeRef, size)?;
     let mut texts = vec![in alloc; 0u8; 1]?;
     for row in 0..size {
@@ -114,11 +114,11 @@ fn endings(alloc: Global, size: u32, behind: &[u8]) -> Result<Vec<u8>, AllocErro
         tables.extend_from_slice(&[0; 4])?;
         texts.push(b'x')?;
     }
-    texts.extend_from_slice(behind)?;
+    texts.extend_from_slice(tail)?;
     root_of(alloc, &tables, &texts, b"\0")
 }
 
-/// Types none of which tells where its members begin.
+/// Types whose runs of members all start at a null.
 fn null_starts(alloc: Global, size: u32) -> Result<Vec<u8>, AllocError> {
     let mut tables = table_of(alloc, TableId::TypeDef, size)?;
     for _ in 0..size {

@@ -1,4 +1,4 @@
-//! Times what has to be fast on hostile input. The word `run` starts it; each line tells a time as a
+//! Times what has to be fast on hostile input. The argument `run` starts it. Each line gives a time as a
 //! ratio to another of the same run, so that the lines of two machines can be compared.
 #![tactic(auto)]
 

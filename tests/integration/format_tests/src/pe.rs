@@ -145,7 +145,7 @@ fn takes_the_first_section_that_has_the_bytes(rt: HostRuntime) -> Result<(), Fai
 }
 
 #[test]
-fn tries_no_section_behind_one_that_is_cut_off(rt: HostRuntime) -> Result<(), Fail> {
+fn tries_no_section_after_one_that_is_cut_off(rt: HostRuntime) -> Result<(), Fail> {
     let alloc = rt.alloc();
     let cut = b"\0\x20\0\0\0\x10\0\0\0\x04\0\0".as_slice();
     let whole = b"\0\x20\0\0\0\x10\0\0\0\0\0\0".as_slice();

@@ -68,7 +68,7 @@ fn reads_cells_in_place(rt: HostRuntime) {
 }
 
 /// What `put_row` appends to one byte, of numbers below 256.
-fn row_behind_a_byte(
+fn row_after_a_byte(
     alloc: Global,
     stream: &[u8],
     table: TableId,
@@ -83,15 +83,15 @@ fn row_behind_a_byte(
 #[test]
 fn appends_rows(rt: HostRuntime) -> Result<(), Fail> {
     let alloc = rt.alloc();
-    let bytes = row_behind_a_byte(alloc, &MODULE, TableId::Module, &[0, 1, 1, 0, 0])?;
+    let bytes = row_after_a_byte(alloc, &MODULE, TableId::Module, &[0, 1, 1, 0, 0])?;
     assert_eq!(rt;
         bytes.as_slice(),
         [0xFF, 0, 0, 1, 0, 1, 0, 0, 0, 0, 0].as_slice()
     );
-    let bytes = row_behind_a_byte(alloc, &WIDE, TableId::Module, &[0, 1, 1, 0, 0])?;
+    let bytes = row_after_a_byte(alloc, &WIDE, TableId::Module, &[0, 1, 1, 0, 0])?;
     let wide = [0xFF, 0, 0, 1, 0, 0, 0, 1, 0, 0, 0, 0, 0, 0, 0, 0, 0, 0, 0];
     assert_eq!(rt; bytes.as_slice(), wide.as_slice());
-    let bytes = row_behind_a_byte(alloc, &CONSTANTS, TableId::Constant, &[8, 0xFF, 5, 3])?;
+    let bytes = row_after_a_byte(alloc, &CONSTANTS, TableId::Constant, &[8, 0xFF, 5, 3])?;
     assert_eq!(rt; bytes.as_slice(), [0xFF, 8, 0xFF, 5, 0, 3, 0].as_slice());
     Ok(())
 }

@@ -25,7 +25,7 @@ fn has_cells(
 }
 
 #[test]
-fn rows_stand_in_the_order_in_which_they_are_pushed(rt: HostRuntime) -> Result<(), Fail> {
+fn rows_are_in_the_order_in_which_they_are_pushed(rt: HostRuntime) -> Result<(), Fail> {
     let alloc = rt.alloc();
     let mut tables = Tables::new(alloc, "v4.0.30319")?;
     assert_eq!(rt;

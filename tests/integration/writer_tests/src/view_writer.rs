@@ -59,7 +59,7 @@ fn a_view_is_written_as_its_model(rt: HostRuntime) -> Result<(), Fail> {
 }
 
 #[test]
-fn the_start_behind_65535_members_is_that_of_the_model(rt: HostRuntime) -> Result<(), Fail> {
+fn the_start_after_65535_members_is_that_of_the_model(rt: HostRuntime) -> Result<(), Fail> {
     let alloc = rt.alloc();
     let root = root_of_params(alloc)?;
     let written = prepare_view(alloc, &opened(&root)?, 1 << 30)?;

@@ -49,7 +49,7 @@ use std::env;
 use std::process::ExitCode;
 use std::time::Instant;
 
-/// How many cases are tried where no word tells.
+/// How many cases are tried if no argument says.
 const CASES: u64 = 12;
 
 /// How many bytes of a case that fails are printed at most.
@@ -75,7 +75,7 @@ fn main(rt: HostRuntime) -> ExitCode {
     let mut failures = 0u64;
     let cases = cases.unwrap_or(CASES);
     for case in first..first.saturating_add(cases) {
-        // Where the library stops the program, this tells the case.
+        // If the library stops the program, this line names the case.
         let _ = eprintln!(rt; "case {case}");
         match try_case(rt.alloc(), seed, case, &mut tally) {
             Ok(None) => {}
@@ -123,7 +123,7 @@ fn report(rt: &HostRuntime, seed: u64, case: u64, failed: &Failed) {
     }
 }
 
-/// Tells how the roots were answered.
+/// Prints what became of the roots.
 fn report(rt: &HostRuntime, tally: &Tally) {
     let _ = println!(rt; "loaded {}", tally.loaded);
     let _ = println!(rt;
@@ -171,7 +171,7 @@ fn try_case(
     Ok(None)
 }
 
-/// Tries one thing of a case, and tells its bytes: in the first two rounds the root and the file as they were made.
+/// Tries one thing of a case, and returns its bytes: in the first two rounds the root and the file as they were made.
 fn try_round(
     alloc: Global,
     random: &mut Random,

@@ -1,4 +1,4 @@
-//! Reads a file as the standard tells it, plainly (ECMA-335 II.25). It shares no code with the library.
+//! Reads a file as the standard says it, plainly (ECMA-335 II.25). It shares no code with the library.
 
 use crate::numbers::number_at;
 use crate::plain_model::PlainModel;

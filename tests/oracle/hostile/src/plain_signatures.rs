@@ -186,7 +186,7 @@ impl Walk<'_> {
         self.expect_code(7)?;
         for _local in 0..self.number()? {
             self.modifiers(true)?;
-            self.slot_behind_modifiers(DEPTH)?;
+            self.slot_after_modifiers(DEPTH)?;
         }
         Ok(())
     }
@@ -230,15 +230,15 @@ impl Walk<'_> {
         if left > 0 && self.takes(0x01)? {
             return Ok(());
         }
-        self.slot_behind_modifiers(left)
+        self.slot_after_modifiers(left)
     }
 
     fn slot(&mut self, left: u32) -> Result<(), NotEncoded> {
         self.modifiers(false)?;
-        self.slot_behind_modifiers(left)
+        self.slot_after_modifiers(left)
     }
 
-    fn slot_behind_modifiers(&mut self, left: u32) -> Result<(), NotEncoded> {
+    fn slot_after_modifiers(&mut self, left: u32) -> Result<(), NotEncoded> {
         if left > 0 && self.takes(0x16)? {
             return Ok(());
         }

@@ -296,7 +296,7 @@ pub fn listed(coded: Coded) -> &'static [Option<Table>] {
     }
 }
 
-/// How many bits the tag of a coded index takes: the fewest that tell its tables apart.
+/// How many bits the tag of a coded index takes: the fewest that distinguish its tables.
 pub fn tag_bits(coded: Coded) -> u32 {
     let len = listed(coded).len();
     let mut bits = 0;

@@ -43,7 +43,7 @@ fn allocate(alloc: Global, count: u32) {
     }
 }
 
-/// Tells how a run ended: whether memory was refused, or which promise was broken.
+/// Prints how a run ended: whether memory was refused, or which promise was broken.
 pub fn reported(rt: &HostRuntime, run: &Run, answer: Result<(), Stop>) -> ExitCode {
     match answer {
         Ok(()) => {
@@ -60,7 +60,7 @@ pub fn reported(rt: &HostRuntime, run: &Run, answer: Result<(), Stop>) -> ExitCo
     }
 }
 
-/// Tells a promise that was broken, and stops the run where no value is.
+/// Prints a promise that was broken, and stops the run like a failed check.
 fn stopped(rt: &HostRuntime, promise: &str) -> ExitCode {
     let _ = eprintln!(rt; "broken: {promise}");
     let status: Option<ExitCode> = None;

@@ -30,7 +30,7 @@ fn calls_of(run: &Run, section: u32) -> Result<(), Stop> {
         4 => pools::guids(run),
         5 => pools::user_strings(run),
         6 => pools::guid(run),
-        7 => module_row::module_behind_a_byte(run),
+        7 => module_row::module_after_a_byte(run),
         8 => signature_calls::all_bad(run),
         9 => signature_calls::all_encoded(run),
         _ => Err(Stop::Broken("there is such a section")),

@@ -8,7 +8,7 @@ const TEXTS: [u8; 11] = *b"\0Name\0Game\0";
 const BLOBS_BEFORE: [u8; 6] = [0x00, 0x02, 0xAA, 0xBB, 0x80, 0x80];
 
 /// What follows them.
-const BLOBS_BEHIND: [u8; 2] = [0x01, 0x01];
+const BLOBS_AFTER: [u8; 2] = [0x01, 0x01];
 
 /// The heap of the GUIDs below.
 const GUIDS: [u8; 32] = [
@@ -74,7 +74,7 @@ pub fn blobs(run: &Run) -> Result<(), Stop> {
     kept(
         bytes.get(..6) == Some(BLOBS_BEFORE.as_slice())
             && bytes.get(6..134) == Some(long.as_slice())
-            && bytes.get(134..) == Some(BLOBS_BEHIND.as_slice()),
+            && bytes.get(134..) == Some(BLOBS_AFTER.as_slice()),
         "the heap of blobs is that",
     )
 }

@@ -10,7 +10,7 @@ const fn bare<'a>(file: &'a str, out: &'a str) -> [&'a str; 5] {
     ["clim", "rewrite", "--bare", file, out]
 }
 
-/// Whether the words end with a status, and print or tell a line.
+/// Whether the arguments end with an exit code, and print a line on the output or on standard error.
 fn ends(rt: &HostRuntime, words: &[&str], status: u8, line: &str) -> Result<bool, Fail> {
     let (ended, out, err) = answer(rt, words)?;
     let (reported, silent) = if status == 0 { (out, err) } else { (err, out) };

@@ -126,7 +126,7 @@ fn refuses_a_changed_byte(rt: HostRuntime) {
 }
 
 #[test]
-fn counts_stand_one_behind_the_other(rt: HostRuntime) {
+fn counts_follow_one_another(rt: HostRuntime) {
     let mut stream = STREAM;
     stream[8] = 0x03;
     assert_eq!(rt; refusal(&stream), fault(407, 32));

@@ -33,7 +33,7 @@ fn something_follows_at_each_depth(rt: HostRuntime) -> Result<(), Fail> {
 }
 
 #[test]
-fn nothing_comes_behind_the_last_item(rt: HostRuntime) -> Result<(), Fail> {
+fn nothing_follows_the_last_item(rt: HostRuntime) -> Result<(), Fail> {
     let mut items = Items::of(&[0x06, 0x08], SigKind::Field).ok_or("items")?;
     assert_eq!(rt; items.next(), Some(Item::Field));
     assert_eq!(rt; items.next(), Some(Item::Simple(Element::I4)));

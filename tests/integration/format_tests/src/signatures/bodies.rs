@@ -6,7 +6,7 @@ use std::process::Abort;
 use std::test::Fail;
 
 /// No bytes encode a body: it is returned.
-fn is_handed_back(rt: &impl Abort, body: SigBody) {
+fn is_returned(rt: &impl Abort, body: SigBody) {
     assert_eq!(rt; encoded_len(&body), None);
     assert!(rt; Signature::new(body).is_err());
 }
@@ -19,26 +19,26 @@ fn has_length(rt: &impl Abort, body: SigBody, len: usize) {
 
 /// Kinds that there are not; SENTINEL after the last parameter, and in a method of the default kind.
 #[test]
-fn methods_of_no_kind_are_handed_back(rt: HostRuntime) -> Result<(), Fail> {
+fn methods_of_no_kind_are_returned(rt: HostRuntime) -> Result<(), Fail> {
     for kind in [6, 7, 8, 10, 15, 16, 255] {
-        is_handed_back(&rt, SigBody::Method(method(rt.alloc(), kind, None)?));
+        is_returned(&rt, SigBody::Method(method(rt.alloc(), kind, None)?));
     }
     for kind in [0, 1, 2, 3, 4, 5, 9] {
         has_length(&rt, SigBody::Method(method(rt.alloc(), kind, None)?), 4);
     }
     for kind in [0, 2, 3, 4, 9] {
-        is_handed_back(&rt, SigBody::Method(method(rt.alloc(), kind, Some(0))?));
+        is_returned(&rt, SigBody::Method(method(rt.alloc(), kind, Some(0))?));
     }
     for kind in [1, 5] {
         has_length(&rt, SigBody::Method(method(rt.alloc(), kind, Some(0))?), 5);
-        is_handed_back(&rt, SigBody::Method(method(rt.alloc(), kind, Some(1))?));
+        is_returned(&rt, SigBody::Method(method(rt.alloc(), kind, Some(1))?));
     }
     Ok(())
 }
 
 /// Ranks, sizes and low bounds on both sides of their limits.
 #[test]
-fn shapes_of_no_array_are_handed_back(rt: HostRuntime) -> Result<(), Fail> {
+fn shapes_of_no_array_are_returned(rt: HostRuntime) -> Result<(), Fail> {
     for (rank, sizes, low) in [
         (0, [].as_slice(), [].as_slice()),
         (1, [1, 2].as_slice(), [].as_slice()),
@@ -48,7 +48,7 @@ fn shapes_of_no_array_are_handed_back(rt: HostRuntime) -> Result<(), Fail> {
         (1, [].as_slice(), [-0x1000_0001].as_slice()),
         (1, [].as_slice(), [0x1000_0000].as_slice()),
     ] {
-        is_handed_back(&rt, array(rt.alloc(), rank, sizes, low)?);
+        is_returned(&rt, array(rt.alloc(), rank, sizes, low)?);
     }
     has_length(
         &rt,
@@ -61,25 +61,25 @@ fn shapes_of_no_array_are_handed_back(rt: HostRuntime) -> Result<(), Fail> {
 
 /// Numbers and rows that need too many bits, an index of another table, and types that nest 129 deep.
 #[test]
-fn types_that_nothing_encodes_are_handed_back(rt: HostRuntime) -> Result<(), Fail> {
+fn types_that_nothing_encodes_are_returned(rt: HostRuntime) -> Result<(), Fail> {
     let alloc = rt.alloc();
-    is_handed_back(&rt, specified(alloc, Core::Var(0x2000_0000)));
+    is_returned(&rt, specified(alloc, Core::Var(0x2000_0000)));
     has_length(&rt, specified(alloc, Core::MVar(0x1FFF_FFFF)), 5);
-    is_handed_back(&rt, specified(alloc, Core::Class(type_ref(0x800_0000))));
+    is_returned(&rt, specified(alloc, Core::Class(type_ref(0x800_0000))));
     has_length(&rt, specified(alloc, Core::Value(type_ref(0x7FF_FFFF))), 5);
     let module = Token {
         table: TableId::Module,
         row: 1,
     };
-    is_handed_back(&rt, specified(alloc, Core::Class(module)));
+    is_returned(&rt, specified(alloc, Core::Class(module)));
     has_length(&rt, vectors(alloc, 127)?, 128);
-    is_handed_back(&rt, vectors(alloc, 128)?);
+    is_returned(&rt, vectors(alloc, 128)?);
     Ok(())
 }
 
 /// An encoding follows the bytes that there are, if there is room for it.
 #[test]
-fn encodings_stand_behind_bytes(rt: HostRuntime) -> Result<(), Fail> {
+fn encodings_follow_bytes(rt: HostRuntime) -> Result<(), Fail> {
     let core = Core::Instance {
         value: true,
         of: type_ref(1),

@@ -38,7 +38,7 @@ fn many_null_starts_are_loaded(rt: HostRuntime) -> Result<(), Fail> {
 }
 
 #[test]
-fn a_run_starts_behind_65535_members(rt: HostRuntime) -> Result<(), Fail> {
+fn a_run_starts_after_65535_members(rt: HostRuntime) -> Result<(), Fail> {
     let root = root_of_params(rt.alloc())?;
     let model = model_in(rt.alloc(), Form::Root, root.as_slice())?;
     for (row, start) in [(1, 1), (2, 65536)] {

@@ -69,7 +69,7 @@ fn tables_are_looked_up_as_they_were_made(rt: HostRuntime) -> Result<(), Fail> {
 }
 
 #[test]
-fn keys_behind_padding_and_tags_are_found(rt: HostRuntime) -> Result<(), Fail> {
+fn keys_after_padding_and_tags_are_found(rt: HostRuntime) -> Result<(), Fail> {
     let alloc = rt.alloc();
     let mut tables = Tables::new(alloc, "v4.0.30319")?;
     push_type(alloc, &mut tables, "", "<Module>", [1, 1])?;

@@ -46,7 +46,7 @@ fn a_null_start_is_that_of_the_next_owner(rt: HostRuntime) -> Result<(), Fail> {
 }
 
 #[test]
-fn a_run_starts_behind_65535_members(rt: HostRuntime) -> Result<(), Fail> {
+fn a_run_starts_after_65535_members(rt: HostRuntime) -> Result<(), Fail> {
     let root = root_of_params(rt.alloc())?;
     let both = Both::of(rt.alloc(), root.as_slice())?;
     for (row, params) in [(1, Some(1..65536)), (2, Some(65536..65536))] {

@@ -185,7 +185,7 @@ fn a_member_of_no_parent_is_refused(rt: HostRuntime) -> Result<(), Fail> {
 }
 
 #[test]
-fn user_bytes_stand_as_in_the_root(rt: HostRuntime) -> Result<(), Fail> {
+fn user_bytes_are_as_in_the_root(rt: HostRuntime) -> Result<(), Fail> {
     let user = b"\0\x05A\0B\0\0\x03'\0\x01\0".as_slice();
     let mut root = RootBuilder::new(rt.alloc());
     root.heap("#US", user)?;

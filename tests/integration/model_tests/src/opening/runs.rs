@@ -99,7 +99,7 @@ fn a_null_start_shows_the_same(rt: HostRuntime) -> Result<(), Fail> {
 }
 
 #[test]
-fn a_start_behind_65535_members_is_shown(rt: HostRuntime) -> Result<(), Fail> {
+fn a_start_after_65535_members_is_shown(rt: HostRuntime) -> Result<(), Fail> {
     let root = root_of_params(rt.alloc())?;
     let view = open_root(root.as_slice())?;
     assert_eq!(rt;

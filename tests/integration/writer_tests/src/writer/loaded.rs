@@ -66,7 +66,7 @@ fn a_text_that_another_ends_with_stands_in_it(rt: HostRuntime) -> Result<(), Fai
 }
 
 #[test]
-fn the_start_behind_65535_members_is_null(rt: HostRuntime) -> Result<(), Fail> {
+fn the_start_after_65535_members_is_null(rt: HostRuntime) -> Result<(), Fail> {
     let alloc = rt.alloc();
     let root = root_of_params(alloc)?;
     let model = load_root(alloc, root.as_slice())?;
