@@ -11,7 +11,7 @@ use Rattle.checks.specs.Walks.{Walk, LieApart, walk_one, walk_over}
 use Rattle.checks.proofs.Walks.{one_spared, one_walked, walk_none, walk_more}
 use Rattle.checks.proofs.PassedLemmas.{none_padded, slots_more}
 
--- the sum over a list in which one place is set
+-- the sum over a list in which one element is set
 module _ (f : ℕ → ℕ) (xs : List ℕ) (i y : ℕ) (within : i < length xs) where
   sum_before : (n : ℕ) → n ≤ i → sum_below (λ k. f (slice_index (slice_set xs i y) k)) n ≡ sum_below (λ k. f (slice_index xs k)) n
   unfolding sum_below
@@ -100,7 +100,7 @@ module _ (heap : ℕ) (long number : ℕ → ℕ) (rows : ℕ) (lie : LieApart h
     ]
   ]
 
-  -- what is known behind some rows: the numbers in the slots of parts, and what was walked
+  -- what is known after some rows: the numbers in the slots of parts, and what was walked
   record Walked (walk : Walk) (done : ℕ) : Type 0 where
     part : walk.slots.part ≡ heap / 1024 + 1
     slots : length walk.slots.long ≡ 1024

@@ -20,11 +20,11 @@ module _ (heap : List ℕ) (start : ℕ) (bytes : List ℕ) (e : IsEnded heap st
   bytes_are : (n : ℕ) → n ≡ length bytes → take n (drop start heap) ≡ bytes
   bytes_are n h = ap (take n) tail_is ∙ take_at bytes (0 ∷ e.after) n (sym h)
 
-  -- the byte at a place of them, in the heap
+  -- the byte at an index of them, in the heap
   pub byte_is : (k : ℕ) → k < length bytes → slice_index bytes k ≡ slice_index heap (start + k)
   byte_is k h = sym (get_or_append_left bytes (0 ∷ e.after) 0 k h) ∙ ap (λ l. slice_index l k) (sym tail_is) ∙ get_or-drop start heap k 0
 
--- one run of bytes at most is ended at a place
+-- one run of bytes at most is ended at an offset
 ended_same : (heap : List ℕ) (start : ℕ) (a b : List ℕ) → IsEnded heap start a → IsEnded heap start b → a ≡ b
 ended_same heap start a b x y =
     let same : length a ≡ length b = ⊎_elim

@@ -15,7 +15,7 @@ use Rattle.checks.specs.Texts.{AreStarts, Reaches}
 use Rattle.checks.proofs.PassedLemmas.{slots_more}
 use Rattle.checks.proofs.Ended.{tail_is, ended_length, byte_is, no_text}
 
--- what is answered of ended bytes
+-- what is reported of ended bytes
 pub text_answers : (heap : List ℕ) (start : ℕ) (bytes : List ℕ) → 0 < start → IsEnded heap start bytes → IsUtf8 bytes
     → {X : Type 0} (x : X) (offset : ℕ) → Reports (rules_of_text heap start offset) (at_offset offset (Ok x))
 text_answers heap start bytes some ended utf8 x offset = (inr (bytes, ended), ((bytes, inr (some, ended, utf8)), tt))
@@ -26,7 +26,7 @@ no_text_answers heap start bytes some ended not X offset =
     inr (inr (bytes, ended), inl (no_text heap start bytes some ended not, refl))
 
 module _ (heap : List ℕ) (start : ℕ) (text : List ℕ) (ended : IsEnded heap start text) where
-  -- the ending of a text from a place within it
+  -- the ending of a text from an offset within it
   pub ending_ended : (index : ℕ) → start ≤ index → index < start + length text → IsEnded heap index (drop (index - start) text)
   ending_ended index low high =
       let k : ℕ = index - start in
@@ -51,7 +51,7 @@ module _ (heap : List ℕ) (start : ℕ) (text : List ℕ) (ended : IsEnded heap
     ending_not not utf8 =
         not (subst (λ byte. 128 ≤ byte → 192 ≤ byte) same_byte ((IsCharBoundary-from_drop text (index - start) (omega arith) utf8).1 (omega arith)))
 
-  -- the bytes from a place before a text up to it, with the text behind them
+  -- the bytes from an offset before a text up to it, with the text after them
   module _ (index : ℕ) (low : index ≤ start) (prefix : List ℕ) (is : prefix ≡ take (start - index) (drop index heap)) where
     pub longer_ended : HasNoNul prefix → IsEnded heap index (prefix ++ text)
     longer_ended none =

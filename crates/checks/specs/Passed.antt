@@ -7,7 +7,7 @@ pub record Slots : Type 0 where
   pub long : List ℕ
   pub part : ℕ
 
--- empty slots, for a heap of so many bytes
+-- empty slots, for a heap of this number of bytes
 abbrev pub no_slots : ℕ → Slots
 no_slots bytes = record { recent = replicate 1024 0; long = replicate 1024 0; part = bytes / 1024 + 1 }
 
@@ -26,7 +26,7 @@ is_kept slots number =
 abbrev pub Keeps : Slots → ℕ → Type 0
 Keeps slots number = IsTrue (is_kept slots number)
 
--- a blob of so many bytes ends in a later part of the heap than that in which it begins
+-- a blob of this number of bytes ends in a later part of the heap than that in which it begins
 abbrev pub leaves_part : Slots → ℕ → ℕ → Bool
 leaves_part slots number bytes = nat_le slots.part (number % slots.part + bytes)
 

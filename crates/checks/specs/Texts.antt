@@ -10,7 +10,7 @@ pub record Reaches (heap : List ℕ) (start end : ℕ) : Type 0 where
   pub utf8 : IsUtf8 text
   pub long : end ≤ start + length text
 
--- each start that is not 0 is in the part of its slot or behind it, and its text reaches the end of that part
+-- each start that is not 0 is in the part of its slot or after it, and its text reaches the end of that part
 pub record AreStarts (heap : List ℕ) (part : ℕ) (starts : List ℕ) : Type 0 where
   pub low : (slot : ℕ) → slice_index starts slot ≢ 0 → slot * part ≤ slice_index starts slot
   pub long : (slot : ℕ) → slice_index starts slot ≢ 0 → Reaches heap (slice_index starts slot) ((slot + 1) * part)

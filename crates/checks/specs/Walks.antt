@@ -17,7 +17,7 @@ abbrev pub walk_one : (ℕ → ℕ) → Walk → ℕ → Walk
 walk_one long walk number =
     if is_kept walk.slots number then walk else record { slots = keep walk.slots number (long number); bytes = walk.bytes + long number }
 
--- the walk over the first numbers of a column, in a heap of so many bytes, by the lengths of the blobs of numbers
+-- the walk over the first numbers of a column, by the size of the heap and the lengths of the blobs of numbers
 unfoldable pub walk_over : ℕ → (ℕ → ℕ) → (ℕ → ℕ) → ℕ → Walk
 walk_over heap long number zero = record { slots = no_slots heap; bytes = 0 }
 walk_over heap long number (suc before) = walk_one long (walk_over heap long number before) (number before)
@@ -27,7 +27,7 @@ pub record LieApart (heap : ℕ) (long number : ℕ → ℕ) (rows : ℕ) : Type
   pub within : (k : ℕ) → k < rows → number k + long (number k) ≤ heap
   pub apart : (j k : ℕ) → j < rows → k < rows → number j < number k → number j + long (number j) < number k
 
--- the number of a column in the row before which so many stand
+-- the number of a column in the row after this number of rows
 abbrev pub number_after : Source → TableId → ℕ → ℕ → ℕ
 number_after source table column before = number_of source table (before + 1) column
 

@@ -7,7 +7,7 @@
 //! Nothing here allocates.
 //!
 //! ```text
-//! let source = Source::new(rows, Strings::new(texts), blobs, guids, place);
+//! let source = Source::new(rows, Strings::new(texts), blobs, guids, offset);
 //! let checked = check_tables_within(&source, Budget::Unbounded)?;
 //! ```
 #![tactic(auto)]

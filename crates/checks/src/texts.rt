@@ -141,7 +141,7 @@ fn end_of_text(heap: &[u8], index: u32) -> Result<usize, HeapFault>
     Ok(index as usize + text.len())
 }
 
-/// An end that the text of an index reaches, where a known text behind it reaches one.
+/// An end that the text of an index reaches, if a known text after it reaches one.
 fn end_through(heap: &[u8], index: u32, known: u32, end: usize) -> Result<usize, HeapFault>
     requires first { 1 ≤ index }
     requires order { index ≤ known }
@@ -160,7 +160,7 @@ fn end_through(heap: &[u8], index: u32, known: u32, end: usize) -> Result<usize,
     }
 }
 
-/// The first place from one up to an end at which a character may begin.
+/// The first offset from one up to an end at which a character may begin.
 fn first_character(heap: &[u8], begin: usize, end: usize) -> Option<u32>
     requires { end ≤ length heap.now }
     ensures { IfSome result (λ offset. (begin ≤ offset) × (offset < end) × (128 ≤ slice_index heap.now offset → 192 ≤ slice_index heap.now offset)) }

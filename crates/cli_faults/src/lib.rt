@@ -7,7 +7,7 @@
 //!
 //! ```text
 //! let code = code_of_number(501)?;
-//! let told = explain(code);                // told.summary is "no NUL ends the text of an index into '#Strings'"
+//! let explained = explain(code);           // explained.summary is "no NUL ends the text of an index into '#Strings'"
 //! let failure = Failure::from(fault);      // displayed as "fault 7 701 at 2114: BadSignature"
 //! failure.status() == 1
 //! printed(print_list(&mut out))?;          // Failure::CannotWriteOutput if the device is full

@@ -95,7 +95,7 @@ module _ (known : KeysKnown) where
   number_some k (inl (table, is)) token = let P : ColumnKind → Type 0 = λ k. 1 ≤ token.row → 1 ≤ row_number k token in subst P (sym is) (λ there. there)
   number_some k (inr (coded, is)) token = let P : ColumnKind → Type 0 = λ k. 1 ≤ token.row → 1 ≤ row_number k token in subst P (sym is) (coded_some coded token)
 
-  -- ---- which cells a number tells
+  -- ---- which cells a number reports
 
   row_reference : (table : TableId) (cell : says.Cell) → IsOfKind (kind.Row table) cell → (reference : Option Token) × (cell ≡ says.Ref reference)
   row_reference table (says.Ref reference) taken = (reference, refl)

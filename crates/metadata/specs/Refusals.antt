@@ -38,7 +38,7 @@ refusals_of_cell model table row cell_index =
     ∷ refuse (IsWithinMembers model (kind_at table cell_index) (cell_in model table row cell_index)) BadList (table_number table) row cell_index
     ∷ []
 
--- a row has as many cells as its table defines; then the rules for each cell
+-- a row has the number of cells that its table defines; then the rules for each cell
 unfoldable pub refusals_of_row : Metadata → TableId → ℕ → List (Rule Refusal)
 refusals_of_row model table row =
     refuse (length (row_of model table row) ≡ cell_count table) BadCell (table_number table) row 0

@@ -65,7 +65,7 @@ module _ (f : ℕ → ℕ) (n : ℕ) where
       let second = rw (back j) at b in
       omega arith
 
--- a number tells which cells are a token
+-- a number reports which cells are a token
 abbrev pub ReportsKey : Metadata → TableId → ℕ → Token → ℕ → Type 0
 ReportsKey model table cell token number = (row : ℕ) → HasRow model table row
     → (cell_in model table row cell ≡ says.Ref (Some token)) ↔ (key_in model table cell row ≡ number)
@@ -84,7 +84,7 @@ AreOne table cell token = (key : says.Cell) → IsOfKind (kind_at table cell) ke
     → (key ≡ says.Ref (Some token)) ↔ (key_number (kind_at table cell) key ≡ row_number (kind_at table cell) token)
 
 module _ (model : Metadata) (valid : IsValid model) (table : TableId) (cell : ℕ) (at : IsKeyCell table cell) (token : Token) where
-  -- the number of a token tells the cells that are the token
+  -- the number of a token reports the cells that are the token
   pub reports : (result : Option ℕ) → (Takes table cell token → AreOne table cell token)
       → IfSome result (λ number. number ≡ row_number (kind_at table cell) token) → IfSome result (λ _. Takes table cell token)
       → IfSome result (ReportsKey model table cell token)

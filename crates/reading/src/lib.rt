@@ -7,7 +7,7 @@
 //! allocates.
 //!
 //! ```text
-//! let source = Source::new(rows, Strings::new(texts), blobs, guids, place);
+//! let source = Source::new(rows, Strings::new(texts), blobs, guids, offset);
 //! let number = source.number(TableId::TypeDef, 1, 4);
 //! ```
 #![tactic(auto)]

@@ -24,7 +24,7 @@ unfolding binary_digits
 below_digits zero = omega arith
 below_digits (suc number) = next_below (binary_digits number) number (below_digits number)
 
--- a number has at most as many digits as its value
+-- the number of digits of a number is at most its value
 pub digits_few : (number : ℕ) → binary_digits number ≤ number
 unfolding binary_digits
 digits_few zero = omega arith

@@ -1,8 +1,8 @@
 //! The grammar of signatures (ECMA-335 II.23.2), and their values as Rust types.
 //!
 //! A [`SigBody`] is a whole signature: of a field, a method, a property, local variables, the arguments of a generic
-//! method, or a type. The definitions in `specs/` say which bytes spell which value in which kind of column, what its
-//! shortest spelling is, and which rows of type tables it names, in the order of the spelling. [`element_type`] and
+//! method, or a type. The definitions in `specs/` say which bytes encode which value in which kind of column, what its
+//! shortest encoding is, and which rows of type tables it names, in the order of the encoding. [`element_type`] and
 //! [`Element`] have the bytes of element types, [`method_byte`] the first byte of a method, [`token_of_index`] the row
 //! that an index names, and [`names_row`] says whether there is one. The laws of the grammar are in the crate
 //! `sig_values`.

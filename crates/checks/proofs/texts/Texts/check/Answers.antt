@@ -16,7 +16,7 @@ returns-in_err-end_of_text-clause-reports c = λ offset.
     let p = err_from_is_err_and c.from_residual.result c.from_residual.ensures.1 in
     rw (p.1, p.2) (rw c.self.view_is at (c.in_err-end_of_text.ensures.reports offset))
 
--- a start behind the place is known
+-- a start after the index is known
 pub end_through-requires-clause-order : goal.end_through-requires-clause-order
 end_through-requires-clause-order c =
     let part = c.self.inside.part in
