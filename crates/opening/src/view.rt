@@ -165,20 +165,6 @@ impl<'a> View<'a> {
         )
     }
 
-    /// The starts in a column that lists rows of the member table, from the last row's to the first's (II.22). A load
-    /// reads all of them in one pass.
-    ///
-    /// The column is the index of a cell in its row, as in [`View::cell`].
-    pub fn starts(&self, table: TableId, column: usize, member: TableId) -> Starts<'_, 'a>
-        requires column { column < cell_count table }
-        requires list { (column_at table (column_of table column)).kind ≡ List member }
-        ensures count { length result ≡ row_count self.now table }
-        ensures model { (model : Metadata) → IsModel self.now model → (row : ℕ) → 1 ≤ row → row ≤ row_count self.now table
-            → cell_in model table row column ≡ Start (slice_index result (row_count self.now table - row)) }
-    {
-        starts_of(self.source(), table, column, member)
-    }
-
     /// The fields of a type, as rows of Field (II.22.37).
     ///
     /// For a null start it scans to the next start that is not null, over at most 1/256 of the owners.
@@ -271,5 +257,19 @@ impl<'a> View<'a> {
         ensures walked { (model : Metadata) → IsModel self.now model → ¬ IsKeyOrdered model table → result.reads ≡ 0 }
     {
         metadata_source::rows_by_key(self, table, token)
+    }
+
+    /// The starts in a column that lists rows of the member table, from the last row's to the first's (II.22). A load
+    /// reads all of them in one pass.
+    ///
+    /// The column is the index of a cell in its row, as in [`View::cell`].
+    pub fn starts(&self, table: TableId, column: usize, member: TableId) -> Starts<'_, 'a>
+        requires column { column < cell_count table }
+        requires list { (column_at table (column_of table column)).kind ≡ List member }
+        ensures count { length result ≡ row_count self.now table }
+        ensures model { (model : Metadata) → IsModel self.now model → (row : ℕ) → 1 ≤ row → row ≤ row_count self.now table
+            → cell_in model table row column ≡ Start (slice_index result (row_count self.now table - row)) }
+    {
+        starts_of(self.source(), table, column, member)
     }
 }

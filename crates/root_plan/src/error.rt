@@ -13,7 +13,7 @@ pub enum WriteError {
     #[error("out of memory")]
     Memory,
     /// The sink failed before all bytes were sent.
-    #[error("the writer failed behind {given} bytes")]
+    #[error("the writer failed after {given} bytes")]
     Device {
         /// The number of bytes that were sent: the prefix of this length.
         given: u64,
