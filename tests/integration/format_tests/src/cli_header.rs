@@ -79,7 +79,7 @@ fn reads_each_field_at_its_offset(rt: HostRuntime) -> Result<(), Fail> {
     let file = sample_with(rt.alloc(), fields.as_slice())?;
     let header = read(file.as_slice())?;
     let expected = CliHeader {
-        offset: 520,
+        place: 520,
         cb: 0x8000_00FF,
         major_runtime_version: 0x0201,
         minor_runtime_version: 0x0403,
