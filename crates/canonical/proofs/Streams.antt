@@ -156,17 +156,17 @@ in_all Blobs = inr (inr (inr (inr (inl refl))))
 
 module _ (facts : Facts) (streams : Kind → List ℕ) where
   abbrev pub headers_of : ℕ → ℕ → List Kind → List Header
-  headers_of cell_index offset [] = []
-  headers_of cell_index offset (kind ∷ kinds) =
-      record { cell_index = cell_index; offset = offset; size = length (streams kind); name = stream_name kind }
-      ∷ headers_of (cell_index + length (stream_header streams offset kind)) (offset + length (streams kind)) kinds
+  headers_of header_offset offset [] = []
+  headers_of header_offset offset (kind ∷ kinds) =
+      record { place = header_offset; offset = offset; size = length (streams kind); name = stream_name kind }
+      ∷ headers_of (header_offset + length (stream_header streams offset kind)) (offset + length (streams kind)) kinds
 
   abbrev pub contents : List Kind → List ℕ
   contents kinds = flat_map streams kinds
 
-  header_is : (cell_index offset : ℕ) (kind : Kind) → offset < 2 ^ 32 → length (streams kind) < 2 ^ 32
-      → IsHeader (stream_header streams offset kind) (record { cell_index = cell_index; offset = offset; size = length (streams kind); name = stream_name kind })
-  header_is cell_index offset kind low small =
+  header_is : (header_offset offset : ℕ) (kind : Kind) → offset < 2 ^ 32 → length (streams kind) < 2 ^ 32
+      → IsHeader (stream_header streams offset kind) (record { place = header_offset; offset = offset; size = length (streams kind); name = stream_name kind })
+  header_is header_offset offset kind low small =
       let name = stream_name kind in
       let prefix = number_bytes 4 offset ++ number_bytes 4 (length (streams kind)) in
       record {
@@ -183,36 +183,36 @@ module _ (facts : Facts) (streams : Kind → List ℕ) where
         };
       }
 
-  pub are_headers : (cell_index offset : ℕ) (kinds : List Kind) → offset + length (contents kinds) < 2 ^ 32
-      → AreHeaders cell_index (directory streams offset kinds) (headers_of cell_index offset kinds)
-  are_headers cell_index offset [] small = refl
-  are_headers cell_index offset (kind ∷ kinds) small =
+  pub are_headers : (header_offset offset : ℕ) (kinds : List Kind) → offset + length (contents kinds) < 2 ^ 32
+      → AreHeaders header_offset (directory streams offset kinds) (headers_of header_offset offset kinds)
+  are_headers header_offset offset [] small = refl
+  are_headers header_offset offset (kind ∷ kinds) small =
       let long = length-append (streams kind) (contents kinds) in (
         stream_header streams offset kind,
         directory streams (offset + length (streams kind)) kinds,
         refl,
         refl,
-        header_is cell_index offset kind (omega arith) (omega (arith, long)),
-        are_headers (cell_index + length (stream_header streams offset kind)) (offset + length (streams kind)) kinds (omega (arith, long)),
+        header_is header_offset offset kind (omega arith) (omega (arith, long)),
+        are_headers (header_offset + length (stream_header streams offset kind)) (offset + length (streams kind)) kinds (omega (arith, long)),
       )
 
-  pub length-headers_of : (cell_index offset : ℕ) (kinds : List Kind) → length (headers_of cell_index offset kinds) ≡ length kinds
-  length-headers_of cell_index offset [] = refl
-  length-headers_of cell_index offset (kind ∷ kinds) =
-      ap suc (length-headers_of (cell_index + length (stream_header streams offset kind)) (offset + length (streams kind)) kinds)
+  pub length-headers_of : (header_offset offset : ℕ) (kinds : List Kind) → length (headers_of header_offset offset kinds) ≡ length kinds
+  length-headers_of header_offset offset [] = refl
+  length-headers_of header_offset offset (kind ∷ kinds) =
+      ap suc (length-headers_of (header_offset + length (stream_header streams offset kind)) (offset + length (streams kind)) kinds)
 
   -- ---- a stream is found again
 
   abbrev pub found_in : List ℕ → Kind → Option Header → List ℕ
   found_in root kind found = unwrap_or (option_map (λ header. part root header.offset header.size) found) []
 
-  pub stream_found : (kind : Kind) (root before : List ℕ) (cell_index offset : ℕ) (kinds : List Kind) → root ≡ before ++ contents kinds → length before ≡ offset
-      → IsIn kind kinds ⊎ (streams kind ≡ []) → found_in root kind (named (stream_name kind) (headers_of cell_index offset kinds)) ≡ streams kind
-  stream_found kind root before cell_index offset [] e at (inl h) = absurd h
-  stream_found kind root before cell_index offset [] e at (inr none) = sym none
-  stream_found kind root before cell_index offset (first ∷ kinds) e at here =
-      let header : Header = record { cell_index = cell_index; offset = offset; size = length (streams first); name = stream_name first } in
-      let others = headers_of (cell_index + length (stream_header streams offset first)) (offset + length (streams first)) kinds in
+  pub stream_found : (kind : Kind) (root before : List ℕ) (header_offset offset : ℕ) (kinds : List Kind) → root ≡ before ++ contents kinds → length before ≡ offset
+      → IsIn kind kinds ⊎ (streams kind ≡ []) → found_in root kind (named (stream_name kind) (headers_of header_offset offset kinds)) ≡ streams kind
+  stream_found kind root before header_offset offset [] e at (inl h) = absurd h
+  stream_found kind root before header_offset offset [] e at (inr none) = sym none
+  stream_found kind root before header_offset offset (first ∷ kinds) e at here =
+      let header : Header = record { place = header_offset; offset = offset; size = length (streams first); name = stream_name first } in
+      let others = headers_of (header_offset + length (stream_header streams offset first)) (offset + length (streams first)) kinds in
       ⊎_elim
       (λ (t : bytes_eq (stream_name first) (stream_name kind) ≡ true).
       let stands : part root offset (length (streams first)) ≡ streams first =
@@ -222,7 +222,7 @@ module _ (facts : Facts) (streams : Kind → List ℕ) where
       ap (λ b. found_in root kind (cond b (Some header) (named (stream_name kind) others))) t ∙ stands ∙ ap streams (same_kind first kind t))
       (λ (f : bytes_eq (stream_name first) (stream_name kind) ≡ false).
       ap (λ b. found_in root kind (cond b (Some header) (named (stream_name kind) others))) f
-      ∙ stream_found kind root (before ++ streams first) (cell_index + length (stream_header streams offset first)) (offset + length (streams first)) kinds
+      ∙ stream_found kind root (before ++ streams first) (header_offset + length (stream_header streams offset first)) (offset + length (streams first)) kinds
       (e ∙ sym (append_assoc before (streams first) (contents kinds)))
       (length-append before (streams first) ∙ ap (λ n. n + length (streams first)) at)
       (later first f here))
@@ -234,17 +234,17 @@ module _ (facts : Facts) (streams : Kind → List ℕ) where
       later first f (inl (inr h)) = inl h
       later first f (inr none) = inr none
 
-  pub is_named : (kind : Kind) (cell_index offset : ℕ) (kinds : List Kind) → IsIn kind kinds → IsSome (named (stream_name kind) (headers_of cell_index offset kinds))
-  is_named kind cell_index offset [] h = absurd h
-  is_named kind cell_index offset (first ∷ kinds) h =
-      let header : Header = record { cell_index = cell_index; offset = offset; size = length (streams first); name = stream_name first } in
-      let others = headers_of (cell_index + length (stream_header streams offset first)) (offset + length (streams first)) kinds in
+  pub is_named : (kind : Kind) (header_offset offset : ℕ) (kinds : List Kind) → IsIn kind kinds → IsSome (named (stream_name kind) (headers_of header_offset offset kinds))
+  is_named kind header_offset offset [] h = absurd h
+  is_named kind header_offset offset (first ∷ kinds) h =
+      let header : Header = record { place = header_offset; offset = offset; size = length (streams first); name = stream_name first } in
+      let others = headers_of (header_offset + length (stream_header streams offset first)) (offset + length (streams first)) kinds in
       ⊎_elim
       (λ (t : bytes_eq (stream_name first) (stream_name kind) ≡ true). subst (λ b. IsSome (cond b (Some header) (named (stream_name kind) others))) (sym t)
       refl)
       (λ (f : bytes_eq (stream_name first) (stream_name kind) ≡ false).
       subst (λ b. IsSome (cond b (Some header) (named (stream_name kind) others))) (sym f)
-      (is_named kind (cell_index + length (stream_header streams offset first)) (offset + length (streams first)) kinds
+      (is_named kind (header_offset + length (stream_header streams offset first)) (offset + length (streams first)) kinds
       (⊎_elim (λ (same : first ≡ kind). absurd (false≢true (sym f ∙ ap (λ k. bytes_eq (stream_name k) (stream_name kind)) same ∙ name_itself kind)))
       (λ (l : IsIn kind kinds). l) h)))
       (cases_Bool (bytes_eq (stream_name first) (stream_name kind)))
@@ -257,17 +257,17 @@ module _ (facts : Facts) (streams : Kind → List ℕ) where
       find-append (λ (h : Header). bytes_eq h.name name) headers (header ∷ [])
       ∙ ap (λ o. option_or o (cond (bytes_eq header.name name) (Some header) None)) none ∙ ap (λ b. cond b (Some header) None) other
 
-  pub all_meet : (size : ℕ) (earlier : List Header) (cell_index offset : ℕ) (kinds : List Kind) → AreApart kinds
+  pub all_meet : (size : ℕ) (earlier : List Header) (header_offset offset : ℕ) (kinds : List Kind) → AreApart kinds
       → ((kind : Kind) → IsIn kind kinds → named (stream_name kind) earlier ≡ None)
-      → offset + length (contents kinds) ≤ size → AllMeet size earlier (headers_of cell_index offset kinds)
-  all_meet size earlier cell_index offset [] apart fresh ends = tt
-  all_meet size earlier cell_index offset (kind ∷ kinds) apart fresh ends =
+      → offset + length (contents kinds) ≤ size → AllMeet size earlier (headers_of header_offset offset kinds)
+  all_meet size earlier header_offset offset [] apart fresh ends = tt
+  all_meet size earlier header_offset offset (kind ∷ kinds) apart fresh ends =
       let long = length-append (streams kind) (contents kinds) in
-      let header : Header = record { cell_index = cell_index; offset = offset; size = length (streams kind); name = stream_name kind } in (
+      let header : Header = record { place = header_offset; offset = offset; size = length (streams kind); name = stream_name kind } in (
         (λ other e. omega (arith, long)),
         (λ other e. ap (λ name. named name earlier) (sym e) ∙ fresh kind (inl refl)),
         compressed kind,
-        all_meet size (earlier ++ header ∷ []) (cell_index + length (stream_header streams offset kind)) (offset + length (streams kind)) kinds apart.1
+        all_meet size (earlier ++ header ∷ []) (header_offset + length (stream_header streams offset kind)) (offset + length (streams kind)) kinds apart.1
             (λ other h. named_push (stream_name other) earlier header (fresh other (inr h)) (apart.0 other h)) (omega (arith, long)),
       )
 

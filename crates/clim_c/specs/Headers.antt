@@ -10,7 +10,7 @@ directory_of reported = record { rva = reported.rva; size = reported.size }
 -- the CLI header with these fields
 abbrev pub header_of : ClimHeader → CliHeader
 header_of reported = record {
-  offset = reported.offset;
+  place = reported.offset;
   cb = reported.cb;
   major_runtime_version = reported.major_runtime_version;
   minor_runtime_version = reported.minor_runtime_version;
