@@ -177,7 +177,7 @@ module _ (facts : Facts) (streams : Kind → List ℕ) where
         offset = facts.encoded 4 offset low;
         size = facts.encoded 4 (length (streams kind)) small;
         name = name_is kind;
-        zero_padded = record {
+        padded = record {
           fewer = rw (length_zeros ((4 - length (name ++ 0 ∷ []) % 4) % 4)) (padding_few (length (name ++ 0 ∷ [])));
           multiple = rw (length_zeros ((4 - length (name ++ 0 ∷ []) % 4) % 4), ← length-append name (0 ∷ [])) (padding_is (length (name ++ 0 ∷ [])));
         };
