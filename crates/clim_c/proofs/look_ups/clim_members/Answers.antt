@@ -11,7 +11,7 @@ returns-clause-run c = λ model is owning owned owner_is member_is.
     let row = c.args.row in
     let run = c.in-Some-run_of.run' in
     let owner : c.in-Some-Some.owner ≡ owning = same_Some c.in-Some-Some.owner owning (c.in-Some-Some.ensures.complete owning owner_is) in
-    let member : c.in-Some-Some.member ≡ owned = same_Some c.in-Some-Some.member owned (c.in-Some-Some.ensures'.only owned member_is) in
+    let member : c.in-Some-Some.member ≡ owned = same_Some c.in-Some-Some.member owned (c.in-Some-Some.ensures'.complete owned member_is) in
     let P : List ℕ → Type 0 = λ root. IsModel root model in
     let Q : TableId → Type 0 = λ t. IsOwned model t c.in-Some-Some.member row run.start run.«end» in
     let R : TableId → Type 0 = λ t. IsOwned model owning t row run.start run.«end» in
@@ -28,7 +28,7 @@ returns-clause-there c =
         c.in-Some-Some.owner,
         c.in-Some-Some.member,
         c.in-Some-Some.ensures.sound,
-        c.in-Some-Some.ensures'.found,
+        c.in-Some-Some.ensures'.sound,
         c.in-Some-run_of.ensures.owned,
         last,
       ),

@@ -11,7 +11,7 @@ returns-clause-sound c = λ is_open model is known keyed known_is keyed_is has_k
     let room = length c.args.rows.now in
     let written = take c.write_rows.result c.write_rows.new.rows in
     let table : c.in-Some-Some.table ≡ known = same_Some c.in-Some-Some.table known (c.in-Some-Some.ensures.complete known known_is) in
-    let key : c.in-Some-Some.keyed ≡ keyed = same_Some c.in-Some-Some.keyed keyed (c.in-Some-Some.ensures'.only keyed keyed_is) in
+    let key : c.in-Some-Some.keyed ≡ keyed = same_Some c.in-Some-Some.keyed keyed (c.in-Some-Some.ensures'.complete keyed keyed_is) in
     let P : List ℕ → Type 0 = λ root. IsModel root model in
     let Q : TableId → Type 0 = λ t. AreFirstByKey model t (record { table = c.in-Some-Some.keyed; row = row }) room written in
     let R : TableId → Type 0 = λ t. AreFirstByKey model known (record { table = t; row = row }) room written in
