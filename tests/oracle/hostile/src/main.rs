@@ -82,7 +82,7 @@ fn main(rt: HostRuntime) -> ExitCode {
             Ok(Some(failed)) => {
                 failures += 1;
                 if failures <= FAILURES {
-                    report(&rt, seed, case, &failed);
+                    report_failure(&rt, seed, case, &failed);
                 }
             }
             Err(_) => {
@@ -110,7 +110,7 @@ fn words(rt: &HostRuntime) -> [Option<u64>; 3] {
     numbers
 }
 
-fn report(rt: &HostRuntime, seed: u64, case: u64, failed: &Failed) {
+fn report_failure(rt: &HostRuntime, seed: u64, case: u64, failed: &Failed) {
     let promise = failed.promise.as_str();
     let round = failed.round;
     let len = failed.bytes.len();

@@ -34,16 +34,16 @@ pub fn read_plain_image(alloc: Global, file: &[u8]) -> Result<(PlainHeader, Plai
     if has_entry_point(file, &header, &model) {
         Ok((header, model))
     } else {
-        Err(Refused::Fault(801, header.place + 20))
+        Err(Refused::Fault(801, header.offset + 20))
     }
 }
 
 /// Whether the entry point is native, none, or a row of the model (II.25.3.3.2).
 fn has_entry_point(file: &[u8], header: &PlainHeader, model: &PlainModel) -> bool {
-    let token = field(file, header.place + 20, 4);
+    let token = field(file, header.offset + 20, 4);
     let (table, row) = (token >> 24, token & 0xFF_FFFF);
     let is_known = table == METHOD_DEF as usize || table == FILE as usize;
-    field(file, header.place + 16, 4) & 0x10 != 0
+    field(file, header.offset + 16, 4) & 0x10 != 0
         || token == 0
         || is_known && row > 0 && row <= model.rows(table as u8).len()
 }

@@ -63,7 +63,7 @@ fn recognised(blob: SignatureBlob, bytes: &[u8]) -> Result<(), Stop> {
 }
 
 /// The encoding of a copy of the signature of a blob is the shortest one.
-fn encoded(run: &Run, blob: SignatureBlob, short: &[u8]) -> Result<(), Stop> {
+fn encoded_blob(run: &Run, blob: SignatureBlob, short: &[u8]) -> Result<(), Stop> {
     let bytes = Vec::from_slice(run.alloc, blob.bytes)?;
     let signature = decoded(run, blob, &bytes)?;
     recognised(blob, &bytes)?;
@@ -79,9 +79,9 @@ fn encoded(run: &Run, blob: SignatureBlob, short: &[u8]) -> Result<(), Stop> {
 /// Signatures are encoded as they were, each decoded, copied and encoded again when memory was refused.
 pub fn all_encoded(run: &Run) -> Result<(), Stop> {
     for blob in ENCODED {
-        encoded(run, blob, blob.bytes)?;
+        encoded_blob(run, blob, blob.bytes)?;
     }
-    encoded(run, LONGER, &SHORTENED)
+    encoded_blob(run, LONGER, &SHORTENED)
 }
 
 /// A blob that encodes nothing is bad, whatever memory is refused.
