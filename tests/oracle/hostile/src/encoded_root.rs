@@ -172,7 +172,7 @@ impl EncodedRoot {
             start += 8 + (header.name.len() / 4 + 1) * 4;
         }
         for header in named {
-            let offset = self.bytes.len();
+            let header_start = self.bytes.len();
             let is_known = STREAMS.contains(&header.name);
             let offset = if is_known {
                 start + header.offset
@@ -187,10 +187,10 @@ impl EncodedRoot {
                 self.bytes.push(random.byte())?;
             }
             for head in [
-                (offset, 4),
-                (offset + 4, 4),
-                (offset + 8, 1),
-                (offset + 8 + header.name.len(), 1),
+                (header_start, 4),
+                (header_start + 4, 4),
+                (header_start + 8, 1),
+                (header_start + 8 + header.name.len(), 1),
             ] {
                 self.heads.push(head)?;
             }

@@ -109,12 +109,12 @@ struct Header<'a> {
     end: usize,
 }
 
-fn header_at(bytes: &[u8], offset: usize) -> Option<Header<'_>> {
-    let offset = number_at(bytes, offset, 4)? as usize;
-    let size = number_at(bytes, offset + 4, 4)? as usize;
-    let tail = bytes.get(offset + 8..)?;
+fn header_at(bytes: &[u8], start: usize) -> Option<Header<'_>> {
+    let offset = number_at(bytes, start, 4)? as usize;
+    let size = number_at(bytes, start + 4, 4)? as usize;
+    let tail = bytes.get(start + 8..)?;
     let name = &tail[..tail.iter().position(|byte| *byte == 0)?];
-    let end = offset + 8 + (name.len() / 4 + 1) * 4;
+    let end = start + 8 + (name.len() / 4 + 1) * 4;
     if name.len() > 32 || name.iter().any(|byte| *byte > 0x7F) || end > bytes.len() {
         return None;
     }

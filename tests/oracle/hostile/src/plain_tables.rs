@@ -92,7 +92,7 @@ fn laid_out(bytes: &[u8], counts: Counts, first: usize) -> PlainLayout {
         first: [first; 45],
         offsets: [[0; 10]; 45],
     };
-    let mut offset = first;
+    let mut start = first;
     for table in TABLES {
         let number = table as usize;
         let mut offset = 0;
@@ -100,9 +100,9 @@ fn laid_out(bytes: &[u8], counts: Counts, first: usize) -> PlainLayout {
             offset += width(&counts, bytes[6], *kind);
             layout.offsets[number][column + 1] = offset;
         }
-        layout.first[number] = offset;
+        layout.first[number] = start;
         layout.sorted[number] = is_set(bytes, 16, number);
-        offset += offset * counts[number] as usize;
+        start += offset * counts[number] as usize;
     }
     layout
 }
