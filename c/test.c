@@ -430,10 +430,10 @@ static void times(guarded file, bool bare) {
     for (size_t i = 0; i < 1 << 14; i++) column[i] = NO_CELL;
     begun = now();
     for (unsigned table = 0; table < 256; table++) {
-        for (size_t cell = 0; cell < clim_cell_count((uint8_t)table); cell++) {
+        for (size_t cell_index = 0; cell_index < clim_cell_count((uint8_t)table); cell_index++) {
             uint32_t row = 1;
             size_t count;
-            while ((count = clim_cells(&view, (uint8_t)table, row, cell, column, 1 << 14)) > 0) {
+            while ((count = clim_cells(&view, (uint8_t)table, row, cell_index, column, 1 << 14)) > 0) {
                 row += (uint32_t)count;
                 cells += count;
             }
