@@ -17,7 +17,7 @@ module _ (heap : List ℕ) (start : ℕ) (bytes : List ℕ) (e : IsEnded heap st
   none_in : (k : ℕ) → k < length bytes → slice_index (drop start heap) k ≢ 0
   none_in k h z = e.no_nul k 0 h (sym (get_or_append_left bytes (0 ∷ e.after) 0 k h) ∙ ap (λ l. slice_index l k) (sym tail_is) ∙ z)
 
-  bytes_are : (n : ℕ) → n ≡ length bytes → take n (drop start heap) ≡ bytes
+  pub bytes_are : (n : ℕ) → n ≡ length bytes → take n (drop start heap) ≡ bytes
   bytes_are n h = ap (take n) tail_is ∙ take_at bytes (0 ∷ e.after) n (sym h)
 
   -- the byte at an index of them, in the heap

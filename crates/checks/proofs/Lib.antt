@@ -1,5 +1,7 @@
+pub mod AsciiTexts
 pub mod Apart
 pub mod Before
+pub mod CodedLemmas
 pub mod Columns
 pub mod Ended
 pub mod Numbers

@@ -7,11 +7,14 @@ use Rattle.std.proofs.lemmas.List.{get_or-replicate, get_or-set_other, get_or_pa
 use Rattle.checks.specs.Passed.{Keeps, no_slots}
 
 -- each of the empty slots holds 0
-pub none_padded : (slot : ℕ) → slice_index (replicate 1024 0) slot ≡ 0
-none_padded slot = elim (cases_lt slot 1024) [
-  | inl within ↦ get_or-replicate 1024 slot 0 0 within
-  | inr past ↦ get_or_past (replicate 1024 0) slot 0 (omega (arith, length-replicate {A = ℕ} 1024 0))
+pub none_in : (count slot : ℕ) → slice_index (replicate count 0) slot ≡ 0
+none_in count slot = elim (cases_lt slot count) [
+  | inl within ↦ get_or-replicate count slot 0 0 within
+  | inr past ↦ get_or_past (replicate count 0) slot 0 (omega (arith, length-replicate {A = ℕ} count 0))
 ]
+
+pub none_padded : (slot : ℕ) → slice_index (replicate 1024 0) slot ≡ 0
+none_padded = none_in 1024
 
 -- what holds of what is in each slot, and of one more
 pub slots_more : (P : ℕ → ℕ → Type 0) (starts : List ℕ) (slot start : ℕ) → slot < length starts → P slot start

@@ -1,4 +1,5 @@
 pub mod Budgets
+pub mod CodedLimits
 pub mod Columns
 pub mod Orders
 pub mod Runs

@@ -1,6 +1,6 @@
 -- What is remembered of the texts of a strings heap.
 use Rattle.std.specs.Prelude.{◌≡◌, ◌≢◌, ℕ, ◌+◌, ◌*◌, ◌/◌, ◌≤◌, List, length, slice_index, IsUtf8}
-use Rattle.heap_entries.specs.Entries.{IsEnded}
+use Rattle.heap_entries.specs.Entries.{IsEnded, IsText}
 use Rattle.checks.specs.declared.texts.Texts.TheInside.{Inside}
 
 -- a text is at the start, and no NUL ends it before an end
@@ -18,7 +18,12 @@ pub record AreStarts (heap : List ℕ) (part : ℕ) (starts : List ℕ) : Type 0
 abbrev pub heap_of : Inside → List ℕ
 heap_of texts = texts.heap.now
 
+-- each index up to an end has a text
+pub record HasTextsTo (heap : List ℕ) (end : ℕ) : Type 0 where
+  pub each : (index : ℕ) → index ≤ end → (text : List ℕ) × IsText heap index text
+
 -- there are 1024 parts at most
 pub record AreKnown (texts : Inside) : Type 0 where
+  pub sure : HasTextsTo texts.heap.now texts.sure_end
   pub part : texts.part ≡ length texts.heap.now / 1024 + 1
   pub starts : AreStarts texts.heap.now texts.part texts.starts

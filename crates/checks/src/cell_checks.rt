@@ -3,12 +3,15 @@ ghost use Rattle.packed.specs.declared.code.FaultCode.TheVariants.{BadIndex, Bad
 ghost use Rattle.packed.specs.Rule.{Reports, HoldBefore, rule};
 ghost use Rattle.table_schema.specs.declared.column.ColumnKind.TheVariants as kind;
 ghost use Rattle.table_schema.specs.Columns.{columns_of};
-ghost use Rattle.metadata.specs.Source.{rows_in};
+ghost use Rattle.table_schema.specs.declared.table.TableId.{TableId as Table};
+ghost use Rattle.metadata.specs.Source.{Source as Numbers, rows_in};
 ghost use Rattle.reading.specs.Codes.{code_at};
+ghost use Rattle.checks.specs.CodedLimits.{AreLimits};
 ghost use Rattle.checks.specs.Columns.{AllPass, IsChecked, ColumnStands};
 ghost use Rattle.metadata.specs.Rules.{MayRefer, rules_of_number, rules_of_cell, rules_of_row, rules_of_table, rules_of_cells};
 
-use crate::column::first_refused;
+use crate::coded_limits::{is_below_limit, limits_by_tag};
+use crate::column::{first_failing, first_refused, greatest_number};
 use crate::texts::Texts;
 use packed::{Fault, FaultCode};
 use reading::{Source, column_at, named_by};
@@ -110,7 +113,8 @@ fn first_in_column(
 
 /// The first row before a limit whose number in a column is of no text, the limit where there is none.
 ///
-/// In a heap that is UTF-8 as a whole a text takes constant time.
+/// In a heap of ASCII the greatest number of the column is enough, if no number is refused. In a heap that is UTF-8
+/// as a whole a text takes constant time.
 fn first_without_text(
     source: &Source,
     table: TableId,
@@ -127,14 +131,19 @@ fn first_without_text(
     ensures last { result ≤ limit }
     ensures passed { AllPass (λ number. IsChecked source.now.source kind.Text false number (Ok tt)) source.now.source table column result }
 {
+    let sure_end = texts.sure_end();
+    if sure_end > 0 && greatest_number(source, table, column, limit) as usize <= sure_end {
+        return limit;
+    }
     if source.strings().is_utf8() {
         let check = |number|
             ensures { IsChecked source.entry.now.source kind.Text false number result }
         { source.check_text(number) };
         return first_refused(source, table, column, limit, check);
     }
+    let numbers = source.column(table, column);
     for row in 1..limit {
-        if texts.check(source.number(table, row, column)).is_err() {
+        if texts.check(numbers.number(row)).is_err() {
             return row;
         }
     }
@@ -142,6 +151,8 @@ fn first_without_text(
 }
 
 /// The same for a column of indexes into tables; returns row 1 if the column is of another kind.
+///
+/// The limits of the rows that may be named are looked up once, so that a number is only compared.
 fn first_index(source: &Source, table: TableId, column: usize, limit: u32) -> u32
     requires column { column < length (columns_of table) }
     requires first { 1 ≤ limit }
@@ -154,22 +165,25 @@ fn first_index(source: &Source, table: TableId, column: usize, limit: u32) -> u3
     let nullable = held.nullable;
     match held.kind {
         ColumnKind::Row(named) => {
-            let check = |number|
-                ensures { IsChecked source.entry.now.source (kind.Row named) nullable number result }
-            { check_reference(source, nullable, named, number) };
-            first_refused(source, table, column, limit, check)
+            let last = source.count(named);
+            let passes = |number|
+                ensures { (here : Numbers) (of : Table) → last ≤ rows_in here of → IsTrue result → IsChecked here (kind.Row of) nullable number (Ok tt) }
+            { number <= last && (number != 0 || nullable) };
+            first_failing(source, table, column, limit, passes)
         }
         ColumnKind::Coded(coded) => {
-            let check = |number|
-                ensures { IsChecked source.entry.now.source (kind.Coded coded) nullable number result }
-            { check_coded(source, nullable, coded, number) };
-            first_refused(source, table, column, limit, check)
+            let limits = limits_by_tag(source, coded);
+            let passes = |number|
+                ensures { (here : Numbers) → AreLimits here coded limits → IsTrue result → IsChecked here (kind.Coded coded) nullable number (Ok tt) }
+            { is_below_limit(&limits, coded, nullable, number) };
+            first_failing(source, table, column, limit, passes)
         }
         ColumnKind::List(member) => {
-            let check = |number|
-                ensures { IsChecked source.entry.now.source (kind.List member) false number result }
-            { check_list(source, member, number) };
-            first_refused(source, table, column, limit, check)
+            let last = source.count(member) + 1;
+            let passes = |number|
+                ensures { (here : Numbers) (of : Table) → last ≤ rows_in here of + 1 → IsTrue result → IsChecked here (kind.List of) false number (Ok tt) }
+            { number <= last };
+            first_failing(source, table, column, limit, passes)
         }
         _ => 1,
     }

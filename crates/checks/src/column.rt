@@ -1,4 +1,4 @@
-ghost use Rattle.std.specs.Prelude.{◌≡◌, ◌≤◌, ◌<◌, ◌+◌, IsTrue, Ok, length};
+ghost use Rattle.std.specs.Prelude.{◌≡◌, ◌≤◌, ◌<◌, ◌+◌, Ok, true, length};
 ghost use Rattle.table_schema.specs.Columns.{columns_of};
 ghost use Rattle.metadata.specs.Source.{rows_in};
 ghost use Rattle.checks.specs.Columns.{AllPass};
@@ -25,9 +25,10 @@ pub fn first_refused<F: Fn(u32) -> Result<(), FaultCode>>(
     ensures last { result ≤ limit }
     ensures passed { AllPass (λ number. F.post check number (Ok tt)) source.now.source table column result }
 {
+    let numbers = source.column(table, column);
     let mut passed = None;
     for row in 1..limit {
-        let number = source.number(table, row, column);
+        let number = numbers.number(row);
         if passed == Some(number) {
             continue;
         }
@@ -37,4 +38,46 @@ pub fn first_refused<F: Fn(u32) -> Result<(), FaultCode>>(
         passed = Some(number);
     }
     limit
+}
+
+/// The first row before `limit` whose number in a column fails a test; `limit` if there is none.
+///
+/// For tests that only compare: they cost no more than to remember the number of the row before.
+pub fn first_failing<F: Fn(u32) -> bool>(
+    source: &Source,
+    table: TableId,
+    column: usize,
+    limit: u32,
+    passes: F,
+) -> u32
+    requires column { column < length (columns_of table) }
+    requires first { 1 ≤ limit }
+    requires last { limit ≤ rows_in source.now.source table + 1 }
+    requires callable { F.IsAlwaysCallable passes }
+    ensures first { 1 ≤ result }
+    ensures last { result ≤ limit }
+    ensures passed { AllPass (λ number. F.post passes number true) source.now.source table column result }
+{
+    let numbers = source.column(table, column);
+    for row in 1..limit {
+        if !passes(numbers.number(row)) {
+            return row;
+        }
+    }
+    limit
+}
+
+/// The greatest number in a column before row `limit`; 0 if there is no such row.
+pub fn greatest_number(source: &Source, table: TableId, column: usize, limit: u32) -> u32
+    requires column { column < length (columns_of table) }
+    requires first { 1 ≤ limit }
+    requires last { limit ≤ rows_in source.now.source table + 1 }
+    ensures { AllPass (λ number. number ≤ result) source.now.source table column limit }
+{
+    let numbers = source.column(table, column);
+    let mut greatest = 0;
+    for row in 1..limit {
+        greatest = numbers.number(row).max(greatest);
+    }
+    greatest
 }

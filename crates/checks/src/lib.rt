@@ -14,6 +14,7 @@
 
 mod budget;
 mod cell_checks;
+mod coded_limits;
 mod column;
 mod key_order;
 pub mod laws;

@@ -129,9 +129,10 @@ fn first_not_encoded(
 {
     packed::laws::numbers_are_read();
     let heap = source.blobs();
+    let numbers = source.column(table, column);
     let mut accepted = Passed::none(heap.len());
     for row in 1..limit {
-        let number = source.number(table, row, column);
+        let number = numbers.number(row);
         if accepted.has(number) {
             continue;
         }

@@ -1,24 +1,28 @@
 ghost use Rattle.std.specs.Prelude.{◌≡◌, ◌≢◌, ◌≤◌, ◌<◌, ◌+◌, ◌*◌, ◌/◌, ◌↔◌, ℕ, IsTrue, IfOk, IfSome, length, slice_index};
 ghost use Rattle.packed.specs.Rule.{Reports};
 ghost use Rattle.heap_entries.specs.Rules.{at_offset, rules_of_text};
-ghost use Rattle.checks.specs.Texts.{AreStarts, Reaches};
+ghost use Rattle.checks.specs.Texts.{AreStarts, HasTextsTo, Reaches};
 
 use heap_entries::{HeapFault, text};
-use memchr::memchr;
+use memchr::{memchr, memrchr};
 use simdutf8::basic;
 use std::marker::Model;
 
 /// The number of parts of a heap.
 const PARTS: usize = 1024;
 
-/// The texts of a `#Strings` heap that is not UTF-8 as a whole (II.24.2.3).
+/// The texts of a `#Strings` heap (II.24.2.3), and what is known of them.
 ///
-/// Of each part of the heap it remembers the start of a text that leaves the part. A later text of the part is an
-/// ending of that one, or has it as its ending, so that less than a part is left to check. The texts of n cells
-/// of a heap of h bytes cost n h / 1024 bytes, and each byte of the heap once more.
+/// In a heap of ASCII each index up to the last NUL has a text.
+///
+/// In a heap that is not UTF-8 as a whole it remembers, of each part, the start of a text that leaves the part. A later
+/// text of the part is an ending of that one, or has it as its ending, so that less than a part is left to check. The
+/// texts of n cells of a heap of h bytes cost n h / 1024 bytes, and each byte of the heap once more.
 #[derive(Drop)]
 pub struct Texts<'a> {
     heap: &'a [u8],
+    /// An index up to which each index has a text.
+    sure_end: usize,
     /// Of each part a start, or 0.
     starts: [u32; PARTS],
     /// The number of bytes of a part.
@@ -44,9 +48,19 @@ impl<'a> Texts<'a> {
     {
         Texts {
             heap,
+            sure_end: find_sure_end(heap),
             starts: [0; PARTS],
             part: heap.len() / PARTS + 1,
         }
+    }
+
+    /// An index up to which each index is known to have a text; 0 if no other index is known to have one.
+    ///
+    /// The texts are not read again, so this takes constant time.
+    pub fn sure_end(&self) -> usize
+        ensures { HasTextsTo self.now result }
+    {
+        self.sure_end
     }
 
     /// Whether a text is at an index of the heap (II.24.2.3).
@@ -84,6 +98,16 @@ impl<'a> Texts<'a> {
         keep_text(&mut self.starts, self.heap, self.part, index, reach);
         Ok(())
     }
+}
+
+/// An index up to which each index has a text: that of the last NUL in a heap of ASCII, else 0.
+fn find_sure_end(heap: &[u8]) -> usize
+    ensures { HasTextsTo heap.now result }
+{
+    if !heap.is_ascii() {
+        return 0;
+    }
+    memrchr(0, heap).unwrap_or(0)
 }
 
 /// Whether a character may begin with a byte.

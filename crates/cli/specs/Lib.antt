@@ -1,3 +1,6 @@
+pub mod Hints
 pub mod Numbers
+pub mod Read
 pub mod Rewritten
+pub mod Stopped
 pub mod Tasks

@@ -1,32 +1,49 @@
 //! Reads the file to work on.
 ghost use Rattle.std.specs.Prelude.{IfErr};
-ghost use Rattle.cli_faults.specs.Status.{IsUnread};
+ghost use Rattle.cli.specs.Read.{IsRefused};
 
 use cli_faults::Failure;
+use packed::{Fault, FaultCode};
 use std::fs::OpenFile;
 use std::io::Read;
 use std::rt::Files;
 use std::{fs, io};
 
-/// The largest number of bytes that is read from a file: one more than it may have. So a longer file is refused for its
-/// length, and reading an endless one stops too.
-const MOST: u64 = (1 << 30) + 1;
+/// The largest number of bytes that a file may have.
+const LIMIT: u64 = 1 << 30;
 
 /// The bytes of a file, or the first 2^30 + 1 if it has more.
+///
+/// # Errors
+///
+/// Fault 101 if it is a regular file that reports more than 2^30 bytes: it is not read. Else the error of opening or
+/// reading it.
 pub(crate) fn read_file<'a, R: Files + AllocGlobal>(
     rt: &R,
     file: &'a str,
 ) -> Result<Vec<u8>, Failure<'a>>
-    ensures { IfErr result (IsUnread file.now) }
+    ensures { IfErr result (IsRefused file.now) }
 {
-    read_prefix(rt, file).map_err(|error| Failure::of_reading(&error, file))
+    match read_prefix(rt, file) {
+        Ok(Some(bytes)) => Ok(bytes),
+        Ok(None) => Err(Failure::Fault(Fault::new(FaultCode::TooLong, 0))),
+        Err(error) => Err(Failure::of_reading(&error, file)),
+    }
 }
 
-fn read_prefix<R: Files + AllocGlobal>(rt: &R, path: &str) -> io::Result<Vec<u8>> {
+/// The bytes of a file, or the first 2^30 + 1 if it has more; `None` if it is a regular file that reports more.
+fn read_prefix<R: Files + AllocGlobal>(rt: &R, path: &str) -> io::Result<Option<Vec<u8>>> {
     let file = fs::open(rt, path)?;
+    let reported = match file.metadata() {
+        Ok(metadata) if metadata.is_file() && metadata.len() > LIMIT => return Ok(None),
+        Ok(metadata) => metadata.len(),
+        Err(_) => 0,
+    };
+    // One byte more than a file may have is read. So a file that grows is refused for its length, and reading an endless
+    // one stops.
+    let most = LIMIT + 1;
     // Room for the reported size and one byte more, to see the end. Some files report 0, and others grow.
-    let usage_error = file.metadata().map_or(0, |metadata| metadata.len());
-    let mut bytes = Vec::with_capacity(rt.alloc(), usage_error.min(MOST) as usize + 1)?;
-    file.take(MOST).read_to_end(&mut bytes)?;
-    Ok(bytes)
+    let mut bytes = Vec::with_capacity(rt.alloc(), reported.min(most) as usize + 1)?;
+    file.take(most).read_to_end(&mut bytes)?;
+    Ok(Some(bytes))
 }

@@ -10,11 +10,16 @@
 //! ```
 #![tactic(auto)]
 
+mod hint;
 mod input;
+mod kind_keeper;
 mod numbers;
+mod output_file;
 mod program;
 mod rewrite_file;
+mod stopped;
 mod task;
+mod usage_text;
 
 pub use cli_arguments::{Ask, Subcommand, ask};
 pub use program::{go, refuse_words};

@@ -5,11 +5,14 @@ ghost use Rattle.cli_arguments.specs.Asked.{HasFile, HasSecond};
 ghost use Rattle.cli_reports.specs.Stops.{status_of_stop};
 
 use crate::input::read_file;
+use crate::output_file::is_standard_output;
 use crate::rewrite_file::rewrite;
+use crate::stopped::{Stopped, with_hint};
 use crate::task::{Task, task_of};
+use crate::usage_text::usage_text;
 use clap::error::ErrorKind;
 use cli_arguments::{Ask, ask};
-use cli_faults::{Failure, printed};
+use cli_faults::{Failure, FileError, Reason, printed};
 use cli_reports::{Report, Stop, check_within, explain, print_report};
 use std::alloc::Global;
 use std::io;
@@ -37,7 +40,7 @@ pub fn go<R: Files + AllocGlobal, W: Write, E: Write>(
 {
     match ask(rt.alloc(), &*words) {
         Ok(ask) => status(run(rt, ask, out), err),
-        Err(usage_error) => report_usage_error(rt.alloc(), &usage_error, out, err),
+        Err(usage_error) => report_usage_error(rt.alloc(), &usage_error, &*words, out, err),
     }
 }
 
@@ -48,22 +51,22 @@ pub fn refuse_words<E: Write>(error: &io::Error, err: &mut E) -> u8
     ensures words { error_kind error.now ≢ cause.OutOfMemory → result ≡ 2 }
 {
     if error.kind() == io::ErrorKind::OutOfMemory {
-        return status(Err(Stop::Failed(Failure::OutOfMemory)), err);
+        return status(Err(Stopped::from(Failure::OutOfMemory)), err);
     }
     let _ = writeln!(err, "error: an argument is not UTF-8");
     2
 }
 
 /// The exit code of a run. If the program stopped early, it reports that first.
-fn status<E: Write>(outcome: Result<(), Stop<'_>>, err: &mut E) -> u8
+fn status<E: Write>(outcome: Result<(), Stopped<'_>>, err: &mut E) -> u8
     ensures done { IfOk outcome.entry (λ _. result ≡ 0) }
-    ensures stopped { IfErr outcome.entry (λ stop. result ≡ status_of_stop stop) }
+    ensures stopped { IfErr outcome.entry (λ stopped. result ≡ status_of_stop stopped.stop) }
 {
     match outcome {
         Ok(()) => 0,
-        Err(stop) => {
-            let _ = writeln!(err, "{stop}");
-            stop.status()
+        Err(stopped) => {
+            let _ = writeln!(err, "{stopped}");
+            stopped.stop.status()
         }
     }
 }
@@ -72,19 +75,23 @@ fn status<E: Write>(outcome: Result<(), Stop<'_>>, err: &mut E) -> u8
 fn report_usage_error<W: Write, E: Write>(
     alloc: Global,
     usage_error: &clap::Error,
+    words: &[&str],
     out: &mut W,
     err: &mut E,
 ) -> u8
     ensures { result ≤ 3 }
 {
     if usage_error.kind() == ErrorKind::OutOfMemory {
-        return status(Err(Stop::Failed(Failure::OutOfMemory)), err);
+        return status(Err(Stopped::from(Failure::OutOfMemory)), err);
     }
+    let Ok(text) = usage_text(alloc, words) else {
+        return status(Err(Stopped::from(Failure::OutOfMemory)), err);
+    };
     if usage_error.use_stderr() {
-        let _ = write!(err, "{usage_error}");
+        let _ = write!(err, "{text}");
         return 2;
     }
-    status(print_usage_error(alloc, usage_error, out), err)
+    status(print_text(alloc, text.as_str(), out), err)
 }
 
 /// Runs the task of the arguments. All arguments are checked before the file is read.
@@ -92,7 +99,7 @@ fn run<'a, R: Files + AllocGlobal, W: Write>(
     rt: &R,
     ask: Ask<'a>,
     out: &mut W,
-) -> Result<(), Stop<'a>>
+) -> Result<(), Stopped<'a>>
     requires file { HasFile ask }
     requires second { HasSecond ask }
 {
@@ -112,9 +119,10 @@ fn print_file<'a, R: Files + AllocGlobal, W: Write>(
     file: &'a str,
     bare: bool,
     out: &mut W,
-) -> Result<(), Stop<'a>> {
+) -> Result<(), Stopped<'a>> {
     let bytes = read_file(rt, file)?;
-    Ok(print_report(rt.alloc(), report, bare, &bytes, out)?)
+    let outcome = print_report(rt.alloc(), report, bare, &bytes, out);
+    with_hint(outcome.map_err(Stop::Failed), bare, &bytes)
 }
 
 /// Checks a file against the rules, within a budget.
@@ -124,39 +132,39 @@ fn check_file<'a, R: Files + AllocGlobal, W: Write>(
     file: &'a str,
     bare: bool,
     out: &mut W,
-) -> Result<(), Stop<'a>> {
+) -> Result<(), Stopped<'a>> {
     let bytes = read_file(rt, file)?;
-    check_within(rt.alloc(), &bytes, bare, budget, out)
+    let outcome = check_within(rt.alloc(), &bytes, bare, budget, out);
+    with_hint(outcome, bare, &bytes)
 }
 
-/// Writes the canonical root of a file to a path.
+/// Writes the canonical root of a file to a path, which must not be that of the standard output.
 fn rewrite_file<'a, R: Files + AllocGlobal, W: Write>(
     rt: &R,
     path: &'a str,
     file: &'a str,
     bare: bool,
     out: &mut W,
-) -> Result<(), Stop<'a>> {
+) -> Result<(), Stopped<'a>> {
+    if is_standard_output(rt, path) {
+        return Err(Stopped::from(Failure::CannotWriteFile(FileError {
+            path,
+            reason: Reason::StandardOutput,
+        })));
+    }
     let bytes = read_file(rt, file)?;
-    Ok(rewrite(rt, &bytes, bare, path, out)?)
+    let outcome = rewrite(rt, &bytes, bare, file, path, out);
+    with_hint(outcome.map_err(Stop::Failed), bare, &bytes)
 }
 
 /// Prints the help or the version.
-fn print_usage_error<W: Write>(
-    alloc: Global,
-    usage_error: &clap::Error,
-    out: &mut W,
-) -> Result<(), Stop<'static>> {
-    printed(write_usage_error(alloc, usage_error, out))?;
+fn print_text<W: Write>(alloc: Global, text: &str, out: &mut W) -> Result<(), Stopped<'static>> {
+    printed(write_text(alloc, text, out))?;
     Ok(())
 }
 
-fn write_usage_error<W: Write>(
-    alloc: Global,
-    usage_error: &clap::Error,
-    out: &mut W,
-) -> io::Result<()> {
+fn write_text<W: Write>(alloc: Global, text: &str, out: &mut W) -> io::Result<()> {
     let mut out = BufWriter::new(alloc, out)?;
-    write!(out, "{usage_error}")?;
+    write!(out, "{text}")?;
     out.flush()
 }

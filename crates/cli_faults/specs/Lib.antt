@@ -1,3 +1,5 @@
 pub mod Codes
+pub mod Escaped
+pub mod FileErrors
 pub mod Status
 pub mod Texts

@@ -4,6 +4,7 @@ use Rattle.std.specs.declared.io.ErrorKind.{ErrorKind}
 use Rattle.std.specs.declared.io.ErrorKind.TheVariants as cause
 use Rattle.cli_faults.specs.declared.failure.Failure.{Failure}
 use Rattle.cli_faults.specs.declared.failure.Failure.TheVariants.{Fault, NoSuchRow, NoToken, NoCode, CannotRead, CannotWriteOutput, CannotWriteFile, OutOfMemory}
+use Rattle.cli_faults.specs.FileErrors.{reason_of}
 
 -- the exit code of a failure
 abbrev pub status_of : Failure → ℕ
@@ -11,9 +12,9 @@ status_of (Fault found) = 1
 status_of NoSuchRow = 1
 status_of (NoToken word) = 2
 status_of (NoCode word) = 2
-status_of (CannotRead file) = 3
+status_of (CannotRead error) = 3
 status_of CannotWriteOutput = 3
-status_of (CannotWriteFile file) = 3
+status_of (CannotWriteFile error) = 3
 status_of OutOfMemory = 3
 
 -- the output could not be written, or memory ran out
@@ -24,16 +25,22 @@ IsOutput _ = ⊥
 
 -- this file could not be read, or memory ran out
 abbrev pub IsUnread : List ℕ → Failure → Type 0
-IsUnread file (CannotRead word) = word.now ≡ file
+IsUnread file (CannotRead error) = error.path.now ≡ file
 IsUnread file OutOfMemory = Unit {0}
 IsUnread file _ = ⊥
 
 -- this file could not be written, or memory ran out
 abbrev pub IsUnwritten : List ℕ → Failure → Type 0
-IsUnwritten file (CannotWriteFile word) = word.now ≡ file
+IsUnwritten file (CannotWriteFile error) = error.path.now ≡ file
 IsUnwritten file OutOfMemory = Unit {0}
 IsUnwritten file _ = ⊥
 
 -- `OutOfMemory` is reported if and only if the error is of that kind
 abbrev pub ReportsKind : ErrorKind → Failure → Type 0
 ReportsKind kind failure = (kind ≡ cause.OutOfMemory) ↔ (failure ≡ OutOfMemory)
+
+-- a failure about a file has the reason for an error of this kind
+abbrev pub HasReason : ErrorKind → Failure → Type 0
+HasReason kind (CannotRead error) = error.reason ≡ reason_of kind
+HasReason kind (CannotWriteFile error) = error.reason ≡ reason_of kind
+HasReason kind _ = Unit {0}

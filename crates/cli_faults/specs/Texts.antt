@@ -1,17 +1,20 @@
 -- The lines that report failures.
 use Rattle.std.specs.Prelude.{ℕ, List, ◌++◌, codes}
 use Rattle.packed.specs.Codes.{fault_text}
+use Rattle.cli_faults.specs.Escaped.{escaped_text}
+use Rattle.cli_faults.specs.FileErrors.{file_error_text}
 use Rattle.cli_faults.specs.declared.failure.Failure.{Failure}
 use Rattle.cli_faults.specs.declared.failure.Failure.TheVariants.{Fault, NoSuchRow, NoToken, NoCode, CannotRead, CannotWriteOutput, CannotWriteFile, OutOfMemory}
 
--- the line that reports a failure, without its line feed
+-- the line that reports a failure, without its last line feed; arguments in it are escaped, and a line with the reason
+-- follows the name of a file
 abbrev pub failure_text : Failure → List ℕ
 failure_text (Fault found) = fault_text found
 failure_text NoSuchRow = codes "no such row"
-failure_text (NoToken word) = codes "error: HEX is one to eight hexadecimal digits, not '" ++ word.now ++ codes "'"
+failure_text (NoToken word) = codes "error: HEX is one to eight hexadecimal digits, not '" ++ escaped_text word.now ++ codes "'"
 failure_text (NoCode word) =
-    codes "error: CODE is the number of a fault, which 'clim explain' lists, not '" ++ word.now ++ codes "'"
-failure_text (CannotRead file) = codes "error: cannot read " ++ file.now
+    codes "error: CODE is the number of a fault, which 'clim explain' lists, not '" ++ escaped_text word.now ++ codes "'"
+failure_text (CannotRead error) = codes "error: cannot read " ++ file_error_text error
 failure_text CannotWriteOutput = codes "error: cannot write output"
-failure_text (CannotWriteFile file) = codes "error: cannot write " ++ file.now
+failure_text (CannotWriteFile error) = codes "error: cannot write " ++ file_error_text error
 failure_text OutOfMemory = codes "error: out of memory"

@@ -5,12 +5,15 @@ ghost use Rattle.cli_faults.specs.Status.{IsOutput, ReportsKind};
 ghost use Rattle.cli_faults.specs.Texts.{failure_text};
 ghost use Rattle.cli_faults.specs.declared.failure.Failure.TheVariants.{Fault};
 
+use crate::escaped::Escaped;
+use crate::file_error::FileError;
 use packed::Fault;
 use std::io::ErrorKind;
 use std::{fmt, io};
 
-/// Why the program could not do what it was asked to do. `Display` gives the line for standard error, without the line
-/// feed: for a fault `fault LAYER CODE at OFFSET: NAME`.
+/// Why the program could not do what it was asked to do. `Display` gives the line for standard error, without the last
+/// line feed: for a fault `fault LAYER CODE at OFFSET: NAME`. Paths and other arguments in it are [`Escaped`]. If a file
+/// could not be used, a second line has the reason.
 #[derive(Clone, Copy, Debug, PartialEq, Eq)]
 pub enum Failure<'a> {
     /// The file breaks a rule of the standard.
@@ -21,12 +24,12 @@ pub enum Failure<'a> {
     NoToken(&'a str),
     /// The argument is not the number of a fault.
     NoCode(&'a str),
-    /// The file with this path could not be opened or read to its end.
-    CannotRead(&'a str),
+    /// This file could not be opened or read to its end.
+    CannotRead(FileError<'a>),
     /// The output could not be written, or not completely.
     CannotWriteOutput,
-    /// The file with this path could not be created, truncated or written to its end.
-    CannotWriteFile(&'a str),
+    /// This file could not be created, truncated or written to its end.
+    CannotWriteFile(FileError<'a>),
     /// Out of memory.
     OutOfMemory,
 }
@@ -34,17 +37,18 @@ pub enum Failure<'a> {
 impl<'a> Failure<'a> {
     ghost use Rattle.std.specs.Prelude.{◌≡◌};
     ghost use Rattle.std.specs.IoError.{error_kind};
-    ghost use Rattle.cli_faults.specs.Status.{status_of, IsOutput, IsUnread, IsUnwritten, ReportsKind};
+    ghost use Rattle.cli_faults.specs.Status.{status_of, HasReason, IsOutput, IsUnread, IsUnwritten, ReportsKind};
 
     /// The failure for an error on reading the file: out of memory if the error is of that kind, else that the file
     /// cannot be read.
     pub fn of_reading(error: &io::Error, file: &'a str) -> Failure<'a>
         ensures reported { IsUnread file.now result }
         ensures kind { ReportsKind (error_kind error.now) result }
+        ensures reason { HasReason (error_kind error.now) result }
     {
         match error.kind() {
             ErrorKind::OutOfMemory => Failure::OutOfMemory,
-            _ => Failure::CannotRead(file),
+            kind => Failure::CannotRead(FileError::new(file, kind)),
         }
     }
 
@@ -53,10 +57,11 @@ impl<'a> Failure<'a> {
     pub fn of_opening(error: &io::Error, file: &'a str) -> Failure<'a>
         ensures reported { IsUnwritten file.now result }
         ensures kind { ReportsKind (error_kind error.now) result }
+        ensures reason { HasReason (error_kind error.now) result }
     {
         match error.kind() {
             ErrorKind::OutOfMemory => Failure::OutOfMemory,
-            _ => Failure::CannotWriteFile(file),
+            kind => Failure::CannotWriteFile(FileError::new(file, kind)),
         }
     }
 
@@ -122,18 +127,20 @@ impl fmt::Display for Failure<'_> {
             Failure::NoToken(word) => {
                 write!(
                     f,
-                    "error: HEX is one to eight hexadecimal digits, not '{word}'"
+                    "error: HEX is one to eight hexadecimal digits, not '{}'",
+                    Escaped(word)
                 )
             }
             Failure::NoCode(word) => {
                 write!(
                     f,
-                    "error: CODE is the number of a fault, which 'clim explain' lists, not '{word}'"
+                    "error: CODE is the number of a fault, which 'clim explain' lists, not '{}'",
+                    Escaped(word)
                 )
             }
-            Failure::CannotRead(file) => write!(f, "error: cannot read {file}"),
+            Failure::CannotRead(error) => write!(f, "error: cannot read {error}"),
             Failure::CannotWriteOutput => write!(f, "error: cannot write output"),
-            Failure::CannotWriteFile(file) => write!(f, "error: cannot write {file}"),
+            Failure::CannotWriteFile(error) => write!(f, "error: cannot write {error}"),
             Failure::OutOfMemory => write!(f, "error: out of memory"),
         }
     }

@@ -2,8 +2,8 @@
 //!
 //! A [`Failure`] is the result of a run that failed. Its `Display` is the line for standard error, and
 //! [`Failure::status`] is the exit code. [`explain`] returns the texts of a rule, [`code_of_number`] the rule with a
-//! number, and [`all_codes`] all rules. [`print_explanation`] and [`print_list`] print what faults mean. Nothing here
-//! allocates.
+//! number, and [`all_codes`] all rules. [`print_explanation`] and [`print_list`] print what faults mean. [`Escaped`] is a
+//! text of a stranger as the program prints it. Nothing here allocates.
 //!
 //! ```text
 //! let code = code_of_number(501)?;
@@ -15,9 +15,11 @@
 #![tactic(auto)]
 
 mod cell_faults;
+mod escaped;
 mod explained;
 mod explanation_lines;
 mod failure;
+mod file_error;
 mod file_faults;
 mod numbered;
 mod order_faults;
@@ -25,8 +27,10 @@ mod other_faults;
 mod stream_faults;
 mod table_faults;
 
+pub use escaped::{Escaped, EscapedUnit};
 pub use explained::{Explanation, explain};
 pub use explanation_lines::{print_explanation, print_list};
 pub use failure::{Failure, printed};
+pub use file_error::{FileError, Reason};
 pub use numbered::{all_codes, code_of_number};
 pub use packed::FaultCode;

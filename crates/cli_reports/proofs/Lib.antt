@@ -1,4 +1,9 @@
-pub mod Signatures
+pub mod DigitLemmas
+pub mod LineLemmas
+pub mod ShortLemmas
+pub mod SentLemmas
+pub mod TableLemmas
+pub mod ValueLemmas
 pub mod TypeTexts
 pub mod Outcomes
 pub mod Heads

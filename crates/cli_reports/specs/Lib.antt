@@ -2,5 +2,9 @@ pub mod Escaped
 pub mod Named
 pub mod Checked
 pub mod Heads
+pub mod RowTexts
+pub mod Sent
+pub mod Values
 pub mod Reported
+pub mod Printed
 pub mod Stops

@@ -2,8 +2,8 @@
 //! token names. It also prints what a fault means.
 //!
 //! [`print_report`] opens the bytes in place and prints a [`Report`] on them. Its contract says what is true of the
-//! bytes if it prints, and what it reports otherwise. The form of the output is covered by tests. Rows, types and user
-//! strings are printed one per line. Each line is written in pieces, so the writer should have a buffer.
+//! bytes if it prints, and what it reports otherwise. For `check` and `show` it also says each byte that is printed.
+//! The form of the other output is covered by tests. Rows, types and user strings are printed one per line.
 //!
 //! ```text
 //! print_report(rt.alloc(), Report::Types, false, &file, &mut out)?; // a line for each type of a file
@@ -14,14 +14,15 @@
 mod check_file;
 mod existing;
 mod explain_fault;
+mod line;
 mod opened;
 mod print_root;
 mod print_token;
 mod print_types;
 mod report;
 mod row_lines;
+mod sending;
 mod show_tables;
-mod shown;
 mod stop;
 mod table_lines;
 mod type_lines;

@@ -4,8 +4,7 @@ ghost use Rattle.cli_reports.specs.Heads.{AreHeads, HasHeads, rules_of_heads};
 ghost use Rattle.cli_reports.specs.Reported.{LeavesOutput, ReportsFault};
 ghost use Rattle.packed.specs.Rule.{FirstBroken};
 
-use crate::shown::Escaped;
-use cli_faults::{Failure, printed};
+use cli_faults::{Escaped, Failure, printed};
 use cli_header::CliHeader;
 use opening::read_heads;
 use packed::Fault;

@@ -7,7 +7,8 @@ ghost use Rattle.cli_reports.specs.declared.report.Report.TheVariants as report;
 
 use crate::existing::existing_row;
 use crate::opened::open;
-use crate::row_lines::print_row;
+use crate::row_lines::push_row;
+use crate::sending::finish;
 use cli_faults::{Failure, printed};
 use heap_entries::{UserString, user_string};
 use opening::{Token, View};
@@ -63,9 +64,9 @@ fn print<W: Write>(alloc: Global, view: &View<'_>, token: Token, out: &mut W) ->
     requires first { 1 ≤ token.row }
     requires last { token.row ≤ row_count view.now token.table }
 {
-    let mut out = BufWriter::new(alloc, out)?;
-    print_row(alloc, view, token.table, token.row, &mut out)?;
-    out.flush()
+    let mut line = Vec::new(alloc);
+    push_row(alloc, view, token.table, token.row, &mut line)?;
+    finish(&line, out)
 }
 
 /// Prints the user string at an offset in the model's `#US` heap.

@@ -1,6 +1,8 @@
 //! What can be printed of a file.
-ghost use Rattle.std.specs.Prelude.{IfErr, OnOk};
+ghost use Rattle.std.specs.Prelude.{ℕ, List, IfErr, OnOk};
+ghost use Rattle.cli_reports.specs.Printed.{IsReportText};
 ghost use Rattle.cli_reports.specs.Reported.{IsMet, LeavesOutput, Reports};
+ghost use Rattle.cli_reports.specs.Sent.{Prints};
 
 use crate::{check_file, print_root, print_token, print_types, show_tables};
 use cli_faults::Failure;
@@ -42,10 +44,12 @@ pub fn print_report<W: Write>(
     ensures first_error { IfErr result (Reports report bare bytes.now) }
     // In these cases nothing is printed.
     ensures untouched { IfErr result (LeavesOutput out.old out.new) }
+    // If the writer's bytes are known, they grow by exactly the text of the report if it prints, else by a prefix of it.
+    ensures printed { (text : List ℕ) → IsReportText report bare bytes.now text → Prints (W.contents out.old) (W.contents out.new) result text }
 {
     match report {
         Report::Root => print_root::run(alloc, bytes, bare, out),
-        Report::Check => check_file::run(alloc, bytes, bare, out),
+        Report::Check => check_file::run(bytes, bare, out),
         Report::Show => show_tables::run(alloc, bytes, bare, out),
         Report::Types => print_types::run(alloc, bytes, bare, out),
         Report::Token(number) => print_token::run(alloc, bytes, bare, number, out),

@@ -1,18 +1,23 @@
-//! Prints a row of a table as a line.
-ghost use Rattle.std.specs.Prelude.{◌≡◌, ◌≤◌, ◌<◌, IfOk, length};
+//! The line of a row of a table.
+ghost use Rattle.std.specs.Prelude.{◌≡◌, ◌≤◌, ◌<◌, ◌++◌, IfOk, IfSome, OnOk};
 ghost use Rattle.opening.specs.Views.{row_count, HasModel};
 ghost use Rattle.table_schema.specs.CellColumns.{cell_count, column_of};
-ghost use Rattle.table_schema.specs.Columns.{columns_of, column_at};
+ghost use Rattle.table_schema.specs.Columns.{column_at};
+ghost use Rattle.table_schema.specs.Tokens.{token_text};
 ghost use Rattle.sig_grammar.specs.Syntax.{Body};
 ghost use Rattle.sig_grammar.specs.Encodes.{Encodes, short};
+ghost use Rattle.metadata.specs.Cell.{Cell};
+ghost use Rattle.metadata.specs.Metadata.{Metadata, row_of, cell_in};
+ghost use Rattle.metadata.specs.Model.{IsModel};
+ghost use Rattle.reading.specs.Shown.{Shows};
+ghost use Rattle.cli_reports.specs.RowTexts.{bracketed, cell_text, guid_or_null, quoted, row_text, token_or_null};
+ghost use Rattle.cli_reports.specs.Values.{IsOfModel};
 
-use crate::shown::{Escaped, Hex};
+use crate::line::{push_decimal, push_escaped, push_hexadecimal};
 use heap_entries::guid_text;
-use opening::{CellRef, TableId, View};
+use opening::{CellRef, TableId, Token, View};
 use signatures::{SigError, canonical_encoding};
 use std::alloc::{AllocError, Global};
-use std::io;
-use std::io::Write;
 use table_schema::{ColumnKind, SigKind, cell_count, column_of_cell, columns};
 
 /// The kind of the column of a cell.
@@ -35,77 +40,167 @@ fn shortest(alloc: Global, kind: SigKind, blob: &[u8]) -> Result<Vec<u8>, AllocE
     }
 }
 
-/// Prints the line of a row: its number, a colon, and after a space each cell of the view's model.
+/// Appends a text in quotes.
+fn push_quoted(text: &str, line: &mut Vec<u8>) -> Result<(), AllocError>
+    ensures { OnOk result (line.new.items ≡ line.old.items ++ quoted text.now) }
+{
+    line.push(b'"')?;
+    push_escaped(text.as_bytes(), line)?;
+    Ok(line.push(b'"')?)
+}
+
+/// Appends bytes in hexadecimal between `<` and `>`.
+fn push_bracketed(bytes: &[u8], line: &mut Vec<u8>) -> Result<(), AllocError>
+    ensures { OnOk result (line.new.items ≡ line.old.items ++ bracketed bytes.now) }
+{
+    line.push(b'<')?;
+    push_hexadecimal(bytes, line)?;
+    Ok(line.push(b'>')?)
+}
+
+/// Appends the canonical encoding of the signature in a blob (II.23.2). A blob whose bytes are all below 0x80 is its
+/// own canonical encoding: each number in it has one byte.
+fn push_signature(
+    alloc: Global,
+    kind: SigKind,
+    blob: &[u8],
+    line: &mut Vec<u8>,
+) -> Result<(), AllocError>
+    requires { ¬ (¬ ((signature : Body) × Encodes kind signature blob.now)) }
+    ensures { OnOk result ((signature : Body) → Encodes kind signature blob.now → line.new.items ≡ line.old.items ++ bracketed (short signature)) }
+{
+    packed::laws::shortest_forms_encode();
+    if blob.is_ascii() {
+        return push_bracketed(blob, line);
+    }
+    let encoding = shortest(alloc, kind, blob)?;
+    push_bracketed(&encoding, line)
+}
+
+/// Appends a GUID in braces, or `null`.
+fn push_guid(alloc: Global, guid: Option<[u8; 16]>, line: &mut Vec<u8>) -> Result<(), AllocError>
+    ensures { OnOk result (line.new.items ≡ line.old.items ++ guid_or_null guid) }
+{
+    match guid {
+        Some(guid) => {
+            let text = guid_text(alloc, &guid)?;
+            line.push(b'{')?;
+            line.extend_from_slice(text.as_bytes())?;
+            Ok(line.push(b'}')?)
+        }
+        None => line.extend_from_slice(b"null"),
+    }
+}
+
+/// Appends the digits of a token, or `null`.
+fn push_reference(token: Option<Token>, line: &mut Vec<u8>) -> Result<(), AllocError>
+    requires { IfSome token (λ token. token.row ≤ 0xFFFFFF) }
+    ensures { OnOk result (line.new.items ≡ line.old.items ++ token_or_null token) }
+{
+    match token {
+        Some(token) => push_token(token, line),
+        None => line.extend_from_slice(b"null"),
+    }
+}
+
+/// Appends the eight hexadecimal digits of a token.
+pub(crate) fn push_token(token: Token, line: &mut Vec<u8>) -> Result<(), AllocError>
+    requires { token.row ≤ 0xFFFFFF }
+    ensures { OnOk result (line.new.items ≡ line.old.items ++ token_text token) }
+{
+    let (table, row) = (token.table.number(), token.row);
+    let bytes = [
+        table,
+        (row / 0x1_0000) as u8,
+        (row / 0x100 % 0x100) as u8,
+        (row % 0x100) as u8,
+    ];
+    push_hexadecimal(&bytes, line)
+}
+
+/// Appends the value of a cell: a text in quotes, bytes between `<` and `>`, a GUID in braces. A reference is the eight
+/// digits of its token, and a start follows a plus sign.
+fn push_value(
+    alloc: Global,
+    kind: ColumnKind,
+    value: CellRef<'_>,
+    line: &mut Vec<u8>,
+) -> Result<(), AllocError>
+    requires { IsOfModel kind value }
+    ensures { OnOk result ((cell : Cell) → Shows kind value.entry cell → line.new.items ≡ line.old.items ++ cell_text cell) }
+{
+    match value {
+        CellRef::Number(number) => push_decimal(u64::from(number), line),
+        CellRef::Text(text) => push_quoted(text, line),
+        CellRef::Bytes(bytes) => push_bracketed(bytes, line),
+        CellRef::Guid(guid) => push_guid(alloc, guid, line),
+        CellRef::Ref(token) => push_reference(token, line),
+        CellRef::Start(start) => {
+            line.push(b'+')?;
+            push_decimal(u64::from(start), line)
+        }
+        CellRef::Sig(blob) => match kind {
+            ColumnKind::Signature(kind) => push_signature(alloc, kind, blob, line),
+            _ => unreachable!(),
+        },
+    }
+}
+
+/// Appends a cell, by its index in its row.
+fn push_cell(
+    alloc: Global,
+    view: &View<'_>,
+    table: TableId,
+    row: u32,
+    cell_index: usize,
+    line: &mut Vec<u8>,
+) -> Result<(), AllocError>
+    requires model { HasModel view.now }
+    requires first { 1 ≤ row }
+    requires last { row ≤ row_count view.now table }
+    requires cell_index { cell_index < cell_count table }
+    ensures { OnOk result ((model : Metadata) → IsModel view.now model
+        → line.new.items ≡ line.old.items ++ cell_text (cell_in model table row cell_index)) }
+{
+    metadata::laws::models_are_read();
+    metadata::laws::models_of_roots_are_valid();
+    let kind = kind_of(table, cell_index);
+    let value = view.cell(table, row, cell_index);
+    push_value(alloc, kind, value, line)
+}
+
+/// Appends the line of a row: its number, a colon, and after a space each cell of the view's model.
 ///
 /// - A number is decimal.
-/// - A text is in quotes, escaped as by [`Escaped`](crate::Escaped).
+/// - A text is in quotes. Printable ASCII except `"` and `\` is as it is, any other byte is `\x` and two hexadecimal
+///   digits.
 /// - Bytes are in hexadecimal between `<` and `>`, and so is a signature, in its canonical encoding (II.23.2).
 /// - A GUID is in braces, a reference is the eight hexadecimal digits of its token, and a start is `+` and a row.
 /// - `null` means no GUID or no row.
 ///
 /// # Errors
 ///
-/// The error of the writer, which by then has a prefix of the line; or one of kind `OutOfMemory`, if memory for a
-/// signature or a GUID runs out. That memory is freed before the next cell.
-pub fn print_row<W: Write>(
+/// Out of memory.
+pub fn push_row(
     alloc: Global,
     view: &View<'_>,
     table: TableId,
     row: u32,
-    out: &mut W,
-) -> io::Result<()>
+    line: &mut Vec<u8>,
+) -> Result<(), AllocError>
     requires first { 1 ≤ row }
     requires last { row ≤ row_count view.now table }
+    ensures { OnOk result ((model : Metadata) → IsModel view.now model
+        → line.new.items ≡ line.old.items ++ row_text row (row_of model table row)) }
 {
     // The root of a view has a model.
     let _root = view.root();
-    write!(out, "{row}:")?;
+    metadata::laws::models_are_read();
+    push_decimal(u64::from(row), line)?;
+    line.push(b':')?;
     for cell_index in 0..cell_count(table) {
-        out.write_all(b" ")?;
-        print_cell(alloc, view, table, row, cell_index, out)?;
+        line.push(b' ')?;
+        push_cell(alloc, view, table, row, cell_index, line)?;
     }
-    writeln!(out)
-}
-
-/// Prints a cell, by its index in its row.
-fn print_cell<W: Write>(
-    alloc: Global,
-    view: &View<'_>,
-    table: TableId,
-    row: u32,
-    cell_index: usize,
-    out: &mut W,
-) -> io::Result<()>
-    requires model { HasModel view.now }
-    requires first { 1 ≤ row }
-    requires last { row ≤ row_count view.now table }
-    requires cell_index { cell_index < cell_count table }
-{
-    match (
-        kind_of(table, cell_index),
-        view.cell(table, row, cell_index),
-    ) {
-        (ColumnKind::Signature(kind), CellRef::Sig(blob)) => {
-            let encoding = shortest(alloc, kind, blob)?;
-            write!(out, "<{}>", Hex(&encoding))
-        }
-        (_, cell) => print_value(alloc, cell, out),
-    }
-}
-
-/// Prints the value of a cell: a text in quotes, bytes between `<` and `>`, a GUID in braces. A reference is the eight
-/// digits of its token, and a start follows a plus sign.
-fn print_value<W: Write>(alloc: Global, cell: CellRef<'_>, out: &mut W) -> io::Result<()> {
-    match cell {
-        CellRef::Number(number) => write!(out, "{number}"),
-        CellRef::Text(text) => write!(out, "\"{}\"", Escaped(text)),
-        CellRef::Bytes(bytes) | CellRef::Sig(bytes) => write!(out, "<{}>", Hex(bytes)),
-        CellRef::Guid(Some(guid)) => {
-            let text = guid_text(alloc, &guid)?;
-            write!(out, "{{{text}}}")
-        }
-        CellRef::Guid(None) | CellRef::Ref(None) => write!(out, "null"),
-        CellRef::Ref(Some(token)) => write!(out, "{token}"),
-        CellRef::Start(start) => write!(out, "+{start}"),
-    }
+    Ok(line.push(b'\n')?)
 }

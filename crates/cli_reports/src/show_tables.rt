@@ -1,15 +1,17 @@
 //! `clim show`: the rows of all tables.
 ghost use Rattle.std.specs.Prelude.{IfErr, OnOk};
+ghost use Rattle.metadata.specs.Metadata.{Metadata};
 ghost use Rattle.cli_reports.specs.Checked.{IsWhole, rules_of};
+ghost use Rattle.cli_reports.specs.Printed.{IsModelOf};
 ghost use Rattle.cli_reports.specs.Reported.{LeavesOutput, ReportsFault};
+ghost use Rattle.cli_reports.specs.RowTexts.{show_text};
+ghost use Rattle.cli_reports.specs.Sent.{Prints};
 
 use crate::opened::open;
 use crate::table_lines::print_tables;
 use cli_faults::{Failure, printed};
-use opening::View;
 use std::alloc::Global;
-use std::io;
-use std::io::{BufWriter, Write};
+use std::io::Write;
 
 /// Prints each table that has rows.
 pub(crate) fn run<W: Write>(
@@ -21,13 +23,9 @@ pub(crate) fn run<W: Write>(
     ensures sound { OnOk result (IsWhole bare bytes.now) }
     ensures first_error { IfErr result (ReportsFault (IsWhole bare bytes.now) (rules_of bare bytes.now)) }
     ensures untouched { IfErr result (LeavesOutput out.old out.new) }
+    ensures printed { (model : Metadata) → IsModelOf bare bytes.now model
+        → Prints (W.contents out.old) (W.contents out.new) result (show_text model) }
 {
     let view = open(bytes, bare)?;
-    printed(print(alloc, &view, out))
-}
-
-fn print<W: Write>(alloc: Global, view: &View<'_>, out: &mut W) -> io::Result<()> {
-    let mut out = BufWriter::new(alloc, out)?;
-    print_tables(alloc, view, &mut out)?;
-    out.flush()
+    printed(print_tables(alloc, &view, out))
 }

@@ -1,40 +1,100 @@
 //! Prints all tables of a view.
+ghost use Rattle.std.specs.Prelude.{◌≡◌, ◌≤◌, ◌++◌, OnOk};
+ghost use Rattle.opening.specs.Views.{row_count};
+ghost use Rattle.metadata.specs.Metadata.{Metadata, count_in, row_of};
+ghost use Rattle.metadata.specs.Model.{IsModel};
+ghost use Rattle.cli_reports.specs.RowTexts.{heading_text, row_text, rows_text, show_text, table_text};
+ghost use Rattle.cli_reports.specs.Sent.{Moves, Prints};
 
-use crate::row_lines::print_row;
+use crate::line::{push_decimal, push_upper_hexadecimal};
+use crate::row_lines::push_row;
+use crate::sending::{FULL, finish, send_full};
 use opening::{TableId, View};
-use std::alloc::Global;
+use std::alloc::{AllocError, Global};
 use std::io;
 use std::io::Write;
 
 /// Prints each table that has rows, lowest number first: the line `table NN NAME COUNT`, where NN is the table's number
-/// in two upper-case hexadecimal digits (II.22), and then the line of each row, as [`print_row`] does.
+/// in two upper-case hexadecimal digits (II.22), and then the line of each row, as [`push_row`] makes it.
 ///
-/// It prints one cell after another, and holds the memory of at most one cell at a time.
+/// Its memory is that of the longest line, and of the lines that wait to be sent.
 ///
 /// # Errors
 ///
-/// Those of [`print_row`]. By then the writer has a prefix of the lines.
-pub fn print_tables<W: Write>(alloc: Global, view: &View<'_>, out: &mut W) -> io::Result<()> {
+/// Out of memory, or the error of the writer. By then the writer has nothing or a prefix of the lines.
+pub fn print_tables<W: Write>(alloc: Global, view: &View<'_>, out: &mut W) -> io::Result<()>
+    ensures { (model : Metadata) → IsModel view.now model → Prints (W.contents out.old) (W.contents out.new) result (show_text model) }
+{
+    let mut lines = Vec::with_capacity(alloc, FULL)?;
     for table in TableId::all() {
-        print_table(alloc, view, *table, out)?;
+        print_table(alloc, view, *table, &mut lines, out)?;
     }
-    Ok(())
+    finish(&lines, out)
 }
 
+/// Prints a table, unless it has no rows.
 fn print_table<W: Write>(
     alloc: Global,
     view: &View<'_>,
     table: TableId,
+    lines: &mut Vec<u8>,
     out: &mut W,
-) -> io::Result<()> {
+) -> io::Result<()>
+    ensures { (model : Metadata) → IsModel view.now model
+        → Moves (W.contents out.old) (W.contents out.new) result (lines.old.items ++ table_text model table) lines.new.items }
+{
     let count = view.count(table);
     if count == 0 {
         return Ok(());
     }
-    let (number, name) = (table.number(), table.name());
-    writeln!(out, "table {number:02X} {name} {count}")?;
-    for row in 1..=count {
-        print_row(alloc, view, table, row, out)?;
+    push_heading(table, count, lines)?;
+    print_rows(alloc, view, table, lines, out)
+}
+
+/// Appends the line before the rows of a table.
+fn push_heading(table: TableId, count: u32, line: &mut Vec<u8>) -> Result<(), AllocError>
+    ensures { OnOk result (line.new.items ≡ line.old.items ++ heading_text table count) }
+{
+    line.extend_from_slice(b"table ")?;
+    push_upper_hexadecimal(table.number(), line)?;
+    line.push(b' ')?;
+    line.extend_from_slice(table.name().as_bytes())?;
+    line.push(b' ')?;
+    push_decimal(u64::from(count), line)?;
+    Ok(line.push(b'\n')?)
+}
+
+/// Prints the rows of a table.
+fn print_rows<W: Write>(
+    alloc: Global,
+    view: &View<'_>,
+    table: TableId,
+    lines: &mut Vec<u8>,
+    out: &mut W,
+) -> io::Result<()>
+    ensures { (model : Metadata) → IsModel view.now model
+        → Moves (W.contents out.old) (W.contents out.new) result (lines.old.items ++ rows_text model table (count_in model table)) lines.new.items }
+{
+    for earlier in 0..view.count(table) {
+        print_row(alloc, view, table, earlier + 1, lines, out)?;
     }
     Ok(())
+}
+
+/// Prints a row.
+fn print_row<W: Write>(
+    alloc: Global,
+    view: &View<'_>,
+    table: TableId,
+    row: u32,
+    lines: &mut Vec<u8>,
+    out: &mut W,
+) -> io::Result<()>
+    requires first { 1 ≤ row }
+    requires last { row ≤ row_count view.now table }
+    ensures { (model : Metadata) → IsModel view.now model
+        → Moves (W.contents out.old) (W.contents out.new) result (lines.old.items ++ row_text row (row_of model table row)) lines.new.items }
+{
+    push_row(alloc, view, table, row, lines)?;
+    send_full(lines, out)
 }

@@ -6,7 +6,7 @@ ghost use Rattle.metadata.specs.Model.{IsModel};
 ghost use Rattle.opening.specs.Views.{row_count, HasModel};
 ghost use Rattle.table_schema.specs.declared.table.TableId.TheVariants.{TypeDef};
 
-use crate::shown::Escaped;
+use cli_faults::Escaped;
 use opening::{CellRef, TableId, Token, View};
 use std::io;
 use std::io::Write;

@@ -1,4 +1,4 @@
-use crate::shown::EscapedUnit;
+use cli_faults::EscapedUnit;
 use heap_entries::UserString;
 use std::io;
 use std::io::Write;

@@ -14,6 +14,7 @@ use uuid::Uuid;
 /// # Errors
 ///
 /// Out of memory only.
+#[tactic(auto, using(crate::proofs::GuidTextLemmas::swapped_is, crate::proofs::GuidTextLemmas::copy_is, crate::proofs::GuidTextLemmas::copy_parses))]
 pub fn guid_text(alloc: Global, guid: &[u8; 16]) -> Result<String, AllocError>
     ensures text { IfOk result (λ text. string_bytes text ≡ hyphenated_text lower (as_read guid.now)) }
     ensures parsed { IfOk result (λ text. parsed (string_bytes text) ≡ Some (as_read guid.now)) }

@@ -11,16 +11,13 @@ use Rattle.packed.specs.Packed.{IsPacked, short_unsigned}
 use Rattle.heap_pools.specs.BlobHeap.{counted, blob_heap, blob_from, blob_index}
 use Rattle.heap_pools.specs.Distinct.{is_among, distinct}
 use Rattle.heap_pools.specs.Ending.{ends_with}
-use Rattle.heap_entries.specs.Entries.{HasNoNul, IsText, IsBlob, IsGuid, IsUserString}
+use Rattle.heap_entries.specs.Entries.{HasNoNul, IsText, IsBlob, IsGuid}
 use Rattle.heap_pools.specs.GuidHeap.{guid_heap, guid_index}
 use Rattle.heap_pools.specs.TextHeap.{ended, is_holder, holders, text_from, text_heap, text_index}
-use Rattle.heap_entries.specs.Units.{unit_bytes}
-use Rattle.heap_pools.specs.UserEntries.{last_byte, user_length, user_entry}
 use Rattle.heap_pools.proofs.EndingLemmas.{ends_parts, ends_from}
 use Rattle.heap_pools.proofs.MemberLemmas.{IsIn, in_any, any_in, in_filter, in_distinct, among_in, in_from_contains}
 use Rattle.heap_pools.proofs.PlanLemmas.{both_true, not_true}
 use Rattle.heap_pools.proofs.RunLemmas.{ends_trans}
-use Rattle.heap_pools.proofs.UserHeapLemmas.{length-units}
 
 -- texts
 
@@ -193,29 +190,6 @@ blob_found entries (byte ∷ bytes) tail h short =
         counts = short_packed (length blob) short;
       },
     )
-
--- user strings
-
-pub user_string_found : (heap units tail : List ℕ) → 0 < length heap → user_length units < 2 ^ 29 → IsUserString (heap ++ (user_entry units ++ tail)) (length heap) (record { units = units; flag = Some (last_byte units) })
-unfolding user_entry
-user_string_found heap units tail some short =
-    let blob = flat_map unit_bytes units ++ last_byte units ∷ [] in
-    let long : length blob ≡ user_length units = length-units units (last_byte units) in
-    record {
-      blob = blob;
-      stands = inr (
-        some,
-        record {
-          before = heap;
-          count = short_unsigned (user_length units);
-          after = tail;
-          whole = ap (λ (l : List ℕ). heap ++ l) (append_assoc (short_unsigned (user_length units)) blob tail);
-          at = refl;
-          counts = subst (λ n. IsPacked n (short_unsigned (user_length units))) (sym long) (short_packed (user_length units) short);
-        },
-      );
-      encodes = inr (units, last_byte units, refl, refl);
-    }
 
 -- GUIDs
 

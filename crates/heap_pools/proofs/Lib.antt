@@ -1,4 +1,5 @@
 pub mod BlobLemmas
+pub mod BlobPlanLemmas
 pub mod BlockLemmas
 pub mod DistinctLemmas
 pub mod EndingLemmas
@@ -7,6 +8,7 @@ pub mod FirstLemmas
 pub mod FoundLemmas
 pub mod GrowLemmas
 pub mod GuidLemmas
+pub mod GuidPlanLemmas
 pub mod HeapLemmas
 pub mod HolderLemmas
 pub mod IndexLemmas
@@ -17,4 +19,3 @@ pub mod PlanLemmas
 pub mod PoolLemmas
 pub mod RunLemmas
 pub mod UseLemmas
-pub mod UserHeapLemmas

@@ -6,10 +6,10 @@ pub mod EndingOrder
 pub mod FirstByte
 pub mod GuidHeap
 pub mod GuidPoolView
+pub mod HeapPlanView
 pub mod Ranking
+pub mod SortedTextsView
 pub mod TextHeap
 pub mod TextPlan
 pub mod TextPoolView
-pub mod UserEntries
-pub mod UserHeap
 pub mod Uses

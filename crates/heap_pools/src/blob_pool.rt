@@ -32,7 +32,7 @@ impl Model for BlobPool {
 
 /// Appends the entry of a blob. Before the first one it appends the first byte of the heap.
 #[tactic(auto, unfolding(crate::specs::BlobHeap::counted))]
-fn write_blob(heap: &mut Vec<u8>, blob: &[u8]) -> Result<(), AllocError>
+pub fn write_blob(heap: &mut Vec<u8>, blob: &[u8]) -> Result<(), AllocError>
     requires { length blob.now < 2 ^ 29 }
     ensures ok { OnOk result (heap.new.items ≡ begun heap.old.items ++ counted blob.now) }
     ensures err { OnErr result (take (vec_len heap.old) heap.new.items ≡ heap.old.items) }

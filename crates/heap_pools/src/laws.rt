@@ -1,10 +1,9 @@
 ghost use Rattle.std.specs.Prelude.{◌≡◌, ◌<◌, ◌≤◌, ◌^◌, ◌++◌, ◌∷◌, [], ◌⊎◌, ℕ, List, length, All, Contains, IsUtf8, Option, Some};
 ghost use Rattle.heap_pools.specs.BlobHeap.{blob_heap, blob_index};
 ghost use Rattle.heap_pools.specs.Distinct.{distinct, pooled};
-ghost use Rattle.heap_entries.specs.Entries.{HasNoNul, IsBlob, IsGuid, IsText, IsUserString};
+ghost use Rattle.heap_entries.specs.Entries.{HasNoNul, IsBlob, IsGuid, IsText};
 ghost use Rattle.heap_pools.specs.GuidHeap.{given, guid_heap, guid_index, pooled_guid};
 ghost use Rattle.heap_pools.specs.TextHeap.{holders, text_heap, text_index};
-ghost use Rattle.heap_pools.specs.UserEntries.{last_byte, user_entry, user_length};
 
 /// In the planned heap, the text at the index of a used text is this text. More bytes may follow the heap.
 pub fn used_text_is_found()
@@ -22,12 +21,6 @@ pub fn pooled_blob_is_found()
 pub fn pooled_guid_is_found()
     ensures { (entries : List (List ℕ)) (guid tail : List ℕ) → Contains entries guid → All (λ entry. length entry ≡ 16) entries
         → IsGuid (guid_heap entries ++ tail) (guid_index entries (Some guid)) (Some guid) }
-{}
-
-/// The user string at the offset at which one was pushed is this one, whatever bytes follow.
-pub fn pushed_string_is_found()
-    ensures { (heap units tail : List ℕ) → 0 < length heap → user_length units < 2 ^ 29
-        → IsUserString (heap ++ (user_entry units ++ tail)) (length heap) (record { units = units; flag = Some (last_byte units) }) }
 {}
 
 /// Adding values one after another gives the distinct ones; more uses only append entries. Each non-empty

@@ -2,12 +2,14 @@ ghost use Rattle.std.specs.Prelude.{◌≡◌};
 ghost use Rattle.packed.specs.Codes.{number_of_code};
 
 use packed::FaultCode;
+use thiserror::Error;
 
 /// The first rule that the tables of a model break, and the cell where they break it (II.22).
 ///
 /// Table, row and column are 0 if the rule concerns none. Rows are counted from 1. The column is the
 /// index of the cell in its row, counted from 0.
-#[derive(Clone, Copy, Debug, PartialEq, Eq)]
+#[derive(Clone, Copy, Debug, PartialEq, Eq, Error)]
+#[error("rule {code} is broken at table {table}, row {row}, column {column}")]
 pub struct Refusal {
     /// The number of the rule, as in a fault; its hundreds are the layer.
     pub code: u16,

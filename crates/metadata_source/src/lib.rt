@@ -11,17 +11,22 @@
 #![tactic(auto)]
 
 mod by_key;
+mod cells;
 mod key_cells;
 mod keys_of;
 mod member_lists;
 mod row_numbers;
 mod runs_of;
+mod signature_bytes;
 mod source;
 mod type_names;
 
 pub use by_key::rows_by_key;
+pub use cells::ReadCells;
+pub use key_cells::kind_of;
 pub use keys_of::KeysOf;
 pub use member_lists::MemberList;
 pub use runs_of::{events_of, fields_of, methods_of, params_of, properties_of};
+pub use signature_bytes::SignatureBytes;
 pub use source::ReadMetadata;
 pub use type_names::find_type;

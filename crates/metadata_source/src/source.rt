@@ -6,6 +6,7 @@ use table_schema::TableId;
 /// Rows count from 1. A cell is named by its index in its row, from 0 on.
 pub trait ReadMetadata {
     ghost use Rattle.std.specs.Prelude.{◌≡◌, ◌≤◌, ◌<◌, ◌↔◌, ℕ, IsTrue, IsSome};
+    ghost use Rattle.heap_entries.specs.Padding.{zero_padded};
     ghost use Rattle.table_schema.specs.declared.table.TableId.{TableId as Table};
     ghost use Rattle.table_schema.specs.declared.column.ColumnKind.TheVariants as kind;
     ghost use Rattle.table_schema.specs.Columns.{key_of};
@@ -28,11 +29,19 @@ pub trait ReadMetadata {
 
     /// It holds some metadata, which is valid. Nothing is done.
     fn holds_one(&self)
-        ensures shown { ¬ (¬ ((model : Metadata) × shows self.now model)) }
+        ensures shown { ∥ ((model : Metadata) × shows self.now model) ∥₁ }
         ensures valid { (model : Metadata) → shows self.now model → IsValid model }
         ensures rows { (model : Metadata) → shows self.now model → (table : Table) → count_in model table ≡ row_count self.now table }
         ensures keys { (model : Metadata) → shows self.now model → (table : Table) (cell row : ℕ) → IsKeyCell table cell
             → 1 ≤ row → row ≤ row_count self.now table → key_number self.now table cell row ≡ key_in model table cell row };
+
+    /// The version string (II.24.2.1).
+    fn version(&self) -> &str
+        ensures { (model : Metadata) → shows self.now model → result.now ≡ model.version };
+
+    /// The bytes of `#US`. Padded with zeros to a multiple of four, they are the user strings (II.24.2.4).
+    fn user(&self) -> &[u8]
+        ensures { (model : Metadata) → shows self.now model → zero_padded result.now ≡ model.user };
 
     /// The number of rows of a table.
     fn count(&self, table: TableId) -> u32

@@ -37,7 +37,15 @@
 //! ```text
 //! let root = write_root(alloc, &model)?;               // its bytes, or
 //! write_root_to(alloc, &model, &mut Counted::new(out))? // through a writer that may fail
-//! let root = prepare_view(alloc, &view, 1 << 30)?;     // of a view that is open: no model is made
+//! let root = prepare(alloc, &view, 1 << 30)?;          // of a view that is open: no model is made
+//! ```
+//!
+//! **Names** of types and methods are written to any `fmt::Write`, of a view without allocation:
+//!
+//! ```text
+//! let class = type_of_method(&view, method);
+//! write_full_name(&view, Token { table: TableId::TypeDef, row: class }, &mut text)?; // Hello.Greeter/Settings
+//! write_method(&view, method, &mut text)?; // string Hello.Greeter::Greet(string name, int32 times)
 //! ```
 //!
 //! The contract of each call says what is proved of it. This crate has no code.
@@ -46,8 +54,8 @@
 // Bytes and files in place.
 pub use opening::{
     BoundedError, CellRef, CliHeader, Fault, FaultCode, Heads, KeyNumbers, KeyRows, KeysOf,
-    MemberList, Pe, ReadMetadata, Root, Starts, TableId, Token, View, open_image,
-    open_image_within, open_root, open_root_within, read_heads,
+    MemberList, Pe, ReadCells, ReadMetadata, Root, SignatureBytes, Starts, TableId, Token, View,
+    open_image, open_image_within, open_root, open_root_within, read_heads,
 };
 
 // The heaps: user strings, and the text of a GUID.
@@ -61,7 +69,7 @@ pub use loading::{LoadError, ToModel, load_image, load_root};
 pub use owned_model::{Bytes, Cell, Model, Refusal, Row, Tables, Text};
 
 // Signatures in place: item by item, and in the notation of ILAsm.
-pub use sig_items::{Item, Items, MethodHead};
+pub use sig_items::{CallingConvention, Item, Items, MethodHead};
 pub use sig_text::{NamedText, TextSink, TokenNames, write_signature};
 
 // Signatures and their values.
@@ -83,13 +91,22 @@ pub use assembly_records::{
     TypeRef, TypeSpec, record_of,
 };
 
+// From a row to the rows that belong to it, of a view and of a model.
+pub use navigation::{
+    enclosing_type, enclosing_type_ref, event_map_of_event, events_of_type, method_of_param,
+    properties_of_type, property_map_of_property, type_of_event, type_of_field, type_of_method,
+    type_of_property,
+};
+
+// Names of types and signatures of methods as text.
+pub use full_names::{
+    DEPTH, FullNames, ReadSignatures, write_full_name, write_method, write_type_def, write_type_ref,
+};
+
 // Rows of a model and of a view as records.
 pub use typed_rows::{ReadRows, Records, RefRow, cells_of, resolve, row, rows};
 
-// The canonical root of a model.
+// The canonical root of a model or a view.
 pub use writer::{
     Counted, Prepared, Sink, WriteError, prepare, write_root, write_root_to, write_root_within,
 };
-
-// The canonical root of a view. No model is made.
-pub use view_writer::prepare_view;

@@ -2,3 +2,4 @@ pub mod Files
 pub mod ModelReads
 pub mod Parts
 pub mod SourceAt
+pub mod SignatureLemmas

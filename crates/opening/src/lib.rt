@@ -25,7 +25,7 @@ pub use cli_header::CliHeader;
 pub use found::Found;
 pub use heads::{Heads, read_heads};
 pub use image::{open_image, open_image_within};
-pub use metadata_source::{KeysOf, MemberList, ReadMetadata};
+pub use metadata_source::{KeysOf, MemberList, ReadCells, ReadMetadata, SignatureBytes};
 pub use open::{open_root, open_root_within, view_again};
 pub use packed::{Fault, FaultCode};
 pub use pe::Pe;

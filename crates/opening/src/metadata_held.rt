@@ -5,9 +5,10 @@ ghost use Rattle.metadata.specs.SourceAt.{source_of};
 ghost use Rattle.opening.specs.Views.{row_count};
 
 use crate::view::View;
-use metadata_source::{MemberList, ReadMetadata};
-use reading::{is_text_at, start_at};
-use table_schema::{TableId, column_of_cell};
+use metadata_source::{MemberList, ReadCells, ReadMetadata, SignatureBytes};
+use reading::{CellRef, is_text_at, start_at};
+use std::alloc::{AllocError, Global};
+use table_schema::{SigKind, TableId, column_of_cell};
 
 impl ReadMetadata for View<'_> {
     ghost shows = { IsModel };
@@ -22,6 +23,14 @@ impl ReadMetadata for View<'_> {
         metadata::laws::keys_are_in_order();
         // The root has a model.
         let _root = self.root();
+    }
+
+    fn version(&self) -> &str {
+        View::version(self)
+    }
+
+    fn user(&self) -> &[u8] {
+        View::user(self)
     }
 
     fn count(&self, table: TableId) -> u32 {
@@ -50,5 +59,29 @@ impl ReadMetadata for View<'_> {
 
     fn in_order(&self, table: TableId) -> bool {
         View::in_order(self, table)
+    }
+}
+
+impl ReadCells for View<'_> {
+    fn cell(&self, table: TableId, row: u32, cell: usize) -> CellRef<'_> {
+        View::cell(self, table, row, cell)
+    }
+
+    fn signature(
+        &self,
+        _alloc: Global,
+        _kind: SigKind,
+        table: TableId,
+        row: u32,
+        cell: usize,
+    ) -> Result<SignatureBytes<'_>, AllocError> {
+        metadata::laws::models_are_read();
+        metadata::laws::models_of_roots_are_valid();
+        // The root has a model.
+        let _root = self.root();
+        match View::cell(self, table, row, cell) {
+            CellRef::Sig(blob) => Ok(SignatureBytes::Stored(blob)),
+            _ => unreachable!(),
+        }
     }
 }

@@ -27,6 +27,7 @@ use crate::found::Found;
 use checks::Checked;
 use metadata_source::KeysOf;
 use reading::{CellRef, KeyRows, KnownRuns, Source, Starts, cell_of, starts_of};
+use std::alloc::AllocError;
 use std::marker::Model;
 use std::ops::Range;
 use table_schema::{TableId, Token, column_of_cell};
@@ -53,6 +54,23 @@ impl<'a> Model for View<'a> {
     ghost view = { λ view. view.root.now };
 
     ghost invariant = { IsView };
+}
+
+impl<'a> Clone for View<'a> {
+    ghost use Rattle.std.specs.Prelude.{◌≡◌};
+
+    ghost is_clone = { λ from to. to ≡ from };
+
+    /// The same view. It does not allocate.
+    fn clone(&self) -> Result<Self, AllocError> {
+        Ok(View {
+            root: self.root,
+            source: self.source.clone()?,
+            version: self.version,
+            user: self.user,
+            found: self.found,
+        })
+    }
 }
 
 impl<'a> View<'a> {

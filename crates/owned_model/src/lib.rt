@@ -19,7 +19,7 @@ mod metadata_held;
 mod rows_held;
 mod valid_model;
 
-pub use metadata_source::{KeysOf, MemberList, ReadMetadata};
+pub use metadata_source::{KeysOf, MemberList, ReadCells, ReadMetadata, SignatureBytes};
 pub use reading::{KeyNumbers, KeyRows};
 pub use refusals::Refusal;
 pub use tables::{Bytes, Cell, Row, Signature, TableId, Tables, Text, Token};

@@ -6,8 +6,11 @@ ghost use Rattle.metadata.specs.KeyOrder.{key_in, key_number};
 
 use crate::valid_model::Model;
 use metadata::row_number;
-use metadata_source::{MemberList, ReadMetadata};
-use table_schema::{ColumnKind, TableId, column_of_cell, columns};
+use metadata_source::{MemberList, ReadCells, ReadMetadata, SignatureBytes};
+use reading::CellRef;
+use signatures::encode;
+use std::alloc::{AllocError, Global};
+use table_schema::{ColumnKind, SigKind, TableId, column_of_cell, columns};
 use tables::Cell;
 
 impl ReadMetadata for Model {
@@ -19,6 +22,16 @@ impl ReadMetadata for Model {
 
     fn holds_one(&self) {
         let _tables = self.tables();
+    }
+
+    fn version(&self) -> &str {
+        Model::version(self)
+    }
+
+    fn user(&self) -> &[u8] {
+        // The user strings of a valid model are padded.
+        let _tables = self.tables();
+        Model::user(self)
     }
 
     fn count(&self, table: TableId) -> u32 {
@@ -51,6 +64,38 @@ impl ReadMetadata for Model {
 
     fn in_order(&self, table: TableId) -> bool {
         Model::in_order(self, table)
+    }
+}
+
+impl ReadCells for Model {
+    fn cell(&self, table: TableId, row: u32, cell: usize) -> CellRef<'_> {
+        // The cell is one of a valid model.
+        let _tables = self.tables();
+        match Model::cell(self, table, row, cell) {
+            Cell::Number(number) => CellRef::Number(*number),
+            Cell::Text(text) => CellRef::Text(text.as_str()),
+            Cell::Bytes(blob) => CellRef::Bytes(blob.as_slice()),
+            Cell::Guid(guid) => CellRef::Guid(*guid),
+            Cell::Ref(reference) => CellRef::Ref(*reference),
+            Cell::Start(row) => CellRef::Start(*row),
+            Cell::Sig(_) => unreachable!(),
+        }
+    }
+
+    fn signature(
+        &self,
+        alloc: Global,
+        _kind: SigKind,
+        table: TableId,
+        row: u32,
+        cell: usize,
+    ) -> Result<SignatureBytes<'_>, AllocError> {
+        // The cell is one of a valid model.
+        let _tables = self.tables();
+        match Model::cell(self, table, row, cell) {
+            Cell::Sig(signature) => Ok(SignatureBytes::Canonical(encode(alloc, signature)?)),
+            _ => unreachable!(),
+        }
     }
 }
 

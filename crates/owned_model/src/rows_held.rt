@@ -1,7 +1,8 @@
 ghost use Rattle.std.specs.Prelude.{◌≡◌, ◌≤◌, ◌↔◌, Some, IsSome, IfSome, Contains};
 ghost use Rattle.table_schema.specs.CodedIndexes.{tables_of};
-ghost use Rattle.metadata.specs.Metadata.{Metadata, row_of, count_in};
+ghost use Rattle.metadata.specs.Metadata.{Metadata, rows_of, row_of, count_in};
 ghost use Rattle.metadata.specs.Lookups.{HasRow};
+ghost use Rattle.typed_rows.specs.RowsLeft.{rows_between};
 
 use crate::valid_model::Model;
 use records::{CellRow, CodedRow, FromRow};
@@ -14,6 +15,8 @@ impl<'m> ReadRows<'m> for &'m Model {
     ghost shows = { λ model other. model.now ≡ other };
 
     ghost row_count = { λ model table. count_in model.now table };
+
+    fn holds_rows(&self) {}
 
     fn count_rows(&self, table: TableId) -> u32 {
         self.count(table)
@@ -41,7 +44,9 @@ impl Model {
 
     /// The records of a table's rows, in order.
     pub fn rows<'m, R: FromRow<'m, CellRow<'m>>>(&'m self) -> Records<'m, &'m Model, R>
-        ensures { result ≡ record { source = self.entry; next = 1; last = count_in self.now R.table } }
+        ensures left { result ≡ record { source = self.entry; next = 1; last = count_in self.now R.table } }
+        // They are the rows of the table.
+        ensures rows { rows_between self.now R.table result.next result.last ≡ rows_of self.now R.table }
     {
         typed_rows::rows(self)
     }

@@ -23,7 +23,7 @@ mod unsigned;
 
 pub use code::FaultCode;
 pub use fault::Fault;
-pub use limit::BYTE_LIMIT;
+pub use limit::{BLOB_LIMIT, BYTE_LIMIT};
 pub use number::{u16_at, u32_at, u64_at};
 pub use signed::{put_signed, read_signed};
 pub use unsigned::{put_unsigned, read_unsigned, unsigned_len};

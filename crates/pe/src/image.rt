@@ -11,6 +11,7 @@ use crate::headers::{
 use crate::laws;
 use crate::section::find_section;
 use packed::{Fault, u32_at};
+use std::alloc::AllocError;
 use std::marker::Model;
 use std::ops::Range;
 
@@ -33,6 +34,24 @@ impl<'a> Model for Pe<'a> {
     ghost view = { shown_image };
 
     ghost invariant = { IsChecked };
+}
+
+impl<'a> Clone for Pe<'a> {
+    ghost use Rattle.std.specs.Prelude.{◌≡◌, ⊤};
+
+    ghost is_clone = { λ from to. to ≡ from };
+
+    ghost is_infallible = { λ _. ⊤ };
+
+    /// The same value. It does not allocate, and never fails.
+    fn clone(&self) -> Result<Self, AllocError> {
+        Ok(Pe {
+            bytes: self.bytes,
+            cli_directory_offset: self.cli_directory_offset,
+            sections_offset: self.sections_offset,
+            section_count: self.section_count,
+        })
+    }
 }
 
 impl<'a> Pe<'a> {

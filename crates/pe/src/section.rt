@@ -46,6 +46,7 @@ impl SectionHeader {
 }
 
 /// The first of `count` sections that has these bytes. The section headers begin at offset `start`.
+#[tactic(auto, using(crate::proofs::SectionLemmas::search_here, crate::proofs::SectionLemmas::search_more))]
 pub fn find_section(
     bytes: &[u8],
     start: usize,

@@ -70,6 +70,7 @@ pub fn start(
 }
 
 /// The start of an owner's run, from its list value and the start of the next owner.
+#[tactic(auto, using(crate::proofs::StartLemmas::start_here, crate::proofs::StartLemmas::start_next))]
 pub fn start_before(
     source: &Source,
     owner: TableId,

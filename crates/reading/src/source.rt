@@ -1,6 +1,7 @@
 use heap_entries::{Strings, blob, guid};
 use packed::{Fault, FaultCode};
-use rows::Rows;
+use rows::{ColumnNumbers, Rows};
+use std::alloc::AllocError;
 use std::marker::Model;
 use table_schema::TableId;
 
@@ -27,6 +28,24 @@ impl<'a> Model for Source<'a> {
     ghost invariant = { IsSource };
 }
 
+impl<'a> Clone for Source<'a> {
+    ghost use Rattle.std.specs.Prelude.{◌≡◌};
+
+    ghost is_clone = { λ from to. to ≡ from };
+
+    /// The same value. It does not allocate.
+    fn clone(&self) -> Result<Self, AllocError> {
+        Ok(Source {
+            rows: self.rows.clone()?,
+            strings: self.strings.clone()?,
+            blobs: self.blobs,
+            guids: self.guids,
+            counts: self.counts,
+            offset: self.offset,
+        })
+    }
+}
+
 impl<'a> Source<'a> {
     ghost use Rattle.std.specs.Prelude.{◌≡◌, ◌≤◌, ◌<◌, ◌+◌, ◌^◌, ◌↔◌, ℕ, IsTrue, length, slice_index};
     ghost use Rattle.packed.specs.Rule.{Reports, fault};
@@ -38,6 +57,7 @@ impl<'a> Source<'a> {
     ghost use Rattle.metadata.specs.Source.{rows_in, number_of, IsThere};
     ghost use Rattle.metadata.specs.RowRules.{is_said_sorted};
     ghost use Rattle.metadata.specs.SourceAt.{cell_offset};
+    ghost use Rattle.rows.specs.Columns.{number_in_row};
     ghost use Rattle.reading.specs.Codes.{code_at};
 
     /// A source whose table stream starts at this offset.
@@ -98,6 +118,18 @@ impl<'a> Source<'a> {
     {
         schema::laws::numbers_are_read();
         self.rows.number(table, row, column)
+    }
+
+    /// The numbers in a column of a table, to be read row by row.
+    #[tactic(auto, unfolding(metadata::specs::Source::number_of))]
+    pub fn column(&self, table: TableId, column: usize) -> ColumnNumbers<'a>
+        requires { column < length (columns_of table) }
+        ensures count { result.count ≡ rows_in self.now.source table }
+        ensures numbers { (row : ℕ) → 1 ≤ row → row ≤ rows_in self.now.source table
+            → number_in_row result row ≡ number_of self.now.source table row column }
+    {
+        schema::laws::numbers_are_read();
+        self.rows.column(table, column)
     }
 
     /// The fault of a rule for a cell.

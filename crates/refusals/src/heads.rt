@@ -2,11 +2,10 @@ ghost use Rattle.std.specs.Prelude.{◌↔◌, IsTrue, IsUtf8};
 ghost use Rattle.root.specs.Root.{IsVersion};
 ghost use Rattle.metadata.specs.Valid.{IsUser};
 
+use packed::BYTE_LIMIT;
+
 /// The greatest number of bytes of a version (II.24.2.1).
 const VERSION_LIMIT: usize = 254;
-
-/// The greatest number of user bytes.
-const USER_LIMIT: usize = 0x4000_0000;
 
 /// Whether a string is a valid version (II.24.2.1).
 pub fn is_version(version: &str) -> bool
@@ -19,5 +18,5 @@ pub fn is_version(version: &str) -> bool
 pub fn is_user(user: &[u8]) -> bool
     ensures { IsTrue result ↔ IsUser user.now }
 {
-    user.len() % 4 == 0 && user.len() <= USER_LIMIT
+    user.len() % 4 == 0 && user.len() <= BYTE_LIMIT
 }

@@ -10,7 +10,7 @@ use crate::header::{StreamHeader, read_header};
 use std::marker::Model;
 
 /// An iterator over all stream headers of a root, in file order. `Root::headers` creates it.
-#[derive(Drop)]
+#[derive(Clone, Drop)]
 pub struct Headers<'a> {
     bytes: &'a [u8],
     place: usize,

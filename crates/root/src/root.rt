@@ -12,6 +12,7 @@ use crate::kind::Kind;
 use crate::root_header::read_root_header;
 use crate::walk::{check_headers, check_tables, find_header};
 use packed::Fault;
+use std::alloc::AllocError;
 use std::marker::Model;
 use std::ops::Range;
 
@@ -34,6 +35,24 @@ impl<'a> Model for Root<'a> {
     ghost view = { root_of };
 
     ghost invariant = { IsChecked };
+}
+
+impl<'a> Clone for Root<'a> {
+    ghost use Rattle.std.specs.Prelude.{◌≡◌, ⊤};
+
+    ghost is_clone = { λ from to. to ≡ from };
+
+    ghost is_infallible = { λ _. ⊤ };
+
+    /// The same value. It does not allocate, and never fails.
+    fn clone(&self) -> Result<Self, AllocError> {
+        Ok(Root {
+            bytes: self.bytes,
+            version: self.version,
+            start: self.start,
+            count: self.count,
+        })
+    }
 }
 
 impl<'a> Root<'a> {

@@ -5,10 +5,11 @@ ghost use Rattle.metadata.specs.Metadata.{Metadata};
 ghost use Rattle.canonical.specs.Canonical.{canonical, stream};
 ghost use Rattle.root_writer.specs.Heading.{size_of, held, heading_size};
 
+use packed::BYTE_LIMIT;
 use root_writer::{HeldKinds, StreamSizes, heading_len};
 
 /// The largest length of a stream, and of a root, in bytes.
-const STREAM_LIMIT: usize = 1 << 30;
+const STREAM_LIMIT: usize = BYTE_LIMIT;
 
 /// The length of a stream with this many bytes, padded to a multiple of four (II.24.2.2).
 pub fn padded_len(len: usize) -> u32

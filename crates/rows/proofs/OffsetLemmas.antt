@@ -1,7 +1,9 @@
 -- The offset of a cell is the length of what precedes it.
-use Rattle.std.proofs.Common.{◌≡◌, ℕ, zero, suc, ◌+◌, ◌-◌, ◌*◌, ◌<◌, ◌≤◌, Bool, true, false, cond, eqb, List, [], ◌∷◌, ◌++◌, take, drop, map, length, get_or, refl, sym, ◌∙◌, ap, length-append, arith, add-one}
+use Rattle.std.proofs.Common.{◌≡◌, ℕ, zero, suc, ◌+◌, ◌-◌, ◌*◌, ◌<◌, ◌≤◌, Bool, true, false, cond, eqb, List, [], ◌∷◌, ◌++◌, take, drop, map, length, get_or, refl, sym, ◌∙◌, ap, length-append, length-drop, arith, add-one}
 use Rattle.std.proofs.lemmas.Bool.{eqb-true}
-use Rattle.std.proofs.lemmas.List.{take_all, drop-drop, get_or-drop}
+use Rattle.std.proofs.lemmas.List.{take_all, take-take, length-take-le, drop-drop, drop-take, get_or-drop}
+use Rattle.std.proofs.lemmas.Nat.{mul-le}
+use Rattle.packed.specs.Offsets.{part}
 use Rattle.std.proofs.lemmas.List.Sums.{sum_by-cons}
 use Rattle.table_schema.specs.declared.table.TableId.{TableId}
 use Rattle.table_schema.specs.declared.table.TableId.TheVariants.{Module}
@@ -9,7 +11,8 @@ use Rattle.table_schema.specs.declared.column.Column.{Column}
 use Rattle.table_schema.specs.Tables.{table_index_of, tables}
 use Rattle.table_schema.specs.Columns.{columns_of}
 use Rattle.schema.specs.Sizes.{Sizes, count_of}
-use Rattle.schema.specs.Offsets.{columns_width, tables_size, table_size, cell_start}
+use Rattle.schema.specs.Offsets.{columns_width, row_width, tables_size, table_size, cell_start}
+use Rattle.schema.specs.Cells.{cell_width}
 use Rattle.schema.specs.LaidOut.{row_bytes, rows_bytes, tables_bytes, FitRow, FitRows, FitTables, IsLaidOut}
 use Rattle.rows.specs.Cells.{bytes_before}
 use Rattle.rows.proofs.RowLemmas.{length_of_fit, columns_length, row_length}
@@ -109,3 +112,34 @@ offset_behind stream sizes numbers table row column below listed first last h la
     let rows_long = rows_length sizes columns rows (row - 1) there.fit (omega arith) in
     let columns_long = columns_length sizes columns cells column (omega arith) in
     omega (arith, length-append (tables_before ++ rows_before) columns_before, length-append tables_before rows_before)
+
+-- a part of a part is a part of the whole
+part_of_part : (whole : List ℕ) (start count offset width : ℕ) → offset + width ≤ count
+    → part (part whole start count) offset width ≡ part whole (start + offset) width
+part_of_part whole start count offset width within =
+    ap (λ n. take width (drop offset (take n (drop start whole)))) (omega arith)
+    ∙ ap (take width) (drop-take offset (width + (count - offset - width)) (drop start whole))
+    ∙ take-take width (width + (count - offset - width)) (drop offset (drop start whole)) (omega arith)
+    ∙ ap (take width) (drop-drop offset start whole)
+
+-- the cells of a column are within the bytes from the first of them to the end of the last
+module _ (whole bytes : List ℕ) (sizes : Sizes) (table : TableId) (column count step width begin last_begin row : ℕ)
+    (is_step : step ≡ row_width sizes table) (is_width : width ≡ cell_width sizes table column)
+    (is_begin : begin ≡ cell_start sizes table 1 column) (is_last : last_begin ≡ cell_start sizes table count column)
+    (within : last_begin + width ≤ length whole) (is_bytes : bytes ≡ part whole begin (last_begin + width - begin))
+    (first : 1 ≤ row) (last : row ≤ count) where
+  fits : begin + ((row - 1) * step + width) ≤ last_begin + width
+  fits =
+      let before = mul-le (row - 1) (row_width sizes table) (count - 1) (row_width sizes table) (omega arith) (omega arith) in
+      rw is_step (omega (arith, before, is_begin, is_last))
+
+  pub cell_within : (row - 1) * step + width ≤ length bytes
+  cell_within =
+      rw is_bytes (omega (arith, fits, length-take-le (last_begin + width - begin) (drop begin whole) (omega (arith, within, length-drop begin whole))))
+
+  pub cell_in_part : part bytes ((row - 1) * step) width ≡ part whole (cell_start sizes table row column) (cell_width sizes table column)
+  cell_in_part =
+      ap (λ l. part l ((row - 1) * step) width) is_bytes
+      ∙ part_of_part whole begin (last_begin + width - begin) ((row - 1) * step) width (omega (arith, fits))
+      ∙ ap (λ w. part whole (begin + (row - 1) * step) w) is_width
+      ∙ ap (λ offset. part whole offset (cell_width sizes table column)) (rw is_step (omega (arith, is_begin)))

@@ -1,15 +1,18 @@
-ghost use Rattle.std.specs.Prelude.{◌≡◌, ◌≤◌, ◌<◌, ◌+◌, ◌^◌, length};
+ghost use Rattle.std.specs.Prelude.{◌≡◌, ◌≤◌, ◌<◌, ◌+◌, ◌-◌, ◌^◌, length};
 ghost use Rattle.packed.specs.Number.{little_endian};
 ghost use Rattle.packed.specs.Offsets.{part};
 ghost use Rattle.schema.specs.Sizes.{IsWidth};
 
+use crate::column_numbers::ColumnNumbers;
 use packed::{u16_at, u32_at};
 use schema::Layout;
+use std::alloc::AllocError;
 use std::marker::Model;
 use table_schema::TableId;
 
 /// The number in `width` bytes at offset `offset`.
-fn number_of(bytes: &[u8], offset: usize, width: usize) -> u32
+#[inline]
+pub(crate) fn number_of(bytes: &[u8], offset: usize, width: usize) -> u32
     requires known { IsWidth width }
     requires within { offset + width ≤ length bytes.now }
     ensures value { result ≡ little_endian (part bytes.now offset width) }
@@ -20,6 +23,15 @@ fn number_of(bytes: &[u8], offset: usize, width: usize) -> u32
         2 => u32::from(u16_at(bytes, offset)),
         _ => u32_at(bytes, offset),
     }
+}
+
+/// The bytes from an offset up to another one.
+fn bytes_between(bytes: &[u8], start: usize, end: usize) -> &[u8]
+    requires order { start ≤ end }
+    requires within { end ≤ length bytes.now }
+    ensures { result.now ≡ part bytes.now start (end - start) }
+{
+    &bytes[start..end]
 }
 
 /// The cells of a table stream, read from the bytes of the stream (II.24.2.6).
@@ -41,6 +53,22 @@ impl<'a> Model for Rows<'a> {
     ghost invariant = { λ rows. IsWhole (record { bytes = rows.bytes.now; sizes = rows.layout }) };
 }
 
+impl<'a> Clone for Rows<'a> {
+    ghost use Rattle.std.specs.Prelude.{◌≡◌, ⊤};
+
+    ghost is_clone = { λ from to. to ≡ from };
+
+    ghost is_infallible = { λ _. ⊤ };
+
+    /// The same value. It does not allocate, and never fails.
+    fn clone(&self) -> Result<Self, AllocError> {
+        Ok(Rows {
+            bytes: self.bytes,
+            layout: self.layout.clone()?,
+        })
+    }
+}
+
 impl<'a> Rows<'a> {
     ghost use Rattle.std.specs.Prelude.{◌≡◌, ◌≤◌, ◌<◌, ◌+◌, ◌^◌, ℕ, List, length};
     ghost use Rattle.table_schema.specs.Columns.{columns_of};
@@ -49,6 +77,7 @@ impl<'a> Rows<'a> {
     ghost use Rattle.schema.specs.LaidOut.{IsTableStream, IsLaidOut, StandsAt, number_bytes, number_in};
     ghost use Rattle.schema.specs.Cells.{number_at, cell_width};
     ghost use Rattle.rows.specs.Cells.{bytes_before};
+    ghost use Rattle.rows.specs.Columns.{number_in_row};
 
     /// The rows of a table stream, with the layout that [`Layout::read`] returned for these bytes.
     pub fn new(bytes: &'a [u8], layout: Layout) -> Rows<'a>
@@ -99,5 +128,30 @@ impl<'a> Rows<'a> {
         schema::laws::cells_stand();
         let offset = self.place(table, row, column);
         number_of(self.bytes, offset, self.layout.cell_width(table, column))
+    }
+
+    /// The numbers in a column of a table, to be read row by row.
+    pub fn column(&self, table: TableId, column: usize) -> ColumnNumbers<'a>
+        requires { column < length (columns_of table) }
+        ensures count { result.count ≡ count_of self.now.sizes table }
+        ensures numbers { (row : ℕ) → 1 ≤ row → row ≤ count_of self.now.sizes table
+            → number_in_row result row ≡ number_at self.now.bytes self.now.sizes table row column }
+    {
+        let count = self.layout.count(table);
+        let step = self.layout.row_width(table);
+        let width = self.layout.cell_width(table, column);
+        let bytes = if count == 0 {
+            &[]
+        } else {
+            let first = self.place(table, 1, column);
+            let last = self.place(table, count, column);
+            bytes_between(self.bytes, first, last + width)
+        };
+        ColumnNumbers {
+            bytes,
+            step,
+            width,
+            count,
+        }
     }
 }

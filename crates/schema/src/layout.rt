@@ -1,5 +1,6 @@
 use crate::header::Header;
 use crate::table_layout::TableLayout;
+use std::alloc::AllocError;
 use std::marker::Model;
 use table_schema::{Column, TableId, columns};
 
@@ -23,6 +24,22 @@ impl Model for Layout {
     ghost view = { λ layout. sizes_kept layout.header };
 
     ghost invariant = { λ layout. AreTableLayouts (sizes_kept layout.header) layout.table_layouts };
+}
+
+impl Clone for Layout {
+    ghost use Rattle.std.specs.Prelude.{◌≡◌, ⊤};
+
+    ghost is_clone = { λ from to. to ≡ from };
+
+    ghost is_infallible = { λ _. ⊤ };
+
+    /// The same value. It does not allocate, and never fails.
+    fn clone(&self) -> Result<Self, AllocError> {
+        Ok(Layout {
+            header: self.header,
+            table_layouts: self.table_layouts,
+        })
+    }
 }
 
 impl Header {

@@ -6,13 +6,10 @@ ghost use Rattle.sig_decoder.specs.declared.error.SigError.TheVariants.{Bad};
 
 use crate::columns::body;
 use crate::error::SigError;
-use sig_grammar::SigBody;
+use sig_grammar::{DEPTH_LIMIT, SigBody};
 use sig_recogniser::recognise;
 use std::alloc::Global;
 use table_schema::SigKind;
-
-/// The greatest depth to which types may nest.
-const DEPTH: u8 = 128;
 
 /// The value of the signature that all the bytes together encode, in a column of a kind (II.23.2).
 ///
@@ -35,6 +32,6 @@ pub fn decode_body(alloc: Global, bytes: &[u8], kind: SigKind) -> Result<SigBody
     if !recognise(bytes, kind) {
         return Err(SigError::Bad);
     }
-    let (body, _) = body(alloc, bytes, kind, DEPTH)?;
+    let (body, _) = body(alloc, bytes, kind, DEPTH_LIMIT)?;
     Ok(body)
 }

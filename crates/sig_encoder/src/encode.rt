@@ -4,9 +4,9 @@ ghost use Rattle.sig_grammar.specs.Encodes.{IsEncodable, short};
 
 use crate::bodies::visit_body;
 use crate::laws;
-use crate::length::{DEPTH, encoded_len};
+use crate::length::encoded_len;
 use crate::writer::Writer;
-use sig_grammar::SigBody;
+use sig_grammar::{DEPTH_LIMIT, SigBody};
 use std::alloc::{AllocError, Global};
 
 /// Appends the canonical encoding of a signature (II.23.2) to the bytes. The signature has an encoding, and
@@ -19,7 +19,7 @@ pub fn encode_into(bytes: Vec<u8>, body: &SigBody) -> Vec<u8>
     laws::items_are_parts();
     let left = bytes.capacity() - bytes.len();
     let mut writer = Writer { bytes, left };
-    let _ = visit_body(&mut writer, body, DEPTH);
+    let _ = visit_body(&mut writer, body, DEPTH_LIMIT);
     writer.bytes
 }
 

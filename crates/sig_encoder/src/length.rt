@@ -5,13 +5,8 @@ ghost use Rattle.sig_grammar.specs.Encodes.{IsEncodable, short};
 use crate::bodies::visit_body;
 use crate::laws;
 use crate::measurer::Measurer;
-use sig_grammar::SigBody;
-
-/// The greatest depth to which types may nest.
-pub(crate) const DEPTH: u8 = 128;
-
-/// The largest number of bytes of a blob.
-const ROOM: usize = (1 << 29) - 1;
+use packed::BLOB_LIMIT;
+use sig_grammar::{DEPTH_LIMIT, SigBody};
 
 /// The number of bytes of a signature's canonical encoding (II.23.2); `None` if no bytes encode it.
 ///
@@ -25,7 +20,7 @@ pub fn encoded_len(body: &SigBody) -> Option<usize>
     ensures length { IfSome result (λ count. count ≡ length (short (body_of body.now))) }
 {
     laws::items_are_parts();
-    let mut measurer = Measurer { left: ROOM };
-    visit_body(&mut measurer, body, DEPTH)?;
-    Some(ROOM - measurer.left)
+    let mut measurer = Measurer { left: BLOB_LIMIT };
+    visit_body(&mut measurer, body, DEPTH_LIMIT)?;
+    Some(BLOB_LIMIT - measurer.left)
 }

@@ -4,17 +4,14 @@ ghost use Rattle.sig_encoder.specs.Run.{after};
 ghost use Rattle.sig_encoder.specs.Lengths.{number_of, take_room};
 
 use crate::sink::PartSink;
-use packed::unsigned_len;
+use packed::{BLOB_LIMIT, unsigned_len};
 use table_schema::{Coded, Token, join};
-
-/// The least number that is too large for a packed number.
-const TOO_GREAT: usize = 1 << 29;
 
 /// The number, if it can be encoded: if it is below 2^29.
 pub fn encoded_number(number: usize) -> Option<u32>
     ensures { result ≡ (if nat_lt number (2 ^ 29) then Some number else None) }
 {
-    if number < TOO_GREAT {
+    if number <= BLOB_LIMIT {
         return Some(number as u32);
     }
     None

@@ -8,3 +8,4 @@ pub mod Reading
 pub mod Encodes
 pub mod Syntax
 pub mod Views
+pub mod Conventions

@@ -42,6 +42,8 @@ pub struct InstanceSig(pub Vec<TypeSig>);
 pub struct LocalsSig(pub Vec<Local>);
 
 /// A whole signature (II.23.2).
+///
+/// A body is dropped and printed by a recursion as deep as its types nest (see [`Core`](crate::Core)).
 #[derive(Debug, Drop)]
 pub enum SigBody {
     /// A field (II.23.2.4).

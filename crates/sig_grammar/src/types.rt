@@ -21,6 +21,10 @@ pub struct TypeSig {
 }
 
 /// A type without the modifiers before it (II.23.2.12).
+///
+/// A value is dropped and printed by a recursion as deep as its types nest, also if it has no encoding. So a program
+/// that nests types itself has to bound their depth: 1,000 are safe, and a million run out of stack. No type that is
+/// decoded nests deeper than 128.
 #[derive(Debug, Drop)]
 #[cycle(types)]
 pub enum Core {

@@ -3,6 +3,7 @@ use Rattle.std.specs.Prelude.{ℕ, zero, suc, Bool, Option, Some, None, List, []
 use Rattle.sig_grammar.specs.declared.types.Modifier.{Modifier}
 use Rattle.sig_grammar.specs.declared.body.Prefix.{Prefix}
 use Rattle.sig_grammar.specs.declared.body.Prefix.TheVariants.{Mod, Pinned}
+use Rattle.sig_grammar.specs.Conventions.{convention_of}
 use Rattle.sig_grammar.specs.Grammar.{count_types, count_slots}
 use Rattle.sig_grammar.specs.Syntax.{Core, simple, void_pointer, pointer, vector, array, class, value, var, mvar, instance, function, Typed, typed, Types, no_types, type_then, Content, typed_ref, plain, by_ref, Slot, slot, Slots, no_slots, slot_then, Ret, some_ret, void_ret, Method, method, ArrayShape, LocalVariable, local, Body, field, method_body, property, locals, instance_body, type_spec}
 use Rattle.sig_items.specs.declared.item.Item.{Item}
@@ -25,7 +26,7 @@ shape_items shape =
 -- the head of a method (II.23.2.1 to II.23.2.3)
 abbrev pub method_head : ℕ → Bool → Bool → Option ℕ → ℕ → Item
 method_head kind this explicit generic params =
-    item.Method (record { kind = kind; this = this; explicit = explicit; generic = generic; params = params })
+    item.Method (record { convention = convention_of kind; this = this; explicit = explicit; generic = generic; params = params })
 
 abbrev mutual
   -- Type (II.23.2.12), without the modifiers before it

@@ -8,11 +8,9 @@ use crate::methods::{method, params};
 use crate::position::Position;
 use crate::step::Step;
 use crate::types::{ret, types, variables};
+use sig_grammar::DEPTH_LIMIT;
 use sig_recogniser::{byte, number};
 use table_schema::SigKind;
-
-/// The greatest depth to which types may nest.
-pub const DEPTH: u8 = 128;
 
 /// The head of a field, whose first byte was read (II.23.2.4).
 #[tactic(auto, using(crate::proofs::Heads::field_is))]
@@ -20,7 +18,7 @@ fn field(tail: &[u8]) -> Step<'_>
     ensures reported { reported_by result ≡ field_reported tail.now }
     ensures within { IsWithin 129 result }
 {
-    Step::before(Item::Field, Position::Slot { depth: DEPTH }, tail)
+    Step::before(Item::Field, Position::Slot { depth: DEPTH_LIMIT }, tail)
 }
 
 /// The head of a property, whose first byte was read (II.23.2.5).
@@ -35,8 +33,8 @@ fn property(bytes: &[u8], this: bool) -> Option<Step<'_>>
             this,
             params: count,
         },
-        frame: params(count, false, DEPTH),
-        position: Some(Position::Slot { depth: DEPTH }),
+        frame: params(count, false, DEPTH_LIMIT),
+        position: Some(Position::Slot { depth: DEPTH_LIMIT }),
         tail,
     })
 }
@@ -50,7 +48,7 @@ fn locals(bytes: &[u8]) -> Option<Step<'_>>
     let (count, tail) = number(bytes)?;
     Some(Step {
         item: Item::Locals(count),
-        frame: variables(count, DEPTH),
+        frame: variables(count, DEPTH_LIMIT),
         position: None,
         tail,
     })
@@ -65,7 +63,7 @@ fn arguments(bytes: &[u8]) -> Option<Step<'_>>
     let (count, tail) = number(bytes)?;
     Some(Step {
         item: Item::Arguments(count),
-        frame: types(count, DEPTH),
+        frame: types(count, DEPTH_LIMIT),
         position: None,
         tail,
     })
@@ -82,22 +80,22 @@ pub fn body(bytes: &[u8], kind: SigKind) -> Option<Step<'_>>
             0x06 => Some(field(tail)),
             _ => None,
         },
-        SigKind::MethodDef => method(bytes, false, DEPTH),
+        SigKind::MethodDef => method(bytes, false, DEPTH_LIMIT),
         SigKind::MemberRef => match first {
             0x06 => Some(field(tail)),
-            _ => method(bytes, true, DEPTH),
+            _ => method(bytes, true, DEPTH_LIMIT),
         },
         SigKind::StandAlone => match first {
             0x06 => Some(field(tail)),
             0x07 => locals(tail),
-            _ => method(bytes, true, DEPTH),
+            _ => method(bytes, true, DEPTH_LIMIT),
         },
         SigKind::Property => match first {
             0x08 => property(tail, false),
             0x28 => property(tail, true),
             _ => None,
         },
-        SigKind::TypeSpec => ret(bytes, DEPTH),
+        SigKind::TypeSpec => ret(bytes, DEPTH_LIMIT),
         SigKind::Instance => match first {
             0x0A => arguments(tail),
             _ => None,

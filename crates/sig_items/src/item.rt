@@ -1,12 +1,11 @@
-use sig_grammar::{Element, Modifier};
+use sig_grammar::{CallingConvention, Element, Modifier};
 use table_schema::Token;
 
 /// The head of a method (II.23.2.1 to II.23.2.3): what precedes its result and its parameters.
 #[derive(Clone, Copy, Debug, PartialEq, Eq)]
 pub struct MethodHead {
-    /// The calling convention: 0 default, 1 C, 2 stdcall, 3 thiscall, 4 fastcall, 5 vararg,
-    /// 9 unmanaged.
-    pub kind: u8,
+    /// How the method is called.
+    pub convention: CallingConvention,
     /// HASTHIS: the method is called on an instance.
     pub this: bool,
     /// EXPLICITTHIS: the instance is the first parameter of the method.

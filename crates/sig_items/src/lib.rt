@@ -24,4 +24,5 @@ mod types;
 
 pub use item::{Item, MethodHead};
 pub use items::Items;
+pub use sig_grammar::CallingConvention;
 pub use table_schema::{SigKind, Token};

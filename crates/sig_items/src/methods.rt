@@ -6,8 +6,9 @@ ghost use Rattle.sig_items.specs.Steps.{reported, IsWithin};
 use crate::item::{Item, MethodHead};
 use crate::position::{Frame, Position};
 use crate::step::Step;
+use sig_grammar::CallingConvention;
 use sig_grammar::method_byte::{
-    begins_method, calling_convention, has_explicit_this, has_this, is_generic, may_have_sentinel,
+    begins_method, has_explicit_this, has_this, is_generic, may_have_sentinel,
 };
 use sig_recogniser::{byte, number};
 
@@ -60,7 +61,7 @@ pub fn method(bytes: &[u8], own: bool, depth: u8) -> Option<Step<'_>>
     let (generic, tail) = generic(tail, code)?;
     let (count, tail) = number(tail)?;
     let head = MethodHead {
-        kind: calling_convention(code),
+        convention: CallingConvention::in_first_byte(code),
         this: has_this(code),
         explicit: has_explicit_this(code),
         generic,

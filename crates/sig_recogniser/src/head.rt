@@ -8,6 +8,7 @@ use sig_grammar::token_of_index;
 use table_schema::Token;
 
 /// The first byte, and the remaining bytes; `None` if the slice is empty.
+#[inline(always)]
 pub fn byte(bytes: &[u8]) -> Option<(u8, &[u8])>
     ensures { MatchOption result (bytes.now ≡ []) (λ x. bytes.now ≡ x.0 ∷ x.1.now) }
 {
@@ -17,6 +18,7 @@ pub fn byte(bytes: &[u8]) -> Option<(u8, &[u8])>
 
 /// The packed number at the start (II.23.2), and the remaining bytes. `None` if the bytes end within it,
 /// or if the first byte is 0xE0 or more.
+#[inline(always)]
 #[tactic(auto, unfolding(sig_grammar::specs::Reading::number_at))]
 pub fn number(bytes: &[u8]) -> Option<(u32, &[u8])>
     ensures { option_map (λ x. (x.0, x.1.now)) result ≡ number_at bytes.now }
@@ -38,6 +40,7 @@ pub fn signed(bytes: &[u8]) -> Option<(i32, &[u8])>
 
 /// The token of the type index at the start (II.23.2.8), and the remaining bytes. `None` if there is no
 /// number, or if its tag names no table. The token's row need not exist.
+#[inline]
 #[tactic(auto, unfolding(sig_grammar::specs::Reading::index_at))]
 pub fn index(bytes: &[u8]) -> Option<(Token, &[u8])>
     ensures { option_map (λ x. (x.0, x.1.now)) result ≡ index_at bytes.now }

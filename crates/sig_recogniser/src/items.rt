@@ -6,6 +6,7 @@ use sig_grammar::element_type::{CMOD_OPT, CMOD_REQD, PINNED};
 use sig_grammar::{Modifier, Prefix};
 
 /// Whether the bytes start with a custom modifier (II.23.2.7).
+#[inline(always)]
 pub fn has_modifier(bytes: &[u8]) -> bool
     ensures { result ≡ starts_modifier bytes.now }
 {
@@ -26,6 +27,7 @@ pub fn modifier(bytes: &[u8]) -> Option<(Modifier, &[u8])>
 }
 
 /// Whether the bytes start with a custom modifier or PINNED (II.23.2.6).
+#[inline(always)]
 pub fn has_prefix(bytes: &[u8]) -> bool
     ensures { result ≡ starts_prefix bytes.now }
 {

@@ -13,6 +13,7 @@ pub struct Tail<'a> {
 }
 
 /// The first byte, and the remainder after it.
+#[inline(always)]
 pub fn byte(tail: Tail<'_>) -> Option<(u8, Tail<'_>)>
     ensures { MatchOption result (tail.entry.bytes.now ≡ []) (λ x. (tail.entry.bytes.now ≡ x.0 ∷ x.1.bytes.now) × (x.1.bad ≡ tail.entry.bad)) }
 {
@@ -21,6 +22,7 @@ pub fn byte(tail: Tail<'_>) -> Option<(u8, Tail<'_>)>
 }
 
 /// The packed number at the start, and the remainder after it.
+#[inline(always)]
 #[tactic(auto, unfolding(crate::specs::Skips::number_left))]
 pub fn number(tail: Tail<'_>) -> Option<(u32, Tail<'_>)>
     ensures { option_map (λ x. (x.0, left x.1)) result ≡ number_left (left tail.entry) }
@@ -30,6 +32,7 @@ pub fn number(tail: Tail<'_>) -> Option<(u32, Tail<'_>)>
 }
 
 /// The remainder after a packed number.
+#[inline(always)]
 #[tactic(auto, unfolding(crate::specs::Skips::skip_number))]
 pub fn after_number(tail: Tail<'_>) -> Option<Tail<'_>>
     ensures { option_map left result ≡ skip_number (left tail.entry) }

@@ -11,6 +11,7 @@ use sig_grammar::{Prefix, names_row};
 use table_schema::Token;
 
 /// The first token without a row, after one more token.
+#[inline]
 fn first_bad(bad: Option<Token>, token: Token, counts: &[u32; 45]) -> Option<Token>
     ensures { result ≡ noted counts.now bad (token ∷ []) }
 {
@@ -31,6 +32,7 @@ fn first_bad_with(bad: Option<Token>, prefix: Prefix, counts: &[u32; 45]) -> Opt
 }
 
 /// The remainder after a type index (II.23.2.8).
+#[inline(always)]
 #[tactic(auto, unfolding(crate::specs::Skips::skip_index))]
 pub fn after_index<'a>(tail: Tail<'a>, counts: &[u32; 45]) -> Option<Tail<'a>>
     ensures { option_map left result ≡ skip_index counts.now (left tail.entry) }
@@ -40,8 +42,19 @@ pub fn after_index<'a>(tail: Tail<'a>, counts: &[u32; 45]) -> Option<Tail<'a>>
     Some(Tail { bytes, bad })
 }
 
-/// The remainder after the modifiers at the start (II.23.2.7).
+/// The remainder after the modifiers at the start (II.23.2.7). Most types have none.
+#[inline(always)]
 pub fn after_modifiers<'a>(tail: Tail<'a>, counts: &[u32; 45]) -> Option<Tail<'a>>
+    ensures { option_map left result ≡ skip_modifiers counts.now (left tail.entry) }
+{
+    if has_modifier(tail.bytes) {
+        return after_each_modifier(tail, counts);
+    }
+    Some(tail)
+}
+
+/// The same, one modifier after another.
+fn after_each_modifier<'a>(tail: Tail<'a>, counts: &[u32; 45]) -> Option<Tail<'a>>
     ensures { option_map left result ≡ skip_modifiers counts.now (left tail.entry) }
 {
     let mut tail = tail;

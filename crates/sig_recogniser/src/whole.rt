@@ -4,13 +4,9 @@ ghost use Rattle.sig_grammar.specs.Encodes.{Encodes, tokens, first_bad};
 
 use crate::columns::after_body;
 use crate::tail::Tail;
+use packed::BLOB_LIMIT;
+use sig_grammar::DEPTH_LIMIT;
 use table_schema::{SigKind, Token};
-
-/// The greatest depth to which types may nest.
-const DEPTH: u8 = 128;
-
-/// The least number of bytes that is too large for a blob.
-const TOO_MANY: usize = 1 << 29;
 
 /// Tables without rows, for recognition alone, which ignores rows.
 const NO_ROWS: [u32; 45] = [0; 45];
@@ -26,10 +22,10 @@ pub fn recognise_first_bad(bytes: &[u8], kind: SigKind, counts: &[u32; 45]) -> O
     ensures complete { (signature : Body) → Encodes kind signature bytes.now → result ≡ Some (first_bad counts.now (tokens signature)) }
 {
     sig_values::laws::signatures_are_read();
-    if bytes.len() >= TOO_MANY {
+    if bytes.len() > BLOB_LIMIT {
         return None;
     }
-    let tail = after_body(Tail { bytes, bad: None }, kind, DEPTH, counts)?;
+    let tail = after_body(Tail { bytes, bad: None }, kind, DEPTH_LIMIT, counts)?;
     if !tail.bytes.is_empty() {
         return None;
     }

@@ -2,7 +2,7 @@
 //!
 //! [`write_signature`] reads the bytes of a blob and passes the text to a [`TextSink`], word by word. The sink
 //! writes the names of tokens, because only its owner knows them. [`NamedText`] is a sink that writes to any
-//! `fmt::Write`. The recursion is as deep as types nest, at most 128.
+//! `fmt::Write`. [`write_method`] writes a method with its name and the names of its parameters. The recursion is as deep as types nest, at most 128.
 //!
 //! ```text
 //! // 20 02 01 08 1D 0E: an instance method without result; its parameters are an integer and a vector of strings
@@ -12,6 +12,7 @@
 //! ```
 #![tactic(auto)]
 
+mod declared;
 mod head;
 mod marks;
 mod named;
@@ -20,6 +21,7 @@ mod sink;
 mod types;
 mod whole;
 
+pub use declared::{MethodSink, write_method};
 pub use named::{NamedText, TokenNames};
 pub use sink::TextSink;
 pub use table_schema::{SigKind, Token};

@@ -5,11 +5,11 @@ use crate::head::{byte, index, number, sentinel};
 use crate::marks::{behind_all, marks};
 use crate::shape::shape;
 use crate::sink::TextSink;
-use sig_grammar::Element;
 use sig_grammar::element_type::{
     ARRAY, BYREF, CLASS, FNPTR, GENERICINST, MVAR, PTR, SZARRAY, TYPEDBYREF, VALUETYPE, VAR, VOID,
 };
-use sig_grammar::method_byte::{calling_convention, has_explicit_this, has_this, is_generic};
+use sig_grammar::method_byte::{has_explicit_this, has_this, is_generic};
+use sig_grammar::{CallingConvention, Element};
 
 /// The name of a type that is encoded as one byte (II.7.1).
 fn element_name(element: Element) -> &'static str {
@@ -174,34 +174,33 @@ fn instance<'a, S: TextSink>(sink: &mut S, bytes: &'a [u8], depth: u8) -> Option
 }
 
 /// The words of a calling convention (II.15.3), each with a space after it.
-fn convention_name(code: u8) -> &'static str {
-    match calling_convention(code) {
-        1 => "unmanaged cdecl ",
-        2 => "unmanaged stdcall ",
-        3 => "unmanaged thiscall ",
-        4 => "unmanaged fastcall ",
-        5 => "vararg ",
-        9 => "unmanaged ",
-        _ => "",
+fn convention_name(convention: CallingConvention) -> &'static str {
+    match convention {
+        CallingConvention::Default => "",
+        CallingConvention::C => "unmanaged cdecl ",
+        CallingConvention::StdCall => "unmanaged stdcall ",
+        CallingConvention::ThisCall => "unmanaged thiscall ",
+        CallingConvention::FastCall => "unmanaged fastcall ",
+        CallingConvention::VarArg => "vararg ",
+        CallingConvention::Unmanaged => "unmanaged ",
     }
 }
 
 /// Writes the calling convention in the first byte of a method (II.15.3).
-fn convention<S: TextSink>(sink: &mut S, code: u8) -> Option<()>
+pub fn convention<S: TextSink>(sink: &mut S, code: u8) -> Option<()>
     ensures { S.refused sink.new ≡ refused_after result (S.refused sink.old) }
 {
-    sink.text("method ")?;
     if has_this(code) {
         sink.text("instance ")?;
     }
     if has_explicit_this(code) {
         sink.text("explicit ")?;
     }
-    sink.text(convention_name(code))
+    sink.text(convention_name(CallingConvention::in_first_byte(code)))
 }
 
 /// The number of generic parameters, if the method is generic, and the remaining bytes.
-fn generic(code: u8, bytes: &[u8]) -> (Option<u32>, &[u8]) {
+pub fn generic(code: u8, bytes: &[u8]) -> (Option<u32>, &[u8]) {
     if !is_generic(code) {
         return (None, bytes);
     }
@@ -210,7 +209,7 @@ fn generic(code: u8, bytes: &[u8]) -> (Option<u32>, &[u8]) {
 }
 
 /// Writes the number of generic parameters, if the method is generic.
-fn arity<S: TextSink>(sink: &mut S, generic: Option<u32>) -> Option<()>
+pub fn arity<S: TextSink>(sink: &mut S, generic: Option<u32>) -> Option<()>
     ensures { S.refused sink.new ≡ refused_after result (S.refused sink.old) }
 {
     match generic {
@@ -229,6 +228,7 @@ pub fn method<'a, S: TextSink>(sink: &mut S, bytes: &'a [u8], depth: u8) -> Opti
     ensures { S.refused sink.new ≡ refused_after result (S.refused sink.old) }
 {
     let (code, tail) = byte(bytes);
+    sink.text("method ")?;
     convention(sink, code)?;
     let (generic, tail) = generic(code, tail);
     let (count, tail) = number(tail);

@@ -6,11 +6,9 @@ ghost use Rattle.sig_text.specs.Refused.{refused_after};
 use crate::head::{byte, number};
 use crate::sink::TextSink;
 use crate::types::{listed, method, slot};
+use sig_grammar::DEPTH_LIMIT;
 use sig_recogniser::recognise;
 use table_schema::SigKind;
-
-/// The greatest depth to which types may nest.
-const DEPTH: u8 = 128;
 
 /// Writes a property (II.17): `instance` if it belongs to one, its type, and its parameters.
 fn property<'a, S: TextSink>(sink: &mut S, code: u8, bytes: &'a [u8]) -> Option<&'a [u8]>
@@ -20,7 +18,7 @@ fn property<'a, S: TextSink>(sink: &mut S, code: u8, bytes: &'a [u8]) -> Option<
         sink.text("instance ")?;
     }
     let (count, tail) = number(bytes);
-    let tail = slot(sink, tail, DEPTH)?;
+    let tail = slot(sink, tail, DEPTH_LIMIT)?;
     sink.text(" ")?;
     enclosed(sink, tail, count, "(", ")")
 }
@@ -36,7 +34,7 @@ fn enclosed<'a, S: TextSink>(
     ensures { S.refused sink.new ≡ refused_after result (S.refused sink.old) }
 {
     sink.text(first)?;
-    let tail = listed(sink, bytes, count, DEPTH)?;
+    let tail = listed(sink, bytes, count, DEPTH_LIMIT)?;
     sink.text(last)?;
     Some(tail)
 }
@@ -47,7 +45,7 @@ fn headed<'a, S: TextSink>(sink: &mut S, bytes: &'a [u8]) -> Option<&'a [u8]>
 {
     let (code, tail) = byte(bytes);
     match code {
-        0x06 => slot(sink, tail, DEPTH),
+        0x06 => slot(sink, tail, DEPTH_LIMIT),
         0x07 => {
             let (count, tail) = number(tail);
             enclosed(sink, tail, count, "(", ")")
@@ -57,7 +55,7 @@ fn headed<'a, S: TextSink>(sink: &mut S, bytes: &'a [u8]) -> Option<&'a [u8]>
             enclosed(sink, tail, count, "<", ">")
         }
         0x08 | 0x28 => property(sink, code, tail),
-        _ => method(sink, bytes, DEPTH),
+        _ => method(sink, bytes, DEPTH_LIMIT),
     }
 }
 
@@ -80,7 +78,7 @@ pub fn write_signature<S: TextSink>(sink: &mut S, bytes: &[u8], kind: SigKind) -
         return Some(());
     }
     if let SigKind::TypeSpec = kind {
-        slot(sink, bytes, DEPTH)?;
+        slot(sink, bytes, DEPTH_LIMIT)?;
         return Some(());
     }
     headed(sink, bytes)?;

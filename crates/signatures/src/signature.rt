@@ -60,7 +60,8 @@ impl Signature {
     /// # Errors
     ///
     /// Returns the body if no bytes encode it. Either it breaks the grammar, or its types nest deeper than 128. Or a
-    /// number or a row in it is too large, or its canonical encoding has 2^29 bytes or more.
+    /// number or a row in it is too large, or its canonical encoding has 2^29 bytes or more. A body that is returned
+    /// can nest deeper than 128. It is dropped by a recursion of that depth.
     pub fn new(body: SigBody) -> Result<Signature, SigBody>
         ensures encodable { IsOk result ↔ IsEncodable (body_of body) }
         ensures same { MatchResult result (λ signature. signature ≡ body_of body) (λ refused. body_of refused ≡ body_of body) }

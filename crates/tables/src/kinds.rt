@@ -3,10 +3,8 @@ ghost use Rattle.metadata.specs.Kinds.{IsTo, IsOfKind, IsStorable, IsHeld};
 ghost use Rattle.tables.specs.Said.{said};
 
 use crate::cell::Cell;
+use packed::BLOB_LIMIT;
 use table_schema::{Coded, ColumnKind, TableId, Token};
-
-/// Blobs have fewer bytes than this (II.24.2.4), because their length is a packed number.
-const BLOB_LIMIT: usize = 0x2000_0000;
 
 /// The number of bytes of a GUID (II.24.2.5).
 const GUID_SIZE: usize = 16;
@@ -65,7 +63,7 @@ impl Cell {
     {
         match self {
             Cell::Text(text) => !text.as_str().as_bytes().contains(&0),
-            Cell::Bytes(bytes) => bytes.as_slice().len() < BLOB_LIMIT,
+            Cell::Bytes(bytes) => bytes.as_slice().len() <= BLOB_LIMIT,
             Cell::Guid(Some(guid)) => guid.as_slice().len() == GUID_SIZE,
             _ => true,
         }

@@ -1,1 +1,2 @@
 pub mod RefRowLemmas
+pub mod RowsLeftLemmas

@@ -1,5 +1,5 @@
 -- The values of a row that is read in place: their shapes, and the cells that they denote (ECMA-335 II.22).
-use Rattle.std.specs.Prelude.{◌≡◌, ℕ, List, Option, Some, None, option_map, slice_get, ⊤}
+use Rattle.std.specs.Prelude.{◌≡◌, ℕ, Option, Some, None, option_map, slice_get, ⊤}
 use Rattle.table_schema.specs.declared.table.TableId.{TableId}
 use Rattle.metadata.specs.Cell.{Cell, Number, Text, Bytes, Guid, Ref, Start, Sig}
 use Rattle.reading.specs.declared.cell_ref.CellRef.{CellRef}

@@ -1,7 +1,7 @@
 ghost use Rattle.std.specs.Prelude.{◌≡◌, ◌≤◌, ◌+◌, ◌-◌, ◌↔◌, IsSome, IfSome};
 ghost use Rattle.std.specs.Iterator.{at_most};
-ghost use Rattle.metadata.specs.Metadata.{Metadata, row_of};
-ghost use Rattle.typed_rows.specs.RowsLeft.{YieldsRow};
+ghost use Rattle.metadata.specs.Metadata.{Metadata, rows_of, row_of};
+ghost use Rattle.typed_rows.specs.RowsLeft.{YieldsRow, rows_between};
 
 use crate::rows_read::ReadRows;
 use records::FromRow;
@@ -56,10 +56,12 @@ impl<'m, R: FromRow<'m, S::Form>, S: ReadRows<'m> + Copy> Iterator for Records<'
 
     ghost remaining = { λ left. at_most ((left.last + 1) - left.next) };
 
+    #[tactic(auto, using(crate::proofs::RowsLeftLemmas::first_row))]
     fn next(&mut self) -> Option<R> {
         if self.next > self.last {
             return None;
         }
+        self.source.holds_rows();
         let row = self.next;
         self.next += 1;
         Some(record_at(&self.source, row))
@@ -78,9 +80,13 @@ impl<'m, R: FromRow<'m, S::Form>, S: ReadRows<'m> + Copy> ExactSizeIterator for 
 }
 
 /// The records of a table's rows, in order.
+#[tactic(auto, using(crate::proofs::RowsLeftLemmas::all_rows))]
 pub fn rows<'m, R: FromRow<'m, S::Form>, S: ReadRows<'m> + Copy>(source: S) -> Records<'m, S, R>
-    ensures { result ≡ record { source = source; next = 1; last = S.row_count source R.table } }
+    ensures left { result ≡ record { source = source; next = 1; last = S.row_count source R.table } }
+    // They are the rows of the table, of every model that is shown.
+    ensures rows { (model : Metadata) → S.shows source model → rows_between model R.table result.next result.last ≡ rows_of model R.table }
 {
+    source.holds_rows();
     Records {
         source,
         next: 1,

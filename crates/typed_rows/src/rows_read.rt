@@ -14,7 +14,7 @@ pub trait ReadRows<'m> {
     ghost use Rattle.std.specs.Prelude.{◌≡◌, ◌≤◌, ℕ, List};
     ghost use Rattle.table_schema.specs.declared.table.TableId.{TableId as Table};
     ghost use Rattle.metadata.specs.Cell.{Cell as TheCell};
-    ghost use Rattle.metadata.specs.Metadata.{Metadata, row_of};
+    ghost use Rattle.metadata.specs.Metadata.{Metadata, count_in, row_of};
     ghost use Rattle.records.specs.Kinds.{kinds_of};
     ghost use Rattle.records.specs.Shapes.{AreHeld, AreSaid};
 
@@ -26,6 +26,10 @@ pub trait ReadRows<'m> {
 
     // How many rows a table has.
     ghost row_count: { Self → Table → ℕ };
+
+    /// The tables of the metadata that it shows have this number of rows. Nothing is done.
+    fn holds_rows(&self)
+        ensures { (model : Metadata) → shows self.now model → (table : Table) → count_in model table ≡ row_count self.now table };
 
     /// The number of rows of a table.
     fn count_rows(&self, table: TableId) -> u32
@@ -49,6 +53,10 @@ impl<'a> ReadRows<'a> for &View<'a> {
     ghost shows = { λ view model. IsModel view.now model };
 
     ghost row_count = { λ view table. rows_of_root view.now table };
+
+    fn holds_rows(&self) {
+        metadata::laws::models_are_read();
+    }
 
     fn count_rows(&self, table: TableId) -> u32 {
         self.count(table)

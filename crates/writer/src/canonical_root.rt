@@ -1,29 +1,32 @@
 ghost use Rattle.std.specs.Prelude.{◌≡◌, ◌^◌, ◌<◌, ◌≤◌, ⊤, IfOk, IfErr, length};
+ghost use Rattle.metadata.specs.Metadata.{Metadata};
 ghost use Rattle.canonical.specs.Canonical.{canonical};
 ghost use Rattle.root_plan.specs.Errors.{MatchError};
 
 use crate::planned::plan_of;
-use owned_model::Model;
+use metadata_source::ReadCells;
 use root_plan::{Prepared, WriteError, make};
 use std::alloc::Global;
 
-/// Makes the canonical root of a model, if it has at most `limit` bytes.
+/// Makes the canonical root of a metadata, if it has at most `limit` bytes. A root that is open in place and the model
+/// that is loaded from it have the same one.
 ///
-/// The memory of the root is allocated once, when its length is known, and each byte is written once. During the call
-/// there are also the heaps, and a number of four bytes for each column of each row.
+/// No cell is copied. The memory of the root is allocated once, when its length is known, and each byte is written
+/// once. During the call there are also the heaps, with each text, blob and GUID once. There is also a number of four
+/// bytes for each column of each row. The cost is that of reading each cell.
 ///
 /// # Errors
 ///
 /// `TooLarge` if the canonical root is longer than the limit. `Memory` if memory runs out before that is known.
-pub fn prepare(alloc: Global, model: &Model, limit: u32) -> Result<Prepared, WriteError>
+pub fn prepare<S: ReadCells>(alloc: Global, source: &S, limit: u32) -> Result<Prepared, WriteError>
     requires { limit ≤ 2 ^ 30 }
-    ensures root { IfOk result (λ prepared. prepared ≡ canonical model.now) }
+    ensures root { (model : Metadata) → S.shows source.now model → IfOk result (λ prepared. prepared ≡ canonical model) }
     ensures within { IfOk result (λ prepared. length prepared ≤ limit) }
-    ensures refused { IfErr result (MatchError (limit < length (canonical model.now)) ⊤ (λ given. ⊥)) }
+    ensures refused { (model : Metadata) → S.shows source.now model
+        → IfErr result (MatchError (limit < length (canonical model)) ⊤ (λ given. ⊥)) }
 {
-    let plan = plan_of(alloc, model, limit)?;
-    // The model is valid.
-    let _tables = model.tables();
+    source.holds_one();
+    let plan = plan_of(alloc, source, limit)?;
     let prepared = make(alloc, &plan);
     drop(plan);
     Ok(prepared?)

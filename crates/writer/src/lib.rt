@@ -1,6 +1,9 @@
-//! Writes the canonical root of a model (ECMA-335 II.24.2), into memory or through a writer that may fail.
+//! Writes the canonical root of a metadata (ECMA-335 II.24.2), into memory or through a writer that may fail.
 //!
-//! [`write_root`] and [`write_root_within`] return its bytes. Their one model is the one that was written.
+//! The metadata is a `Model`, or a `View` of a root that is open in place. Then no model is made that owns its cells, and
+//! the bytes are those of the view's one model.
+//!
+//! [`write_root`] and [`write_root_within`] return the bytes. Their one model is the one that was written.
 //! [`write_root_to`] sends them through a [`Sink`], such as [`Counted`] over any writer. [`prepare`] makes the bytes
 //! first, so once a file is open only [`Prepared::send`] is left, which does not allocate. A root that is too long and
 //! lack of memory are reported before the first byte is sent.

@@ -1,19 +1,19 @@
+ghost use Rattle.metadata.specs.Metadata.{Metadata};
 ghost use Rattle.root_plan.specs.Outlined.{Describes};
 
 use crate::tables_reported;
-use owned_model::Model;
+use metadata_source::ReadMetadata;
 use root_plan::Outline;
 
-/// What the canonical root of a model is planned from, besides its pools.
-pub fn outline_of(model: &Model) -> Outline<'_>
-    ensures { Describes result model.now }
+/// What the canonical root of a metadata is planned from, besides its pools.
+pub fn outline_of<S: ReadMetadata>(source: &S) -> Outline<'_>
+    ensures { (model : Metadata) → S.shows source.now model → Describes result model }
 {
-    // The model is valid.
-    let _tables = model.tables();
+    source.holds_one();
     Outline {
-        version: model.version(),
-        user_strings: model.user(),
-        counts: tables_reported::counts(model),
-        sorted: tables_reported::sorted(model),
+        version: source.version(),
+        user_strings: source.user(),
+        counts: tables_reported::counts(source),
+        sorted: tables_reported::sorted(source),
     }
 }

@@ -1,5 +1,9 @@
-//! Tests of `cli`: budgets, `rewrite`, and outputs that fail.
+//! Tests of `cli`: budgets, `rewrite`, hints, escaped arguments, and files and outputs that fail.
 
 mod budgets;
+mod disks;
+mod escaping;
+mod hints;
+mod replacing;
 mod rewriting;
 mod writers;

@@ -3,10 +3,19 @@
 mod printed_rows;
 
 use crate::runs::{Case, answer, other_answer};
-use sample_roots::{ONE_MODULE, image};
+use sample_roots::{ONE_MODULE, image, wider_image};
 use std::test::Fail;
 
 const LINES: &str = "\
+version v4.0.30319
+stream 80 40 #~
+stream 120 8 #Strings
+stream 128 16 #GUID
+";
+
+/// What is printed of the file of that root.
+const FILE_LINES: &str = "\
+cli 2.5 flags 00000001 entry 00000000 root 592 144
 version v4.0.30319
 stream 80 40 #~
 stream 120 8 #Strings
@@ -47,22 +56,15 @@ stream 128 16 #GUID
     let (status, out, err) = answer(&rt, &["clim", "root", "--bare", "a.root"])?;
     assert_eq!(rt; status, 3);
     assert!(rt; out.is_empty());
-    assert_eq!(rt; err.as_str(), "error: cannot read a.root\n");
+    assert_eq!(rt; err.as_str(), "error: cannot read a.root\n  reason: no such file\n");
     Ok(())
 }
 
 #[test]
 fn prints_an_image_or_its_fault(rt: HostRuntime) -> Result<(), Fail> {
-    let lines = "\
-cli 2.5 flags 00000001 entry 00000000 root 592 144
-version v4.0.30319
-stream 80 40 #~
-stream 120 8 #Strings
-stream 128 16 #GUID
-";
     let cases = [
-        Case::new(1024, 0, b"", 0, lines),
-        Case::new(736, 0, b"", 0, lines),
+        Case::new(1024, 0, b"", 0, FILE_LINES),
+        Case::new(736, 0, b"", 0, FILE_LINES),
         Case::new(0, 0, b"", 1, "fault 1 102 at 0: DosHeader\n"),
         Case::new(2, 0, b"", 1, "fault 1 102 at 0: DosHeader\n"),
         Case::new(63, 0, b"", 1, "fault 1 102 at 0: DosHeader\n"),
@@ -78,7 +80,7 @@ stream 128 16 #GUID
         ),
         Case::new(1024, 152, &[0x0C], 1, "fault 1 106 at 152: Magic\n"),
         Case::new(1024, 244, &[14], 1, "fault 1 107 at 244: Directories\n"),
-        Case::new(1024, 134, &[16], 0, lines),
+        Case::new(1024, 134, &[16], 0, FILE_LINES),
         Case::new(1024, 134, &[17], 1, "fault 1 108 at 134: Sections\n"),
         Case::new(376, 0, b"", 1, "fault 1 108 at 134: Sections\n"),
         Case::new(1024, 364, &[0], 1, "fault 2 201 at 360: NoCliHeader\n"),
@@ -93,6 +95,17 @@ stream 128 16 #GUID
     for case in &cases {
         assert_eq!(rt; other_answer(&rt, &["clim", "root"], &sample, case)?, None);
     }
+    Ok(())
+}
+
+/// A PE32+ file prints what the PE32 file with the same root prints.
+#[test]
+fn prints_the_same_of_a_wider_image(rt: HostRuntime) -> Result<(), Fail> {
+    let wider = wider_image();
+    let whole = Case::new(1024, 0, b"", 0, FILE_LINES);
+    assert_eq!(rt; other_answer(&rt, &["clim", "root"], &wider, &whole)?, None);
+    let checked = Case::new(1024, 0, b"", 0, "ok\n");
+    assert_eq!(rt; other_answer(&rt, &["clim", "check"], &wider, &checked)?, None);
     Ok(())
 }
 
@@ -150,6 +163,6 @@ fn checks_a_root(rt: HostRuntime) -> Result<(), Fail> {
     let (status, out, err) = answer(&rt, &["clim", "check", "d.root"])?;
     assert_eq!(rt; status, 3);
     assert!(rt; out.is_empty());
-    assert_eq!(rt; err.as_str(), "error: cannot read d.root\n");
+    assert_eq!(rt; err.as_str(), "error: cannot read d.root\n  reason: no such file\n");
     Ok(())
 }

@@ -177,3 +177,13 @@ fn sums_do_not_wrap(rt: HostRuntime) -> Result<(), Fail> {
     assert_eq!(rt; range_in(alloc, &[far], 0x2010, 1)?, None);
     Ok(())
 }
+
+#[test]
+fn a_clone_is_the_same_file(rt: HostRuntime) -> Result<(), Fail> {
+    let sample = sample_with(rt.alloc(), &[])?;
+    let pe = read_pe(sample.as_slice())?;
+    let clone = pe.clone()?;
+    assert_eq!(rt; clone.cli_directory(), pe.cli_directory());
+    assert_eq!(rt; clone.bytes().len(), sample.len());
+    Ok(())
+}

@@ -194,3 +194,13 @@ fn reads_the_root_of_no_rows(rt: HostRuntime) -> Result<(), Fail> {
     assert_eq!(rt; root.stream_place(Kind::Tables), Some(36..60));
     Ok(())
 }
+
+#[test]
+fn a_clone_is_the_same_root(rt: HostRuntime) -> Result<(), Fail> {
+    let clone = read_root(&ONE_MODULE)?.clone()?;
+    assert_eq!(rt; clone.version(), "v4.0.30319");
+    assert_eq!(rt; clone.stream_place(Kind::Guids).ok_or("no guids")?, 128..144);
+    let headers = clone.headers().clone()?;
+    assert_eq!(rt; headers.count(), 3);
+    Ok(())
+}

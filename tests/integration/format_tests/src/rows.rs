@@ -173,3 +173,12 @@ fn finds_the_greatest_key_and_none(rt: HostRuntime) {
     assert_eq!(rt; (found.first, found.past), (1, 1));
     assert!(rt; found.reads <= 2);
 }
+
+#[test]
+fn a_clone_has_the_same_rows(rt: HostRuntime) -> Result<(), Fail> {
+    let layout = Layout::read(&MODULE)?.clone()?;
+    let rows = Rows::new(&MODULE, layout).clone()?;
+    assert_eq!(rt; rows.layout().count(TableId::Module), 1);
+    assert_eq!(rt; rows.number(TableId::Module, 1, 1), 1);
+    Ok(())
+}

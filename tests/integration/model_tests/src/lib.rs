@@ -2,6 +2,8 @@
 //! of a crate are in the module of its name; `records` has those of all crates of records.
 
 #[cfg(test)]
+mod errors;
+#[cfg(test)]
 mod reports;
 #[cfg(test)]
 mod form;

@@ -6,6 +6,8 @@
 
 pub mod both;
 mod made_models;
+mod names;
+mod neighbours;
 mod rows_by_key;
 mod runs;
 mod types_by_name;

@@ -100,3 +100,25 @@ pub fn image() -> [u8; 1024] {
     }
     file
 }
+
+/// Changes that make a PE32+ file of that file: the magic, the size of the optional header, and each later field of that
+/// header and the section header 16 bytes further on (II.25.2.3).
+const WIDER: [(usize, &[u8]); 8] = [
+    (0x094, b"\xF0\0"),
+    (0x098, b"\x0B\x02"),
+    (0x0F4, b"\0\0\0\0"),
+    (0x104, b"\x10\0\0\0"),
+    (0x168, b"\0\0\0\0\0\0\0\0"),
+    (0x178, b"\x08\x20\0\0\x48\0\0\0"),
+    (0x184, b"\0\0\0\0\0\0\0\0\0\0\0\0"),
+    (0x194, b"\0\x20\0\0\0\x02\0\0\0\x02\0\0"),
+];
+
+/// The same file as PE32+.
+pub fn wider_image() -> [u8; 1024] {
+    let mut file = image();
+    for (offset, part) in WIDER {
+        write_at(&mut file, offset, part);
+    }
+    file
+}

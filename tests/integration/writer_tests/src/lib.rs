@@ -10,6 +10,6 @@ mod root_plan;
 #[cfg(test)]
 mod scripted;
 #[cfg(test)]
-mod view_writer;
+mod views;
 #[cfg(test)]
 mod writer;

@@ -1,36 +1,12 @@
-use loading::{LoadError, load_image, load_root};
+use crate::built_roots::count_built;
+use crate::reported::{Reported, both, counted, is_refused};
+use loading::{load_image, load_root};
 use sample_roots::{
     FILE_FAULTS, FILE_PREFIXES, FirstFault, PrefixFault, MODULE_FAULTS, MODULE_PREFIXES,
     NESTED_TYPE_FAULTS, ONE_MODULE, THREE_TYPES, TWO_TYPE_FAULTS, TWO_TYPE_PREFIXES, TWO_TYPES,
     change, image,
 };
 use std::alloc::Global;
-
-/// How many loads reported the expected fault, and how many did not.
-type Reported = (u32, u32);
-
-/// Counts one load more.
-fn counted(reported: Reported, is_reported: bool) -> Reported {
-    let (passed, failed) = reported;
-    if is_reported {
-        (passed + 1, failed)
-    } else {
-        (passed, failed + 1)
-    }
-}
-
-/// What both have reported.
-fn both(one: Reported, other: Reported) -> Reported {
-    (one.0 + other.0, one.1 + other.1)
-}
-
-/// Whether a load is refused with this fault.
-fn is_refused<T: Drop>(answer: Result<T, LoadError>, code: u16, offset: u64) -> bool {
-    match answer {
-        Err(LoadError::Fault(fault)) => (fault.code, fault.offset) == (code, offset),
-        _ => false,
-    }
-}
 
 /// Loads a root with each of these changes.
 fn of_changes<const N: usize>(alloc: Global, root: &[u8; N], faults: &[FirstFault]) -> Reported {
@@ -89,6 +65,7 @@ pub fn count_reported(alloc: Global) -> Reported {
         of_prefixes(alloc, &ONE_MODULE, &MODULE_PREFIXES),
         of_prefixes(alloc, &TWO_TYPES, &TWO_TYPE_PREFIXES),
         of_file_prefixes(alloc),
+        count_built(alloc),
     ]
     .iter()
     .fold((0, 0), |sum, reported| both(sum, *reported))

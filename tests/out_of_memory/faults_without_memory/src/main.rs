@@ -1,7 +1,11 @@
-//! Loads every changed sample, and each prefix of one, whose first fault is known. It does not allocate, so a
-//! load reports its fault even if all memory is refused.
+//! Loads every changed sample, each prefix of one, and roots that are built in place, whose first fault is known. Opens
+//! what has no fault, and looks up rows by key. It does not allocate, so each call returns the same even if all memory
+//! is refused.
 
+mod built_root;
+mod built_roots;
 mod faults;
+mod reported;
 
 use std::process::ExitCode;
 

@@ -1,7 +1,7 @@
 use crate::errors::not_loaded;
 use loading::{LoadError, ToModel, load_image, load_root};
 use one_refusal::{Run, Stop, kept};
-use opening::open_root;
+use opening::{View, open_image, open_root};
 use owned_model::{Cell, Model, TableId, Tables};
 use sample_roots::{ONE_MODULE, image};
 use sample_tables::copy_cell;
@@ -24,14 +24,27 @@ fn of_file(run: &Run, file: &[u8]) -> Result<Model, Stop> {
 }
 
 /// The model of a view, made again where memory was refused.
-fn of_view(run: &Run, root: &[u8]) -> Result<Model, Stop> {
-    let Ok(view) = open_root(root) else {
-        return Err(Stop::Broken("a root that has a model is opened"));
-    };
+fn of_view(run: &Run, view: &View) -> Result<Model, Stop> {
     match view.model(run.alloc) {
         Ok(model) => Ok(model),
         Err(_) => run.again(view.model(run.alloc)),
     }
+}
+
+/// The model of an opened root.
+fn of_opened_root(run: &Run, root: &[u8]) -> Result<Model, Stop> {
+    let Ok(view) = open_root(root) else {
+        return Err(Stop::Broken("a root that has a model is opened"));
+    };
+    of_view(run, &view)
+}
+
+/// The model of an opened file.
+fn of_opened_file(run: &Run, file: &[u8]) -> Result<Model, Stop> {
+    let Ok((_, view)) = open_image(file) else {
+        return Err(Stop::Broken("a file that has a model is opened"));
+    };
+    of_view(run, &view)
 }
 
 /// Copies of cells.
@@ -105,17 +118,21 @@ fn is_made_again(run: &Run, model: &Model) -> Result<(), Stop> {
 pub fn is_loaded(run: &Run, root: &[u8]) -> Result<(), Stop> {
     let model = of_root(run, root)?;
     kept(
-        model == of_view(run, root)?,
+        model == of_opened_root(run, root)?,
         "a view makes the model that is loaded",
     )?;
     is_made_again(run, &model)
 }
 
-/// That the file is loaded, and has the model of its root.
+/// That the file is loaded, by its view too, and has the model of its root.
 pub fn is_file_loaded(run: &Run) -> Result<(), Stop> {
     let file = image();
     let model = of_file(run, &file)?;
     kept(file == image(), "a load leaves its bytes")?;
+    kept(
+        model == of_opened_file(run, &file)?,
+        "a view makes the model that is loaded",
+    )?;
     kept(
         model == of_root(run, &ONE_MODULE)?,
         "a file has the model of its root",

@@ -1,4 +1,4 @@
-//! Every call of `tables`, `loading`, `writer`, `view_writer` and the crates of records that can run out of
+//! Every call of `tables`, `loading`, `writer` and the crates of records that can run out of
 //! memory, once and, if it does, once more.
 
 mod errors;
@@ -37,6 +37,9 @@ fn calls_of(run: &Run, section: u32) -> Result<(), Stop> {
         11 => written::is_prepared_in_place(run, &ONE_MODULE, &ONE_MODULE),
         12 => written::is_prepared_in_place(run, &TWO_TYPES, &TWO_TYPES),
         13 => written::is_prepared_in_place(run, &NAMES_APART, &NAMES_SHARED),
+        14 => loaded_models::is_loaded(run, &NAMES_SHARED),
+        15 => written::is_written(run, &NAMES_SHARED, &NAMES_SHARED),
+        16 => written::is_prepared_in_place(run, &NAMES_SHARED, &NAMES_SHARED),
         _ => Err(Stop::Broken("there is such a section")),
     }
 }

@@ -5,7 +5,6 @@ use opening::open_root;
 use owned_model::Model;
 use std::io;
 use std::io::Write;
-use view_writer::prepare_view;
 use writer::{Counted, Prepared, Sink, WriteError, prepare, write_root, write_root_to};
 
 /// Bytes in place, of which each call takes a few, so that no memory is needed.
@@ -75,8 +74,8 @@ fn prepared_in_place(run: &Run, root: &[u8]) -> Result<Prepared, Stop> {
     let Ok(view) = open_root(root) else {
         return Err(Stop::Broken("a root that has a model is opened"));
     };
-    match prepare_view(run.alloc, &view, 200) {
-        Err(WriteError::Memory) => run.again(prepare_view(run.alloc, &view, 200)),
+    match prepare(run.alloc, &view, 200) {
+        Err(WriteError::Memory) => run.again(prepare(run.alloc, &view, 200)),
         answer => answer.map_err(not_written),
     }
 }

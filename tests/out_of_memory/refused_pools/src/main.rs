@@ -33,6 +33,9 @@ fn calls_of(run: &Run, section: u32) -> Result<(), Stop> {
         7 => module_row::module_after_a_byte(run),
         8 => signature_calls::all_bad(run),
         9 => signature_calls::all_encoded(run),
+        10 => pools::first_byte(run),
+        11 => pools::planned_blobs(run),
+        12 => pools::planned_guids(run),
         _ => Err(Stop::Broken("there is such a section")),
     }
 }

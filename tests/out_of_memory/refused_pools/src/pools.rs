@@ -1,5 +1,9 @@
-use heaps::{BlobPool, GuidPool, PoolError, TextPool, UserHeap, guid_text};
+use heaps::{
+    BlobPool, GuidPool, HeapPlan, PoolError, SortedBlobs, SortedGuids, TextPool, UserHeap, begin,
+    guid_text,
+};
 use one_refusal::{Run, Stop, kept};
+use std::alloc::Global;
 
 /// The planned heap of the texts below: one that another ends with stands in it.
 const TEXTS: [u8; 11] = *b"\0Name\0Game\0";
@@ -112,6 +116,62 @@ pub fn guids(run: &Run) -> Result<(), Stop> {
     )
 }
 
+/// The plan of a heap of blobs.
+fn plan_of_blobs(alloc: Global, blobs: &[&[u8]]) -> Result<HeapPlan, PoolError> {
+    SortedBlobs::sort(alloc, blobs)?.lay_out(alloc)
+}
+
+/// That the planned heap of the same blobs is that, planned again where memory was refused.
+pub fn planned_blobs(run: &Run) -> Result<(), Stop> {
+    let long = [0u8; 128];
+    let blobs = [
+        [0xAA, 0xBB].as_slice(),
+        [].as_slice(),
+        long.as_slice(),
+        [0x01].as_slice(),
+        [0xAA, 0xBB].as_slice(),
+    ];
+    let plan = match plan_of_blobs(run.alloc, &blobs) {
+        Ok(plan) => plan,
+        Err(PoolError::Memory) => run.again(plan_of_blobs(run.alloc, &blobs))?,
+        Err(PoolError::Full) => return Err(Stop::Broken("a small heap is not full")),
+    };
+    kept(
+        plan.indexes() == [1, 0, 4, 134, 1].as_slice(),
+        "the indexes of planned blobs are those",
+    )?;
+    let bytes = plan.bytes();
+    kept(
+        bytes.get(..6) == Some(BLOBS_BEFORE.as_slice())
+            && bytes.get(6..134) == Some(long.as_slice())
+            && bytes.get(134..) == Some(BLOBS_AFTER.as_slice()),
+        "the planned heap of blobs is that",
+    )
+}
+
+/// The plan of a heap of GUIDs.
+fn plan_of_guids(alloc: Global, guids: &[Option<[u8; 16]>]) -> Result<HeapPlan, PoolError> {
+    SortedGuids::sort(alloc, guids)?.lay_out(alloc)
+}
+
+/// That the planned heap of the same GUIDs is that, planned again where memory was refused.
+pub fn planned_guids(run: &Run) -> Result<(), Stop> {
+    let guids = [None, Some([0; 16]), Some([7; 16]), Some([0; 16]), None];
+    let plan = match plan_of_guids(run.alloc, &guids) {
+        Ok(plan) => plan,
+        Err(PoolError::Memory) => run.again(plan_of_guids(run.alloc, &guids))?,
+        Err(PoolError::Full) => return Err(Stop::Broken("a small heap is not full")),
+    };
+    kept(
+        plan.indexes() == [0, 1, 2, 1, 0].as_slice(),
+        "the indexes of planned GUIDs are those",
+    )?;
+    kept(
+        plan.bytes() == GUIDS.as_slice(),
+        "the planned heap of GUIDs is that",
+    )
+}
+
 /// That the filled heap of pushed user strings is that, each pushed again where memory was refused.
 pub fn user_strings(run: &Run) -> Result<(), Stop> {
     let mut heap = UserHeap::new(run.alloc);
@@ -147,4 +207,17 @@ pub fn guid(run: &Run) -> Result<(), Stop> {
         text.as_str() == "03020100-0504-0706-0809-0a0b0c0d0e0f",
         "the text of a GUID is that",
     )
+}
+
+/// That a heap begins with a zero byte, which is appended again where memory was refused; and that a heap which has
+/// bytes is left as it is, and does not allocate.
+pub fn first_byte(run: &Run) -> Result<(), Stop> {
+    let mut heap = Vec::new(run.alloc);
+    if begin(&mut heap).is_err() {
+        kept(heap.is_empty(), "a refused first byte leaves the heap")?;
+        run.again(begin(&mut heap))?;
+    }
+    kept(heap.as_slice() == [0].as_slice(), "the first byte is 0")?;
+    kept(begin(&mut heap).is_ok(), "a heap that has bytes wants no memory")?;
+    kept(heap.as_slice() == [0].as_slice(), "a heap begins once")
 }

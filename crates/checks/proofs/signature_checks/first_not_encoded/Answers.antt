@@ -31,13 +31,14 @@ loop-row-preserved-then-has c =
     let row = c.loop-row.row in
     let number = number_after source c.args.table c.args.column in
     let again : row - 1 + 1 ≡ row = omega arith in
+    let is : c.number-number.result ≡ number_of source c.args.table row c.args.column = c.number-number.ensures ∙ c.column-numbers.ensures.numbers row (omega arith) (omega arith) in
     let P : ℕ → Type 0 = λ number. IsEncoded source (kind.Signature c.args.encoded) number (Ok tt) in
     let here : P c.number-number.result = c.loop-row.invariant.kept c.number-number.result (sym c.has.ensures ∙ c.if-has.true) in
     record {
-      before = one_more P (λ row. number_of source c.args.table row c.args.column) row c.number-number.result c.loop-row.invariant.before c.number-number.ensures.value here;
+      before = one_more P (λ row. number_of source c.args.table row c.args.column) row c.number-number.result c.loop-row.invariant.before is here;
       kept = c.loop-row.invariant.kept;
       walk = row_spared (length source.blobs) (blob_length source.blobs) number row c.loop-row.auto.row c.args.budget.now c.loop-row.budget c.loop-row.accepted
-          c.number-number.result c.loop-row.invariant.walk.0 c.loop-row.invariant.walk.1 (rw again c.number-number.ensures.value) (sym c.has.ensures ∙ c.if-has.true);
+          c.number-number.result c.loop-row.invariant.walk.0 c.loop-row.invariant.walk.1 (rw again is) (sym c.has.ensures ∙ c.if-has.true);
     }
 
 pub loop-row-preserved : goal.loop-row-preserved
@@ -46,15 +47,16 @@ loop-row-preserved c =
     let row = c.loop-row.row in
     let number = number_after source c.args.table c.args.column in
     let again : row - 1 + 1 ≡ row = omega arith in
+    let is : c.number-number.result ≡ number_of source c.args.table row c.args.column = c.number-number.ensures ∙ c.column-numbers.ensures.numbers row (omega arith) (omega arith) in
     let found = rw c.blobs-heap.ensures at c.in-Ok.ensures.sound in
     let P : ℕ → Type 0 = λ number. IsEncoded source (kind.Signature c.args.encoded) number (Ok tt) in
     let here : P c.number-number.result = c.in-Ok-check_blob.ensures c.number-number.result found in
     let walk = row_walked (length source.blobs) (blob_length source.blobs) number row c.loop-row.auto.row c.args.budget.now c.loop-row.budget c.loop-row.accepted
-    c.number-number.result c.loop-row.invariant.walk.0 c.loop-row.invariant.walk.1 (rw again c.number-number.ensures.value)
+    c.number-number.result c.loop-row.invariant.walk.0 c.loop-row.invariant.walk.1 (rw again is)
     c.spend.new.self (length c.in-Ok.blob.now) (sym c.has.ensures ∙ c.if-has.false)
     (sym (blob_is c.numbers_are_read.ensures.unsigned_only source.blobs c.number-number.result c.in-Ok.blob.now found)) c.in_ok-spend.ensures.takes in
     record {
-      before = one_more P (λ row. number_of source c.args.table row c.args.column) row c.number-number.result c.loop-row.invariant.before c.number-number.ensures.value here;
+      before = one_more P (λ row. number_of source c.args.table row c.args.column) row c.number-number.result c.loop-row.invariant.before is here;
       kept = λ other keeps. elim (c.keep.ensures.nothing_else other keeps) [
         | inl same ↦ subst P (sym same) here
         | inr before ↦ c.loop-row.invariant.kept other before
@@ -71,9 +73,10 @@ returns-in_err-spend-clause-spent c =
     let row = c.loop-row.row in
     let number = number_after source c.args.table c.args.column in
     let again : row - 1 + 1 ≡ row = omega arith in
+    let is : c.number-number.result ≡ number_of source c.args.table row c.args.column = c.number-number.ensures ∙ c.column-numbers.ensures.numbers row (omega arith) (omega arith) in
     let found = rw c.blobs-heap.ensures at c.in-Ok.ensures.sound in
     rw c.from_residual.ensures (row_refused (length source.blobs) (blob_length source.blobs) number row c.loop-row.auto.row c.args.budget.now c.loop-row.budget c.loop-row.accepted
-    c.number-number.result c.loop-row.invariant.walk.0 c.loop-row.invariant.walk.1 (rw again c.number-number.ensures.value)
+    c.number-number.result c.loop-row.invariant.walk.0 c.loop-row.invariant.walk.1 (rw again is)
     (length c.in-Ok.blob.now) (c.args.limit - 1) (sym c.has.ensures ∙ c.if-has.false)
     (sym (blob_is c.numbers_are_read.ensures.unsigned_only source.blobs c.number-number.result c.in-Ok.blob.now found)) (omega arith) c.in_err-spend.ensures.spent)
 
@@ -83,9 +86,10 @@ returns-in-Err-clause-walked c =
     let row = c.loop-row.row in
     let number = number_after source c.args.table c.args.column in
     let again : row - 1 + 1 ≡ row = omega arith in
+    let is : c.number-number.result ≡ number_of source c.args.table row c.args.column = c.number-number.ensures ∙ c.column-numbers.ensures.numbers row (omega arith) (omega arith) in
     let found = rw c.blobs-heap.ensures at c.in-Ok.ensures.sound in
     let walk = row_walked (length source.blobs) (blob_length source.blobs) number row c.loop-row.auto.row c.args.budget.now c.loop-row.budget c.loop-row.accepted
-    c.number-number.result c.loop-row.invariant.walk.0 c.loop-row.invariant.walk.1 (rw again c.number-number.ensures.value)
+    c.number-number.result c.loop-row.invariant.walk.0 c.loop-row.invariant.walk.1 (rw again is)
     c.spend.new.self (length c.in-Ok.blob.now) (sym c.has.ensures ∙ c.if-has.false)
     (sym (blob_is c.numbers_are_read.ensures.unsigned_only source.blobs c.number-number.result c.in-Ok.blob.now found)) c.in_ok-spend.ensures.takes in
     (row + 1 - 1, omega arith, omega arith, omega arith, walk.1)

@@ -1,5 +1,6 @@
 use Rattle.std.proofs.Common.{◌≡◌, ℕ, ◌+◌, ◌-◌, ◌*◌, ◌<◌, ◌≤◌, ◌==◌, ◌↔◌, List, length, sym, ◌∙◌, subst, arith, ⊎_elim}
 use Rattle.std.proofs.lemmas.Bool.{cases_lt}
+use Rattle.std.proofs.lemmas.Grind.{not_there}
 use Rattle.std.specs.List.Sorted.{IsStrictlyIncreasing}
 use Rattle.std.specs.List.{Contains}
 use Rattle.metadata.specs.Lookups.{HasRow, HasKey}
@@ -23,7 +24,7 @@ rising numbers number rows found =
 
 pub search-requires : goal.search-requires
 search-requires g c = λ i j d low high.
-    at_most _ _ (λ not. c.holds_one.ensures.shown (λ some.
+    at_most _ _ (λ not. not_there c.holds_one.ensures.shown (λ some.
     let model = some.0 in
     let keys = c.holds_one.ensures.keys model some.1 c.args.table c.key_cell-cell.result in
     let rise = keys_rise model c.args.table c.key_cell-cell.result c.key_cell-cell.ensures c.args.token _ _ (c.holds_one.ensures.rows model some.1 c.args.table)

@@ -16,7 +16,7 @@ returns-clause-reported c =
     let begins : c.begins_method.result ≡ true = search rules in
     let code = c.in_ok-code.code in
     let count = c.in_ok-count.count in
-    rw (c.calling_convention.ensures, c.has_this.ensures, c.has_explicit_this.ensures)
+    rw (c.in_first_byte.ensures, c.has_this.ensures, c.has_explicit_this.ensures)
     (ap (item_then (method_head (code % 16) (eqb (code / 32 % 2) 1) (eqb (code / 64 % 2) 1) c.in_ok-generic.generic count))
     (next_joined c.params.result (position.Ret c.args.depth) (params_reported count c.takes_sentinel.result c.args.depth) c.in_ok-count.tail.now c.params.ensures.reported)
     ∙ sym (method_is c.args.own c.takes_sentinel.result c.args.depth code count c.args.bytes.now c.in_ok-code.tail.now c.in_ok-generic.tail.now c.in_ok-count.tail.now c.in_ok-generic.generic c.in_ok-code.ensures

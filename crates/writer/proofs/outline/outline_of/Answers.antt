@@ -1,21 +1,25 @@
-use Rattle.std.proofs.Common.{ap, ◌∙◌, arith, length}
-use Rattle.heap_entries.specs.Padding.{zero_padded}
-use Rattle.writer.proofs.PaddingLemmas.{padded_is}
+use Rattle.std.proofs.Common.{ap, sym, ◌∙◌, arith, length}
+use Rattle.std.proofs.Math.Logic.{∥∥₁_elim}
+use Rattle.std.specs.Coded.{le_prop}
+use Rattle.writer.proofs.PaddingLemmas.{padding_adds}
 use Rattle.writer.proofs.outline.outline_of.Goals as goal
 
 pub invariant_of-result : goal.invariant_of-result
-invariant_of-result c =
-    let valid = c.tables-tables.ensures.valid in
+invariant_of-result g c =
+    let has = c.holds_one.ensures.shown in
+    let valid = c.holds_one.ensures.valid in
     record {
-      short = omega (arith, ap length c.version.ensures, valid.version.short);
-      small = omega (arith, ap length c.user.ensures, valid.user.small);
-      few = λ table. omega (arith, c.counts.ensures table, valid.few table);
+      short = ∥∥₁_elim has le_prop (λ some. omega (arith, ap length (c.version.ensures some.0 some.1), (valid some.0 some.1).version.short));
+      small = ∥∥₁_elim has le_prop (λ some.
+          omega (arith, ap length (c.user.ensures some.0 some.1), padding_adds c.user.result.now, (valid some.0 some.1).user.small));
+      few = λ table. ∥∥₁_elim has le_prop (λ some.
+          omega (arith, c.counts.ensures table, c.holds_one.ensures.rows some.0 some.1 table, (valid some.0 some.1).few table));
     }
 
 pub returns : goal.returns
-returns c = record {
-  version = c.version.ensures;
-  user = ap zero_padded c.user.ensures ∙ padded_is c.args.model.now.user c.tables-tables.ensures.valid.user.zero_padded;
-  counts = c.counts.ensures;
-  sorted = c.sorted.ensures;
+returns g c model is = record {
+  version = c.version.ensures model is;
+  user = c.user.ensures model is;
+  counts = λ table. c.counts.ensures table ∙ sym (c.holds_one.ensures.rows model is table);
+  sorted = c.sorted.ensures model is;
 }

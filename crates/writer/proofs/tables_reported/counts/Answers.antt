@@ -2,28 +2,27 @@ use Rattle.std.proofs.Common.{◌<◌, arith, ◌∙◌, ap, get_or, List, lengt
 use Rattle.table_schema.specs.declared.table.TableId.{TableId}
 use Rattle.table_schema.specs.declared.table.TableId.TheVariants.{Module}
 use Rattle.table_schema.specs.Tables.{table_number}
-use Rattle.metadata.specs.Metadata.{count_in}
 use Rattle.writer.proofs.CountLemmas.{TheyStand, table_kept, tables_kept}
 use Rattle.writer.proofs.tables_reported.counts.Goals as goal
 
 pub loop-table-preserved : goal.loop-table-preserved
-loop-table-preserved c =
+loop-table-preserved g c =
     let stand = c.tables_stand.ensures in
     let they : TheyStand = record { count = stand.count; table_index = stand.table_index; number = stand.number; stand = stand.stand; rise = stand.rise } in
-    let model = c.args.model.now in
+    let root = c.args.source.now in
     let before = c.loop-table.invariant in
     let here = ap (λ (listed : List TableId). get_or listed c.loop-table.table-index Module) c.all-table-items.ensures.value in
     let number = c.number.ensures.value ∙ ap table_number here in
     let below : c.loop-table.table-index < 38 = omega (arith, c.loop-table-test.true, ap length c.all-table-items.ensures.value, stand.count) in
     record {
       room = length-set _ _ _ ∙ before.room;
-      each = table_kept they (count_in model) c.loop-table.counts c.loop-table.table-index c.number.result c.count.result below before.room number
-          (c.count.ensures.value ∙ ap (count_in model) here) before.each;
+      each = table_kept they (g.S.ReadMetadata.row_count root) c.loop-table.counts c.loop-table.table-index c.number.result c.count.result below before.room number
+          (c.count.ensures.rows ∙ ap (g.S.ReadMetadata.row_count root) here) before.each;
     }
 
 pub returns : goal.returns
-returns c =
+returns g c =
     let stand = c.tables_stand.ensures in
     let they : TheyStand = record { count = stand.count; table_index = stand.table_index; number = stand.number; stand = stand.stand; rise = stand.rise } in
-    tables_kept they (count_in c.args.model.now) c.loop-table.counts
+    tables_kept they (g.S.ReadMetadata.row_count c.args.source.now) c.loop-table.counts
     (λ k h. c.loop-table.invariant.each k (omega (arith, h, c.loop-table-test.false, ap length c.all-table-items.ensures.value, stand.count)))

@@ -1,11 +1,10 @@
 use Rattle.std.proofs.Common.{◌≡◌, ℕ, ◌<◌, length, get_or}
 use Rattle.table_schema.specs.declared.table.TableId.TheVariants.{Module}
 use Rattle.table_schema.specs.Tables.{table_number, tables}
-use Rattle.metadata.specs.Metadata.{count_in}
 use Rattle.writer.proofs.tables_reported.counts.Given as goal
 
 abbrev pub invariant-loop-table : goal.invariant-loop-table
-invariant-loop-table l = record {
+invariant-loop-table g l = record {
   room : length l.counts ≡ 45;
-  each : (k : ℕ) → k < l.table-index → get_or l.counts (table_number (get_or tables k Module)) 0 ≡ count_in l.model (get_or tables k Module);
+  each : (k : ℕ) → k < l.table-index → get_or l.counts (table_number (get_or tables k Module)) 0 ≡ g.S.ReadMetadata.row_count l.source (get_or tables k Module);
 }

@@ -4,13 +4,13 @@ use Rattle.writer.proofs.CountLemmas.{unkeyed, keyed}
 use Rattle.writer.proofs.tables_reported.is_sorted.Goals as goal
 
 pub in_order-requires : goal.in_order-requires
-in_order-requires c = subst IsSome c.key.ensures.value (sym c.is_some.ensures ∙ c.if-is_some.true)
+in_order-requires g c = subst IsSome c.key.ensures.value (sym c.is_some.ensures ∙ c.if-is_some.true)
 
 pub returns-then-is_some : goal.returns-then-is_some
-returns-then-is_some c =
-    keyed c.sorted_bits_report_order.ensures c.args.model.now c.requires c.args.table c.key.result c.key.ensures.value (sym c.is_some.ensures ∙ c.if-is_some.true)
-    c.in_order.result c.in_order.ensures
+returns-then-is_some g c model is =
+    keyed c.sorted_bits_report_order.ensures model (c.holds_one.ensures.valid model is) c.args.table c.key.result c.key.ensures.value
+    (sym c.is_some.ensures ∙ c.if-is_some.true) c.in_order.result (c.in_order.ensures model is)
 
 pub returns-else-is_some : goal.returns-else-is_some
-returns-else-is_some c =
-    c.if-is_some.false ∙ unkeyed c.args.model.now c.args.table c.key.result c.key.ensures.value (sym c.is_some.ensures ∙ c.if-is_some.false)
+returns-else-is_some g c model is =
+    c.if-is_some.false ∙ unkeyed model c.args.table c.key.result c.key.ensures.value (sym c.is_some.ensures ∙ c.if-is_some.false)

@@ -1,9 +1,10 @@
 use Rattle.std.proofs.Common.{◌≡◌, ◌+◌, drop}
 use Rattle.table_schema.specs.Tables.{tables}
 use Rattle.schema.specs.LaidOut.{bits_of}
+use Rattle.metadata.specs.Metadata.{Metadata}
 use Rattle.canonical.specs.TableStream.{is_sorted}
 use Rattle.writer.proofs.tables_reported.sorted.Given as goal
 
 -- together with the bits of the tables that are left this is the whole
 abbrev pub invariant-loop-table : goal.invariant-loop-table
-invariant-loop-table l = l.sorted + bits_of (is_sorted l.model) (drop l.table-index tables) ≡ bits_of (is_sorted l.model) tables
+invariant-loop-table g l = (model : Metadata) → g.S.ReadMetadata.shows l.source model → l.sorted + bits_of (is_sorted model) (drop l.table-index tables) ≡ bits_of (is_sorted model) tables

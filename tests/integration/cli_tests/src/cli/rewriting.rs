@@ -58,7 +58,7 @@ fn leaves_what_it_does_not_write(rt: HostRuntime) -> Result<(), Fail> {
             &rt,
             &bare("lacks", "kept.root"),
             3,
-            "error: cannot read lacks\n"
+            "error: cannot read lacks\n  reason: no such file\n"
         )?
     );
     assert_eq!(rt; fs::read(&rt, "kept.root")?.as_slice(), b"kept".as_slice());
@@ -75,10 +75,13 @@ fn leaves_what_it_does_not_write(rt: HostRuntime) -> Result<(), Fail> {
 fn reports_what_it_cannot_write(rt: HostRuntime) -> Result<(), Fail> {
     fs::write(&rt, "whole.root", ONE_MODULE.as_slice())?;
     for (out, reported) in [
-        ("nowhere/out.root", "error: cannot write nowhere/out.root\n"),
-        ("/dev/full", "error: cannot write /dev/full\n"),
-        (".", "error: cannot write .\n"),
-        ("", "error: cannot write \n"),
+        ("nowhere/out.root", "error: cannot write nowhere/out.root\n  reason: no such file\n"),
+        (
+            "/dev/full",
+            "error: cannot write /dev/full\n  reason: no space left\n",
+        ),
+        (".", "error: cannot write .\n  reason: a directory\n"),
+        ("", "error: cannot write \n  reason: no such file\n"),
     ] {
         assert!(rt; ends(&rt, &bare("whole.root", out), 3, reported)?, "{out}");
     }

@@ -138,7 +138,18 @@ fn helps(rt: HostRuntime) -> Result<(), Fail> {
     ];
     assert!(rt; prints(&rt, &["clim", "--help"], &texts)?);
     assert!(rt; prints(&rt, &["clim", "help"], &texts)?);
-    assert!(rt; prints(&rt, &["clim", "--version"], &["clim 0.1.0\n"])?);
+    Ok(())
+}
+
+#[test]
+fn prints_a_version_of_three_numbers(rt: HostRuntime) -> Result<(), Fail> {
+    let (status, out, err) = answer(&rt, &["clim", "--version"])?;
+    assert!(rt; status == 0 && err.is_empty());
+    let version = out.trim().strip_prefix("clim ").expect(&rt, "clim and its version");
+    assert!(rt; version.split('.').count() == 3);
+    for number in version.split('.') {
+        assert!(rt; number.parse::<u32>().is_ok());
+    }
     Ok(())
 }
 

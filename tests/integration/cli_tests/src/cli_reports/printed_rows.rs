@@ -195,6 +195,6 @@ fn refuses_what_is_no_token(rt: HostRuntime) -> Result<(), Fail> {
     }
     let (status, _, err) = answer(&rt, &["clim", "token", "lacks", "1"])?;
     assert_eq!(rt; status, 3);
-    assert_eq!(rt; err.as_str(), "error: cannot read lacks\n");
+    assert_eq!(rt; err.as_str(), "error: cannot read lacks\n  reason: no such file\n");
     Ok(())
 }

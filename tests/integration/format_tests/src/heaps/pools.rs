@@ -1,5 +1,5 @@
 use crate::heaps::GUIDS;
-use heaps::{BlobPool, GuidPool, PoolError, TextPool};
+use heaps::{BlobPool, GuidPool, PoolError, SortedBlobs, SortedGuids, SortedTexts, TextPool};
 use std::alloc::Global;
 use std::test::Fail;
 
@@ -53,6 +53,52 @@ fn reports_indexes_by_offset(rt: HostRuntime) -> Result<(), Fail> {
     assert!(rt; pool.indexes() == [3, 1, 6, 2].as_slice());
     let pool = TextPool::plan(rt.alloc(), &["", ""])?;
     assert!(rt; pool.indexes() == [0, 0].as_slice());
+    Ok(())
+}
+
+#[test]
+fn lays_out_sorted_texts(rt: HostRuntime) -> Result<(), Fail> {
+    let texts = ["dll", "", "a.dll", "dll"];
+    let sorted = SortedTexts::sort(rt.alloc(), &texts)?;
+    for _ in 0..2 {
+        let pool = sorted.lay_out(rt.alloc())?;
+        assert!(rt; pool.indexes() == [3, 0, 1, 3].as_slice());
+        assert!(rt; pool.bytes() == b"\0a.dll\0".as_slice());
+    }
+    Ok(())
+}
+
+#[test]
+fn lays_out_sorted_blobs(rt: HostRuntime) -> Result<(), Fail> {
+    let long = [0; 128];
+    let blobs = [
+        [0xAA, 0xBB].as_slice(),
+        [].as_slice(),
+        long.as_slice(),
+        [0x01].as_slice(),
+        [0xAA, 0xBB].as_slice(),
+        [0xBB].as_slice(),
+    ];
+    let plan = SortedBlobs::sort(rt.alloc(), &blobs)?.lay_out(rt.alloc())?;
+    assert!(rt; plan.indexes() == [1, 0, 4, 134, 1, 136].as_slice());
+    assert!(rt; plan.bytes().starts_with(&[0x00, 0x02, 0xAA, 0xBB, 0x80, 0x80, 0x00]));
+    assert!(rt; plan.bytes().ends_with(&[0x00, 0x01, 0x01, 0x01, 0xBB]));
+    assert_eq!(rt; plan.bytes().len(), 138);
+    let nothing = [[].as_slice(), [].as_slice()];
+    let plan = SortedBlobs::sort(rt.alloc(), &nothing)?.lay_out(rt.alloc())?;
+    assert!(rt; plan.bytes().is_empty());
+    assert!(rt; plan.indexes() == [0, 0].as_slice());
+    Ok(())
+}
+
+#[test]
+fn lays_out_sorted_guids(rt: HostRuntime) -> Result<(), Fail> {
+    let guids = [Some([7; 16]), None, Some([0; 16]), Some([7; 16])];
+    let plan = SortedGuids::sort(rt.alloc(), &guids)?.lay_out(rt.alloc())?;
+    assert!(rt; plan.indexes() == [1, 0, 2, 1].as_slice());
+    assert_eq!(rt; plan.bytes().len(), 32);
+    assert!(rt; plan.bytes().starts_with(&[7; 16]));
+    assert!(rt; plan.bytes().ends_with(&[0; 16]));
     Ok(())
 }
 

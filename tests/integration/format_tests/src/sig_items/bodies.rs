@@ -1,5 +1,5 @@
 use crate::sig_items::collected::{OPTIONAL_FIRST, REQUIRED_FIRST, REQUIRED_SECOND, reported};
-use sig_items::{Item, MethodHead, SigKind};
+use sig_items::{CallingConvention, Item, MethodHead, SigKind};
 use sig_values::Element;
 use std::test::Fail;
 
@@ -35,7 +35,7 @@ const BODIES: [Reported; 14] = [
         &[0x00, 0x00, 0x01],
         &[
             Item::Method(MethodHead {
-                kind: 0,
+                convention: CallingConvention::Default,
                 this: false,
                 explicit: false,
                 generic: None,
@@ -51,7 +51,7 @@ const BODIES: [Reported; 14] = [
         ],
         &[
             Item::Method(MethodHead {
-                kind: 0,
+                convention: CallingConvention::Default,
                 this: true,
                 explicit: true,
                 generic: Some(2),
@@ -72,7 +72,7 @@ const BODIES: [Reported; 14] = [
         &[0x05, 0x03, 0x01, 0x41, 0x08, 0x0E, 0x0C],
         &[
             Item::Method(MethodHead {
-                kind: 5,
+                convention: CallingConvention::VarArg,
                 this: false,
                 explicit: false,
                 generic: None,
@@ -90,7 +90,7 @@ const BODIES: [Reported; 14] = [
         &[0x01, 0x03, 0x01, 0x08, 0x0E, 0x41, 0x0C],
         &[
             Item::Method(MethodHead {
-                kind: 1,
+                convention: CallingConvention::C,
                 this: false,
                 explicit: false,
                 generic: None,
@@ -108,7 +108,7 @@ const BODIES: [Reported; 14] = [
         &[0x25, 0x01, 0x08, 0x0E],
         &[
             Item::Method(MethodHead {
-                kind: 5,
+                convention: CallingConvention::VarArg,
                 this: true,
                 explicit: false,
                 generic: None,

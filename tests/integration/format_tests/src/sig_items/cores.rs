@@ -1,12 +1,12 @@
 use crate::sig_items::collected::{FIRST, OPTIONAL_SECOND, REQUIRED_FIRST, SECOND, reported};
 use schema::{TableId, Token};
-use sig_items::{Item, MethodHead, SigKind};
+use sig_items::{CallingConvention, Item, MethodHead, SigKind};
 use sig_values::Element;
 use std::test::Fail;
 
 /// The head of a method without parameters.
 const NO_PARAMETERS: Item = Item::Method(MethodHead {
-    kind: 0,
+    convention: CallingConvention::Default,
     this: false,
     explicit: false,
     generic: None,
@@ -15,7 +15,7 @@ const NO_PARAMETERS: Item = Item::Method(MethodHead {
 
 /// The head of a method with a parameter.
 const ONE_PARAMETER: Item = Item::Method(MethodHead {
-    kind: 0,
+    convention: CallingConvention::Default,
     this: false,
     explicit: false,
     generic: None,
@@ -24,7 +24,7 @@ const ONE_PARAMETER: Item = Item::Method(MethodHead {
 
 /// The head of a method with two parameters, that may have a SENTINEL.
 const TWO_PARAMETERS: Item = Item::Method(MethodHead {
-    kind: 5,
+    convention: CallingConvention::VarArg,
     this: false,
     explicit: false,
     generic: None,

@@ -30,7 +30,7 @@ pub struct RefusedBlob {
 }
 
 /// Every form of a type (II.23.2.12), and every element type (II.23.1.16).
-pub const CORES: [CoreBlob; 47] = [
+pub const CORES: [CoreBlob; 49] = [
     // Each element type that stands alone.
     CoreBlob {
         bytes: &[0x02],
@@ -134,10 +134,18 @@ pub const CORES: [CoreBlob; 47] = [
         shown: "Array(TypeSig { mods: [], core: Simple(R8) }, Shape { rank: 3, sizes: [2, 0, 128], low: [0, -3, 3] })",
     },
     CoreBlob {
+        bytes: &[0x14, 0x08, 0x02, 0x00, 0x02, 0x00, 0x00],
+        shown: "Array(TypeSig { mods: [], core: Simple(I4) }, Shape { rank: 2, sizes: [], low: [0, 0] })",
+    },
+    CoreBlob {
         bytes: &[0x14, 0x1F, 0x05, 0x08, 0x02, 0x01, 0x05, 0x01, 0x01],
         shown: "Array(TypeSig { mods: [Modifier { required: true, of: Token { table: TypeRef, row: 1 } }], core: Simple(I4) }, Shape { rank: 2, sizes: [5], low: [-64] })",
     },
-    // Low bounds on both sides of the limits of their forms.
+    // Low bounds: a small one below 0, and those on both sides of the limits of their forms.
+    CoreBlob {
+        bytes: &[0x14, 0x08, 0x01, 0x00, 0x01, 0x7B],
+        shown: "Array(TypeSig { mods: [], core: Simple(I4) }, Shape { rank: 1, sizes: [], low: [-3] })",
+    },
     CoreBlob {
         bytes: &[0x14, 0x08, 0x01, 0x00, 0x01, 0x7E],
         shown: "Array(TypeSig { mods: [], core: Simple(I4) }, Shape { rank: 1, sizes: [], low: [63] })",
@@ -235,7 +243,7 @@ pub const CORES: [CoreBlob; 47] = [
 ];
 
 /// Every form of a signature (II.23.2).
-pub const BODIES: [BodyBlob; 33] = [
+pub const BODIES: [BodyBlob; 36] = [
     // Fields: of an integer, of a reference with its type, and of a reference after three modifiers and one.
     BodyBlob {
         kind: SigKind::Field,
@@ -323,6 +331,12 @@ pub const BODIES: [BodyBlob; 33] = [
         ],
         shown: "Method(MethodSig { kind: 0, this: true, explicit: true, generic: Some(2), ret: Void([Modifier { required: true, of: Token { table: TypeRef, row: 2 } }]), params: [Slot { mods: [Modifier { required: false, of: Token { table: TypeSpec, row: 1 } }], kind: Plain(Simple(I4)) }, Slot { mods: [], kind: ByRef([], Simple(R4)) }, Slot { mods: [], kind: TypedRef }], sentinel: None })",
     },
+    // SENTINEL in a function pointer, which is the result of a method that has none of its own.
+    BodyBlob {
+        kind: SigKind::MethodDef,
+        bytes: &[0x00, 0x00, 0x1B, 0x05, 0x01, 0x01, 0x41, 0x08],
+        shown: "Method(MethodSig { kind: 0, this: false, explicit: false, generic: None, ret: Slot(Slot { mods: [], kind: Plain(Function(MethodSig { kind: 5, this: false, explicit: false, generic: None, ret: Void([]), params: [Slot { mods: [], kind: Plain(Simple(I4)) }], sentinel: Some(0) })) }), params: [], sentinel: None })",
+    },
     // SENTINEL before each of three parameters, before none, and in a method of the kind C.
     BodyBlob {
         kind: SigKind::MemberRef,
@@ -360,6 +374,12 @@ pub const BODIES: [BodyBlob; 33] = [
         bytes: &[0x08, 0x03, 0x0E, 0x08, 0x0C, 0x0D],
         shown: "Property(PropertySig { this: false, of: Slot { mods: [], kind: Plain(Simple(String)) }, params: [Slot { mods: [], kind: Plain(Simple(I4)) }, Slot { mods: [], kind: Plain(Simple(R4)) }, Slot { mods: [], kind: Plain(Simple(R8)) }] })",
     },
+    // Local variables: two, the second pinned and by reference.
+    BodyBlob {
+        kind: SigKind::StandAlone,
+        bytes: &[0x07, 0x02, 0x08, 0x45, 0x10, 0x08],
+        shown: "Locals(LocalsSig([Local { prefix: [], kind: Plain(Simple(I4)) }, Local { prefix: [Pinned], kind: ByRef([], Simple(I4)) }]))",
+    },
     // Local variables: none, three, the last of them after PINNED between modifiers, and one by reference.
     BodyBlob {
         kind: SigKind::StandAlone,
@@ -378,7 +398,12 @@ pub const BODIES: [BodyBlob; 33] = [
         bytes: &[0x07, 0x01, 0x10, 0x1F, 0x09, 0x08],
         shown: "Locals(LocalsSig([Local { prefix: [], kind: ByRef([Modifier { required: true, of: Token { table: TypeRef, row: 2 } }], Simple(I4)) }]))",
     },
-    // Type arguments: none, and three.
+    // Type arguments: one, none, and three.
+    BodyBlob {
+        kind: SigKind::Instance,
+        bytes: &[0x0A, 0x01, 0x08],
+        shown: "Instance(InstanceSig([TypeSig { mods: [], core: Simple(I4) }]))",
+    },
     BodyBlob {
         kind: SigKind::Instance,
         bytes: &[0x0A, 0x00],

@@ -77,6 +77,15 @@ fn types_that_nothing_encodes_are_returned(rt: HostRuntime) -> Result<(), Fail> 
     Ok(())
 }
 
+/// A body of 1,000 nested types is built, returned, and dropped in the stack that there is.
+#[test]
+fn types_that_nest_deep_are_returned_and_dropped(rt: HostRuntime) -> Result<(), Fail> {
+    let refused = Signature::new(vectors(rt.alloc(), 1000)?);
+    assert!(rt; refused.is_err());
+    drop(refused);
+    Ok(())
+}
+
 /// An encoding follows the bytes that there are, if there is room for it.
 #[test]
 fn encodings_follow_bytes(rt: HostRuntime) -> Result<(), Fail> {

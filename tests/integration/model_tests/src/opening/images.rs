@@ -1,7 +1,7 @@
 use crate::reports::fault_of_image;
 use crate::opening::samples::is_same_module;
 use opening::{open_image, open_root, read_heads};
-use sample_roots::{ONE_MODULE, TWO_TYPES, changed, image, write_at};
+use sample_roots::{ONE_MODULE, TWO_TYPES, changed, image, wider_image, write_at};
 use std::alloc::Global;
 use std::test::Fail;
 
@@ -68,19 +68,7 @@ fn offsets_of_faults_count_in_the_file(rt: HostRuntime) -> Result<(), Fail> {
 
 #[test]
 fn shows_the_same_of_a_wider_image(rt: HostRuntime) -> Result<(), Fail> {
-    let mut wider = image();
-    for (offset, part) in [
-        (0x094, b"\xF0\0".as_slice()),
-        (0x098, b"\x0B\x02"),
-        (0x0F4, b"\0\0\0\0"),
-        (0x104, b"\x10\0\0\0"),
-        (0x168, b"\0\0\0\0\0\0\0\0"),
-        (0x178, b"\x08\x20\0\0\x48\0\0\0"),
-        (0x184, b"\0\0\0\0\0\0\0\0\0\0\0\0"),
-        (0x194, b"\0\x20\0\0\0\x02\0\0\0\x02\0\0"),
-    ] {
-        write_at(&mut wider, offset, part);
-    }
+    let wider = wider_image();
     let (header, view) = open_image(wider.as_slice())?;
     assert_eq!(rt; header.root, 592..736);
     assert!(rt; is_same_module(&view, &open_root(&ONE_MODULE)?));

@@ -85,3 +85,11 @@ fn a_changed_byte_shows(rt: HostRuntime) -> Result<(), Fail> {
     assert_eq!(rt; module_cell(&view, 2), Some(CellRef::Guid(Some(over))));
     Ok(())
 }
+
+#[test]
+fn a_clone_shows_the_same(rt: HostRuntime) -> Result<(), Fail> {
+    let view = open_root(&ONE_MODULE)?;
+    let clone = view.clone()?;
+    assert!(rt; is_same_module(&view, &clone));
+    Ok(())
+}

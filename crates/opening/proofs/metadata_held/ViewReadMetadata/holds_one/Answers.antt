@@ -1,9 +1,8 @@
-use Rattle.std.proofs.lemmas.Grind.{not_there}
 use Rattle.opening.specs.Views.{row_count}
 use Rattle.opening.proofs.metadata_held.ViewReadMetadata.holds_one.Goals as goal
 
 pub returns-clause-shown : goal.returns-clause-shown
-returns-clause-shown c = λ none. not_there c.root-root.ensures.model (λ some. none some)
+returns-clause-shown c = c.root-root.ensures.model
 
 pub returns-clause-valid : goal.returns-clause-valid
 returns-clause-valid c = λ model is. c.models_of_roots_are_valid.ensures c.args.self.now model is

@@ -1,0 +1,24 @@
+use Rattle.std.proofs.Common.{ℕ, ◌≤◌, ◌*◌, ap, length, get_or, arith}
+use Rattle.std.proofs.Math.Nat.{mul-le-mul_left, mul-le-mul_right}
+use Rattle.table_schema.specs.declared.table.TableId.TheVariants.{Module}
+use Rattle.cell_numbering.proofs.numbers.count_numbers.Given.{Over}
+use Rattle.cell_numbering.proofs.numbers.count_numbers.Goals as goal
+
+-- a table with at most 9 columns and 0xFFFFFF rows has at most 150994935 numbers
+cells_low : (columns count : ℕ) → columns ≤ 9 → count ≤ 0xFFFFFF → columns * count ≤ 150994935
+cells_low columns count few rows = omega (arith, mul-le-mul_right count few, mul-le-mul_left 9 rows)
+
+few_here : (g : Over) (c : goal.After-count g) → length c.columns.result.now * c.count.result ≤ 150994935
+few_here g c =
+    let table = get_or c.all-table-items.result.now c.loop-table.table-index Module in
+    cells_low (length c.columns.result.now) c.count.result (omega (arith, ap length c.columns.ensures, c.columns_stand.ensures.few table))
+    (omega (arith, c.count.ensures.limit))
+
+pub overflow_mul-count : goal.overflow_mul-count
+overflow_mul-count g c = omega (arith, few_here g c)
+
+pub overflow_add-count : goal.overflow_add-count
+overflow_add-count g c = omega (arith, few_here g c, c.loop-table.invariant, c.loop-table.auto.table-index-end, c.all-table-items.ensures.count)
+
+pub loop-table-preserved : goal.loop-table-preserved
+loop-table-preserved g c = omega (arith, few_here g c, c.loop-table.invariant)

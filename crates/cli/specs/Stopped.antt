@@ -1,0 +1,15 @@
+-- The lines that report why a run stopped early.
+use Rattle.std.specs.Prelude.{ℕ, List, ◌∷◌, [], ◌++◌, Option, Some, None}
+use Rattle.cli_reports.specs.Stops.{stop_text}
+use Rattle.cli.specs.Hints.{hint_text}
+use Rattle.cli.specs.declared.hint.Hint.{Hint}
+use Rattle.cli.specs.declared.stopped.Stopped.{Stopped}
+
+-- a line feed and the line of a hint, if there is one
+abbrev hint_line : Option Hint → List ℕ
+hint_line (Some hint) = 10 ∷ hint_text hint
+hint_line None = []
+
+-- the line of the stop, and then that of the hint if there is one, without the last line feed
+abbrev pub stopped_text : Stopped → List ℕ
+stopped_text stopped = stop_text stopped.stop ++ hint_line stopped.hint

@@ -1,0 +1,68 @@
+//! Why a run stopped early, and what the user may have meant.
+ghost use Rattle.std.specs.Prelude.{◌≡◌, ◌↔◌, IfErr, IsOk, None, Some};
+ghost use Rattle.cli.specs.Hints.{hint_for};
+ghost use Rattle.cli.specs.Stopped.{stopped_text};
+ghost use Rattle.cli_reports.specs.declared.stop.Stop.TheVariants.{Failed};
+
+use crate::hint::{Hint, hint_of};
+use cli_faults::Failure;
+use cli_reports::Stop;
+use std::fmt;
+
+/// Why a run stopped early, and what the user may have meant. `Display` gives the lines for standard error, without the
+/// last line feed: first that of the stop.
+#[derive(Clone, Copy, Debug, PartialEq, Eq)]
+pub(crate) struct Stopped<'a> {
+    /// Why it stopped.
+    pub(crate) stop: Stop<'a>,
+    /// What the user may have meant.
+    pub(crate) hint: Option<Hint>,
+}
+
+/// The result of a run on some bytes, with a hint if there is one.
+pub(crate) fn with_hint<'a>(
+    outcome: Result<(), Stop<'a>>,
+    bare: bool,
+    bytes: &[u8],
+) -> Result<(), Stopped<'a>>
+    ensures ok { IsOk result ↔ IsOk outcome.entry }
+    ensures stopped { IfErr outcome.entry (λ stop. IfErr result (λ stopped. (stopped.stop ≡ stop) × (stopped.hint ≡ hint_for bare bytes.now stop))) }
+{
+    match outcome {
+        Ok(()) => Ok(()),
+        Err(stop) => Err(Stopped {
+            stop,
+            hint: hint_of(&stop, bare, bytes),
+        }),
+    }
+}
+
+impl<'a> From<Stop<'a>> for Stopped<'a> {
+    ghost from_gives = { λ stop stopped. (stopped.stop ≡ stop) × (stopped.hint ≡ None) };
+
+    fn from(stop: Stop<'a>) -> Self {
+        Stopped { stop, hint: None }
+    }
+}
+
+impl<'a> From<Failure<'a>> for Stopped<'a> {
+    ghost from_gives = { λ failure stopped. (stopped.stop ≡ Failed failure) × (stopped.hint ≡ None) };
+
+    fn from(failure: Failure<'a>) -> Self {
+        Stopped {
+            stop: Stop::Failed(failure),
+            hint: None,
+        }
+    }
+}
+
+impl fmt::Display for Stopped<'_> {
+    ghost output = { λ stopped. Some (stopped_text stopped) };
+
+    fn fmt<W: fmt::Write>(&self, f: &mut fmt::Formatter<W>) -> fmt::Result {
+        match &self.hint {
+            Some(hint) => write!(f, "{}\n{hint}", self.stop),
+            None => write!(f, "{}", self.stop),
+        }
+    }
+}

@@ -1,0 +1,41 @@
+//! What `clap` says about arguments.
+ghost use Rattle.std.specs.Prelude.{◌≡◌, IfOk, map};
+ghost use Rattle.std.specs.String.{string_bytes};
+ghost use Rattle.cli_faults.specs.Escaped.{escaped_text};
+
+use clap::error::ErrorKind;
+use cli_arguments::ask;
+use cli_faults::Escaped;
+use std::alloc::{AllocError, Global};
+
+/// The text if `clap` accepts the escaped arguments, although it did not accept the given ones.
+const ACCEPTED: &str = "error: the arguments are not those of a command\n";
+
+/// The text of `clap` for arguments that it does not accept, or for a request for help or the version.
+///
+/// It is made from the escaped arguments. So it has no control character of theirs, and no line that begins in an
+/// argument.
+pub(crate) fn usage_text(alloc: Global, words: &[&str]) -> Result<String, AllocError> {
+    let escaped = escaped_words(alloc, words)?;
+    let escaped: Vec<&str> = escaped.iter().map(|word| word.as_str()).collect(alloc)?;
+    match ask(alloc, &escaped) {
+        Ok(_) => String::from_str(alloc, ACCEPTED),
+        Err(error) => {
+            if error.kind() == ErrorKind::OutOfMemory {
+                return Err(AllocError);
+            }
+            format!(in alloc; "{error}")
+        }
+    }
+}
+
+/// The arguments, each escaped.
+fn escaped_words(alloc: Global, words: &[&str]) -> Result<Vec<String>, AllocError>
+    ensures { IfOk result (λ escaped. map string_bytes escaped.items ≡ map (λ word. escaped_text word.now) words.now) }
+{
+    let mut escaped = Vec::with_capacity(alloc, words.len())?;
+    for word in words {
+        escaped.push(format!(in alloc; "{}", Escaped(word))?)?;
+    }
+    Ok(escaped)
+}

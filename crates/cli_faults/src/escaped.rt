@@ -1,0 +1,67 @@
+//! Texts and UTF-16 units of strangers, escaped as printable ASCII.
+ghost use Rattle.std.specs.Prelude.{◌≡◌, ◌<◌, IsTrue, Some, [], ◌∷◌};
+ghost use Rattle.std.specs.Fmt.{WritesOnOk};
+ghost use Rattle.cli_faults.specs.Escaped.{is_printable, escaped_byte, escaped_text, escaped_unit};
+
+use std::fmt;
+
+/// A text as the program prints it: printable ASCII except `"` and `\` as it is, and any other byte as `\x` and two
+/// hexadecimal digits. So no text from a file or from the command line can move the cursor or begin a line of its own.
+#[derive(Clone, Copy, Debug, PartialEq, Eq)]
+pub struct Escaped<'a>(pub &'a str);
+
+impl fmt::Display for Escaped<'_> {
+    ghost output = { λ text. Some (escaped_text text.0.now) };
+
+    fn fmt<W: fmt::Write>(&self, f: &mut fmt::Formatter<W>) -> fmt::Result {
+        for byte in self.0.as_bytes() {
+            write_byte(*byte, f)?;
+        }
+        Ok(())
+    }
+}
+
+/// A UTF-16 unit as the program prints it: printable ASCII except `\` as it is, and any other unit as `\u` and four
+/// hexadecimal digits.
+#[derive(Clone, Copy, Debug, PartialEq, Eq)]
+pub struct EscapedUnit(pub u16);
+
+impl fmt::Display for EscapedUnit {
+    ghost output = { λ unit. Some (escaped_unit unit.0) };
+
+    fn fmt<W: fmt::Write>(&self, f: &mut fmt::Formatter<W>) -> fmt::Result {
+        let unit = self.0;
+        if is_printable_unit(unit) {
+            write_ascii(unit as u8, f)
+        } else {
+            write!(f, "\\u{unit:04x}")
+        }
+    }
+}
+
+/// Whether a unit is printable ASCII except `\`.
+fn is_printable_unit(unit: u16) -> bool
+    ensures value { result ≡ is_printable unit }
+    ensures ascii { IsTrue result → unit < 128 }
+{
+    32 <= unit && unit <= 126 && unit != 92
+}
+
+/// Writes a byte of a text, escaped if needed.
+fn write_byte<W: fmt::Write>(byte: u8, f: &mut fmt::Formatter<W>) -> fmt::Result
+    ensures { WritesOnOk W.write_str_gives f.old result (escaped_byte byte) f.new }
+{
+    if is_printable_unit(u16::from(byte)) && byte != b'"' {
+        write_ascii(byte, f)
+    } else {
+        write!(f, "\\x{byte:02x}")
+    }
+}
+
+/// Writes an ASCII byte as it is.
+fn write_ascii<W: fmt::Write>(byte: u8, f: &mut fmt::Formatter<W>) -> fmt::Result
+    requires { byte < 128 }
+    ensures { WritesOnOk W.write_str_gives f.old result (byte ∷ []) f.new }
+{
+    f.write_char(char::from(byte))
+}

@@ -1,0 +1,68 @@
+-- The rows of a table and the tables of a model, one after another.
+use Rattle.std.proofs.Common.{◌≡◌, ◌≢◌, ◌∙◌, ℕ, zero, suc, ◌+◌, List, [], ◌∷◌, ◌++◌, Option, take, drop, refl, ap, sym, subst, cond, append_assoc, append-nil, arith}
+use Rattle.std.specs.List.{flat_map, range_with_len}
+use Rattle.std.proofs.lemmas.Bool.{eq-eqb, ne_eqb}
+use Rattle.std.proofs.lemmas.Grind.{flat_map-append}
+use Rattle.std.proofs.lemmas.List.{take-append-drop}
+use Rattle.table_schema.specs.declared.table.TableId.{TableId}
+use Rattle.metadata.specs.Metadata.{Metadata, count_in, row_of}
+use Rattle.cli_reports.specs.RowTexts.{heading_text, row_text, rows_text, table_text}
+use Rattle.cli_reports.specs.Sent.{SendsPrefix}
+use Rattle.cli_reports.proofs.SentLemmas.{prefix_longer}
+
+range_last : (a n j : ℕ) → a + n ≡ j → range_with_len a (suc n) ≡ range_with_len a n ++ j ∷ []
+range_last a zero j e = let same : a ≡ j = omega arith in ap (λ (k : ℕ). k ∷ []) same
+range_last a (suc n) j e = ap (λ xs. a ∷ xs) (range_last (a + 1) n j (omega arith))
+
+module _ (model : Metadata) (table : TableId) where
+  pub no_rows : rows_text model table 0 ≡ []
+  unfolding rows_text
+  no_rows = refl
+
+  pub rows_more : (line : List ℕ) (n : ℕ) → (line ++ rows_text model table n) ++ row_text (n + 1) (row_of model table (n + 1)) ≡ line ++ rows_text model table (n + 1)
+  unfolding rows_text
+  rows_more line n =
+      let f : ℕ → List ℕ = λ row. row_text row (row_of model table row) in
+      let next : suc n ≡ n + 1 = omega arith in
+      append_assoc line (flat_map f (range_with_len 1 n)) (f (n + 1))
+      ∙ ap (λ xs. line ++ (flat_map f (range_with_len 1 n) ++ xs)) (sym (append-nil (f (n + 1))))
+      ∙ ap (λ xs. line ++ xs) (sym (flat_map-append f (range_with_len 1 n) ((n + 1) ∷ [])))
+      ∙ ap (λ xs. line ++ flat_map f xs) (sym (range_last 1 n (n + 1) (omega arith)))
+      ∙ ap (λ m. line ++ flat_map f (range_with_len 1 m)) next
+
+  -- the rows after the first ones
+  rows_after : (more n : ℕ) → (later : List ℕ) × (rows_text model table (n + more) ≡ rows_text model table n ++ later)
+  rows_after zero n = let same : n + 0 ≡ n = omega arith in ([], ap (λ m. rows_text model table m) same ∙ sym (append-nil (rows_text model table n)))
+  rows_after (suc more) n =
+      let before = rows_after more n in
+      let next : n + suc more ≡ n + more + 1 = omega arith in (
+        before.0 ++ row_text (n + more + 1) (row_of model table (n + more + 1)),
+        ap (λ m. rows_text model table m) next ∙ sym (rows_more [] (n + more))
+            ∙ ap (λ xs. xs ++ row_text (n + more + 1) (row_of model table (n + more + 1))) before.1
+            ∙ append_assoc (rows_text model table n) before.0 (row_text (n + more + 1) (row_of model table (n + more + 1))),
+      )
+
+  pub rows_cut : (before after : Option (List ℕ)) (line : List ℕ) (n more count : ℕ) → n + more ≡ count
+      → SendsPrefix before after (line ++ rows_text model table n) → SendsPrefix before after (line ++ rows_text model table count)
+  rows_cut before after line n more count is cut =
+      let later = rows_after more n in
+      subst (λ (bytes : List ℕ). SendsPrefix before after bytes)
+      (append_assoc line (rows_text model table n) later.0 ∙ ap (λ xs. line ++ xs) (sym later.1) ∙ ap (λ m. line ++ rows_text model table m) is)
+      (prefix_longer before after (line ++ rows_text model table n) later.0 cut)
+
+  pub empty_table : count_in model table ≡ 0 → table_text model table ≡ []
+  unfolding table_text
+  empty_table none =
+      ap (λ t. cond t [] (heading_text table (count_in model table) ++ rows_text model table (count_in model table))) (eq-eqb (count_in model table) 0 none)
+
+  pub full_table : count_in model table ≢ 0 → table_text model table ≡ heading_text table (count_in model table) ++ rows_text model table (count_in model table)
+  unfolding table_text
+  full_table some =
+      ap (λ t. cond t [] (heading_text table (count_in model table) ++ rows_text model table (count_in model table))) (ne_eqb (count_in model table) 0 some)
+
+-- all items, after the first ones
+pub items_cut : {X : Type 0} (f : X → List ℕ) (xs : List X) (before after : Option (List ℕ)) (n : ℕ) → SendsPrefix before after (flat_map f (take n xs))
+    → SendsPrefix before after (flat_map f xs)
+items_cut f xs before after n cut =
+    subst (λ (bytes : List ℕ). SendsPrefix before after bytes) (sym (flat_map-append f (take n xs) (drop n xs)) ∙ ap (λ ys. flat_map f ys) (take-append-drop n xs))
+    (prefix_longer before after (flat_map f (take n xs)) (flat_map f (drop n xs)) cut)

@@ -1,0 +1,10 @@
+use Rattle.std.proofs.Common.{◌≡◌, ◌++◌, take}
+use Rattle.std.specs.List.{flat_map}
+use Rattle.metadata.specs.Metadata.{Metadata, row_of}
+use Rattle.metadata.specs.Model.{IsModel}
+use Rattle.cli_reports.specs.RowTexts.{spaced}
+use Rattle.cli_reports.proofs.row_lines.push_row.Given as goal
+
+abbrev pub invariant-loop-cell_index : goal.invariant-loop-cell_index
+invariant-loop-cell_index l = (model : Metadata) → IsModel l.view model
+    → l.line.items ≡ l.initial.line.items ++ flat_map spaced (take l.cell_index (row_of model l.table l.row))

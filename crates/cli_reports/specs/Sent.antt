@@ -1,0 +1,19 @@
+-- What went out to a writer, if its bytes are known.
+use Rattle.std.specs.Prelude.{◌≡◌, ℕ, List, ◌++◌, Option, Result, MatchResult}
+use Rattle.std.specs.Io.KnownBytes.{Appends}
+
+-- of these bytes all went out but the last ones, which are left
+abbrev pub Sends : Option (List ℕ) → Option (List ℕ) → List ℕ → List ℕ → Type 0
+Sends before after bytes left = (sent : List ℕ) × (bytes ≡ sent ++ left) × Appends before after sent
+
+-- nothing or a prefix of the text went out
+abbrev pub SendsPrefix : Option (List ℕ) → Option (List ℕ) → List ℕ → Type 0
+SendsPrefix before after text = (left : List ℕ) × Sends before after text left
+
+-- all of the text went out if it succeeds; else nothing or a prefix of it
+abbrev pub Prints : {T E : Type 0} → Option (List ℕ) → Option (List ℕ) → Result T E → List ℕ → Type 0
+Prints before after result text = MatchResult result (λ done. Appends before after text) (λ error. SendsPrefix before after text)
+
+-- all of the text went out but what is left if it succeeds; else nothing or a prefix of it
+abbrev pub Moves : {T E : Type 0} → Option (List ℕ) → Option (List ℕ) → Result T E → List ℕ → List ℕ → Type 0
+Moves before after result text left = MatchResult result (λ done. Sends before after text left) (λ error. SendsPrefix before after text)

@@ -1,0 +1,24 @@
+//! Names of types and signatures of methods as text, in the notation of ILAsm (ECMA-335 II.5.3, II.7.2, II.15.3), of a root that
+//! was opened in place. Nothing is allocated.
+//!
+//! Every call returns on every root: a TypeSpec may name itself, and the scopes of TypeRefs may go in a circle. A chain
+//! of enclosing types is written up to [`DEPTH`] types, and `..` marks what is left out.
+//!
+//! ```text
+//! write_full_name(&view, token, &mut out)?; // Hello.Greeter/Settings
+//! write_method(&view, method, &mut out)?; // string Hello.Greeter::Greet(string name, int32 times)
+//! ```
+#![tactic(auto)]
+
+mod lent;
+mod methods;
+mod names;
+mod signatures_read;
+mod specs_named;
+
+pub use methods::write_method;
+pub use names::{DEPTH, write_type_def, write_type_ref};
+pub use navigation::{ReadCells, ReadMetadata};
+pub use signatures_read::ReadSignatures;
+pub use specs_named::{FullNames, write_full_name};
+pub use table_schema::{TableId, Token};

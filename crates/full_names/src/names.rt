@@ -1,0 +1,115 @@
+ghost use Rattle.std.specs.Prelude.{◌≤◌, OnOk, codes};
+ghost use Rattle.std.specs.Fmt.{WritesInCalls};
+ghost use Rattle.table_schema.specs.declared.table.TableId.TheVariants.{TypeDef, TypeRef};
+ghost use Rattle.metadata.specs.Metadata.{Metadata};
+ghost use Rattle.records.specs.Names.{full_name};
+ghost use Rattle.full_names.specs.Names.{IsOwnText, IsTypeDefText, IsTypeRefText, Wrote};
+
+use navigation::{ReadCells, cells, enclosing_type, enclosing_type_ref};
+use std::fmt;
+use table_schema::TableId;
+
+/// The number of types of one name that are written, from the innermost outwards.
+pub const DEPTH: u8 = 64;
+
+/// The cell of a type's name (II.22.37, II.22.38).
+const NAME: usize = 1;
+
+/// The cell of a type's namespace (II.22.37, II.22.38).
+const NAMESPACE: usize = 2;
+
+/// Writes the namespace and a dot, unless the namespace is empty, and the name.
+fn write_own_name<W: fmt::Write>(out: &mut W, namespace: &str, name: &str) -> fmt::Result
+    ensures { OnOk result (WritesInCalls W.write_str_gives out.old (full_name namespace.now name.now) out.new) }
+{
+    if namespace.is_empty() {
+        return write!(out, "{name}");
+    }
+    write!(out, "{namespace}.{name}")
+}
+
+/// Writes what stands for the part of a name that is left out.
+pub fn write_left_out<W: fmt::Write>(out: &mut W) -> fmt::Result
+    ensures { OnOk result (WritesInCalls W.write_str_gives out.old (codes "..") out.new) }
+{
+    write!(out, "..")
+}
+
+/// Writes what is between the names of two types of a chain.
+fn write_slash<W: fmt::Write>(out: &mut W) -> fmt::Result
+    ensures { OnOk result (WritesInCalls W.write_str_gives out.old (codes "/") out.new) }
+{
+    write!(out, "/")
+}
+
+/// Writes the name of a type of this module without those of the types that enclose it.
+#[tactic(auto, unfolding(table_schema::specs::CellColumns::cell_columns))]
+fn write_own_def<S: ReadCells, W: fmt::Write>(source: &S, row: u32, out: &mut W) -> fmt::Result
+    requires first { 1 ≤ row }
+    requires last { row ≤ S.row_count source.now TypeDef }
+    ensures { (model : Metadata) → S.shows source.now model
+        → OnOk result (Wrote W.write_str_gives out.old (IsOwnText model TypeDef row) out.new) }
+{
+    let namespace = cells::text(source, TableId::TypeDef, row, NAMESPACE);
+    let name = cells::text(source, TableId::TypeDef, row, NAME);
+    write_own_name(out, namespace, name)
+}
+
+/// Writes the name of a type of this module, after those of the types that enclose it, up to `depth` types.
+pub fn write_type_def<S: ReadCells, W: fmt::Write>(
+    source: &S,
+    row: u32,
+    out: &mut W,
+    depth: u8,
+) -> fmt::Result
+    requires first { 1 ≤ row }
+    requires last { row ≤ S.row_count source.now TypeDef }
+    ensures { (model : Metadata) → S.shows source.now model
+        → OnOk result (Wrote W.write_str_gives out.old (IsTypeDefText model depth row) out.new) }
+{
+    if depth == 0 {
+        return write_left_out(out);
+    }
+    let Some(outer) = enclosing_type(source, row) else {
+        return write_own_def(source, row, out);
+    };
+    write_type_def(source, outer, out, depth - 1)?;
+    write_slash(out)?;
+    write_own_def(source, row, out)
+}
+
+/// Writes the name of a type of another module without those of the types that enclose it.
+#[tactic(auto, unfolding(table_schema::specs::CellColumns::cell_columns))]
+fn write_own_ref<S: ReadCells, W: fmt::Write>(source: &S, row: u32, out: &mut W) -> fmt::Result
+    requires first { 1 ≤ row }
+    requires last { row ≤ S.row_count source.now TypeRef }
+    ensures { (model : Metadata) → S.shows source.now model
+        → OnOk result (Wrote W.write_str_gives out.old (IsOwnText model TypeRef row) out.new) }
+{
+    let namespace = cells::text(source, TableId::TypeRef, row, NAMESPACE);
+    let name = cells::text(source, TableId::TypeRef, row, NAME);
+    write_own_name(out, namespace, name)
+}
+
+/// Writes the name of a type of another module, after those of the types that enclose it, up to `depth` types.
+pub fn write_type_ref<S: ReadCells, W: fmt::Write>(
+    source: &S,
+    row: u32,
+    out: &mut W,
+    depth: u8,
+) -> fmt::Result
+    requires first { 1 ≤ row }
+    requires last { row ≤ S.row_count source.now TypeRef }
+    ensures { (model : Metadata) → S.shows source.now model
+        → OnOk result (Wrote W.write_str_gives out.old (IsTypeRefText model depth row) out.new) }
+{
+    if depth == 0 {
+        return write_left_out(out);
+    }
+    let Some(outer) = enclosing_type_ref(source, row) else {
+        return write_own_ref(source, row, out);
+    };
+    write_type_ref(source, outer, out, depth - 1)?;
+    write_slash(out)?;
+    write_own_ref(source, row, out)
+}

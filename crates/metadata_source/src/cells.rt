@@ -1,0 +1,45 @@
+use crate::signature_bytes::SignatureBytes;
+use crate::source::ReadMetadata;
+use reading::CellRef;
+use std::alloc::{AllocError, Global};
+use table_schema::{SigKind, TableId};
+
+/// A metadata whose cells can be read.
+pub trait ReadCells: ReadMetadata {
+    ghost use Rattle.std.specs.Prelude.{◌≡◌, ◌≢◌, ◌≤◌, ◌<◌, IfOk};
+    ghost use Rattle.table_schema.specs.declared.column.SigKind.{SigKind as TheKind};
+    ghost use Rattle.table_schema.specs.declared.column.ColumnKind.TheVariants.{Signature};
+    ghost use Rattle.table_schema.specs.CellColumns.{cell_count};
+    ghost use Rattle.metadata.specs.Metadata.{Metadata, cell_in};
+    ghost use Rattle.metadata.specs.Valid.{kind_at};
+    ghost use Rattle.reading.specs.Shown.{Shows};
+    ghost use Rattle.metadata_source.specs.SignatureBytes.{AreBytesOf};
+
+    /// A cell that is not a signature. Texts and blobs are borrowed.
+    fn cell(&self, table: TableId, row: u32, cell: usize) -> CellRef<'_>
+        requires first { 1 ≤ row }
+        requires last { row ≤ Self.row_count self.now table }
+        requires cell { cell < cell_count table }
+        requires kind { (encoded : TheKind) → kind_at table cell ≢ Signature encoded }
+        ensures { (model : Metadata) → Self.shows self.now model → Shows (kind_at table cell) result (cell_in model table row cell) };
+
+    /// The bytes of a signature, in a column of signatures of a kind (II.23.2).
+    ///
+    /// # Errors
+    ///
+    /// Only if out of memory.
+    fn signature(
+        &self,
+        alloc: Global,
+        kind: SigKind,
+        table: TableId,
+        row: u32,
+        cell: usize,
+    ) -> Result<SignatureBytes<'_>, AllocError>
+        requires first { 1 ≤ row }
+        requires last { row ≤ Self.row_count self.now table }
+        requires cell { cell < cell_count table }
+        requires kind { kind_at table cell ≡ Signature kind }
+        ensures { (model : Metadata) → Self.shows self.now model
+            → IfOk result (λ bytes. AreBytesOf kind bytes (cell_in model table row cell)) };
+}

@@ -1,0 +1,3 @@
+mod CellLemmas
+mod OwnerLemmas
+mod NestingLemmas

@@ -1,0 +1,64 @@
+use Rattle.std.proofs.Common.{◌≡◌, ℕ, ◌≤◌, ◌<◌, ◌+◌, subst, arith}
+use Rattle.std.proofs.lemmas.Grind.{not_there}
+use Rattle.table_schema.specs.declared.table.TableId.{TableId}
+use Rattle.metadata.specs.Metadata.{count_in}
+use Rattle.metadata_source.specs.MemberLists.{owner_of, member_of}
+use Rattle.navigation.proofs.CellLemmas.{at_most}
+use Rattle.navigation.proofs.OwnerLemmas.{start_of, some_owner, from_one, owns, owns_alone}
+use Rattle.navigation.proofs.owners.owner.Goals as goal
+
+pub loop-past-init : goal.loop-past-init
+loop-past-init g c =
+    let owners : ℕ = g.S.ReadMetadata.row_count c.args.source.now (owner_of c.args.list) in
+    let P : TableId → Type 0 = λ t. c.count-past.result ≡ g.S.ReadMetadata.row_count c.args.source.now t in
+    let count : c.count-past.result ≡ owners = subst P c.owner.ensures c.count-past.ensures.rows in
+    let some : 1 ≤ owners = at_most 1 owners (λ not. not_there c.holds_one.ensures.shown (λ shown.
+    let model = shown.0 in
+    let members = c.holds_one.ensures.rows model shown.1 (member_of c.args.list) in
+    let there = c.holds_one.ensures.rows model shown.1 (owner_of c.args.list) in
+    let last = c.requires.last in
+    let one = some_owner model (c.holds_one.ensures.valid model shown.1) c.args.list c.args.member c.requires.first (omega arith) in
+    not (omega arith))) in
+    record {
+      first = omega arith;
+      ordered = omega arith;
+      within = omega arith;
+      from = λ model shown.
+          let there = c.holds_one.ensures.rows model shown (owner_of c.args.list) in
+          let one = from_one model (c.holds_one.ensures.valid model shown) c.args.list (omega arith) in
+          let first = c.requires.first in
+          omega arith;
+      to = λ model shown in_table.
+          let there = c.holds_one.ensures.rows model shown (owner_of c.args.list) in
+          absurd (omega arith);
+    }
+
+pub returns-clause-sound : goal.returns-clause-sound
+returns-clause-sound g c = λ model shown.
+    let there = c.holds_one.ensures.rows model shown (owner_of c.args.list) in
+    let members = c.holds_one.ensures.rows model shown (member_of c.args.list) in
+    let last = c.requires.last in
+    let first = c.loop-past.invariant.first in
+    let ordered = c.loop-past.invariant.ordered in
+    let within = c.loop-past.invariant.within in
+    let ends = c.loop-past-test.false in
+    let low = c.loop-past.low in
+    let next : c.loop-past.past ≡ low + 1 = omega arith in
+    let Q : ℕ → Type 0 = λ past. past ≤ count_in model (owner_of c.args.list) → c.args.member < start_of model c.args.list past in
+    owns model (c.holds_one.ensures.valid model shown) c.args.list low c.args.member first (omega arith) (omega arith)
+    (c.loop-past.invariant.from model shown) (subst Q next (c.loop-past.invariant.to model shown))
+
+pub returns-clause-one : goal.returns-clause-one
+returns-clause-one g c = λ model shown.
+    let there = c.holds_one.ensures.rows model shown (owner_of c.args.list) in
+    let members = c.holds_one.ensures.rows model shown (member_of c.args.list) in
+    let last = c.requires.last in
+    let first = c.loop-past.invariant.first in
+    let ordered = c.loop-past.invariant.ordered in
+    let within = c.loop-past.invariant.within in
+    let ends = c.loop-past-test.false in
+    let low = c.loop-past.low in
+    let next : c.loop-past.past ≡ low + 1 = omega arith in
+    let Q : ℕ → Type 0 = λ past. past ≤ count_in model (owner_of c.args.list) → c.args.member < start_of model c.args.list past in
+    owns_alone model (c.holds_one.ensures.valid model shown) c.args.list low c.args.member first (omega arith) (omega arith)
+    (c.loop-past.invariant.from model shown) (subst Q next (c.loop-past.invariant.to model shown))

@@ -1,0 +1,2 @@
+pub mod UserEntries
+pub mod UserHeap

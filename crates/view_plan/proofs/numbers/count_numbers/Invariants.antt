@@ -1,6 +1,0 @@
-use Rattle.std.proofs.Common.{◌*◌, ◌≤◌}
-use Rattle.view_plan.proofs.numbers.count_numbers.Given as goal
-
--- each table has at most 150994935 numbers
-abbrev pub invariant-loop-table : goal.invariant-loop-table
-invariant-loop-table l = l.count ≤ 150994935 * l.table-index

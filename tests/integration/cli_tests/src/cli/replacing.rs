@@ -1,0 +1,137 @@
+use crate::cli::disks::{Disk, answer_on};
+use crate::runs::answer;
+use sample_roots::{ONE_MODULE, image};
+use std::fs;
+use std::fs::Permissions;
+use std::os::unix::fs::{PermissionsExt, symlink};
+use std::test::Fail;
+
+/// A disk that takes this number of bytes for each file.
+fn disk(rt: &HostRuntime, room: usize) -> Disk<'_> {
+    Disk {
+        host: rt,
+        room,
+        reported: None,
+        is_readable: true,
+    }
+}
+
+/// A file that is replaced stays as it is if its root does not fit the disk, whatever the number of bytes that do.
+#[test]
+fn keeps_its_file_on_a_full_disk(rt: HostRuntime) -> Result<(), Fail> {
+    fs::write(&rt, "full.dll", image().as_slice())?;
+    symlink(&rt, "full.dll", "full.link")?;
+    for out in ["full.dll", "./full.dll", "full.link"] {
+        for room in [0, 1, 143] {
+            let words = ["clim", "rewrite", "full.dll", out];
+            let (status, printed, err) = answer_on(disk(&rt, room), &words)?;
+            assert_eq!(rt; status, 3);
+            assert!(rt; printed.is_empty());
+            let want = format!(in rt.alloc(); "error: cannot write {out}\n  reason: no space left\n")?;
+            assert_eq!(rt; err, want);
+            assert_eq!(rt; fs::read(&rt, "full.dll")?.as_slice(), image().as_slice());
+            assert!(rt; fs::read(&rt, "full.dll.clim-new").is_err());
+        }
+    }
+    // Another file has what the disk took.
+    fs::write(&rt, "full.root", b"before".as_slice())?;
+    let words = ["clim", "rewrite", "full.dll", "full.root"];
+    assert_eq!(rt; answer_on(disk(&rt, 9), &words)?.0, 3);
+    assert_eq!(rt; fs::read(&rt, "full.root")?.as_slice(), &ONE_MODULE[..9]);
+    for file in ["full.dll", "full.link", "full.root"] {
+        fs::remove_file(&rt, file)?;
+    }
+    Ok(())
+}
+
+/// A file that is replaced keeps its permissions, and a link to it stays one.
+#[test]
+fn replaces_its_file(rt: HostRuntime) -> Result<(), Fail> {
+    for mode in [0o600, 0o644, 0o750] {
+        fs::write(&rt, "same.dll", image().as_slice())?;
+        fs::set_permissions(&rt, "same.dll", Permissions::from_mode(mode))?;
+        symlink(&rt, "same.dll", "same.link")?;
+        let words = ["clim", "rewrite", "same.dll", "same.link"];
+        let (status, out, err) = answer_on(disk(&rt, 144), &words)?;
+        assert_eq!(rt; status, 0, "{err}");
+        assert_eq!(rt; out.as_str(), "wrote 144 bytes\n");
+        assert_eq!(rt; fs::read(&rt, "same.dll")?.as_slice(), ONE_MODULE.as_slice());
+        assert!(rt; fs::symlink_metadata(&rt, "same.link")?.is_symlink());
+        let permissions = fs::metadata(&rt, "same.dll")?.permissions();
+        assert_eq!(rt; permissions.mode() & 0o777, mode);
+        assert!(rt; fs::read(&rt, "same.dll.clim-new").is_err());
+        fs::remove_file(&rt, "same.link")?;
+        fs::remove_file(&rt, "same.dll")?;
+    }
+    Ok(())
+}
+
+/// A file that somebody left beside is not overwritten.
+#[test]
+fn keeps_what_is_beside(rt: HostRuntime) -> Result<(), Fail> {
+    fs::write(&rt, "left.dll", image().as_slice())?;
+    fs::write(&rt, "left.dll.clim-new", b"left".as_slice())?;
+    let (status, out, err) = answer(&rt, &["clim", "rewrite", "left.dll", "left.dll"])?;
+    assert_eq!(rt; status, 3);
+    assert!(rt; out.is_empty());
+    assert_eq!(rt;
+        err.as_str(),
+        "error: cannot write left.dll\n  reason: the file OUT.clim-new exists\n"
+    );
+    assert_eq!(rt; fs::read(&rt, "left.dll")?.as_slice(), image().as_slice());
+    assert_eq!(rt; fs::read(&rt, "left.dll.clim-new")?.as_slice(), b"left".as_slice());
+    fs::remove_file(&rt, "left.dll")?;
+    fs::remove_file(&rt, "left.dll.clim-new")?;
+    Ok(())
+}
+
+/// The standard output of the test is refused before the file is read.
+#[test]
+fn refuses_the_standard_output(rt: HostRuntime) -> Result<(), Fail> {
+    for path in ["/dev/stdout", "/dev/fd/1", "/proc/self/fd/1"] {
+        let (status, out, err) = answer(&rt, &["clim", "rewrite", "lacks", path])?;
+        assert_eq!(rt; status, 3);
+        assert!(rt; out.is_empty());
+        let want = format!(in rt.alloc();
+            "error: cannot write {path}\n  reason: the standard output, which takes the line 'wrote N bytes'\n"
+        )?;
+        assert_eq!(rt; err, want);
+    }
+    Ok(())
+}
+
+/// A regular file that reports more than 2^30 bytes is not read. One that reports too few is read to its end.
+#[test]
+fn goes_by_the_reported_length(rt: HostRuntime) -> Result<(), Fail> {
+    fs::write(&rt, "grows.root", ONE_MODULE.as_slice())?;
+    let words = ["clim", "check", "--bare", "grows.root"];
+    let long = Disk {
+        reported: Some((1 << 30) + 1),
+        is_readable: false,
+        ..disk(&rt, 0)
+    };
+    let (status, out, err) = answer_on(long, &words)?;
+    assert_eq!(rt; status, 1);
+    assert!(rt; out.is_empty());
+    assert_eq!(rt; err.as_str(), "fault 1 101 at 0: TooLong\n");
+    for reported in [0, 1, 143, 145, 5000] {
+        let short = Disk {
+            reported: Some(reported),
+            ..disk(&rt, 0)
+        };
+        assert_eq!(rt; answer_on(short, &words)?.1.as_str(), "ok\n");
+    }
+    let unreadable = Disk {
+        is_readable: false,
+        ..disk(&rt, 0)
+    };
+    let (status, out, err) = answer_on(unreadable, &words)?;
+    assert_eq!(rt; status, 3);
+    assert!(rt; out.is_empty());
+    assert_eq!(rt;
+        err.as_str(),
+        "error: cannot read grows.root\n  reason: another error of the system\n"
+    );
+    fs::remove_file(&rt, "grows.root")?;
+    Ok(())
+}
