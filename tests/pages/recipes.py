@@ -9,6 +9,7 @@
 - README.md has at most 100 lines, and the line of the toolchain that proves the crates.
 - CHANGELOG.md begins with the version of the program, which is in one place, in cli_arguments.
 - docs/TRUST.md: its files are there, and its counts of lines are those of the definitions.
+- edits/README.md: each edit that its tables name is there.
 - Each relative link of these pages leads to a file.
 
 With --lines it only prints the definitions that docs/TRUST.md counts, with their lines. The last line is otherwise
@@ -173,6 +174,15 @@ def check_trust(counts):
         counts.expect(is_near, f"docs/TRUST.md: of {name}, {stated} is not near {wanted}")
 
 
+def check_edits(counts):
+    """Each edit that a table of edits/README.md names is there. It is in must-fail/, or the table says edits/."""
+    page = text_of("edits/README.md").split("\n## Wrong bodies that are easy to write\n")[1]
+    for cells in table_rows(page):
+        folder, crate, name = re.fullmatch(r"(edits/)?(\w+)/(\w+)", in_backticks(cells[1])[0]).groups()
+        path = f"{folder}{crate}/{name}.edit" if folder else f"crates/{crate}/must-fail/{name}.edit"
+        counts.expect(text_of(path) is not None, f"edits/README.md: {path} is not there")
+
+
 def check_links(counts):
     """Each relative link of a page leads to a file."""
     for page in PAGES:
@@ -198,7 +208,10 @@ def main():
         if text_of(page) is None:
             print(f"{page} is not there\n0 passed, 1 failed")
             return 1
-    checks = [check_recipes, check_contract, check_commands, check_crates, check_readme, check_version, check_trust, check_links]
+    checks = [
+        check_recipes, check_contract, check_commands, check_crates, check_readme, check_version, check_trust, check_edits,
+        check_links,
+    ]
     for check in checks:
         check(counts)
     print(f"{counts.passed} passed, {counts.failed} failed")
