@@ -2,6 +2,7 @@
 
 use crate::images::sample_with;
 use cli_header::{CliHeader, DataDirectory, Fault, read_cli, read_pe};
+use sample_roots::wider_image;
 use std::alloc::Global;
 use std::test::Fail;
 
@@ -142,20 +143,8 @@ fn names_the_first_rule(rt: HostRuntime) -> Result<(), Fail> {
 #[test]
 fn reads_the_same_of_a_wider_image(rt: HostRuntime) -> Result<(), Fail> {
     let sample = sample_with(rt.alloc(), &[])?;
-    let wider = sample_with(
-        rt.alloc(),
-        &[
-            (0x094, b"\xF0\0"),
-            (0x098, b"\x0B\x02"),
-            (0x0F4, b"\0\0\0\0"),
-            (0x104, b"\x10\0\0\0"),
-            (0x168, b"\0\0\0\0\0\0\0\0"),
-            (0x178, b"\x08\x20\0\0\x48\0\0\0"),
-            (0x184, b"\0\0\0\0\0\0\0\0\0\0\0\0"),
-            (0x194, b"\0\x20\0\0\0\x02\0\0\0\x02\0\0"),
-        ],
-    )?;
-    assert_eq!(rt; read(wider.as_slice())?, read(sample.as_slice())?);
+    let wider = wider_image();
+    assert_eq!(rt; read(&wider)?, read(sample.as_slice())?);
     Ok(())
 }
 

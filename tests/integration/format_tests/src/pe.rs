@@ -3,7 +3,7 @@
 use crate::images::{sample_with, sections_of};
 use packed::Fault;
 use pe::{Pe, read_pe};
-use sample_roots::fault_of;
+use sample_roots::{fault_of, wider_image};
 use std::alloc::Global;
 use std::ops::Range;
 use std::test::Fail;
@@ -89,20 +89,8 @@ fn names_the_first_rule(rt: HostRuntime) -> Result<(), Fail> {
 
 #[test]
 fn finds_the_same_in_a_wider_image(rt: HostRuntime) -> Result<(), Fail> {
-    let file = sample_with(
-        rt.alloc(),
-        &[
-            (0x094, b"\xF0\0"),
-            (0x098, b"\x0B\x02"),
-            (0x0F4, b"\0\0\0\0"),
-            (0x104, b"\x10\0\0\0"),
-            (0x168, b"\0\0\0\0\0\0\0\0"),
-            (0x178, b"\x08\x20\0\0\x48\0\0\0"),
-            (0x184, b"\0\0\0\0\0\0\0\0\0\0\0\0"),
-            (0x194, b"\0\x20\0\0\0\x02\0\0\0\x02\0\0"),
-        ],
-    )?;
-    let pe = read_pe(file.as_slice())?;
+    let file = wider_image();
+    let pe = read_pe(&file)?;
     assert_eq!(rt; pe.cli_directory(), (0x2008, 72));
     assert_eq!(rt; pe.cli_directory_offset(), 376);
     assert_eq!(rt; pe.range(0x2008, 72), Some(520..592));
