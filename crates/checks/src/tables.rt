@@ -28,11 +28,11 @@ pub struct Checked {
 /// Checks the rules for the tables of a metadata root, in their order (II.22). The budget limits the number of bytes
 /// of signature blobs that are read.
 ///
-/// If all rules hold, it returns what it found. It does not allocate. The cost is linear in the rows and in the
-/// rows, and of the texts and blobs that they name. Of blobs that do not overlap, those that are longer than the
-/// bytes of the heap / 1024 are walked once in each column. Blobs may overlap, so that their lengths can add
-/// size of the file. The budget limits this. Each read of a blob spends its length. An invalid signature is read
-/// once more to find its fault; this read is free.
+/// If all rules hold, it returns what it found. It does not allocate. The cost is linear in the rows, and in the
+/// texts and blobs that they name. Of blobs that do not overlap, those that are longer than 1/1024 of the heap are
+/// read once in each column. Blobs may overlap, so that their lengths can add up to much more than the size of the
+/// file. The budget limits this. Each read of a blob spends its length. An invalid signature is read once more to
+/// find its fault; this read is free.
 ///
 /// # Errors
 ///
