@@ -13,7 +13,7 @@ complete -c clim -n "not __fish_seen_subcommand_from $subcommands" -a types -d '
 complete -c clim -n "not __fish_seen_subcommand_from $subcommands" -a token -d 'Print the row or the user string that a token names'
 complete -c clim -n "not __fish_seen_subcommand_from $subcommands" -a rewrite -d 'Write the canonical metadata root of a file'
 complete -c clim -n "not __fish_seen_subcommand_from $subcommands" -a explain -d 'Explain a fault, or list all faults'
-complete -c clim -n "not __fish_seen_subcommand_from $subcommands" -a help -d 'Print the help of a command'
+complete -c clim -n "not __fish_seen_subcommand_from $subcommands" -a help -d 'Print this message or the help of the given subcommand(s)'
 complete -c clim -n "__fish_seen_subcommand_from $readers" -F
 complete -c clim -n "__fish_seen_subcommand_from $readers" -l bare -d 'FILE is a metadata root, not a PE file'
 complete -c clim -n "__fish_seen_subcommand_from check" -l budget -x -d 'Check at most N bytes of signatures, or stop with exit status 3'
