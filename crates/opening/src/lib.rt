@@ -4,7 +4,8 @@
 //! the bytes have a model. Otherwise they return the fault of the first rule that fails. [`open_root_within`] and
 //! [`open_image_within`] do the same within a budget of bytes to check. A [`View`] reads the one model of the bytes:
 //! its version, its user strings, its cells, the runs of members, and rows by name and by key. It returns values and
-//! parts of the caller's bytes. [`read_heads`] reads only the headers before the streams of a file.
+//! parts of the caller's bytes. A [`CellCursor`] reads the cells in a pass over the rows.
+//! [`read_heads`] reads only the headers before the streams of a file.
 //!
 //! ```text
 //! let (header, view) = open_image(&file)?;
@@ -13,6 +14,7 @@
 //! ```
 #![tactic(auto)]
 
+mod cell_cursor;
 mod found;
 mod heads;
 mod image;
@@ -20,6 +22,7 @@ mod metadata_held;
 mod open;
 mod view;
 
+pub use cell_cursor::CellCursor;
 pub use checks::BoundedError;
 pub use cli_header::CliHeader;
 pub use found::Found;

@@ -1,5 +1,6 @@
 -- The start of an owner's run, from its own number and from the next owner.
-use Rattle.std.proofs.Common.{◌≡◌, ◌≢◌, ℕ, zero, suc, ◌+◌, ◌-◌, ◌<◌, ◌≤◌, eqb, false, refl, arith}
+use Rattle.std.proofs.Common.{◌≡◌, ◌≢◌, ℕ, zero, suc, ◌+◌, ◌-◌, ◌<◌, ◌≤◌, eqb, false, refl, ap, sym, ◌∙◌, inl, inr, arith}
+use Rattle.std.proofs.lemmas.Bool.{cases_eq}
 use Rattle.std.proofs.lemmas.Bool.Decides.{nat_tests}
 use Rattle.table_schema.specs.declared.table.TableId.{TableId}
 use Rattle.metadata.specs.Source.{Source, rows_in, number_of}
@@ -15,6 +16,14 @@ from_next value past row (suc left) tail e null = let same : left ≡ tail = ome
 
 from_none : (value : ℕ → ℕ) (past row left : ℕ) → left ≡ 0 → start_from value past row left ≡ past
 from_none value past row left e = rw e refl
+
+-- if the owners up to one have the same start, and it has that of the next, then so do the owners up to the next
+pub one_more : (start : ℕ → ℕ) (first last : ℕ) → first ≤ last → start last ≡ start (last + 1)
+    → ((row : ℕ) → first ≤ row → row ≤ last → start row ≡ start first) → (row : ℕ) → first ≤ row → row ≤ last + 1 → start row ≡ start first
+one_more start first last within next before row low high = elim (cases_eq row (last + 1)) [
+  | inl same ↦ ap start same ∙ sym next ∙ before last within (omega arith)
+  | inr other ↦ before row low (omega arith)
+]
 
 module _ (source : Source) (owner : TableId) (row column : ℕ) (member : TableId) where
   -- a number that is not null is itself the start

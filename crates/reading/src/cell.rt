@@ -8,12 +8,14 @@ ghost use Rattle.metadata.specs.Cell.{Ref};
 ghost use Rattle.metadata.specs.Source.{rows_in, number_of};
 ghost use Rattle.metadata.specs.Rows.{StandsIn};
 ghost use Rattle.reading.specs.KnownStarts.{AreKnown};
+ghost use Rattle.reading.specs.Cursors.{AreCursors};
 ghost use Rattle.reading.specs.Shown.{Shows, ShowsBlob};
 
 use crate::cell_ref::CellRef;
 use crate::coded::named_by;
 use crate::column::column_at;
 use crate::known_starts::KnownRuns;
+use crate::run_cursors::RunCursors;
 use crate::runs_of::start;
 use crate::source::Source;
 use heap_entries::{Strings, blob, guid};
@@ -49,6 +51,33 @@ pub fn cell_of<'a>(
         ColumnKind::List(member) => {
             CellRef::Start(start(source, known, table, row, column, member))
         }
+    }
+}
+
+/// The cell that the number of a column stands for, in a pass over the rows of a table with cursors for the runs.
+pub fn cell_onward<'a>(
+    source: &Source<'a>,
+    known: &KnownRuns,
+    cursors: &mut RunCursors,
+    table: TableId,
+    row: u32,
+    column: usize,
+) -> CellRef<'a>
+    requires known { AreKnown source.now.source known.now }
+    requires cursors { AreCursors source.now.source cursors.old }
+    requires first { 1 ≤ row }
+    requires last { row ≤ rows_in source.now.source table }
+    requires column { column < length (columns_of table) }
+    requires stands { ¬ (¬ ((cell : Cell) × StandsIn source.now.source table row column cell)) }
+    ensures cursors { AreCursors source.now.source cursors.new }
+    ensures cell { (cell : Cell) → StandsIn source.now.source table row column cell → Shows (column_at table column).kind result cell }
+    ensures blob { ShowsBlob source.now.source (number_of source.now.source table row column) result }
+{
+    match column_at(table, column).kind {
+        ColumnKind::List(member) => {
+            CellRef::Start(cursors.start(source, known, table, row, column, member))
+        }
+        _ => cell_of(source, known, table, row, column),
     }
 }
 

@@ -11,6 +11,7 @@ ghost use Rattle.reading.specs.KnownStarts.{AreKnown};
 
 use crate::known_starts::KnownRuns;
 use crate::source::Source;
+use crate::start_cursor::StartCursor;
 use table_schema::{TableId, column_of_cell};
 
 /// Where the run of an owner begins, by the cell that lists its members.
@@ -57,16 +58,7 @@ pub fn start(
     requires known { AreKnown source.now.source known.now }
     ensures { result ≡ start_of source.now.source owner row column member }
 {
-    for later in row..source.count(owner) + 1 {
-        let number = source.number(owner, later, column);
-        if number != 0 {
-            return number;
-        }
-        if let Some(first) = known.at(owner, column, later) {
-            return first;
-        }
-    }
-    source.count(member) + 1
+    StartCursor::at(source, known, owner, row, column, member).start
 }
 
 /// The start of an owner's run, from its list value and the start of the next owner.

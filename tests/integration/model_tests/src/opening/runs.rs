@@ -1,7 +1,7 @@
 use crate::reports::fault_of_root;
 use crate::opening::built_roots::{changed, two_types};
 use crate::shown::{Members, are_same, cell, run_of};
-use opening::{CellRef, open_root};
+use opening::{CellCursor, CellRef, MemberList, open_root};
 use sample_roots::{FIELD, RootBuilder, root_of_params, root_of_starts, type_row};
 use schema::TableId;
 use std::test::Fail;
@@ -53,6 +53,58 @@ fn null_starts_of_many_owners_are_found(rt: HostRuntime) -> Result<(), Fail> {
         (1001, 2..2),
     ] {
         assert_eq!(rt; run_of(&view, Members::Fields, row), Some(fields));
+    }
+    Ok(())
+}
+
+/// The start of the fields of a type, if those of types 1, 300 and 700 start with fields 1 to 3, and others are null.
+fn start_of(row: u32) -> u32 {
+    if row == 1 {
+        1
+    } else if row <= 300 {
+        2
+    } else if row <= 700 {
+        3
+    } else {
+        4
+    }
+}
+
+/// Whether a pass shows the start and the run of a type's fields.
+fn shows_fields(cells: &mut CellCursor<'_, '_>, row: u32) -> bool {
+    cells.cell(TableId::TypeDef, row, 4) == CellRef::Start(start_of(row))
+        && cells.cell(TableId::TypeDef, row, 5) == CellRef::Start(1)
+        && cells.run(MemberList::Fields, row) == (start_of(row)..start_of(row + 1))
+}
+
+#[test]
+fn a_pass_shows_null_starts_in_any_order(rt: HostRuntime) -> Result<(), Fail> {
+    let mut root = RootBuilder::new(rt.alloc());
+    for row in 1..1001u32 {
+        let fields = match row {
+            1 => 1,
+            300 => 2,
+            700 => 3,
+            _ => 0,
+        };
+        root.row(0x02, &type_row(fields, 1))?;
+    }
+    for _ in 0..3 {
+        root.row(0x04, FIELD)?;
+    }
+    root.heap("#Blob", b"\0\x02\x06\x08")?;
+    let root = root.finish()?;
+    let view = open_root(root.as_slice())?;
+    let mut cells = CellCursor::new(&view);
+    for row in 1..1001 {
+        assert!(rt; shows_fields(&mut cells, row), "of {row}");
+    }
+    for row in [1, 1000, 999, 300, 301, 299, 700, 2, 701] {
+        assert!(rt; shows_fields(&mut cells, row), "of {row}");
+    }
+    for earlier in 0..1000 {
+        let row = 1000 - earlier;
+        assert!(rt; shows_fields(&mut cells, row), "of {row}");
     }
     Ok(())
 }

@@ -1,0 +1,12 @@
+use Rattle.std.proofs.Common.{ℕ, List, subst}
+use Rattle.table_schema.specs.CellColumns.{column_of}
+use Rattle.metadata.specs.Source.{number_of}
+use Rattle.metadata.specs.SourceAt.{source_of}
+use Rattle.reading.specs.Shown.{ShowsBlob}
+use Rattle.opening.proofs.cell_cursor.CellCursor.cell.Goals as goal
+
+pub returns-clause-blob : goal.returns-clause-blob
+returns-clause-blob c =
+    let P : List ℕ → Type 0 = λ root.
+    ShowsBlob (source_of root) (number_of (source_of root) c.args.table c.args.row (column_of c.args.table c.args.column)) c.cell_in_pass.result in
+    subst P c.self.view_is c.cell_in_pass.ensures.blob
