@@ -39,18 +39,18 @@ impl ToModel for View<'_> {
 
     /// The one model of the root, which owns its content. The only error is out of memory.
     ///
-    /// The cost is linear in the size of the root, and in the sizes of the strings and blobs, once for each cell.
+    /// Nothing is checked again. The cost is linear in the size of the root, and in the sizes of the strings and blobs,
+    /// once for each cell.
+    #[tactic(auto, using(crate::proofs::ValidLemmas::valid_tables, crate::proofs::ValidLemmas::known_order))]
     fn model(&self, alloc: Global) -> Result<Model, AllocError>
         ensures model { (model : Metadata) → IsModel self.now model → IfOk result (λ loaded. loaded ≡ model) }
         ensures sound { IfOk result (λ loaded. ∥ IsModel self.now loaded ∥₁) }
     {
         metadata::laws::models_of_roots_are_valid();
-        let tables = tables_of(alloc, self)?;
-        // The root has a model.
+        metadata::laws::keys_are_in_order();
+        // The root has a model. Opening found that it is valid, and which tables are in order.
         let _root = self.root();
-        match Model::from_tables(tables) {
-            Ok(model) => Ok(model),
-            Err(_) => unreachable!(),
-        }
+        let tables = tables_of(alloc, self)?;
+        Ok(Model::of_valid(tables, self.found().in_order))
     }
 }
