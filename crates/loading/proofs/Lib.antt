@@ -1,3 +1,4 @@
 pub mod PaddingLemmas
 pub mod Zeros
 pub mod Refusing
+pub mod ValidLemmas

@@ -1,0 +1,40 @@
+-- The tables that are loaded are in order if the root's rows are.
+use Rattle.std.proofs.Common.{◌≡◌, ◌↔◌, ℕ, ◌-◌, Bool, false, List, Some, slice_index_or, inl, inr, sym, subst, arith}
+use Rattle.std.proofs.Math.Logic.{∥∥₁_map}
+use Rattle.std.proofs.lemmas.Bool.{cases_lt, cases_Bool, both_ways}
+use Rattle.std.proofs.lemmas.Grind.{not_there}
+use Rattle.table_schema.specs.declared.table.TableId.{TableId}
+use Rattle.table_schema.specs.Tables.{table_number}
+use Rattle.table_schema.specs.Columns.{key_of}
+use Rattle.metadata.specs.Metadata.{Metadata}
+use Rattle.metadata.specs.Model.{IsModel}
+use Rattle.metadata.specs.RowRules.{IsInOrder}
+use Rattle.metadata.specs.KeyOrder.{key_in, IsKeyOrdered}
+use Rattle.metadata.specs.SourceAt.{source_of}
+use Rattle.opening.specs.declared.found.Found.{Found}
+use Rattle.opening.specs.Views.{HasModel, AreFound}
+use Rattle.owned_model.specs.Models.{ReportsOrder}
+
+-- the order of keys could be tested, so it is enough to know it
+known_order : (tables : Metadata) (bits : List Bool) → ∥ ReportsOrder tables bits ∥₁ → ReportsOrder tables bits
+known_order tables bits known table key is = (
+  λ reported cell_index row is_key second last.
+      elim (cases_lt (key_in tables table cell_index row) (key_in tables table cell_index (row - 1))) [
+        | inl less ↦ absurd (not_there known (λ reports. let le = (reports table key is).0 reported cell_index row is_key second last in omega arith))
+        | inr le ↦ le
+      ],
+  λ ordered. elim (cases_Bool (slice_index_or bits (table_number table) false)) [
+    | inl reported ↦ reported
+    | inr other ↦ absurd (not_there known (λ reports. both_ways _ other ((reports table key is).1 ordered)))
+  ],
+)
+
+-- what opening found of a root is so of the tables of its model
+pub found_order : ((root : List ℕ) (model : Metadata) → IsModel root model → (table : TableId) (key : ℕ) → key_of table ≡ Some key
+    → IsInOrder (source_of root) table key ↔ IsKeyOrdered model table) → (root : List ℕ) (tables : Metadata) → HasModel root
+    → ((model : Metadata) → IsModel root model → tables ≡ model) → (found : Found) → AreFound root found → ReportsOrder tables found.in_order
+found_order order root tables some same found are = known_order tables found.in_order (∥∥₁_map some (λ it.
+    subst (λ t. ReportsOrder t found.in_order) (sym (same it.0 it.1)) (λ table key is.
+    let here = are.order table key is in
+    let kept = order root it.0 it.1 table key is in
+    (λ reported. kept.0 (here.0 reported), λ ordered. here.1 (kept.1 ordered)))))
