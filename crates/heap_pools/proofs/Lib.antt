@@ -10,11 +10,13 @@ pub mod GrowLemmas
 pub mod GuidLemmas
 pub mod GuidPlanLemmas
 pub mod HeapLemmas
+pub mod HeapTextLemmas
 pub mod HolderLemmas
 pub mod IndexLemmas
 pub mod MemberLemmas
 pub mod MergeLemmas
 pub mod NumberLemmas
+pub mod PlaceLemmas
 pub mod PlanLemmas
 pub mod PoolLemmas
 pub mod RunLemmas

@@ -7,6 +7,8 @@ pub mod FirstByte
 pub mod GuidHeap
 pub mod GuidPoolView
 pub mod HeapPlanView
+pub mod HeapTexts
+pub mod Places
 pub mod Ranking
 pub mod SortedTextsView
 pub mod TextHeap

@@ -1,14 +1,23 @@
-ghost use Rattle.std.specs.Prelude.{◌≡◌, ◌<◌, ◌≤◌, ◌^◌, ◌++◌, ◌∷◌, [], ◌⊎◌, ℕ, List, length, All, Contains, IsUtf8, Option, Some};
+ghost use Rattle.std.specs.Prelude.{◌≡◌, ◌<◌, ◌≤◌, ◌^◌, ◌++◌, ◌∷◌, [], ◌⊎◌, ℕ, List, length, All, Contains, IsUtf8, Option, Some, slice_index, slice_index_or};
 ghost use Rattle.heap_pools.specs.BlobHeap.{blob_heap, blob_index};
 ghost use Rattle.heap_pools.specs.Distinct.{distinct, pooled};
 ghost use Rattle.heap_entries.specs.Entries.{HasNoNul, IsBlob, IsGuid, IsText};
 ghost use Rattle.heap_pools.specs.GuidHeap.{given, guid_heap, guid_index, pooled_guid};
+ghost use Rattle.heap_pools.specs.HeapTexts.{heap_text, texts_at};
 ghost use Rattle.heap_pools.specs.TextHeap.{holders, text_heap, text_index};
 
 /// In the planned heap, the text at the index of a used text is this text. More bytes may follow the heap.
 pub fn used_text_is_found()
     ensures { (used : List (List ℕ)) (text tail : List ℕ) → Contains used text → HasNoNul text → IsUtf8 text
         → IsText (text_heap (holders used) ++ tail) (text_index (holders used) text) text }
+{}
+
+/// What `texts_at` has for an index into a strings heap is the text there.
+pub fn texts_are_at()
+    ensures text { (heap : List ℕ) (index : ℕ) (text : List ℕ) → IsText heap index text → heap_text heap index ≡ text }
+    ensures texts { (heap indexes : List ℕ) (texts : List (List ℕ)) → length texts ≡ length indexes
+        → ((k : ℕ) → k < length indexes → IsText heap (slice_index indexes k) (slice_index_or texts k []))
+        → texts_at heap indexes ≡ texts }
 {}
 
 /// In the heap, the blob at the index of a pooled blob is this blob. More bytes may follow the heap.

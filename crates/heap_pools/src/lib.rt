@@ -15,6 +15,7 @@ mod ending;
 mod first_byte;
 mod guid_pool;
 mod heap_plan;
+mod heap_texts;
 pub mod laws;
 mod pool_error;
 mod text_plan;

@@ -1,0 +1,26 @@
+use Rattle.std.proofs.Common.{◌≡◌, ℕ, ◌<◌, length, slice_index, refl, sym, subst, arith}
+use Rattle.heap_pools.specs.Places.{place_at}
+use Rattle.heap_pools.proofs.PlaceLemmas.{IsPlace, place_more, places_sorted}
+use Rattle.heap_pools.proofs.heap_texts.places_of.Goals as goal
+
+pub loop-use_index-preserved : goal.loop-use_index-preserved
+loop-use_index-preserved c =
+    let starts = c.args.starts.now in
+    let n = c.loop-use_index.use_index in
+    let kept = c.loop-use_index.invariant in
+    let old = c.loop-use_index.places.items in
+    let long : length old ≡ n = omega (arith, kept.len, c.loop-use_index.places.ok.0) in
+    record {
+      len = omega (arith, c.in_ok-push.ensures.len, kept.len);
+      each = λ k h. subst (λ l. IsPlace starts k (place_at l k)) (sym c.in_ok-push.ensures.items)
+          (place_more starts old n (record { start = slice_index starts n; use_index = n }) long (refl, refl) kept.each k h);
+    }
+
+pub returns : goal.returns
+returns c =
+    let starts = c.args.starts.now in
+    let kept = c.loop-use_index.invariant in
+    let old = c.loop-use_index.places.items in
+    let end : c.loop-use_index.use_index ≡ length starts = omega arith in
+    let long : length old ≡ length starts = omega (arith, kept.len, c.loop-use_index.places.ok.0, end) in
+    places_sorted starts old c.sort_unstable.new.self.items long (λ k h. kept.each k (omega (arith, h, end))) c.sort_unstable.ensures.permutation

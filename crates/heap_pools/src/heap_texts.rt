@@ -1,0 +1,140 @@
+ghost use Rattle.std.specs.Prelude.{◌≡◌, ◌≤◌, ◌<◌, ◌-◌, ◌⊎◌, ℕ, length, slice_index, vec_len, IfOk};
+ghost use Rattle.heap_pools.specs.HeapTexts.{heap_text, texts_at};
+ghost use Rattle.heap_pools.specs.Places.{ArePlaces};
+ghost use Rattle.heap_pools.specs.Uses.{bytes_of};
+
+use memchr::memchr;
+use std::alloc::{AllocError, Global};
+
+/// The start of a text in a strings heap, and its use index. Places are ordered by starts.
+#[derive(Clone, Copy, PartialEq, Eq, PartialOrd, Ord)]
+pub struct Place {
+    pub start: u32,
+    pub use_index: usize,
+}
+
+/// The texts up to one NUL: the least start, and the text there, which ends with all others.
+#[derive(Clone, Copy)]
+struct Group<'a> {
+    start: usize,
+    text: &'a [u8],
+}
+
+/// The text at an index into a strings heap (II.24.2.3). Without a NUL it ends with the heap.
+fn text_in_heap(heap: &[u8], index: usize) -> &[u8]
+    ensures { result.now ≡ heap_text heap.now index }
+{
+    if index == 0 || index > heap.len() {
+        return &[];
+    }
+    let (_, tail) = heap.split_at(index);
+    let Some(len) = memchr(0, tail) else {
+        return tail;
+    };
+    let (text, _) = tail.split_at(len);
+    text
+}
+
+/// The group of the text at a start: this one if it has that text, otherwise a new one.
+fn group_at<'a>(heap: &'a [u8], group: Group<'a>, start: usize) -> Group<'a>
+    requires { group.text.now ≡ heap_text heap.now group.start }
+    ensures group { result.text.now ≡ heap_text heap.now result.start }
+    ensures from { result.start ≤ start }
+    ensures to { start - result.start ≤ length result.text.now }
+{
+    if group.start <= start && start - group.start <= group.text.len() {
+        return group;
+    }
+    Group {
+        start,
+        text: text_in_heap(heap, start),
+    }
+}
+
+/// The start at each use index, in the order of the starts, and then of the use indexes.
+pub fn places_of(alloc: Global, starts: &[u32]) -> Result<Vec<Place>, AllocError>
+    ensures { IfOk result (λ places. ArePlaces starts.now places.items) }
+{
+    let mut places = Vec::with_capacity(alloc, starts.len())?;
+    for use_index in 0..starts.len() {
+        places.push(Place {
+            start: starts[use_index],
+            use_index,
+        })?;
+    }
+    places.sort_unstable();
+    Ok(places)
+}
+
+/// The text at each use index.
+///
+/// In the order of starts, a text of a group is found from the one before, so that no byte of the heap is read twice.
+pub fn read_texts<'a>(
+    alloc: Global,
+    heap: &'a [u8],
+    starts: &[u32],
+    places: &[Place],
+) -> Result<Vec<&'a [u8]>, AllocError>
+    requires { ArePlaces starts.now places.now }
+    ensures { IfOk result (λ texts. bytes_of texts.items ≡ texts_at heap.now starts.now) }
+{
+    let mut group = Group {
+        start: 0,
+        text: &[],
+    };
+    let mut texts = vec![in alloc; group.text; starts.len()]?;
+    for place in places {
+        let start = place.start as usize;
+        group = group_at(heap, group, start);
+        let (_, text) = group.text.split_at(start - group.start);
+        texts[place.use_index] = text;
+    }
+    Ok(texts)
+}
+
+/// The first use index with the start of a place, if the place before has that of its own start.
+fn first_with_start(before: Place, place: &Place) -> usize
+    ensures within { result ≤ place.now.use_index }
+    ensures from { (result ≡ place.now.use_index) ⊎ ((result ≡ before.use_index) × (before.start ≡ place.now.start)) }
+{
+    if before.start == place.start && before.use_index <= place.use_index {
+        return before.use_index;
+    }
+    place.use_index
+}
+
+/// Each use index below `count`, as the first one of its text.
+pub fn own_firsts(alloc: Global, count: usize) -> Result<Vec<usize>, AllocError>
+    ensures len { IfOk result (λ firsts. vec_len firsts ≡ count) }
+    ensures own { IfOk result (λ firsts. (use_index : ℕ) → use_index < count → slice_index firsts.items use_index ≡ use_index) }
+{
+    let mut firsts = Vec::with_capacity(alloc, count)?;
+    for use_index in 0..count {
+        firsts.push(use_index)?;
+    }
+    Ok(firsts)
+}
+
+/// For each use index, the first one with its start.
+pub fn firsts_of(alloc: Global, starts: &[u32], places: &[Place]) -> Result<Vec<usize>, AllocError>
+    requires { ArePlaces starts.now places.now }
+    ensures len { IfOk result (λ firsts. vec_len firsts ≡ length starts.now) }
+    ensures firsts { IfOk result (λ firsts. (use_index : ℕ) → use_index < length starts.now
+        → (slice_index firsts.items use_index ≤ use_index)
+        × (slice_index starts.now (slice_index firsts.items use_index) ≡ slice_index starts.now use_index)) }
+{
+    let mut firsts = own_firsts(alloc, starts.len())?;
+    let mut before = Place {
+        start: 0,
+        use_index: starts.len(),
+    };
+    for place in places {
+        let use_index = first_with_start(before, place);
+        firsts[place.use_index] = use_index;
+        before = Place {
+            start: place.start,
+            use_index,
+        };
+    }
+    Ok(firsts)
+}
