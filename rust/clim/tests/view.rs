@@ -1,0 +1,190 @@
+//! Tests on the samples, and on the file that CLIM_TEST_FILE names.
+
+use clim::rows::*;
+use clim::{check, check_root, read_header, BoundedError, Cell, Fault, Row, Table, Token, View};
+use std::error::Error;
+use std::{env, fs, thread};
+
+/// The bytes of a sample.
+fn sample(name: &str) -> Vec<u8> {
+    fs::read(format!("{}/../../samples/{name}", env!("CARGO_MANIFEST_DIR"))).expect("a sample")
+}
+
+/// Runs a test on each file.
+fn each(test: impl Fn(&View)) {
+    test(&View::open(&sample("one_module.dll")).expect("a file"));
+    for name in ["one_module.root", "two_types.root", "greeter.root", "empty.root"] {
+        test(&View::open_root(&sample(name)).expect("a root"));
+    }
+    if let Some(path) = env::var_os("CLIM_TEST_FILE") {
+        test(&View::open(&fs::read(path).expect("a file")).expect("a valid file"));
+    }
+}
+
+/// The rows of a table are those of its single cells, in order.
+fn compare_rows<'a, R: Row<'a> + PartialEq + std::fmt::Debug>(view: &View<'a>) {
+    let names: Vec<_> = R::TABLE.columns().collect();
+    assert_eq!(names, R::COLUMNS);
+    let rows: Vec<R> = view.rows().collect();
+    assert_eq!(rows.len(), view.count(R::TABLE) as usize);
+    assert_eq!(view.rows::<R>().len(), rows.len());
+    let step = rows.len() / 500 + 1;
+    for (number, row) in (1..).zip(&rows).step_by(step) {
+        let cells = (0..names.len()).map(|column| view.cell(R::TABLE, number, column).expect("a cell"));
+        assert_eq!(R::from_cells(cells).as_ref(), Some(row));
+        assert_eq!(view.row::<R>(number).as_ref(), Some(row));
+    }
+    assert!(view.row::<R>(0).is_none() && view.row::<R>(view.count(R::TABLE) + 1).is_none());
+    assert!(view.row::<R>(u32::MAX).is_none());
+}
+
+macro_rules! compare_all {
+    ($view:expr, $($table:ident)*) => {
+        assert_eq!([$(Table::$table),*], Table::ALL);
+        $(
+            assert_eq!(Table::$table.name(), stringify!($table));
+            compare_rows::<$table>($view);
+        )*
+    };
+}
+
+#[test]
+fn rows_are_those_of_single_cells() {
+    each(|view| {
+        compare_all!(view, Module TypeRef TypeDef Field MethodDef Param InterfaceImpl MemberRef Constant CustomAttribute
+            FieldMarshal DeclSecurity ClassLayout FieldLayout StandAloneSig EventMap Event PropertyMap Property
+            MethodSemantics MethodImpl ModuleRef TypeSpec ImplMap FieldRVA Assembly AssemblyProcessor AssemblyOS
+            AssemblyRef AssemblyRefProcessor AssemblyRefOS File ExportedType ManifestResource NestedClass GenericParam
+            MethodSpec GenericParamConstraint);
+    });
+}
+
+#[test]
+fn columns_are_those_of_single_cells() {
+    each(|view| {
+        for table in Table::ALL {
+            for column in 0..table.columns().count() {
+                assert_eq!(view.column(table, column).count(), view.count(table) as usize);
+                let step = view.count(table) as usize / 100 + 1;
+                for (row, cell) in (1..).zip(view.column(table, column)).step_by(step) {
+                    assert_eq!(view.cell(table, row, column), Some(cell));
+                }
+            }
+            assert_eq!(view.column(table, 99).next(), None);
+            assert_eq!(view.column(table, usize::MAX).next(), None);
+            assert_eq!(view.cell(table, 0, 0), None);
+        }
+    });
+}
+
+#[test]
+fn runs_cover_their_members() {
+    each(|view| {
+        let mut next = (1, 1, 1);
+        for row in 1..=view.count(Table::TypeDef) {
+            let (fields, methods) = (view.fields_of(row), view.methods_of(row));
+            assert_eq!((fields.start, methods.start), (next.0, next.1));
+            next = (fields.end, methods.end, next.2);
+        }
+        for row in 1..=view.count(Table::MethodDef) {
+            assert_eq!(view.params_of(row).start, next.2);
+            next.2 = view.params_of(row).end;
+        }
+        for (past, table) in [(next.0, Table::Field), (next.1, Table::MethodDef), (next.2, Table::Param)] {
+            assert_eq!(past, view.count(table) + 1);
+        }
+        assert!(view.fields_of(0).is_empty() && view.methods_of(u32::MAX).is_empty());
+        assert_eq!(view.members(Token { table: Table::Module, row: 1 }, Table::Field), None);
+    });
+}
+
+#[test]
+fn look_ups() {
+    each(|view| {
+        for (row, its) in (1..).zip(view.rows::<TypeDef>()).step_by(97) {
+            let found = view.find_type(its.type_namespace, its.type_name).expect("a type");
+            assert!(found <= row);
+            assert!(view.full_name(row).ends_with(its.type_name));
+            let key = Token { table: Table::TypeDef, row };
+            let listed = view.by_key(Table::CustomAttribute, key);
+            assert!(listed.iter().all(|&it| view.row::<CustomAttribute>(it).expect("a row").parent == key));
+        }
+        assert_eq!(view.find_type("no such", "type"), None);
+        assert_eq!(view.full_name(0), "");
+        assert!(view.by_key(Table::Module, Token { table: Table::Module, row: 1 }).is_empty());
+    });
+}
+
+#[test]
+fn greeter() {
+    let root = sample("greeter.root");
+    let view = View::open_root(&root).expect("a root");
+    assert_eq!(view.version(), "v4.0.30319");
+    assert_eq!(view.find_type("Hello", "Greeter"), Some(2));
+    assert_eq!(view.full_name(2), "Hello.Greeter");
+    let names: Vec<_> = view.rows_in::<MethodDef>(view.methods_of(2)).map(|it| it.name).collect();
+    assert_eq!(names, [".ctor", "Greet"]);
+    assert_eq!(view.cell(Table::Param, 1, 2), Some(Cell::Text("name")));
+    assert_eq!(view.rows_in::<Param>(0..99).count(), 2);
+    assert_eq!(view.user(), b"");
+}
+
+#[test]
+fn texts_outlive_the_view_and_threads_share_it() {
+    let file = sample("one_module.dll");
+    let name = View::open(&file).expect("a file").row::<Module>(1).expect("a row").name;
+    assert_eq!(name, "a.dll");
+    let view = View::open(&file).expect("a file");
+    thread::scope(|scope| {
+        for _ in 0..4 {
+            scope.spawn(|| assert_eq!(view.rows::<Module>().next().map(|it| it.name), Some("a.dll")));
+        }
+    });
+}
+
+#[test]
+fn the_header() {
+    let file = sample("one_module.dll");
+    let header = read_header(&file).expect("a header");
+    assert_eq!((header.cb, header.root_start, header.root_end), (72, 592, 736));
+    assert_eq!(View::open_root(&file[header.root_start..header.root_end]).expect("a root").count(Table::Module), 1);
+    assert_eq!(read_header(b"").map(|_| ()), Err(Fault { layer: 1, code: 102, offset: 0 }));
+}
+
+#[test]
+fn faults_are_errors() {
+    let fault = View::open(b"MZ").expect_err("a fault");
+    assert_eq!(fault, Fault { layer: 1, code: 102, offset: 0 });
+    assert_eq!(fault.name(), "DosHeader");
+    let error: Box<dyn Error + Send + Sync> = Box::new(fault);
+    assert_eq!(error.to_string(), "fault 1 102 at 0: DosHeader");
+    assert_eq!(View::open_root(b"").expect_err("a fault").to_string(), "fault 3 301 at 0: RootSignature");
+}
+
+#[test]
+fn check_and_open_agree() {
+    let mut root = sample("two_types.root");
+    for len in 0..root.len() {
+        assert_eq!(check_root(&root[..len]), View::open_root(&root[..len]).map(|_| ()));
+    }
+    for offset in 0..root.len() {
+        let kept = std::mem::replace(&mut root[offset], 0xFF);
+        assert_eq!(check_root(&root), View::open_root(&root).map(|_| ()));
+        root[offset] = kept;
+    }
+    assert_eq!(check(&sample("one_module.dll")), Ok(()));
+}
+
+#[test]
+fn a_budget_is_kept_or_not_supported() {
+    let file = sample("one_module.dll");
+    let opened = View::open_within(&file, u64::MAX).map(|view| view.count(Table::Module));
+    let empty = View::open_within(b"", 0).map(|_| ());
+    if clim_sys::HAS_OPEN_WITHIN {
+        assert_eq!(opened, Ok(1));
+        assert_eq!(empty, Err(BoundedError::Fault(Fault { layer: 1, code: 102, offset: 0 })));
+    } else {
+        assert_eq!(opened, Err(BoundedError::Unsupported("clim_open_within")));
+        assert_eq!(empty.map_err(|it| it.to_string()), Err("this library of clim has no function clim_open_within".into()));
+    }
+}
