@@ -332,6 +332,11 @@ namespace Clim
         public static extern bool clim_open_within(
             IntPtr file, UIntPtr length, ulong budget, Memory view, ref NativeFault fault, ref byte spent);
 
+        [DllImport(Library)]
+        [return: MarshalAs(UnmanagedType.I1)]
+        public static extern bool clim_open_root_within(
+            IntPtr root, UIntPtr length, ulong budget, Memory view, ref NativeFault fault, ref byte spent);
+
         /// <summary>Makes a call of a function that an older library lacks.</summary>
         public static T Newer<T>(Func<T> call)
         {
@@ -427,6 +432,8 @@ namespace Clim
         const int Expected = 16;
         // The number of types in one full name.
         const int Depth = 64;
+        // The number of bytes of a text that is kept for other rows.
+        const int Kept = 256;
 
         readonly Memory memory;
         readonly Dictionary<IntPtr, string> texts = new Dictionary<IntPtr, string>();
@@ -475,16 +482,33 @@ namespace Clim
         /// <exception cref="NotSupportedException">The library is older than this file.</exception>
         public static Assembly Open(byte[] file, ulong budget)
         {
-            return new Assembly(file, (IntPtr bytes, UIntPtr length, Memory view, ref NativeFault fault) =>
+            return new Assembly(file, Within(Native.clim_open_within, budget));
+        }
+
+        /// <summary>Opens a bare metadata root within a budget.</summary>
+        /// <exception cref="ClimFault">The root breaks a rule. It is that of the first one.</exception>
+        /// <exception cref="BudgetSpentException">The budget is spent.</exception>
+        /// <exception cref="NotSupportedException">The library is older than this file.</exception>
+        public static Assembly OpenRoot(byte[] root, ulong budget)
+        {
+            return new Assembly(root, Within(Native.clim_open_root_within, budget));
+        }
+
+        delegate bool BoundedOpening(
+            IntPtr bytes, UIntPtr length, ulong budget, Memory view, ref NativeFault fault, ref byte spent);
+
+        static Opening Within(BoundedOpening open, ulong budget)
+        {
+            return (IntPtr bytes, UIntPtr length, Memory view, ref NativeFault fault) =>
             {
                 byte spent = 0;
                 var found = new NativeFault();
-                bool opened = Native.Newer(() => Native.clim_open_within(bytes, length, budget, view, ref found, ref spent));
+                bool opened = Native.Newer(() => open(bytes, length, budget, view, ref found, ref spent));
                 if (spent != 0)
                     throw new BudgetSpentException();
                 fault = found;
                 return opened;
-            });
+            };
         }
 
         /// <summary>The fault of the first rule that a file breaks, or null if it meets all rules.</summary>
@@ -717,8 +741,9 @@ namespace Clim
 
         internal string TextOf(NativeBytes bytes)
         {
-            if (bytes.Length == UIntPtr.Zero)
-                return "";
+            // Texts of a crafted file can overlap, and then have much more bytes than the file. So long ones are not kept.
+            if (bytes.Length == UIntPtr.Zero || (ulong)bytes.Length > Kept)
+                return Encoding.UTF8.GetString(BytesOf(bytes));
             string text;
             lock (texts)
             {

@@ -97,17 +97,18 @@ static class Tests
         Throws<ObjectDisposedException>(() => assembly.ByKey<CustomAttributeRow>(module.Token));
     }
 
-    static void Budget(byte[] file)
+    static void Budget(byte[] root)
     {
         try
         {
-            using (var assembly = Assembly.Open(file, ulong.MaxValue))
-                Check(assembly.Count(TableId.Module) == 1, "a budget that is enough");
+            using (var assembly = Assembly.OpenRoot(root, ulong.MaxValue))
+                Check(assembly.Count(TableId.TypeDef) == 2, "a budget that is enough");
+            Throws<BudgetSpentException>(() => Assembly.OpenRoot(root, 0));
             Throws<ClimFault>(() => Assembly.Open(new byte[0], 0));
         }
         catch (NotSupportedException missing)
         {
-            Check(missing.Message.Contains("clim_open_within"), "the function that the library lacks");
+            Check(missing.Message.Contains("clim_open_root_within"), "the function that the library lacks");
         }
     }
 
@@ -160,7 +161,7 @@ static class Tests
         Faults();
         Greeter(File.ReadAllBytes(Path.Combine(samples, "greeter.root")));
         Closed(File.ReadAllBytes(Path.Combine(samples, "one_module.dll")));
-        Budget(File.ReadAllBytes(Path.Combine(samples, "one_module.dll")));
+        Budget(File.ReadAllBytes(Path.Combine(samples, "greeter.root")));
         Header(File.ReadAllBytes(Path.Combine(samples, "one_module.dll")));
         AppDomain.CurrentDomain.ReflectionOnlyAssemblyResolve +=
             (sender, wanted) => System.Reflection.Assembly.ReflectionOnlyLoad(wanted.Name);

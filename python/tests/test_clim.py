@@ -10,6 +10,7 @@ import mmap
 import os
 import pathlib
 import pickle
+import struct
 import sys
 import tempfile
 import threading
@@ -293,6 +294,33 @@ class Reading(unittest.TestCase):
             self.assertTrue(all(it in root for it in heaps.values()))
             names = set(heaps["#Strings"].split(b"\0"))
             self.assertIn((assembly.module or assembly.types[1]).name.encode(), names)
+
+
+class Overlapping(unittest.TestCase):
+    """Names of a crafted root that are parts of one text, and have 600 times the bytes of the root."""
+
+    def root(self):
+        rows_ = b"".join(struct.pack("<3H", 0, name, 0) for name in range(1, 4001))
+        tables = struct.pack("<IBBBBQQI", 0, 2, 0, 0, 1, 1 << 1, 0x16003301FA00, 4000) + rows_
+        strings = b"\0" + b"x" * 7000 + b"\0\0\0"
+        version = struct.pack("<IHHII", 0x424A5342, 1, 1, 0, 12) + b"v4.0.30319\0\0"
+        streams = struct.pack("<HHII", 0, 2, 64, len(tables)) + b"#~\0\0"
+        streams += struct.pack("<II", 64 + len(tables), len(strings)) + b"#Strings\0\0\0\0"
+        return version + streams + tables + strings
+
+    def test_a_column_is_not_read_at_once(self):
+        root = self.root()
+        self.assertEqual(len(root), 31096)
+        with clim.open(root, bare=True) as assembly:
+            names = assembly.type_refs.column("TypeName")
+            self.assertIsInstance(names, clim.assembly._Texts)
+            self.assertEqual(assembly._texts, {})
+            self.assertEqual((len(names), len(names[0]), len(names[-1])), (4000, 7000, 3001))
+            self.assertEqual([len(it) for it in names[1:4]], [6999, 6998, 6997])
+            self.assertEqual(assembly.type_refs[9].name, "x" * 6991)
+            self.assertRaises(IndexError, lambda: names[4000])
+            self.assertEqual(assembly.type_refs.column("TypeNamespace"), ("",) * 4000)
+        self.assertRaises(ValueError, lambda: names[0])
 
 
 class Features(unittest.TestCase):

@@ -117,12 +117,31 @@ impl<'a> View<'a> {
         if !clim_sys::HAS_OPEN_WITHIN {
             return Err(BoundedError::Unsupported("clim_open_within"));
         }
-        let (mut view, mut fault, mut spent) = (CLIM_CLOSED, CLIM_NO_FAULT, false);
         // SAFETY: The pointers are valid during the call, and each has a value.
-        let opened = unsafe {
-            clim_sys::clim_open_within(file.as_ptr(), file.len(), budget, &mut view, &mut fault, &mut spent)
-        };
-        match (opened, spent) {
+        View::within(|view, fault, spent| unsafe {
+            clim_sys::clim_open_within(file.as_ptr(), file.len(), budget, view, fault, spent)
+        })
+    }
+
+    /// Opens a bare metadata root within a budget.
+    ///
+    /// # Errors
+    ///
+    /// The root breaks a rule, the budget is spent, or the library lacks the function.
+    pub fn open_root_within(root: &'a [u8], budget: u64) -> Result<View<'a>, BoundedError> {
+        if !clim_sys::HAS_OPEN_ROOT_WITHIN {
+            return Err(BoundedError::Unsupported("clim_open_root_within"));
+        }
+        // SAFETY: The pointers are valid during the call, and each has a value.
+        View::within(|view, fault, spent| unsafe {
+            clim_sys::clim_open_root_within(root.as_ptr(), root.len(), budget, view, fault, spent)
+        })
+    }
+
+    /// What a call within a budget opened.
+    fn within(open: impl FnOnce(&mut clim_view, &mut clim_fault, &mut bool) -> bool) -> Result<View<'a>, BoundedError> {
+        let (mut view, mut fault, mut spent) = (CLIM_CLOSED, CLIM_NO_FAULT, false);
+        match (open(&mut view, &mut fault, &mut spent), spent) {
             (true, _) => Ok(View::of(view)),
             (false, true) => Err(BoundedError::BudgetSpent),
             (false, false) => Err(BoundedError::Fault(fault.into())),

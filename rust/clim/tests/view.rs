@@ -177,14 +177,19 @@ fn check_and_open_agree() {
 
 #[test]
 fn a_budget_is_kept_or_not_supported() {
-    let file = sample("one_module.dll");
-    let opened = View::open_within(&file, u64::MAX).map(|view| view.count(Table::Module));
+    let (file, root) = (sample("one_module.dll"), sample("greeter.root"));
+    let opened = View::open_within(&file, 0).map(|view| view.count(Table::Module));
     let empty = View::open_within(b"", 0).map(|_| ());
-    if clim_sys::HAS_OPEN_WITHIN {
+    let spent = View::open_root_within(&root, 0).map(|_| ());
+    let enough = View::open_root_within(&root, u64::MAX).map(|view| view.count(Table::TypeDef));
+    if clim_sys::HAS_OPEN_WITHIN && clim_sys::HAS_OPEN_ROOT_WITHIN {
         assert_eq!(opened, Ok(1));
         assert_eq!(empty, Err(BoundedError::Fault(Fault { layer: 1, code: 102, offset: 0 })));
+        assert_eq!((spent, enough), (Err(BoundedError::BudgetSpent), Ok(2)));
     } else {
         assert_eq!(opened, Err(BoundedError::Unsupported("clim_open_within")));
+        assert_eq!(enough, Err(BoundedError::Unsupported("clim_open_root_within")));
         assert_eq!(empty.map_err(|it| it.to_string()), Err("this library of clim has no function clim_open_within".into()));
+        assert!(spent.is_err());
     }
 }
