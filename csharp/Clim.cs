@@ -18,7 +18,6 @@ using System.Text;
 namespace Clim
 {
     /// <summary>The first rule that some bytes break. Its message is the line that <c>clim check</c> prints.</summary>
-    [Serializable]
     public sealed class ClimFault : BadImageFormatException
     {
         /// <summary>The layer of the rule, from 1 to 9: the hundreds of its number.</summary>
@@ -44,7 +43,6 @@ namespace Clim
     }
 
     /// <summary>Thrown by <see cref="Assembly.Open(byte[], ulong)"/> if the signatures have more bytes than the budget.</summary>
-    [Serializable]
     public sealed class BudgetSpentException : Exception
     {
         internal BudgetSpentException() : base("the budget is spent") { }
@@ -350,7 +348,12 @@ namespace Clim
             }
         }
 
-        public static UIntPtr Length(byte[] bytes) { return (UIntPtr)bytes.Length; }
+        public static UIntPtr Length(byte[] bytes)
+        {
+            if (bytes == null)
+                throw new ArgumentNullException("bytes");
+            return (UIntPtr)bytes.Length;
+        }
     }
 
     /// <summary>The cells of a row, in the order of its columns. Rows read themselves from it.</summary>
