@@ -149,6 +149,12 @@ static class Tests
                 var outer = assembly.Row<TypeDefRow>(nested.EnclosingClass.Row);
                 Expect(assembly.FullName(type) == assembly.FullName(outer) + "/" + type.TypeName, "the name of " + type.Token);
             }
+            foreach (var attributes in assembly.Rows<CustomAttributeRow>().GroupBy(it => it.Parent))
+                if (attributes.Key.Row % 10 == 1)
+                {
+                    var listed = assembly.ByKey<CustomAttributeRow>(attributes.Key).Select(it => it.Token);
+                    Expect(listed.SequenceEqual(attributes.Select(it => it.Token)), "the attributes of " + attributes.Key);
+                }
             Expect(methods == assembly.Count(TableId.MethodDef) && types == assembly.Count(TableId.TypeDef), "all rows");
         }
         Check(failed == before, "the names of " + path);

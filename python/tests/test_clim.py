@@ -1,6 +1,6 @@
 """Tests of the package. The last line is 'N passed, M failed'.
 
-    test_clim.py [FILE..]      the samples, and these files
+    test_clim.py [FILE..]      the samples, and these files; a bare root ends in .root
 """
 
 import copy
@@ -15,6 +15,7 @@ import sys
 import tempfile
 import threading
 import unittest
+import unittest.mock
 import uuid
 
 import clim
@@ -207,6 +208,14 @@ class Reading(unittest.TestCase):
         self.assertTrue(_library.library.clim_cell_at(assembly._view(), table, number, column, at))
         return list(assembly._values(cell))[0]
 
+    def test_columns_are_read_in_parts(self):
+        for path, bare in FILES:
+            with clim.open(path, bare) as assembly, unittest.mock.patch.object(clim.assembly, "_CELLS", 7):
+                for table in assembly:
+                    names = table.columns[:: len(table) // 1000 + 1]
+                    self.assertTrue(all(len(table.column(it)) == len(table) for it in names))
+                    self.assertTrue(all(table[-1][it] == self.single(assembly, table.number, len(table), table.columns.index(it)) for it in names))
+
     def test_runs_and_owners(self):
         for path, assembly in opened():
             for owners, member, attribute, owner in (
@@ -231,18 +240,21 @@ class Reading(unittest.TestCase):
                 self.assertTrue(all(it.token.table == 0x17 for it in row.properties), path)
                 self.assertTrue(all(it.Parent == row.token and it.parent == row for it in row.custom_attributes))
             self.assertIsNone(assembly.find_type("no such", "type"))
-            for row in assembly.custom_attributes[::197]:
-                self.assertIn(row, row.parent.custom_attributes)
+            by_parent = {}
+            for row in assembly.custom_attributes:
+                by_parent.setdefault(row.Parent, []).append(row)
                 self.assertIsInstance(row.name, str)
+            for parent, attributes in list(by_parent.items())[:: len(by_parent) // 200 + 1]:
+                self.assertEqual(assembly.row(parent).custom_attributes, attributes)
 
     def test_names_of_nested_types(self):
         for _, assembly in opened():
             for row in assembly.types[::31]:
                 names, outer = [], row
-                while outer is not None:
+                while outer is not None and len(names) < 64:
                     names.insert(0, ".".join(filter(None, (outer.namespace, outer.name))))
                     outer = outer.enclosing_type
-                self.assertEqual(row.full_name, "/".join(names))
+                self.assertEqual(row.full_name, "/".join(names if outer is None else ["..", *names]))
 
     def test_a_circle_of_scopes_ends(self):
         class Circle(rows.TypeRef):
@@ -348,7 +360,7 @@ def load_tests(loader, tests, pattern):
 
 
 def main():
-    FILES.extend((pathlib.Path(it), False) for it in sys.argv[1:])
+    FILES.extend((pathlib.Path(it), it.endswith(".root")) for it in sys.argv[1:])
     os.chdir(TOP)
     result = unittest.main(argv=sys.argv[:1], exit=False).result
     bad = len(result.failures) + len(result.errors)

@@ -1,7 +1,8 @@
-//! Tests on the samples, and on the file that CLIM_TEST_FILE names.
+//! Tests on the samples, and on the file that CLIM_TEST_FILE names: a bare root if its name ends in `.root`.
 
 use clim::rows::*;
 use clim::{check, check_root, read_header, BoundedError, Cell, Fault, Row, Table, Token, View};
+use std::collections::BTreeMap;
 use std::error::Error;
 use std::{env, fs, thread};
 
@@ -16,8 +17,10 @@ fn each(test: impl Fn(&View)) {
     for name in ["one_module.root", "two_types.root", "greeter.root", "empty.root"] {
         test(&View::open_root(&sample(name)).expect("a root"));
     }
-    if let Some(path) = env::var_os("CLIM_TEST_FILE") {
-        test(&View::open(&fs::read(path).expect("a file")).expect("a valid file"));
+    if let Ok(path) = env::var("CLIM_TEST_FILE") {
+        let file = fs::read(&path).expect("a file");
+        let opened = if path.ends_with(".root") { View::open_root(&file) } else { View::open(&file) };
+        test(&opened.expect("a valid file"));
     }
 }
 
@@ -108,6 +111,13 @@ fn look_ups() {
             let key = Token { table: Table::TypeDef, row };
             let listed = view.by_key(Table::CustomAttribute, key);
             assert!(listed.iter().all(|&it| view.row::<CustomAttribute>(it).expect("a row").parent == key));
+        }
+        let mut by_parent = BTreeMap::<Token, Vec<u32>>::new();
+        for (row, its) in (1..).zip(view.rows::<CustomAttribute>()) {
+            by_parent.entry(its.parent).or_default().push(row);
+        }
+        for (parent, rows) in by_parent.iter().step_by(by_parent.len() / 200 + 1) {
+            assert_eq!(&view.by_key(Table::CustomAttribute, *parent), rows);
         }
         assert_eq!(view.find_type("no such", "type"), None);
         assert_eq!(view.full_name(0), "");
