@@ -77,7 +77,7 @@ SIGNATURES = {
     "TypeSpec": ["1d08", "1d0e", "0f01"],
     "Instance": ["0a0108", "0a010e", "0a020808"],
 }
-# Where the root of the sample begins, and where its CLI header has the size of the root (II.25.3.3).
+# The offsets of the sample's root, and of the size of the root in its CLI header (II.25.3.3).
 ROOT_START, METADATA_SIZE = 592, 532
 ROWS = 200
 # The last row that is the parent of a custom attribute.
