@@ -40,6 +40,17 @@ namespace Clim
             Offset = (long)fault.Offset;
             RuleName = name;
         }
+
+        /// <summary>What <c>clim explain</c> prints of the rule, in lines that are not broken.</summary>
+        /// <exception cref="NotSupportedException">The library is older than this file.</exception>
+        public string Explanation
+        {
+            get
+            {
+                return Native.WrittenText(
+                    (buffer, room) => Native.Newer(() => Native.clim_explain((ushort)Code, buffer, room)));
+            }
+        }
     }
 
     /// <summary>Thrown by <see cref="Assembly.Open(byte[], ulong)"/> if the signatures have more bytes than the budget.</summary>
@@ -335,6 +346,71 @@ namespace Clim
         public static extern bool clim_open_root_within(
             IntPtr root, UIntPtr length, ulong budget, Memory view, ref NativeFault fault, ref byte spent);
 
+        [DllImport(Library)]
+        [return: MarshalAs(UnmanagedType.I1)]
+        public static extern bool clim_check_within(
+            byte[] file, UIntPtr length, ulong budget, ref NativeFault fault, ref byte spent);
+
+        [DllImport(Library)]
+        [return: MarshalAs(UnmanagedType.I1)]
+        public static extern bool clim_check_root_within(
+            byte[] root, UIntPtr length, ulong budget, ref NativeFault fault, ref byte spent);
+
+        [DllImport(Library)]
+        public static extern UIntPtr clim_explain(ushort code, [In, Out] byte[] buffer, UIntPtr room);
+
+        [DllImport(Library)]
+        public static extern UIntPtr clim_signature_text(
+            Memory view, TableId table, uint row, UIntPtr column, [In, Out] byte[] buffer, UIntPtr room);
+
+        [DllImport(Library)]
+        [return: MarshalAs(UnmanagedType.I1)]
+        public static extern bool clim_user_string(
+            Memory view, uint token, [In, Out] ushort[] units, UIntPtr room, ref UIntPtr count, ref ushort flag);
+
+        [DllImport(Library)]
+        static extern uint clim_abi_version();
+
+        // The interface that this file calls, CLIM_ABI_VERSION of clim.h.
+        const uint Version = 1;
+        // The length that most texts have at most.
+        public const int Usual = 256;
+
+        /// <summary>Throws if the library has another interface than this file calls.</summary>
+        public static void CheckVersion()
+        {
+            uint version = Version;
+            try
+            {
+                version = clim_abi_version();
+            }
+            catch (EntryPointNotFoundException)
+            {
+                // A library without this function has the first version.
+            }
+            if (version != Version)
+                throw new NotSupportedException("libclim.so has the interface " + version + ", and Clim.cs needs " + Version);
+        }
+
+        public delegate UIntPtr Writing(byte[] buffer, UIntPtr room);
+
+        /// <summary>
+        /// The text that a call writes into a buffer, and whose length it returns; null if it is too long.
+        /// </summary>
+        public static string WrittenText(Writing write)
+        {
+            for (var buffer = new byte[Usual]; ;)
+            {
+                ulong length = (ulong)write(buffer, Length(buffer));
+                if (length <= (ulong)buffer.Length)
+                    return Encoding.UTF8.GetString(buffer, 0, (int)length);
+                // CLIM_TOO_LONG, or a length that no array has.
+                if (length > int.MaxValue)
+                    return null;
+                buffer = new byte[length];
+            }
+        }
+
         /// <summary>Makes a call of a function that an older library lacks.</summary>
         public static T Newer<T>(Func<T> call)
         {
@@ -447,6 +523,7 @@ namespace Clim
         {
             if (bytes == null)
                 throw new ArgumentNullException("bytes");
+            Native.CheckVersion();
             var fault = new NativeFault();
             memory = new Memory(bytes);
             bool opened = false;
@@ -526,6 +603,37 @@ namespace Clim
         {
             var fault = new NativeFault();
             return Native.clim_check_root(root, Native.Length(root), ref fault) ? null : FaultOf(fault);
+        }
+
+        /// <summary>The same as <see cref="Check(byte[])"/>, within a budget as that of <see cref="Open(byte[], ulong)"/>.</summary>
+        /// <exception cref="BudgetSpentException">The budget is spent.</exception>
+        /// <exception cref="NotSupportedException">The library is older than this file.</exception>
+        public static ClimFault Check(byte[] file, ulong budget)
+        {
+            byte spent = 0;
+            var fault = new NativeFault();
+            bool isWhole = Native.Newer(
+                () => Native.clim_check_within(file, Native.Length(file), budget, ref fault, ref spent));
+            return Checked(isWhole, fault, spent);
+        }
+
+        /// <summary>The same for a bare metadata root.</summary>
+        /// <exception cref="BudgetSpentException">The budget is spent.</exception>
+        /// <exception cref="NotSupportedException">The library is older than this file.</exception>
+        public static ClimFault CheckRoot(byte[] root, ulong budget)
+        {
+            byte spent = 0;
+            var fault = new NativeFault();
+            bool isWhole = Native.Newer(
+                () => Native.clim_check_root_within(root, Native.Length(root), budget, ref fault, ref spent));
+            return Checked(isWhole, fault, spent);
+        }
+
+        static ClimFault Checked(bool isWhole, NativeFault fault, byte spent)
+        {
+            if (spent != 0)
+                throw new BudgetSpentException();
+            return isWhole ? null : FaultOf(fault);
         }
 
         /// <summary>The CLI header of a file. The tables are not checked.</summary>
@@ -669,6 +777,56 @@ namespace Clim
                     Array.Resize(ref rows, count);
                     return Array.ConvertAll(rows, row => Row<T>((int)row));
                 }
+            }
+        }
+
+        /// <summary>
+        /// The signature of a row in the notation of ILAsm (II.7.1, II.15.3), with names as they are in the file. It is null
+        /// if there is no such row, if it has no signature, or if the text has more than 65,536 bytes, as those of crafted
+        /// files can have.
+        /// </summary>
+        /// <exception cref="NotSupportedException">The library is older than this file.</exception>
+        public string SignatureText(Token row)
+        {
+            int column = SignatureColumn(row.Table);
+            if (column < 0)
+                return null;
+            string text = Native.WrittenText((buffer, room) => Native.Newer(() => Native.clim_signature_text(
+                memory, row.Table, (uint)row.Row, (UIntPtr)column, buffer, room)));
+            return text == "" ? null : text;
+        }
+
+        // The column of the signatures of a table, or -1. No table has two.
+        static int SignatureColumn(TableId table)
+        {
+            switch (table)
+            {
+                case TableId.StandAloneSig: case TableId.TypeSpec: return 0;
+                case TableId.MethodSpec: return 1;
+                case TableId.Field: case TableId.MemberRef: case TableId.Property: return 2;
+                case TableId.MethodDef: return 4;
+                default: return -1;
+            }
+        }
+
+        /// <summary>
+        /// The user string of a token such as 0x70000001, which <c>ldstr</c> has (II.24.2.4). It is null if the token is
+        /// another one, or <c>#US</c> has no user string there.
+        /// </summary>
+        /// <exception cref="NotSupportedException">The library is older than this file.</exception>
+        public string UserString(int token)
+        {
+            for (var units = new ushort[Native.Usual]; ;)
+            {
+                var count = UIntPtr.Zero;
+                ushort flag = 0;
+                bool found = Native.Newer(() => Native.clim_user_string(
+                    memory, (uint)token, units, (UIntPtr)units.Length, ref count, ref flag));
+                if (!found)
+                    return null;
+                if ((ulong)count <= (ulong)units.Length)
+                    return new string(Array.ConvertAll(units, unit => (char)unit), 0, (int)count);
+                units = new ushort[(ulong)count];
             }
         }
 

@@ -97,18 +97,46 @@ static class Tests
         Throws<ObjectDisposedException>(() => assembly.ByKey<CustomAttributeRow>(module.Token));
     }
 
-    static void Budget(byte[] root)
+    // Runs tests of a function that the library may lack. Then a call of it says so.
+    static void Newer(string function, Action tests)
     {
         try
+        {
+            tests();
+        }
+        catch (NotSupportedException missing)
+        {
+            Check(missing.Message.Contains(function), "the library lacks " + function);
+        }
+    }
+
+    static void NewerFunctions(byte[] root)
+    {
+        Newer("clim_open_root_within", () =>
         {
             using (var assembly = Assembly.OpenRoot(root, ulong.MaxValue))
                 Check(assembly.Count(TableId.TypeDef) == 2, "a budget that is enough");
             Throws<BudgetSpentException>(() => Assembly.OpenRoot(root, 0));
-            Throws<ClimFault>(() => Assembly.Open(new byte[0], 0));
-        }
-        catch (NotSupportedException missing)
+        });
+        Newer("clim_open_within", () => Throws<ClimFault>(() => Assembly.Open(new byte[0], 0)));
+        Newer("clim_check_within", () => Check(Assembly.Check(new byte[0], 0).Code == 102, "no bytes"));
+        Newer("clim_check_root_within", () =>
         {
-            Check(missing.Message.Contains("clim_open_root_within"), "the function that the library lacks");
+            Check(Assembly.CheckRoot(root, ulong.MaxValue) == null, "a budget that is enough");
+            Throws<BudgetSpentException>(() => Assembly.CheckRoot(root, 0));
+        });
+        Newer("clim_explain", () =>
+            Check(Assembly.Check(new byte[0]).Explanation.StartsWith("102 DosHeader: "), "an explanation"));
+        using (var assembly = Assembly.OpenRoot(root))
+        {
+            Newer("clim_signature_text", () =>
+            {
+                string text = assembly.SignatureText(new Token(TableId.MethodDef, 2));
+                Check(text.Contains("string") && text.Contains("int32"), "the text of a signature");
+                Check(assembly.SignatureText(new Token(TableId.MethodDef, 3)) == null, "no such method");
+            });
+            Check(assembly.SignatureText(new Token(TableId.TypeDef, 1)) == null, "types have no signatures");
+            Newer("clim_user_string", () => Check(assembly.UserString(0x70000001) == null, "no user strings"));
         }
     }
 
@@ -167,7 +195,7 @@ static class Tests
         Faults();
         Greeter(File.ReadAllBytes(Path.Combine(samples, "greeter.root")));
         Closed(File.ReadAllBytes(Path.Combine(samples, "one_module.dll")));
-        Budget(File.ReadAllBytes(Path.Combine(samples, "greeter.root")));
+        NewerFunctions(File.ReadAllBytes(Path.Combine(samples, "greeter.root")));
         Header(File.ReadAllBytes(Path.Combine(samples, "one_module.dll")));
         AppDomain.CurrentDomain.ReflectionOnlyAssemblyResolve +=
             (sender, wanted) => System.Reflection.Assembly.ReflectionOnlyLoad(wanted.Name);

@@ -68,15 +68,27 @@ def open(source: Source, bare: bool = False, *, mmap: bool = False, budget: Opti
     return Assembly(read_source(source, mmap), bare, budget)
 
 
-def check(source: Source, bare: bool = False) -> Optional[Fault]:
+def check(source: Source, bare: bool = False, *, budget: Optional[int] = None) -> Optional[Fault]:
     """`None` if a file, or a bare metadata root, meets all rules; else the fault of the first rule that it breaks.
 
+    `budget` is that of `open`.
+
     Raises:
+        BudgetSpent: The budget is spent.
         OSError: The file cannot be read.
+        Unsupported: There is a budget, and the library is too old for it.
     """
-    data, fault = read_source(source), FaultStruct()
-    call = library.clim_check_root if bare else library.clim_check
-    return None if call(address_of(data)[0], len(data), ctypes.byref(fault)) else fault_of(fault)
+    data, fault, spent = read_source(source), FaultStruct(), ctypes.c_bool()
+    bytes_ = address_of(data)[0], len(data)
+    if budget is None:
+        call = library.clim_check_root if bare else library.clim_check
+        is_whole = call(*bytes_, ctypes.byref(fault))
+    else:
+        call = library.clim_check_root_within if bare else library.clim_check_within
+        is_whole = call(*bytes_, budget, ctypes.byref(fault), ctypes.byref(spent))
+    if spent.value:
+        raise BudgetSpent("the budget is spent")
+    return None if is_whole else fault_of(fault)
 
 
 def read_header(source: Source) -> Header:

@@ -10,7 +10,7 @@ import ctypes
 import os
 import struct
 from ctypes import POINTER, byref, c_bool, c_size_t, c_uint8, c_uint16, c_uint32, c_uint64, c_void_p
-from typing import Any, Callable
+from typing import Any, Callable, Optional
 
 #: The name of the shared library. Its number changes if a function or a struct of `c/clim.h` changes.
 SONAME = "libclim.so.0"
@@ -99,6 +99,10 @@ NUMBER, TEXT, BLOB, NULL_GUID, GUID, NULL_ROW, ROW, START, SIGNATURE = range(1, 
 
 _EMPTY = ctypes.create_string_buffer(1)
 EMPTY_AT = ctypes.addressof(_EMPTY)
+#: `CLIM_TOO_LONG`: the length of a text that is longer than any that is written.
+TOO_LONG = c_size_t(-1).value
+# The length that the texts of most signatures and user strings have at most.
+_USUAL = 256
 #: `CLIM_NO_CELL`.
 NO_CELL = CELL.pack(EMPTY_AT, 0, 0, 0, 0, bytes(16))
 
@@ -129,8 +133,13 @@ _FUNCTIONS: dict[str, tuple[Any, ...]] = {
 _NEWER: dict[str, tuple[Any, ...]] = {
     "clim_abi_version": (c_uint32,),
     "clim_view_size": (c_size_t,),
+    "clim_check_within": (c_bool, c_void_p, c_size_t, c_uint64, _FAULT, POINTER(c_bool)),
+    "clim_check_root_within": (c_bool, c_void_p, c_size_t, c_uint64, _FAULT, POINTER(c_bool)),
     "clim_open_within": (c_bool, c_void_p, c_size_t, c_uint64, _VIEW, _FAULT, POINTER(c_bool)),
     "clim_open_root_within": (c_bool, c_void_p, c_size_t, c_uint64, _VIEW, _FAULT, POINTER(c_bool)),
+    "clim_explain": (c_size_t, c_uint16, c_void_p, c_size_t),
+    "clim_signature_text": (c_size_t, _VIEW, c_uint8, c_uint32, c_size_t, c_void_p, c_size_t),
+    "clim_user_string": (c_bool, _VIEW, c_uint32, c_void_p, c_size_t, POINTER(c_size_t), POINTER(c_uint16)),
 }
 
 
@@ -203,6 +212,31 @@ def text_of(call: Callable[..., Any], *arguments: Any) -> bytes:
     text = Bytes(EMPTY_AT, 0)
     call(*arguments, byref(text))
     return ctypes.string_at(text.at, text.len)
+
+
+def written_text(call: Callable[..., int], *arguments: Any) -> Optional[str]:
+    """The text that a call writes into its last parameters, a buffer and its size. `None` if it is too long."""
+    room = _USUAL
+    while True:
+        buffer = ctypes.create_string_buffer(room)
+        length = call(*arguments, buffer, room)
+        if length <= room:
+            return buffer.raw[:length].decode()
+        if length == TOO_LONG:
+            return None
+        room = length
+
+
+def written_units(view: Any, token: int) -> Optional[bytes]:
+    """The UTF-16 units of a user string, in the byte order of the machine. `None` if there is none."""
+    room, count, flag = _USUAL, c_size_t(), c_uint16()
+    while True:
+        units = (c_uint16 * room)()
+        if not library.clim_user_string(view, token, units, room, byref(count), byref(flag)):
+            return None
+        if count.value <= room:
+            return bytes(units)[: 2 * count.value]
+        room = count.value
 
 
 #: The tables, by number, and the names of their columns.

@@ -7,6 +7,7 @@ import io
 import mmap as _mmap
 import os
 import struct
+import sys
 import uuid
 from bisect import bisect_right
 from itertools import repeat
@@ -124,7 +125,7 @@ class Assembly:
             call = library.clim_open_root_within if self._bare else library.clim_open_within
             opened = call(*bytes_, budget, *out, ctypes.byref(spent))
         if spent.value:
-            raise BudgetSpent(f"the budget of {budget} bytes is spent")
+            raise BudgetSpent("the budget is spent")
         if not opened:
             raise fault_of(fault)
 
@@ -276,6 +277,20 @@ class Assembly:
         space, own = namespace.encode(), name.encode()
         row = library.clim_find_type(self._view(), address_of(space)[0], len(space), address_of(own)[0], len(own))
         return self.types.row(row) if row else None
+
+    def user_string(self, token: int) -> str:
+        """The user string of a token such as `0x70000001`, which `ldstr` has (II.24.2.4).
+
+        Surrogates that have no partner stay as they are.
+
+        Raises:
+            KeyError: The token is another one, or `#US` has no user string there.
+            Unsupported: The library is older than this package.
+        """
+        units = _c.written_units(self._view(), token)
+        if units is None:
+            raise KeyError(token)
+        return units.decode(f"utf-16-{sys.byteorder[0]}e", "surrogatepass")
 
     def to_dict(self) -> Dict[str, Any]:
         """The version and the rows of all tables, as values that `json.dumps` takes."""

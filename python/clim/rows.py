@@ -66,7 +66,7 @@ class _SignatureCell(Cell[values.Signature]):
 
     def __get__(self, row: Any, owner: Any = None) -> Any:
         blob = super().__get__(row, owner)
-        return blob if row is None else values.Signature._of(blob, row)
+        return blob if row is None else values.Signature._of(blob, row, self.name)
 
 
 class Row:

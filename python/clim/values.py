@@ -2,7 +2,9 @@
 
 from __future__ import annotations
 
-from typing import TYPE_CHECKING, NamedTuple, Optional
+from typing import TYPE_CHECKING, NamedTuple, Optional, cast
+
+from ._library import library, written_text
 
 if TYPE_CHECKING:
     from .rows import Row
@@ -24,6 +26,15 @@ class Fault(Exception):
 
     def __str__(self) -> str:
         return f"fault {self.layer} {self.code} at {self.offset}: {self.name}"
+
+    @property
+    def explanation(self) -> str:
+        """What `clim explain` prints of the rule, in lines that are not broken.
+
+        Raises:
+            Unsupported: The library is older than this package.
+        """
+        return cast(str, written_text(library.clim_explain, self.code))
 
 
 class BudgetSpent(Exception):
@@ -57,16 +68,38 @@ class Start(int):
 
 
 class Signature(bytes):
-    """The blob of a signature (II.23.2): the bytes of the file, without their length."""
+    """The blob of a signature (II.23.2): the bytes of the file, without their length.
 
-    #: The row that has the signature, or None if the value was not read from a row.
+    Attributes:
+        row: The row that has the signature, or `None` if the value was not read from a row.
+    """
+
     row: Optional[Row] = None
+    _column = ""
 
     @classmethod
-    def _of(cls, blob: bytes, row: Row) -> Signature:
+    def _of(cls, blob: bytes, row: Row, column: str) -> Signature:
         signature = cls(blob)
-        signature.row = row
+        signature.row, signature._column = row, column
         return signature
+
+    @property
+    def text(self) -> str:
+        """The signature in the notation of ILAsm (II.7.1, II.15.3), with names as they are in the file.
+
+        Raises:
+            Unsupported: The library is older than this package.
+            OverflowError: The text has more than 65,536 bytes, as those of crafted files can have.
+            ValueError: The signature was not read from a row, or the assembly is closed.
+        """
+        if self.row is None:
+            raise ValueError("the signature was not read from a row")
+        table, view = self.row.table, self.row.assembly._view()
+        cell = view, table.number, self.row.number, table.columns.index(self._column)
+        text = written_text(library.clim_signature_text, *cell)
+        if text is None:
+            raise OverflowError("the text of the signature has more than 65,536 bytes")
+        return text
 
 
 class Directory(NamedTuple):

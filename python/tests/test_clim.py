@@ -340,17 +340,57 @@ class Features(unittest.TestCase):
         self.assertTrue(clim.supports("clim_open"))
         self.assertFalse(clim.supports("no_such_function"))
 
+    def lacks(self, function, call):
+        """Whether the library lacks a function. Then a call of it says so."""
+        if clim.supports(function):
+            return False
+        with self.assertRaises(clim.Unsupported) as caught:
+            call()
+        self.assertEqual(caught.exception.function, function)
+        self.assertIn(f"has no function {function}", str(caught.exception))
+        return True
+
     def test_budget(self):
         path = SAMPLES / "greeter.root"
-        if clim.supports("clim_open_root_within"):
+        if not self.lacks("clim_open_root_within", lambda: clim.open(path, True, budget=0)):
             self.assertRaises(clim.BudgetSpent, clim.open, path, True, budget=0)
             self.assertEqual(len(clim.open(path, True, budget=1 << 30).types), 2)
             self.assertRaises(clim.Fault, clim.open, b"", budget=0)
-        else:
-            with self.assertRaises(clim.Unsupported) as caught:
-                clim.open(path, True, budget=0)
-            self.assertEqual(caught.exception.function, "clim_open_root_within")
-            self.assertIn("has no function clim_open_root_within", str(caught.exception))
+        if not self.lacks("clim_check_root_within", lambda: clim.check(path, True, budget=0)):
+            self.assertRaises(clim.BudgetSpent, clim.check, path, True, budget=0)
+            self.assertIsNone(clim.check(path, True, budget=1 << 30))
+            self.assertEqual(clim.check(b"", budget=0).code, 102)
+
+    def test_explanation(self):
+        fault = clim.check(b"")
+        if not self.lacks("clim_explain", lambda: fault.explanation):
+            self.assertTrue(fault.explanation.startswith("102 DosHeader: "), fault.explanation)
+
+    def test_text_of_a_signature(self):
+        with clim.open(SAMPLES / "greeter.root", bare=True) as assembly:
+            signature = assembly.methods[1].signature
+            if not self.lacks("clim_signature_text", lambda: signature.text):
+                self.assertIn("string", signature.text)
+                self.assertIn("int32", signature.text)
+        self.assertRaises(ValueError, lambda: signature.text)
+        self.assertRaises(ValueError, lambda: clim.Signature(b"").text)
+
+    def test_user_string(self):
+        with clim.open(self.with_user_strings(), bare=True) as assembly:
+            if not self.lacks("clim_user_string", lambda: assembly.user_string(0x70000001)):
+                self.assertEqual(assembly.user_string(0x70000001), "A")
+                self.assertEqual(assembly.user_string(0x70000005), "\ud800" + "b" * 1000)
+                for token in (0x7000FFFF, 0x70FFFFFF, 0x02000001, 1):
+                    self.assertRaises(KeyError, assembly.user_string, token)
+
+    def with_user_strings(self):
+        """A root with no rows and two user strings, the second with a surrogate that has no partner."""
+        long = b"\x00\xd8" + "b".encode("utf-16-le") * 1000 + b"\0"
+        user = b"\0\x03A\0\0" + struct.pack(">H", 0x8000 | len(long)) + long
+        user += bytes(-len(user) % 4)
+        version = struct.pack("<IHHII", 0x424A5342, 1, 1, 0, 4) + b"v\0\0\0"
+        streams = struct.pack("<HHII", 0, 2, 48, 24) + b"#~\0\0" + struct.pack("<II", 72, len(user)) + b"#US\0"
+        return version + streams + struct.pack("<IBBBBQQ", 0, 2, 0, 0, 1, 0, 0x16003301FA00) + user
 
 
 def load_tests(loader, tests, pattern):

@@ -9,7 +9,17 @@ use std::process::Command;
 use std::{env, fs};
 
 /// The functions that an older library lacks.
-const NEWER: &[&str] = &["clim_abi_version", "clim_view_size", "clim_open_within", "clim_open_root_within"];
+const NEWER: &[&str] = &[
+    "clim_abi_version",
+    "clim_view_size",
+    "clim_check_within",
+    "clim_check_root_within",
+    "clim_open_within",
+    "clim_open_root_within",
+    "clim_explain",
+    "clim_signature_text",
+    "clim_user_string",
+];
 
 /// The folder of the library by pkg-config, or why there is none.
 fn folder_by_pkg_config() -> Result<PathBuf, String> {

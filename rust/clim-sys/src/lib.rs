@@ -104,6 +104,9 @@ pub const CLIM_ROW: u8 = 7;
 pub const CLIM_START: u8 = 8;
 pub const CLIM_SIGNATURE: u8 = 9;
 
+/// What `clim_signature_text` returns for a text that is too long.
+pub const CLIM_TOO_LONG: usize = usize::MAX;
+
 pub const CLIM_NO_BYTES: clim_bytes = clim_bytes { at: b"".as_ptr(), len: 0 };
 pub const CLIM_NO_FAULT: clim_fault = clim_fault { offset: 0, code: 0, layer: 0 };
 pub const CLIM_NO_CELL: clim_cell = clim_cell { bytes: CLIM_NO_BYTES, number: 0, kind: 0, table: 0, guid: [0; 16] };
@@ -166,8 +169,13 @@ macro_rules! newer {
 newer! {
     HAS_ABI_VERSION: fn clim_abi_version() -> u32;
     HAS_VIEW_SIZE: fn clim_view_size() -> usize;
+    HAS_CHECK_WITHIN: fn clim_check_within(file: *const u8, len: usize, budget: u64, fault: *mut clim_fault, spent: *mut bool) -> bool;
+    HAS_CHECK_ROOT_WITHIN: fn clim_check_root_within(root: *const u8, len: usize, budget: u64, fault: *mut clim_fault, spent: *mut bool) -> bool;
     HAS_OPEN_WITHIN: fn clim_open_within(file: *const u8, len: usize, budget: u64, view: *mut clim_view, fault: *mut clim_fault, spent: *mut bool) -> bool;
     HAS_OPEN_ROOT_WITHIN: fn clim_open_root_within(root: *const u8, len: usize, budget: u64, view: *mut clim_view, fault: *mut clim_fault, spent: *mut bool) -> bool;
+    HAS_EXPLAIN: fn clim_explain(code: u16, buffer: *mut u8, room: usize) -> usize;
+    HAS_SIGNATURE_TEXT: fn clim_signature_text(view: *const clim_view, table: u8, row: u32, column: usize, buffer: *mut u8, room: usize) -> usize;
+    HAS_USER_STRING: fn clim_user_string(view: *const clim_view, token: u32, units: *mut u16, room: usize, count: *mut usize, flag: *mut u16) -> bool;
 }
 
 // The layout of the structs, as tests of the C library have it.

@@ -21,6 +21,20 @@ impl Fault {
     pub fn name(&self) -> &'static str {
         library::fault_name(self.code)
     }
+
+    /// What `clim explain` prints of the rule, in lines that are not broken.
+    ///
+    /// # Errors
+    ///
+    /// The library is older than this crate.
+    pub fn explanation(&self) -> Result<String, Unsupported> {
+        Unsupported::unless(clim_sys::HAS_EXPLAIN, "clim_explain")?;
+        // SAFETY: The pointer is valid for that number of bytes during the call.
+        let text = library::written(|buffer| unsafe {
+            clim_sys::clim_explain(self.code, buffer.as_mut_ptr(), buffer.len())
+        });
+        Ok(text.unwrap_or_default())
+    }
 }
 
 impl From<clim_fault> for Fault {
@@ -37,15 +51,47 @@ impl fmt::Display for Fault {
 
 impl Error for Fault {}
 
-/// Why opening within a budget failed.
+/// The library is older than this crate, and lacks a function of `c/clim.h`.
+#[derive(Clone, Copy, Debug, PartialEq, Eq, Hash)]
+pub struct Unsupported {
+    /// The name of the function.
+    pub function: &'static str,
+}
+
+impl Unsupported {
+    /// An error unless the library has a function.
+    pub(crate) fn unless(has: bool, function: &'static str) -> Result<(), Unsupported> {
+        if has {
+            Ok(())
+        } else {
+            Err(Unsupported { function })
+        }
+    }
+}
+
+impl fmt::Display for Unsupported {
+    fn fmt(&self, f: &mut fmt::Formatter) -> fmt::Result {
+        write!(f, "this library of clim has no function {}", self.function)
+    }
+}
+
+impl Error for Unsupported {}
+
+/// Why checking or opening within a budget failed.
 #[derive(Clone, Copy, Debug, PartialEq, Eq, Hash)]
 pub enum BoundedError {
     /// The bytes break a rule.
     Fault(Fault),
     /// The signatures of the file have more bytes than the budget allows.
     BudgetSpent,
-    /// The library is older than this crate, and lacks the function that is named.
-    Unsupported(&'static str),
+    /// The library is older than this crate.
+    Unsupported(Unsupported),
+}
+
+impl From<Unsupported> for BoundedError {
+    fn from(error: Unsupported) -> BoundedError {
+        BoundedError::Unsupported(error)
+    }
 }
 
 impl fmt::Display for BoundedError {
@@ -53,7 +99,7 @@ impl fmt::Display for BoundedError {
         match self {
             BoundedError::Fault(fault) => fault.fmt(f),
             BoundedError::BudgetSpent => f.write_str("the budget is spent"),
-            BoundedError::Unsupported(function) => write!(f, "this library of clim has no function {function}"),
+            BoundedError::Unsupported(error) => error.fmt(f),
         }
     }
 }

@@ -1,7 +1,10 @@
 //! Calls whose results belong to the library.
 
-use clim_sys::{clim_bytes, CLIM_NO_BYTES};
+use clim_sys::{clim_bytes, CLIM_NO_BYTES, CLIM_TOO_LONG};
 use std::{slice, str};
+
+/// The length that most texts have at most.
+pub(crate) const USUAL: usize = 256;
 
 /// The bytes that a call of the library wrote.
 ///
@@ -29,6 +32,22 @@ fn name(write: impl FnOnce(*mut clim_bytes)) -> &'static str {
     write(&mut name);
     // SAFETY: Names belong to the library, and it is loaded until the process ends.
     unsafe { text(&name) }
+}
+
+/// The text that a call writes into a buffer, as far as there is room, and whose length it returns. `None` if the text is
+/// too long to be written.
+pub(crate) fn written(write: impl Fn(&mut [u8]) -> usize) -> Option<String> {
+    let mut buffer = vec![0; USUAL];
+    loop {
+        let len = write(&mut buffer);
+        if len <= buffer.len() {
+            return Some(String::from_utf8_lossy(&buffer[..len]).into_owned());
+        }
+        if len == CLIM_TOO_LONG {
+            return None;
+        }
+        buffer.resize(len, 0);
+    }
 }
 
 /// The name of the rule with a number; empty if there is none.

@@ -123,6 +123,19 @@ impl Table {
     }
 }
 
+impl Table {
+    /// The column of its signatures; `None` if it has none. No table has two.
+    pub(crate) fn signature_column(self) -> Option<usize> {
+        match self {
+            Table::StandAloneSig | Table::TypeSpec => Some(0),
+            Table::MethodSpec => Some(1),
+            Table::Field | Table::MemberRef | Table::Property => Some(2),
+            Table::MethodDef => Some(4),
+            _ => None,
+        }
+    }
+}
+
 impl fmt::Display for Table {
     fn fmt(&self, f: &mut fmt::Formatter) -> fmt::Result {
         f.write_str(self.name())
@@ -147,5 +160,21 @@ impl From<Token> for u32 {
 impl fmt::Display for Token {
     fn fmt(&self, f: &mut fmt::Formatter) -> fmt::Result {
         write!(f, "{:08x}", u32::from(*self))
+    }
+}
+
+#[cfg(test)]
+mod tests {
+    use super::Table;
+
+    #[test]
+    fn columns_of_signatures_have_their_names() {
+        for table in Table::ALL {
+            let names: Vec<_> = table.columns().collect();
+            match table.signature_column() {
+                Some(column) => assert!(["Signature", "Type", "Instantiation"].contains(&names[column]), "{table}"),
+                None => assert!(!names.iter().any(|it| ["Signature", "Instantiation"].contains(it)), "{table}"),
+            }
+        }
     }
 }

@@ -2,7 +2,7 @@
 
 use crate::cells::Cell;
 use crate::chunks::{Cells, Chunks, Rows};
-use crate::fault::{BoundedError, Fault};
+use crate::fault::{BoundedError, Fault, Unsupported};
 use crate::library;
 use crate::rows::{NestedClass, Row, TypeDef};
 use crate::tables::{Table, Token};
@@ -29,6 +29,19 @@ fn result<T>(call: impl FnOnce(&mut T, &mut clim_fault) -> bool, mut found: T) -
     }
 }
 
+/// The same of a call within a budget, which also wrote whether the budget was spent.
+fn bounded_result<T>(
+    call: impl FnOnce(&mut T, &mut clim_fault, &mut bool) -> bool,
+    mut found: T,
+) -> Result<T, BoundedError> {
+    let (mut fault, mut spent) = (CLIM_NO_FAULT, false);
+    match (call(&mut found, &mut fault, &mut spent), spent) {
+        (true, _) => Ok(found),
+        (false, true) => Err(BoundedError::BudgetSpent),
+        (false, false) => Err(BoundedError::Fault(fault.into())),
+    }
+}
+
 /// Checks a file, without keeping anything.
 ///
 /// # Errors
@@ -47,6 +60,34 @@ pub fn check(file: &[u8]) -> Result<(), Fault> {
 pub fn check_root(root: &[u8]) -> Result<(), Fault> {
     // SAFETY: The pointers are valid during the call.
     result(|(), fault| unsafe { clim_sys::clim_check_root(root.as_ptr(), root.len(), fault) }, ())
+}
+
+/// Checks a file within a budget: the number of bytes of signatures that it may check at most.
+///
+/// # Errors
+///
+/// The file breaks a rule, the budget is spent, or the library lacks the function.
+pub fn check_within(file: &[u8], budget: u64) -> Result<(), BoundedError> {
+    Unsupported::unless(clim_sys::HAS_CHECK_WITHIN, "clim_check_within")?;
+    // SAFETY: The pointers are valid during the call.
+    let check = |(): &mut (), fault: &mut _, spent: &mut _| unsafe {
+        clim_sys::clim_check_within(file.as_ptr(), file.len(), budget, fault, spent)
+    };
+    bounded_result(check, ())
+}
+
+/// Checks a bare metadata root within a budget.
+///
+/// # Errors
+///
+/// The root breaks a rule, the budget is spent, or the library lacks the function.
+pub fn check_root_within(root: &[u8], budget: u64) -> Result<(), BoundedError> {
+    Unsupported::unless(clim_sys::HAS_CHECK_ROOT_WITHIN, "clim_check_root_within")?;
+    // SAFETY: The pointers are valid during the call.
+    let check = |(): &mut (), fault: &mut _, spent: &mut _| unsafe {
+        clim_sys::clim_check_root_within(root.as_ptr(), root.len(), budget, fault, spent)
+    };
+    bounded_result(check, ())
 }
 
 /// Reads the CLI header of a file. The tables are not checked.
@@ -114,13 +155,12 @@ impl<'a> View<'a> {
     ///
     /// The file breaks a rule, the budget is spent, or the library lacks the function.
     pub fn open_within(file: &'a [u8], budget: u64) -> Result<View<'a>, BoundedError> {
-        if !clim_sys::HAS_OPEN_WITHIN {
-            return Err(BoundedError::Unsupported("clim_open_within"));
-        }
+        Unsupported::unless(clim_sys::HAS_OPEN_WITHIN, "clim_open_within")?;
         // SAFETY: The pointers are valid during the call, and each has a value.
-        View::within(|view, fault, spent| unsafe {
+        let open = |view: &mut _, fault: &mut _, spent: &mut _| unsafe {
             clim_sys::clim_open_within(file.as_ptr(), file.len(), budget, view, fault, spent)
-        })
+        };
+        bounded_result(open, CLIM_CLOSED).map(View::of)
     }
 
     /// Opens a bare metadata root within a budget.
@@ -129,23 +169,12 @@ impl<'a> View<'a> {
     ///
     /// The root breaks a rule, the budget is spent, or the library lacks the function.
     pub fn open_root_within(root: &'a [u8], budget: u64) -> Result<View<'a>, BoundedError> {
-        if !clim_sys::HAS_OPEN_ROOT_WITHIN {
-            return Err(BoundedError::Unsupported("clim_open_root_within"));
-        }
+        Unsupported::unless(clim_sys::HAS_OPEN_ROOT_WITHIN, "clim_open_root_within")?;
         // SAFETY: The pointers are valid during the call, and each has a value.
-        View::within(|view, fault, spent| unsafe {
+        let open = |view: &mut _, fault: &mut _, spent: &mut _| unsafe {
             clim_sys::clim_open_root_within(root.as_ptr(), root.len(), budget, view, fault, spent)
-        })
-    }
-
-    /// What a call within a budget opened.
-    fn within(open: impl FnOnce(&mut clim_view, &mut clim_fault, &mut bool) -> bool) -> Result<View<'a>, BoundedError> {
-        let (mut view, mut fault, mut spent) = (CLIM_CLOSED, CLIM_NO_FAULT, false);
-        match (open(&mut view, &mut fault, &mut spent), spent) {
-            (true, _) => Ok(View::of(view)),
-            (false, true) => Err(BoundedError::BudgetSpent),
-            (false, false) => Err(BoundedError::Fault(fault.into())),
-        }
+        };
+        bounded_result(open, CLIM_CLOSED).map(View::of)
     }
 
     /// Writes the cells of a column, from a row on. Returns the number of cells that were written.
@@ -273,6 +302,52 @@ impl<'a> View<'a> {
                 return rows;
             }
             rows.resize(rows.len() * 16, 0);
+        }
+    }
+
+    /// The signature of a row in the notation of ILAsm (II.7.1, II.15.3), with names as they are in the file. `None` if
+    /// there is no such row, if it has no signature, or if the text has more than 65,536 bytes, as those of crafted files
+    /// can have.
+    ///
+    /// # Errors
+    ///
+    /// The library is older than this crate.
+    pub fn signature_text(&self, row: Token) -> Result<Option<String>, Unsupported> {
+        Unsupported::unless(clim_sys::HAS_SIGNATURE_TEXT, "clim_signature_text")?;
+        let Some(column) = row.table.signature_column() else {
+            return Ok(None);
+        };
+        // SAFETY: The view is open, and the pointer is valid for that number of bytes during the call.
+        let text = library::written(|buffer| unsafe {
+            let (table, room) = (row.table.number(), buffer.len());
+            clim_sys::clim_signature_text(&self.view, table, row.row, column, buffer.as_mut_ptr(), room)
+        });
+        Ok(text.filter(|it| !it.is_empty()))
+    }
+
+    /// The UTF-16 units of the user string of a token such as 0x70000001, which `ldstr` has (II.24.2.4). `None` if the
+    /// token is another one, or `#US` has no user string there. The units need not be valid UTF-16.
+    ///
+    /// # Errors
+    ///
+    /// The library is older than this crate.
+    pub fn user_string(&self, token: u32) -> Result<Option<Vec<u16>>, Unsupported> {
+        Unsupported::unless(clim_sys::HAS_USER_STRING, "clim_user_string")?;
+        let (mut units, mut count, mut flag) = (vec![0; library::USUAL], 0, 0);
+        loop {
+            // SAFETY: The view is open, and the pointers are valid during the call.
+            let found = unsafe {
+                let (buffer, room) = (units.as_mut_ptr(), units.len());
+                clim_sys::clim_user_string(&self.view, token, buffer, room, &mut count, &mut flag)
+            };
+            if !found {
+                return Ok(None);
+            }
+            if count <= units.len() {
+                units.truncate(count);
+                return Ok(Some(units));
+            }
+            units.resize(count, 0);
         }
     }
 

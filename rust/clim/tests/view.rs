@@ -1,7 +1,7 @@
 //! Tests on the samples, and on the file that CLIM_TEST_FILE names: a bare root if its name ends in `.root`.
 
 use clim::rows::*;
-use clim::{check, check_root, read_header, BoundedError, Cell, Fault, Row, Table, Token, View};
+use clim::{check, check_root, check_root_within, check_within, read_header, BoundedError, Cell, Fault, Row, Table, Token, View};
 use std::collections::BTreeMap;
 use std::error::Error;
 use std::{env, fs, thread};
@@ -185,21 +185,54 @@ fn check_and_open_agree() {
     assert_eq!(check(&sample("one_module.dll")), Ok(()));
 }
 
+/// Whether the library has a function. Otherwise a call of it says so.
+fn has<T: std::fmt::Debug>(has: bool, function: &str, called: Result<T, impl Error>) -> bool {
+    if !has {
+        let error = called.expect_err("no such function").to_string();
+        assert_eq!(error, format!("this library of clim has no function {function}"));
+    }
+    has
+}
+
 #[test]
-fn a_budget_is_kept_or_not_supported() {
-    let (file, root) = (sample("one_module.dll"), sample("greeter.root"));
-    let opened = View::open_within(&file, 0).map(|view| view.count(Table::Module));
-    let empty = View::open_within(b"", 0).map(|_| ());
-    let spent = View::open_root_within(&root, 0).map(|_| ());
-    let enough = View::open_root_within(&root, u64::MAX).map(|view| view.count(Table::TypeDef));
-    if clim_sys::HAS_OPEN_WITHIN && clim_sys::HAS_OPEN_ROOT_WITHIN {
-        assert_eq!(opened, Ok(1));
-        assert_eq!(empty, Err(BoundedError::Fault(Fault { layer: 1, code: 102, offset: 0 })));
-        assert_eq!((spent, enough), (Err(BoundedError::BudgetSpent), Ok(2)));
-    } else {
-        assert_eq!(opened, Err(BoundedError::Unsupported("clim_open_within")));
-        assert_eq!(enough, Err(BoundedError::Unsupported("clim_open_root_within")));
-        assert_eq!(empty.map_err(|it| it.to_string()), Err("this library of clim has no function clim_open_within".into()));
-        assert!(spent.is_err());
+fn budgets() {
+    let (file, root, fault) = (sample("one_module.dll"), sample("greeter.root"), Fault { layer: 1, code: 102, offset: 0 });
+    if has(clim_sys::HAS_OPEN_WITHIN, "clim_open_within", View::open_within(&file, 0)) {
+        assert_eq!(View::open_within(&file, 0).map(|view| view.count(Table::Module)), Ok(1));
+        assert_eq!(View::open_within(b"", 0).map(|_| ()), Err(BoundedError::Fault(fault)));
+    }
+    if has(clim_sys::HAS_OPEN_ROOT_WITHIN, "clim_open_root_within", View::open_root_within(&root, 0).map(|_| ())) {
+        assert_eq!(View::open_root_within(&root, 0).map(|_| ()), Err(BoundedError::BudgetSpent));
+        assert_eq!(View::open_root_within(&root, u64::MAX).map(|view| view.count(Table::TypeDef)), Ok(2));
+    }
+    if has(clim_sys::HAS_CHECK_WITHIN, "clim_check_within", check_within(&file, 0)) {
+        assert_eq!(check_within(b"", 0), Err(BoundedError::Fault(fault)));
+        assert_eq!(check_within(&file, 0), Ok(()));
+    }
+    if has(clim_sys::HAS_CHECK_ROOT_WITHIN, "clim_check_root_within", check_root_within(&root, 0)) {
+        assert_eq!(check_root_within(&root, 0), Err(BoundedError::BudgetSpent));
+        assert_eq!(check_root_within(&root, u64::MAX), Ok(()));
+    }
+}
+
+#[test]
+fn texts_in_a_buffer() {
+    let fault = View::open(b"").expect_err("a fault");
+    if has(clim_sys::HAS_EXPLAIN, "clim_explain", fault.explanation()) {
+        assert!(fault.explanation().expect("a text").starts_with("102 DosHeader: "));
+    }
+    let root = sample("greeter.root");
+    let view = View::open_root(&root).expect("a root");
+    let greet = Token { table: Table::MethodDef, row: 2 };
+    if has(clim_sys::HAS_SIGNATURE_TEXT, "clim_signature_text", view.signature_text(greet)) {
+        let text = view.signature_text(greet).expect("a library").expect("a text");
+        assert!(text.contains("string") && text.contains("int32"));
+        for (table, row) in [(Table::MethodDef, 3), (Table::TypeDef, 1), (Table::Param, 1)] {
+            assert_eq!(view.signature_text(Token { table, row }), Ok(None));
+        }
+    }
+    if has(clim_sys::HAS_USER_STRING, "clim_user_string", view.user_string(0x7000_0001)) {
+        assert_eq!(view.user_string(0x7000_0001), Ok(None));
+        assert_eq!(view.user_string(0x0200_0001), Ok(None));
     }
 }
