@@ -6,7 +6,7 @@
 //                 Console.WriteLine(type.TypeName + "." + method.Name);
 //
 // A file is opened if and only if it meets all rules of ECMA-335 II.22 to II.25. Then each cell is proved to be that of
-// the file's only model. Rows are structs with the names of the standard, and count from 1. It needs C# 7.0.
+// the file's only model. Rows are structs with the names of the standard, and count from 1. It needs C# 6.
 //
 // The loader has to find libclim.so: in a folder of the system, next to the program, or in one of LD_LIBRARY_PATH.
 

@@ -247,6 +247,56 @@ class Reading(unittest.TestCase):
             for parent, attributes in list(by_parent.items())[:: len(by_parent) // 200 + 1]:
                 self.assertEqual(assembly.row(parent).custom_attributes, attributes)
 
+    def test_relations_are_those_of_a_scan(self):
+        def scan(table, column, token):
+            cells = assembly[table].column(column)
+            return [assembly[table][index] for index, it in enumerate(cells) if it == token]
+
+        def tokens(rows_):
+            return [it.token for it in rows_]
+
+        for path, assembly in opened():
+            for row in assembly.types[:: len(assembly.types) // 30 + 1]:
+                self.assertEqual(row.base.token if row.base else None, row.Extends, path)
+                self.assertEqual(tokens(row.interfaces), [it.Interface for it in scan("InterfaceImpl", "Class", row.token)])
+                self.assertEqual(row.generic_params, scan("GenericParam", "Owner", row.token))
+                self.assertEqual([row.layout][: row.layout is not None], scan("ClassLayout", "Parent", row.token)[:1])
+                nested = scan("NestedClass", "EnclosingClass", row.token)
+                self.assertEqual(tokens(row.nested_types), [it.NestedClass for it in nested])
+                outer = [it.EnclosingClass for it in scan("NestedClass", "NestedClass", row.token)][:1]
+                self.assertEqual(outer, tokens(filter(None, [row.enclosing_type])))
+                for name, members in (("Property", row.properties), ("Event", row.events)):
+                    maps = scan(f"{name}Map", "Parent", row.token)
+                    self.assertEqual(members, maps[0].members(name) if maps else [])
+                    self.assertTrue(all(it.semantics == scan("MethodSemantics", "Association", it.token) for it in members))
+            for name, attribute, table, column in (
+                ("Field", "constant", "Constant", "Parent"), ("Param", "constant", "Constant", "Parent"),
+                ("MethodDef", "import_map", "ImplMap", "MemberForwarded"),
+            ):
+                for row in assembly[name][:: len(assembly[name]) // 30 + 1]:
+                    found = getattr(row, attribute)
+                    self.assertEqual(scan(table, column, row.token)[:1], [found] if found else [])
+            for row in assembly["GenericParam"][:: len(assembly["GenericParam"]) // 30 + 1]:
+                constraints = scan("GenericParamConstraint", "Owner", row.token)
+                self.assertEqual(tokens(row.constraints), [it.Constraint for it in constraints])
+
+    def test_each_attribute_leads_to_its_row(self):
+        leads = {
+            "TypeRef": {"scope": "ResolutionScope"}, "MemberRef": {"parent": "Class"}, "Event": {"type": "EventType"},
+            "CustomAttribute": {"parent": "Parent", "constructor": "Type"}, "MethodSemantics": {"method": "Method"},
+            "ImplMap": {"module": "ImportScope"}, "ExportedType": {"implementation": "Implementation"},
+            "ManifestResource": {"implementation": "Implementation"},
+        }
+        for _, assembly in opened():
+            for table in assembly:
+                for row in table[:: len(table) // 30 + 1]:
+                    for name, column in leads.get(table.name, {}).items():
+                        its = getattr(row, name)
+                        self.assertEqual(its.token if its else None, row[column])
+                    for name in dir(row):
+                        if not name.startswith("_"):
+                            getattr(row, name)
+
     def test_names_of_nested_types(self):
         for _, assembly in opened():
             for row in assembly.types[::31]:
