@@ -37,6 +37,8 @@ R = TypeVar("R", bound=Row)
 
 # The number of bytes that a file has at most; a longer one is fault 101.
 _LIMIT = 1 << 30
+# The number of bytes that are read at a time from a file whose size is not known.
+_PART = 1 << 20
 # The number of cells that are read at a time.
 _CELLS = 1 << 14
 # The texts or blobs of a column are read at once if they have at most this number of times the bytes of the file.
@@ -54,9 +56,17 @@ def read_source(source: Source, mmap: bool = False) -> Union[bytes, _mmap.mmap]:
     if isinstance(source, (bytearray, memoryview, _mmap.mmap)):
         return bytes(source)
     with io.open(source, "rb") as file:
-        if mmap and os.fstat(file.fileno()).st_size > 0:
+        size = os.fstat(file.fileno()).st_size
+        if mmap and size > 0:
             return _mmap.mmap(file.fileno(), 0, access=_mmap.ACCESS_COPY)
-        return file.read(_LIMIT + 1)
+        data = file.read(min(size, _LIMIT) + 1)
+        if len(data) <= size:
+            return data
+        # A pipe, a device, or a file that grows.
+        parts = bytearray(data)
+        while len(parts) <= _LIMIT and (part := file.read(_PART)):
+            parts += part
+        return bytes(parts)
 
 
 def address_of(data: Union[bytes, _mmap.mmap]) -> Tuple[int, Any]:
@@ -305,10 +315,12 @@ class Assembly:
 
     def _run(self, row: Row, column: str, member: int) -> List[Any]:
         """The rows that a row owns. They begin where its cell in a column says, and end where the next one's says."""
-        starts = row.table.column(column)
-        members, number = self._tables[member], row.number
+        table, number = row.table, row.number
+        starts = table._columns_read.get(column) or table.column(column)
+        members = self._tables[member]
         past = starts[number] if number < len(starts) else members._count + 1
-        return members._rows(range(starts[number - 1], past))
+        member_row = members._row_type
+        return [member_row(members, it) for it in range(starts[number - 1], past)]
 
     def _owner(self, row: Row, owners: Table[R], column: str) -> R:
         """The owner of a row: the last one whose run begins at the row or before it."""

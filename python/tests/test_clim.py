@@ -100,6 +100,25 @@ class Opening(unittest.TestCase):
                     clim.open(file.name, mmap=mapped)
                 self.assertEqual(str(caught.exception), "fault 1 102 at 0: DosHeader")
 
+    def test_a_pipe_is_read_to_its_end(self):
+        data = (SAMPLES / "one_module.dll").read_bytes() + bytes(3 << 20)
+        with tempfile.TemporaryDirectory() as folder:
+            path = os.path.join(folder, "pipe")
+            os.mkfifo(path)
+            writer = threading.Thread(target=lambda: pathlib.Path(path).write_bytes(data))
+            writer.start()
+            with clim.open(path) as assembly:
+                self.assertEqual((assembly.module.name, len(assembly._data)), ("a.dll", len(data)))
+            writer.join()
+
+    def test_a_device_without_an_end_is_too_long(self):
+        with unittest.mock.patch.object(clim.assembly, "_LIMIT", 5 << 20):
+            self.assertEqual(len(clim.assembly.read_source("/dev/zero")), (5 << 20) + 1)
+        with tempfile.TemporaryFile() as file:
+            file.truncate(1 << 33)
+            with unittest.mock.patch.object(clim.assembly, "_LIMIT", 5 << 20):
+                self.assertEqual(len(clim.assembly.read_source(f"/proc/self/fd/{file.fileno()}")), (5 << 20) + 1)
+
     def test_no_file(self):
         for call in (clim.open, clim.check, clim.read_header):
             self.assertRaises(OSError, call, SAMPLES / "no such file")
