@@ -107,7 +107,7 @@ pub fn read_header(file: &[u8]) -> Result<Header, Fault> {
 /// be used after the view is dropped.
 ///
 /// Opening checks all rules and allocates nothing. Rows count from 1.
-#[derive(Clone, Copy)]
+#[derive(Clone)]
 pub struct View<'a> {
     view: clim_view,
     bytes: PhantomData<&'a [u8]>,
