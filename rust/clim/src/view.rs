@@ -239,6 +239,9 @@ impl<'a> View<'a> {
 
     /// The rows of a table in a range, for example `view.rows_in::<MethodDef>(view.methods_of(row))`. Rows that are not
     /// there are left out.
+    ///
+    /// Each range takes a call of the library for each column, of some microseconds. If you need all rows, [`View::rows`]
+    /// is faster than many ranges.
     pub fn rows_in<R: Row<'a>>(&self, rows: Range<u32>) -> Rows<'_, 'a, R> {
         let there = rows.start.max(1)..rows.end.min(self.count(R::TABLE) + 1);
         Rows { chunks: Chunks::new(self, R::TABLE, 0..R::COLUMNS.len(), there), row: PhantomData }
