@@ -37,13 +37,12 @@ DEPTH = 64
 class Cell(Generic[T]):
     """A column of a table, as an attribute of its rows: with the name of the column, or with another one."""
 
-    __slots__ = ("name",)
-
     def __init__(self, name: str = "") -> None:
         self.name = name
 
     def __set_name__(self, owner: Type[Row], name: str) -> None:
         self.name = self.name or name
+        self.__doc__ = f"The cell `{self.name}`."
 
     @overload
     def __get__(self, row: None, owner: Any) -> Cell[T]: ...
