@@ -122,7 +122,6 @@ class Assembly:
         except BaseException:
             self.close()
             raise
-        self._tables = {number: Table(self, number) for number in _c.TABLE_NAMES}
 
     def _open(self, budget: Optional[int]) -> None:
         """Opens the bytes."""
@@ -183,12 +182,19 @@ class Assembly:
     def __iter__(self) -> Iterator[Table[Any]]:
         """The tables that have rows, in the order of their numbers."""
         self._view()
-        return (table for table in self._tables.values() if table._count > 0)
+        return (table for table in map(self._table, _c.TABLE_NAMES) if table._count > 0)
 
     def __getitem__(self, table: Union[str, int]) -> Table[Any]:
         """A table, by its name or its number; raises `KeyError` if there is none."""
         self._view()
-        return self._tables[table_number(table)]
+        return self._table(table_number(table))
+
+    def _table(self, number: int) -> Table[Any]:
+        """The table with a number. There is one object for each table."""
+        table = self._tables.get(number)
+        if table is None:
+            table = self._tables.setdefault(number, Table(self, number))
+        return table
 
     def row(self, token: int) -> Any:
         """The row of a token, such as `0x02000005`.
@@ -311,13 +317,13 @@ class Assembly:
         ends = ctypes.byref(first), ctypes.byref(past)
         if not library.clim_members(self._view(), row.table.number, row.number, number, *ends):
             raise KeyError(table)
-        return self._tables[number]._rows(range(first.value, past.value))
+        return self._table(number)._rows(range(first.value, past.value))
 
     def _run(self, row: Row, column: str, member: int) -> List[Any]:
         """The rows that a row owns. They begin where its cell in a column says, and end where the next one's says."""
         table, number = row.table, row.number
         starts = table._columns_read.get(column) or table.column(column)
-        members = self._tables[member]
+        members = self._table(member)
         past = starts[number] if number < len(starts) else members._count + 1
         member_row = members._row_type
         return [member_row(members, it) for it in range(starts[number - 1], past)]
