@@ -253,7 +253,7 @@ namespace Clim
         public Memory(byte[] bytes) : base(IntPtr.Zero, true)
         {
             Length = bytes.Length;
-            SetHandle(Marshal.AllocHGlobal(Size + Length));
+            SetHandle(Marshal.AllocHGlobal((IntPtr)((long)Size + Length)));
             for (int at = 0; at < Size; at += 8)
                 Marshal.WriteInt64(handle, at, 0);
             Marshal.WriteIntPtr(handle, 0, Bytes);
@@ -376,20 +376,27 @@ namespace Clim
         // The length that most texts have at most.
         public const int Usual = 256;
 
-        /// <summary>Throws if the library has another interface than this file calls.</summary>
-        public static void CheckVersion()
+        static readonly Lazy<uint> version = new Lazy<uint>(ReadVersion);
+
+        static uint ReadVersion()
         {
-            uint version = Version;
             try
             {
-                version = clim_abi_version();
+                return clim_abi_version();
             }
             catch (EntryPointNotFoundException)
             {
                 // A library without this function has the first version.
+                return Version;
             }
-            if (version != Version)
-                throw new NotSupportedException("libclim.so has the interface " + version + ", and Clim.cs needs " + Version);
+        }
+
+        /// <summary>Throws if the library has another interface than this file calls.</summary>
+        public static void CheckVersion()
+        {
+            if (version.Value != Version)
+                throw new NotSupportedException(
+                    "libclim.so has the interface " + version.Value + ", and Clim.cs needs " + Version);
         }
 
         public delegate UIntPtr Writing(byte[] buffer, UIntPtr room);

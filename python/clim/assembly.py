@@ -105,13 +105,12 @@ class Assembly:
         Fault: The bytes break a rule of the standard. It is the first one in the order of docs/FAULTS.md.
     """
 
-    def __init__(
-        self, data: Union[bytes, _mmap.mmap], bare: bool = False, budget: Optional[int] = None
-    ) -> None:
+    def __init__(self, data: Union[bytes, _mmap.mmap], bare: bool = False, budget: Optional[int] = None) -> None:
         self._is_closed = False
-        self._data = data
+        # Other objects of bytes may change.
+        self._data = data if isinstance(data, (bytes, _mmap.mmap)) else bytes(data)
         self._bare = bare
-        self._at, self._kept = address_of(data)
+        self._at, self._kept = address_of(self._data)
         self._struct = _c.closed_view()
         # The texts that were read, by their addresses. Many names in a file are the same text of its heap.
         self._texts: Dict[int, str] = {}
