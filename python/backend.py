@@ -11,7 +11,6 @@ import re
 import zipfile
 
 HERE = os.path.dirname(os.path.abspath(__file__))
-SONAME = "libclim.so.0"
 # The time of each file in a wheel, so that the same files make the same wheel.
 TIME = (2020, 1, 1, 0, 0, 0)
 # The oldest version of glibc, 2.17, that a tag names.
@@ -32,13 +31,18 @@ def _entry(name):
     return re.search(rf'^{name} = "(.*)"$', _text("pyproject.toml"), re.M)[1]
 
 
+def _soname():
+    """The name of the shared library that the package loads."""
+    return "libclim.so." + re.search(r"^ABI_VERSION = (.*)$", _text("clim/_library.py"), re.M)[1]
+
+
 def _version():
     return re.search(r'^__version__ = "(.*)"$', _text("clim/__init__.py"), re.M)[1]
 
 
 def _library():
     """The bytes of the shared library, or None."""
-    for path in (os.environ.get("CLIM_LIBRARY"), os.path.join(HERE, "..", "c", "out", "lib", SONAME)):
+    for path in (os.environ.get("CLIM_LIBRARY"), os.path.join(HERE, "..", "c", "out", "lib", _soname())):
         if path and os.path.exists(path):
             with open(path, "rb") as it:
                 return it.read()
@@ -96,7 +100,7 @@ def build_wheel(wheel_directory, config_settings=None, metadata_directory=None):
     """Makes a wheel, and returns its name."""
     library, files = _library(), dict(_package())
     if library is not None:
-        files[f"clim/{SONAME}"] = library
+        files[f"clim/{_soname()}"] = library
     return _write(wheel_directory, files, _tag(library))
 
 

@@ -12,10 +12,9 @@ import struct
 from ctypes import POINTER, byref, c_bool, c_size_t, c_uint8, c_uint16, c_uint32, c_uint64, c_void_p
 from typing import Any, Callable, Optional
 
-#: The name of the shared library. Its number changes if a function or a struct of `c/clim.h` changes.
-SONAME = "libclim.so.0"
-#: The interface that this package calls, `CLIM_ABI_VERSION` of `c/clim.h`.
+#: The interface that this package calls, `CLIM_ABI_VERSION` of `c/clim.h`. The name of the shared library has it.
 ABI_VERSION = 1
+SONAME = f"libclim.so.{ABI_VERSION}"
 
 
 class Unsupported(NotImplementedError):

@@ -104,6 +104,9 @@ pub const CLIM_ROW: u8 = 7;
 pub const CLIM_START: u8 = 8;
 pub const CLIM_SIGNATURE: u8 = 9;
 
+/// The version of the interface that this crate declares.
+pub const CLIM_ABI_VERSION: u32 = 1;
+
 /// What `clim_signature_text` returns for a text that is too long.
 pub const CLIM_TOO_LONG: usize = usize::MAX;
 

@@ -236,3 +236,12 @@ fn texts_in_a_buffer() {
         assert_eq!(view.user_string(0x0200_0001), Ok(None));
     }
 }
+
+#[test]
+fn the_version_of_the_interface() {
+    // SAFETY: The calls take no pointers.
+    unsafe {
+        assert!(!clim_sys::HAS_ABI_VERSION || clim_sys::clim_abi_version() == clim_sys::CLIM_ABI_VERSION);
+        assert!(!clim_sys::HAS_VIEW_SIZE || clim_sys::clim_view_size() == std::mem::size_of::<clim_sys::clim_view>());
+    }
+}
