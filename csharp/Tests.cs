@@ -152,7 +152,16 @@ static class Tests
     // Each name of a type and of a method is that of System.Reflection. A file counts once.
     static void Compare(string path)
     {
-        var module = System.Reflection.Assembly.ReflectionOnlyLoadFrom(path).ManifestModule;
+        Module module;
+        try
+        {
+            module = System.Reflection.Assembly.ReflectionOnlyLoadFrom(path).ManifestModule;
+        }
+        catch (BadImageFormatException)
+        {
+            Console.WriteLine("System.Reflection does not load " + path);
+            return;
+        }
         int types = 0, methods = 0, before = failed;
         using (var assembly = Assembly.Open(File.ReadAllBytes(path)))
         {
