@@ -72,6 +72,12 @@ class HeaderStruct(ctypes.Structure):
     ]
 
 
+class StreamStruct(ctypes.Structure):
+    """A `clim_stream_header`."""
+
+    _fields_ = [("name", Bytes), ("header_offset", c_size_t), ("offset", c_uint32), ("size", c_uint32)]
+
+
 class _Starts(ctypes.Structure):
     _fields_ = [("step", c_uint32), ("starts", c_uint32 * 256)]
 
@@ -137,6 +143,8 @@ _NEWER: dict[str, tuple[Any, ...]] = {
     "clim_open_within": (c_bool, c_void_p, c_size_t, c_uint64, _VIEW, _FAULT, POINTER(c_bool)),
     "clim_open_root_within": (c_bool, c_void_p, c_size_t, c_uint64, _VIEW, _FAULT, POINTER(c_bool)),
     "clim_explain": (c_size_t, c_uint16, c_void_p, c_size_t),
+    "clim_stream_count": (c_size_t, _VIEW),
+    "clim_stream": (c_bool, _VIEW, c_size_t, POINTER(StreamStruct)),
     "clim_signature_text": (c_size_t, _VIEW, c_uint8, c_uint32, c_size_t, c_void_p, c_size_t),
     "clim_user_string": (c_bool, _VIEW, c_uint32, c_void_p, c_size_t, POINTER(c_size_t), POINTER(c_uint16)),
 }

@@ -270,17 +270,29 @@ class Assembly:
     @property
     def heaps(self) -> Dict[str, bytes]:
         """The bytes of the streams `#~`, `#Strings`, `#US`, `#GUID` and `#Blob` that the root has, by name (II.24.2.2)."""
-        header = self.header
-        root = 0 if header is None else header.root_start
+        self._view()
+        root = 0 if self._bare else header_of(self._data).root_start
+        streams = self._streams() if _c.supports("clim_stream") else self._read_streams(root)
+        found = {name: self._data[root + offset : root + offset + size] for name, offset, size in streams}
+        return {name: found[name] for name in _STREAMS if name in found}
+
+    def _streams(self) -> Iterator[Tuple[str, int, int]]:
+        """The stream headers: the name of each stream, its offset in the root, and its size."""
+        for index in range(library.clim_stream_count(self._view())):
+            stream = _c.StreamStruct(name=_c.Bytes(_c.EMPTY_AT, 0))
+            library.clim_stream(self._view(), index, ctypes.byref(stream))
+            yield ctypes.string_at(stream.name.at, stream.name.len).decode("ascii"), stream.offset, stream.size
+
+    def _read_streams(self, root: int) -> Iterator[Tuple[str, int, int]]:
+        """The same with an older library. The root is opened, so all is where it should be."""
         at = root + 16 + self._numbers("<I", root + 12)[0]
         count = self._numbers("<H", at + 2)[0]
-        at, found = at + 4, {}
+        at += 4
         for _ in range(count):
-            offset, size = self._numbers("<II", at)
             past = self._data.find(b"\0", at + 8)
-            found[self._data[at + 8 : past].decode("ascii")] = self._data[root + offset : root + offset + size]
+            offset, size = self._numbers("<II", at)
+            yield self._data[at + 8 : past].decode("ascii"), offset, size
             at += 8 + (past - at - 8 + 4) // 4 * 4
-        return {name: found[name] for name in _STREAMS if name in found}
 
     def _numbers(self, form: str, at: int) -> Tuple[int, ...]:
         return struct.unpack_from(form, self._data, at)

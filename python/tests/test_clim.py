@@ -56,7 +56,7 @@ class Declared(unittest.TestCase):
             self.assertTrue(all(cells[it] == it for it in names) and set(cells.values()) == names, name)
 
     def test_structs(self):
-        sizes = {"Bytes": 16, "FaultStruct": 16, "HeaderStruct": 96, "ViewStruct": 5208}
+        sizes = {"Bytes": 16, "FaultStruct": 16, "HeaderStruct": 96, "StreamStruct": 32, "ViewStruct": 5208}
         for name, size in sizes.items():
             self.assertEqual(_library.ctypes.sizeof(getattr(_library, name)), size)
         self.assertEqual((_library.CELL.size, _library.CELL_BYTES.size), (40, 40))
@@ -372,6 +372,10 @@ class Reading(unittest.TestCase):
             if assembly.header:
                 root = root[assembly.header.root_start : assembly.header.root_end]
             self.assertEqual(heaps.get("#US", b""), assembly.user)
+            streams = list(assembly._read_streams(assembly.header.root_start if assembly.header else 0))
+            self.assertEqual(set(heaps), {name for name, _, _ in streams} & set(clim.assembly._STREAMS))
+            if clim.supports("clim_stream"):
+                self.assertEqual(list(assembly._streams()), streams)
             self.assertTrue(all(it in root for it in heaps.values()))
             names = set(heaps["#Strings"].split(b"\0"))
             self.assertIn((assembly.module or assembly.types[1]).name.encode(), names)
