@@ -1,0 +1,1684 @@
+// clim for C# and other .NET languages: one file to add to a program. It calls the shared library libclim.so.
+//
+//     using (var assembly = Clim.Assembly.Open(File.ReadAllBytes("one.dll")))         // or throws Clim.ClimFault
+//         foreach (var type in assembly.Rows<Clim.TypeDefRow>())
+//             foreach (var method in assembly.Methods(type))
+//                 Console.WriteLine(type.TypeName + "." + method.Name);
+//
+// A file is opened if and only if it meets all rules of ECMA-335 II.22 to II.25. Then each cell is proved to be that of
+// the file's only model. Rows are structs with the names of the standard, and count from 1. It needs C# 6.
+//
+// The loader has to find libclim.so: in a folder of the system, next to the program, or in one of LD_LIBRARY_PATH.
+
+using System;
+using System.Collections.Generic;
+using System.Runtime.InteropServices;
+using System.Text;
+
+namespace Clim
+{
+    /// <summary>The first rule that some bytes break. Its message is the line that <c>clim check</c> prints.</summary>
+    public sealed class ClimFault : BadImageFormatException
+    {
+        /// <summary>The layer of the rule, from 1 to 9: the hundreds of its number.</summary>
+        public int Layer { get; }
+
+        /// <summary>The number of the rule, for example 501. docs/FAULTS.md explains each.</summary>
+        public int Code { get; }
+
+        /// <summary>The offset in the bytes that were opened.</summary>
+        public long Offset { get; }
+
+        /// <summary>The name of the rule, for example <c>BadString</c>.</summary>
+        public string RuleName { get; }
+
+        internal ClimFault(NativeFault fault, string name)
+            : base("fault " + fault.Layer + " " + fault.Code + " at " + fault.Offset + ": " + name)
+        {
+            Layer = fault.Layer;
+            Code = fault.Code;
+            Offset = (long)fault.Offset;
+            RuleName = name;
+        }
+
+        /// <summary>What <c>clim explain</c> prints of the rule, in lines that are not broken.</summary>
+        /// <exception cref="NotSupportedException">The library is older than this file.</exception>
+        public string Explanation
+        {
+            get
+            {
+                return Native.WrittenText(
+                    (buffer, room) => Native.Newer(() => Native.clim_explain((ushort)Code, buffer, room)));
+            }
+        }
+    }
+
+    /// <summary>Thrown by <see cref="Assembly.Open(byte[], ulong)"/> if the signatures have more bytes than the budget.</summary>
+    public sealed class BudgetSpentException : Exception
+    {
+        internal BudgetSpentException() : base("the budget is spent") { }
+    }
+
+    /// <summary>The tables, by their numbers (II.22).</summary>
+    public enum TableId : byte
+    {
+        /// <summary>The module (II.22.30).</summary>
+        Module = 0x00,
+        /// <summary>A type of another module (II.22.38).</summary>
+        TypeRef = 0x01,
+        /// <summary>A type (II.22.37).</summary>
+        TypeDef = 0x02,
+        /// <summary>A field (II.22.15).</summary>
+        Field = 0x04,
+        /// <summary>A method (II.22.26).</summary>
+        MethodDef = 0x06,
+        /// <summary>A parameter (II.22.33).</summary>
+        Param = 0x08,
+        /// <summary>An interface that a type implements (II.22.23).</summary>
+        InterfaceImpl = 0x09,
+        /// <summary>A field or a method of another type (II.22.25).</summary>
+        MemberRef = 0x0A,
+        /// <summary>A constant value (II.22.9).</summary>
+        Constant = 0x0B,
+        /// <summary>A custom attribute (II.22.10).</summary>
+        CustomAttribute = 0x0C,
+        /// <summary>How a field or a parameter is marshalled (II.22.17).</summary>
+        FieldMarshal = 0x0D,
+        /// <summary>A permission set (II.22.11).</summary>
+        DeclSecurity = 0x0E,
+        /// <summary>The layout of a type (II.22.8).</summary>
+        ClassLayout = 0x0F,
+        /// <summary>The offset of a field in its type (II.22.16).</summary>
+        FieldLayout = 0x10,
+        /// <summary>A signature that no other row has (II.22.36).</summary>
+        StandAloneSig = 0x11,
+        /// <summary>The events of a type (II.22.12).</summary>
+        EventMap = 0x12,
+        /// <summary>An event (II.22.13).</summary>
+        Event = 0x14,
+        /// <summary>The properties of a type (II.22.35).</summary>
+        PropertyMap = 0x15,
+        /// <summary>A property (II.22.34).</summary>
+        Property = 0x17,
+        /// <summary>A method of an event or a property (II.22.28).</summary>
+        MethodSemantics = 0x18,
+        /// <summary>A method that implements another (II.22.27).</summary>
+        MethodImpl = 0x19,
+        /// <summary>Another module (II.22.31).</summary>
+        ModuleRef = 0x1A,
+        /// <summary>A type that a signature describes (II.22.39).</summary>
+        TypeSpec = 0x1B,
+        /// <summary>A method of unmanaged code (II.22.22).</summary>
+        ImplMap = 0x1C,
+        /// <summary>The address of the initial value of a field (II.22.18).</summary>
+        FieldRVA = 0x1D,
+        /// <summary>The assembly (II.22.2).</summary>
+        Assembly = 0x20,
+        /// <summary>A processor (II.22.4).</summary>
+        AssemblyProcessor = 0x21,
+        /// <summary>An operating system (II.22.3).</summary>
+        AssemblyOS = 0x22,
+        /// <summary>Another assembly (II.22.5).</summary>
+        AssemblyRef = 0x23,
+        /// <summary>A processor of another assembly (II.22.7).</summary>
+        AssemblyRefProcessor = 0x24,
+        /// <summary>An operating system of another assembly (II.22.6).</summary>
+        AssemblyRefOS = 0x25,
+        /// <summary>A file of the assembly (II.22.19).</summary>
+        File = 0x26,
+        /// <summary>A type of another module of the assembly, or one that moved (II.22.14).</summary>
+        ExportedType = 0x27,
+        /// <summary>A resource (II.22.24).</summary>
+        ManifestResource = 0x28,
+        /// <summary>A nested type (II.22.32).</summary>
+        NestedClass = 0x29,
+        /// <summary>A generic parameter (II.22.20).</summary>
+        GenericParam = 0x2A,
+        /// <summary>A generic method with its arguments (II.22.29).</summary>
+        MethodSpec = 0x2B,
+        /// <summary>A constraint of a generic parameter (II.22.21).</summary>
+        GenericParamConstraint = 0x2C,
+    }
+
+    /// <summary>A row of a table. As a number, 0x02000005 is row 5 of TypeDef.</summary>
+    public struct Token : IEquatable<Token>
+    {
+        /// <summary>The table.</summary>
+        public TableId Table { get; }
+
+        /// <summary>The row, counted from 1.</summary>
+        public int Row { get; }
+
+        /// <summary>The token of a row.</summary>
+        public Token(TableId table, int row)
+        {
+            Table = table;
+            Row = row;
+        }
+
+        /// <summary>The token as a number, as reflection has it.</summary>
+        public int Value { get { return (int)Table << 24 | Row; } }
+
+        public bool Equals(Token other) { return Value == other.Value; }
+        public override bool Equals(object other) { return other is Token && Equals((Token)other); }
+        public override int GetHashCode() { return Value; }
+        public override string ToString() { return Value.ToString("x8"); }
+    }
+
+    /// <summary>The rows of one table that a row of another owns, from <c>First</c> to before <c>Past</c>.</summary>
+    public struct RowRange
+    {
+        public int First { get; }
+        public int Past { get; }
+        public int Count { get { return Past - First; } }
+
+        public RowRange(int first, int past)
+        {
+            First = first;
+            Past = past;
+        }
+    }
+
+    /// <summary>An address in the image and the number of bytes there (II.25.2.3.3); 0 and 0 if there is nothing.</summary>
+    [StructLayout(LayoutKind.Sequential)]
+    public struct DataDirectory
+    {
+        public uint Rva;
+        public uint Size;
+    }
+
+    /// <summary>The CLI header of a file (II.25.3.3), its offset, and where the metadata root begins and ends.</summary>
+    [StructLayout(LayoutKind.Sequential)]
+    public struct CliHeader
+    {
+        UIntPtr offset;
+        UIntPtr rootStart;
+        UIntPtr rootEnd;
+        public uint Cb;
+        public ushort MajorRuntimeVersion;
+        public ushort MinorRuntimeVersion;
+        public DataDirectory Metadata;
+        public uint Flags;
+        public uint EntryPointToken;
+        public DataDirectory Resources;
+        public DataDirectory StrongNameSignature;
+        public DataDirectory CodeManagerTable;
+        public DataDirectory VTableFixups;
+        public DataDirectory ExportAddressTableJumps;
+        public DataDirectory ManagedNativeHeader;
+
+        public long Offset { get { return (long)offset; } }
+        public long RootStart { get { return (long)rootStart; } }
+        public long RootEnd { get { return (long)rootEnd; } }
+    }
+
+    [StructLayout(LayoutKind.Sequential)]
+    struct NativeBytes
+    {
+        public IntPtr At;
+        public UIntPtr Length;
+    }
+
+    [StructLayout(LayoutKind.Sequential)]
+    struct NativeFault
+    {
+        public ulong Offset;
+        public ushort Code;
+        public byte Layer;
+    }
+
+    enum CellKind : byte { None, Number, Text, Blob, NullGuid, Guid, NullRow, Row, Start, Signature }
+
+    [StructLayout(LayoutKind.Explicit, Size = 40)]
+    struct NativeCell
+    {
+        [FieldOffset(0)] public NativeBytes Bytes;
+        [FieldOffset(16)] public uint Number;
+        [FieldOffset(20)] public CellKind Kind;
+        [FieldOffset(21)] public TableId Table;
+        [FieldOffset(22)] public Guid Guid;
+    }
+
+    /// <summary>A view, followed by a copy of the bytes that were opened.</summary>
+    sealed class Memory : SafeHandle
+    {
+        // The layout of clim_view: the bytes of the root, five runs, and whether it is open.
+        const int Size = 5208;
+        const int Runs = 16;
+        const int RunSize = 1028;
+        const int RunCount = 5;
+
+        public int Length { get; }
+
+        public Memory(byte[] bytes) : base(IntPtr.Zero, true)
+        {
+            Length = bytes.Length;
+            SetHandle(Marshal.AllocHGlobal((IntPtr)((long)Size + Length)));
+            for (int at = 0; at < Size; at += 8)
+                Marshal.WriteInt64(handle, at, 0);
+            Marshal.WriteIntPtr(handle, 0, Bytes);
+            for (int run = 0; run < RunCount; run++)
+                Marshal.WriteInt32(handle, Runs + run * RunSize, 1);
+            Marshal.Copy(bytes, 0, Bytes, Length);
+        }
+
+        public IntPtr Bytes { get { return handle + Size; } }
+
+        public override bool IsInvalid { get { return handle == IntPtr.Zero; } }
+
+        protected override bool ReleaseHandle()
+        {
+            Marshal.FreeHGlobal(handle);
+            return true;
+        }
+    }
+
+    /// <summary>The functions of <c>c/clim.h</c>. An older library lacks those at the end.</summary>
+    static class Native
+    {
+        const string Library = "clim";
+
+        [DllImport(Library)]
+        [return: MarshalAs(UnmanagedType.I1)]
+        public static extern bool clim_check(byte[] file, UIntPtr length, ref NativeFault fault);
+
+        [DllImport(Library)]
+        [return: MarshalAs(UnmanagedType.I1)]
+        public static extern bool clim_check_root(byte[] root, UIntPtr length, ref NativeFault fault);
+
+        [DllImport(Library)]
+        [return: MarshalAs(UnmanagedType.I1)]
+        public static extern bool clim_read_header(byte[] file, UIntPtr length, ref CliHeader header, ref NativeFault fault);
+
+        [DllImport(Library)]
+        [return: MarshalAs(UnmanagedType.I1)]
+        public static extern bool clim_open(IntPtr file, UIntPtr length, Memory view, ref NativeFault fault);
+
+        [DllImport(Library)]
+        [return: MarshalAs(UnmanagedType.I1)]
+        public static extern bool clim_open_root(IntPtr root, UIntPtr length, Memory view, ref NativeFault fault);
+
+        [DllImport(Library)]
+        public static extern void clim_fault_name(ushort code, ref NativeBytes name);
+
+        [DllImport(Library)]
+        public static extern void clim_table_name(TableId table, ref NativeBytes name);
+
+        [DllImport(Library)]
+        public static extern UIntPtr clim_cell_count(TableId table);
+
+        [DllImport(Library)]
+        public static extern void clim_column_name(TableId table, UIntPtr column, ref NativeBytes name);
+
+        [DllImport(Library)]
+        public static extern void clim_version(Memory view, ref NativeBytes version);
+
+        [DllImport(Library)]
+        public static extern void clim_user(Memory view, ref NativeBytes user);
+
+        [DllImport(Library)]
+        public static extern uint clim_count(Memory view, TableId table);
+
+        [DllImport(Library)]
+        public static extern UIntPtr clim_cells(
+            Memory view, TableId table, uint first, UIntPtr column, [In, Out] NativeCell[] cells, UIntPtr room);
+
+        [DllImport(Library)]
+        [return: MarshalAs(UnmanagedType.I1)]
+        public static extern bool clim_members(
+            Memory view, TableId owner, uint row, TableId member, ref uint first, ref uint past);
+
+        [DllImport(Library)]
+        public static extern uint clim_find_type(
+            Memory view, byte[] space, UIntPtr spaceLength, byte[] name, UIntPtr nameLength);
+
+        [DllImport(Library)]
+        public static extern UIntPtr clim_rows_by_key(
+            Memory view, TableId table, TableId keyTable, uint keyRow, [In, Out] uint[] rows, UIntPtr room);
+
+        [DllImport(Library)]
+        [return: MarshalAs(UnmanagedType.I1)]
+        public static extern bool clim_open_within(
+            IntPtr file, UIntPtr length, ulong budget, Memory view, ref NativeFault fault, ref byte spent);
+
+        [DllImport(Library)]
+        [return: MarshalAs(UnmanagedType.I1)]
+        public static extern bool clim_open_root_within(
+            IntPtr root, UIntPtr length, ulong budget, Memory view, ref NativeFault fault, ref byte spent);
+
+        [DllImport(Library)]
+        [return: MarshalAs(UnmanagedType.I1)]
+        public static extern bool clim_check_within(
+            byte[] file, UIntPtr length, ulong budget, ref NativeFault fault, ref byte spent);
+
+        [DllImport(Library)]
+        [return: MarshalAs(UnmanagedType.I1)]
+        public static extern bool clim_check_root_within(
+            byte[] root, UIntPtr length, ulong budget, ref NativeFault fault, ref byte spent);
+
+        [DllImport(Library)]
+        public static extern UIntPtr clim_explain(ushort code, [In, Out] byte[] buffer, UIntPtr room);
+
+        [DllImport(Library)]
+        public static extern UIntPtr clim_signature_text(
+            Memory view, TableId table, uint row, UIntPtr column, [In, Out] byte[] buffer, UIntPtr room);
+
+        [DllImport(Library)]
+        [return: MarshalAs(UnmanagedType.I1)]
+        public static extern bool clim_user_string(
+            Memory view, uint token, [In, Out] ushort[] units, UIntPtr room, ref UIntPtr count, ref ushort flag);
+
+        [DllImport(Library)]
+        static extern uint clim_abi_version();
+
+        // The interface that this file calls, CLIM_ABI_VERSION of clim.h.
+        const uint Version = 1;
+        // The length that most texts have at most.
+        public const int Usual = 256;
+
+        static readonly Lazy<uint> version = new Lazy<uint>(ReadVersion);
+
+        static uint ReadVersion()
+        {
+            try
+            {
+                return clim_abi_version();
+            }
+            catch (EntryPointNotFoundException)
+            {
+                // A library without this function has the first version.
+                return Version;
+            }
+        }
+
+        /// <summary>Throws if the library has another interface than this file calls.</summary>
+        public static void CheckVersion()
+        {
+            if (version.Value != Version)
+                throw new NotSupportedException(
+                    "libclim.so has the interface " + version.Value + ", and Clim.cs needs " + Version);
+        }
+
+        public delegate UIntPtr Writing(byte[] buffer, UIntPtr room);
+
+        /// <summary>
+        /// The text that a call writes into a buffer, and whose length it returns; null if it is too long.
+        /// </summary>
+        public static string WrittenText(Writing write)
+        {
+            for (var buffer = new byte[Usual]; ;)
+            {
+                ulong length = (ulong)write(buffer, Length(buffer));
+                if (length <= (ulong)buffer.Length)
+                    return Encoding.UTF8.GetString(buffer, 0, (int)length);
+                // CLIM_TOO_LONG, or a length that no array has.
+                if (length > int.MaxValue)
+                    return null;
+                buffer = new byte[length];
+            }
+        }
+
+        /// <summary>Makes a call of a function that an older library lacks.</summary>
+        public static T Newer<T>(Func<T> call)
+        {
+            try
+            {
+                return call();
+            }
+            catch (EntryPointNotFoundException missing)
+            {
+                throw new NotSupportedException("this libclim.so is older than Clim.cs: " + missing.Message, missing);
+            }
+        }
+
+        public static UIntPtr Length(byte[] bytes)
+        {
+            if (bytes == null)
+                throw new ArgumentNullException("bytes");
+            return (UIntPtr)bytes.Length;
+        }
+    }
+
+    /// <summary>The cells of a row, in the order of its columns. Rows read themselves from it.</summary>
+    public sealed class CellReader
+    {
+        readonly Assembly assembly;
+        readonly NativeCell[][] columns;
+        int row;
+        int column;
+
+        internal CellReader(Assembly assembly, NativeCell[][] columns)
+        {
+            this.assembly = assembly;
+            this.columns = columns;
+        }
+
+        internal void MoveTo(int index, Token token)
+        {
+            row = index;
+            column = 0;
+            Token = token;
+        }
+
+        /// <summary>The row.</summary>
+        public Token Token { get; private set; }
+
+        internal uint Number() { return Next(CellKind.Number, CellKind.Number).Number; }
+        internal int Start() { return (int)Next(CellKind.Start, CellKind.Start).Number; }
+        internal string Text() { return assembly.TextOf(Next(CellKind.Text, CellKind.Text).Bytes); }
+        internal byte[] Blob() { return Assembly.BytesOf(Next(CellKind.Blob, CellKind.Blob).Bytes); }
+        internal byte[] Signature() { return Assembly.BytesOf(Next(CellKind.Signature, CellKind.Signature).Bytes); }
+
+        internal Guid? Guid()
+        {
+            var cell = Next(CellKind.Guid, CellKind.NullGuid);
+            return cell.Kind == CellKind.Guid ? cell.Guid : (Guid?)null;
+        }
+
+        internal Token Row()
+        {
+            var cell = Next(CellKind.Row, CellKind.Row);
+            return new Token(cell.Table, (int)cell.Number);
+        }
+
+        internal Token? RowOrNull()
+        {
+            var cell = Next(CellKind.Row, CellKind.NullRow);
+            return cell.Kind == CellKind.Row ? new Token(cell.Table, (int)cell.Number) : (Token?)null;
+        }
+
+        NativeCell Next(CellKind kind, CellKind other)
+        {
+            var cell = columns[column++][row];
+            if (cell.Kind != kind && cell.Kind != other)
+                throw new InvalidOperationException("libclim.so wrote a cell of kind " + cell.Kind + " for one of kind " + kind);
+            return cell;
+        }
+    }
+
+    /// <summary>A row of a table: a struct of this file.</summary>
+    public interface IRow
+    {
+        /// <summary>The table.</summary>
+        TableId Table { get; }
+
+        /// <summary>Reads the row from its cells.</summary>
+        void Read(CellReader cells);
+    }
+
+    /// <summary>
+    /// An opened file, or an opened metadata root. After <see cref="Dispose"/> each call throws
+    /// <see cref="ObjectDisposedException"/>. Rows that were read before stay valid.
+    /// </summary>
+    public sealed class Assembly : IDisposable
+    {
+        // The number of rows that are read at a time.
+        const int Chunk = 256;
+        // The number of rows that a look-up by key expects.
+        const int Expected = 16;
+        // The number of types in one full name.
+        const int Depth = 64;
+        // The number of bytes of a text that is kept for other rows.
+        const int Kept = 256;
+
+        readonly Memory memory;
+        readonly Dictionary<IntPtr, string> texts = new Dictionary<IntPtr, string>();
+
+        delegate bool Opening(IntPtr bytes, UIntPtr length, Memory view, ref NativeFault fault);
+
+        Assembly(byte[] bytes, Opening open)
+        {
+            if (bytes == null)
+                throw new ArgumentNullException("bytes");
+            Native.CheckVersion();
+            var fault = new NativeFault();
+            memory = new Memory(bytes);
+            bool opened = false;
+            try
+            {
+                opened = open(memory.Bytes, (UIntPtr)memory.Length, memory, ref fault);
+            }
+            finally
+            {
+                if (!opened)
+                    memory.Dispose();
+            }
+            if (!opened)
+                throw FaultOf(fault);
+        }
+
+        /// <summary>Opens a file. The bytes are copied.</summary>
+        /// <exception cref="ClimFault">The file breaks a rule. It is that of the first one.</exception>
+        public static Assembly Open(byte[] file)
+        {
+            return new Assembly(file, Native.clim_open);
+        }
+
+        /// <summary>Opens a bare metadata root, without the file around it (II.24.2.1). The bytes are copied.</summary>
+        /// <exception cref="ClimFault">The root breaks a rule. It is that of the first one.</exception>
+        public static Assembly OpenRoot(byte[] root)
+        {
+            return new Assembly(root, Native.clim_open_root);
+        }
+
+        /// <summary>
+        /// Opens a file within a budget: the number of bytes of signatures that it may check at most.
+        /// </summary>
+        /// <exception cref="ClimFault">The file breaks a rule. It is that of the first one.</exception>
+        /// <exception cref="BudgetSpentException">The budget is spent.</exception>
+        /// <exception cref="NotSupportedException">The library is older than this file.</exception>
+        public static Assembly Open(byte[] file, ulong budget)
+        {
+            return new Assembly(file, Within(Native.clim_open_within, budget));
+        }
+
+        /// <summary>Opens a bare metadata root within a budget.</summary>
+        /// <exception cref="ClimFault">The root breaks a rule. It is that of the first one.</exception>
+        /// <exception cref="BudgetSpentException">The budget is spent.</exception>
+        /// <exception cref="NotSupportedException">The library is older than this file.</exception>
+        public static Assembly OpenRoot(byte[] root, ulong budget)
+        {
+            return new Assembly(root, Within(Native.clim_open_root_within, budget));
+        }
+
+        delegate bool BoundedOpening(
+            IntPtr bytes, UIntPtr length, ulong budget, Memory view, ref NativeFault fault, ref byte spent);
+
+        static Opening Within(BoundedOpening open, ulong budget)
+        {
+            return (IntPtr bytes, UIntPtr length, Memory view, ref NativeFault fault) =>
+            {
+                byte spent = 0;
+                var found = new NativeFault();
+                bool opened = Native.Newer(() => open(bytes, length, budget, view, ref found, ref spent));
+                if (spent != 0)
+                    throw new BudgetSpentException();
+                fault = found;
+                return opened;
+            };
+        }
+
+        /// <summary>The fault of the first rule that a file breaks, or null if it meets all rules.</summary>
+        public static ClimFault Check(byte[] file)
+        {
+            var fault = new NativeFault();
+            return Native.clim_check(file, Native.Length(file), ref fault) ? null : FaultOf(fault);
+        }
+
+        /// <summary>The same for a bare metadata root.</summary>
+        public static ClimFault CheckRoot(byte[] root)
+        {
+            var fault = new NativeFault();
+            return Native.clim_check_root(root, Native.Length(root), ref fault) ? null : FaultOf(fault);
+        }
+
+        /// <summary>The same as <see cref="Check(byte[])"/>, within a budget as that of <see cref="Open(byte[], ulong)"/>.</summary>
+        /// <exception cref="BudgetSpentException">The budget is spent.</exception>
+        /// <exception cref="NotSupportedException">The library is older than this file.</exception>
+        public static ClimFault Check(byte[] file, ulong budget)
+        {
+            byte spent = 0;
+            var fault = new NativeFault();
+            bool isWhole = Native.Newer(
+                () => Native.clim_check_within(file, Native.Length(file), budget, ref fault, ref spent));
+            return Checked(isWhole, fault, spent);
+        }
+
+        /// <summary>The same for a bare metadata root.</summary>
+        /// <exception cref="BudgetSpentException">The budget is spent.</exception>
+        /// <exception cref="NotSupportedException">The library is older than this file.</exception>
+        public static ClimFault CheckRoot(byte[] root, ulong budget)
+        {
+            byte spent = 0;
+            var fault = new NativeFault();
+            bool isWhole = Native.Newer(
+                () => Native.clim_check_root_within(root, Native.Length(root), budget, ref fault, ref spent));
+            return Checked(isWhole, fault, spent);
+        }
+
+        static ClimFault Checked(bool isWhole, NativeFault fault, byte spent)
+        {
+            if (spent != 0)
+                throw new BudgetSpentException();
+            return isWhole ? null : FaultOf(fault);
+        }
+
+        /// <summary>The CLI header of a file. The tables are not checked.</summary>
+        /// <exception cref="ClimFault">The headers break a rule.</exception>
+        public static CliHeader ReadHeader(byte[] file)
+        {
+            var header = new CliHeader();
+            var fault = new NativeFault();
+            if (!Native.clim_read_header(file, Native.Length(file), ref header, ref fault))
+                throw FaultOf(fault);
+            return header;
+        }
+
+        /// <summary>The name of a table, for example <c>TypeDef</c>.</summary>
+        public static string TableName(TableId table)
+        {
+            var name = NoBytes;
+            Native.clim_table_name(table, ref name);
+            return Encoding.UTF8.GetString(BytesOf(name));
+        }
+
+        /// <summary>The names of the columns of a table.</summary>
+        public static string[] ColumnNames(TableId table)
+        {
+            var names = new string[(int)Native.clim_cell_count(table)];
+            for (int column = 0; column < names.Length; column++)
+            {
+                var name = NoBytes;
+                Native.clim_column_name(table, (UIntPtr)column, ref name);
+                names[column] = Encoding.UTF8.GetString(BytesOf(name));
+            }
+            return names;
+        }
+
+        /// <summary>Closes the assembly and frees its memory.</summary>
+        public void Dispose()
+        {
+            memory.Dispose();
+            texts.Clear();
+        }
+
+        /// <summary>The version string of the root, for example <c>v4.0.30319</c> (II.24.2.1).</summary>
+        public string Version
+        {
+            get
+            {
+                var version = NoBytes;
+                Native.clim_version(memory, ref version);
+                return Held(() => Encoding.UTF8.GetString(BytesOf(version)));
+            }
+        }
+
+        /// <summary>The bytes of <c>#US</c>, as they are in the root (II.24.2.4).</summary>
+        public byte[] UserStrings
+        {
+            get
+            {
+                var user = NoBytes;
+                Native.clim_user(memory, ref user);
+                return Held(() => BytesOf(user));
+            }
+        }
+
+        /// <summary>The number of rows in a table.</summary>
+        public int Count(TableId table)
+        {
+            return (int)Native.clim_count(memory, table);
+        }
+
+        /// <summary>The rows of a table, for example <c>Rows&lt;TypeDefRow&gt;()</c>.</summary>
+        public IEnumerable<T> Rows<T>() where T : struct, IRow
+        {
+            return Rows<T>(new RowRange(1, Count(default(T).Table) + 1));
+        }
+
+        /// <summary>The rows of a table in a range, for example that of <see cref="Members"/>.</summary>
+        public IEnumerable<T> Rows<T>(RowRange range) where T : struct, IRow
+        {
+            var table = default(T).Table;
+            int past = Math.Min(range.Past, Count(table) + 1);
+            for (int first = Math.Max(range.First, 1); first < past; first += Chunk)
+                foreach (var row in Read<T>(table, first, Math.Min(Chunk, past - first)))
+                    yield return row;
+        }
+
+        /// <summary>A row, counted from 1.</summary>
+        /// <exception cref="ArgumentOutOfRangeException">The table has no such row.</exception>
+        public T Row<T>(int number) where T : struct, IRow
+        {
+            var table = default(T).Table;
+            if (number < 1 || number > Count(table))
+                throw new ArgumentOutOfRangeException("number", table + " has no row " + number);
+            return Read<T>(table, number, 1)[0];
+        }
+
+        /// <summary>The rows of a table that a row owns (II.22). It is empty if the row owns none of that table.</summary>
+        public RowRange Members(Token owner, TableId member)
+        {
+            uint first = 1, past = 1;
+            Native.clim_members(memory, owner.Table, (uint)owner.Row, member, ref first, ref past);
+            return new RowRange((int)first, (int)past);
+        }
+
+        /// <summary>The fields of a type.</summary>
+        public IEnumerable<FieldRow> Fields(TypeDefRow type)
+        {
+            return Rows<FieldRow>(Members(type.Token, TableId.Field));
+        }
+
+        /// <summary>The methods of a type.</summary>
+        public IEnumerable<MethodDefRow> Methods(TypeDefRow type)
+        {
+            return Rows<MethodDefRow>(Members(type.Token, TableId.MethodDef));
+        }
+
+        /// <summary>The rows of Param of a method.</summary>
+        public IEnumerable<ParamRow> Params(MethodDefRow method)
+        {
+            return Rows<ParamRow>(Members(method.Token, TableId.Param));
+        }
+
+        /// <summary>The first type with a namespace and a name, or null.</summary>
+        public TypeDefRow? FindType(string space, string name)
+        {
+            byte[] spaceBytes = Encoding.UTF8.GetBytes(space), nameBytes = Encoding.UTF8.GetBytes(name);
+            uint row = Native.clim_find_type(
+                memory, spaceBytes, Native.Length(spaceBytes), nameBytes, Native.Length(nameBytes));
+            return row == 0 ? (TypeDefRow?)null : Row<TypeDefRow>((int)row);
+        }
+
+        /// <summary>The rows of a table whose key is a row, in ascending order; none if the table has no key.</summary>
+        public T[] ByKey<T>(Token key) where T : struct, IRow
+        {
+            for (int room = Expected; ; room *= Expected)
+            {
+                var rows = new uint[room];
+                int count = (int)Native.clim_rows_by_key(
+                    memory, default(T).Table, key.Table, (uint)key.Row, rows, (UIntPtr)room);
+                if (count < room)
+                {
+                    Array.Resize(ref rows, count);
+                    return Array.ConvertAll(rows, row => Row<T>((int)row));
+                }
+            }
+        }
+
+        /// <summary>
+        /// The signature of a row in the notation of ILAsm (II.7.1, II.15.3), with names as they are in the file. It is null
+        /// if there is no such row, if it has no signature, or if the text has more than 65,536 bytes, as those of crafted
+        /// files can have.
+        /// </summary>
+        /// <exception cref="NotSupportedException">The library is older than this file.</exception>
+        public string SignatureText(Token row)
+        {
+            int column = SignatureColumn(row.Table);
+            if (column < 0)
+                return null;
+            string text = Native.WrittenText((buffer, room) => Native.Newer(() => Native.clim_signature_text(
+                memory, row.Table, (uint)row.Row, (UIntPtr)column, buffer, room)));
+            return text == "" ? null : text;
+        }
+
+        // The column of the signatures of a table, or -1. No table has two.
+        static int SignatureColumn(TableId table)
+        {
+            switch (table)
+            {
+                case TableId.StandAloneSig: case TableId.TypeSpec: return 0;
+                case TableId.MethodSpec: return 1;
+                case TableId.Field: case TableId.MemberRef: case TableId.Property: return 2;
+                case TableId.MethodDef: return 4;
+                default: return -1;
+            }
+        }
+
+        /// <summary>
+        /// The user string of a token such as 0x70000001, which <c>ldstr</c> has (II.24.2.4). It is null if the token is
+        /// another one, or <c>#US</c> has no user string there.
+        /// </summary>
+        /// <exception cref="NotSupportedException">The library is older than this file.</exception>
+        public string UserString(int token)
+        {
+            for (var units = new ushort[Native.Usual]; ;)
+            {
+                var count = UIntPtr.Zero;
+                ushort flag = 0;
+                bool found = Native.Newer(() => Native.clim_user_string(
+                    memory, (uint)token, units, (UIntPtr)units.Length, ref count, ref flag));
+                if (!found)
+                    return null;
+                if ((ulong)count <= (ulong)units.Length)
+                    return new string(Array.ConvertAll(units, unit => (char)unit), 0, (int)count);
+                units = new ushort[(ulong)count];
+            }
+        }
+
+        /// <summary>
+        /// The namespace and the names of a type and of those that enclose it: <c>Namespace.Outer/Inner</c>. At most 64
+        /// types are named; <c>..</c> stands for those that enclose them.
+        /// </summary>
+        public string FullName(TypeDefRow type)
+        {
+            string name = OwnName(type);
+            for (int depth = 1; ; depth++)
+            {
+                var nested = ByKey<NestedClassRow>(type.Token);
+                if (nested.Length == 0)
+                    return name;
+                if (depth == Depth)
+                    return "../" + name;
+                type = Row<TypeDefRow>(nested[0].EnclosingClass.Row);
+                name = OwnName(type) + "/" + name;
+            }
+        }
+
+        static string OwnName(TypeDefRow type)
+        {
+            return type.TypeNamespace.Length == 0 ? type.TypeName : type.TypeNamespace + "." + type.TypeName;
+        }
+
+        /// <summary>Reads rows that are there.</summary>
+        T[] Read<T>(TableId table, int first, int count) where T : struct, IRow
+        {
+            return Held(() =>
+            {
+                var columns = new NativeCell[(int)Native.clim_cell_count(table)][];
+                for (int column = 0; column < columns.Length; column++)
+                    columns[column] = ReadColumn(table, first, column, count);
+                var cells = new CellReader(this, columns);
+                var rows = new T[count];
+                for (int index = 0; index < count; index++)
+                {
+                    cells.MoveTo(index, new Token(table, first + index));
+                    rows[index].Read(cells);
+                }
+                return rows;
+            });
+        }
+
+        NativeCell[] ReadColumn(TableId table, int first, int column, int count)
+        {
+            var cells = new NativeCell[count];
+            for (int index = 0; index < count; index++)
+                cells[index].Bytes = NoBytes;
+            var written = Native.clim_cells(memory, table, (uint)first, (UIntPtr)column, cells, (UIntPtr)count);
+            if ((int)written != count)
+                throw new InvalidOperationException("libclim.so wrote " + written + " cells of " + count);
+            return cells;
+        }
+
+        /// <summary>Makes a call during which the memory is not freed.</summary>
+        T Held<T>(Func<T> call)
+        {
+            bool isHeld = false;
+            memory.DangerousAddRef(ref isHeld);
+            try
+            {
+                return call();
+            }
+            finally
+            {
+                if (isHeld)
+                    memory.DangerousRelease();
+            }
+        }
+
+        internal string TextOf(NativeBytes bytes)
+        {
+            // Texts of a crafted file can overlap, and then have much more bytes than the file. So long ones are not kept.
+            if (bytes.Length == UIntPtr.Zero || (ulong)bytes.Length > Kept)
+                return Encoding.UTF8.GetString(BytesOf(bytes));
+            string text;
+            lock (texts)
+            {
+                if (!texts.TryGetValue(bytes.At, out text))
+                {
+                    text = Encoding.UTF8.GetString(BytesOf(bytes));
+                    texts.Add(bytes.At, text);
+                }
+            }
+            return text;
+        }
+
+        internal static byte[] BytesOf(NativeBytes bytes)
+        {
+            var copy = new byte[(int)bytes.Length];
+            if (copy.Length > 0)
+                Marshal.Copy(bytes.At, copy, 0, copy.Length);
+            return copy;
+        }
+
+        static readonly IntPtr empty = Marshal.AllocHGlobal(1);
+
+        static NativeBytes NoBytes { get { return new NativeBytes { At = empty }; } }
+
+        static ClimFault FaultOf(NativeFault fault)
+        {
+            var name = NoBytes;
+            Native.clim_fault_name(fault.Code, ref name);
+            return new ClimFault(fault, Encoding.UTF8.GetString(BytesOf(name)));
+        }
+    }
+
+    /// <summary>The module (II.22.30).</summary>
+    public struct ModuleRow : IRow
+    {
+        public Token Token;
+        public uint Generation;
+        public string Name;
+        public Guid? Mvid;
+        public Guid? EncId;
+        public Guid? EncBaseId;
+
+        public TableId Table { get { return TableId.Module; } }
+
+        public void Read(CellReader cells)
+        {
+            Token = cells.Token;
+            Generation = cells.Number();
+            Name = cells.Text();
+            Mvid = cells.Guid();
+            EncId = cells.Guid();
+            EncBaseId = cells.Guid();
+        }
+    }
+
+    /// <summary>A type of another module (II.22.38).</summary>
+    public struct TypeRefRow : IRow
+    {
+        public Token Token;
+        public Token? ResolutionScope;
+        public string TypeName;
+        public string TypeNamespace;
+
+        public TableId Table { get { return TableId.TypeRef; } }
+
+        public void Read(CellReader cells)
+        {
+            Token = cells.Token;
+            ResolutionScope = cells.RowOrNull();
+            TypeName = cells.Text();
+            TypeNamespace = cells.Text();
+        }
+    }
+
+    /// <summary>A type (II.22.37).</summary>
+    public struct TypeDefRow : IRow
+    {
+        public Token Token;
+        public uint Flags;
+        public string TypeName;
+        public string TypeNamespace;
+        public Token? Extends;
+        public int FieldList;
+        public int MethodList;
+
+        public TableId Table { get { return TableId.TypeDef; } }
+
+        public void Read(CellReader cells)
+        {
+            Token = cells.Token;
+            Flags = cells.Number();
+            TypeName = cells.Text();
+            TypeNamespace = cells.Text();
+            Extends = cells.RowOrNull();
+            FieldList = cells.Start();
+            MethodList = cells.Start();
+        }
+    }
+
+    /// <summary>A field (II.22.15).</summary>
+    public struct FieldRow : IRow
+    {
+        public Token Token;
+        public uint Flags;
+        public string Name;
+        public byte[] Signature;
+
+        public TableId Table { get { return TableId.Field; } }
+
+        public void Read(CellReader cells)
+        {
+            Token = cells.Token;
+            Flags = cells.Number();
+            Name = cells.Text();
+            Signature = cells.Signature();
+        }
+    }
+
+    /// <summary>A method (II.22.26).</summary>
+    public struct MethodDefRow : IRow
+    {
+        public Token Token;
+        public uint RVA;
+        public uint ImplFlags;
+        public uint Flags;
+        public string Name;
+        public byte[] Signature;
+        public int ParamList;
+
+        public TableId Table { get { return TableId.MethodDef; } }
+
+        public void Read(CellReader cells)
+        {
+            Token = cells.Token;
+            RVA = cells.Number();
+            ImplFlags = cells.Number();
+            Flags = cells.Number();
+            Name = cells.Text();
+            Signature = cells.Signature();
+            ParamList = cells.Start();
+        }
+    }
+
+    /// <summary>A parameter (II.22.33).</summary>
+    public struct ParamRow : IRow
+    {
+        public Token Token;
+        public uint Flags;
+        public uint Sequence;
+        public string Name;
+
+        public TableId Table { get { return TableId.Param; } }
+
+        public void Read(CellReader cells)
+        {
+            Token = cells.Token;
+            Flags = cells.Number();
+            Sequence = cells.Number();
+            Name = cells.Text();
+        }
+    }
+
+    /// <summary>An interface that a type implements (II.22.23).</summary>
+    public struct InterfaceImplRow : IRow
+    {
+        public Token Token;
+        public Token Class;
+        public Token Interface;
+
+        public TableId Table { get { return TableId.InterfaceImpl; } }
+
+        public void Read(CellReader cells)
+        {
+            Token = cells.Token;
+            Class = cells.Row();
+            Interface = cells.Row();
+        }
+    }
+
+    /// <summary>A field or a method of another type (II.22.25).</summary>
+    public struct MemberRefRow : IRow
+    {
+        public Token Token;
+        public Token Class;
+        public string Name;
+        public byte[] Signature;
+
+        public TableId Table { get { return TableId.MemberRef; } }
+
+        public void Read(CellReader cells)
+        {
+            Token = cells.Token;
+            Class = cells.Row();
+            Name = cells.Text();
+            Signature = cells.Signature();
+        }
+    }
+
+    /// <summary>A constant value (II.22.9).</summary>
+    public struct ConstantRow : IRow
+    {
+        public Token Token;
+        public uint Type;
+        public Token Parent;
+        public byte[] Value;
+
+        public TableId Table { get { return TableId.Constant; } }
+
+        public void Read(CellReader cells)
+        {
+            Token = cells.Token;
+            Type = cells.Number();
+            Parent = cells.Row();
+            Value = cells.Blob();
+        }
+    }
+
+    /// <summary>A custom attribute (II.22.10).</summary>
+    public struct CustomAttributeRow : IRow
+    {
+        public Token Token;
+        public Token Parent;
+        public Token Type;
+        public byte[] Value;
+
+        public TableId Table { get { return TableId.CustomAttribute; } }
+
+        public void Read(CellReader cells)
+        {
+            Token = cells.Token;
+            Parent = cells.Row();
+            Type = cells.Row();
+            Value = cells.Blob();
+        }
+    }
+
+    /// <summary>How a field or a parameter is marshalled (II.22.17).</summary>
+    public struct FieldMarshalRow : IRow
+    {
+        public Token Token;
+        public Token Parent;
+        public byte[] NativeType;
+
+        public TableId Table { get { return TableId.FieldMarshal; } }
+
+        public void Read(CellReader cells)
+        {
+            Token = cells.Token;
+            Parent = cells.Row();
+            NativeType = cells.Blob();
+        }
+    }
+
+    /// <summary>A permission set (II.22.11).</summary>
+    public struct DeclSecurityRow : IRow
+    {
+        public Token Token;
+        public uint Action;
+        public Token Parent;
+        public byte[] PermissionSet;
+
+        public TableId Table { get { return TableId.DeclSecurity; } }
+
+        public void Read(CellReader cells)
+        {
+            Token = cells.Token;
+            Action = cells.Number();
+            Parent = cells.Row();
+            PermissionSet = cells.Blob();
+        }
+    }
+
+    /// <summary>The layout of a type (II.22.8).</summary>
+    public struct ClassLayoutRow : IRow
+    {
+        public Token Token;
+        public uint PackingSize;
+        public uint ClassSize;
+        public Token Parent;
+
+        public TableId Table { get { return TableId.ClassLayout; } }
+
+        public void Read(CellReader cells)
+        {
+            Token = cells.Token;
+            PackingSize = cells.Number();
+            ClassSize = cells.Number();
+            Parent = cells.Row();
+        }
+    }
+
+    /// <summary>The offset of a field in its type (II.22.16).</summary>
+    public struct FieldLayoutRow : IRow
+    {
+        public Token Token;
+        public uint Offset;
+        public Token Field;
+
+        public TableId Table { get { return TableId.FieldLayout; } }
+
+        public void Read(CellReader cells)
+        {
+            Token = cells.Token;
+            Offset = cells.Number();
+            Field = cells.Row();
+        }
+    }
+
+    /// <summary>A signature that no other row has (II.22.36).</summary>
+    public struct StandAloneSigRow : IRow
+    {
+        public Token Token;
+        public byte[] Signature;
+
+        public TableId Table { get { return TableId.StandAloneSig; } }
+
+        public void Read(CellReader cells)
+        {
+            Token = cells.Token;
+            Signature = cells.Signature();
+        }
+    }
+
+    /// <summary>The events of a type (II.22.12).</summary>
+    public struct EventMapRow : IRow
+    {
+        public Token Token;
+        public Token Parent;
+        public int EventList;
+
+        public TableId Table { get { return TableId.EventMap; } }
+
+        public void Read(CellReader cells)
+        {
+            Token = cells.Token;
+            Parent = cells.Row();
+            EventList = cells.Start();
+        }
+    }
+
+    /// <summary>An event (II.22.13).</summary>
+    public struct EventRow : IRow
+    {
+        public Token Token;
+        public uint EventFlags;
+        public string Name;
+        public Token? EventType;
+
+        public TableId Table { get { return TableId.Event; } }
+
+        public void Read(CellReader cells)
+        {
+            Token = cells.Token;
+            EventFlags = cells.Number();
+            Name = cells.Text();
+            EventType = cells.RowOrNull();
+        }
+    }
+
+    /// <summary>The properties of a type (II.22.35).</summary>
+    public struct PropertyMapRow : IRow
+    {
+        public Token Token;
+        public Token Parent;
+        public int PropertyList;
+
+        public TableId Table { get { return TableId.PropertyMap; } }
+
+        public void Read(CellReader cells)
+        {
+            Token = cells.Token;
+            Parent = cells.Row();
+            PropertyList = cells.Start();
+        }
+    }
+
+    /// <summary>A property (II.22.34).</summary>
+    public struct PropertyRow : IRow
+    {
+        public Token Token;
+        public uint Flags;
+        public string Name;
+        public byte[] Type;
+
+        public TableId Table { get { return TableId.Property; } }
+
+        public void Read(CellReader cells)
+        {
+            Token = cells.Token;
+            Flags = cells.Number();
+            Name = cells.Text();
+            Type = cells.Signature();
+        }
+    }
+
+    /// <summary>A method of an event or a property (II.22.28).</summary>
+    public struct MethodSemanticsRow : IRow
+    {
+        public Token Token;
+        public uint Semantics;
+        public Token Method;
+        public Token Association;
+
+        public TableId Table { get { return TableId.MethodSemantics; } }
+
+        public void Read(CellReader cells)
+        {
+            Token = cells.Token;
+            Semantics = cells.Number();
+            Method = cells.Row();
+            Association = cells.Row();
+        }
+    }
+
+    /// <summary>A method that implements another (II.22.27).</summary>
+    public struct MethodImplRow : IRow
+    {
+        public Token Token;
+        public Token Class;
+        public Token MethodBody;
+        public Token MethodDeclaration;
+
+        public TableId Table { get { return TableId.MethodImpl; } }
+
+        public void Read(CellReader cells)
+        {
+            Token = cells.Token;
+            Class = cells.Row();
+            MethodBody = cells.Row();
+            MethodDeclaration = cells.Row();
+        }
+    }
+
+    /// <summary>Another module (II.22.31).</summary>
+    public struct ModuleRefRow : IRow
+    {
+        public Token Token;
+        public string Name;
+
+        public TableId Table { get { return TableId.ModuleRef; } }
+
+        public void Read(CellReader cells)
+        {
+            Token = cells.Token;
+            Name = cells.Text();
+        }
+    }
+
+    /// <summary>A type that a signature describes (II.22.39).</summary>
+    public struct TypeSpecRow : IRow
+    {
+        public Token Token;
+        public byte[] Signature;
+
+        public TableId Table { get { return TableId.TypeSpec; } }
+
+        public void Read(CellReader cells)
+        {
+            Token = cells.Token;
+            Signature = cells.Signature();
+        }
+    }
+
+    /// <summary>A method of unmanaged code (II.22.22).</summary>
+    public struct ImplMapRow : IRow
+    {
+        public Token Token;
+        public uint MappingFlags;
+        public Token MemberForwarded;
+        public string ImportName;
+        public Token ImportScope;
+
+        public TableId Table { get { return TableId.ImplMap; } }
+
+        public void Read(CellReader cells)
+        {
+            Token = cells.Token;
+            MappingFlags = cells.Number();
+            MemberForwarded = cells.Row();
+            ImportName = cells.Text();
+            ImportScope = cells.Row();
+        }
+    }
+
+    /// <summary>The address of the initial value of a field (II.22.18).</summary>
+    public struct FieldRVARow : IRow
+    {
+        public Token Token;
+        public uint RVA;
+        public Token Field;
+
+        public TableId Table { get { return TableId.FieldRVA; } }
+
+        public void Read(CellReader cells)
+        {
+            Token = cells.Token;
+            RVA = cells.Number();
+            Field = cells.Row();
+        }
+    }
+
+    /// <summary>The assembly (II.22.2).</summary>
+    public struct AssemblyRow : IRow
+    {
+        public Token Token;
+        public uint HashAlgId;
+        public uint MajorVersion;
+        public uint MinorVersion;
+        public uint BuildNumber;
+        public uint RevisionNumber;
+        public uint Flags;
+        public byte[] PublicKey;
+        public string Name;
+        public string Culture;
+
+        public TableId Table { get { return TableId.Assembly; } }
+
+        public void Read(CellReader cells)
+        {
+            Token = cells.Token;
+            HashAlgId = cells.Number();
+            MajorVersion = cells.Number();
+            MinorVersion = cells.Number();
+            BuildNumber = cells.Number();
+            RevisionNumber = cells.Number();
+            Flags = cells.Number();
+            PublicKey = cells.Blob();
+            Name = cells.Text();
+            Culture = cells.Text();
+        }
+    }
+
+    /// <summary>A processor (II.22.4).</summary>
+    public struct AssemblyProcessorRow : IRow
+    {
+        public Token Token;
+        public uint Processor;
+
+        public TableId Table { get { return TableId.AssemblyProcessor; } }
+
+        public void Read(CellReader cells)
+        {
+            Token = cells.Token;
+            Processor = cells.Number();
+        }
+    }
+
+    /// <summary>An operating system (II.22.3).</summary>
+    public struct AssemblyOSRow : IRow
+    {
+        public Token Token;
+        public uint OSPlatformID;
+        public uint OSMajorVersion;
+        public uint OSMinorVersion;
+
+        public TableId Table { get { return TableId.AssemblyOS; } }
+
+        public void Read(CellReader cells)
+        {
+            Token = cells.Token;
+            OSPlatformID = cells.Number();
+            OSMajorVersion = cells.Number();
+            OSMinorVersion = cells.Number();
+        }
+    }
+
+    /// <summary>Another assembly (II.22.5).</summary>
+    public struct AssemblyRefRow : IRow
+    {
+        public Token Token;
+        public uint MajorVersion;
+        public uint MinorVersion;
+        public uint BuildNumber;
+        public uint RevisionNumber;
+        public uint Flags;
+        public byte[] PublicKeyOrToken;
+        public string Name;
+        public string Culture;
+        public byte[] HashValue;
+
+        public TableId Table { get { return TableId.AssemblyRef; } }
+
+        public void Read(CellReader cells)
+        {
+            Token = cells.Token;
+            MajorVersion = cells.Number();
+            MinorVersion = cells.Number();
+            BuildNumber = cells.Number();
+            RevisionNumber = cells.Number();
+            Flags = cells.Number();
+            PublicKeyOrToken = cells.Blob();
+            Name = cells.Text();
+            Culture = cells.Text();
+            HashValue = cells.Blob();
+        }
+    }
+
+    /// <summary>A processor of another assembly (II.22.7).</summary>
+    public struct AssemblyRefProcessorRow : IRow
+    {
+        public Token Token;
+        public uint Processor;
+        public Token AssemblyRef;
+
+        public TableId Table { get { return TableId.AssemblyRefProcessor; } }
+
+        public void Read(CellReader cells)
+        {
+            Token = cells.Token;
+            Processor = cells.Number();
+            AssemblyRef = cells.Row();
+        }
+    }
+
+    /// <summary>An operating system of another assembly (II.22.6).</summary>
+    public struct AssemblyRefOSRow : IRow
+    {
+        public Token Token;
+        public uint OSPlatformID;
+        public uint OSMajorVersion;
+        public uint OSMinorVersion;
+        public Token AssemblyRef;
+
+        public TableId Table { get { return TableId.AssemblyRefOS; } }
+
+        public void Read(CellReader cells)
+        {
+            Token = cells.Token;
+            OSPlatformID = cells.Number();
+            OSMajorVersion = cells.Number();
+            OSMinorVersion = cells.Number();
+            AssemblyRef = cells.Row();
+        }
+    }
+
+    /// <summary>A file of the assembly (II.22.19).</summary>
+    public struct FileRow : IRow
+    {
+        public Token Token;
+        public uint Flags;
+        public string Name;
+        public byte[] HashValue;
+
+        public TableId Table { get { return TableId.File; } }
+
+        public void Read(CellReader cells)
+        {
+            Token = cells.Token;
+            Flags = cells.Number();
+            Name = cells.Text();
+            HashValue = cells.Blob();
+        }
+    }
+
+    /// <summary>A type of another module of the assembly, or one that moved (II.22.14).</summary>
+    public struct ExportedTypeRow : IRow
+    {
+        public Token Token;
+        public uint Flags;
+        public uint TypeDefId;
+        public string TypeName;
+        public string TypeNamespace;
+        public Token? Implementation;
+
+        public TableId Table { get { return TableId.ExportedType; } }
+
+        public void Read(CellReader cells)
+        {
+            Token = cells.Token;
+            Flags = cells.Number();
+            TypeDefId = cells.Number();
+            TypeName = cells.Text();
+            TypeNamespace = cells.Text();
+            Implementation = cells.RowOrNull();
+        }
+    }
+
+    /// <summary>A resource (II.22.24).</summary>
+    public struct ManifestResourceRow : IRow
+    {
+        public Token Token;
+        public uint Offset;
+        public uint Flags;
+        public string Name;
+        public Token? Implementation;
+
+        public TableId Table { get { return TableId.ManifestResource; } }
+
+        public void Read(CellReader cells)
+        {
+            Token = cells.Token;
+            Offset = cells.Number();
+            Flags = cells.Number();
+            Name = cells.Text();
+            Implementation = cells.RowOrNull();
+        }
+    }
+
+    /// <summary>A nested type (II.22.32).</summary>
+    public struct NestedClassRow : IRow
+    {
+        public Token Token;
+        public Token NestedClass;
+        public Token EnclosingClass;
+
+        public TableId Table { get { return TableId.NestedClass; } }
+
+        public void Read(CellReader cells)
+        {
+            Token = cells.Token;
+            NestedClass = cells.Row();
+            EnclosingClass = cells.Row();
+        }
+    }
+
+    /// <summary>A generic parameter (II.22.20).</summary>
+    public struct GenericParamRow : IRow
+    {
+        public Token Token;
+        public uint Number;
+        public uint Flags;
+        public Token Owner;
+        public string Name;
+
+        public TableId Table { get { return TableId.GenericParam; } }
+
+        public void Read(CellReader cells)
+        {
+            Token = cells.Token;
+            Number = cells.Number();
+            Flags = cells.Number();
+            Owner = cells.Row();
+            Name = cells.Text();
+        }
+    }
+
+    /// <summary>A generic method with its arguments (II.22.29).</summary>
+    public struct MethodSpecRow : IRow
+    {
+        public Token Token;
+        public Token Method;
+        public byte[] Instantiation;
+
+        public TableId Table { get { return TableId.MethodSpec; } }
+
+        public void Read(CellReader cells)
+        {
+            Token = cells.Token;
+            Method = cells.Row();
+            Instantiation = cells.Signature();
+        }
+    }
+
+    /// <summary>A constraint of a generic parameter (II.22.21).</summary>
+    public struct GenericParamConstraintRow : IRow
+    {
+        public Token Token;
+        public Token Owner;
+        public Token Constraint;
+
+        public TableId Table { get { return TableId.GenericParamConstraint; } }
+
+        public void Read(CellReader cells)
+        {
+            Token = cells.Token;
+            Owner = cells.Row();
+            Constraint = cells.Row();
+        }
+    }
+}

@@ -1,0 +1,220 @@
+// Tests of Clim.cs. The last line is 'N passed, M failed'.
+//
+//     Tests.exe SAMPLES [FILE..]      the samples in a folder, and these files; without one, mscorlib.dll and Tests.exe
+//
+// Each name of a type and of a method of a file is compared with that of System.Reflection.
+
+using System;
+using System.IO;
+using System.Linq;
+using System.Reflection;
+using Clim;
+using Assembly = Clim.Assembly;
+
+static class Tests
+{
+    static int passed, failed;
+
+    static void Check(bool fact, string text)
+    {
+        if (fact)
+            passed++;
+        else if (failed++ < 20)
+            Console.WriteLine("Tests.cs: not so: " + text);
+    }
+
+    // A fact of many, which counts only if it is not so.
+    static void Expect(bool fact, string text)
+    {
+        if (!fact)
+            Check(false, text);
+    }
+
+    static T Throws<T>(Action call) where T : Exception
+    {
+        try
+        {
+            call();
+        }
+        catch (T caught)
+        {
+            Check(true, "");
+            return caught;
+        }
+        Check(false, "an exception of the type " + typeof(T).Name);
+        return null;
+    }
+
+    static void Faults()
+    {
+        var fault = Throws<ClimFault>(() => Assembly.Open(new byte[] { 0x4D, 0x5A }));
+        Check(fault.Message == "fault 1 102 at 0: DosHeader", "the text of a fault");
+        Check(fault.Layer == 1 && fault.Code == 102 && fault.Offset == 0 && fault.RuleName == "DosHeader", "its parts");
+        Check(fault is BadImageFormatException, "a fault is a bad image");
+        Check(Assembly.Check(new byte[0]).Code == 102 && Assembly.CheckRoot(new byte[0]).Code == 301, "no bytes");
+        Throws<ClimFault>(() => Assembly.OpenRoot(new byte[0]));
+        Throws<ClimFault>(() => Assembly.ReadHeader(new byte[0]));
+        Throws<ArgumentNullException>(() => Assembly.Open(null));
+    }
+
+    static void Greeter(byte[] root)
+    {
+        using (var assembly = Assembly.OpenRoot(root))
+        {
+            Array.Clear(root, 0, root.Length);
+            var greeter = assembly.FindType("Hello", "Greeter").Value;
+            Check(assembly.Version == "v4.0.30319" && assembly.UserStrings.Length == 0, "the root");
+            Check(greeter.Token.Value == 0x02000002 && greeter.Token.ToString() == "02000002", "a token");
+            Check(assembly.FullName(greeter) == "Hello.Greeter" && greeter.Extends == null, "a type");
+            Check(assembly.Fields(greeter).Count() == 0, "no fields");
+            Check(assembly.Methods(greeter).Select(it => it.Name).SequenceEqual(new[] { ".ctor", "Greet" }), "methods");
+            var greet = assembly.Row<MethodDefRow>(2);
+            Check(assembly.Params(greet).Select(it => it.Name).SequenceEqual(new[] { "name", "times" }), "parameters");
+            Check(greet.Signature.SequenceEqual(new byte[] { 0x00, 0x02, 0x0E, 0x0E, 0x08 }), "a signature");
+            Check(assembly.FindType("no such", "type") == null, "no such type");
+            Check(assembly.Members(greet.Token, TableId.TypeDef).Count == 0, "methods own no types");
+            Throws<ArgumentOutOfRangeException>(() => assembly.Row<MethodDefRow>(0));
+            Throws<ArgumentOutOfRangeException>(() => assembly.Row<MethodDefRow>(3));
+            Check(assembly.Rows<MethodDefRow>(new RowRange(-5, 99)).Count() == 2, "rows outside are left out");
+        }
+    }
+
+    static void Closed(byte[] file)
+    {
+        var assembly = Assembly.Open(file);
+        var module = assembly.Row<ModuleRow>(1);
+        var rows = assembly.Rows<ModuleRow>();
+        assembly.Dispose();
+        assembly.Dispose();
+        Check(module.Name == "a.dll" && module.Mvid == new Guid("03020100-0504-0706-0809-0a0b0c0d0e0f"), "a row stays");
+        Throws<ObjectDisposedException>(() => assembly.Count(TableId.Module));
+        Throws<ObjectDisposedException>(() => assembly.Row<ModuleRow>(1));
+        Throws<ObjectDisposedException>(() => rows.ToArray());
+        Throws<ObjectDisposedException>(() => assembly.Version.ToString());
+        Throws<ObjectDisposedException>(() => assembly.UserStrings.ToString());
+        Throws<ObjectDisposedException>(() => assembly.FindType("", "a"));
+        Throws<ObjectDisposedException>(() => assembly.Members(module.Token, TableId.Field));
+        Throws<ObjectDisposedException>(() => assembly.ByKey<CustomAttributeRow>(module.Token));
+    }
+
+    // Runs tests of a function that the library may lack. Then a call of it says so.
+    static void Newer(string function, Action tests)
+    {
+        try
+        {
+            tests();
+        }
+        catch (NotSupportedException missing)
+        {
+            Check(missing.Message.Contains(function), "the library lacks " + function);
+        }
+    }
+
+    static void NewerFunctions(byte[] root)
+    {
+        Newer("clim_open_root_within", () =>
+        {
+            using (var assembly = Assembly.OpenRoot(root, ulong.MaxValue))
+                Check(assembly.Count(TableId.TypeDef) == 2, "a budget that is enough");
+            Throws<BudgetSpentException>(() => Assembly.OpenRoot(root, 0));
+        });
+        Newer("clim_open_within", () => Throws<ClimFault>(() => Assembly.Open(new byte[0], 0)));
+        Newer("clim_check_within", () => Check(Assembly.Check(new byte[0], 0).Code == 102, "no bytes"));
+        Newer("clim_check_root_within", () =>
+        {
+            Check(Assembly.CheckRoot(root, ulong.MaxValue) == null, "a budget that is enough");
+            Throws<BudgetSpentException>(() => Assembly.CheckRoot(root, 0));
+        });
+        Newer("clim_explain", () =>
+            Check(Assembly.Check(new byte[0]).Explanation.StartsWith("102 DosHeader: "), "an explanation"));
+        using (var assembly = Assembly.OpenRoot(root))
+        {
+            Newer("clim_signature_text", () =>
+            {
+                string text = assembly.SignatureText(new Token(TableId.MethodDef, 2));
+                Check(text.Contains("string") && text.Contains("int32"), "the text of a signature");
+                Check(assembly.SignatureText(new Token(TableId.MethodDef, 3)) == null, "no such method");
+            });
+            Check(assembly.SignatureText(new Token(TableId.TypeDef, 1)) == null, "types have no signatures");
+            Newer("clim_user_string", () => Check(assembly.UserString(0x70000001) == null, "no user strings"));
+        }
+    }
+
+    static void Header(byte[] file)
+    {
+        var header = Assembly.ReadHeader(file);
+        Check(header.Cb >= 72 && header.Metadata.Size == header.RootEnd - header.RootStart, "the CLI header");
+        var root = file.Skip((int)header.RootStart).Take((int)header.Metadata.Size).ToArray();
+        using (Assembly whole = Assembly.Open(file), bare = Assembly.OpenRoot(root))
+            Check(whole.Version == bare.Version && whole.Count(TableId.TypeDef) == bare.Count(TableId.TypeDef), "its root");
+    }
+
+    // Each name of a type and of a method is that of System.Reflection. A file counts once.
+    static void Compare(string path)
+    {
+        Module module;
+        try
+        {
+            module = System.Reflection.Assembly.ReflectionOnlyLoadFrom(path).ManifestModule;
+        }
+        catch (BadImageFormatException)
+        {
+            Console.WriteLine("System.Reflection does not load " + path);
+            return;
+        }
+        int types = 0, methods = 0, before = failed;
+        using (var assembly = Assembly.Open(File.ReadAllBytes(path)))
+        {
+            foreach (var type in assembly.Rows<TypeDefRow>())
+            {
+                var its = module.ResolveType(type.Token.Value);
+                Expect(its.Name == type.TypeName, type.Token + " " + its.Name + " is not " + type.TypeName);
+                Expect(its.IsNested || (its.Namespace ?? "") == type.TypeNamespace, "the namespace of " + type.Token);
+                Expect((int)its.Attributes == (int)type.Flags, "the flags of " + type.Token);
+                types++;
+                foreach (var method in assembly.Methods(type))
+                {
+                    var itsMethod = module.ResolveMethod(method.Token.Value);
+                    Expect(itsMethod.Name == method.Name, method.Token + " " + itsMethod.Name + " is not " + method.Name);
+                    Expect(itsMethod.DeclaringType == its || type.Token.Row == 1, "the type of " + method.Token);
+                    methods++;
+                }
+            }
+            foreach (var nested in assembly.Rows<NestedClassRow>())
+            {
+                var type = assembly.Row<TypeDefRow>(nested.NestedClass.Row);
+                var outer = assembly.Row<TypeDefRow>(nested.EnclosingClass.Row);
+                Expect(assembly.FullName(type) == assembly.FullName(outer) + "/" + type.TypeName, "the name of " + type.Token);
+            }
+            foreach (var attributes in assembly.Rows<CustomAttributeRow>().GroupBy(it => it.Parent))
+                if (attributes.Key.Row % 10 == 1)
+                {
+                    var listed = assembly.ByKey<CustomAttributeRow>(attributes.Key).Select(it => it.Token);
+                    Expect(listed.SequenceEqual(attributes.Select(it => it.Token)), "the attributes of " + attributes.Key);
+                }
+            Expect(methods == assembly.Count(TableId.MethodDef) && types == assembly.Count(TableId.TypeDef), "all rows");
+        }
+        Check(failed == before, "the names of " + path);
+        Console.WriteLine("compared {0} types and {1} methods", types, methods);
+    }
+
+    static int Main(string[] arguments)
+    {
+        string samples = arguments[0];
+        Faults();
+        Greeter(File.ReadAllBytes(Path.Combine(samples, "greeter.root")));
+        Closed(File.ReadAllBytes(Path.Combine(samples, "one_module.dll")));
+        NewerFunctions(File.ReadAllBytes(Path.Combine(samples, "greeter.root")));
+        Header(File.ReadAllBytes(Path.Combine(samples, "one_module.dll")));
+        AppDomain.CurrentDomain.ReflectionOnlyAssemblyResolve +=
+            (sender, wanted) => System.Reflection.Assembly.ReflectionOnlyLoad(wanted.Name);
+        var own = new[] { typeof(object).Assembly.Location, typeof(Tests).Assembly.Location };
+        foreach (string path in arguments.Length > 1 ? arguments.Skip(1) : own)
+        {
+            Header(File.ReadAllBytes(path));
+            Compare(path);
+        }
+        Console.WriteLine("{0} passed, {1} failed", passed, failed);
+        return failed > 0 ? 1 : 0;
+    }
+}

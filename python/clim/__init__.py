@@ -1,0 +1,101 @@
+"""Reads the metadata of .NET assemblies (ECMA-335 II.22 to II.25), in place and proved.
+
+    import clim
+
+    with clim.open("one.dll") as assembly:            # or raises clim.Fault
+        for type in assembly.types:
+            for method in type.methods:
+                print(type.full_name, method.name)
+
+A file is opened if and only if it meets all rules. Then each cell is proved to be that of the file's only model. What
+`clim.open` returns has the tables by name, `assembly["TypeDef"]`, and their rows with a cell for each column,
+`row.TypeName`. `clim.rows` has the classes of rows. Rows count from 1, as in the standard.
+
+The shared library is the file that the environment variable CLIM_LIBRARY names, or else the one that a wheel has, or
+else the one that is installed.
+"""
+
+from __future__ import annotations
+
+import ctypes
+from typing import Optional
+
+from . import rows
+from ._library import FaultStruct, Unsupported, library, supports
+from .assembly import Assembly, Source, Table, address_of, fault_of, header_of, read_source
+from .rows import Row
+from .values import BudgetSpent, Directory, Fault, Header, Signature, Start, Token
+
+__version__ = "0.1.0"
+
+__all__ = [
+    "Assembly",
+    "BudgetSpent",
+    "Directory",
+    "Fault",
+    "Header",
+    "Row",
+    "Signature",
+    "Start",
+    "Table",
+    "Token",
+    "Unsupported",
+    "check",
+    "open",
+    "read_header",
+    "rows",
+    "supports",
+]
+
+
+def open(source: Source, bare: bool = False, *, mmap: bool = False, budget: Optional[int] = None) -> Assembly:
+    """Opens a file.
+
+    Args:
+        source: The path of a file, as a `str` or a path object; or its content, as `bytes` or another object of bytes.
+            `bytes` are read in place. All others may change, so they are copied.
+        bare: Whether it is a bare metadata root, without the file around it (II.24.2.1).
+        mmap: Whether to map the file of a path, instead of reading it. Nothing may change the file while it is open: if
+            it becomes shorter, the process ends with a bus error.
+        budget: The number of bytes of signatures that may be checked at most. Without it a crafted file can take long.
+
+    Raises:
+        Fault: The bytes break a rule of the standard. It has the number, name and offset of the first one.
+        BudgetSpent: The budget is spent.
+        OSError: The file cannot be read.
+        Unsupported: There is a budget, and the library is too old for it.
+    """
+    return Assembly(read_source(source, mmap), bare, budget)
+
+
+def check(source: Source, bare: bool = False, *, budget: Optional[int] = None) -> Optional[Fault]:
+    """`None` if a file, or a bare metadata root, meets all rules; else the fault of the first rule that it breaks.
+
+    `budget` is that of `open`.
+
+    Raises:
+        BudgetSpent: The budget is spent.
+        OSError: The file cannot be read.
+        Unsupported: There is a budget, and the library is too old for it.
+    """
+    data, fault, spent = read_source(source), FaultStruct(), ctypes.c_bool()
+    bytes_ = address_of(data)[0], len(data)
+    if budget is None:
+        call = library.clim_check_root if bare else library.clim_check
+        is_whole = call(*bytes_, ctypes.byref(fault))
+    else:
+        call = library.clim_check_root_within if bare else library.clim_check_within
+        is_whole = call(*bytes_, budget, ctypes.byref(fault), ctypes.byref(spent))
+    if spent.value:
+        raise BudgetSpent("the budget is spent")
+    return None if is_whole else fault_of(fault)
+
+
+def read_header(source: Source) -> Header:
+    """The CLI header of a file (II.25.3.3). The tables are not checked.
+
+    Raises:
+        Fault: The headers break a rule.
+        OSError: The file cannot be read.
+    """
+    return header_of(read_source(source))

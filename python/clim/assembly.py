@@ -1,0 +1,532 @@
+"""An assembly that was opened, and its tables."""
+
+from __future__ import annotations
+
+import ctypes
+import io
+import mmap as _mmap
+import os
+import struct
+import sys
+import uuid
+from bisect import bisect_right
+from itertools import repeat
+from types import TracebackType
+from typing import Any, Dict, Generic, Iterator, List, Optional, Sequence, Tuple, Type, TypeVar, Union, cast, overload
+
+from . import _library as _c
+from ._library import library
+from .rows import (
+    AssemblyDef,
+    AssemblyRef,
+    CustomAttribute,
+    Field,
+    MemberRef,
+    MethodDef,
+    Module,
+    Row,
+    TypeDef,
+    TypeRef,
+)
+from .values import BudgetSpent, Directory, Fault, Header, Start, Token
+
+#: What can be opened: a path, or the bytes themselves.
+Source = Union[str, "os.PathLike[str]", bytes, bytearray, memoryview, _mmap.mmap]
+
+R = TypeVar("R", bound=Row)
+
+# The number of bytes that a file has at most; a longer one is fault 101.
+_LIMIT = 1 << 30
+# The number of bytes that are read at a time from a file whose size is not known.
+_PART = 1 << 20
+# The number of cells that are read at a time.
+_CELLS = 1 << 14
+# The texts or blobs of a column are read at once if they have at most this number of times the bytes of the file.
+_MOST = 4
+# The number of rows that a look-up by key expects.
+_ROWS = 16
+# The streams that the standard names (II.24.2.2).
+_STREAMS = ("#~", "#Strings", "#US", "#GUID", "#Blob")
+
+
+def read_source(source: Source, mmap: bool = False) -> Union[bytes, _mmap.mmap]:
+    """The bytes of a source. Bytes that may change are copied, and a file is read, or mapped for `mmap`."""
+    if isinstance(source, bytes):
+        return source
+    if isinstance(source, (bytearray, memoryview, _mmap.mmap)):
+        return bytes(source)
+    with io.open(source, "rb") as file:
+        size = os.fstat(file.fileno()).st_size
+        if mmap and size > 0:
+            return _mmap.mmap(file.fileno(), 0, access=_mmap.ACCESS_COPY)
+        data = file.read(min(size, _LIMIT) + 1)
+        if len(data) <= size:
+            return data
+        # A pipe, a device, or a file that grows.
+        parts = bytearray(data)
+        while len(parts) <= _LIMIT and (part := file.read(_PART)):
+            parts += part
+        return bytes(parts)
+
+
+def address_of(data: Union[bytes, _mmap.mmap]) -> Tuple[int, Any]:
+    """The address of bytes, and an object to keep while it is in use."""
+    if isinstance(data, bytes):
+        return cast(int, ctypes.cast(ctypes.c_char_p(data), ctypes.c_void_p).value), data
+    exported = ctypes.c_char.from_buffer(data)
+    return ctypes.addressof(exported), exported
+
+
+def fault_of(found: _c.FaultStruct) -> Fault:
+    """A fault, with its name."""
+    return Fault(found.layer, found.code, found.offset, _c.text_of(library.clim_fault_name, found.code).decode())
+
+
+def header_of(data: Union[bytes, _mmap.mmap]) -> Header:
+    """The CLI header of a file; or raises a `Fault`."""
+    (at, kept), header, fault = address_of(data), _c.HeaderStruct(), _c.FaultStruct()
+    opened = library.clim_read_header(at, len(data), ctypes.byref(header), ctypes.byref(fault))
+    del kept
+    if not opened:
+        raise fault_of(fault)
+    fields = [getattr(header, name) for name in Header._fields]
+    return Header(*(Directory(it.rva, it.size) if isinstance(it, _c.DirectoryStruct) else it for it in fields))
+
+
+class Assembly:
+    """An opened file, or an opened metadata root. `clim.open` makes it.
+
+    It is a context manager: `with clim.open(path) as assembly:` closes it at the end. The tables are its items, by name
+    or by number: `assembly["TypeDef"]`. Iterating gives the tables that have rows, in the order of their numbers.
+
+    After `close`, each access to a table, a row or a heap is a `ValueError`. Values that were read before stay valid.
+
+    Raises:
+        Fault: The bytes break a rule of the standard. It is the first one in the order of docs/FAULTS.md.
+    """
+
+    def __init__(self, data: Union[bytes, _mmap.mmap], bare: bool = False, budget: Optional[int] = None) -> None:
+        self._is_closed = False
+        # Other objects of bytes may change.
+        self._data = data if isinstance(data, (bytes, _mmap.mmap)) else bytes(data)
+        self._bare = bare
+        self._at, self._kept = address_of(self._data)
+        self._struct = _c.closed_view()
+        # The texts that were read, by their addresses. Many names in a file are the same text of its heap.
+        self._texts: Dict[int, str] = {}
+        self._groups: Dict[Tuple[str, str], Dict[Token, List[Any]]] = {}
+        self._tables: Dict[int, Table[Any]] = {}
+        try:
+            self._open(budget)
+        except BaseException:
+            self.close()
+            raise
+
+    def _open(self, budget: Optional[int]) -> None:
+        """Opens the bytes."""
+        fault, spent = _c.FaultStruct(), ctypes.c_bool()
+        bytes_, out = (self._at, len(self._data)), (self._view(), ctypes.byref(fault))
+        if budget is None:
+            call = library.clim_open_root if self._bare else library.clim_open
+            opened = call(*bytes_, *out)
+        else:
+            call = library.clim_open_root_within if self._bare else library.clim_open_within
+            opened = call(*bytes_, budget, *out, ctypes.byref(spent))
+        if spent.value:
+            raise BudgetSpent("the budget is spent")
+        if not opened:
+            raise fault_of(fault)
+
+    # -- opening and closing
+
+    def close(self) -> None:
+        """Closes the assembly, and the map of the file if there is one. Another call does nothing."""
+        if self._is_closed:
+            return
+        self._is_closed = True
+        for table in self._tables.values():
+            table._columns_read.clear()
+        self._texts.clear()
+        self._groups.clear()
+        self._struct = _c.closed_view()
+        data, self._data, self._kept, self._at = self._data, b"", None, 0
+        if isinstance(data, _mmap.mmap):
+            data.close()
+
+    @property
+    def closed(self) -> bool:
+        """Whether `close` was called."""
+        return self._is_closed
+
+    def __enter__(self) -> Assembly:
+        self._view()
+        return self
+
+    def __exit__(
+        self, kind: Optional[Type[BaseException]], error: Optional[BaseException], trace: Optional[TracebackType]
+    ) -> None:
+        self.close()
+
+    def __repr__(self) -> str:
+        return "<closed assembly>" if self._is_closed else f"<assembly of {len(self._data)} bytes>"
+
+    def _view(self) -> Any:
+        """The view, as an argument of a call."""
+        if self._is_closed:
+            raise ValueError("the assembly is closed")
+        return ctypes.byref(self._struct)
+
+    # -- tables
+
+    def __iter__(self) -> Iterator[Table[Any]]:
+        """The tables that have rows, in the order of their numbers."""
+        self._view()
+        return (table for table in map(self._table, _c.TABLE_NAMES) if table._count > 0)
+
+    def __getitem__(self, table: Union[str, int]) -> Table[Any]:
+        """A table, by its name or its number; raises `KeyError` if there is none."""
+        self._view()
+        return self._table(table_number(table))
+
+    def _table(self, number: int) -> Table[Any]:
+        """The table with a number. There is one object for each table."""
+        table = self._tables.get(number)
+        if table is None:
+            table = self._tables.setdefault(number, Table(self, number))
+        return table
+
+    def row(self, token: int) -> Any:
+        """The row of a token, such as `0x02000005`.
+
+        Raises:
+            KeyError: No table has the number.
+            IndexError: The table has no such row.
+        """
+        return self[token >> 24].row(token & 0xFFFFFF)
+
+    @property
+    def types(self) -> Table[TypeDef]:
+        """The types: the rows of TypeDef. The first one holds the global fields and methods."""
+        return self["TypeDef"]
+
+    @property
+    def methods(self) -> Table[MethodDef]:
+        """The methods of all types: the rows of MethodDef."""
+        return self["MethodDef"]
+
+    @property
+    def fields(self) -> Table[Field]:
+        """The fields of all types: the rows of Field."""
+        return self["Field"]
+
+    @property
+    def custom_attributes(self) -> Table[CustomAttribute]:
+        """The custom attributes of all rows: the rows of CustomAttribute."""
+        return self["CustomAttribute"]
+
+    @property
+    def type_refs(self) -> Table[TypeRef]:
+        """The types of other modules: the rows of TypeRef."""
+        return self["TypeRef"]
+
+    @property
+    def member_refs(self) -> Table[MemberRef]:
+        """The members of other types: the rows of MemberRef."""
+        return self["MemberRef"]
+
+    @property
+    def references(self) -> Table[AssemblyRef]:
+        """The other assemblies: the rows of AssemblyRef."""
+        return self["AssemblyRef"]
+
+    @property
+    def module(self) -> Optional[Module]:
+        """The first row of Module, or `None`."""
+        return next(iter(self["Module"]), None)
+
+    @property
+    def identity(self) -> Optional[AssemblyDef]:
+        """The first row of Assembly, or `None` if the file is no assembly but a module of one."""
+        return next(iter(self["Assembly"]), None)
+
+    # -- the header and the heaps
+
+    @property
+    def version(self) -> str:
+        """The version string of the root, for example `"v4.0.30319"` (II.24.2.1)."""
+        return _c.text_of(library.clim_version, self._view()).decode()
+
+    @property
+    def header(self) -> Optional[Header]:
+        """The CLI header (II.25.3.3), or `None` of a bare root."""
+        self._view()
+        return None if self._bare else header_of(self._data)
+
+    @property
+    def user(self) -> bytes:
+        """The bytes of `#US`, as they are in the root (II.24.2.4)."""
+        return _c.text_of(library.clim_user, self._view())
+
+    @property
+    def heaps(self) -> Dict[str, bytes]:
+        """The bytes of the streams `#~`, `#Strings`, `#US`, `#GUID` and `#Blob` that the root has, by name (II.24.2.2)."""
+        self._view()
+        root = 0 if self._bare else header_of(self._data).root_start
+        streams = self._streams() if _c.supports("clim_stream") else self._read_streams(root)
+        found = {name: self._data[root + offset : root + offset + size] for name, offset, size in streams}
+        return {name: found[name] for name in _STREAMS if name in found}
+
+    def _streams(self) -> Iterator[Tuple[str, int, int]]:
+        """The stream headers: the name of each stream, its offset in the root, and its size."""
+        for index in range(library.clim_stream_count(self._view())):
+            stream = _c.StreamStruct(name=_c.Bytes(_c.EMPTY_AT, 0))
+            library.clim_stream(self._view(), index, ctypes.byref(stream))
+            yield ctypes.string_at(stream.name.at, stream.name.len).decode("ascii"), stream.offset, stream.size
+
+    def _read_streams(self, root: int) -> Iterator[Tuple[str, int, int]]:
+        """The same with an older library. The root is opened, so all is where it should be."""
+        at = root + 16 + self._numbers("<I", root + 12)[0]
+        count = self._numbers("<H", at + 2)[0]
+        at += 4
+        for _ in range(count):
+            past = self._data.find(b"\0", at + 8)
+            offset, size = self._numbers("<II", at)
+            yield self._data[at + 8 : past].decode("ascii"), offset, size
+            at += 8 + (past - at - 8 + 4) // 4 * 4
+
+    def _numbers(self, form: str, at: int) -> Tuple[int, ...]:
+        return struct.unpack_from(form, self._data, at)
+
+    # -- look-ups
+
+    def find_type(self, namespace: str, name: str) -> Optional[TypeDef]:
+        """The first type with a namespace and a name, or `None`. A nested type has its own name and namespace."""
+        space, own = namespace.encode(), name.encode()
+        row = library.clim_find_type(self._view(), address_of(space)[0], len(space), address_of(own)[0], len(own))
+        return self.types.row(row) if row else None
+
+    def user_string(self, token: int) -> str:
+        """The user string of a token such as `0x70000001`, which `ldstr` has (II.24.2.4).
+
+        Surrogates that have no partner stay as they are.
+
+        Raises:
+            KeyError: The token is another one, or `#US` has no user string there.
+            Unsupported: The library is older than this package.
+        """
+        units = _c.written_units(self._view(), token)
+        if units is None:
+            raise KeyError(token)
+        return units.decode(f"utf-16-{sys.byteorder[0]}e", "surrogatepass")
+
+    def to_dict(self) -> Dict[str, Any]:
+        """The version and the rows of all tables, as values that `json.dumps` takes."""
+        return {"version": self.version, "tables": {table.name: table.to_dict() for table in self}}
+
+    def _members(self, row: Row, table: Union[str, int]) -> List[Any]:
+        first, past, number = ctypes.c_uint32(), ctypes.c_uint32(), table_number(table)
+        ends = ctypes.byref(first), ctypes.byref(past)
+        if not library.clim_members(self._view(), row.table.number, row.number, number, *ends):
+            raise KeyError(table)
+        return self._table(number)._rows(range(first.value, past.value))
+
+    def _run(self, row: Row, column: str, member: int) -> List[Any]:
+        """The rows that a row owns. They begin where its cell in a column says, and end where the next one's says."""
+        table, number = row.table, row.number
+        starts = table._columns_read.get(column) or table.column(column)
+        members = self._table(member)
+        past = starts[number] if number < len(starts) else members._count + 1
+        member_row = members._row_type
+        return [member_row(members, it) for it in range(starts[number - 1], past)]
+
+    def _owner(self, row: Row, owners: Table[R], column: str) -> R:
+        """The owner of a row: the last one whose run begins at the row or before it."""
+        return owners.row(bisect_right(owners.column(column), row.number))
+
+    def _grouped(self, table: str, column: str) -> Dict[Token, List[Any]]:
+        """The rows of a table by the cell of a column."""
+        groups = self._groups.get((table, column))
+        if groups is None:
+            groups = {}
+            for row, token in zip(self[table], self[table].column(column)):
+                groups.setdefault(token, []).append(row)
+            self._groups[table, column] = groups
+        return groups
+
+    # -- cells
+
+    def _bytes(self, at: int, length: int) -> bytes:
+        """The bytes of a text or a blob, by their address and length."""
+        return self._data[at - self._at : at - self._at + length] if length else b""
+
+    def _column(self, table: int, column: int, count: int) -> Sequence[Any]:
+        """The cells of a column. They are read some at a time."""
+        cells = bytearray()
+        while len(cells) < count * _c.CELL.size:
+            first = len(cells) // _c.CELL.size
+            room = min(_CELLS, count - first)
+            part = bytearray(_c.NO_CELL * room)
+            at = ctypes.addressof(ctypes.c_char.from_buffer(part))
+            written = library.clim_cells(self._view(), table, first + 1, column, at, room)
+            if written != room:
+                raise RuntimeError(f"{_c.path} wrote {written} cells of {room}")
+            cells += part
+        return self._values(cells)
+
+    def _values(self, cells: bytearray) -> Sequence[Any]:
+        """The values of the cells of a column, which are of one kind, or null."""
+        shown = memoryview(cells)
+        kinds = bytes(shown[_c.KIND_AT :: _c.CELL.size])
+        distinct = set(kinds)
+        if distinct <= {_c.TEXT} or distinct <= {_c.BLOB, _c.SIGNATURE}:
+            units = shown.cast("Q")
+            spans = units[:: _c.CELL.size // 8].tolist(), units[1 :: _c.CELL.size // 8].tolist()
+            return _Texts(self, *spans).read() if distinct == {_c.TEXT} else _Blobs(self, *spans).read()
+        numbers = shown.cast("I")[_c.NUMBER_AT :: _c.CELL.size // 4].tolist()
+        if distinct == {_c.NUMBER}:
+            return tuple(numbers)
+        if distinct == {_c.START}:
+            return tuple(map(Start, numbers))
+        if distinct <= {_c.ROW, _c.NULL_ROW}:
+            tables = bytes(shown[_c.TABLE_AT :: _c.CELL.size])
+            return tuple(
+                Token(table << 24 | number) if kind == _c.ROW else None
+                for kind, table, number in zip(kinds, tables, numbers)
+            )
+        if distinct <= {_c.GUID, _c.NULL_GUID}:
+            return tuple(
+                uuid.UUID(bytes_le=guid) if kind == _c.GUID else None
+                for _, _, _, kind, _, guid in _c.CELL.iter_unpack(cells)
+            )
+        raise RuntimeError(f"{_c.path} wrote cells of the kinds {sorted(distinct)} into one column")
+
+
+class _Blobs(Sequence[Any]):
+    """The blobs of a column, each read when it is used.
+
+    Blobs and texts of a crafted file can overlap, and then have much more bytes than the file.
+    """
+
+    def __init__(self, assembly: Assembly, addresses: List[int], lengths: List[int]) -> None:
+        self._assembly, self._addresses, self._lengths = assembly, addresses, lengths
+
+    def __len__(self) -> int:
+        return len(self._addresses)
+
+    def __getitem__(self, index: Any) -> Any:
+        if isinstance(index, slice):
+            return tuple(self[number] for number in range(len(self))[index])
+        self._assembly._view()
+        return self._assembly._bytes(self._addresses[index], self._lengths[index])
+
+    def read(self) -> Sequence[Any]:
+        """All values, unless they have much more bytes than the file."""
+        data, base = self._assembly._data, self._assembly._at
+        if sum(self._lengths) > _MOST * len(data):
+            return self
+        starts = (at - base for at in self._addresses)
+        return tuple([data[start : start + length] if length else b"" for start, length in zip(starts, self._lengths)])
+
+
+class _Texts(_Blobs):
+    """The same for texts. Many names of a file are one text of its heap, so it is read once, for all columns."""
+
+    def __getitem__(self, index: Any) -> Any:
+        found = super().__getitem__(index)
+        return found if isinstance(index, slice) else found.decode()
+
+    def read(self) -> Sequence[Any]:
+        # A text ends before the first NUL after its address. So those with the same address are the same text.
+        spans = dict(zip(self._addresses, self._lengths))
+        texts, data, base = self._assembly._texts, self._assembly._data, self._assembly._at
+        if sum(spans.values()) > _MOST * len(data):
+            return self
+        for at, length in spans.items():
+            if at not in texts:
+                texts[at] = data[at - base : at - base + length].decode()
+        return tuple(map(texts.__getitem__, self._addresses))
+
+
+class Table(Generic[R]):
+    """A table (II.22).
+
+    It is a sequence of rows: `len(table)`, `for row in table`, and `table[0]`, which is row 1. `table.row(1)` is the same
+    row by its number. `table.column(name)` has all cells of a column, and is the fastest way to many cells.
+
+    Attributes:
+        assembly: The assembly that it belongs to.
+        number: The number of the table.
+        name: The name of the table, for example `"TypeDef"`.
+        columns: The names of its columns.
+    """
+
+    def __init__(self, assembly: Assembly, number: int) -> None:
+        self.assembly, self.number = assembly, number
+        self.name, self.columns = _c.TABLE_NAMES[number], _c.COLUMN_NAMES[number]
+        self._count: int = library.clim_count(assembly._view(), number)
+        self._row_type: Type[R] = cast(Type[R], Row.of_table[number])
+        self._columns_read: Dict[str, Sequence[Any]] = {}
+
+    def __len__(self) -> int:
+        self.assembly._view()
+        return self._count
+
+    def __iter__(self) -> Iterator[R]:
+        self.assembly._view()
+        return map(self._row_type, repeat(self), range(1, self._count + 1))
+
+    @overload
+    def __getitem__(self, index: int) -> R: ...
+    @overload
+    def __getitem__(self, index: slice) -> List[R]: ...
+    def __getitem__(self, index: Union[int, slice]) -> Union[R, List[R]]:
+        """The row after `index` others, as in any sequence: `table[0]` is row 1, and `table[-1]` is the last row."""
+        numbers = range(1, len(self) + 1)[index]
+        return self._rows(numbers) if isinstance(numbers, range) else self._row_type(self, numbers)
+
+    def __repr__(self) -> str:
+        return f"<table {self.name} of {self._count} rows>"
+
+    def row(self, number: int) -> R:
+        """A row, counted from 1; raises `IndexError` if there is none."""
+        if not 1 <= number <= len(self):
+            raise IndexError(f"{self.name} has no row {number}")
+        return self._row_type(self, number)
+
+    def column(self, name: str) -> Sequence[Any]:
+        """The cells of the column with a name, from row 1 on; raises `KeyError` if there is none."""
+        found = self._columns_read.get(name)
+        if found is None:
+            self.assembly._view()
+            if name not in self.columns:
+                raise KeyError(name)
+            found = self.assembly._column(self.number, self.columns.index(name), self._count)
+            self._columns_read[name] = found
+        return found
+
+    def by_key(self, token: int) -> List[R]:
+        """The rows whose key is the row of a token, in ascending order; none if the table has no key (II.22)."""
+        room = _ROWS
+        while True:
+            rows = (ctypes.c_uint32 * room)()
+            view = self.assembly._view()
+            count = library.clim_rows_by_key(view, self.number, token >> 24, token & 0xFFFFFF, rows, room)
+            if count < room:
+                return self._rows(rows[:count])
+            room *= _ROWS
+
+    def to_dict(self) -> List[Dict[str, Any]]:
+        """The rows, each as its `to_dict`."""
+        return [row.to_dict() for row in self]
+
+    def _rows(self, numbers: Any) -> List[R]:
+        row = self._row_type
+        return [row(self, number) for number in numbers]
+
+
+def table_number(table: Union[str, int]) -> int:
+    """The number of a table, by its name or its number; raises `KeyError` if there is none."""
+    number = _c.TABLE_NUMBERS.get(table) if isinstance(table, str) else table
+    if number not in _c.TABLE_NAMES:
+        raise KeyError(table)
+    return number

@@ -1,0 +1,129 @@
+"""Faults, and the values of cells."""
+
+from __future__ import annotations
+
+from typing import TYPE_CHECKING, NamedTuple, Optional, cast
+
+from ._library import library, written_text
+
+if TYPE_CHECKING:
+    from .rows import Row
+
+
+class Fault(Exception):
+    """The first rule that some bytes break. Its text is the line that `clim check` prints.
+
+    Attributes:
+        layer: The layer of the rule, from 1 to 9: the hundreds of its number.
+        code: The number of the rule, for example 501. docs/FAULTS.md explains each.
+        offset: The offset in the bytes that were opened.
+        name: The name of the rule, for example `"BadString"`.
+    """
+
+    def __init__(self, layer: int, code: int, offset: int, name: str) -> None:
+        super().__init__(layer, code, offset, name)
+        self.layer, self.code, self.offset, self.name = layer, code, offset, name
+
+    def __str__(self) -> str:
+        return f"fault {self.layer} {self.code} at {self.offset}: {self.name}"
+
+    @property
+    def explanation(self) -> str:
+        """What `clim explain` prints of the rule, in lines that are not broken.
+
+        Raises:
+            Unsupported: The library is older than this package.
+        """
+        return cast(str, written_text(library.clim_explain, self.code))
+
+
+class BudgetSpent(Exception):
+    """The signatures of a file have more bytes than the budget of `clim.open` allows."""
+
+
+class Token(int):
+    """A row of a table, as a number: 0x02000005 is row 5 of TypeDef. Rows count from 1."""
+
+    @classmethod
+    def of(cls, table: int, row: int) -> Token:
+        """The token of a row of the table with a number."""
+        return cls(table << 24 | row)
+
+    @property
+    def table(self) -> int:
+        """The number of the table (II.22)."""
+        return self >> 24
+
+    @property
+    def row(self) -> int:
+        """The row in that table, counted from 1."""
+        return self & 0xFFFFFF
+
+    def __repr__(self) -> str:
+        return f"Token(0x{int(self):08X})"
+
+
+class Start(int):
+    """The first row of the run that a row owns; one after the last row if no member follows."""
+
+
+class Signature(bytes):
+    """The blob of a signature (II.23.2): the bytes of the file, without their length.
+
+    Attributes:
+        row: The row that has the signature, or `None` if the value was not read from a row.
+    """
+
+    row: Optional[Row] = None
+    _column = ""
+
+    @classmethod
+    def _of(cls, blob: bytes, row: Row, column: str) -> Signature:
+        signature = cls(blob)
+        signature.row, signature._column = row, column
+        return signature
+
+    @property
+    def text(self) -> str:
+        """The signature in the notation of ILAsm (II.7.1, II.15.3), with names as they are in the file.
+
+        Raises:
+            Unsupported: The library is older than this package.
+            OverflowError: The text has more than 65,536 bytes, as those of crafted files can have.
+            ValueError: The signature was not read from a row, or the assembly is closed.
+        """
+        if self.row is None:
+            raise ValueError("the signature was not read from a row")
+        table, view = self.row.table, self.row.assembly._view()
+        cell = view, table.number, self.row.number, table.columns.index(self._column)
+        text = written_text(library.clim_signature_text, *cell)
+        if text is None:
+            raise OverflowError("the text of the signature has more than 65,536 bytes")
+        return text
+
+
+class Directory(NamedTuple):
+    """An address in the image and the number of bytes there (II.25.2.3.3); 0 and 0 if there is nothing."""
+
+    rva: int
+    size: int
+
+
+class Header(NamedTuple):
+    """The CLI header of a file (II.25.3.3), and the offsets of the header and of the metadata root."""
+
+    offset: int
+    root_start: int
+    root_end: int
+    cb: int
+    major_runtime_version: int
+    minor_runtime_version: int
+    metadata: Directory
+    flags: int
+    entry_point_token: int
+    resources: Directory
+    strong_name_signature: Directory
+    code_manager_table: Directory
+    vtable_fixups: Directory
+    export_address_table_jumps: Directory
+    managed_native_header: Directory

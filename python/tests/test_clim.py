@@ -1,0 +1,485 @@
+"""Tests of the package. The last line is 'N passed, M failed'.
+
+    test_clim.py [FILE..]      the samples, and these files; a bare root ends in .root
+"""
+
+import copy
+import doctest
+import json
+import mmap
+import os
+import pathlib
+import pickle
+import struct
+import sys
+import tempfile
+import threading
+import unittest
+import unittest.mock
+import uuid
+
+import clim
+from clim import _library, rows
+
+TOP = pathlib.Path(__file__).resolve().parents[2]
+SAMPLES = TOP / "samples"
+FILES = [(SAMPLES / name, name.endswith(".root")) for name in ("one_module.dll", "greeter.root", "two_types.root")]
+# The types of the cells in a column.
+VALUES = {
+    "number": (int,),
+    "text": (str,),
+    "blob": (bytes,),
+    "row": (clim.Token, type(None)),
+    "guid": (uuid.UUID, type(None)),
+}
+
+
+def opened():
+    """Each file, opened."""
+    for path, bare in FILES:
+        with clim.open(path, bare) as assembly:
+            yield path, assembly
+
+
+class Declared(unittest.TestCase):
+    """The classes of rows and the structs are those of the library."""
+
+    def test_each_table_has_a_class_with_its_columns(self):
+        self.assertEqual(len(_library.TABLE_NAMES), 38)
+        self.assertEqual(set(rows.Row.of_table), set(_library.TABLE_NAMES))
+        for number, name in _library.TABLE_NAMES.items():
+            its = rows.Row.of_table[number]
+            self.assertEqual(its.__name__, {"Assembly": "AssemblyDef"}.get(name, name))
+            cells = {it: value.name for base in its.__mro__ for it, value in vars(base).items() if isinstance(value, rows.Cell)}
+            names = {it for it in cells if not it.islower()}
+            self.assertEqual(names, set(_library.COLUMN_NAMES[number]), name)
+            self.assertTrue(all(cells[it] == it for it in names) and set(cells.values()) == names, name)
+
+    def test_structs(self):
+        sizes = {"Bytes": 16, "FaultStruct": 16, "HeaderStruct": 96, "StreamStruct": 32, "ViewStruct": 5208}
+        for name, size in sizes.items():
+            self.assertEqual(_library.ctypes.sizeof(getattr(_library, name)), size)
+        self.assertEqual((_library.CELL.size, _library.CELL_BYTES.size), (40, 40))
+        self.assertEqual(_library.ViewStruct.is_open.offset, 5204)
+
+    def test_version(self):
+        source = (TOP / "crates/cli_arguments/src/arguments.rt").read_text(encoding="utf-8")
+        self.assertIn(f'.version("{clim.__version__}")', source)
+
+
+class Opening(unittest.TestCase):
+    def test_sources_are_the_same(self):
+        path = SAMPLES / "one_module.dll"
+        data = path.read_bytes()
+        with open(path, "rb") as file, mmap.mmap(file.fileno(), 0, access=mmap.ACCESS_READ) as mapped:
+            for source in (path, str(path), data, bytearray(data), memoryview(data), mapped):
+                self.assertEqual(clim.open(source).module.name, "a.dll")
+                self.assertIsNone(clim.check(source))
+                self.assertEqual(clim.read_header(source).cb, 72)
+        with clim.open(path, mmap=True) as assembly:
+            self.assertEqual(assembly.module.Name, "a.dll")
+            self.assertEqual(assembly.to_dict(), clim.open(data).to_dict())
+
+    def test_bytes_that_change_are_copied(self):
+        data = bytearray((SAMPLES / "one_module.dll").read_bytes())
+        assembly = clim.open(data)
+        data[:] = bytes(len(data))
+        self.assertEqual(assembly.module.Name, "a.dll")
+
+    def test_a_map_that_is_open_cannot_be_closed(self):
+        assembly = clim.open(SAMPLES / "one_module.dll", mmap=True)
+        with self.assertRaises(BufferError):
+            assembly._data.close()
+        self.assertEqual(assembly.module.Name, "a.dll")
+        assembly.close()
+
+    def test_an_empty_file_is_a_fault(self):
+        with tempfile.NamedTemporaryFile() as file:
+            for mapped in (False, True):
+                with self.assertRaises(clim.Fault) as caught:
+                    clim.open(file.name, mmap=mapped)
+                self.assertEqual(str(caught.exception), "fault 1 102 at 0: DosHeader")
+
+    def test_a_pipe_is_read_to_its_end(self):
+        data = (SAMPLES / "one_module.dll").read_bytes() + bytes(3 << 20)
+        with tempfile.TemporaryDirectory() as folder:
+            path = os.path.join(folder, "pipe")
+            os.mkfifo(path)
+            writer = threading.Thread(target=lambda: pathlib.Path(path).write_bytes(data))
+            writer.start()
+            with clim.open(path) as assembly:
+                self.assertEqual((assembly.module.name, len(assembly._data)), ("a.dll", len(data)))
+            writer.join()
+
+    def test_a_device_without_an_end_is_too_long(self):
+        with unittest.mock.patch.object(clim.assembly, "_LIMIT", 5 << 20):
+            self.assertEqual(len(clim.assembly.read_source("/dev/zero")), (5 << 20) + 1)
+        with tempfile.TemporaryFile() as file:
+            file.truncate(1 << 33)
+            with unittest.mock.patch.object(clim.assembly, "_LIMIT", 5 << 20):
+                self.assertEqual(len(clim.assembly.read_source(f"/proc/self/fd/{file.fileno()}")), (5 << 20) + 1)
+
+    def test_no_file(self):
+        for call in (clim.open, clim.check, clim.read_header):
+            self.assertRaises(OSError, call, SAMPLES / "no such file")
+            self.assertRaises(TypeError, call, 5.0)
+
+    def test_a_fault_is_an_exception_with_its_parts(self):
+        fault = clim.check(b"MZ")
+        self.assertEqual((fault.layer, fault.code, fault.offset, fault.name), (1, 102, 0, "DosHeader"))
+        self.assertEqual(str(fault), "fault 1 102 at 0: DosHeader")
+        for same in (pickle.loads(pickle.dumps(fault)), copy.copy(fault)):
+            self.assertEqual((str(same), vars(same)), (str(fault), vars(fault)))
+
+    def test_open_and_check_agree_on_prefixes(self):
+        for path, bare in FILES:
+            data = path.read_bytes()
+            for end in range(0, len(data), len(data) // 100 + 1):
+                fault = clim.check(data[:end], bare)
+                if fault is None:
+                    clim.open(data[:end], bare).close()
+                else:
+                    with self.assertRaises(clim.Fault) as caught:
+                        clim.open(data[:end], bare)
+                    self.assertEqual(str(caught.exception), str(fault))
+
+    def test_threads(self):
+        data, seen = (SAMPLES / "one_module.dll").read_bytes(), []
+
+        def read():
+            for _ in range(50):
+                with clim.open(data) as assembly:
+                    seen.append(assembly.module.Name)
+
+        threads = [threading.Thread(target=read) for _ in range(4)]
+        for it in threads:
+            it.start()
+        for it in threads:
+            it.join()
+        self.assertEqual(seen, ["a.dll"] * 200)
+
+
+class Closed(unittest.TestCase):
+    def test_each_access_is_an_error(self):
+        for mapped in (False, True):
+            with clim.open(SAMPLES / "greeter.root", bare=True, mmap=mapped) as assembly:
+                table, row = assembly.types, assembly.types[1]
+                name = row.TypeName
+                self.assertFalse(assembly.closed)
+            self.assertTrue(assembly.closed)
+            assembly.close()
+            self.assertEqual(name, "Greeter")
+            calls = [
+                lambda: row.TypeName, lambda: row["TypeName"], lambda: row.methods, lambda: row.properties, row.cells,
+                row.to_dict, lambda: row.custom_attributes, lambda: row.full_name, lambda: row.enclosing_type,
+                lambda: row.members("Field"), lambda: len(table), lambda: table[0], lambda: list(table),
+                lambda: table.row(1), lambda: table.column("TypeName"), lambda: table.column("Flags"),
+                lambda: table.by_key(0x02000001), lambda: assembly["TypeDef"], lambda: assembly.types,
+                lambda: list(assembly), lambda: assembly.version, lambda: assembly.user, lambda: assembly.heaps,
+                lambda: assembly.header, lambda: assembly.find_type("", "a"), lambda: assembly.row(0x02000001),
+                lambda: assembly.module, assembly.to_dict, assembly.__enter__,
+            ]
+            for number, call in enumerate(calls):
+                with self.subTest(call=number), self.assertRaisesRegex(ValueError, "the assembly is closed"):
+                    call()
+            self.assertEqual((row.token, repr(row), repr(assembly)), (0x02000002, "<TypeDef 2>", "<closed assembly>"))
+
+
+class Reading(unittest.TestCase):
+    def test_greeter(self):
+        assembly = clim.open(SAMPLES / "greeter.root", bare=True)
+        module, greeter = assembly.types
+        self.assertEqual((module.full_name, greeter.full_name), ("<Module>", "Hello.Greeter"))
+        self.assertEqual([it.name for it in greeter.methods], [".ctor", "Greet"])
+        self.assertEqual([it.name for it in greeter.methods[1].params], ["name", "times"])
+        self.assertEqual(greeter.methods[1].params[1].method, greeter.methods[1])
+        self.assertEqual(greeter.methods[0].declaring_type, greeter)
+        self.assertEqual((module.methods, module.fields, greeter.fields), ([], [], []))
+        self.assertEqual((greeter.base, greeter.enclosing_type, greeter.nested_types), (None, None, []))
+        self.assertEqual((greeter.properties, greeter.events, greeter.interfaces), ([], [], []))
+        self.assertIsNone(assembly.header)
+        self.assertIsNone(assembly.identity)
+
+    def test_types_of_values(self):
+        for path, assembly in opened():
+            for table in assembly:
+                for name in table.columns:
+                    kinds = {type(it) for it in table.column(name)}
+                    self.assertTrue(any(kinds <= {*it} for it in [*VALUES.values(), (clim.Start,)]), (path, table, name))
+                    its = getattr(table[0], name)
+                    if isinstance(its, clim.Signature):
+                        self.assertEqual((its.row, bytes(its)), (table[0], table.column(name)[0]))
+                    else:
+                        self.assertEqual(its, table.column(name)[0])
+
+    def test_cells_are_those_of_single_calls(self):
+        for path, assembly in opened():
+            for table in assembly:
+                for number, row in enumerate(table, 1):
+                    for column, name in enumerate(table.columns):
+                        if len(table) < 500 or number % 97 == 1:
+                            self.assertEqual(row[name], self.single(assembly, table.number, number, column), (path, row))
+
+    def single(self, assembly, table, number, column):
+        """A cell, by a call of clim_cell_at."""
+        cell = bytearray(_library.NO_CELL)
+        at = _library.ctypes.addressof(_library.ctypes.c_char.from_buffer(cell))
+        self.assertTrue(_library.library.clim_cell_at(assembly._view(), table, number, column, at))
+        return list(assembly._values(cell))[0]
+
+    def test_columns_are_read_in_parts(self):
+        for path, bare in FILES:
+            with clim.open(path, bare) as assembly, unittest.mock.patch.object(clim.assembly, "_CELLS", 7):
+                for table in assembly:
+                    names = table.columns[:: len(table) // 1000 + 1]
+                    self.assertTrue(all(len(table.column(it)) == len(table) for it in names))
+                    self.assertTrue(all(table[-1][it] == self.single(assembly, table.number, len(table), table.columns.index(it)) for it in names))
+
+    def test_runs_and_owners(self):
+        for path, assembly in opened():
+            for owners, member, attribute, owner in (
+                (assembly.types, "Field", "fields", "declaring_type"),
+                (assembly.types, "MethodDef", "methods", "declaring_type"),
+                (assembly.methods, "Param", "params", "method"),
+            ):
+                members = []
+                for row in owners:
+                    members += getattr(row, attribute)
+                    self.assertEqual(getattr(row, attribute), row.members(member), (path, row))
+                    self.assertTrue(all(getattr(it, owner) == row for it in getattr(row, attribute)[::50]))
+                self.assertEqual(members, list(assembly[member]))
+
+    def test_look_ups(self):
+        for path, assembly in opened():
+            for row in assembly.types[::97]:
+                found = assembly.find_type(row.namespace, row.name)
+                self.assertLessEqual(found.number, row.number)
+                self.assertEqual((found.namespace, found.name), (row.namespace, row.name))
+                self.assertTrue(all(it.enclosing_type == row for it in row.nested_types))
+                self.assertTrue(all(it.token.table == 0x17 for it in row.properties), path)
+                self.assertTrue(all(it.Parent == row.token and it.parent == row for it in row.custom_attributes))
+            self.assertIsNone(assembly.find_type("no such", "type"))
+            by_parent = {}
+            for row in assembly.custom_attributes:
+                by_parent.setdefault(row.Parent, []).append(row)
+                self.assertIsInstance(row.name, str)
+            for parent, attributes in list(by_parent.items())[:: len(by_parent) // 200 + 1]:
+                self.assertEqual(assembly.row(parent).custom_attributes, attributes)
+
+    def test_relations_are_those_of_a_scan(self):
+        def scan(table, column, token):
+            cells = assembly[table].column(column)
+            return [assembly[table][index] for index, it in enumerate(cells) if it == token]
+
+        def tokens(rows_):
+            return [it.token for it in rows_]
+
+        for path, assembly in opened():
+            for row in assembly.types[:: len(assembly.types) // 30 + 1]:
+                self.assertEqual(row.base.token if row.base else None, row.Extends, path)
+                self.assertEqual(tokens(row.interfaces), [it.Interface for it in scan("InterfaceImpl", "Class", row.token)])
+                self.assertEqual(row.generic_params, scan("GenericParam", "Owner", row.token))
+                self.assertEqual([row.layout][: row.layout is not None], scan("ClassLayout", "Parent", row.token)[:1])
+                nested = scan("NestedClass", "EnclosingClass", row.token)
+                self.assertEqual(tokens(row.nested_types), [it.NestedClass for it in nested])
+                outer = [it.EnclosingClass for it in scan("NestedClass", "NestedClass", row.token)][:1]
+                self.assertEqual(outer, tokens(filter(None, [row.enclosing_type])))
+                for name, members in (("Property", row.properties), ("Event", row.events)):
+                    maps = scan(f"{name}Map", "Parent", row.token)
+                    self.assertEqual(members, maps[0].members(name) if maps else [])
+                    self.assertTrue(all(it.semantics == scan("MethodSemantics", "Association", it.token) for it in members))
+            for name, attribute, table, column in (
+                ("Field", "constant", "Constant", "Parent"), ("Param", "constant", "Constant", "Parent"),
+                ("MethodDef", "import_map", "ImplMap", "MemberForwarded"),
+            ):
+                for row in assembly[name][:: len(assembly[name]) // 30 + 1]:
+                    found = getattr(row, attribute)
+                    self.assertEqual(scan(table, column, row.token)[:1], [found] if found else [])
+            for row in assembly["GenericParam"][:: len(assembly["GenericParam"]) // 30 + 1]:
+                constraints = scan("GenericParamConstraint", "Owner", row.token)
+                self.assertEqual(tokens(row.constraints), [it.Constraint for it in constraints])
+
+    def test_each_attribute_leads_to_its_row(self):
+        leads = {
+            "TypeRef": {"scope": "ResolutionScope"}, "MemberRef": {"parent": "Class"}, "Event": {"type": "EventType"},
+            "CustomAttribute": {"parent": "Parent", "constructor": "Type"}, "MethodSemantics": {"method": "Method"},
+            "ImplMap": {"module": "ImportScope"}, "ExportedType": {"implementation": "Implementation"},
+            "ManifestResource": {"implementation": "Implementation"},
+        }
+        for _, assembly in opened():
+            for table in assembly:
+                for row in table[:: len(table) // 30 + 1]:
+                    for name, column in leads.get(table.name, {}).items():
+                        its = getattr(row, name)
+                        self.assertEqual(its.token if its else None, row[column])
+                    for name in dir(row):
+                        if not name.startswith("_"):
+                            getattr(row, name)
+
+    def test_names_of_nested_types(self):
+        for _, assembly in opened():
+            for row in assembly.types[::31]:
+                names, outer = [], row
+                while outer is not None and len(names) < 64:
+                    names.insert(0, ".".join(filter(None, (outer.namespace, outer.name))))
+                    outer = outer.enclosing_type
+                self.assertEqual(row.full_name, "/".join(names if outer is None else ["..", *names]))
+
+    def test_a_circle_of_scopes_ends(self):
+        class Circle(rows.TypeRef):
+            namespace, name = "", "a"
+            enclosing_type = property(lambda row: row)
+
+        self.assertEqual(Circle(None, 1).full_name, "/".join(["..", *["a"] * rows.DEPTH]))
+
+    def test_tables_and_rows(self):
+        assembly = clim.open(SAMPLES / "greeter.root", bare=True)
+        types = assembly["TypeDef"]
+        self.assertIs(types, assembly[2])
+        self.assertEqual([it.name for it in assembly], ["TypeDef", "MethodDef", "Param"])
+        self.assertEqual((types[0].number, types[-1].number, types[0:5:2]), (1, 2, [types.row(1)]))
+        for error, call in (
+            (IndexError, lambda: types.row(0)), (IndexError, lambda: types.row(3)), (IndexError, lambda: types[2]),
+            (KeyError, lambda: assembly["NoTable"]), (KeyError, lambda: assembly[3]), (KeyError, lambda: types.column("Name")),
+            (KeyError, lambda: types[0]["Name"]), (AttributeError, lambda: types[0].Name), (KeyError, lambda: types[0]["name"]),
+            (KeyError, lambda: types[0].members("TypeDef")), (KeyError, lambda: types[0].members("NoTable")),
+            (IndexError, lambda: assembly.row(0x02000003)), (KeyError, lambda: assembly.row(0x03000001)),
+            (AttributeError, lambda: setattr(types[0], "TypeName", "a")),
+        ):
+            self.assertRaises(error, call)
+        self.assertEqual(types[1], assembly.row(types[1].token))
+        self.assertNotEqual(types[1], types[0])
+        self.assertNotEqual(types[1], assembly["MethodDef"][1])
+        self.assertEqual(len({types[1], types.row(2)}), 1)
+
+    def test_tokens(self):
+        token = clim.Token.of(2, 5)
+        self.assertEqual((token, token.table, token.row, repr(token)), (0x02000005, 2, 5, "Token(0x02000005)"))
+
+    def test_dicts_are_json(self):
+        for path, assembly in opened():
+            if path.is_relative_to(SAMPLES) if hasattr(path, "is_relative_to") else True:
+                whole = json.loads(json.dumps(assembly.to_dict()))
+                self.assertEqual(set(whole["tables"]), {it.name for it in assembly})
+        module = clim.open(SAMPLES / "one_module.dll").module.to_dict()
+        mvid = "03020100-0504-0706-0809-0a0b0c0d0e0f"
+        wanted = {"token": 1, "Generation": 0, "Name": "a.dll", "Mvid": mvid, "EncId": None, "EncBaseId": None}
+        self.assertEqual(module, wanted)
+
+    def test_heaps(self):
+        for path, assembly in opened():
+            heaps, root = assembly.heaps, path.read_bytes()
+            if assembly.header:
+                root = root[assembly.header.root_start : assembly.header.root_end]
+            self.assertEqual(heaps.get("#US", b""), assembly.user)
+            streams = list(assembly._read_streams(assembly.header.root_start if assembly.header else 0))
+            self.assertEqual(set(heaps), {name for name, _, _ in streams} & set(clim.assembly._STREAMS))
+            if clim.supports("clim_stream"):
+                self.assertEqual(list(assembly._streams()), streams)
+            self.assertTrue(all(it in root for it in heaps.values()))
+            names = set(heaps["#Strings"].split(b"\0"))
+            self.assertIn((assembly.module or assembly.types[1]).name.encode(), names)
+
+
+class Overlapping(unittest.TestCase):
+    """Names of a crafted root that are parts of one text, and have 600 times the bytes of the root."""
+
+    def root(self):
+        rows_ = b"".join(struct.pack("<3H", 0, name, 0) for name in range(1, 4001))
+        tables = struct.pack("<IBBBBQQI", 0, 2, 0, 0, 1, 1 << 1, 0x16003301FA00, 4000) + rows_
+        strings = b"\0" + b"x" * 7000 + b"\0\0\0"
+        version = struct.pack("<IHHII", 0x424A5342, 1, 1, 0, 12) + b"v4.0.30319\0\0"
+        streams = struct.pack("<HHII", 0, 2, 64, len(tables)) + b"#~\0\0"
+        streams += struct.pack("<II", 64 + len(tables), len(strings)) + b"#Strings\0\0\0\0"
+        return version + streams + tables + strings
+
+    def test_a_column_is_not_read_at_once(self):
+        root = self.root()
+        self.assertEqual(len(root), 31096)
+        with clim.open(root, bare=True) as assembly:
+            names = assembly.type_refs.column("TypeName")
+            self.assertIsInstance(names, clim.assembly._Texts)
+            self.assertEqual(assembly._texts, {})
+            self.assertEqual((len(names), len(names[0]), len(names[-1])), (4000, 7000, 3001))
+            self.assertEqual([len(it) for it in names[1:4]], [6999, 6998, 6997])
+            self.assertEqual(assembly.type_refs[9].name, "x" * 6991)
+            self.assertRaises(IndexError, lambda: names[4000])
+            self.assertEqual(assembly.type_refs.column("TypeNamespace"), ("",) * 4000)
+        self.assertRaises(ValueError, lambda: names[0])
+
+
+class Features(unittest.TestCase):
+    def test_what_the_library_has(self):
+        self.assertTrue(clim.supports("clim_open"))
+        self.assertFalse(clim.supports("no_such_function"))
+
+    def lacks(self, function, call):
+        """Whether the library lacks a function. Then a call of it says so."""
+        if clim.supports(function):
+            return False
+        with self.assertRaises(clim.Unsupported) as caught:
+            call()
+        self.assertEqual(caught.exception.function, function)
+        self.assertIn(f"has no function {function}", str(caught.exception))
+        return True
+
+    def test_budget(self):
+        path = SAMPLES / "greeter.root"
+        if not self.lacks("clim_open_root_within", lambda: clim.open(path, True, budget=0)):
+            self.assertRaises(clim.BudgetSpent, clim.open, path, True, budget=0)
+            self.assertEqual(len(clim.open(path, True, budget=1 << 30).types), 2)
+            self.assertRaises(clim.Fault, clim.open, b"", budget=0)
+        if not self.lacks("clim_check_root_within", lambda: clim.check(path, True, budget=0)):
+            self.assertRaises(clim.BudgetSpent, clim.check, path, True, budget=0)
+            self.assertIsNone(clim.check(path, True, budget=1 << 30))
+            self.assertEqual(clim.check(b"", budget=0).code, 102)
+
+    def test_explanation(self):
+        fault = clim.check(b"")
+        if not self.lacks("clim_explain", lambda: fault.explanation):
+            self.assertTrue(fault.explanation.startswith("102 DosHeader: "), fault.explanation)
+
+    def test_text_of_a_signature(self):
+        with clim.open(SAMPLES / "greeter.root", bare=True) as assembly:
+            signature = assembly.methods[1].signature
+            if not self.lacks("clim_signature_text", lambda: signature.text):
+                self.assertIn("string", signature.text)
+                self.assertIn("int32", signature.text)
+        self.assertRaises(ValueError, lambda: signature.text)
+        self.assertRaises(ValueError, lambda: clim.Signature(b"").text)
+
+    def test_user_string(self):
+        with clim.open(self.with_user_strings(), bare=True) as assembly:
+            if not self.lacks("clim_user_string", lambda: assembly.user_string(0x70000001)):
+                self.assertEqual(assembly.user_string(0x70000001), "A")
+                self.assertEqual(assembly.user_string(0x70000005), "\ud800" + "b" * 1000)
+                for token in (0x7000FFFF, 0x70FFFFFF, 0x02000001, 1):
+                    self.assertRaises(KeyError, assembly.user_string, token)
+
+    def with_user_strings(self):
+        """A root with no rows and two user strings, the second with a surrogate that has no partner."""
+        long = b"\x00\xd8" + "b".encode("utf-16-le") * 1000 + b"\0"
+        user = b"\0\x03A\0\0" + struct.pack(">H", 0x8000 | len(long)) + long
+        user += bytes(-len(user) % 4)
+        version = struct.pack("<IHHII", 0x424A5342, 1, 1, 0, 4) + b"v\0\0\0"
+        streams = struct.pack("<HHII", 0, 2, 48, 24) + b"#~\0\0" + struct.pack("<II", 72, len(user)) + b"#US\0"
+        return version + streams + struct.pack("<IBBBBQQ", 0, 2, 0, 0, 1, 0, 0x16003301FA00) + user
+
+
+def load_tests(loader, tests, pattern):
+    """The tests above, and the examples of README.md."""
+    tests.addTests(doctest.DocFileSuite(str(TOP / "python/README.md"), module_relative=False))
+    return tests
+
+
+def main():
+    FILES.extend((pathlib.Path(it), it.endswith(".root")) for it in sys.argv[1:])
+    os.chdir(TOP)
+    result = unittest.main(argv=sys.argv[:1], exit=False).result
+    bad = len(result.failures) + len(result.errors)
+    print(f"{result.testsRun - bad} passed, {bad} failed")
+    return bad > 0
+
+
+if __name__ == "__main__":
+    sys.exit(main())

@@ -1,0 +1,189 @@
+//! The functions and structs of `c/clim.h`, which says what each does and what a caller must ensure.
+//!
+//! The crate `clim` is the safe interface.
+#![no_std]
+#![allow(non_camel_case_types)]
+
+use core::ffi::c_void;
+use core::mem::size_of;
+
+/// Bytes that belong to someone else.
+#[repr(C)]
+#[derive(Clone, Copy)]
+pub struct clim_bytes {
+    pub at: *const u8,
+    pub len: usize,
+}
+
+/// The first rule that some bytes break.
+#[repr(C)]
+#[derive(Clone, Copy, Default)]
+pub struct clim_fault {
+    pub offset: u64,
+    pub code: u16,
+    pub layer: u8,
+}
+
+/// An address in the image and the number of bytes there.
+#[repr(C)]
+#[derive(Clone, Copy, Debug, Default, PartialEq, Eq)]
+pub struct clim_directory {
+    pub rva: u32,
+    pub size: u32,
+}
+
+/// The CLI header, its offset, and the offsets where the metadata root begins and ends.
+#[repr(C)]
+#[derive(Clone, Copy, Debug, Default, PartialEq, Eq)]
+pub struct clim_header {
+    pub offset: usize,
+    pub root_start: usize,
+    pub root_end: usize,
+    pub cb: u32,
+    pub major_runtime_version: u16,
+    pub minor_runtime_version: u16,
+    pub metadata: clim_directory,
+    pub flags: u32,
+    pub entry_point_token: u32,
+    pub resources: clim_directory,
+    pub strong_name_signature: clim_directory,
+    pub code_manager_table: clim_directory,
+    pub vtable_fixups: clim_directory,
+    pub export_address_table_jumps: clim_directory,
+    pub managed_native_header: clim_directory,
+}
+
+/// The first members of the runs of every step-th owner.
+#[repr(C)]
+#[derive(Clone, Copy)]
+pub struct clim_starts {
+    pub step: u32,
+    pub starts: [u32; 256],
+}
+
+/// What opening found of a root.
+#[repr(C)]
+#[derive(Clone, Copy)]
+pub struct clim_found {
+    pub fields: clim_starts,
+    pub methods: clim_starts,
+    pub params: clim_starts,
+    pub events: clim_starts,
+    pub properties: clim_starts,
+    pub in_order: [bool; 45],
+    pub utf8_texts: bool,
+}
+
+/// An opened root, or none.
+#[repr(C)]
+#[derive(Clone, Copy)]
+pub struct clim_view {
+    pub root: clim_bytes,
+    pub found: clim_found,
+    pub is_open: bool,
+}
+
+/// A cell of a row.
+#[repr(C)]
+#[derive(Clone, Copy)]
+pub struct clim_cell {
+    pub bytes: clim_bytes,
+    pub number: u32,
+    pub kind: u8,
+    pub table: u8,
+    pub guid: [u8; 16],
+}
+
+pub const CLIM_NUMBER: u8 = 1;
+pub const CLIM_TEXT: u8 = 2;
+pub const CLIM_BLOB: u8 = 3;
+pub const CLIM_NULL_GUID: u8 = 4;
+pub const CLIM_GUID: u8 = 5;
+pub const CLIM_NULL_ROW: u8 = 6;
+pub const CLIM_ROW: u8 = 7;
+pub const CLIM_START: u8 = 8;
+pub const CLIM_SIGNATURE: u8 = 9;
+
+/// The version of the interface that this crate declares.
+pub const CLIM_ABI_VERSION: u32 = 1;
+
+/// What `clim_signature_text` returns for a text that is too long.
+pub const CLIM_TOO_LONG: usize = usize::MAX;
+
+pub const CLIM_NO_BYTES: clim_bytes = clim_bytes { at: b"".as_ptr(), len: 0 };
+pub const CLIM_NO_FAULT: clim_fault = clim_fault { offset: 0, code: 0, layer: 0 };
+pub const CLIM_NO_CELL: clim_cell = clim_cell { bytes: CLIM_NO_BYTES, number: 0, kind: 0, table: 0, guid: [0; 16] };
+pub const CLIM_NO_STARTS: clim_starts = clim_starts { step: 1, starts: [0; 256] };
+pub const CLIM_NOT_FOUND: clim_found = clim_found {
+    fields: CLIM_NO_STARTS,
+    methods: CLIM_NO_STARTS,
+    params: CLIM_NO_STARTS,
+    events: CLIM_NO_STARTS,
+    properties: CLIM_NO_STARTS,
+    in_order: [false; 45],
+    utf8_texts: false,
+};
+pub const CLIM_CLOSED: clim_view = clim_view { root: CLIM_NO_BYTES, found: CLIM_NOT_FOUND, is_open: false };
+
+extern "C" {
+    pub fn clim_check(file: *const u8, len: usize, fault: *mut clim_fault) -> bool;
+    pub fn clim_check_root(root: *const u8, len: usize, fault: *mut clim_fault) -> bool;
+    pub fn clim_read_header(file: *const u8, len: usize, header: *mut clim_header, fault: *mut clim_fault) -> bool;
+    pub fn clim_open(file: *const u8, len: usize, view: *mut clim_view, fault: *mut clim_fault) -> bool;
+    pub fn clim_open_root(root: *const u8, len: usize, view: *mut clim_view, fault: *mut clim_fault) -> bool;
+    pub fn clim_fault_name(code: u16, name: *mut clim_bytes);
+    pub fn clim_table_name(table: u8, name: *mut clim_bytes);
+    pub fn clim_cell_count(table: u8) -> usize;
+    pub fn clim_column_name(table: u8, column: usize, name: *mut clim_bytes);
+    pub fn clim_version(view: *const clim_view, version: *mut clim_bytes);
+    pub fn clim_user(view: *const clim_view, user: *mut clim_bytes);
+    pub fn clim_count(view: *const clim_view, table: u8) -> u32;
+    pub fn clim_cell_at(view: *const clim_view, table: u8, row: u32, column: usize, cell: *mut clim_cell) -> bool;
+    pub fn clim_cells(view: *const clim_view, table: u8, first: u32, column: usize, cells: *mut clim_cell, room: usize) -> usize;
+    pub fn clim_members(view: *const clim_view, owner: u8, row: u32, member: u8, first: *mut u32, past: *mut u32) -> bool;
+    pub fn clim_find_type(view: *const clim_view, name_space: *const u8, name_space_len: usize, name: *const u8, name_len: usize) -> u32;
+    pub fn clim_rows_by_key(view: *const clim_view, table: u8, key_table: u8, key_row: u32, rows: *mut u32, room: usize) -> usize;
+}
+
+/// Declares functions that an older library lacks, each with a constant that says whether the library has it. If it does
+/// not, the function is one of this crate that panics. To add one, add it here and to `NEWER` in build.rs.
+macro_rules! newer {
+    ($($has:ident: fn $name:ident($($argument:ident: $type:ty),*) -> $result:ty;)*) => {$(
+        #[doc = concat!("Whether the library has `", stringify!($name), "`.")]
+        pub const $has: bool = cfg!($name);
+
+        #[cfg($name)]
+        extern "C" {
+            pub fn $name($($argument: $type),*) -> $result;
+        }
+
+        /// The library lacks this function: a call panics.
+        ///
+        /// # Safety
+        ///
+        /// None is needed.
+        #[cfg(not($name))]
+        pub unsafe fn $name($(_: $type),*) -> $result {
+            panic!(concat!("this library of clim has no ", stringify!($name)))
+        }
+    )*};
+}
+
+newer! {
+    HAS_ABI_VERSION: fn clim_abi_version() -> u32;
+    HAS_VIEW_SIZE: fn clim_view_size() -> usize;
+    HAS_CHECK_WITHIN: fn clim_check_within(file: *const u8, len: usize, budget: u64, fault: *mut clim_fault, spent: *mut bool) -> bool;
+    HAS_CHECK_ROOT_WITHIN: fn clim_check_root_within(root: *const u8, len: usize, budget: u64, fault: *mut clim_fault, spent: *mut bool) -> bool;
+    HAS_OPEN_WITHIN: fn clim_open_within(file: *const u8, len: usize, budget: u64, view: *mut clim_view, fault: *mut clim_fault, spent: *mut bool) -> bool;
+    HAS_OPEN_ROOT_WITHIN: fn clim_open_root_within(root: *const u8, len: usize, budget: u64, view: *mut clim_view, fault: *mut clim_fault, spent: *mut bool) -> bool;
+    HAS_EXPLAIN: fn clim_explain(code: u16, buffer: *mut u8, room: usize) -> usize;
+    HAS_SIGNATURE_TEXT: fn clim_signature_text(view: *const clim_view, table: u8, row: u32, column: usize, buffer: *mut u8, room: usize) -> usize;
+    HAS_USER_STRING: fn clim_user_string(view: *const clim_view, token: u32, units: *mut u16, room: usize, count: *mut usize, flag: *mut u16) -> bool;
+}
+
+// The layout of the structs, as tests of the C library have it.
+const _: () = assert!(size_of::<clim_bytes>() == 2 * size_of::<*const c_void>());
+const _: () = assert!(size_of::<clim_fault>() == 16);
+const _: () = assert!(size_of::<clim_header>() == 96);
+const _: () = assert!(size_of::<clim_view>() == 5208);
+const _: () = assert!(size_of::<clim_cell>() == 40);

@@ -1,0 +1,64 @@
+//! Reads the metadata of .NET assemblies (ECMA-335 II.22 to II.25), in place and proved.
+//!
+//! A file is opened if and only if it meets all rules. Then each cell is proved to be that of the file's only model. The
+//! rows of the 38 tables are structs with a field for each column.
+//!
+//! ```
+//! use clim::rows::{MethodDef, TypeDef};
+//!
+//! # fn main() -> Result<(), Box<dyn std::error::Error>> {
+//! # let file = std::fs::read(concat!(env!("CARGO_MANIFEST_DIR"), "/../../samples/one_module.dll"))?;
+//! let view = clim::View::open(&file)?;
+//! for (row, its) in (1..).zip(view.rows::<TypeDef>()) {
+//!     println!("{}", its.type_name);
+//!     for method in view.rows_in::<MethodDef>(view.methods_of(row)) {
+//!         println!("  {}", method.name);
+//!     }
+//! }
+//! # Ok(())
+//! # }
+//! ```
+//!
+//! A view borrows the bytes that were opened, and so do the texts and blobs of its rows. They outlive the view, but not
+//! the bytes. So this does not compile:
+//!
+//! ```compile_fail,E0505
+//! use clim::rows::TypeDef;
+//!
+//! let file = std::fs::read("one.dll").unwrap();
+//! let view = clim::View::open(&file).unwrap();
+//! let first = view.row::<TypeDef>(1).unwrap();
+//! drop(file);
+//! println!("{}", first.type_name);
+//! ```
+//!
+//! This one does, because the text is dropped first:
+//!
+//! ```no_run
+//! use clim::rows::TypeDef;
+//!
+//! let file = std::fs::read("one.dll").unwrap();
+//! let view = clim::View::open(&file).unwrap();
+//! let first = view.row::<TypeDef>(1).unwrap();
+//! println!("{}", first.type_name);
+//! drop(file);
+//! ```
+//!
+//! The library allocates nothing. This crate allocates the cells of some rows at a time, and what `by_key` and
+//! `full_name` return. Rows of a valid file may still form circles, and names may be any text: see `docs/CLIENTS.md`.
+#![warn(missing_docs)]
+
+mod cells;
+mod chunks;
+mod fault;
+mod library;
+pub mod rows;
+mod tables;
+mod view;
+
+pub use cells::{Cell, Guid, Signature};
+pub use chunks::{Cells, Rows};
+pub use fault::{BoundedError, Fault, Unsupported};
+pub use rows::Row;
+pub use tables::{Table, Token};
+pub use view::{check, check_root, check_root_within, check_within, read_header, Header, View, DEPTH};

@@ -1,0 +1,75 @@
+//! Calls whose results belong to the library.
+
+use clim_sys::{clim_bytes, CLIM_NO_BYTES, CLIM_TOO_LONG};
+use std::{slice, str};
+
+/// The length that most texts have at most.
+pub(crate) const USUAL: usize = 256;
+
+/// The bytes that a call of the library wrote.
+///
+/// # Safety
+///
+/// `bytes` was written by a call of the library, and the bytes that it names live and do not change for `'a`.
+pub(crate) unsafe fn bytes<'a>(bytes: &clim_bytes) -> &'a [u8] {
+    // SAFETY: The library writes an address that is not null, with the number of bytes that are there.
+    unsafe { slice::from_raw_parts(bytes.at, bytes.len) }
+}
+
+/// The text that a call of the library wrote.
+///
+/// # Safety
+///
+/// The same, and the bytes are a name, or a text of an opened root.
+pub(crate) unsafe fn text<'a>(text: &clim_bytes) -> &'a str {
+    // SAFETY: Names are ASCII. A root is opened only if its texts are UTF-8, which is rule 502.
+    unsafe { str::from_utf8_unchecked(bytes(text)) }
+}
+
+/// A name that a call writes.
+fn name(write: impl FnOnce(*mut clim_bytes)) -> &'static str {
+    let mut name = CLIM_NO_BYTES;
+    write(&mut name);
+    // SAFETY: Names belong to the library, and it is loaded until the process ends.
+    unsafe { text(&name) }
+}
+
+/// The text that a call writes into a buffer, as far as there is room, and whose length it returns. `None` if the text is
+/// too long to be written.
+pub(crate) fn written(write: impl Fn(&mut [u8]) -> usize) -> Option<String> {
+    let mut buffer = vec![0; USUAL];
+    loop {
+        let len = write(&mut buffer);
+        if len <= buffer.len() {
+            return Some(String::from_utf8_lossy(&buffer[..len]).into_owned());
+        }
+        if len == CLIM_TOO_LONG {
+            return None;
+        }
+        buffer.resize(len, 0);
+    }
+}
+
+/// The name of the rule with a number; empty if there is none.
+pub(crate) fn fault_name(code: u16) -> &'static str {
+    // SAFETY: The pointer is valid during the call.
+    name(|it| unsafe { clim_sys::clim_fault_name(code, it) })
+}
+
+/// The name of the table with a number; empty if there is none.
+pub(crate) fn table_name(table: u8) -> &'static str {
+    // SAFETY: The pointer is valid during the call.
+    name(|it| unsafe { clim_sys::clim_table_name(table, it) })
+}
+
+/// The number of cells in a row of the table with a number; 0 if there is none.
+pub(crate) fn cell_count(table: u8) -> usize {
+    // SAFETY: The call takes no pointer.
+    unsafe { clim_sys::clim_cell_count(table) }
+}
+
+/// The name of a column; empty if there is none.
+pub(crate) fn column_name(table: u8, column: usize) -> &'static str {
+    // SAFETY: The pointer is valid during the call.
+    name(|it| unsafe { clim_sys::clim_column_name(table, column, it) })
+}
