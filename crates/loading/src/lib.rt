@@ -2,7 +2,7 @@
 //!
 //! [`load_root`] and [`load_image`] return the one model of a metadata root or a file, if it has one.
 //! Otherwise they return the fault that opening it returns. They are out of memory only if there is a model.
-//! [`ToModel`] makes the model of a view that is already open.
+//! [`ToModel`] makes the model of a view that is already open. A load checks nothing that opening checked.
 //!
 //! ```text
 //! let (header, model) = load_image(alloc, &file)?;

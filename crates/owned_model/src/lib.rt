@@ -1,9 +1,10 @@
 //! The model of CLI metadata (ECMA-335 II.22): valid tables. The tables of each accepted root are valid too.
 //!
 //! [`Model::from_tables`] succeeds if and only if the [`Tables`] are valid, and does not allocate. Otherwise it returns
-//! them with the first rule that they break. A contract sees a model by its value, so `==` compares versions, user
-//! what it says, so `==` compares versions, user bytes and cells. Runs of members, types by name, rows by key
-//! and records of rows are those of a root that is opened in place, by the same code. They do not allocate.
+//! them with the first rule that they break. [`Model::of_valid`] takes tables that are known to be valid, and checks
+//! nothing. A contract sees a model by its value, so `==` compares versions, user bytes and cells. Runs of members,
+//! types by name, rows by key and records of rows are those of a root that is opened in place, by the same code. They
+//! do not allocate.
 //!
 //! ```text
 //! match Model::from_tables(tables) {
