@@ -67,5 +67,5 @@ no_groups groups of_use blobs none no_use no_blob =
     let P : List (List ℕ) → Type 0 = λ g. AreGroups g of_use blobs in
     let Q : List ℕ → Type 0 = λ u. AreGroups [] u blobs in
     let R : List (List ℕ) → Type 0 = λ b. AreGroups [] [] b in
-    let start : AreGroups [] [] [] = record { low = All-nil (λ (group : ℕ). group < length []); each = refl; short = All-nil (λ (blob : List ℕ). length blob < 2 ^ 29); firsts = refl } in
+    let start : AreGroups [] [] [] = record { low = All-nil (λ (group : ℕ). group < 0); each = refl; short = All-nil (λ (blob : List ℕ). length blob < 2 ^ 29); firsts = refl } in
     subst P (sym none) (subst Q (sym no_use) (subst R (sym no_blob) start))

@@ -146,9 +146,9 @@ module _ (pools : Pools) (indexes : Indexes) where
     numbers_are = ap (λ n. so_far.numbers ++ n ∷ []) (next_index (blob_index pools.blobs) indexes.blobs.now so_far.blobs _ next.blobs);
   }
 
-  adds_both : {so_far middle after : SoFar} (here later : List Cell) {numbers more : List ℕ} → (AreAllNext so_far here → Adds so_far middle here numbers)
+  adds_both : (so_far middle after : SoFar) (here later : List Cell) (numbers more : List ℕ) → (AreAllNext so_far here → Adds so_far middle here numbers)
       → (AreAllNext middle later → Adds middle after later more) → AreAllNext so_far (here ++ later) → Adds so_far after (here ++ later) (numbers ++ more)
-  adds_both {so_far} {middle} {after} here later {numbers} {more} first second next =
+  adds_both so_far middle after here later numbers more first second next =
       let adds = first (all_first so_far here later next) in
       adds_then adds (second (all_later so_far middle here later numbers adds next))
 
@@ -157,11 +157,11 @@ module _ (pools : Pools) (indexes : Indexes) where
       → (cells : List Cell) (so_far : SoFar) → length cells ≡ length (cond padding columns (column ∷ columns)) → AreAllNext so_far cells
       → Adds so_far (with_next_cell padding (with_cell indexes k) remainder cells so_far) cells (with_next padding (cell_number pools k) tail cells)
   adds_next true k remainder tail column columns each cells so_far long next =
-      adds_both {so_far} {with_number so_far 0} {remainder cells (with_number so_far 0)} [] cells (λ none. adds_padding so_far) (λ later. each cells (with_number so_far 0) long later) next
+      adds_both so_far (with_number so_far 0) (remainder cells (with_number so_far 0)) [] cells (0 ∷ []) (tail cells) (λ none. adds_padding so_far) (λ later. each cells (with_number so_far 0) long later) next
   adds_next false k remainder tail column columns each [] so_far long next = absurd (omega (arith, long))
   adds_next false k remainder tail column columns each (cell ∷ cells) so_far long next =
       let after = with_cell indexes k cell so_far in
-      adds_both {so_far} {after} {remainder cells after} (cell ∷ []) cells (λ here. adds_cell k cell so_far here) (λ later. each cells after (omega (arith, long)) later) next
+      adds_both so_far after (remainder cells after) (cell ∷ []) cells (cell_number pools k cell ∷ []) (tail cells) (λ here. adds_cell k cell so_far here) (λ later. each cells after (omega (arith, long)) later) next
 
   adds_row : (columns : List Column) (index : ℕ) (cells : List Cell) (so_far : SoFar) → length cells ≡ length (indexes_from index columns) → AreAllNext so_far cells
       → Adds so_far (with_row indexes columns cells so_far) cells (numbers_of pools columns cells)
@@ -176,7 +176,7 @@ module _ (pools : Pools) (indexes : Indexes) where
   adds_rows columns [] so_far long next = adds_none so_far
   adds_rows columns (row ∷ rows) so_far long next =
       let after = with_row indexes columns row so_far in
-      adds_both {so_far} {after} {with_rows indexes columns rows after} row (flat_map (λ row. row) rows) (λ here. adds_row columns 0 row so_far long.0 here) (λ later. adds_rows columns rows after long.1 later) next
+      adds_both so_far after (with_rows indexes columns rows after) row (flat_map (λ row. row) rows) (numbers_of pools columns row) (flat_map (numbers_of pools columns) rows) (λ here. adds_row columns 0 row so_far long.0 here) (λ later. adds_rows columns rows after long.1 later) next
 
   adds_tables : (model : Metadata) (listed : List TableId) (so_far : SoFar)
       → ((table : TableId) → AreLong (length (indexes_from 0 (columns_of table))) (rows_of model table)) → AreAllNext so_far (cells_in model listed)
@@ -185,7 +185,7 @@ module _ (pools : Pools) (indexes : Indexes) where
   adds_tables model (table ∷ listed) so_far long next =
       let rows = rows_of model table in
       let after = with_rows indexes (columns_of table) rows so_far in
-      adds_both {so_far} {after} {with_tables indexes model listed after} (flat_map (λ row. row) rows) (cells_in model listed)
+      adds_both so_far after (with_tables indexes model listed after) (flat_map (λ row. row) rows) (cells_in model listed) (table_flat pools model table) (flat_map (table_flat pools model) listed)
       (λ here. adds_rows (columns_of table) rows so_far (long table) here) (λ later. adds_tables model listed after long later) next
 
 -- ---- the whole

@@ -1,4 +1,4 @@
-ghost use Rattle.std.specs.Prelude.{◌≡◌, ◌+◌, ◌×◌, ◌<◌, ℕ, List, [], ◌∷◌, ◌++◌, OnOk, IfOk, IfSome, All, length, map, slice_index, slice_index_or, take};
+ghost use Rattle.std.specs.Prelude.{◌≡◌, ◌+◌, ◌<◌, ℕ, List, [], ◌∷◌, ◌++◌, OnOk, IfOk, IfSome, All, length, map, slice_index, slice_index_or, take};
 ghost use Rattle.heap_pools.specs.Uses.{bytes_of};
 ghost use Rattle.cell_numbering.specs.HeapUses.{AreUsesOf, HaveOneIndex};
 ghost use Rattle.cell_numbering.specs.BlobGroups.{AreGroups, group_blobs};

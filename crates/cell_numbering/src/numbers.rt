@@ -22,7 +22,7 @@ use table_schema::{ColumnKind, TableId, columns};
 /// The number of a cell that is in no heap, in a column of a kind.
 fn plain_number(kind: ColumnKind, seen: CellRef) -> u32
     requires { ¬ (¬ ((cell : Says) × Shows kind seen cell × CanBeNumbered cell × IsInNoHeap cell)) }
-    ensures { (cell : Says) → Shows kind seen cell → result ≡ cell_number no_pools kind cell }
+    ensures { (cell : Says) → Shows kind seen.entry cell → result ≡ cell_number no_pools kind cell }
 {
     match seen {
         CellRef::Number(number) => number,
@@ -46,7 +46,7 @@ fn put_cell<S: ReadCells>(
     requires last { row ≤ S.row_count source.now table }
     requires cell_index { cell_index < cell_count table }
     ensures { (model : Metadata) → S.shows source.now model
-        → OnOk result (so_far.new ≡ with_cell indexes (kind_at table cell_index) (cell_in model table row cell_index) so_far.old) }
+        → OnOk result (so_far.new ≡ with_cell indexes.entry (kind_at table cell_index) (cell_in model table row cell_index) so_far.old) }
 {
     root_writer::laws::cells_can_be_numbered();
     source.holds_one();
@@ -75,7 +75,7 @@ fn put_next<S: ReadCells>(
     requires column { index < length (columns_of table) }
     requires cell_index { IsCellIndexOf table index cell_index }
     ensures ok { (model : Metadata) → S.shows source.now model → (tail : List Says → SoFar → SoFar)
-        → IfOk result (λ behind. with_next_cell (is_padding (column_at table index).kind) (with_cell indexes (column_at table index).kind)
+        → IfOk result (λ behind. with_next_cell (is_padding (column_at table index).kind) (with_cell indexes.entry (column_at table index).kind)
         tail (drop cell_index (row_of model table row)) so_far.old ≡ tail (drop behind (row_of model table row)) so_far.new) }
     ensures cell_index { IfOk result (IsCellIndexOf table (index + 1)) }
 {
@@ -104,7 +104,7 @@ fn put_row<S: ReadCells>(
     requires first { 1 ≤ row }
     requires last { row ≤ S.row_count source.now table }
     ensures { (model : Metadata) → S.shows source.now model
-        → OnOk result (so_far.new ≡ with_row indexes (columns_of table) (row_of model table row) so_far.old) }
+        → OnOk result (so_far.new ≡ with_row indexes.entry (columns_of table) (row_of model table row) so_far.old) }
 {
     let mut cell_index = 0;
     for index in 0..columns(table).len() {
@@ -121,7 +121,7 @@ fn put_rows<S: ReadCells>(
     table: TableId,
 ) -> Result<(), AllocError>
     ensures { (model : Metadata) → S.shows source.now model
-        → OnOk result (so_far.new ≡ with_rows indexes (columns_of table) (rows_of model table) so_far.old) }
+        → OnOk result (so_far.new ≡ with_rows indexes.entry (columns_of table) (rows_of model table) so_far.old) }
 {
     source.holds_one();
     let count = source.count(table);
@@ -148,7 +148,7 @@ fn put_tables<S: ReadCells>(
     source: &S,
 ) -> Result<(), AllocError>
     ensures { (model : Metadata) → S.shows source.now model
-        → OnOk result (so_far.new ≡ with_tables indexes model all_tables so_far.old) }
+        → OnOk result (so_far.new ≡ with_tables indexes.entry model all_tables so_far.old) }
 {
     table_schema::laws::tables_stand();
     for table in TableId::all() {
@@ -163,7 +163,7 @@ pub fn numbers_of<S: ReadCells>(
     indexes: Indexes,
     source: &S,
 ) -> Result<Vec<u32>, AllocError>
-    ensures { (model : Metadata) → S.shows source.now model → AreIndexes model indexes
+    ensures { (model : Metadata) → S.shows source.now model → AreIndexes model indexes.entry
         → IfOk result (λ found. found.items ≡ flat (numbers model)) }
 {
     source.holds_one();
