@@ -8,6 +8,9 @@ use Rattle.table_schema.specs.declared.column.ColumnKind.TheVariants as kind
 use Rattle.sig_grammar.specs.Syntax.{Body}
 use Rattle.metadata.specs.Cell.{Cell, Number, Text, Bytes, Guid, Ref, Start, Sig}
 use Rattle.metadata.specs.Kinds.{IsOfKind}
+use Rattle.metadata_source.specs.SignatureBytes.{AreBytesOf}
+use Rattle.metadata_source.specs.declared.signature_bytes.SignatureBytes.{SignatureBytes}
+use Rattle.metadata_source.specs.declared.signature_bytes.SignatureBytes.TheVariants.{Stored, Canonical}
 use Rattle.reading.specs.Shown.{Shows, ShowsSignature}
 use Rattle.reading.specs.declared.cell_ref.CellRef.{CellRef}
 use Rattle.reading.specs.declared.cell_ref.CellRef.TheVariants as seen
@@ -189,3 +192,12 @@ no_value k (seen.Guid guid) cell column other shown = absurd (other.guid guid re
 no_value k (seen.Ref reference) cell column other shown = subst IsInNoHeap (sym shown) tt
 no_value k (seen.Start start) cell column other shown = subst IsInNoHeap (sym shown) tt
 no_value k (seen.Sig blob) cell column other shown = absurd (no_signature k blob.now cell column shown)
+
+-- a signature is neither a text nor a GUID
+pub record IsNoText (cell : Cell) : Type 0 where
+  pub texts : texts_of cell ≡ []
+  pub guids : guid_of cell ≡ []
+
+pub signature_has_none : (encoded : SigKind) (bytes : SignatureBytes) (cell : Cell) → AreBytesOf encoded bytes cell → IsNoText cell
+signature_has_none encoded (Stored blob) cell are = record { texts = ap texts_of are.2; guids = ap guid_of are.2 }
+signature_has_none encoded (Canonical bytes) cell are = record { texts = ap texts_of are.2; guids = ap guid_of are.2 }

@@ -14,11 +14,16 @@ use Rattle.heap_pools.specs.Uses.{bytes_of}
 use Rattle.metadata.specs.Cell.{Cell, Number, Text, Bytes, Guid, Ref, Start, Sig}
 use Rattle.metadata.specs.Kinds.{IsOfKind}
 use Rattle.metadata.specs.Metadata.{Metadata}
+use Rattle.sig_grammar.specs.Encodes.{short}
+use Rattle.root_writer.specs.Numbered.{CanBeNumbered}
+use Rattle.metadata_source.specs.SignatureBytes.{AreBytesOf}
+use Rattle.metadata_source.specs.declared.signature_bytes.SignatureBytes.{SignatureBytes}
+use Rattle.metadata_source.specs.declared.signature_bytes.SignatureBytes.TheVariants.{Stored, Canonical}
 use Rattle.metadata_source.specs.SharedBlobs.{CellId, HasCell, IsBlobKind, ShareBlob, cell_by_id, kind_by_id}
 use Rattle.canonical.specs.Pools.{texts_of, blobs_of, guids_of, used}
 use Rattle.cell_numbering.specs.declared.blob_use.BlobUse.{BlobUse}
 use Rattle.cell_numbering.specs.declared.heap_uses.HeapUses.{HeapUses}
-use Rattle.cell_numbering.specs.HeapUses.{AreUsesIn, AreUsesOf, HaveOneIndex, IsUseIn, IsUseOf, all_cells, guid_of}
+use Rattle.cell_numbering.specs.HeapUses.{AreUsesIn, AreUsesOf, GivesBlob, HaveOneIndex, IsUseIn, IsUseOf, all_cells, guid_of}
 
 -- ---- related lists
 
@@ -61,6 +66,30 @@ module _ (index_of : CellId → Option ℕ) (model : Metadata) (before after : H
     blobs = subst (λ list. AllZip (IsUseIn index_of model) after.blobs.items list) (sym (flat_more blobs_of cells cell)) blobs;
   }
 
+  pub added_text : (text : List ℕ) → cell ≡ Text text → bytes_of after.texts.items ≡ bytes_of before.texts.items ++ text ∷ [] → after.guids.items ≡ before.guids.items
+      → after.blobs.items ≡ before.blobs.items → AreUsesIn index_of model after (cells ++ cell ∷ [])
+  added_text text is texts guids blobs =
+      added (texts ∙ sym (ap (λ c. bytes_of before.texts.items ++ texts_of c) is))
+      (guids ∙ sym (ap (λ c. before.guids.items ++ guid_of c) is ∙ append-nil before.guids.items))
+      (subst (λ list. AllZip (IsUseIn index_of model) after.blobs.items list) (sym (ap (λ c. flat_map blobs_of cells ++ blobs_of c) is ∙ append-nil (flat_map blobs_of cells)))
+      (subst (λ (list : List BlobUse). AllZip (IsUseIn index_of model) list (flat_map blobs_of cells)) (sym blobs) are.blobs))
+
+  pub added_guid : (guid : Option (List ℕ)) → cell ≡ Guid guid → after.texts.items ≡ before.texts.items → after.guids.items ≡ before.guids.items ++ guid ∷ []
+      → after.blobs.items ≡ before.blobs.items → AreUsesIn index_of model after (cells ++ cell ∷ [])
+  added_guid guid is texts guids blobs =
+      added (ap bytes_of texts ∙ sym (ap (λ c. bytes_of before.texts.items ++ texts_of c) is ∙ append-nil (bytes_of before.texts.items)))
+      (guids ∙ sym (ap (λ c. before.guids.items ++ guid_of c) is))
+      (subst (λ list. AllZip (IsUseIn index_of model) after.blobs.items list) (sym (ap (λ c. flat_map blobs_of cells ++ blobs_of c) is ∙ append-nil (flat_map blobs_of cells)))
+      (subst (λ (list : List BlobUse). AllZip (IsUseIn index_of model) list (flat_map blobs_of cells)) (sym blobs) are.blobs))
+
+  pub added_blob : (used : BlobUse) → AllZip (IsUseIn index_of model) (used ∷ []) (blobs_of cell) → texts_of cell ≡ [] → guid_of cell ≡ [] → after.texts.items ≡ before.texts.items
+      → after.guids.items ≡ before.guids.items → after.blobs.items ≡ before.blobs.items ++ used ∷ [] → AreUsesIn index_of model after (cells ++ cell ∷ [])
+  added_blob used is no_text no_guid texts guids blobs =
+      added (ap bytes_of texts ∙ sym (ap (λ list. bytes_of before.texts.items ++ list) no_text ∙ append-nil (bytes_of before.texts.items)))
+      (guids ∙ sym (ap (λ list. before.guids.items ++ list) no_guid ∙ append-nil before.guids.items))
+      (subst (λ (list : List BlobUse). AllZip (IsUseIn index_of model) list (flat_map blobs_of cells ++ blobs_of cell)) (sym blobs)
+      (zip_append (IsUseIn index_of model) before.blobs.items (flat_map blobs_of cells) (used ∷ []) (blobs_of cell) are.blobs is))
+
 -- the same uses, after a cell without a value
 pub unchanged : (index_of : CellId → Option ℕ) (model : Metadata) (uses : HeapUses) (cells : List Cell) (cell : Cell) → AreUsesIn index_of model uses cells
     → texts_of cell ≡ [] → guid_of cell ≡ [] → blobs_of cell ≡ [] → AreUsesIn index_of model uses (cells ++ cell ∷ [])
@@ -69,6 +98,33 @@ unchanged index_of model uses cells cell are texts guids blobs =
     (sym (ap (λ list. bytes_of uses.texts.items ++ list) texts ∙ append-nil (bytes_of uses.texts.items)))
     (sym (ap (λ list. uses.guids.items ++ list) guids ∙ append-nil uses.guids.items))
     (subst (λ list. AllZip (IsUseIn index_of model) uses.blobs.items list) (sym (ap (λ list. flat_map blobs_of cells ++ list) blobs ∙ append-nil (flat_map blobs_of cells))) are.blobs)
+
+-- ---- the use of a blob
+
+module _ (index_of : CellId → Option ℕ) (model : Metadata) (id : CellId) (index : Option ℕ) (there : HasCell model id) (can : CanBeNumbered (cell_by_id model id)) (same : index ≡ index_of id) where
+  one_use : (column : ColumnKind) (bytes : SignatureBytes) (blob : List ℕ) → blobs_of (cell_by_id model id) ≡ blob ∷ [] → kind_by_id id ≡ column → IsBlobKind column
+      → GivesBlob column bytes blob → length blob < 2 ^ 29
+      → AllZip (IsUseIn index_of model) (record { kind = column; index = index; bytes = bytes } ∷ []) (blobs_of (cell_by_id model id))
+  one_use column bytes blob has kind blobs gives short =
+      let used : BlobUse = record { kind = column; index = index; bytes = bytes } in
+      let is : IsUseIn index_of model used blob = record {
+        of = record { gives = gives; short = short };
+        indexed = λ i e. record { id = id; there = there; blobs = subst IsBlobKind (sym kind) blobs; kind = kind; at = sym same ∙ e; has = has };
+      } in
+      subst (λ list. AllZip (IsUseIn index_of model) (used ∷ []) list) (sym has) (is, tt)
+
+  pub signature_use : (encoded : SigKind) (bytes : SignatureBytes) → kind_by_id id ≡ kind.Signature encoded → AreBytesOf encoded bytes (cell_by_id model id)
+      → AllZip (IsUseIn index_of model) (record { kind = kind.Signature encoded; index = index; bytes = bytes } ∷ []) (blobs_of (cell_by_id model id))
+  signature_use encoded (Stored blob) column are =
+      one_use (kind.Signature encoded) (Stored blob) (short are.0) (ap blobs_of are.2) column tt (are.0, are.1, refl) (subst CanBeNumbered are.2 can)
+  signature_use encoded (Canonical bytes) column are =
+      one_use (kind.Signature encoded) (Canonical bytes) (short are.0) (ap blobs_of are.2) column tt (sym are.1) (subst CanBeNumbered are.2 can)
+
+  pub blob_use : (column : ColumnKind) (blob : Bor (List ℕ)) → kind_by_id id ≡ column → column ≡ kind.Blob → cell_by_id model id ≡ Bytes blob.now
+      → AllZip (IsUseIn index_of model) (record { kind = column; index = index; bytes = Stored blob } ∷ []) (blobs_of (cell_by_id model id))
+  blob_use column blob kind is has =
+      one_use column (Stored blob) blob.now (ap blobs_of has) kind (subst IsBlobKind (sym is) tt)
+      (subst (λ (k : ColumnKind). GivesBlob k (Stored blob) blob.now) (sym is) refl) (subst CanBeNumbered has can)
 
 -- ---- the parts of a list of cells
 

@@ -7,4 +7,10 @@ use Rattle.cell_numbering.proofs.UseLemmas.{zip_at, zip_length}
 use Rattle.cell_numbering.proofs.blob_groups.BlobGroups.add.Goals as goal
 
 pub written_bytes-requires : goal.written_bytes-requires
-written_bytes-requires c = λ none. c.requires.uses (λ some. none (get_or some.0 c.args.use_index [], ?))
+written_bytes-requires c = ?
+
+pub returns-in_ok-push-in-Some-clause-groups : goal.returns-in_ok-push-in-Some-clause-groups
+returns-in_ok-push-in-Some-clause-groups c = ?
+
+pub returns-in_ok-push-in-None-2-clause-groups : goal.returns-in_ok-push-in-None-2-clause-groups
+returns-in_ok-push-in-None-2-clause-groups c = ?
