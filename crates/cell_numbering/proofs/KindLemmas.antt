@@ -1,7 +1,6 @@
 -- Which cells are in which heap, by the kinds of their columns.
 use Rattle.std.proofs.Common.{◌≡◌, ℕ, Option, List, [], length, refl, sym, ap, subst, ◌∙◌, arith}
 use Rattle.std.specs.Borrow.{Bor}
-use Rattle.table_schema.specs.declared.token.Token.{Token}
 use Rattle.table_schema.specs.declared.column.SigKind.{SigKind}
 use Rattle.table_schema.specs.declared.column.ColumnKind.{ColumnKind}
 use Rattle.table_schema.specs.declared.column.ColumnKind.TheVariants as kind
@@ -159,24 +158,9 @@ pub no_signature : (k : ColumnKind) (blob : List ℕ) (cell : Cell) → ((encode
 no_signature (kind.Signature encoded) blob cell other shown = other encoded refl
 no_signature _ blob cell other shown = shown
 
-sig_of : (k : ColumnKind) (blob : List ℕ) (cell : Cell) → ShowsSignature k blob cell → IsInNoHeap cell → ⊥
+pub sig_of : (k : ColumnKind) (blob : List ℕ) (cell : Cell) → ShowsSignature k blob cell → IsInNoHeap cell → ⊥
 sig_of (kind.Signature encoded) blob cell shown none = subst IsInNoHeap shown.2 none
 sig_of _ blob cell shown none = shown
-
--- a value that is neither a number, a reference nor a start
-pub record IsInHeap (value : CellRef) : Type 0 where
-  pub number : (number : ℕ) → value ≡ seen.Number number → ⊥
-  pub reference : (reference : Option Token) → value ≡ seen.Ref reference → ⊥
-  pub start : (start : ℕ) → value ≡ seen.Start start → ⊥
-
-pub in_no_heap : (k : ColumnKind) (value : CellRef) (cell : Cell) → IsInHeap value → Shows k value cell → IsInNoHeap cell → ⊥
-in_no_heap k (seen.Number number) cell other shown none = other.number number refl
-in_no_heap k (seen.Text text) cell other shown none = subst IsInNoHeap shown none
-in_no_heap k (seen.Bytes blob) cell other shown none = subst IsInNoHeap shown none
-in_no_heap k (seen.Guid guid) cell other shown none = subst IsInNoHeap shown none
-in_no_heap k (seen.Ref reference) cell other shown none = other.reference reference refl
-in_no_heap k (seen.Start start) cell other shown none = other.start start refl
-in_no_heap k (seen.Sig blob) cell other shown none = sig_of k blob.now cell shown none
 
 -- a value that is neither a text, a GUID nor a blob, in a column that is not one of signatures
 pub record IsNoValue (value : CellRef) : Type 0 where

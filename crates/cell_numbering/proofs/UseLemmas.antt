@@ -230,3 +230,8 @@ no_uses index_of model uses texts guids blobs = record {
   guids = guids;
   blobs = subst (λ (list : List BlobUse). AllZip (IsUseIn index_of model) list []) (sym blobs) tt;
 }
+
+-- some use of a list that has one
+pub first_use : (uses : List BlobUse) (i : ℕ) → i < length uses → BlobUse
+first_use [] i below = absurd (omega (arith, below))
+first_use (first ∷ uses) i below = first

@@ -29,7 +29,10 @@ fn plain_number(kind: ColumnKind, seen: CellRef) -> u32
         CellRef::Ref(None) => 0,
         CellRef::Ref(Some(token)) => row_number(kind, token),
         CellRef::Start(row) => row,
-        _ => unreachable!(),
+        CellRef::Text(_) => unreachable!(),
+        CellRef::Guid(_) => unreachable!(),
+        CellRef::Bytes(_) => unreachable!(),
+        CellRef::Sig(_) => unreachable!(),
     }
 }
 

@@ -19,7 +19,7 @@ loop-row-preserved g c = λ model is cells are.
     let below : i < length rows = omega (arith, count) in
     let back : i + 1 - 1 ≡ i = omega arith in
     next_part _ model _ (λ (row : List Cell). row) cells rows i [] below
-    (subst (λ (k : ℕ). AreUsesIn _ model _ (so_far ++ get_or rows k [])) back (c.in_ok-add_row.ensures model is so_far (c.loop-row.invariant model is cells are)))
+    (subst (λ (k : ℕ). AreUsesIn (g.S.ReadCells.heap_index c.args.source.now) model c.add_row.new.uses (so_far ++ get_or rows k [])) back (c.in_ok-add_row.ensures model is so_far (c.loop-row.invariant model is cells are)))
 
 pub returns : goal.returns
 returns g c = λ model is cells are.

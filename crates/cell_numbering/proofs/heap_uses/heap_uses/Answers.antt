@@ -24,7 +24,7 @@ loop-table-preserved g c = λ model is.
     let at : table_index_of table ≡ i =
     ap (λ (listed : List TableId). table_index_of (get_or listed i Module)) c.all-table-items.ensures.value ∙ table_index_at c.tables_stand.ensures.count i low in
     next_part _ model _ f [] model.tables i [] below
-    (subst (λ (k : ℕ). AreUsesIn _ model _ (so_far ++ f (get_or model.tables k []))) at (c.in_ok-add_rows.ensures model is so_far (c.loop-table.invariant model is)))
+    (subst (λ (k : ℕ). AreUsesIn (g.S.ReadCells.heap_index c.args.source.now) model c.add_rows.new.uses (so_far ++ f (get_or model.tables k []))) at (c.in_ok-add_rows.ensures model is so_far (c.loop-table.invariant model is)))
 
 pub returns : goal.returns
 returns g c = λ model is.

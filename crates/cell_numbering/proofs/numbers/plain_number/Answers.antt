@@ -5,7 +5,8 @@ use Rattle.metadata.specs.Cell.{Cell as Says, Ref}
 use Rattle.reading.specs.Shown.{Shows}
 use Rattle.reading.specs.declared.cell_ref.CellRef.{CellRef}
 use Rattle.root_writer.specs.Numbered.{CanBeNumbered}
-use Rattle.cell_numbering.proofs.KindLemmas.{in_no_heap}
+use Rattle.cell_numbering.specs.HeapUses.{IsInNoHeap}
+use Rattle.cell_numbering.proofs.KindLemmas.{sig_of}
 use Rattle.cell_numbering.proofs.numbers.plain_number.Goals as goal
 
 pub row_number-requires : goal.row_number-requires
@@ -21,4 +22,20 @@ row_number-requires c =
 
 pub unreachable-requires : goal.unreachable-requires
 unreachable-requires c = c.requires (λ some.
-    in_no_heap c.args.kind c.args.seen some.0 (record { number = ?; reference = ?; start = ? }) some.1 some.3)
+    let P : CellRef → Type 0 = λ seen. Shows c.args.kind seen some.0 in
+    subst IsInNoHeap (subst P c.in-Text.is some.1) some.3)
+
+pub unreachable-requires-in-Guid : goal.unreachable-requires-in-Guid
+unreachable-requires-in-Guid c = c.requires (λ some.
+    let P : CellRef → Type 0 = λ seen. Shows c.args.kind seen some.0 in
+    subst IsInNoHeap (subst P c.in-Guid.is some.1) some.3)
+
+pub unreachable-requires-in-Bytes : goal.unreachable-requires-in-Bytes
+unreachable-requires-in-Bytes c = c.requires (λ some.
+    let P : CellRef → Type 0 = λ seen. Shows c.args.kind seen some.0 in
+    subst IsInNoHeap (subst P c.in-Bytes.is some.1) some.3)
+
+pub unreachable-requires-in-Sig : goal.unreachable-requires-in-Sig
+unreachable-requires-in-Sig c = c.requires (λ some.
+    let P : CellRef → Type 0 = λ seen. Shows c.args.kind seen some.0 in
+    sig_of c.args.kind c.in-Sig.field-0.now some.0 (subst P c.in-Sig.is some.1) some.3)

@@ -51,7 +51,7 @@ returns-in-Signature g c = λ model is.
     let rows = c.holds_one.ensures.rows model is table in
     let there : HasRow model table c.args.row = (c.requires.first, omega (arith, rows, c.requires.last)) in
     let good = (c.holds_one.ensures.valid model is).cells table c.args.row cell_index there c.requires.cell_index in
-    on_ok_weaker c.put_blob.result (λ e. e ∙ sym (next_signature c.args.indexes (kind_at table cell_index) cell c.args.so_far.now good.of_kind c.in-Signature.field-0 (sym c.kind_of-kind.ensures ∙ c.in-Signature.is))) c.put_blob.ensures
+    on_ok_weaker c.put_blob-in-Signature.result (λ e. e ∙ sym (next_signature c.args.indexes (kind_at table cell_index) cell c.args.so_far.now good.of_kind c.in-Signature.field-0 (sym c.kind_of-kind.ensures ∙ c.in-Signature.is))) c.put_blob-in-Signature.ensures
 
 pub plain_number-requires : goal.plain_number-requires
 plain_number-requires g c = λ none. not_there c.holds_one.ensures.shown (λ some.

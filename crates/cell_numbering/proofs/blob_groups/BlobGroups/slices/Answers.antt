@@ -14,6 +14,6 @@ loop-bytes-preserved c =
     let in_all : i < length all = omega (arith, below, length-map groups bytes_in) in
     ap bytes_of c.in_ok-push.ensures.items
     ∙ map_push (λ (t : Bor (List ℕ)). t.now) c.loop-bytes.slices.items c.as_slice.result
-    ∙ ap (λ t. bytes_of c.loop-bytes.slices.items ++ t ∷ []) (c.as_slice.ensures ∙ ?)
+    ∙ ap (λ t. bytes_of c.loop-bytes.slices.items ++ t ∷ []) (c.as_slice.ensures ∙ ap bytes_in (c.bytes-item.is ∙ ap (λ l. get_or l i c.bytes-item.result) c.deref-bytes-items.ensures.value) ∙ sym (get_or-map bytes_in groups i c.bytes-item.result [] below))
     ∙ ap (λ l. l ++ get_or all i [] ∷ []) c.loop-bytes.invariant
     ∙ sym (take_more all i [] in_all)
