@@ -1,5 +1,5 @@
 -- Which cells are in which heap, by the kinds of their columns.
-use Rattle.std.proofs.Common.{◌≡◌, ℕ, Option, List, [], length, refl, sym, ap, subst, ◌∙◌, arith}
+use Rattle.std.proofs.Common.{◌≡◌, ℕ, Option, List, [], refl, sym, ap, subst, ◌∙◌}
 use Rattle.std.specs.Borrow.{Bor}
 use Rattle.table_schema.specs.declared.column.SigKind.{SigKind}
 use Rattle.table_schema.specs.declared.column.ColumnKind.{ColumnKind}

@@ -1,4 +1,4 @@
-use Rattle.std.proofs.Common.{◌≤◌, ◌∙◌, arith}
+use Rattle.std.proofs.Common.{◌∙◌, arith}
 use Rattle.metadata.specs.Metadata.{cell_in}
 use Rattle.metadata.specs.Lookups.{HasRow}
 use Rattle.metadata.specs.Valid.{kind_at}

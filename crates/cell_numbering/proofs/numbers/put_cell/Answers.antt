@@ -1,11 +1,9 @@
-use Rattle.std.proofs.Common.{◌≡◌, ◌≤◌, sym, ap, subst, ◌∙◌, arith}
+use Rattle.std.proofs.Common.{sym, ap, subst, ◌∙◌, arith}
 use Rattle.std.proofs.lemmas.Grind.{not_there}
 use Rattle.std.proofs.lemmas.Result.{on_ok_weaker}
-use Rattle.table_schema.specs.declared.column.SigKind.{SigKind}
 use Rattle.table_schema.specs.declared.column.ColumnKind.{ColumnKind}
-use Rattle.metadata.specs.Metadata.{Metadata, cell_in}
+use Rattle.metadata.specs.Metadata.{cell_in}
 use Rattle.metadata.specs.Lookups.{HasRow}
-use Rattle.metadata.specs.Kinds.{IsOfKind}
 use Rattle.metadata.specs.Valid.{kind_at}
 use Rattle.reading.specs.Shown.{Shows}
 use Rattle.canonical.specs.Numbers.{cell_number}

@@ -1,4 +1,4 @@
-use Rattle.std.proofs.Common.{◌≡◌, ◌+◌, ◌<◌, ◌≤◌, length, drop, refl, sym, ap, ◌∙◌, arith}
+use Rattle.std.proofs.Common.{◌+◌, ◌<◌, ◌≤◌, length, drop, refl, sym, ap, ◌∙◌, arith}
 use Rattle.table_schema.specs.Columns.{columns_of}
 use Rattle.cell_numbering.specs.NumbersSoFar.{with_row}
 use Rattle.cell_numbering.proofs.CellIndexLemmas.{first_cell_index, row_left, row_done}

@@ -1,6 +1,6 @@
-use Rattle.std.proofs.Common.{◌<◌, ◌≤◌, ◌++◌, ◌∷◌, [], List, ℕ, length, get_or, take, sym, ap, ◌∙◌, arith}
+use Rattle.std.proofs.Common.{◌<◌, ◌++◌, ◌∷◌, [], List, ℕ, length, get_or, sym, ap, ◌∙◌, arith}
 use Rattle.std.specs.Borrow.{Bor}
-use Rattle.std.proofs.lemmas.List.{map_push, take_more, take_all, get_or-map, length-map}
+use Rattle.std.proofs.lemmas.List.{map_push, take_more, get_or-map, length-map}
 use Rattle.heap_pools.specs.Uses.{bytes_of}
 use Rattle.cell_numbering.specs.BlobGroups.{bytes_in, group_blobs}
 use Rattle.cell_numbering.proofs.blob_groups.BlobGroups.slices.Goals as goal
