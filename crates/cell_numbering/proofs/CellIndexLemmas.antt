@@ -14,7 +14,8 @@ use Rattle.table_schema.specs.Columns.{columns_of, column_at, col}
 use Rattle.metadata.specs.Cell.{Cell, Number}
 use Rattle.metadata.specs.Metadata.{Metadata, rows_of}
 use Rattle.metadata.specs.Valid.{kind_at}
-use Rattle.root_writer.specs.Numbered.{Numbered, with_cell, with_next_cell, with_row, with_rows, with_tables}
+use Rattle.cell_numbering.specs.declared.numbers_so_far.Indexes.{Indexes}
+use Rattle.cell_numbering.specs.NumbersSoFar.{SoFar, with_cell, with_next_cell, with_row, with_rows, with_tables}
 use Rattle.table_schema.specs.CellColumns.{is_padding, indexes_from, cell_columns, cell_count, column_of}
 use Rattle.cell_numbering.specs.CellIndexes.{IsCellIndexOf}
 
@@ -42,7 +43,7 @@ module _ (table : TableId) (index cell_index : ℕ) (below : index < length (col
       (within, cc split, cc split)
 
   -- the next cell is that of the column
-  pub next_cell : is_padding (column_at table index).kind ≡ false → (indexes : List ℕ) (tail : List Cell → Numbered → Numbered) (row : List Cell) (so_far : Numbered)
+  pub next_cell : is_padding (column_at table index).kind ≡ false → (indexes : Indexes) (tail : List Cell → SoFar → SoFar) (row : List Cell) (so_far : SoFar)
       → length row ≡ cell_count table
       → with_next_cell (is_padding (column_at table index).kind) (with_cell indexes (column_at table index).kind) tail (drop cell_index row) so_far
       ≡ tail (drop (cell_index + 1) row) (with_cell indexes (kind_at table cell_index) (get_or row cell_index (Number 0)) so_far)
@@ -82,29 +83,29 @@ few_cells table = few_indexes 0 (columns_of table)
 
 -- ---- the remaining parts of a row, of rows and of tables
 
-pub row_left : (indexes : List ℕ) (columns : List Column) (i : ℕ) (cells : List Cell) (so_far whole : Numbered) → i < length columns
+pub row_left : (indexes : Indexes) (columns : List Column) (i : ℕ) (cells : List Cell) (so_far whole : SoFar) → i < length columns
     → with_row indexes (drop i columns) cells so_far ≡ whole
     → with_next_cell (is_padding (get_or columns i (col kind.U8)).kind) (with_cell indexes (get_or columns i (col kind.U8)).kind) (with_row indexes (drop (i + 1) columns)) cells so_far ≡ whole
 row_left indexes columns i cells so_far whole below e = sym (ap (λ list. with_row indexes list cells so_far) (drop_more columns i (col kind.U8) below)) ∙ e
 
-pub row_done : (indexes : List ℕ) (columns : List Column) (i : ℕ) (cells : List Cell) (so_far whole : Numbered) → length columns ≤ i
+pub row_done : (indexes : Indexes) (columns : List Column) (i : ℕ) (cells : List Cell) (so_far whole : SoFar) → length columns ≤ i
     → with_row indexes (drop i columns) cells so_far ≡ whole → so_far ≡ whole
 row_done indexes columns i cells so_far whole past e = sym (ap (λ list. with_row indexes list cells so_far) (drop_all i columns past)) ∙ e
 
-pub rows_left : (indexes : List ℕ) (columns : List Column) (rows : List (List Cell)) (i : ℕ) (so_far whole : Numbered) → i < length rows
+pub rows_left : (indexes : Indexes) (columns : List Column) (rows : List (List Cell)) (i : ℕ) (so_far whole : SoFar) → i < length rows
     → with_rows indexes columns (drop i rows) so_far ≡ whole → with_rows indexes columns (drop (i + 1) rows) (with_row indexes columns (get_or rows i []) so_far) ≡ whole
 rows_left indexes columns rows i so_far whole below e = sym (ap (λ list. with_rows indexes columns list so_far) (drop_more rows i [] below)) ∙ e
 
-pub rows_done : (indexes : List ℕ) (columns : List Column) (rows : List (List Cell)) (i : ℕ) (so_far whole : Numbered) → length rows ≤ i
+pub rows_done : (indexes : Indexes) (columns : List Column) (rows : List (List Cell)) (i : ℕ) (so_far whole : SoFar) → length rows ≤ i
     → with_rows indexes columns (drop i rows) so_far ≡ whole → so_far ≡ whole
 rows_done indexes columns rows i so_far whole past e = sym (ap (λ list. with_rows indexes columns list so_far) (drop_all i rows past)) ∙ e
 
-pub tables_left : (indexes : List ℕ) (model : Metadata) (i : ℕ) (so_far whole : Numbered) → i < length tables
+pub tables_left : (indexes : Indexes) (model : Metadata) (i : ℕ) (so_far whole : SoFar) → i < length tables
     → with_tables indexes model (drop i tables) so_far ≡ whole
     → with_tables indexes model (drop (i + 1) tables) (with_rows indexes (columns_of (get_or tables i Module)) (rows_of model (get_or tables i Module)) so_far) ≡ whole
 tables_left indexes model i so_far whole below e = sym (ap (λ list. with_tables indexes model list so_far) (drop_more tables i Module below)) ∙ e
 
-pub tables_done : (indexes : List ℕ) (model : Metadata) (i : ℕ) (so_far whole : Numbered) → length tables ≤ i
+pub tables_done : (indexes : Indexes) (model : Metadata) (i : ℕ) (so_far whole : SoFar) → length tables ≤ i
     → with_tables indexes model (drop i tables) so_far ≡ whole → so_far ≡ whole
 tables_done indexes model i so_far whole past e = sym (ap (λ list. with_tables indexes model list so_far) (drop_all i tables past)) ∙ e
 

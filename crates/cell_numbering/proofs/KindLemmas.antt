@@ -1,16 +1,61 @@
--- Which cells are texts, by the kinds of their columns.
-use Rattle.std.proofs.Common.{◌≡◌, ℕ, Bool, List, [], length, refl, sym, ap, subst, ◌∙◌, arith}
+-- Which cells are in which heap, by the kinds of their columns.
+use Rattle.std.proofs.Common.{◌≡◌, ℕ, Option, List, [], refl, sym, ap, subst, ◌∙◌}
+use Rattle.std.specs.Borrow.{Bor}
 use Rattle.table_schema.specs.declared.column.SigKind.{SigKind}
 use Rattle.table_schema.specs.declared.column.ColumnKind.{ColumnKind}
 use Rattle.table_schema.specs.declared.column.ColumnKind.TheVariants as kind
+use Rattle.sig_grammar.specs.Syntax.{Body}
 use Rattle.metadata.specs.Cell.{Cell, Number, Text, Bytes, Guid, Ref, Start, Sig}
 use Rattle.metadata.specs.Kinds.{IsOfKind}
-use Rattle.metadata.specs.Metadata.{Metadata}
-use Rattle.metadata.specs.Valid.{IsValidCell}
-use Rattle.reading.specs.Shown.{ShowsSignature}
+use Rattle.metadata_source.specs.SignatureBytes.{AreBytesOf}
+use Rattle.metadata_source.specs.declared.signature_bytes.SignatureBytes.{SignatureBytes}
+use Rattle.metadata_source.specs.declared.signature_bytes.SignatureBytes.TheVariants.{Stored, Canonical}
+use Rattle.reading.specs.Shown.{Shows, ShowsSignature}
+use Rattle.reading.specs.declared.cell_ref.CellRef.{CellRef}
+use Rattle.reading.specs.declared.cell_ref.CellRef.TheVariants as seen
 use Rattle.canonical.specs.Numbers.{cell_number}
-use Rattle.canonical.specs.Pools.{texts_of}
-use Rattle.root_writer.specs.Numbered.{Numbered, IsOver, pools_in, with_cell, with_number, with_text, with_values}
+use Rattle.canonical.specs.Pools.{texts_of, blobs_of}
+use Rattle.cell_numbering.specs.declared.numbers_so_far.Indexes.{Indexes}
+use Rattle.cell_numbering.specs.HeapUses.{IsInNoHeap, guid_of}
+use Rattle.cell_numbering.specs.NumbersSoFar.{SoFar, no_pools, with_blob, with_cell, with_guid, with_number, with_text}
+
+-- ---- the number of a cell in a column of a heap is the next index
+
+text_column : (indexes : Indexes) (cell : Cell) (so_far : SoFar) → IsOfKind kind.Text cell → with_cell indexes kind.Text cell so_far ≡ with_text indexes.texts.now so_far
+text_column indexes (Text text) so_far of = refl
+text_column indexes cell so_far of = absurd of
+
+guid_column : (indexes : Indexes) (cell : Cell) (so_far : SoFar) → IsOfKind kind.Guid cell → with_cell indexes kind.Guid cell so_far ≡ with_guid indexes.guids.now so_far
+guid_column indexes (Guid guid) so_far of = refl
+guid_column indexes cell so_far of = absurd of
+
+blob_column : (indexes : Indexes) (cell : Cell) (so_far : SoFar) → IsOfKind kind.Blob cell → with_cell indexes kind.Blob cell so_far ≡ with_blob indexes.blobs.now so_far
+blob_column indexes (Bytes blob) so_far of = refl
+blob_column indexes cell so_far of = absurd of
+
+signature_column : (indexes : Indexes) (column : SigKind) (cell : Cell) (so_far : SoFar) → IsOfKind (kind.Signature column) cell
+    → with_cell indexes (kind.Signature column) cell so_far ≡ with_blob indexes.blobs.now so_far
+signature_column indexes column (Sig signature) so_far of = refl
+signature_column indexes column cell so_far of = absurd of
+
+module _ (indexes : Indexes) (k : ColumnKind) (cell : Cell) (so_far : SoFar) (of : IsOfKind k cell) where
+  pub next_text : k ≡ kind.Text → with_cell indexes k cell so_far ≡ with_text indexes.texts.now so_far
+  next_text is =
+      ap (λ (column : ColumnKind). with_cell indexes column cell so_far) is ∙ text_column indexes cell so_far (subst (λ (column : ColumnKind). IsOfKind column cell) is of)
+
+  pub next_guid : k ≡ kind.Guid → with_cell indexes k cell so_far ≡ with_guid indexes.guids.now so_far
+  next_guid is =
+      ap (λ (column : ColumnKind). with_cell indexes column cell so_far) is ∙ guid_column indexes cell so_far (subst (λ (column : ColumnKind). IsOfKind column cell) is of)
+
+  pub next_blob : k ≡ kind.Blob → with_cell indexes k cell so_far ≡ with_blob indexes.blobs.now so_far
+  next_blob is =
+      ap (λ (column : ColumnKind). with_cell indexes column cell so_far) is ∙ blob_column indexes cell so_far (subst (λ (column : ColumnKind). IsOfKind column cell) is of)
+
+  pub next_signature : (column : SigKind) → k ≡ kind.Signature column → with_cell indexes k cell so_far ≡ with_blob indexes.blobs.now so_far
+  next_signature column is =
+      ap (λ (it : ColumnKind). with_cell indexes it cell so_far) is ∙ signature_column indexes column cell so_far (subst (λ (it : ColumnKind). IsOfKind it cell) is of)
+
+-- ---- a cell in a column of another kind is in no heap
 
 only_text : (k : ColumnKind) (text : List ℕ) → IsOfKind k (Text text) → k ≡ kind.Text
 only_text kind.U8 text of = absurd of
@@ -25,36 +70,118 @@ only_text (kind.Row table) text of = absurd of
 only_text (kind.Coded coded) text of = absurd of
 only_text (kind.List member) text of = absurd of
 
-pub no_texts : (model : Metadata) (k : ColumnKind) (nullable : Bool) (cell : Cell) → (k ≡ kind.Text → ⊥) → IsValidCell model k nullable cell → texts_of cell ≡ []
-no_texts model k nullable (Number number) other valid = refl
-no_texts model k nullable (Text text) other valid = absurd (other (only_text k text valid.of_kind))
-no_texts model k nullable (Bytes blob) other valid = refl
-no_texts model k nullable (Guid guid) other valid = refl
-no_texts model k nullable (Ref reference) other valid = refl
-no_texts model k nullable (Start start) other valid = refl
-no_texts model k nullable (Sig signature) other valid = refl
+only_guid : (k : ColumnKind) (guid : Option (List ℕ)) → IsOfKind k (Guid guid) → k ≡ kind.Guid
+only_guid kind.U8 guid of = absurd of
+only_guid kind.U16 guid of = absurd of
+only_guid kind.U32 guid of = absurd of
+only_guid kind.Padding guid of = absurd of
+only_guid kind.Text guid of = absurd of
+only_guid kind.Guid guid of = refl
+only_guid kind.Blob guid of = absurd of
+only_guid (kind.Signature column) guid of = absurd of
+only_guid (kind.Row table) guid of = absurd of
+only_guid (kind.Coded coded) guid of = absurd of
+only_guid (kind.List member) guid of = absurd of
 
-text_column : (indexes : List ℕ) (cell : Cell) (so_far : Numbered) → IsOfKind kind.Text cell → with_cell indexes kind.Text cell so_far ≡ with_text indexes so_far
-text_column indexes (Text text) so_far of = refl
-text_column indexes cell so_far of = absurd of
+-- only a column of blobs has a blob
+pub only_blob : (k : ColumnKind) (blob : List ℕ) → IsOfKind k (Bytes blob) → k ≡ kind.Blob
+only_blob kind.U8 blob of = absurd of
+only_blob kind.U16 blob of = absurd of
+only_blob kind.U32 blob of = absurd of
+only_blob kind.Padding blob of = absurd of
+only_blob kind.Text blob of = absurd of
+only_blob kind.Guid blob of = absurd of
+only_blob kind.Blob blob of = refl
+only_blob (kind.Signature column) blob of = absurd of
+only_blob (kind.Row table) blob of = absurd of
+only_blob (kind.Coded coded) blob of = absurd of
+only_blob (kind.List member) blob of = absurd of
 
--- in a column of texts the number is the next index
-pub next_text : (indexes : List ℕ) (k : ColumnKind) (cell : Cell) (so_far : Numbered) → k ≡ kind.Text → IsOfKind k cell
-    → with_cell indexes k cell so_far ≡ with_text indexes so_far
-next_text indexes k cell so_far is of =
-    ap (λ (column : ColumnKind). with_cell indexes column cell so_far) is ∙ text_column indexes cell so_far (subst (λ (column : ColumnKind). IsOfKind column cell) is of)
+-- a column of neither texts, GUIDs, blobs nor signatures
+pub record IsPlainKind (k : ColumnKind) : Type 0 where
+  pub text : k ≡ kind.Text → ⊥
+  pub guid : k ≡ kind.Guid → ⊥
+  pub blob : k ≡ kind.Blob → ⊥
+  pub signature : (column : SigKind) → k ≡ kind.Signature column → ⊥
 
--- a cell that uses no text has the number that its values give
-pub next_other : (indexes : List ℕ) (k : ColumnKind) (cell : Cell) (so_far : Numbered) → texts_of cell ≡ []
-    → with_cell indexes k cell so_far ≡ with_number (with_values so_far cell) (cell_number (pools_in (with_values so_far cell)) k cell)
-next_other indexes k (Text text) so_far none = absurd (omega (arith, ap length none))
-next_other indexes k cell so_far none = refl
+no_sig : (k : ColumnKind) (signature : Body) → ((column : SigKind) → k ≡ kind.Signature column → ⊥) → IsOfKind k (Sig signature) → ⊥
+no_sig kind.U8 signature other of = of
+no_sig kind.U16 signature other of = of
+no_sig kind.U32 signature other of = of
+no_sig kind.Padding signature other of = of
+no_sig kind.Text signature other of = of
+no_sig kind.Guid signature other of = of
+no_sig kind.Blob signature other of = of
+no_sig (kind.Signature column) signature other of = other column refl
+no_sig (kind.Row table) signature other of = of
+no_sig (kind.Coded coded) signature other of = of
+no_sig (kind.List member) signature other of = of
 
-pub over_other : (indexes : List ℕ) (k : ColumnKind) (cell : Cell) (so_far : Numbered) → texts_of cell ≡ [] → IsOver (with_values so_far cell)
-    → IsOver (with_cell indexes k cell so_far)
-over_other indexes k cell so_far none over = subst IsOver (sym (next_other indexes k cell so_far none)) over
+pub plain_cell : (k : ColumnKind) (cell : Cell) → IsPlainKind k → IsOfKind k cell → IsInNoHeap cell
+plain_cell k (Number number) plain of = tt
+plain_cell k (Text text) plain of = absurd (plain.text (only_text k text of))
+plain_cell k (Bytes blob) plain of = absurd (plain.blob (only_blob k blob of))
+plain_cell k (Guid guid) plain of = absurd (plain.guid (only_guid k guid of))
+plain_cell k (Ref reference) plain of = tt
+plain_cell k (Start start) plain of = tt
+plain_cell k (Sig signature) plain of = absurd (no_sig k signature plain.signature of)
+
+-- such a cell has its own number, and no value in a heap
+pub next_plain : (indexes : Indexes) (k : ColumnKind) (cell : Cell) (so_far : SoFar) → IsInNoHeap cell
+    → with_cell indexes k cell so_far ≡ with_number so_far (cell_number no_pools k cell)
+next_plain indexes k (Number number) so_far none = refl
+next_plain indexes k (Text text) so_far none = absurd none
+next_plain indexes k (Bytes blob) so_far none = absurd none
+next_plain indexes k (Guid guid) so_far none = absurd none
+next_plain indexes k (Ref reference) so_far none = refl
+next_plain indexes k (Start start) so_far none = refl
+next_plain indexes k (Sig signature) so_far none = absurd none
+
+pub record HasNone (cell : Cell) : Type 0 where
+  pub texts : texts_of cell ≡ []
+  pub guids : guid_of cell ≡ []
+  pub blobs : blobs_of cell ≡ []
+
+pub has_none : (cell : Cell) → IsInNoHeap cell → HasNone cell
+has_none (Number number) none = record { texts = refl; guids = refl; blobs = refl }
+has_none (Text text) none = absurd none
+has_none (Bytes blob) none = absurd none
+has_none (Guid guid) none = absurd none
+has_none (Ref reference) none = record { texts = refl; guids = refl; blobs = refl }
+has_none (Start start) none = record { texts = refl; guids = refl; blobs = refl }
+has_none (Sig signature) none = absurd none
+
+-- ---- the cell that a value in place stands for
 
 -- only a column of signatures has the blob of one
 pub no_signature : (k : ColumnKind) (blob : List ℕ) (cell : Cell) → ((encoded : SigKind) → k ≡ kind.Signature encoded → ⊥) → ShowsSignature k blob cell → ⊥
 no_signature (kind.Signature encoded) blob cell other shown = other encoded refl
 no_signature _ blob cell other shown = shown
+
+pub sig_of : (k : ColumnKind) (blob : List ℕ) (cell : Cell) → ShowsSignature k blob cell → IsInNoHeap cell → ⊥
+sig_of (kind.Signature encoded) blob cell shown none = subst IsInNoHeap shown.2 none
+sig_of _ blob cell shown none = shown
+
+-- a value that is neither a text, a GUID nor a blob, in a column that is not one of signatures
+pub record IsNoValue (value : CellRef) : Type 0 where
+  pub text : (text : Bor (List ℕ)) → value ≡ seen.Text text → ⊥
+  pub guid : (guid : Option (List ℕ)) → value ≡ seen.Guid guid → ⊥
+  pub blob : (blob : Bor (List ℕ)) → value ≡ seen.Bytes blob → ⊥
+
+pub no_value : (k : ColumnKind) (value : CellRef) (cell : Cell) → ((encoded : SigKind) → k ≡ kind.Signature encoded → ⊥) → IsNoValue value → Shows k value cell → IsInNoHeap cell
+no_value k (seen.Number number) cell column other shown = subst IsInNoHeap (sym shown) tt
+no_value k (seen.Text text) cell column other shown = absurd (other.text text refl)
+no_value k (seen.Bytes blob) cell column other shown = absurd (other.blob blob refl)
+no_value k (seen.Guid guid) cell column other shown = absurd (other.guid guid refl)
+no_value k (seen.Ref reference) cell column other shown = subst IsInNoHeap (sym shown) tt
+no_value k (seen.Start start) cell column other shown = subst IsInNoHeap (sym shown) tt
+no_value k (seen.Sig blob) cell column other shown = absurd (no_signature k blob.now cell column shown)
+
+-- a signature is neither a text nor a GUID
+pub record IsNoText (cell : Cell) : Type 0 where
+  pub texts : texts_of cell ≡ []
+  pub guids : guid_of cell ≡ []
+
+pub signature_has_none : (encoded : SigKind) (bytes : SignatureBytes) (cell : Cell) → AreBytesOf encoded bytes cell → IsNoText cell
+signature_has_none encoded (Stored blob) cell are = record { texts = ap texts_of are.2; guids = ap guid_of are.2 }
+signature_has_none encoded (Canonical bytes) cell are = record { texts = ap texts_of are.2; guids = ap guid_of are.2 }

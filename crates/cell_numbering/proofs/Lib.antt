@@ -1,4 +1,5 @@
-pub mod FlatLemmas
-pub mod KindLemmas
-pub mod KnownLemmas
+pub mod BlobLemmas
 pub mod CellIndexLemmas
+pub mod KindLemmas
+pub mod NumberLemmas
+pub mod UseLemmas

@@ -1,2 +1,4 @@
-pub mod Known
+pub mod BlobGroups
 pub mod CellIndexes
+pub mod HeapUses
+pub mod NumbersSoFar

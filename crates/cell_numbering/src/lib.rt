@@ -2,10 +2,13 @@
 //! II.24.2.3 to II.24.2.6).
 //!
 //! [`pools_of`] serves whatever holds a metadata: a root that is open in place, or tables in memory. It visits the rows
-//! twice. First it reads only the texts and plans the strings heap. Then it numbers each cell, by table, row and column.
-//! It pools GUIDs and blobs, signatures in their canonical encoding. No cell is copied. A text is read once, for the
-//! plan; its number is the next index of the plan. The blob of a signature is decoded and encoded again only if it was
-//! not met before in a column of its kind.
+//! twice. First it collects the texts, GUIDs and blobs in order of use, and plans each heap from all its values, by
+//! sorting. Then it numbers each cell, by table, row and column. The number of a text, GUID or blob is the next index of
+//! its plan.
+//!
+//! No value is hashed, and none is copied, except a signature whose blob is not its canonical encoding. Blobs that are
+//! read from a heap are grouped by their index there. So a blob that many rows name is read, decoded and compared a few
+//! times at most, once for each kind of column.
 //!
 //! ```text
 //! let (texts, numbering) = pools_of(alloc, &source)?;
@@ -13,10 +16,13 @@
 //! ```
 #![tactic(auto)]
 
-mod gathering;
+mod blob_bytes;
+mod blob_groups;
+mod blob_use;
+mod earlier_uses;
+mod heap_uses;
 mod numbers;
+mod numbers_so_far;
 mod pools;
-mod shortest;
-mod texts;
 
 pub use pools::pools_of;

@@ -1,192 +1,135 @@
-ghost use Rattle.std.specs.Prelude.{◌≡◌, ◌≢◌, ◌≤◌, ◌<◌, ◌+◌, Err, OnOk, IfOk, List, [], drop, length};
-ghost use Rattle.heap_pools.specs.declared.pool_error.PoolError.TheVariants.{Full};
-ghost use Rattle.table_schema.specs.declared.column.SigKind.{SigKind as TheKind};
-ghost use Rattle.table_schema.specs.declared.column.ColumnKind.TheVariants.{Text, Signature};
-ghost use Rattle.table_schema.specs.Tables.{tables as all_tables};
+ghost use Rattle.std.specs.Prelude.{◌≡◌, ◌≤◌, ◌<◌, ◌+◌, OnOk, IfOk, List, drop, length};
 ghost use Rattle.table_schema.specs.Columns.{columns_of, column_at};
 ghost use Rattle.table_schema.specs.CellColumns.{is_padding, cell_count};
 ghost use Rattle.metadata.specs.Cell.{Cell as Says};
 ghost use Rattle.metadata.specs.Metadata.{Metadata, rows_of, row_of, cell_in};
 ghost use Rattle.metadata.specs.Valid.{kind_at};
-ghost use Rattle.canonical.specs.Numbers.{cell_number};
-ghost use Rattle.canonical.specs.Pools.{texts_of};
+ghost use Rattle.canonical.specs.Numbers.{cell_number, numbers};
 ghost use Rattle.reading.specs.Shown.{Shows};
-ghost use Rattle.metadata_source.specs.SignatureBytes.{AreBytesOf};
-ghost use Rattle.root_writer.specs.Numbered.{Numbered, CanBeNumbered, IsOver, none_numbered, with_values, with_cell, with_next_cell, with_row, with_rows, with_tables, pools_in};
+ghost use Rattle.root_writer.specs.Numbered.{CanBeNumbered, flat};
+ghost use Rattle.table_schema.specs.Tables.{tables as all_tables};
 ghost use Rattle.cell_numbering.specs.CellIndexes.{IsCellIndexOf};
+ghost use Rattle.cell_numbering.specs.HeapUses.{AreIndexes, IsInNoHeap};
+ghost use Rattle.cell_numbering.specs.NumbersSoFar.{SoFar, no_pools, none_numbered, with_cell, with_next_cell, with_row, with_rows, with_tables};
 
-use crate::gathering::Gathering;
-use heap_pools::PoolError;
-use metadata_source::{ReadCells, SignatureBytes, kind_of};
+use crate::numbers_so_far::{Indexes, NumbersSoFar};
+use metadata_source::{ReadCells, kind_of};
 use reading::CellRef;
-use root_writer::{Numbering, row_number};
-use std::alloc::Global;
-use table_schema::{ColumnKind, SigKind, TableId, columns};
+use root_writer::row_number;
+use std::alloc::{AllocError, Global};
+use table_schema::{ColumnKind, TableId, columns};
 
-/// The number of a value that is neither a text nor a signature, in a column of a kind. A blob or GUID is pooled.
-fn value_number(
-    gathering: &mut Gathering,
-    kind: ColumnKind,
-    seen: CellRef,
-) -> Result<u32, PoolError>
-    requires kind { (encoded : TheKind) → kind ≢ Signature encoded }
-    requires cell { ¬ (¬ ((cell : Says) × Shows kind seen cell × CanBeNumbered cell × (texts_of cell ≡ []))) }
-    ensures pools { (cell : Says) → Shows kind seen.entry cell → OnOk result (gathering.new ≡ with_values gathering.old cell) }
-    ensures number { (cell : Says) → Shows kind seen.entry cell
-        → IfOk result (λ number. number ≡ cell_number (pools_in (with_values gathering.old cell)) kind cell) }
-    ensures full { (cell : Says) → Shows kind seen.entry cell → result ≡ Err PoolError.Full
-        → IsOver (with_values gathering.old cell) }
+/// The number of a cell that is in no heap, in a column of a kind.
+fn plain_number(kind: ColumnKind, seen: CellRef) -> u32
+    requires { ¬ (¬ ((cell : Says) × Shows kind seen cell × CanBeNumbered cell × IsInNoHeap cell)) }
+    ensures { (cell : Says) → Shows kind seen.entry cell → result ≡ cell_number no_pools kind cell }
 {
     match seen {
-        CellRef::Number(number) => Ok(number),
+        CellRef::Number(number) => number,
+        CellRef::Ref(None) => 0,
+        CellRef::Ref(Some(token)) => row_number(kind, token),
+        CellRef::Start(row) => row,
         CellRef::Text(_) => unreachable!(),
-        CellRef::Bytes(blob) => gathering.put_blob(blob),
-        CellRef::Guid(guid) => gathering.put_guid(guid),
-        CellRef::Ref(None) => Ok(0),
-        CellRef::Ref(Some(token)) => Ok(row_number(kind, token)),
-        CellRef::Start(row) => Ok(row),
+        CellRef::Guid(_) => unreachable!(),
+        CellRef::Bytes(_) => unreachable!(),
         CellRef::Sig(_) => unreachable!(),
     }
 }
 
-/// The number of a cell that is not a text, in a column of a kind. Its values are pooled.
-fn number_of<'a, S: ReadCells>(
-    gathering: &mut Gathering<'a>,
-    source: &'a S,
-    kind: ColumnKind,
+/// Adds the number of a cell. For a text, a GUID, a blob or a signature it is the next index, and no heap is read.
+fn put_cell<S: ReadCells>(
+    so_far: &mut NumbersSoFar,
+    indexes: Indexes,
+    source: &S,
     table: TableId,
     row: u32,
     cell_index: usize,
-) -> Result<u32, PoolError>
+) -> Result<(), AllocError>
     requires first { 1 ≤ row }
     requires last { row ≤ S.row_count source.now table }
     requires cell_index { cell_index < cell_count table }
-    requires kind { kind ≡ kind_at table cell_index }
-    requires other { kind ≢ Text }
-    ensures pools { (model : Metadata) → S.shows source.now model
-        → OnOk result (gathering.new ≡ with_values gathering.old (cell_in model table row cell_index)) }
-    ensures number { (model : Metadata) → S.shows source.now model
-        → IfOk result (λ number. number ≡ cell_number (pools_in (with_values gathering.old (cell_in model table row cell_index))) kind
-        (cell_in model table row cell_index)) }
-    ensures full { (model : Metadata) → S.shows source.now model → result ≡ Err PoolError.Full
-        → IsOver (with_values gathering.old (cell_in model table row cell_index)) }
+    ensures { (model : Metadata) → S.shows source.now model
+        → OnOk result (so_far.new ≡ with_cell indexes.entry (kind_at table cell_index) (cell_in model table row cell_index) so_far.old) }
 {
     root_writer::laws::cells_can_be_numbered();
     source.holds_one();
-    match kind {
-        ColumnKind::Signature(encoded) => {
-            let bytes = source.signature(gathering.alloc(), encoded, table, row, cell_index)?;
-            signature_number(gathering, encoded, bytes)
-        }
-        _ => value_number(gathering, kind, source.cell(table, row, cell_index)),
-    }
-}
-
-/// Adds the number of a cell after its values are pooled. For a text it is the next index, and no heap is read.
-fn put_cell<'a, S: ReadCells>(
-    gathering: &mut Gathering<'a>,
-    indexes: &[u32],
-    source: &'a S,
-    table: TableId,
-    row: u32,
-    cell_index: usize,
-) -> Result<(), PoolError>
-    requires first { 1 ≤ row }
-    requires last { row ≤ S.row_count source.now table }
-    requires cell_index { cell_index < cell_count table }
-    ensures ok { (model : Metadata) → S.shows source.now model
-        → OnOk result (gathering.new ≡ with_cell indexes.now (kind_at table cell_index) (cell_in model table row cell_index) gathering.old) }
-    ensures full { (model : Metadata) → S.shows source.now model → result ≡ Err PoolError.Full
-        → IsOver (with_cell indexes.now (kind_at table cell_index) (cell_in model table row cell_index) gathering.old) }
-{
-    source.holds_one();
     let kind = kind_of(table, cell_index);
     match kind {
-        ColumnKind::Text => Ok(gathering.put_text(indexes)?),
-        _ => {
-            let number = number_of(gathering, source, kind, table, row, cell_index)?;
-            Ok(gathering.put_number(number)?)
-        }
+        ColumnKind::Text => so_far.put_text(indexes.texts),
+        ColumnKind::Guid => so_far.put_guid(indexes.guids),
+        ColumnKind::Blob => so_far.put_blob(indexes.blobs),
+        ColumnKind::Signature(_) => so_far.put_blob(indexes.blobs),
+        _ => so_far.put_number(plain_number(kind, source.cell(table, row, cell_index))),
     }
 }
 
 /// Adds the number of the column at an index, or 0 if it has no cell, and returns the index of the next cell.
-fn put_next<'a, S: ReadCells>(
-    gathering: &mut Gathering<'a>,
-    indexes: &[u32],
-    source: &'a S,
+fn put_next<S: ReadCells>(
+    so_far: &mut NumbersSoFar,
+    indexes: Indexes,
+    source: &S,
     table: TableId,
     row: u32,
     index: usize,
     cell_index: usize,
-) -> Result<usize, PoolError>
+) -> Result<usize, AllocError>
     requires first { 1 ≤ row }
     requires last { row ≤ S.row_count source.now table }
     requires column { index < length (columns_of table) }
     requires cell_index { IsCellIndexOf table index cell_index }
-    ensures ok { (model : Metadata) → S.shows source.now model → (tail : List Says → Numbered → Numbered)
-        → IfOk result (λ behind. with_next_cell (is_padding (column_at table index).kind) (with_cell indexes.now (column_at table index).kind)
-        tail (drop cell_index (row_of model table row)) gathering.old ≡ tail (drop behind (row_of model table row)) gathering.new) }
+    ensures ok { (model : Metadata) → S.shows source.now model → (tail : List Says → SoFar → SoFar)
+        → IfOk result (λ behind. with_next_cell (is_padding (column_at table index).kind) (with_cell indexes.entry (column_at table index).kind)
+        tail (drop cell_index (row_of model table row)) so_far.old ≡ tail (drop behind (row_of model table row)) so_far.new) }
     ensures cell_index { IfOk result (IsCellIndexOf table (index + 1)) }
-    ensures full { (model : Metadata) → S.shows source.now model → (tail : List Says → Numbered → Numbered)
-        → ((cells : List Says) (so_far : Numbered) → IsOver so_far → IsOver (tail cells so_far)) → result ≡ Err PoolError.Full
-        → IsOver (with_next_cell (is_padding (column_at table index).kind) (with_cell indexes.now (column_at table index).kind)
-        tail (drop cell_index (row_of model table row)) gathering.old) }
 {
     source.holds_one();
     table_schema::laws::columns_stand();
     match columns(table)[index].kind {
         ColumnKind::Padding => {
-            gathering.put_number(0)?;
+            so_far.put_number(0)?;
             Ok(cell_index)
         }
         _ => {
-            put_cell(gathering, indexes, source, table, row, cell_index)?;
+            put_cell(so_far, indexes, source, table, row, cell_index)?;
             Ok(cell_index + 1)
         }
     }
 }
 
 /// Adds the numbers of a row, one per column.
-fn put_row<'a, S: ReadCells>(
-    gathering: &mut Gathering<'a>,
-    indexes: &[u32],
-    source: &'a S,
+fn put_row<S: ReadCells>(
+    so_far: &mut NumbersSoFar,
+    indexes: Indexes,
+    source: &S,
     table: TableId,
     row: u32,
-) -> Result<(), PoolError>
+) -> Result<(), AllocError>
     requires first { 1 ≤ row }
     requires last { row ≤ S.row_count source.now table }
-    ensures ok { (model : Metadata) → S.shows source.now model
-        → OnOk result (gathering.new ≡ with_row indexes.now (columns_of table) (row_of model table row) gathering.old) }
-    ensures full { (model : Metadata) → S.shows source.now model → result ≡ Err PoolError.Full
-        → IsOver (with_row indexes.now (columns_of table) (row_of model table row) gathering.old) }
+    ensures { (model : Metadata) → S.shows source.now model
+        → OnOk result (so_far.new ≡ with_row indexes.entry (columns_of table) (row_of model table row) so_far.old) }
 {
-    root_writer::laws::heaps_stay_too_long();
     let mut cell_index = 0;
     for index in 0..columns(table).len() {
-        cell_index = put_next(gathering, indexes, source, table, row, index, cell_index)?;
+        cell_index = put_next(so_far, indexes, source, table, row, index, cell_index)?;
     }
     Ok(())
 }
 
 /// Adds the numbers of the rows of a table.
-fn put_rows<'a, S: ReadCells>(
-    gathering: &mut Gathering<'a>,
-    indexes: &[u32],
-    source: &'a S,
+fn put_rows<S: ReadCells>(
+    so_far: &mut NumbersSoFar,
+    indexes: Indexes,
+    source: &S,
     table: TableId,
-) -> Result<(), PoolError>
-    ensures ok { (model : Metadata) → S.shows source.now model
-        → OnOk result (gathering.new ≡ with_rows indexes.now (columns_of table) (rows_of model table) gathering.old) }
-    ensures full { (model : Metadata) → S.shows source.now model → result ≡ Err PoolError.Full
-        → IsOver (with_rows indexes.now (columns_of table) (rows_of model table) gathering.old) }
+) -> Result<(), AllocError>
+    ensures { (model : Metadata) → S.shows source.now model
+        → OnOk result (so_far.new ≡ with_rows indexes.entry (columns_of table) (rows_of model table) so_far.old) }
 {
-    root_writer::laws::heaps_stay_too_long();
     source.holds_one();
     let count = source.count(table);
     for row in 0..count {
-        put_row(gathering, indexes, source, table, row + 1)?;
+        put_row(so_far, indexes, source, table, row + 1)?;
     }
     Ok(())
 }
@@ -202,60 +145,33 @@ fn count_numbers<S: ReadCells>(source: &S) -> usize {
 }
 
 /// Adds the numbers of the rows of all tables.
-fn put_tables<'a, S: ReadCells>(
-    gathering: &mut Gathering<'a>,
-    indexes: &[u32],
-    source: &'a S,
-) -> Result<(), PoolError>
-    ensures ok { (model : Metadata) → S.shows source.now model
-        → OnOk result (gathering.new ≡ with_tables indexes.now model all_tables gathering.old) }
-    ensures full { (model : Metadata) → S.shows source.now model → result ≡ Err PoolError.Full
-        → IsOver (with_tables indexes.now model all_tables gathering.old) }
+fn put_tables<S: ReadCells>(
+    so_far: &mut NumbersSoFar,
+    indexes: Indexes,
+    source: &S,
+) -> Result<(), AllocError>
+    ensures { (model : Metadata) → S.shows source.now model
+        → OnOk result (so_far.new ≡ with_tables indexes.entry model all_tables so_far.old) }
 {
-    root_writer::laws::heaps_stay_too_long();
     table_schema::laws::tables_stand();
     for table in TableId::all() {
-        put_rows(gathering, indexes, source, *table)?;
+        put_rows(so_far, indexes, source, *table)?;
     }
     Ok(())
 }
 
-/// The numbers of all cells, by table, row and column, each after its values are pooled.
+/// The numbers of all cells, by table, row and column, if the indexes are those of the values that all cells use.
 pub fn numbers_of<S: ReadCells>(
     alloc: Global,
-    indexes: &[u32],
+    indexes: Indexes,
     source: &S,
-) -> Result<Numbering, PoolError>
-    ensures ok { (model : Metadata) → S.shows source.now model
-        → IfOk result (λ numbering. numbering ≡ with_tables indexes.now model all_tables none_numbered) }
-    ensures full { (model : Metadata) → S.shows source.now model → result ≡ Err PoolError.Full
-        → IsOver (with_tables indexes.now model all_tables none_numbered) }
+) -> Result<Vec<u32>, AllocError>
+    ensures { (model : Metadata) → S.shows source.now model → AreIndexes model indexes.entry
+        → IfOk result (λ found. found.items ≡ flat (numbers model)) }
 {
-    let mut gathering = Gathering::new(alloc, count_numbers(source))?;
-    match put_tables(&mut gathering, indexes, source) {
-        Ok(()) => Ok(gathering.into_numbering()),
-        Err(error) => {
-            drop(gathering);
-            Err(error)
-        }
-    }
-}
-
-/// The number of a signature in a column of a kind. Its canonical encoding is pooled.
-fn signature_number<'a>(
-    gathering: &mut Gathering<'a>,
-    kind: SigKind,
-    bytes: SignatureBytes<'a>,
-) -> Result<u32, PoolError>
-    requires { ¬ (¬ ((cell : Says) × AreBytesOf kind bytes cell × CanBeNumbered cell)) }
-    ensures pools { (cell : Says) → AreBytesOf kind bytes.entry cell → OnOk result (gathering.new ≡ with_values gathering.old cell) }
-    ensures number { (cell : Says) → AreBytesOf kind bytes.entry cell
-        → IfOk result (λ number. number ≡ cell_number (pools_in (with_values gathering.old cell)) (Signature kind) cell) }
-    ensures full { (cell : Says) → AreBytesOf kind bytes.entry cell → result ≡ Err PoolError.Full
-        → IsOver (with_values gathering.old cell) }
-{
-    match bytes {
-        SignatureBytes::Stored(blob) => gathering.put_signature(blob, kind),
-        SignatureBytes::Canonical(encoding) => gathering.put_blob(&encoding),
-    }
+    source.holds_one();
+    table_schema::laws::tables_stand();
+    let mut so_far = NumbersSoFar::new(alloc, count_numbers(source))?;
+    put_tables(&mut so_far, indexes, source)?;
+    Ok(so_far.into_numbers())
 }

@@ -1,50 +1,77 @@
-ghost use Rattle.std.specs.Prelude.{◌≡◌, ◌^◌, ◌<◌, ◌⊎◌, Err, IfOk, length, map};
+ghost use Rattle.std.specs.Prelude.{◌≡◌, ◌^◌, ◌<◌, ◌⊎◌, ℕ, List, Err, IfOk, flat_map, length, map};
 ghost use Rattle.heap_pools.specs.declared.pool_error.PoolError.TheVariants.{Full};
-ghost use Rattle.heap_pools.specs.TextHeap.{text_heap, text_index};
+ghost use Rattle.heap_pools.specs.BlobHeap.{blob_heap, blob_index};
+ghost use Rattle.heap_pools.specs.Distinct.{distinct};
+ghost use Rattle.heap_pools.specs.GuidHeap.{given, guid_heap, guid_index};
+ghost use Rattle.heap_pools.specs.TextHeap.{text_heap};
 ghost use Rattle.metadata.specs.Metadata.{Metadata};
-ghost use Rattle.canonical.specs.Pools.{texts_of, used, pools_of as pools_in};
+ghost use Rattle.canonical.specs.Pools.{pools_of as pools_in};
 ghost use Rattle.root_writer.specs.Numbered.{IsNumbering, IsTooLong};
+ghost use Rattle.cell_numbering.specs.HeapUses.{AreUsesOf};
 
+use crate::blob_groups::BlobGroups;
+use crate::blob_use::BlobUse;
+use crate::heap_uses::heap_uses;
 use crate::numbers::numbers_of;
-use crate::texts::used_texts;
-use heap_pools::{PoolError, TextPool};
+use crate::numbers_so_far::Indexes;
+use heap_pools::{HeapPlan, PoolError, SortedBlobs, SortedGuids, TextPool};
 use metadata_source::ReadCells;
 use root_writer::Numbering;
 use std::alloc::Global;
 
-/// The strings heap of the canonical root, planned from the texts of all cells, and their indexes in order of use
-/// (II.24.2.3).
-fn text_pool<S: ReadCells>(alloc: Global, source: &S) -> Result<TextPool, PoolError>
-    ensures entries { (model : Metadata) → S.shows source.now model → IfOk result (λ pool. pool.entries ≡ (pools_in model).texts) }
-    ensures indexes { (model : Metadata) → S.shows source.now model
-        → IfOk result (λ pool. pool.indexes ≡ map (text_index (pools_in model).texts) (used texts_of model)) }
-    ensures full { (model : Metadata) → S.shows source.now model → result ≡ Err PoolError.Full
-        → 2 ^ 30 < length (text_heap (pools_in model).texts) }
+/// The GUID heap of the canonical root, planned from all GUIDs (II.24.2.5).
+fn guid_plan(alloc: Global, guids: &[Option<[u8; 16]>]) -> Result<HeapPlan, PoolError>
+    ensures heap { IfOk result (λ plan. plan.heap ≡ guid_heap (distinct (flat_map given guids.now))) }
+    ensures indexes { IfOk result (λ plan. plan.indexes ≡ map (guid_index (distinct (flat_map given guids.now))) guids.now) }
+    ensures full { result ≡ Err PoolError.Full → 2 ^ 30 < length (guid_heap (distinct (flat_map given guids.now))) }
 {
-    root_writer::laws::cells_can_be_numbered();
-    source.holds_one();
-    let texts = used_texts(alloc, source)?;
-    TextPool::plan(alloc, &texts)
+    SortedGuids::sort(alloc, guids)?.lay_out(alloc)
+}
+
+/// The blob heap of the canonical root, planned from all blobs, and the index of each use (II.24.2.4).
+fn blob_plan(alloc: Global, uses: &[BlobUse<'_>]) -> Result<(HeapPlan, Vec<u32>), PoolError>
+    requires { ¬ (¬ ((blobs : List (List ℕ)) × AreUsesOf uses.now blobs)) }
+    ensures heap { (blobs : List (List ℕ)) → AreUsesOf uses.now blobs → IfOk result (λ plan. plan.0.heap ≡ blob_heap (distinct blobs)) }
+    ensures indexes { (blobs : List (List ℕ)) → AreUsesOf uses.now blobs
+        → IfOk result (λ plan. plan.1.items ≡ map (blob_index (distinct blobs)) blobs) }
+    ensures full { (blobs : List (List ℕ)) → AreUsesOf uses.now blobs → result ≡ Err PoolError.Full
+        → 2 ^ 30 < length (blob_heap (distinct blobs)) }
+{
+    let groups = BlobGroups::of(alloc, uses)?;
+    let blobs = groups.slices(alloc)?;
+    let plan = SortedBlobs::sort(alloc, &blobs)?.lay_out(alloc)?;
+    let indexes = groups.indexes(alloc, plan.indexes())?;
+    Ok((plan, indexes))
 }
 
 /// The pools of the canonical root of a metadata, and the numbers of all its cells (II.24.2.3 to II.24.2.6).
 ///
-/// It pools the texts first. Then it numbers each cell, by table, row and column, and pools blobs and GUIDs on the way,
-/// a signature in its canonical encoding. It copies only the blobs and GUIDs that it pools. The memory of the numbers
-/// is allocated once.
+/// It plans the heaps from all their values, and then numbers each cell, by table, row and column. It sorts the values,
+/// so the time does not depend on who chose them. The memory of each heap, and that of the numbers, is allocated once.
 ///
 /// # Errors
 ///
-/// `Full` if one of the heaps would exceed 2^30 bytes; `Memory` if out of memory.
+/// `Full` if one of the heaps would exceed 2^30 bytes, which is checked before the heap is allocated; `Memory` if out of
+/// memory.
 pub fn pools_of<S: ReadCells>(alloc: Global, source: &S) -> Result<(TextPool, Numbering), PoolError>
     ensures pools { (model : Metadata) → S.shows source.now model
         → IfOk result (λ pools. (pools.0.entries ≡ (pools_in model).texts) × IsNumbering model pools.1) }
     ensures full { (model : Metadata) → S.shows source.now model → result ≡ Err PoolError.Full
         → (2 ^ 30 < length (text_heap (pools_in model).texts)) ⊎ IsTooLong model }
 {
-    root_writer::laws::numberings_are_of_models();
+    root_writer::laws::cells_can_be_numbered();
     source.holds_one();
-    let texts = text_pool(alloc, source)?;
-    let numbering = numbers_of(alloc, texts.indexes(), source)?;
-    Ok((texts, numbering))
+    source.shared_blobs_are_one();
+    let uses = heap_uses(alloc, source)?;
+    let texts = TextPool::plan(alloc, &uses.texts)?;
+    let guids = guid_plan(alloc, &uses.guids)?;
+    let (blobs, blob_indexes) = blob_plan(alloc, &uses.blobs)?;
+    drop(uses);
+    let indexes = Indexes {
+        texts: texts.indexes(),
+        guids: guids.indexes(),
+        blobs: &blob_indexes,
+    };
+    let numbers = numbers_of(alloc, indexes, source)?;
+    Ok((texts, Numbering::new(blobs, guids, numbers)))
 }

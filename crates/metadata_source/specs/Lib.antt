@@ -1,3 +1,4 @@
 pub mod Keys
 pub mod MemberLists
+pub mod SharedBlobs
 pub mod SignatureBytes

@@ -6,14 +6,23 @@ use table_schema::{SigKind, TableId};
 
 /// A metadata whose cells can be read.
 pub trait ReadCells: ReadMetadata {
-    ghost use Rattle.std.specs.Prelude.{◌≡◌, ◌≢◌, ◌≤◌, ◌<◌, IfOk};
+    ghost use Rattle.std.specs.Prelude.{◌≡◌, ◌≢◌, ◌≤◌, ◌<◌, ℕ, IfOk, Option};
     ghost use Rattle.table_schema.specs.declared.column.SigKind.{SigKind as TheKind};
     ghost use Rattle.table_schema.specs.declared.column.ColumnKind.TheVariants.{Signature};
     ghost use Rattle.table_schema.specs.CellColumns.{cell_count};
     ghost use Rattle.metadata.specs.Metadata.{Metadata, cell_in};
     ghost use Rattle.metadata.specs.Valid.{kind_at};
     ghost use Rattle.reading.specs.Shown.{Shows};
+    ghost use Rattle.metadata_source.specs.SharedBlobs.{CellId, HasCell, ShareBlob, cell_by_id};
     ghost use Rattle.metadata_source.specs.SignatureBytes.{AreBytesOf};
+
+    // The index of a cell's blob in the blob heap that it is read from, if it is read from one.
+    ghost heap_index: { Self → CellId → Option ℕ };
+
+    /// Two cells in columns of one kind are equal if their blobs are at one index of the blob heap. Nothing is done.
+    fn shared_blobs_are_one(&self)
+        ensures { (model : Metadata) → Self.shows self.now model → (first second : CellId) → HasCell model first → HasCell model second
+            → ShareBlob (Self.heap_index self.now) first second → cell_by_id model first ≡ cell_by_id model second };
 
     /// A cell that is not a signature. Texts and blobs are borrowed.
     fn cell(&self, table: TableId, row: u32, cell: usize) -> CellRef<'_>
@@ -42,4 +51,12 @@ pub trait ReadCells: ReadMetadata {
         requires kind { kind_at table cell ≡ Signature kind }
         ensures { (model : Metadata) → Self.shows self.now model
             → IfOk result (λ bytes. AreBytesOf kind bytes (cell_in model table row cell)) };
+
+    /// The index of a cell's blob in the blob heap that it is read from, in a column of blobs or signatures (II.24.2.4).
+    /// `None` if the cells are not read from a heap.
+    fn blob_index(&self, table: TableId, row: u32, cell: usize) -> Option<u32>
+        requires first { 1 ≤ row }
+        requires last { row ≤ Self.row_count self.now table }
+        requires cell { cell < cell_count table }
+        ensures { result ≡ Self.heap_index self.now (record { table = table; row = row; cell_index = cell }) };
 }

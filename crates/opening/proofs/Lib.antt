@@ -3,3 +3,4 @@ pub mod ModelReads
 pub mod Parts
 pub mod SourceAt
 pub mod SignatureLemmas
+pub mod SharedLemmas

@@ -1,3 +1,4 @@
+ghost use Rattle.std.specs.Prelude.{Some};
 ghost use Rattle.table_schema.specs.CellColumns.{column_of};
 ghost use Rattle.metadata.specs.Source.{number_of};
 ghost use Rattle.metadata.specs.Model.{IsModel};
@@ -63,6 +64,20 @@ impl ReadMetadata for View<'_> {
 }
 
 impl ReadCells for View<'_> {
+    ghost heap_index = { λ root id. Some (number_of (source_of root) id.table id.row (column_of id.table id.cell_index)) };
+
+    fn shared_blobs_are_one(&self) {
+        metadata::laws::models_are_read();
+        metadata::laws::cells_are_one();
+    }
+
+    fn blob_index(&self, table: TableId, row: u32, cell: usize) -> Option<u32> {
+        Some(
+            self.source()
+                .number(table, row, column_of_cell(table, cell)),
+        )
+    }
+
     fn cell(&self, table: TableId, row: u32, cell: usize) -> CellRef<'_> {
         View::cell(self, table, row, cell)
     }

@@ -1,4 +1,4 @@
-ghost use Rattle.std.specs.Prelude.{◌≡◌, ◌≤◌};
+ghost use Rattle.std.specs.Prelude.{◌≡◌, ◌≤◌, None};
 ghost use Rattle.tables.specs.Said.{said};
 ghost use Rattle.metadata.specs.Metadata.{Metadata, count_in};
 ghost use Rattle.metadata.specs.Valid.{row_in};
@@ -68,6 +68,14 @@ impl ReadMetadata for Model {
 }
 
 impl ReadCells for Model {
+    ghost heap_index = { λ model id. None };
+
+    fn shared_blobs_are_one(&self) {}
+
+    fn blob_index(&self, _table: TableId, _row: u32, _cell: usize) -> Option<u32> {
+        None
+    }
+
     fn cell(&self, table: TableId, row: u32, cell: usize) -> CellRef<'_> {
         // The cell is one of a valid model.
         let _tables = self.tables();

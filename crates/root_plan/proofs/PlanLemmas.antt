@@ -18,8 +18,6 @@ use Rattle.root_writer.specs.declared.sizes.StreamSizes.{StreamSizes}
 use Rattle.heap_entries.specs.Padding.{zero_padded}
 use Rattle.heap_pools.specs.TextPlan.{TextPlan}
 use Rattle.heap_pools.specs.TextHeap.{text_heap}
-use Rattle.heap_pools.specs.BlobHeap.{blob_heap}
-use Rattle.heap_pools.specs.GuidHeap.{guid_heap}
 use Rattle.root_writer.specs.Numbered.{Numbered}
 use Rattle.root_plan.specs.declared.heap_lens.HeapLens.{HeapLens}
 use Rattle.root_plan.specs.declared.tables_plan.TablesPlan.{TablesPlan}
@@ -60,12 +58,12 @@ tables_over model len limit within long more =
 
 -- the streams of the heaps are as long as those of the pools
 pub lens_are : (model : Metadata) (plan : TextPlan) (numbered : Numbered) → ArePooled model plan numbered → (lens : HeapLens)
-    → lens.strings ≡ length (zero_padded (text_heap plan.entries)) → lens.guids ≡ length (zero_padded (guid_heap numbered.guids)) → lens.blobs ≡ length (zero_padded (blob_heap numbered.blobs))
+    → lens.strings ≡ length (zero_padded (text_heap plan.entries)) → lens.guids ≡ length (zero_padded numbered.guids) → lens.blobs ≡ length (zero_padded numbered.blobs)
     → AreHeapLens model lens
 lens_are model plan numbered pooled lens strings guids blobs = record {
   strings = strings ∙ ap (λ entries. length (zero_padded (text_heap entries))) pooled.texts;
-  guids = guids ∙ ap (λ entries. length (zero_padded (guid_heap entries))) pooled.numbering.guids;
-  blobs = blobs ∙ ap (λ entries. length (zero_padded (blob_heap entries))) pooled.numbering.blobs;
+  guids = guids ∙ ap (λ heap. length (zero_padded heap)) pooled.numbering.guids;
+  blobs = blobs ∙ ap (λ heap. length (zero_padded heap)) pooled.numbering.blobs;
 }
 
 tables_size_is : (model : Metadata) → length (zero_padded (header_bytes model ++ tables_bytes (sizes_of model) tables (numbers model))) ≡ length (table_stream model)

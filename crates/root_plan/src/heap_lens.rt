@@ -1,8 +1,6 @@
 ghost use Rattle.std.specs.Prelude.{◌≡◌, ◌<◌, ◌^◌, ◌≤◌, ℕ, List, length};
 ghost use Rattle.heap_entries.specs.Padding.{zero_padded};
 ghost use Rattle.heap_pools.specs.TextHeap.{text_heap};
-ghost use Rattle.heap_pools.specs.BlobHeap.{blob_heap};
-ghost use Rattle.heap_pools.specs.GuidHeap.{guid_heap};
 ghost use Rattle.metadata.specs.Metadata.{Metadata};
 ghost use Rattle.canonical.specs.TableStream.{wide_bit as bit_of_heap, sizes_of};
 ghost use Rattle.root_plan.specs.Planned.{AreHeapLens};
@@ -34,8 +32,8 @@ impl HeapLens {
     /// The lengths for these pools.
     pub fn of(texts: &TextPool, numbering: &Numbering) -> HeapLens
         ensures strings { result.strings ≡ length (zero_padded (text_heap texts.now.entries)) }
-        ensures guids { result.guids ≡ length (zero_padded (guid_heap numbering.now.guids)) }
-        ensures blobs { result.blobs ≡ length (zero_padded (blob_heap numbering.now.blobs)) }
+        ensures guids { result.guids ≡ length (zero_padded numbering.now.guids) }
+        ensures blobs { result.blobs ≡ length (zero_padded numbering.now.blobs) }
         ensures few { (result.strings ≤ 2 ^ 30) × (result.guids ≤ 2 ^ 30) × (result.blobs ≤ 2 ^ 30) }
     {
         HeapLens {

@@ -6,7 +6,5 @@ pub mod RootLemmas
 pub mod RowLemmas
 pub mod TableLemmas
 pub mod FlatLemmas
-pub mod LawLemmas
-pub mod OverLemmas
 pub mod PositionLemmas
 pub mod ReadyLemmas

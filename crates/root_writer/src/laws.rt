@@ -10,7 +10,7 @@ ghost use Rattle.root_writer.specs.declared.root_parts.RootParts.{RootParts as T
 ghost use Rattle.root_writer.specs.Root.{root_bytes, ArePartsOf};
 
 pub use crate::numbering_laws::{
-    cells_can_be_numbered, heaps_stay_too_long, numberings_are_of_models, numbers_are_put,
+    cells_can_be_numbered, numbers_are_put,
 };
 
 /// The canonical root is what [`Writer::put_heading`](crate::Writer::put_heading) writes for the sizes of its streams,

@@ -1,20 +1,17 @@
-ghost use Rattle.std.specs.Prelude.{◌≡◌, ◌<◌, ℕ, List, All, length, map, sum_by};
+ghost use Rattle.std.specs.Prelude.{◌≡◌, ◌<◌, ℕ, All, length, sum_by};
 ghost use Rattle.std.specs.List.{AllByRecursion};
 ghost use Rattle.table_schema.specs.declared.table.TableId.{TableId as Table};
 ghost use Rattle.schema.specs.Sizes.{Sizes, count_of};
 ghost use Rattle.table_schema.specs.Tables.{tables};
-ghost use Rattle.table_schema.specs.declared.column.Column.{Column};
 ghost use Rattle.table_schema.specs.CellColumns.{cell_count};
 ghost use Rattle.heap_entries.specs.Entries.{HasNoNul};
-ghost use Rattle.heap_pools.specs.TextHeap.{text_index};
-ghost use Rattle.metadata.specs.Cell.{Cell};
 ghost use Rattle.metadata.specs.Lookups.{HasRow};
 ghost use Rattle.metadata.specs.Metadata.{Metadata, rows_of, count_in, cell_in};
 ghost use Rattle.metadata.specs.Valid.{IsValid};
 ghost use Rattle.canonical.specs.Numbers.{numbers};
-ghost use Rattle.canonical.specs.Pools.{texts_of, used, pools_of};
+ghost use Rattle.canonical.specs.Pools.{texts_of, used};
 ghost use Rattle.root_writer.specs.Flat.{cells_of, tables_in};
-ghost use Rattle.root_writer.specs.Numbered.{flat, Numbered, CanBeNumbered, IsNumbering, IsOver, IsTooLong, with_row, with_rows, with_tables, none_numbered};
+ghost use Rattle.root_writer.specs.Numbered.{flat, CanBeNumbered};
 
 /// The numbers of a model as one list are what `Writer` needs for tables with these row counts: it finds them again by
 /// table, row and column, and their number is right.
@@ -34,28 +31,3 @@ pub fn cells_can_be_numbered()
 {
     table_schema::laws::tables_stand();
 }
-
-/// The numbering of all tables of a valid model is the numbering of the model, if the text indexes are given in order
-/// of use.
-pub fn numberings_are_of_models()
-    ensures whole { (model : Metadata) (indexes : List ℕ) → IsValid model
-        → indexes ≡ map (text_index (pools_of model).texts) (used texts_of model)
-        → IsNumbering model (with_tables indexes model tables none_numbered) }
-    ensures over { (model : Metadata) (indexes : List ℕ) → IsValid model
-        → indexes ≡ map (text_index (pools_of model).texts) (used texts_of model)
-        → IsOver (with_tables indexes model tables none_numbered) → IsTooLong model }
-{
-    table_schema::laws::tables_stand();
-    heap_pools::laws::pooled_are_distinct();
-    heap_pools::laws::indexes_stay();
-}
-
-/// A heap that exceeds 2^30 bytes still does after more cells are numbered.
-pub fn heaps_stay_too_long()
-    ensures row { (indexes : List ℕ) (columns : List Column) (cells : List Cell) (so_far : Numbered) → IsOver so_far
-        → IsOver (with_row indexes columns cells so_far) }
-    ensures rows { (indexes : List ℕ) (columns : List Column) (rows : List (List Cell)) (so_far : Numbered) → IsOver so_far
-        → IsOver (with_rows indexes columns rows so_far) }
-    ensures tables { (indexes : List ℕ) (model : Metadata) (listed : List Table) (so_far : Numbered) → IsOver so_far
-        → IsOver (with_tables indexes model listed so_far) }
-{}

@@ -1,52 +1,96 @@
-use Rattle.std.proofs.Common.{◌≡◌, Err, sym, ap, ◌∙◌, rules, arith}
-use Rattle.heap_pools.specs.declared.pool_error.PoolError.TheVariants.{Full}
+use Rattle.std.proofs.Common.{sym, ap, subst, ◌∙◌, arith}
+use Rattle.std.proofs.lemmas.Grind.{not_there}
+use Rattle.std.proofs.lemmas.Result.{on_ok_weaker}
 use Rattle.table_schema.specs.declared.column.ColumnKind.{ColumnKind}
 use Rattle.metadata.specs.Metadata.{cell_in}
 use Rattle.metadata.specs.Lookups.{HasRow}
-use Rattle.metadata.specs.Valid.{kind_at, nullable_at}
+use Rattle.metadata.specs.Valid.{kind_at}
+use Rattle.reading.specs.Shown.{Shows}
 use Rattle.canonical.specs.Numbers.{cell_number}
-use Rattle.root_writer.specs.Numbered.{Numbered, pools_in, with_number, with_values}
-use Rattle.cell_numbering.proofs.KindLemmas.{next_other, next_text, no_texts, over_other}
+use Rattle.cell_numbering.specs.NumbersSoFar.{no_pools, with_number}
+use Rattle.cell_numbering.proofs.KindLemmas.{IsPlainKind, next_text, next_guid, next_blob, next_signature, next_plain, plain_cell}
 use Rattle.cell_numbering.proofs.numbers.put_cell.Goals as goal
 
-pub returns-in_ok-put_text-in-Text-clause-ok : goal.returns-in_ok-put_text-in-Text-clause-ok
-returns-in_ok-put_text-in-Text-clause-ok g c = λ model is.
+pub returns-in-Text : goal.returns-in-Text
+returns-in-Text g c = λ model is.
     let table = c.args.table in
-    let row = c.args.row in
     let cell_index = c.args.cell_index in
+    let cell = cell_in model table c.args.row cell_index in
     let rows = c.holds_one.ensures.rows model is table in
-    let there : HasRow model table row = (c.requires.first, omega (arith, rows, c.requires.last)) in
-    let good = (c.holds_one.ensures.valid model is).cells table row cell_index there c.requires.cell_index in
-    c.in_ok-put_text-in-Text.ensures
-    ∙ sym (next_text c.args.indexes.now (kind_at table cell_index) (cell_in model table row cell_index) c.args.gathering.now
-    (sym c.kind_of-kind.ensures ∙ c.in-Text.is) good.of_kind)
+    let there : HasRow model table c.args.row = (c.requires.first, omega (arith, rows, c.requires.last)) in
+    let good = (c.holds_one.ensures.valid model is).cells table c.args.row cell_index there c.requires.cell_index in
+    on_ok_weaker c.put_text.result (λ e. e ∙ sym (next_text c.args.indexes (kind_at table cell_index) cell c.args.so_far.now good.of_kind (sym c.kind_of-kind.ensures ∙ c.in-Text.is))) c.put_text.ensures
 
-pub returns-in_err-number-in_default-clause-full : goal.returns-in_err-number-in_default-clause-full
-returns-in_err-number-in_default-clause-full g c = λ model is e.
+pub returns-in-Guid : goal.returns-in-Guid
+returns-in-Guid g c = λ model is.
     let table = c.args.table in
-    let row = c.args.row in
     let cell_index = c.args.cell_index in
-    let cell = cell_in model table row cell_index in
+    let cell = cell_in model table c.args.row cell_index in
     let rows = c.holds_one.ensures.rows model is table in
-    let there : HasRow model table row = (c.requires.first, omega (arith, rows, c.requires.last)) in
-    let good = (c.holds_one.ensures.valid model is).cells table row cell_index there c.requires.cell_index in
-    let none = no_texts model (kind_at table cell_index) (nullable_at table cell_index) cell (λ e. c.in_default.not-Text (c.kind_of-kind.ensures ∙ e)) good in
-    let full : c.number_of.result ≡ Err Full = search rules in
-    over_other c.args.indexes.now (kind_at table cell_index) cell c.args.gathering.now none (c.number_of.ensures.full model is full)
+    let there : HasRow model table c.args.row = (c.requires.first, omega (arith, rows, c.requires.last)) in
+    let good = (c.holds_one.ensures.valid model is).cells table c.args.row cell_index there c.requires.cell_index in
+    on_ok_weaker c.put_guid.result (λ e. e ∙ sym (next_guid c.args.indexes (kind_at table cell_index) cell c.args.so_far.now good.of_kind (sym c.kind_of-kind.ensures ∙ c.in-Guid.is))) c.put_guid.ensures
 
-pub returns-in_ok-put_number-in_default-clause-ok : goal.returns-in_ok-put_number-in_default-clause-ok
-returns-in_ok-put_number-in_default-clause-ok g c = λ model is.
+pub returns-in-Blob : goal.returns-in-Blob
+returns-in-Blob g c = λ model is.
+    let table = c.args.table in
+    let cell_index = c.args.cell_index in
+    let cell = cell_in model table c.args.row cell_index in
+    let rows = c.holds_one.ensures.rows model is table in
+    let there : HasRow model table c.args.row = (c.requires.first, omega (arith, rows, c.requires.last)) in
+    let good = (c.holds_one.ensures.valid model is).cells table c.args.row cell_index there c.requires.cell_index in
+    on_ok_weaker c.put_blob.result (λ e. e ∙ sym (next_blob c.args.indexes (kind_at table cell_index) cell c.args.so_far.now good.of_kind (sym c.kind_of-kind.ensures ∙ c.in-Blob.is))) c.put_blob.ensures
+
+pub returns-in-Signature : goal.returns-in-Signature
+returns-in-Signature g c = λ model is.
+    let table = c.args.table in
+    let cell_index = c.args.cell_index in
+    let cell = cell_in model table c.args.row cell_index in
+    let rows = c.holds_one.ensures.rows model is table in
+    let there : HasRow model table c.args.row = (c.requires.first, omega (arith, rows, c.requires.last)) in
+    let good = (c.holds_one.ensures.valid model is).cells table c.args.row cell_index there c.requires.cell_index in
+    on_ok_weaker c.put_blob-in-Signature.result (λ e. e ∙ sym (next_signature c.args.indexes (kind_at table cell_index) cell c.args.so_far.now good.of_kind c.in-Signature.field-0 (sym c.kind_of-kind.ensures ∙ c.in-Signature.is))) c.put_blob-in-Signature.ensures
+
+pub plain_number-requires : goal.plain_number-requires
+plain_number-requires g c = λ none. not_there c.holds_one.ensures.shown (λ some.
     let table = c.args.table in
     let row = c.args.row in
     let cell_index = c.args.cell_index in
-    let cell = cell_in model table row cell_index in
-    let so_far : Numbered = with_values c.args.gathering.now cell in
+    let cell = cell_in some.0 table row cell_index in
+    let rows = c.holds_one.ensures.rows some.0 some.1 table in
+    let there : HasRow some.0 table row = (c.requires.first, omega (arith, rows, c.requires.last)) in
+    let valid = c.holds_one.ensures.valid some.0 some.1 in
+    let good = valid.cells table row cell_index there c.requires.cell_index in
+    let kind = c.kind_of-kind.ensures in
+    let plain : IsPlainKind (kind_at table cell_index) = record {
+      text = λ e. c.in_default.not-Text (kind ∙ e);
+      guid = λ e. c.in_default.not-Guid (kind ∙ e);
+      blob = λ e. c.in_default.not-Blob (kind ∙ e);
+      signature = λ column e. c.in_default.not-Signature column (kind ∙ e);
+    } in
+    let P : ColumnKind → Type 0 = λ k. Shows k c.cell.result cell in
+    none (
+      cell,
+      subst P (sym kind) (c.cell.ensures some.0 some.1),
+      c.cells_can_be_numbered.ensures.cell some.0 valid table row cell_index there c.requires.cell_index,
+      plain_cell (kind_at table cell_index) cell plain good.of_kind,
+    ))
+
+pub returns-in_default : goal.returns-in_default
+returns-in_default g c = λ model is.
+    let table = c.args.table in
+    let cell_index = c.args.cell_index in
+    let cell = cell_in model table c.args.row cell_index in
     let rows = c.holds_one.ensures.rows model is table in
-    let there : HasRow model table row = (c.requires.first, omega (arith, rows, c.requires.last)) in
-    let good = (c.holds_one.ensures.valid model is).cells table row cell_index there c.requires.cell_index in
-    let none = no_texts model (kind_at table cell_index) (nullable_at table cell_index) cell (λ e. c.in_default.not-Text (c.kind_of-kind.ensures ∙ e)) good in
-    let number = c.in_ok-number-in_default.ensures.number model is ∙ ap (λ (k : ColumnKind). cell_number (pools_in so_far) k cell) c.kind_of-kind.ensures in
-    c.in_ok-put_number-in_default.ensures
-    ∙ ap (λ (n : Numbered). with_number n c.in_ok-number-in_default.number) (c.in_ok-number-in_default.ensures.pools model is)
-    ∙ ap (with_number so_far) number
-    ∙ sym (next_other c.args.indexes.now (kind_at table cell_index) cell c.args.gathering.now none)
+    let there : HasRow model table c.args.row = (c.requires.first, omega (arith, rows, c.requires.last)) in
+    let good = (c.holds_one.ensures.valid model is).cells table c.args.row cell_index there c.requires.cell_index in
+    let kind = c.kind_of-kind.ensures in
+    let plain : IsPlainKind (kind_at table cell_index) = record {
+      text = λ e. c.in_default.not-Text (kind ∙ e);
+      guid = λ e. c.in_default.not-Guid (kind ∙ e);
+      blob = λ e. c.in_default.not-Blob (kind ∙ e);
+      signature = λ column e. c.in_default.not-Signature column (kind ∙ e);
+    } in
+    let P : ColumnKind → Type 0 = λ k. Shows k c.cell.result cell in
+    let number = c.plain_number.ensures cell (subst P (sym kind) (c.cell.ensures model is)) ∙ ap (λ (k : ColumnKind). cell_number no_pools k cell) kind in
+    on_ok_weaker c.put_number.result (λ e. e ∙ ap (with_number c.args.so_far.now) number ∙ sym (next_plain c.args.indexes (kind_at table cell_index) cell c.args.so_far.now (plain_cell (kind_at table cell_index) cell plain good.of_kind))) c.put_number.ensures

@@ -1,5 +1,4 @@
-use Rattle.std.proofs.Common.{◌≡◌, ℕ, ◌+◌, ◌<◌, false, List, Err, get_or, drop, sym, ap, subst, ◌∙◌, rules, arith}
-use Rattle.heap_pools.specs.declared.pool_error.PoolError.TheVariants.{Full}
+use Rattle.std.proofs.Common.{◌≡◌, ℕ, ◌+◌, ◌<◌, false, List, get_or, drop, sym, ap, ◌∙◌, arith}
 use Rattle.table_schema.specs.declared.column.Column.{Column}
 use Rattle.table_schema.specs.declared.column.ColumnKind.TheVariants as kind
 use Rattle.table_schema.specs.declared.table.TableId.{TableId}
@@ -7,7 +6,6 @@ use Rattle.table_schema.specs.Columns.{column_at, columns_of, col}
 use Rattle.table_schema.specs.CellColumns.{is_padding, cell_count}
 use Rattle.metadata.specs.Metadata.{row_of}
 use Rattle.metadata.specs.Lookups.{HasRow}
-use Rattle.root_writer.specs.Numbered.{IsOver}
 use Rattle.cell_numbering.proofs.CellIndexLemmas.{unpadded, cell_index_is, next_cell, few_cells}
 use Rattle.cell_numbering.proofs.numbers.put_next.Goals as goal
 
@@ -27,17 +25,6 @@ overflow_add-result g c =
     let within : c.args.cell_index < cell_count c.args.table = (cell_index_is c.args.table c.args.index c.args.cell_index c.requires.column c.requires.cell_index (no_padding c.args.table c.args.index c.columns.result.now c.columns.ensures c.in_default.not-Padding)).0 in
     omega (arith, within, few_cells c.args.table, c.columns_stand.ensures.few c.args.table)
 
-pub returns-in_err-put_cell-in_default-clause-full : goal.returns-in_err-put_cell-in_default-clause-full
-returns-in_err-put_cell-in_default-clause-full g c = λ model is tail over e.
-    let table = c.args.table in
-    let row = row_of model table c.args.row in
-    let rows = c.holds_one.ensures.rows model is table in
-    let there : HasRow model table c.args.row = (c.requires.first, omega (arith, rows, c.requires.last)) in
-    let long = (c.holds_one.ensures.valid model is).long table c.args.row there in
-    let full : c.put_cell.result ≡ Err Full = search rules in
-    subst IsOver (sym (next_cell table c.args.index c.args.cell_index c.requires.column c.requires.cell_index (no_padding c.args.table c.args.index c.columns.result.now c.columns.ensures c.in_default.not-Padding) c.args.indexes.now tail row c.args.gathering.now long))
-    (over (drop (c.args.cell_index + 1) row) _ (c.put_cell.ensures.full model is full))
-
 pub returns-in_ok-put_cell-in_default-clause-ok : goal.returns-in_ok-put_cell-in_default-clause-ok
 returns-in_ok-put_cell-in_default-clause-ok g c = λ model is tail.
     let table = c.args.table in
@@ -45,8 +32,8 @@ returns-in_ok-put_cell-in_default-clause-ok g c = λ model is tail.
     let rows = c.holds_one.ensures.rows model is table in
     let there : HasRow model table c.args.row = (c.requires.first, omega (arith, rows, c.requires.last)) in
     let long = (c.holds_one.ensures.valid model is).long table c.args.row there in
-    next_cell table c.args.index c.args.cell_index c.requires.column c.requires.cell_index (no_padding c.args.table c.args.index c.columns.result.now c.columns.ensures c.in_default.not-Padding) c.args.indexes.now tail row c.args.gathering.now long
-    ∙ ap (tail (drop (c.args.cell_index + 1) row)) (sym (c.in_ok-put_cell-in_default.ensures.ok model is))
+    next_cell table c.args.index c.args.cell_index c.requires.column c.requires.cell_index (no_padding c.args.table c.args.index c.columns.result.now c.columns.ensures c.in_default.not-Padding) c.args.indexes tail row c.args.so_far.now long
+    ∙ ap (tail (drop (c.args.cell_index + 1) row)) (sym (c.in_ok-put_cell-in_default.ensures model is))
 
 pub returns-in_ok-put_cell-in_default-clause-cell_index : goal.returns-in_ok-put_cell-in_default-clause-cell_index
 returns-in_ok-put_cell-in_default-clause-cell_index g c =

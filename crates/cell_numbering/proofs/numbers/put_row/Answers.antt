@@ -1,7 +1,6 @@
-use Rattle.std.proofs.Common.{◌≡◌, ◌+◌, ◌<◌, ◌≤◌, Err, length, drop, refl, sym, ap, subst, ◌∙◌, rules, arith}
-use Rattle.heap_pools.specs.declared.pool_error.PoolError.TheVariants.{Full}
+use Rattle.std.proofs.Common.{◌+◌, ◌<◌, ◌≤◌, length, drop, refl, sym, ap, ◌∙◌, arith}
 use Rattle.table_schema.specs.Columns.{columns_of}
-use Rattle.root_writer.specs.Numbered.{IsOver, with_row}
+use Rattle.cell_numbering.specs.NumbersSoFar.{with_row}
 use Rattle.cell_numbering.proofs.CellIndexLemmas.{first_cell_index, row_left, row_done}
 use Rattle.cell_numbering.proofs.numbers.put_row.Goals as goal
 
@@ -10,30 +9,20 @@ loop-index-init g c = record { whole = λ model is. refl; at = first_cell_index 
 
 pub loop-index-preserved : goal.loop-index-preserved
 loop-index-preserved g c =
-    let indexes = c.args.indexes.now in
+    let indexes = c.args.indexes in
     let columns = columns_of c.args.table in
     let i = c.loop-index.index in
     let below : i < length columns = omega (arith, ap length c.columns-index-end.ensures) in
     record {
       whole = λ model is.
           sym (c.in_ok-cell_index.ensures.ok model is (with_row indexes (drop (i + 1) columns)))
-          ∙ row_left indexes columns i _ c.loop-index.gathering _ below (c.loop-index.invariant.whole model is);
+          ∙ row_left indexes columns i _ c.loop-index.so_far _ below (c.loop-index.invariant.whole model is);
       at = c.in_ok-cell_index.ensures.cell_index;
     }
 
-pub returns-in_err-cell_index-clause-full : goal.returns-in_err-cell_index-clause-full
-returns-in_err-cell_index-clause-full g c = λ model is e.
-    let indexes = c.args.indexes.now in
-    let columns = columns_of c.args.table in
-    let i = c.loop-index.index in
-    let below : i < length columns = omega (arith, ap length c.columns-index-end.ensures) in
-    let full : c.put_next.result ≡ Err Full = search rules in
-    subst IsOver (row_left indexes columns i _ c.loop-index.gathering _ below (c.loop-index.invariant.whole model is))
-    (c.put_next.ensures.full model is (with_row indexes (drop (i + 1) columns)) (c.heaps_stay_too_long.ensures.row indexes (drop (i + 1) columns)) full)
-
-pub returns-clause-ok : goal.returns-clause-ok
-returns-clause-ok g c = λ model is.
-    let indexes = c.args.indexes.now in
+pub returns : goal.returns
+returns g c = λ model is.
+    let indexes = c.args.indexes in
     let columns = columns_of c.args.table in
     let past : length columns ≤ c.loop-index.index = omega (arith, ap length c.columns-index-end.ensures) in
-    row_done indexes columns c.loop-index.index _ c.loop-index.gathering _ past (c.loop-index.invariant.whole model is)
+    row_done indexes columns c.loop-index.index _ c.loop-index.so_far _ past (c.loop-index.invariant.whole model is)

@@ -1,7 +1,7 @@
 use Rattle.std.proofs.Common.{◌≡◌, drop}
 use Rattle.table_schema.specs.Columns.{columns_of}
 use Rattle.metadata.specs.Metadata.{Metadata, row_of}
-use Rattle.root_writer.specs.Numbered.{with_row}
+use Rattle.cell_numbering.specs.NumbersSoFar.{with_row}
 use Rattle.cell_numbering.specs.CellIndexes.{IsCellIndexOf}
 use Rattle.cell_numbering.proofs.numbers.put_row.Given as goal
 
@@ -9,7 +9,7 @@ use Rattle.cell_numbering.proofs.numbers.put_row.Given as goal
 abbrev pub invariant-loop-index : goal.invariant-loop-index
 invariant-loop-index g l = record {
   whole : (model : Metadata) → g.S.ReadMetadata.shows l.source model
-      → with_row l.indexes (drop l.index (columns_of l.table)) (drop l.cell_index (row_of model l.table l.row)) l.gathering
-      ≡ with_row l.indexes (columns_of l.table) (row_of model l.table l.row) l.fn.gathering;
+      → with_row l.indexes (drop l.index (columns_of l.table)) (drop l.cell_index (row_of model l.table l.row)) l.so_far
+      ≡ with_row l.indexes (columns_of l.table) (row_of model l.table l.row) l.fn.so_far;
   at : IsCellIndexOf l.table l.index l.cell_index;
 }

@@ -1,12 +1,12 @@
 use Rattle.std.proofs.Common.{◌≡◌, drop}
 use Rattle.table_schema.specs.Columns.{columns_of}
 use Rattle.metadata.specs.Metadata.{Metadata, rows_of}
-use Rattle.root_writer.specs.Numbered.{with_rows}
+use Rattle.cell_numbering.specs.NumbersSoFar.{with_rows}
 use Rattle.cell_numbering.proofs.numbers.put_rows.Given as goal
 
 -- together with the rows that are left these are all rows
 abbrev pub invariant-loop-row : goal.invariant-loop-row
 invariant-loop-row g l =
     (model : Metadata) → g.S.ReadMetadata.shows l.source model
-    → with_rows l.indexes (columns_of l.table) (drop l.row (rows_of model l.table)) l.gathering
-    ≡ with_rows l.indexes (columns_of l.table) (rows_of model l.table) l.fn.gathering
+    → with_rows l.indexes (columns_of l.table) (drop l.row (rows_of model l.table)) l.so_far
+    ≡ with_rows l.indexes (columns_of l.table) (rows_of model l.table) l.fn.so_far

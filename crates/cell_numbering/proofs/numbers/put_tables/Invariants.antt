@@ -1,11 +1,11 @@
 use Rattle.std.proofs.Common.{◌≡◌, drop}
 use Rattle.table_schema.specs.Tables.{tables}
 use Rattle.metadata.specs.Metadata.{Metadata}
-use Rattle.root_writer.specs.Numbered.{with_tables}
+use Rattle.cell_numbering.specs.NumbersSoFar.{with_tables}
 use Rattle.cell_numbering.proofs.numbers.put_tables.Given as goal
 
 -- together with the tables that are left these are all tables
 abbrev pub invariant-loop-table : goal.invariant-loop-table
 invariant-loop-table g l =
     (model : Metadata) → g.S.ReadMetadata.shows l.source model
-    → with_tables l.indexes model (drop l.table-index tables) l.gathering ≡ with_tables l.indexes model tables l.fn.gathering
+    → with_tables l.indexes model (drop l.table-index tables) l.so_far ≡ with_tables l.indexes model tables l.fn.so_far

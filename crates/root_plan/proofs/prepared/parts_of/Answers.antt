@@ -3,8 +3,6 @@ use Rattle.std.proofs.Math.Logic.{∥∥₁_elim}
 use Rattle.std.specs.Coded.{le_prop}
 use native.Mathlib.Nat.{ℕ_set}
 use Rattle.heap_pools.specs.TextHeap.{text_heap}
-use Rattle.heap_pools.specs.BlobHeap.{blob_heap}
-use Rattle.heap_pools.specs.GuidHeap.{guid_heap}
 use Rattle.root_plan.specs.Planned.{planned_tables}
 use Rattle.root_plan.proofs.PlannedRoots.{short, low}
 use Rattle.root_plan.proofs.prepared.parts_of.Goals as goal
@@ -26,6 +24,6 @@ returns-clause-parts c model plan = record {
   tables = ap (planned_tables c.args.plan.now.tables) c.numbers.ensures ∙ plan.table_stream;
   strings = c.bytes.ensures.heap ∙ ap text_heap plan.texts;
   user_strings = plan.user;
-  guids = c.guids.ensures.heap ∙ ap guid_heap plan.numbering.guids;
-  blobs = c.blobs.ensures.heap ∙ ap blob_heap plan.numbering.blobs;
+  guids = c.guids.ensures.heap ∙ plan.numbering.guids;
+  blobs = c.blobs.ensures.heap ∙ plan.numbering.blobs;
 }

@@ -1,5 +1,0 @@
-use Rattle.std.proofs.Common.{Err, ap}
-use Rattle.cell_numbering.proofs.shortest.shortest.Goals as goal
-
-pub unreachable-requires : goal.unreachable-requires
-unreachable-requires c = c.requires (c.in-Err-Bad.ensures.bad.0 (ap Err c.in-Err-Bad.field-0-is))

@@ -1,0 +1,46 @@
+-- Two cells whose blobs are at one index of the blob heap are equal.
+use Rattle.std.proofs.Common.{◌≡◌, ℕ, Bool, Option, Some, sym, subst, ◌∙◌, rules}
+use Rattle.table_schema.specs.declared.table.TableId.{TableId}
+use Rattle.table_schema.specs.declared.column.ColumnKind.{ColumnKind}
+use Rattle.table_schema.specs.declared.column.ColumnKind.TheVariants as kind
+use Rattle.table_schema.specs.CellColumns.{column_of}
+use Rattle.metadata.specs.Cell.{Cell}
+use Rattle.metadata.specs.Rows.{IsCell}
+use Rattle.metadata.specs.Source.{Source, number_of}
+use Rattle.metadata.specs.Stands.{StandsFor}
+use Rattle.metadata.specs.Starts.{start_of}
+use Rattle.metadata.specs.Valid.{nullable_at}
+use Rattle.metadata_source.specs.SharedBlobs.{CellId, IsBlobKind, ShareBlob, kind_by_id}
+
+-- what a number in a column of blobs or signatures represents does not depend on anything but the kind
+stands_alike : (source : Source) (column : ColumnKind) (nullable other : Bool) (start more : TableId → ℕ) (number : ℕ) (cell : Cell) → IsBlobKind column
+    → StandsFor source column nullable start number cell → StandsFor source column other more number cell
+stands_alike source kind.U8 nullable other start more number cell blobs stands = absurd blobs
+stands_alike source kind.U16 nullable other start more number cell blobs stands = absurd blobs
+stands_alike source kind.U32 nullable other start more number cell blobs stands = absurd blobs
+stands_alike source kind.Padding nullable other start more number cell blobs stands = absurd blobs
+stands_alike source kind.Text nullable other start more number cell blobs stands = absurd blobs
+stands_alike source kind.Guid nullable other start more number cell blobs stands = absurd blobs
+stands_alike source kind.Blob nullable other start more number cell blobs stands = stands
+stands_alike source (kind.Signature signature) nullable other start more number cell blobs stands = stands
+stands_alike source (kind.Row table) nullable other start more number cell blobs stands = absurd blobs
+stands_alike source (kind.Coded coded) nullable other start more number cell blobs stands = absurd blobs
+stands_alike source (kind.List member) nullable other start more number cell blobs stands = absurd blobs
+
+abbrev pub number_by_id : Source → CellId → ℕ
+number_by_id source id = number_of source id.table id.row (column_of id.table id.cell_index)
+
+same_some : (a b index : ℕ) → Some a ≡ Some index → Some b ≡ Some index → a ≡ b
+same_some a b index first second = cc
+
+-- a cell that the second number represents is represented by the first one, too
+pub represented : (source : Source) (first second : CellId) → ShareBlob (λ id. Some (number_by_id source id)) first second → (cell : Cell)
+    → IsCell source second.table second.row second.cell_index cell → IsCell source first.table first.row first.cell_index cell
+represented source first second share cell is =
+    let number = same_some (number_by_id source first) (number_by_id source second) share.index share.first_index share.second_index in
+    let start = start_of source second.table second.row (column_of second.table second.cell_index) in
+    let nullable = nullable_at second.table second.cell_index in
+    let P : ColumnKind → Type 0 = λ k. StandsFor source k nullable start (number_by_id source second) cell in
+    let Q : ℕ → Type 0 = λ n. StandsFor source (kind_by_id first) nullable start n cell in
+    stands_alike source (kind_by_id first) nullable (nullable_at first.table first.cell_index) start (start_of source first.table first.row (column_of first.table first.cell_index))
+    (number_by_id source first) cell share.blobs (subst Q (sym number) (subst P (sym share.kind) is))
