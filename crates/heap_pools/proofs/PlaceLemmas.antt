@@ -1,8 +1,8 @@
 -- Places in a strings heap: the texts at them, and the first use index of each start.
-use Rattle.std.proofs.Common.{◌≡◌, ◌≢◌, ℕ, ◌+◌, ◌<◌, ◌≤◌, List, [], ◌∷◌, ◌++◌, All, length, get_or, set, slice_index, refl, sym, ap, subst, ◌∙◌, ⊎_elim, arith}
+use Rattle.std.proofs.Common.{◌≡◌, ◌≢◌, ℕ, ◌+◌, ◌<◌, ◌≤◌, List, [], ◌∷◌, ◌++◌, All, length, get_or, set, slice_index, sym, ap, subst, ◌∙◌, ⊎_elim, arith}
 use Rattle.std.specs.Borrow.{Bor}
 use Rattle.std.specs.List.Sorted.{IsPermutation}
-use Rattle.std.proofs.lemmas.Bool.{cases_eq, cases_lt}
+use Rattle.std.proofs.lemmas.Bool.{cases_eq}
 use Rattle.std.proofs.lemmas.List.{length-map, length-set, ext_get_or, get_or-map, get_or_push, get_or_append_left, get_or_default, get_or-set_same, get_or-set_other}
 use Rattle.std.proofs.lemmas.List.Elements.{All-from_get_or, Contains-get_or}
 use Rattle.std.proofs.lemmas.List.Sorted.{All-permutation, Contains-permutation}
@@ -14,7 +14,7 @@ use Rattle.heap_pools.specs.Ranking.{TextUse, text_at, used_at, HasText, IsSourc
 use Rattle.heap_pools.specs.Uses.{bytes_of}
 use Rattle.heap_pools.proofs.FirstLemmas.{last_cases}
 use Rattle.heap_pools.proofs.HeapTextLemmas.{heap_text_plain}
-use Rattle.heap_pools.proofs.UseLemmas.{used_read, length-bytes, no_text}
+use Rattle.heap_pools.proofs.UseLemmas.{used_read, no_text}
 
 abbrev pub no_place : Place
 no_place = record { start = 0; use_index = 0 }

@@ -36,6 +36,7 @@ fn calls_of(run: &Run, section: u32) -> Result<(), Stop> {
         10 => pools::first_byte(run),
         11 => pools::planned_blobs(run),
         12 => pools::planned_guids(run),
+        13 => pools::texts_at_starts(run),
         _ => Err(Stop::Broken("there is such a section")),
     }
 }

@@ -46,6 +46,24 @@ pub fn texts(run: &Run) -> Result<(), Stop> {
     )
 }
 
+/// That the heap of texts at starts in a heap is that, planned again where memory was refused.
+pub fn texts_at_starts(run: &Run) -> Result<(), Stop> {
+    let starts = [3, 1, 6, 7, 0, 3];
+    let pool = match TextPool::plan_in(run.alloc, &TEXTS, &starts) {
+        Ok(pool) => pool,
+        Err(PoolError::Memory) => run.again(TextPool::plan_in(run.alloc, &TEXTS, &starts))?,
+        Err(PoolError::Full) => return Err(Stop::Broken("a small heap is not full")),
+    };
+    kept(
+        pool.indexes() == [3, 1, 6, 2, 0, 3].as_slice(),
+        "the indexes of texts at starts are those",
+    )?;
+    kept(
+        pool.bytes() == TEXTS.as_slice(),
+        "the heap of texts at starts is that",
+    )
+}
+
 /// Adds a blob, again where memory was refused.
 fn add_blob(run: &Run, pool: &mut BlobPool, blob: &[u8]) -> Result<u32, Stop> {
     let len = pool.bytes().len();

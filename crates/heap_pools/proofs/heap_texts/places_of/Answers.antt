@@ -1,4 +1,4 @@
-use Rattle.std.proofs.Common.{◌≡◌, ℕ, ◌<◌, length, slice_index, refl, sym, subst, arith}
+use Rattle.std.proofs.Common.{◌≡◌, length, slice_index, refl, sym, subst, arith}
 use Rattle.heap_pools.specs.Places.{place_at}
 use Rattle.heap_pools.proofs.PlaceLemmas.{IsPlace, place_more, places_sorted}
 use Rattle.heap_pools.proofs.heap_texts.places_of.Goals as goal

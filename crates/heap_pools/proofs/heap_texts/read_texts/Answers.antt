@@ -1,4 +1,4 @@
-use Rattle.std.proofs.Common.{◌≡◌, ◌-◌, ◌<◌, ◌≤◌, length, drop, refl, sym, ap, ◌∙◌, arith}
+use Rattle.std.proofs.Common.{◌≡◌, ◌-◌, ◌≤◌, length, drop, refl, sym, ap, ◌∙◌, arith}
 use Rattle.heap_pools.specs.HeapTexts.{heap_text}
 use Rattle.heap_pools.specs.Places.{place_at}
 use Rattle.heap_pools.specs.Uses.{bytes_of}

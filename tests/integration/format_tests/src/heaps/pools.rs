@@ -69,6 +69,65 @@ fn lays_out_sorted_texts(rt: HostRuntime) -> Result<(), Fail> {
 }
 
 #[test]
+fn plans_texts_at_starts(rt: HostRuntime) -> Result<(), Fail> {
+    let heap = b"\0Name\0Game\0";
+    let pool = TextPool::plan_in(rt.alloc(), heap, &[3, 1, 6, 7, 0, 3, 5, 2])?;
+    assert!(rt; pool.indexes() == [3, 1, 6, 2, 0, 3, 0, 2].as_slice());
+    assert!(rt; pool.bytes() == heap.as_slice());
+    let pool = TextPool::plan_in(rt.alloc(), heap, &[8, 8])?;
+    assert!(rt; pool.indexes() == [1, 1].as_slice());
+    assert!(rt; pool.bytes() == b"\0me\0".as_slice());
+    let pool = TextPool::plan_in(rt.alloc(), b"\0ab\0cab\0ab\0", &[1, 4, 8, 9])?;
+    assert!(rt; pool.indexes() == [2, 1, 2, 3].as_slice());
+    assert!(rt; pool.bytes() == b"\0cab\0".as_slice());
+    let pool = TextPool::plan_in(rt.alloc(), &[], &[0, 0])?;
+    assert!(rt; pool.indexes() == [0, 0].as_slice());
+    assert!(rt; pool.bytes().is_empty());
+    Ok(())
+}
+
+/// The next of a sequence of numbers below a limit, from the high bits of a linear congruential generator.
+fn next_below(state: &mut u64, limit: usize) -> usize {
+    *state = state
+        .wrapping_mul(6_364_136_223_846_793_005)
+        .wrapping_add(1_442_695_040_888_963_407);
+    (*state >> 33) as usize % limit
+}
+
+/// A strings heap of letters `a` and `b` and of NULs, which begins and ends with a NUL.
+fn heap_of_letters(alloc: Global, state: &mut u64) -> Result<Vec<u8>, Fail> {
+    let mut heap = vec![in alloc; 0u8]?;
+    for _ in 0..next_below(state, 40) {
+        heap.push([0, b'a', b'a', b'b'][next_below(state, 4)])?;
+    }
+    heap.push(0)?;
+    Ok(heap)
+}
+
+#[test]
+fn plans_texts_at_starts_as_the_same_texts(rt: HostRuntime) -> Result<(), Fail> {
+    let mut state = 1;
+    for _ in 0..400 {
+        let heap = heap_of_letters(rt.alloc(), &mut state)?;
+        let mut starts = Vec::new(rt.alloc());
+        let mut texts = Vec::new(rt.alloc());
+        for _ in 0..next_below(&mut state, 12) {
+            let start = next_below(&mut state, heap.len()) as u32;
+            starts.push(start)?;
+            let Ok(text) = heaps::text(&heap, start) else {
+                return Err(Fail::from("each start has a text"));
+            };
+            texts.push(text)?;
+        }
+        let pool = TextPool::plan_in(rt.alloc(), &heap, &starts)?;
+        let same = TextPool::plan(rt.alloc(), &texts)?;
+        assert!(rt; pool.bytes() == same.bytes(), "{heap:?} {starts:?}");
+        assert!(rt; pool.indexes() == same.indexes(), "{heap:?} {starts:?}");
+    }
+    Ok(())
+}
+
+#[test]
 fn lays_out_sorted_blobs(rt: HostRuntime) -> Result<(), Fail> {
     let long = [0; 128];
     let blobs = [
