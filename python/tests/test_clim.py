@@ -10,7 +10,9 @@ import mmap
 import os
 import pathlib
 import pickle
+import re
 import struct
+import subprocess
 import sys
 import tempfile
 import threading
@@ -23,6 +25,7 @@ from clim import _library, rows
 
 TOP = pathlib.Path(__file__).resolve().parents[2]
 SAMPLES = TOP / "samples"
+PROGRAM = TOP / "crates/clim/out/clim"
 FILES = [(SAMPLES / name, name.endswith(".root")) for name in ("one_module.dll", "greeter.root", "two_types.root")]
 # The types of the cells in a column.
 VALUES = {
@@ -438,6 +441,11 @@ class Features(unittest.TestCase):
         fault = clim.check(b"")
         if not self.lacks("clim_explain", lambda: fault.explanation):
             self.assertTrue(fault.explanation.startswith("102 DosHeader: "), fault.explanation)
+            # The program breaks lines, and says the same.
+            listed = subprocess.run([PROGRAM, "explain"], stdout=subprocess.PIPE, check=True, text=True).stdout
+            for code in map(int, re.findall(r"^(\d+)", listed, re.M)):
+                explained = subprocess.run([PROGRAM, "explain", str(code)], stdout=subprocess.PIPE, check=True, text=True)
+                self.assertEqual(clim.Fault(0, code, 0, "").explanation.split(), explained.stdout.split())
 
     def test_text_of_a_signature(self):
         with clim.open(SAMPLES / "greeter.root", bare=True) as assembly:
