@@ -10,7 +10,7 @@ ghost use Rattle.metadata.specs.SourceAt.{source_of};
 ghost use Rattle.metadata_source.specs.MemberLists.{owner_of, cell_of, member_of};
 ghost use Rattle.reading.specs.Cursors.{AreCursors};
 ghost use Rattle.reading.specs.Shown.{ShowsCell, ShowsBlob};
-ghost use Rattle.opening.specs.Views.{row_count};
+ghost use Rattle.opening.specs.Views.{row_count, HasModel};
 
 use crate::view::View;
 use metadata_source::MemberList;
@@ -53,10 +53,13 @@ impl<'v, 'a> CellCursor<'v, 'a> {
         }
     }
 
-    /// The view.
+    /// The view, whose root has a model.
     pub fn view(&self) -> &'v View<'a>
-        ensures { result.now ≡ self.now }
+        ensures view { result.now ≡ self.now }
+        ensures model { HasModel self.now }
     {
+        // The root of a view has a model.
+        let _root = self.view.root();
         self.view
     }
 
