@@ -100,8 +100,8 @@ pub text_of_row : (model : Metadata) (number : ℕ) (text : List ℕ) (token : T
     → IsTokenText model number text → row_text token.row (row_of model token.table token.row) ≡ text
 text_of_row model number text token other one named =
     elim named [
-      inl at ↦ absurd (other at.0)
-    | inr at ↦ sym (at.1.3 ∙ ap (λ t. row_text t.row (row_of model t.table t.row)) (one at.1.0 at.1.1))
+      | inl at ↦ absurd (other at.0)
+      | inr at ↦ sym (at.1.3 ∙ ap (λ t. row_text t.row (row_of model t.table t.row)) (one at.1.0 at.1.1))
     ]
 
 -- the user string that was found is the one at the offset

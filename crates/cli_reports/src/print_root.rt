@@ -110,11 +110,7 @@ fn push_version(version: &str, line: &mut Vec<u8>) -> Result<(), AllocError>
 }
 
 /// Prints the lines of stream headers.
-fn print_streams<W: Write>(
-    headers: Headers<'_>,
-    lines: &mut Vec<u8>,
-    out: &mut W,
-) -> io::Result<()>
+fn print_streams<W: Write>(headers: Headers<'_>, lines: &mut Vec<u8>, out: &mut W) -> io::Result<()>
     ensures { Moves (W.contents out.old) (W.contents out.new) result (lines.old.items ++ flat_map stream_text headers.entry) lines.new.items }
 {
     for header in headers {
