@@ -1,3 +1,5 @@
 pub mod TaskFiles
 pub mod NumbersRead
 pub mod Rewritings
+pub mod RunLemmas
+pub mod Reading

@@ -1,5 +1,8 @@
 -- The lines that report why a run stopped early.
-use Rattle.std.specs.Prelude.{ℕ, List, ◌∷◌, [], ◌++◌, Option, Some, None}
+use Rattle.std.specs.Prelude.{◌≡◌, ℕ, List, ◌∷◌, [], ◌++◌, IsErrAnd, IsOk, MatchResult, Option, Some, None, Result}
+use Rattle.cli_faults.specs.declared.failure.Failure.{Failure}
+use Rattle.cli_reports.specs.declared.stop.Stop.{Stop}
+use Rattle.cli_reports.specs.declared.stop.Stop.TheVariants.{Failed}
 use Rattle.cli_reports.specs.Stops.{stop_text}
 use Rattle.cli.specs.Hints.{hint_text}
 use Rattle.cli.specs.declared.hint.Hint.{Hint}
@@ -13,3 +16,7 @@ hint_line None = []
 -- the line of the stop, and then that of the hint if there is one, without the last line feed
 abbrev pub stopped_text : Stopped → List ℕ
 stopped_text stopped = stop_text stopped.stop ++ hint_line stopped.hint
+
+-- the same result, with its failure as why it stopped
+abbrev pub IsStopOf : {T : Type 0} → Result T Failure → Result T Stop → Type 0
+IsStopOf outcome stops = MatchResult outcome (λ _. IsOk stops) (λ failure. IsErrAnd stops (λ stop. stop ≡ Failed failure))

@@ -1,9 +1,10 @@
 //! Reads the file to work on.
-ghost use Rattle.std.specs.Prelude.{IfErr};
+ghost use Rattle.std.specs.Prelude.{◌≡◌, ◌+◌, ◌^◌, IfErr, IfOk, IfSome, take};
 ghost use Rattle.cli.specs.Read.{IsRefused};
 
 use cli_faults::Failure;
 use packed::{Fault, FaultCode};
+use std::alloc::Global;
 use std::fs::OpenFile;
 use std::io::Read;
 use std::rt::Files;
@@ -39,11 +40,18 @@ fn read_prefix<R: Files + AllocGlobal>(rt: &R, path: &str) -> io::Result<Option<
         Ok(metadata) => metadata.len(),
         Err(_) => 0,
     };
+    Ok(Some(read_first(rt.alloc(), file, reported)?))
+}
+
+/// All bytes of a reader, or the first 2^30 + 1 if it has more. It is expected to have `reported` bytes.
+fn read_first<F: Read + Drop>(alloc: Global, reader: F, reported: u64) -> io::Result<Vec<u8>>
+    ensures { IfOk result (λ bytes. IfSome (F.remaining reader) (λ all. bytes.items ≡ take (2 ^ 30 + 1) all)) }
+{
     // One byte more than a file may have is read. So a file that grows is refused for its length, and reading an endless
     // one stops.
     let most = LIMIT + 1;
     // Room for the reported size and one byte more, to see the end. Some files report 0, and others grow.
-    let mut bytes = Vec::with_capacity(rt.alloc(), reported.min(most) as usize + 1)?;
-    file.take(most).read_to_end(&mut bytes)?;
-    Ok(Some(bytes))
+    let mut bytes = Vec::with_capacity(alloc, reported.min(most) as usize + 1)?;
+    reader.take(most).read_to_end(&mut bytes)?;
+    Ok(bytes)
 }

@@ -9,8 +9,12 @@ pub(crate) struct KindKeeper<W: Write> {
 }
 
 impl<W: Write> KindKeeper<W> {
+    ghost use Rattle.std.specs.Prelude.{◌≡◌};
+
     /// The writer, before its first error.
-    pub(crate) fn new(writer: W) -> KindKeeper<W> {
+    pub(crate) fn new(writer: W) -> KindKeeper<W>
+        ensures { result.writer ≡ writer }
+    {
         KindKeeper {
             writer,
             kind: ErrorKind::WriteZero,
@@ -18,7 +22,9 @@ impl<W: Write> KindKeeper<W> {
     }
 
     /// The writer and the kind.
-    pub(crate) fn into_parts(self) -> (W, ErrorKind) {
+    pub(crate) fn into_parts(self) -> (W, ErrorKind)
+        ensures { result.0 ≡ self.writer }
+    {
         let KindKeeper { writer, kind } = self;
         (writer, kind)
     }

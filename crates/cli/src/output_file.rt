@@ -1,5 +1,6 @@
 //! The file that `clim rewrite` writes.
-ghost use Rattle.std.specs.Prelude.{IfErr};
+ghost use Rattle.std.specs.Prelude.{IfErr, IfOk};
+ghost use Rattle.std.specs.Io.KnownBytes.{Appends};
 ghost use Rattle.cli_faults.specs.Status.{IsUnwritten};
 
 use crate::kind_keeper::KindKeeper;
@@ -125,9 +126,10 @@ fn finish<R: Files>(
     fs::rename(rt, from, to)
 }
 
-/// Sends a root to a file that was just created, and returns the file.
+/// Sends a root to a file that was just created, and returns the file. All bytes were sent if it succeeds.
 fn send<'a, F: Write + Drop>(root: &Prepared, file: F, path: &'a str) -> Result<F, Failure<'a>>
-    ensures { IfErr result (IsUnwritten path.now) }
+    ensures all { IfOk result (λ written. Appends (F.contents file) (F.contents written) root.now) }
+    ensures unwritten { IfErr result (IsUnwritten path.now) }
 {
     let mut sink = Counted::new(KindKeeper::new(file));
     let outcome = root.send(&mut sink);

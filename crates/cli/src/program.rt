@@ -1,22 +1,29 @@
-ghost use Rattle.std.specs.Prelude.{◌≡◌, ◌≢◌, ◌≤◌, IfErr, IfOk};
+ghost use Rattle.std.specs.Prelude.{◌≡◌, ◌≢◌, ◌≤◌, ◌⊎◌, ◌++◌, IfErr, IfOk, OnOk, map};
+ghost use Rattle.std.specs.Io.KnownBytes.{Appends};
 ghost use Rattle.std.specs.IoError.{error_kind};
 ghost use Rattle.std.specs.declared.io.ErrorKind.TheVariants as cause;
+ghost use Rattle.clap.specs.Words.{kind_of};
 ghost use Rattle.cli_arguments.specs.Asked.{HasFile, HasSecond};
+ghost use Rattle.cli_faults.specs.declared.failure.Failure.{Failure as Failed};
+ghost use Rattle.cli_faults.specs.Status.{IsOutput};
+ghost use Rattle.cli_reports.specs.RowTexts.{line_feed};
 ghost use Rattle.cli_reports.specs.Stops.{status_of_stop};
+ghost use Rattle.cli.specs.Runs.{Does, IsChecked, IsMixed, IsReported, IsRewriting, IsRunOn, IsUsage, Ran, StopsBy, status_of_outcome};
+ghost use Rattle.cli.specs.Stopped.{stopped_text};
 
 use crate::input::read_file;
 use crate::output_file::is_standard_output;
 use crate::rewrite_file::rewrite;
-use crate::stopped::{Stopped, with_hint};
+use crate::stopped::{Stopped, stopped_by, with_hint};
 use crate::task::{Task, task_of};
 use crate::usage_text::usage_text;
 use clap::error::ErrorKind;
 use cli_arguments::{Ask, ask};
 use cli_faults::{Failure, FileError, Reason, printed};
-use cli_reports::{Report, Stop, check_within, explain, print_report};
+use cli_reports::{Report, check_within, explain, finish, print_report};
 use std::alloc::Global;
 use std::io;
-use std::io::{BufWriter, Write};
+use std::io::Write;
 use std::rt::Files;
 
 /// Runs the program on its arguments, the program name first, and returns the exit code:
@@ -36,7 +43,11 @@ pub fn go<R: Files + AllocGlobal, W: Write, E: Write>(
     out: &mut W,
     err: &mut E,
 ) -> u8
-    ensures { result ≤ 3 }
+    ensures limit { result ≤ 3 }
+    // What the arguments ask for was done, with what reading the file gave; the exit code and the output are that of it.
+    ensures run { Ran W.contents out.old out.new (map (λ word. word.now) words.now) result }
+    // If it succeeds, nothing goes to `err`.
+    ensures quiet { result ≡ 0 → err.new ≡ err.old }
 {
     match ask(rt.alloc(), &*words) {
         Ok(ask) => status(run(rt, ask, out), err),
@@ -61,14 +72,23 @@ pub fn refuse_words<E: Write>(error: &io::Error, err: &mut E) -> u8
 fn status<E: Write>(outcome: Result<(), Stopped<'_>>, err: &mut E) -> u8
     ensures done { IfOk outcome.entry (λ _. result ≡ 0) }
     ensures stopped { IfErr outcome.entry (λ stopped. result ≡ status_of_stop stopped.stop) }
+    ensures status { result ≡ status_of_outcome outcome.entry }
+    ensures quiet { result ≡ 0 → err.new ≡ err.old }
 {
     match outcome {
         Ok(()) => 0,
         Err(stopped) => {
-            let _ = writeln!(err, "{stopped}");
+            let _ = report(&stopped, err);
             stopped.stop.status()
         }
     }
+}
+
+/// Prints why a run stopped early.
+fn report<E: Write>(stopped: &Stopped<'_>, err: &mut E) -> io::Result<()>
+    ensures { OnOk result (Appends (E.contents err.old) (E.contents err.new) (stopped_text stopped.now ++ line_feed)) }
+{
+    writeln!(err, "{stopped}")
 }
 
 /// Reports what `clap` returned instead of matches: a usage error, or help or the version.
@@ -79,7 +99,9 @@ fn report_usage_error<W: Write, E: Write>(
     out: &mut W,
     err: &mut E,
 ) -> u8
-    ensures { result ≤ 3 }
+    ensures limit { result ≤ 3 }
+    ensures usage { IsUsage W.contents out.old out.new (kind_of usage_error.now) result }
+    ensures quiet { result ≡ 0 → err.new ≡ err.old }
 {
     if usage_error.kind() == ErrorKind::OutOfMemory {
         return status(Err(Stopped::from(Failure::OutOfMemory)), err);
@@ -91,7 +113,7 @@ fn report_usage_error<W: Write, E: Write>(
         let _ = write!(err, "{text}");
         return 2;
     }
-    status(print_text(alloc, text.as_str(), out), err)
+    status(print_text(text.as_str(), out), err)
 }
 
 /// Runs the task of the arguments. All arguments are checked before the file is read.
@@ -102,6 +124,7 @@ fn run<'a, R: Files + AllocGlobal, W: Write>(
 ) -> Result<(), Stopped<'a>>
     requires file { HasFile ask }
     requires second { HasSecond ask }
+    ensures { Does W.contents out.old out.new ask.entry result }
 {
     let task = task_of(ask)?;
     match task {
@@ -119,10 +142,25 @@ fn print_file<'a, R: Files + AllocGlobal, W: Write>(
     file: &'a str,
     bare: bool,
     out: &mut W,
-) -> Result<(), Stopped<'a>> {
+) -> Result<(), Stopped<'a>>
+    ensures { IsRunOn W.contents out.old out.new file.now (IsReported W.contents out.old out.new report bare) result }
+{
     let bytes = read_file(rt, file)?;
-    let outcome = print_report(rt.alloc(), report, bare, &bytes, out);
-    with_hint(outcome.map_err(Stop::Failed), bare, &bytes)
+    print_bytes(rt.alloc(), report, &bytes, bare, out)
+}
+
+/// Prints a report on bytes that were read.
+fn print_bytes<W: Write>(
+    alloc: Global,
+    report: Report,
+    bytes: &[u8],
+    bare: bool,
+    out: &mut W,
+) -> Result<(), Stopped<'static>>
+    ensures { IsReported W.contents out.old out.new report bare bytes.now result }
+{
+    let outcome = print_report(alloc, report, bare, bytes, out);
+    with_hint(stopped_by(outcome), bare, bytes)
 }
 
 /// Checks a file against the rules, within a budget.
@@ -132,10 +170,25 @@ fn check_file<'a, R: Files + AllocGlobal, W: Write>(
     file: &'a str,
     bare: bool,
     out: &mut W,
-) -> Result<(), Stopped<'a>> {
+) -> Result<(), Stopped<'a>>
+    ensures { IsRunOn W.contents out.old out.new file.now (IsChecked W.contents out.old out.new budget bare) result }
+{
     let bytes = read_file(rt, file)?;
-    let outcome = check_within(rt.alloc(), &bytes, bare, budget, out);
-    with_hint(outcome, bare, &bytes)
+    check_bytes(rt.alloc(), budget, &bytes, bare, out)
+}
+
+/// Checks bytes that were read against the rules, within a budget.
+fn check_bytes<W: Write>(
+    alloc: Global,
+    budget: u64,
+    bytes: &[u8],
+    bare: bool,
+    out: &mut W,
+) -> Result<(), Stopped<'static>>
+    ensures { IsChecked W.contents out.old out.new budget bare bytes.now result }
+{
+    let outcome = check_within(alloc, bytes, bare, budget, out);
+    with_hint(outcome, bare, bytes)
 }
 
 /// Writes the canonical root of a file to a path, which must not be that of the standard output.
@@ -145,7 +198,10 @@ fn rewrite_file<'a, R: Files + AllocGlobal, W: Write>(
     file: &'a str,
     bare: bool,
     out: &mut W,
-) -> Result<(), Stopped<'a>> {
+) -> Result<(), Stopped<'a>>
+    ensures { IsRunOn W.contents out.old out.new file.now (IsRewriting W.contents out.old out.new path.now bare) result
+        ⊎ IsMixed W.contents out.old out.new path.now result }
+{
     if is_standard_output(rt, path) {
         return Err(Stopped::from(Failure::CannotWriteFile(FileError {
             path,
@@ -153,18 +209,28 @@ fn rewrite_file<'a, R: Files + AllocGlobal, W: Write>(
         })));
     }
     let bytes = read_file(rt, file)?;
-    let outcome = rewrite(rt, &bytes, bare, file, path, out);
-    with_hint(outcome.map_err(Stop::Failed), bare, &bytes)
+    rewrite_bytes(rt, path, file, &bytes, bare, out)
+}
+
+/// Writes the canonical root of bytes that were read from a file.
+fn rewrite_bytes<'a, R: Files + AllocGlobal, W: Write>(
+    rt: &R,
+    path: &'a str,
+    file: &str,
+    bytes: &[u8],
+    bare: bool,
+    out: &mut W,
+) -> Result<(), Stopped<'a>>
+    ensures { IsRewriting W.contents out.old out.new path.now bare bytes.now result }
+{
+    let outcome = rewrite(rt, bytes, bare, file, path, out);
+    with_hint(stopped_by(outcome), bare, bytes)
 }
 
 /// Prints the help or the version.
-fn print_text<W: Write>(alloc: Global, text: &str, out: &mut W) -> Result<(), Stopped<'static>> {
-    printed(write_text(alloc, text, out))?;
+fn print_text<W: Write>(text: &str, out: &mut W) -> Result<(), Stopped<'static>>
+    ensures { IfErr result (λ stopped. (failure : Failed) × StopsBy failure stopped × IsOutput failure) }
+{
+    printed(finish(text.as_bytes(), out))?;
     Ok(())
-}
-
-fn write_text<W: Write>(alloc: Global, text: &str, out: &mut W) -> io::Result<()> {
-    let mut out = BufWriter::new(alloc, out)?;
-    write!(out, "{text}")?;
-    out.flush()
 }

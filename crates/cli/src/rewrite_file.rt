@@ -1,15 +1,18 @@
 //! `clim rewrite`: the canonical root of a file.
-ghost use Rattle.std.specs.Prelude.{IfOk, IfErr};
+ghost use Rattle.std.specs.Prelude.{◌≡◌, ◌⊎◌, ℕ, List, IfOk, IfErr, OnOk, length};
+ghost use Rattle.std.specs.Io.KnownBytes.{Appends};
+ghost use Rattle.cli_faults.specs.Status.{IsOutput, IsUnwritten};
+ghost use Rattle.cli.specs.Runs.{wrote_text};
 ghost use Rattle.cli.specs.Rewritten.{IsRewritten, ReportsUnwritten};
 
 use crate::output_file::write_root;
 use cli_faults::{Failure, printed};
-use cli_reports::open;
+use cli_reports::{finish, open};
 use packed::{Fault, FaultCode};
 use root_plan::{Prepared, WriteError};
 use std::alloc::Global;
 use std::io;
-use std::io::{BufWriter, Write};
+use std::io::Write;
 use std::rt::Files;
 use writer::prepare;
 
@@ -24,7 +27,12 @@ pub(crate) fn rewrite<'a, R: Files + AllocGlobal, W: Write>(
     file: &str,
     path: &'a str,
     out: &mut W,
-) -> Result<(), Failure<'a>> {
+) -> Result<(), Failure<'a>>
+    ensures written { OnOk result ((root : List ℕ) × IsRewritten bare bytes.now root
+        × Appends (W.contents out.old) (W.contents out.new) (wrote_text (length root))) }
+    ensures stopped { IfErr result (λ failure.
+        ((ReportsUnwritten bare bytes.now failure ⊎ IsUnwritten path.now failure) × (out.new ≡ out.old)) ⊎ IsOutput failure) }
+{
     let root = canonical_root(rt.alloc(), bytes, bare)?;
     write_root(rt, &root, file, path)?;
     printed(print(rt.alloc(), root.len(), out))
@@ -43,8 +51,10 @@ fn canonical_root(alloc: Global, bytes: &[u8], bare: bool) -> Result<Prepared, F
     }
 }
 
-fn print<W: Write>(alloc: Global, count: u32, out: &mut W) -> io::Result<()> {
-    let mut out = BufWriter::new(alloc, out)?;
-    writeln!(out, "wrote {count} bytes")?;
-    out.flush()
+/// Prints the length of the root that was written.
+fn print<W: Write>(alloc: Global, count: u32, out: &mut W) -> io::Result<()>
+    ensures { OnOk result (Appends (W.contents out.old) (W.contents out.new) (wrote_text count)) }
+{
+    let line = format!(in alloc; "wrote {count} bytes\n")?;
+    finish(line.as_bytes(), out)
 }

@@ -1,7 +1,7 @@
 //! Why a run stopped early, and what the user may have meant.
 ghost use Rattle.std.specs.Prelude.{◌≡◌, ◌↔◌, IfErr, IsOk, None, Some};
 ghost use Rattle.cli.specs.Hints.{hint_for};
-ghost use Rattle.cli.specs.Stopped.{stopped_text};
+ghost use Rattle.cli.specs.Stopped.{IsStopOf, stopped_text};
 ghost use Rattle.cli_reports.specs.declared.stop.Stop.TheVariants.{Failed};
 
 use crate::hint::{Hint, hint_of};
@@ -35,6 +35,13 @@ pub(crate) fn with_hint<'a>(
             hint: hint_of(&stop, bare, bytes),
         }),
     }
+}
+
+/// The result of a run, with its failure as why it stopped.
+pub(crate) fn stopped_by<'a>(outcome: Result<(), Failure<'a>>) -> Result<(), Stop<'a>>
+    ensures { IsStopOf outcome.entry result }
+{
+    Ok(outcome?)
 }
 
 impl<'a> From<Stop<'a>> for Stopped<'a> {

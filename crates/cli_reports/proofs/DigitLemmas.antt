@@ -94,6 +94,13 @@ bytes_joined a b c =
     append_assoc (hexadecimal 2 a) (hexadecimal 2 b) (hexadecimal 2 c)
     ∙ ap (λ xs. hexadecimal 2 a ++ (hexadecimal 2 b ++ xs)) (sym (append-nil (hexadecimal 2 c)))
 
+bytes_last : (a b c d : ℕ) → escaped_bytes (a ∷ b ∷ c ∷ []) ++ hexadecimal 2 d ≡ escaped_bytes (a ∷ b ∷ c ∷ d ∷ [])
+bytes_last a b c d =
+    ap (λ xs. xs ++ hexadecimal 2 d) (ap (λ xs. hexadecimal 2 a ++ (hexadecimal 2 b ++ xs)) (append-nil (hexadecimal 2 c)))
+    ∙ append_assoc (hexadecimal 2 a) (hexadecimal 2 b ++ hexadecimal 2 c) (hexadecimal 2 d)
+    ∙ ap (λ xs. hexadecimal 2 a ++ xs) (append_assoc (hexadecimal 2 b) (hexadecimal 2 c) (hexadecimal 2 d))
+    ∙ ap (λ xs. hexadecimal 2 a ++ (hexadecimal 2 b ++ (hexadecimal 2 c ++ xs))) (sym (append-nil (hexadecimal 2 d)))
+
 -- six digits of three bytes
 pub three_bytes : (n : ℕ) → n ≤ 0xFFFFFF → hexadecimal 6 n ≡ escaped_bytes (n / 0x10000 ∷ n / 0x100 % 0x100 ∷ n % 0x100 ∷ [])
 three_bytes n small =
@@ -109,3 +116,27 @@ three_bytes n small =
 pub token_digits : (table row : ℕ) → row ≤ 0xFFFFFF
     → escaped_bytes (table ∷ row / 0x10000 ∷ row / 0x100 % 0x100 ∷ row % 0x100 ∷ []) ≡ hexadecimal 2 table ++ hexadecimal 6 row
 token_digits table row small = ap (λ xs. hexadecimal 2 table ++ xs) (sym (three_bytes row small))
+
+-- four digits of two bytes
+pub unit_digits : (n : ℕ) → n < 0x10000 → escaped_bytes (n / 0x100 ∷ n % 0x100 ∷ []) ≡ hexadecimal 4 n
+unit_digits n small =
+    let high : n / 256 % 256 ≡ n / 0x100 = omega arith in
+    sym (hexadecimal_nibbles 3 n (omega arith) (omega arith)
+    ∙ nibbles_of_byte 2 n
+    ∙ ap (λ xs. xs ++ hexadecimal 2 (n % 256)) (nibbles_of_byte 0 (n / 256))
+    ∙ ap (λ a. hexadecimal 2 a ++ hexadecimal 2 (n % 256)) high
+    ∙ ap (λ xs. hexadecimal 2 (n / 0x100) ++ xs) (sym (append-nil (hexadecimal 2 (n % 256)))))
+
+-- eight digits of four bytes
+pub word_digits : (n : ℕ) → n < 0x100000000 → escaped_bytes (n / 0x1000000 ∷ n / 0x10000 % 0x100 ∷ n / 0x100 % 0x100 ∷ n % 0x100 ∷ []) ≡ hexadecimal 8 n
+word_digits n small =
+    let first : n / 256 / 256 / 256 % 256 ≡ n / 0x1000000 = omega arith in
+    let second : n / 256 / 256 % 256 ≡ n / 0x10000 % 0x100 = omega arith in
+    sym (hexadecimal_nibbles 7 n (omega arith) (omega arith)
+    ∙ nibbles_of_byte 6 n
+    ∙ ap (λ xs. xs ++ hexadecimal 2 (n % 256)) (nibbles_of_byte 4 (n / 256))
+    ∙ ap (λ xs. (xs ++ hexadecimal 2 (n / 256 % 256)) ++ hexadecimal 2 (n % 256)) (nibbles_of_byte 2 (n / 256 / 256))
+    ∙ ap (λ xs. ((xs ++ hexadecimal 2 (n / 256 / 256 % 256)) ++ hexadecimal 2 (n / 256 % 256)) ++ hexadecimal 2 (n % 256)) (nibbles_of_byte 0 (n / 256 / 256 / 256))
+    ∙ (λ i. ((hexadecimal 2 (first i) ++ hexadecimal 2 (second i)) ++ hexadecimal 2 (n / 256 % 256)) ++ hexadecimal 2 (n % 256))
+    ∙ ap (λ xs. xs ++ hexadecimal 2 (n % 256)) (bytes_joined (n / 0x1000000) (n / 0x10000 % 0x100) (n / 0x100 % 0x100))
+    ∙ bytes_last (n / 0x1000000) (n / 0x10000 % 0x100) (n / 0x100 % 0x100) (n % 0x100))

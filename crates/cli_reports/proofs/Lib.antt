@@ -2,6 +2,7 @@ pub mod DigitLemmas
 pub mod LineLemmas
 pub mod ShortLemmas
 pub mod SentLemmas
+pub mod ItemLemmas
 pub mod TableLemmas
 pub mod ValueLemmas
 pub mod TypeTexts

@@ -37,6 +37,10 @@ first_of_two : (test : Bool) (xs ys : List ℕ) → IsTrue test → (if test the
 first_of_two true xs ys is = refl
 first_of_two false xs ys is = cc
 
+pub second_of_two : (test : Bool) (xs ys : List ℕ) → test ≡ false → (if test then xs else ys) ≡ ys
+second_of_two true xs ys is = cc
+second_of_two false xs ys is = refl
+
 -- plain bytes are printed as they are
 pub plain_text : (text : List ℕ) → ((k : ℕ) → k < length text → IsTrue (is_plain (get_or text k 0))) → text ≡ escaped_text text
 plain_text [] plain = refl
@@ -64,3 +68,15 @@ four_joined line a b c d = ap (λ xs. xs ++ d) (three_joined line a b c) ∙ app
 pub seven_joined : (line a b c d e f g : List ℕ) → ((((((line ++ a) ++ b) ++ c) ++ d) ++ e) ++ f) ++ g ≡ line ++ (a ++ b ++ c ++ d ++ e ++ f ++ g)
 seven_joined line a b c d e f g =
     ap (λ xs. ((xs ++ e) ++ f) ++ g) (four_joined line a b c d) ∙ four_joined line (a ++ b ++ c ++ d) e f g
+
+pub nine_joined : (line a b c d e f g h i : List ℕ)
+    → ((((((((line ++ a) ++ b) ++ c) ++ d) ++ e) ++ f) ++ g) ++ h) ++ i ≡ line ++ (a ++ b ++ c ++ d ++ e ++ f ++ g ++ h ++ i)
+nine_joined line a b c d e f g h i =
+    ap (λ xs. (xs ++ h) ++ i) (seven_joined line a b c d e f g) ∙ three_joined line (a ++ b ++ c ++ d ++ e ++ f ++ g) h i
+
+pub thirteen_joined : (line a b c d e f g h i j k l m : List ℕ)
+    → ((((((((((((line ++ a) ++ b) ++ c) ++ d) ++ e) ++ f) ++ g) ++ h) ++ i) ++ j) ++ k) ++ l) ++ m
+    ≡ line ++ (a ++ b ++ c ++ d ++ e ++ f ++ g ++ h ++ i ++ j ++ k ++ l ++ m)
+thirteen_joined line a b c d e f g h i j k l m =
+    ap (λ xs. (((((xs ++ h) ++ i) ++ j) ++ k) ++ l) ++ m) (seven_joined line a b c d e f g)
+    ∙ seven_joined line (a ++ b ++ c ++ d ++ e ++ f ++ g) h i j k l m

@@ -41,6 +41,10 @@ sends_more before between after bytes left more tail first second = (
   appends_more before between after first.0 second.0 first.2 second.2,
 )
 
+-- more bytes wait after those that are left
+pub sends_longer : (before after : Option (List ℕ)) (bytes left more : List ℕ) → Sends before after bytes left → Sends before after (bytes ++ more) (left ++ more)
+sends_longer before after bytes left more first = (first.0, ap (λ xs. xs ++ more) first.1 ∙ append_assoc first.0 left more, first.2)
+
 pub prefix_longer : (before after : Option (List ℕ)) (bytes more : List ℕ) → SendsPrefix before after bytes → SendsPrefix before after (bytes ++ more)
 prefix_longer before after bytes more cut =
     (cut.0 ++ more, (cut.1.0, ap (λ xs. xs ++ more) cut.1.1 ∙ append_assoc cut.1.0 cut.0 more, cut.1.2))

@@ -14,6 +14,40 @@ range_last : (a n j : ℕ) → a + n ≡ j → range_with_len a (suc n) ≡ rang
 range_last a zero j e = let same : a ≡ j = omega arith in ap (λ (k : ℕ). k ∷ []) same
 range_last a (suc n) j e = ap (λ xs. a ∷ xs) (range_last (a + 1) n j (omega arith))
 
+-- the lines of the first rows of a table
+abbrev pub first_lines : (ℕ → List ℕ) → ℕ → List ℕ
+first_lines f n = flat_map f (range_with_len 1 n)
+
+module _ (f : ℕ → List ℕ) where
+  pub lines_more : (line : List ℕ) (n : ℕ) → (line ++ first_lines f n) ++ f (n + 1) ≡ line ++ first_lines f (n + 1)
+  lines_more line n =
+      let next : suc n ≡ n + 1 = omega arith in
+      append_assoc line (first_lines f n) (f (n + 1))
+      ∙ ap (λ xs. line ++ (first_lines f n ++ xs)) (sym (append-nil (f (n + 1))))
+      ∙ ap (λ xs. line ++ xs) (sym (flat_map-append f (range_with_len 1 n) ((n + 1) ∷ [])))
+      ∙ ap (λ xs. line ++ flat_map f xs) (sym (range_last 1 n (n + 1) (omega arith)))
+      ∙ ap (λ m. line ++ first_lines f m) next
+
+  -- the lines after the first ones
+  lines_after : (more n : ℕ) → (later : List ℕ) × (first_lines f (n + more) ≡ first_lines f n ++ later)
+  lines_after zero n = let same : n + 0 ≡ n = omega arith in ([], ap (λ m. first_lines f m) same ∙ sym (append-nil (first_lines f n)))
+  lines_after (suc more) n =
+      let before = lines_after more n in
+      let next : n + suc more ≡ n + more + 1 = omega arith in (
+        before.0 ++ f (n + more + 1),
+        ap (λ m. first_lines f m) next ∙ sym (lines_more [] (n + more))
+            ∙ ap (λ xs. xs ++ f (n + more + 1)) before.1
+            ∙ append_assoc (first_lines f n) before.0 (f (n + more + 1)),
+      )
+
+  pub lines_cut : (before after : Option (List ℕ)) (line : List ℕ) (n more count : ℕ) → n + more ≡ count
+      → SendsPrefix before after (line ++ first_lines f n) → SendsPrefix before after (line ++ first_lines f count)
+  lines_cut before after line n more count is cut =
+      let later = lines_after more n in
+      subst (λ (bytes : List ℕ). SendsPrefix before after bytes)
+      (append_assoc line (first_lines f n) later.0 ∙ ap (λ xs. line ++ xs) (sym later.1) ∙ ap (λ m. line ++ first_lines f m) is)
+      (prefix_longer before after (line ++ first_lines f n) later.0 cut)
+
 module _ (model : Metadata) (table : TableId) where
   pub no_rows : rows_text model table 0 ≡ []
   unfolding rows_text
@@ -21,34 +55,12 @@ module _ (model : Metadata) (table : TableId) where
 
   pub rows_more : (line : List ℕ) (n : ℕ) → (line ++ rows_text model table n) ++ row_text (n + 1) (row_of model table (n + 1)) ≡ line ++ rows_text model table (n + 1)
   unfolding rows_text
-  rows_more line n =
-      let f : ℕ → List ℕ = λ row. row_text row (row_of model table row) in
-      let next : suc n ≡ n + 1 = omega arith in
-      append_assoc line (flat_map f (range_with_len 1 n)) (f (n + 1))
-      ∙ ap (λ xs. line ++ (flat_map f (range_with_len 1 n) ++ xs)) (sym (append-nil (f (n + 1))))
-      ∙ ap (λ xs. line ++ xs) (sym (flat_map-append f (range_with_len 1 n) ((n + 1) ∷ [])))
-      ∙ ap (λ xs. line ++ flat_map f xs) (sym (range_last 1 n (n + 1) (omega arith)))
-      ∙ ap (λ m. line ++ flat_map f (range_with_len 1 m)) next
-
-  -- the rows after the first ones
-  rows_after : (more n : ℕ) → (later : List ℕ) × (rows_text model table (n + more) ≡ rows_text model table n ++ later)
-  rows_after zero n = let same : n + 0 ≡ n = omega arith in ([], ap (λ m. rows_text model table m) same ∙ sym (append-nil (rows_text model table n)))
-  rows_after (suc more) n =
-      let before = rows_after more n in
-      let next : n + suc more ≡ n + more + 1 = omega arith in (
-        before.0 ++ row_text (n + more + 1) (row_of model table (n + more + 1)),
-        ap (λ m. rows_text model table m) next ∙ sym (rows_more [] (n + more))
-            ∙ ap (λ xs. xs ++ row_text (n + more + 1) (row_of model table (n + more + 1))) before.1
-            ∙ append_assoc (rows_text model table n) before.0 (row_text (n + more + 1) (row_of model table (n + more + 1))),
-      )
+  rows_more line n = lines_more (λ row. row_text row (row_of model table row)) line n
 
   pub rows_cut : (before after : Option (List ℕ)) (line : List ℕ) (n more count : ℕ) → n + more ≡ count
       → SendsPrefix before after (line ++ rows_text model table n) → SendsPrefix before after (line ++ rows_text model table count)
-  rows_cut before after line n more count is cut =
-      let later = rows_after more n in
-      subst (λ (bytes : List ℕ). SendsPrefix before after bytes)
-      (append_assoc line (rows_text model table n) later.0 ∙ ap (λ xs. line ++ xs) (sym later.1) ∙ ap (λ m. line ++ rows_text model table m) is)
-      (prefix_longer before after (line ++ rows_text model table n) later.0 cut)
+  unfolding rows_text
+  rows_cut before after line n more count is cut = lines_cut (λ row. row_text row (row_of model table row)) before after line n more count is cut
 
   pub empty_table : count_in model table ≡ 0 → table_text model table ≡ []
   unfolding table_text

@@ -1,10 +1,11 @@
 -- What a number names, and what is reported if it names nothing.
-use Rattle.std.proofs.Common.{◌≡◌, ◌≢◌, ℕ, ◌/◌, ◌%◌, ◌≤◌, Bool, List, Result, Ok, Err, inl, inr, refl, subst, sym}
+use Rattle.std.proofs.Common.{◌≡◌, ◌≢◌, ℕ, ◌/◌, ◌%◌, ◌≤◌, ◌∙◌, Bool, List, Option, Result, Ok, Err, inl, inr, refl, subst, sym, ap}
 use Rattle.std.specs.Prelude.{IfErr, OnOk, IsOkAnd}
 use Rattle.heap_entries.specs.Entries.{IsUserString, UserText}
 use Rattle.heap_entries.specs.Padding.{zero_padded}
 use Rattle.table_schema.specs.declared.token.Token.{Token}
 use Rattle.table_schema.specs.Tokens.{IsToken}
+use Rattle.metadata.specs.Metadata.{Metadata, row_of}
 use Rattle.opening.specs.Views.{row_count, user_of}
 use Rattle.cli_faults.specs.declared.failure.Failure.{Failure}
 use Rattle.cli_faults.specs.declared.failure.Failure.TheVariants.{Fault, NoSuchRow, NoToken, NoCode, CannotRead, CannotWriteFile, CannotWriteOutput, OutOfMemory}
@@ -13,6 +14,10 @@ use Rattle.cli_reports.specs.Checked.{IsOpened, IsWhole}
 use Rattle.cli_faults.specs.Status.{IsOutput}
 use Rattle.cli_reports.specs.Reported.{HasString, IsMet, IsNamed, ReportsNone, ReportsNoString, ReportsUnnamed}
 use Rattle.cli_reports.specs.Named.{HasTokenRow}
+use Rattle.cli_reports.specs.RowTexts.{row_text}
+use Rattle.cli_reports.specs.Sent.{Prints}
+use Rattle.cli_reports.specs.TokenTexts.{IsRowText, IsStringText, IsTokenText, user_text}
+use Rattle.cli_reports.proofs.SentLemmas.{same_printed}
 
 module _ (root : List ℕ) (number : ℕ) where
   string_reported : (failure : Failure) → number / 16777216 ≡ 112 → ReportsNoString root (number % 16777216) failure → ReportsUnnamed root number failure
@@ -85,3 +90,26 @@ module _ (root : List ℕ) (number : ℕ) where
       → ((found : UserText) → result ≡ Ok found → ⊥) → heap ≡ zero_padded (user_of root) → ¬ HasString root offset
   no_string offset heap result only none is = λ has.
       ok_and_not offset has.0 result none (only has.0 (subst (λ (bytes : List ℕ). IsUserString bytes offset has.0) (sym is) has.1))
+
+-- the text of a number with the high byte 0x70 is that of a user string
+pub text_of_string : (model : Metadata) (number : ℕ) (text : List ℕ) → number / 16777216 ≡ 112 → IsTokenText model number text → IsStringText model (number % 16777216) text
+text_of_string model number text is named = elim named [ inl at ↦ at.1 | inr at ↦ absurd (at.0 is) ]
+
+-- the text of any other number is that of the row that its token names
+pub text_of_row : (model : Metadata) (number : ℕ) (text : List ℕ) (token : Token) → number / 16777216 ≢ 112 → ((found : Token) → IsToken number found → found ≡ token)
+    → IsTokenText model number text → row_text token.row (row_of model token.table token.row) ≡ text
+text_of_row model number text token other one named =
+    elim named [
+      | inl at ↦ absurd (other at.0)
+      | inr at ↦ sym (at.1.3 ∙ ap (λ t. row_text t.row (row_of model t.table t.row)) (one at.1.0 at.1.1))
+    ]
+
+-- the user string that was found is the one at the offset
+pub text_of_found : {E : Type 0} (model : Metadata) (root : List ℕ) (offset : ℕ) (heap text : List ℕ) (result : Result UserText E) (found : UserText)
+    → ((string : UserText) → IsUserString heap offset string → IsOkAnd result (λ it. it ≡ string))
+    → result ≡ Ok found → heap ≡ zero_padded (user_of root) → zero_padded (user_of root) ≡ model.user → IsStringText model offset text → user_text found ≡ text
+text_of_found {E = E} model root offset heap text result found only is padded same named =
+    let P : Result UserText E → Type 0 = λ r. IsOkAnd r (λ it. it ≡ named.0) in
+    let stands = subst (λ (bytes : List ℕ). IsUserString bytes offset named.0) (sym (padded ∙ same)) named.1 in
+    let equal = subst P is (only named.0 stands) in
+    ap user_text equal ∙ sym named.2

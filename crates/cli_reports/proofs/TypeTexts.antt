@@ -1,13 +1,17 @@
 -- The name and the namespace of a type are texts (ECMA-335 II.22.37).
-use Rattle.std.proofs.Common.{◌≡◌, ℕ, ◌≤◌, ◌<◌, ◌⊎◌, List, subst, sym, refl, arith, inl, inr, ◌∙◌}
+use Rattle.std.proofs.Common.{◌≡◌, ℕ, ◌≤◌, ◌<◌, ◌⊎◌, List, subst, sym, refl, ap, arith, inl, inr, ◌∙◌, ◌+◌, ◌-◌, Bool, cond}
+use Rattle.std.proofs.lemmas.Bool.{cases_lt, le-leb, lt-leb}
+use Rattle.std.proofs.Math.Logic.{⊎_elim}
 use Rattle.std.proofs.lemmas.Grind.{not_there}
+use Rattle.table_schema.specs.declared.table.TableId.{TableId}
 use Rattle.table_schema.specs.declared.table.TableId.TheVariants.{TypeDef}
 use Rattle.table_schema.specs.declared.column.ColumnKind.{ColumnKind}
 use Rattle.table_schema.specs.declared.column.ColumnKind.TheVariants as kind
 use Rattle.table_schema.specs.Columns.{column_at}
 use Rattle.metadata.specs.Cell.{Cell}
 use Rattle.metadata.specs.Cell as cell
-use Rattle.metadata.specs.Metadata.{Metadata, cell_in}
+use Rattle.metadata.specs.Lookups.{IsRun}
+use Rattle.metadata.specs.Metadata.{Metadata, cell_in, count_in}
 use Rattle.metadata.specs.Model.{IsModel}
 use Rattle.metadata.specs.SourceAt.{source_of}
 use Rattle.metadata.specs.Source.{Source}
@@ -17,6 +21,7 @@ use Rattle.reading.specs.declared.cell_ref.CellRef.{CellRef}
 use Rattle.reading.specs.declared.cell_ref.CellRef.TheVariants as seen
 use Rattle.reading.specs.Shown.{Shows, ShowsCell}
 use Rattle.opening.specs.Views.{HasModel, row_count}
+use Rattle.cli_reports.specs.TypeTexts.{first_member, member_count, start_of}
 
 pub cell_index_within : (cell_index : ℕ) → (cell_index ≡ 1) ⊎ (cell_index ≡ 2) → cell_index < cell_count TypeDef
 unfolding cell_columns
@@ -53,3 +58,24 @@ not_another root row cell_index value model first last at cells shows none =
     let text = text_cell (source_of root) row cell_index (cell_in some.0 TypeDef row cell_index) at (cells some.0 some.1) in
     let shown = subst (λ (k : ColumnKind). Shows k value (cell_in some.0 TypeDef row cell_index)) (text_column cell_index at) (shows some.0 some.1) in
     text_escaped value (cell_in some.0 TypeDef row cell_index) text.0 text.1 shown none)
+
+-- the number of a type's members is that of the rows in its run
+module _ (model : Metadata) (cell_index : ℕ) (member : TableId) (row first past : ℕ) (within : row ≤ count_in model TypeDef)
+    (run : IsRun model TypeDef cell_index member row first past) where
+  first_of_run : first_member model cell_index member row ≡ first
+  unfolding first_member
+  first_of_run =
+      ap (λ t. cond t (start_of (cell_in model TypeDef row cell_index)) (count_in model member + 1)) (le-leb row (count_in model TypeDef) within) ∙ ap start_of run.start
+
+  past_of_run : first_member model cell_index member (row + 1) ≡ past
+  unfolding first_member
+  past_of_run =
+      let choice : Bool → ℕ = λ t. cond t (start_of (cell_in model TypeDef (row + 1) cell_index)) (count_in model member + 1) in
+      ⊎_elim
+      (λ more. ap choice (le-leb (row + 1) (count_in model TypeDef) (omega (arith, more))) ∙ ap start_of (run.next more))
+      (λ all. ap choice (lt-leb (row + 1) (count_in model TypeDef) (omega (arith, within))) ∙ sym (run.last (omega (arith, all, within))))
+      (cases_lt row (count_in model TypeDef))
+
+  pub run_counted : past - first ≡ member_count model cell_index member row
+  unfolding member_count
+  run_counted = sym (λ i. past_of_run i - first_of_run i)

@@ -2,7 +2,10 @@ pub mod Escaped
 pub mod Named
 pub mod Checked
 pub mod Heads
+pub mod HeadTexts
 pub mod RowTexts
+pub mod TypeTexts
+pub mod TokenTexts
 pub mod Sent
 pub mod Values
 pub mod Reported

@@ -44,6 +44,8 @@ pub fn check_within<W: Write>(
     ensures sound { OnOk result (IsWhole bare bytes.now) }
     ensures first_error { IfErr result (StopsWithin budget (signature_bytes_of bare bytes.now) (IsWhole bare bytes.now) (rules_of bare bytes.now)) }
     ensures untouched { IfErr result (StopLeavesOutput out.old out.new) }
+    // If the writer's bytes are known, they grow by exactly `ok` and a line feed, or by a prefix of it if it fails.
+    ensures printed { Prints (W.contents out.old) (W.contents out.new) result check_text }
 {
     match open_within(bytes, bare, budget) {
         Ok(_) => Ok(printed(print(out))?),

@@ -2,8 +2,8 @@
 //! token names. It also prints what a fault means.
 //!
 //! [`print_report`] opens the bytes in place and prints a [`Report`] on them. Its contract says what is true of the
-//! bytes if it prints, and what it reports otherwise. For `check` and `show` it also says each byte that is printed.
-//! The form of the other output is covered by tests. Rows, types and user strings are printed one per line.
+//! bytes if it prints, and what it reports otherwise. It also says each byte that is printed. Rows, types and user strings
+//! are printed one per line. What [`explain`] prints is covered by tests.
 //!
 //! ```text
 //! print_report(rt.alloc(), Report::Types, false, &file, &mut out)?; // a line for each type of a file
@@ -32,4 +32,5 @@ pub use check_file::check_within;
 pub use explain_fault::explain;
 pub use opened::open;
 pub use report::{Report, print_report};
+pub use sending::finish;
 pub use stop::Stop;

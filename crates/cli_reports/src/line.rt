@@ -1,7 +1,8 @@
 //! Appends numbers, texts and bytes to a line.
-ghost use Rattle.std.specs.Prelude.{◌≡◌, ◌++◌, ◌↔◌, ◌<◌, IsTrue, OnOk, EachIndex, slice_index, decimal, true, false};
+ghost use Rattle.std.specs.Prelude.{◌≡◌, ◌++◌, ◌↔◌, ◌<◌, IsTrue, OnOk, EachIndex, slice_index, codes, decimal, true, false};
 ghost use Rattle.std.specs.Fmt.{digit_glyph};
-ghost use Rattle.cli_faults.specs.Escaped.{is_plain, escaped_byte, escaped_text};
+ghost use Rattle.table_schema.specs.Tokens.{hexadecimal};
+ghost use Rattle.cli_faults.specs.Escaped.{is_plain, is_printable, escaped_byte, escaped_text, escaped_unit};
 ghost use Rattle.cli_reports.specs.Escaped.{escaped_bytes, upper_hexadecimal};
 
 use itoa::Buffer;
@@ -13,6 +14,14 @@ pub(crate) fn push_decimal(number: u64, line: &mut Vec<u8>) -> Result<(), AllocE
 {
     let mut buffer = Buffer::new();
     line.extend_from_slice(buffer.format(number).as_bytes())
+}
+
+/// Appends a space, and a number in decimal.
+pub(crate) fn push_spaced(number: u64, line: &mut Vec<u8>) -> Result<(), AllocError>
+    ensures { OnOk result (line.new.items ≡ line.old.items ++ codes " " ++ decimal number) }
+{
+    line.push(b' ')?;
+    push_decimal(number, line)
 }
 
 /// Appends a number in two hexadecimal digits, in upper case.
@@ -95,4 +104,36 @@ fn push_byte(byte: u8, line: &mut Vec<u8>) -> Result<(), AllocError>
     }
     line.extend_from_slice(b"\\x")?;
     push_hexadecimal(&[byte], line)
+}
+
+/// Appends the eight hexadecimal digits of a number.
+pub(crate) fn push_word(number: u32, line: &mut Vec<u8>) -> Result<(), AllocError>
+    ensures { OnOk result (line.new.items ≡ line.old.items ++ hexadecimal 8 number) }
+{
+    let bytes = [
+        (number / 0x100_0000) as u8,
+        (number / 0x1_0000 % 0x100) as u8,
+        (number / 0x100 % 0x100) as u8,
+        (number % 0x100) as u8,
+    ];
+    push_hexadecimal(&bytes, line)
+}
+
+/// Whether a UTF-16 unit is printable ASCII except `\`.
+fn is_printable(unit: u16) -> bool
+    ensures value { result ≡ is_printable unit }
+    ensures ascii { IsTrue result → unit < 128 }
+{
+    32 <= unit && unit <= 126 && unit != 92
+}
+
+/// Appends a UTF-16 unit: printable ASCII except `\` as it is, and any other unit as `\u` and four hexadecimal digits.
+pub(crate) fn push_unit(unit: u16, line: &mut Vec<u8>) -> Result<(), AllocError>
+    ensures { OnOk result (line.new.items ≡ line.old.items ++ escaped_unit unit) }
+{
+    if is_printable(unit) {
+        return Ok(line.push(unit as u8)?);
+    }
+    line.extend_from_slice(b"\\u")?;
+    push_hexadecimal(&[(unit / 0x100) as u8, (unit % 0x100) as u8], line)
 }

@@ -1,20 +1,27 @@
 //! `clim token`: the row or the user string that a token names.
-ghost use Rattle.std.specs.Prelude.{◌≡◌, ◌≤◌, IfOk, IfErr, OnOk};
+ghost use Rattle.std.specs.Prelude.{◌≡◌, ◌≤◌, ℕ, List, IfOk, IfErr, OnOk};
 ghost use Rattle.heap_entries.specs.Padding.{zero_padded};
+ghost use Rattle.metadata.specs.Metadata.{Metadata, row_of};
+ghost use Rattle.metadata.specs.Model.{IsModel};
 ghost use Rattle.opening.specs.Views.{HasModel, row_count};
+ghost use Rattle.cli_reports.specs.Printed.{IsModelOf};
 ghost use Rattle.cli_reports.specs.Reported.{HasString, IsMet, IsNamed, LeavesOutput, ReportsNoString, ReportsNone, ReportsUnnamed};
+ghost use Rattle.cli_reports.specs.RowTexts.{row_text};
+ghost use Rattle.cli_reports.specs.Sent.{Prints};
+ghost use Rattle.cli_reports.specs.TokenTexts.{IsStringText, IsTokenText};
 ghost use Rattle.cli_reports.specs.declared.report.Report.TheVariants as report;
 
 use crate::existing::existing_row;
 use crate::opened::open;
 use crate::row_lines::push_row;
 use crate::sending::finish;
+use crate::user_string_line::print_user_string;
 use cli_faults::{Failure, printed};
-use heap_entries::{UserString, user_string};
+use heap_entries::user_string;
 use opening::{Token, View};
 use std::alloc::{AllocError, Global};
 use std::io;
-use std::io::{BufWriter, Write};
+use std::io::Write;
 
 /// The high byte of a token that names an offset in `#US` (III.1.9).
 const USER_STRINGS: u32 = 0x70;
@@ -33,6 +40,8 @@ pub(crate) fn run<W: Write>(
     ensures sound { OnOk result (IsMet (report.Token number) bare bytes.now) }
     ensures first_error { IfErr result (ReportsNone bare bytes.now number) }
     ensures untouched { IfErr result (LeavesOutput out.old out.new) }
+    ensures printed { (model : Metadata) → IsModelOf bare bytes.now model → (text : List ℕ) → IsTokenText model number text
+        → Prints (W.contents out.old) (W.contents out.new) result text }
 {
     let view = open(bytes, bare)?;
     print_named(alloc, &view, number, out)
@@ -50,6 +59,8 @@ fn print_named<W: Write>(
     ensures sound { OnOk result (IsNamed view.now number) }
     ensures none { IfErr result (ReportsUnnamed view.now number) }
     ensures untouched { IfErr result (LeavesOutput out.old out.new) }
+    ensures printed { (model : Metadata) → IsModel view.now model → (text : List ℕ) → IsTokenText model number text
+        → Prints (W.contents out.old) (W.contents out.new) result text }
 {
     if number / ROWS == USER_STRINGS {
         return print_string_at(alloc, view, number % ROWS, out);
@@ -60,9 +71,12 @@ fn print_named<W: Write>(
     }
 }
 
+/// Prints the line of a row.
 fn print<W: Write>(alloc: Global, view: &View<'_>, token: Token, out: &mut W) -> io::Result<()>
     requires first { 1 ≤ token.row }
     requires last { token.row ≤ row_count view.now token.table }
+    ensures { (model : Metadata) → IsModel view.now model
+        → Prints (W.contents out.old) (W.contents out.new) result (row_text token.row (row_of model token.table token.row)) }
 {
     let mut line = Vec::new(alloc);
     push_row(alloc, view, token.table, token.row, &mut line)?;
@@ -79,6 +93,8 @@ fn print_string_at<W: Write>(
     ensures sound { OnOk result (HasString view.now offset) }
     ensures none { IfErr result (ReportsNoString view.now offset) }
     ensures untouched { IfErr result (LeavesOutput out.old out.new) }
+    ensures printed { (model : Metadata) → IsModel view.now model → (text : List ℕ) → IsStringText model offset text
+        → Prints (W.contents out.old) (W.contents out.new) result text }
 {
     let user = padded_copy(alloc, view.user()).map_err(|_| Failure::OutOfMemory)?;
     let Ok(string) = user_string(&user, offset) else {
@@ -96,14 +112,4 @@ fn padded_copy(alloc: Global, bytes: &[u8]) -> Result<Vec<u8>, AllocError>
     copy.extend_from_slice(bytes)?;
     copy.resize(bytes.len() + padding, 0)?;
     Ok(copy)
-}
-
-fn print_user_string<W: Write>(
-    alloc: Global,
-    string: &UserString<'_>,
-    out: &mut W,
-) -> io::Result<()> {
-    let mut out = BufWriter::new(alloc, out)?;
-    crate::user_string_line::print_user_string(string, &mut out)?;
-    out.flush()
 }

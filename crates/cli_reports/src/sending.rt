@@ -57,7 +57,12 @@ pub(crate) fn send_full<W: Write>(lines: &mut Vec<u8>, out: &mut W) -> io::Resul
 }
 
 /// Sends the last lines, and flushes the writer.
-pub(crate) fn finish<W: Write>(lines: &[u8], out: &mut W) -> io::Result<()>
+///
+/// # Errors
+///
+/// The error of the writer. By then the writer has nothing or a prefix of the lines, or all of them if it could not be
+/// flushed.
+pub fn finish<W: Write>(lines: &[u8], out: &mut W) -> io::Result<()>
     ensures { Prints (W.contents out.old) (W.contents out.new) result lines.now }
 {
     send(lines, out)?;

@@ -1,52 +1,103 @@
 //! Prints the types of a view.
-ghost use Rattle.std.specs.Prelude.{◌≡◌, ◌≤◌, ◌⊎◌};
+ghost use Rattle.std.specs.Prelude.{◌≡◌, ◌≤◌, ◌-◌, ◌++◌, ◌⊎◌, OnOk, codes, decimal};
 ghost use Rattle.metadata.specs.Cell.{Text};
 ghost use Rattle.metadata.specs.Metadata.{Metadata, cell_in};
 ghost use Rattle.metadata.specs.Model.{IsModel};
 ghost use Rattle.opening.specs.Views.{row_count, HasModel};
 ghost use Rattle.table_schema.specs.declared.table.TableId.TheVariants.{TypeDef};
+ghost use Rattle.cli_faults.specs.Escaped.{escaped_text};
+ghost use Rattle.cli_reports.specs.Sent.{Moves, Prints};
+ghost use Rattle.cli_reports.specs.TypeTexts.{dotted, type_text, types_text};
 
-use cli_faults::Escaped;
+use crate::line::{push_escaped, push_spaced};
+use crate::row_lines::push_token;
+use crate::sending::{FULL, finish, send_full};
 use opening::{CellRef, TableId, Token, View};
+use std::alloc::{AllocError, Global};
 use std::io;
 use std::io::Write;
+use std::ops::Range;
+
+/// The index of the cell with a type's name (II.22.37).
+const NAME: usize = 1;
+
+/// The index of the cell with its namespace.
+const NAMESPACE: usize = 2;
 
 /// Prints a line for each row of TypeDef (II.22.37): its token in eight hexadecimal digits; its namespace and a dot, if
-/// it has one, and its name, both escaped as by [`Escaped`]; and the number of its fields and of its methods.
+/// it has one, and its name, both escaped as by [`push_escaped`]; and the number of its fields and of its methods.
 ///
-/// It does not allocate. An error is that of the writer. By then the writer has a prefix of the lines.
-pub fn print_types<W: Write>(view: &View<'_>, out: &mut W) -> io::Result<()> {
-    // The root of a view has a model.
-    let _root = view.root();
-    for row in 1..=view.count(TableId::TypeDef) {
-        print_type(view, row, out)?;
+/// Its memory is that of the longest line, and of the lines that wait to be sent.
+///
+/// # Errors
+///
+/// Out of memory, or the error of the writer. By then the writer has nothing or a prefix of the lines.
+pub fn print_types<W: Write>(alloc: Global, view: &View<'_>, out: &mut W) -> io::Result<()>
+    ensures { (model : Metadata) → IsModel view.now model → Prints (W.contents out.old) (W.contents out.new) result (types_text model) }
+{
+    let mut lines = Vec::with_capacity(alloc, FULL)?;
+    for earlier in 0..view.count(TableId::TypeDef) {
+        print_type(view, earlier + 1, &mut lines, out)?;
     }
-    Ok(())
+    finish(&lines, out)
 }
 
-fn print_type<W: Write>(view: &View<'_>, row: u32, out: &mut W) -> io::Result<()>
-    requires model { HasModel view.now }
+/// Prints the line of a type.
+fn print_type<W: Write>(
+    view: &View<'_>,
+    row: u32,
+    lines: &mut Vec<u8>,
+    out: &mut W,
+) -> io::Result<()>
     requires first { 1 ≤ row }
     requires last { row ≤ row_count view.now TypeDef }
+    requires limit { row ≤ 0xFFFFFF }
+    ensures { (model : Metadata) → IsModel view.now model
+        → Moves (W.contents out.old) (W.contents out.new) result (lines.old.items ++ type_text model row) lines.new.items }
 {
+    push_type(view, row, lines)?;
+    send_full(lines, out)
+}
+
+/// Appends the line of a type.
+fn push_type(view: &View<'_>, row: u32, line: &mut Vec<u8>) -> Result<(), AllocError>
+    requires first { 1 ≤ row }
+    requires last { row ≤ row_count view.now TypeDef }
+    requires limit { row ≤ 0xFFFFFF }
+    ensures { OnOk result ((model : Metadata) → IsModel view.now model → line.new.items ≡ line.old.items ++ type_text model row) }
+{
+    // The root of a view has a model.
+    let _root = view.root();
+    metadata::laws::models_are_read();
     let token = Token {
         table: TableId::TypeDef,
         row,
     };
-    write!(out, "{token}")?;
-    let namespace = text_of(view, row, 2);
+    push_token(token, line)?;
+    line.push(b' ')?;
+    push_namespace(text_of(view, row, NAMESPACE), line)?;
+    push_escaped(text_of(view, row, NAME).as_bytes(), line)?;
+    push_count(view.fields_of(row), line)?;
+    push_count(view.methods_of(row), line)?;
+    Ok(line.push(b'\n')?)
+}
+
+/// Appends a namespace and a dot, or nothing if it is empty.
+fn push_namespace(namespace: &str, line: &mut Vec<u8>) -> Result<(), AllocError>
+    ensures { OnOk result (line.new.items ≡ line.old.items ++ dotted namespace.now) }
+{
     if namespace.is_empty() {
-        write!(out, " {}", Escaped(text_of(view, row, 1)))?;
-    } else {
-        write!(
-            out,
-            " {}.{}",
-            Escaped(namespace),
-            Escaped(text_of(view, row, 1))
-        )?;
+        return Ok(());
     }
-    let (fields, methods) = (view.fields_of(row).len(), view.methods_of(row).len());
-    writeln!(out, " {fields} {methods}")
+    push_escaped(namespace.as_bytes(), line)?;
+    Ok(line.push(b'.')?)
+}
+
+/// Appends a space and the number of rows in a range.
+fn push_count(rows: Range<u32>, line: &mut Vec<u8>) -> Result<(), AllocError>
+    ensures { OnOk result (line.new.items ≡ line.old.items ++ codes " " ++ decimal (rows.«end» - rows.start)) }
+{
+    push_spaced(u64::from(rows.end.saturating_sub(rows.start)), line)
 }
 
 /// The name of a type, which is its cell 1, or its namespace, which is its cell 2 (II.22.37).

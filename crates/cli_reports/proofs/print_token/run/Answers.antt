@@ -1,3 +1,4 @@
+use Rattle.cli_reports.proofs.SentLemmas.{cut_printed, prefix_of_nothing}
 use Rattle.cli_reports.proofs.Tokens.{named_met, unnamed_reported}
 use Rattle.cli_reports.proofs.print_token.run.Goals as goal
 
@@ -9,3 +10,11 @@ pub returns-clause-first_error : goal.returns-clause-first_error
 returns-clause-first_error g c =
     unnamed_reported c.in_ok-view.view c.args.number c.args.bare c.args.bytes.now c.print_named.result c.in_ok-view.ensures.root
     c.in_ok-view.ensures.sound c.print_named.ensures.none
+
+pub returns-in_err-view-clause-printed : goal.returns-in_err-view-clause-printed
+returns-in_err-view-clause-printed g c = λ model is text named.
+    let known = g.W.Write.contents c.args.out.now in
+    cut_printed c.from_residual.result known known text c.from_residual.ensures.0 (prefix_of_nothing known text)
+
+pub returns-clause-printed : goal.returns-clause-printed
+returns-clause-printed g c = λ model is text named. c.print_named.ensures.printed model (c.in_ok-view.ensures.models model is) text named

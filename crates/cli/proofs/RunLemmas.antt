@@ -1,0 +1,97 @@
+-- The runs of tasks on what reading a file gave, case by case.
+use Rattle.std.proofs.Common.{◌≡◌, ℕ, Bool, List, ◌++◌, Option, Some, Result, Ok, Err, refl, subst, sym, ap, inl, inr, length}
+use Rattle.std.specs.Prelude.{IfErr, IfOk, IfSome, IsErr, IsErrAnd, IsOk, OnOk, ◌↔◌, ◌⊎◌, MatchResult}
+use Rattle.std.specs.Borrow.{Bor}
+use Rattle.std.specs.Io.KnownBytes.{Appends}
+use Rattle.cli_arguments.specs.declared.asked.Ask.{Ask}
+use Rattle.cli_faults.specs.declared.failure.Failure.{Failure}
+use Rattle.cli_faults.specs.declared.failure.Failure.TheVariants.{Fault, NoSuchRow, NoToken, NoCode, CannotRead, CannotWriteOutput, CannotWriteFile, OutOfMemory}
+use Rattle.cli_faults.specs.Status.{IsOutput, IsUnwritten, status_of}
+use Rattle.cli_reports.specs.declared.report.Report.{Report}
+use Rattle.cli_reports.specs.declared.stop.Stop.{Stop}
+use Rattle.cli_reports.specs.declared.stop.Stop.TheVariants.{BudgetSpent, Failed}
+use Rattle.cli_reports.specs.Checked.{IsWhole, rules_of, signature_bytes_of}
+use Rattle.cli_reports.specs.Printed.{IsReportText, check_text}
+use Rattle.cli_reports.specs.Reported.{IsMet, LeavesOutput, Reports}
+use Rattle.cli_reports.specs.Sent.{Prints}
+use Rattle.cli_reports.specs.Stops.{StopLeavesOutput, StopsWithin, status_of_stop}
+use Rattle.cli.specs.declared.stopped.Stopped.{Stopped}
+use Rattle.cli.specs.declared.task.Task.{Task}
+use Rattle.cli.specs.Hints.{hint_for}
+use Rattle.cli.specs.Read.{IsRefused}
+use Rattle.cli.specs.Rewritten.{IsRewritten, ReportsUnwritten}
+use Rattle.cli.specs.Runs.{Does, IsChecked, IsReported, IsRewriting, IsRunOf, IsRunOn, Outcome, StopsBy, wrote_text}
+use Rattle.cli.specs.Stopped.{IsStopOf}
+use Rattle.cli.specs.Tasks.{IsTask}
+
+-- a hint for a result that stopped
+abbrev pub Hinted : Bool → List ℕ → Result (Unit {0}) Stop → Outcome → Type 0
+Hinted bare bytes stops outcome = IfErr stops (λ stop. IfErr outcome (λ stopped. (stopped.stop ≡ stop) × (stopped.hint ≡ hint_for bare bytes stop)))
+
+module _ {W : Type 0} (contents : W → Option (List ℕ)) (before after : W) (bare : Bool) (bytes : List ℕ) where
+  pub reported : (report : Report) (first : Result (Unit {0}) Failure) (second : Result (Unit {0}) Stop) (last : Outcome)
+      → OnOk first (IsMet report bare bytes) → IfErr first (Reports report bare bytes) → IfErr first (LeavesOutput before after)
+      → ((text : List ℕ) → IsReportText report bare bytes text → Prints (contents before) (contents after) first text)
+      → IsStopOf first second → IsOk last ↔ IsOk second → Hinted bare bytes second last
+      → IsReported contents before after report bare bytes last
+  reported report (Ok done) (Ok same) (Ok end) met reports leaves printed stops ok hinted = record { met = met; printed = printed; stopped = tt; hint = tt }
+  reported report (Ok done) (Ok same) (Err stopped) met reports leaves printed stops ok hinted = let no = ok.1 refl in cc
+  reported report (Ok done) (Err stop) last met reports leaves printed stops ok hinted = cc
+  reported report (Err failure) (Ok same) last met reports leaves printed stops ok hinted = absurd stops
+  reported report (Err failure) (Err stop) (Ok end) met reports leaves printed stops ok hinted = let no = ok.0 refl in cc
+  reported report (Err failure) (Err stop) (Err stopped) met reports leaves printed stops ok hinted = record {
+    met = tt;
+    printed = printed;
+    stopped = (failure, rw hinted.0 stops, reports, leaves);
+    hint = rw hinted.0 hinted.1;
+  }
+
+  pub checked : (budget : ℕ) (first : Result (Unit {0}) Stop) (last : Outcome)
+      → OnOk first (IsWhole bare bytes) → IfErr first (StopsWithin budget (signature_bytes_of bare bytes) (IsWhole bare bytes) (rules_of bare bytes))
+      → IfErr first (StopLeavesOutput before after) → Prints (contents before) (contents after) first check_text
+      → IsOk last ↔ IsOk first → Hinted bare bytes first last
+      → IsChecked contents before after budget bare bytes last
+  checked budget (Ok done) (Ok end) met stops leaves printed ok hinted = record { met = met; printed = printed; stopped = tt; hint = tt }
+  checked budget (Ok done) (Err stopped) met stops leaves printed ok hinted = let no = ok.1 refl in cc
+  checked budget (Err stop) (Ok end) met stops leaves printed ok hinted = let no = ok.0 refl in cc
+  checked budget (Err stop) (Err stopped) met stops leaves printed ok hinted = record {
+    met = tt;
+    printed = printed;
+    stopped = rw hinted.0 (stops, leaves);
+    hint = rw hinted.0 hinted.1;
+  }
+
+  pub rewriting : (path : List ℕ) (first : Result (Unit {0}) Failure) (second : Result (Unit {0}) Stop) (last : Outcome)
+      → OnOk first ((root : List ℕ) × IsRewritten bare bytes root × Appends (contents before) (contents after) (wrote_text (length root)))
+      → IfErr first (λ failure. ((ReportsUnwritten bare bytes failure ⊎ IsUnwritten path failure) × (after ≡ before)) ⊎ IsOutput failure)
+      → IsStopOf first second → IsOk last ↔ IsOk second → Hinted bare bytes second last
+      → IsRewriting contents before after path bare bytes last
+  rewriting path (Ok done) (Ok same) (Ok end) written reports stops ok hinted = record { written = written; stopped = tt; hint = tt }
+  rewriting path (Ok done) (Ok same) (Err stopped) written reports stops ok hinted = let no = ok.1 refl in cc
+  rewriting path (Ok done) (Err stop) last written reports stops ok hinted = cc
+  rewriting path (Err failure) (Ok same) last written reports stops ok hinted = absurd stops
+  rewriting path (Err failure) (Err stop) (Ok end) written reports stops ok hinted = let no = ok.0 refl in cc
+  rewriting path (Err failure) (Err stop) (Err stopped) written reports stops ok hinted = record {
+    written = tt;
+    stopped = (failure, rw hinted.0 stops, reports);
+    hint = rw hinted.0 hinted.1;
+  }
+
+-- the value of an option that is there has a property
+pub if_some : {T : Type 0} (P : T → Type 0) (option : Option T) (value : T) → option ≡ Some value → P value → IfSome option P
+if_some P option value is has = subst (λ (o : Option _). IfSome o P) (sym is) has
+
+failure_never_zero : (failure : Failure) → status_of failure ≡ 0 → ⊥
+failure_never_zero (Fault found) is = cc
+failure_never_zero NoSuchRow is = cc
+failure_never_zero (NoToken word) is = cc
+failure_never_zero (NoCode word) is = cc
+failure_never_zero (CannotRead error) is = cc
+failure_never_zero CannotWriteOutput is = cc
+failure_never_zero (CannotWriteFile error) is = cc
+failure_never_zero OutOfMemory is = cc
+
+-- a run that stopped has another exit code than 0
+pub never_zero : (stop : Stop) → status_of_stop stop ≡ 0 → ⊥
+never_zero (Failed failure) is = failure_never_zero failure is
+never_zero BudgetSpent is = cc

@@ -1,0 +1,109 @@
+-- What a run of the program does with its arguments, and with what reading FILE gave.
+use Rattle.std.specs.Prelude.{◌≡◌, ◌≢◌, ℕ, Bool, List, ◌++◌, ◌⊎◌, codes, decimal, length, IfErr, IfSome, IsErrAnd, OnOk, Option, None, Some, Result, Ok, Err, MatchResult}
+use Rattle.std.specs.Borrow.{Bor}
+use Rattle.std.specs.Io.KnownBytes.{Appends}
+use Rattle.clap.specs.Words.{IsAmong, Text, fault_of}
+use Rattle.clap.specs.declared.error.kind.ErrorKind.{ErrorKind}
+use Rattle.clap.specs.declared.error.kind.ErrorKind.TheVariants as kind
+use Rattle.cli_arguments.specs.declared.asked.Ask.{Ask}
+use Rattle.cli_arguments.specs.Asked.{Gives}
+use Rattle.cli_arguments.specs.CommandLine.{clim}
+use Rattle.cli_faults.specs.declared.failure.Failure.{Failure}
+use Rattle.cli_faults.specs.declared.file_error.Reason.TheVariants.{StandardOutput}
+use Rattle.cli_faults.specs.Status.{IsOutput, IsUnwritten}
+use Rattle.cli_reports.specs.declared.report.Report.{Report}
+use Rattle.cli_reports.specs.declared.stop.Stop.{Stop}
+use Rattle.cli_reports.specs.declared.stop.Stop.TheVariants.{Failed}
+use Rattle.cli_reports.specs.Checked.{IsWhole, rules_of, signature_bytes_of}
+use Rattle.cli_reports.specs.Printed.{IsReportText, check_text}
+use Rattle.cli_reports.specs.Reported.{IsMet, LeavesOutput, Reports}
+use Rattle.cli_reports.specs.RowTexts.{line_feed}
+use Rattle.cli_reports.specs.Sent.{Prints}
+use Rattle.cli_reports.specs.Stops.{StopLeavesOutput, StopsWithin, status_of_stop}
+use Rattle.cli.specs.declared.stopped.Stopped.{Stopped}
+use Rattle.cli.specs.declared.task.Task.{Task}
+use Rattle.cli.specs.declared.task.Task.TheVariants as task
+use Rattle.cli.specs.Hints.{hint_for}
+use Rattle.cli.specs.Read.{IsRefused}
+use Rattle.cli.specs.Rewritten.{IsRewritten, ReportsUnwritten}
+use Rattle.cli.specs.Tasks.{IsTask}
+
+-- how a run ends: it did its task, or it stopped early
+abbrev pub Outcome : Type 0
+Outcome = Result (Unit {0}) Stopped
+
+-- the exit code
+abbrev pub status_of_outcome : Outcome → ℕ
+status_of_outcome (Ok done) = 0
+status_of_outcome (Err stopped) = status_of_stop stopped.stop
+
+-- the line of `clim rewrite`
+abbrev pub wrote_text : ℕ → List ℕ
+wrote_text count = codes "wrote " ++ decimal count ++ codes " bytes" ++ line_feed
+
+-- it stopped by this failure, without a hint
+abbrev pub StopsBy : Failure → Stopped → Type 0
+StopsBy failure stopped = (stopped.stop ≡ Failed failure) × (stopped.hint ≡ None)
+
+module _ {W : Type 0} (contents : W → Option (List ℕ)) (before after : W) where
+  -- A report on bytes: all of its text was printed, and the bytes meet the rules that it needs. If it stopped, the
+  -- first broken rule is reported, or what else failed. Only a failure of the output or of memory comes after a prefix
+  -- of the text; any other comes before it.
+  pub record IsReported (report : Report) (bare : Bool) (bytes : List ℕ) (outcome : Outcome) : Type 0 where
+    pub met : OnOk outcome (IsMet report bare bytes)
+    pub printed : (text : List ℕ) → IsReportText report bare bytes text → Prints (contents before) (contents after) outcome text
+    pub stopped : IfErr outcome (λ stopped. (failure : Failure) × (stopped.stop ≡ Failed failure)
+        × Reports report bare bytes failure × LeavesOutput before after failure)
+    pub hint : IfErr outcome (λ stopped. stopped.hint ≡ hint_for bare bytes stopped.stop)
+
+  -- the same for `check` with a budget
+  pub record IsChecked (budget : ℕ) (bare : Bool) (bytes : List ℕ) (outcome : Outcome) : Type 0 where
+    pub met : OnOk outcome (IsWhole bare bytes)
+    pub printed : Prints (contents before) (contents after) outcome check_text
+    pub stopped : IfErr outcome (λ stopped. StopsWithin budget (signature_bytes_of bare bytes) (IsWhole bare bytes) (rules_of bare bytes) stopped.stop
+        × StopLeavesOutput before after stopped.stop)
+    pub hint : IfErr outcome (λ stopped. stopped.hint ≡ hint_for bare bytes stopped.stop)
+
+  -- The canonical root of the bytes' model was written to the file, and its length was printed. If it stopped, the
+  -- first broken rule is reported, or that the root is too long, or what else failed.
+  pub record IsRewriting (path : List ℕ) (bare : Bool) (bytes : List ℕ) (outcome : Outcome) : Type 0 where
+    pub written : OnOk outcome ((root : List ℕ) × IsRewritten bare bytes root × Appends (contents before) (contents after) (wrote_text (length root)))
+    pub stopped : IfErr outcome (λ stopped. (failure : Failure) × (stopped.stop ≡ Failed failure)
+        × (((ReportsUnwritten bare bytes failure ⊎ IsUnwritten path failure) × (after ≡ before)) ⊎ IsOutput failure))
+    pub hint : IfErr outcome (λ stopped. stopped.hint ≡ hint_for bare bytes stopped.stop)
+
+  -- What reading a file gave decides: the run on its bytes; or the failure to read it, and nothing is printed.
+  abbrev pub IsRunOn : List ℕ → (List ℕ → Outcome → Type 0) → Outcome → Type 0
+  IsRunOn file run outcome =
+      (read : Result (List ℕ) Failure)
+      × MatchResult read (λ bytes. run bytes outcome) (λ failure. IsRefused file failure × IsErrAnd outcome (StopsBy failure) × (after ≡ before))
+
+  -- OUT is the standard output: nothing is read or printed
+  abbrev pub IsMixed : List ℕ → Outcome → Type 0
+  IsMixed path outcome = IsErrAnd outcome (λ stopped. (failure : Failure) × StopsBy failure stopped × IsUnwritten path failure) × (after ≡ before)
+
+  -- the run of a task
+  abbrev pub IsRunOf : Task → Bool → Option (Bor (List ℕ)) → Outcome → Type 0
+  IsRunOf (task.Print report) bare file outcome = IfSome file (λ path. IsRunOn path.now (IsReported report bare) outcome)
+  IsRunOf (task.CheckWithin budget) bare file outcome = IfSome file (λ path. IsRunOn path.now (IsChecked budget bare) outcome)
+  IsRunOf (task.Rewrite out) bare file outcome = IfSome file (λ path. IsRunOn path.now (IsRewriting out.now bare) outcome ⊎ IsMixed out.now outcome)
+  IsRunOf (task.Explain code) bare file outcome = IfErr outcome (λ stopped. (failure : Failure) × StopsBy failure stopped × IsOutput failure)
+
+  -- the run of what the arguments ask for: that of their task; or one of them is wrong, and nothing is read or printed
+  abbrev pub Does : Ask → Outcome → Type 0
+  Does ask outcome =
+      (asked : Result Task Failure) × IsTask ask.subcommand ask asked
+      × MatchResult asked (λ made. IsRunOf made ask.bare ask.file outcome) (λ failure. IsErrAnd outcome (StopsBy failure) × (after ≡ before))
+
+  -- why `clap` gives no matches: 3 if memory runs out; 0 for help and the version, if they can be printed; else 2, and
+  -- nothing is read or printed
+  pub record IsUsage (why : ErrorKind) (status : ℕ) : Type 0 where
+    pub memory : why ≡ kind.OutOfMemory → status ≡ 3
+    pub asked : (why ≡ kind.DisplayHelp) ⊎ (why ≡ kind.DisplayVersion) → (status ≡ 0) ⊎ (status ≡ 3)
+    pub wrong : why ≢ kind.OutOfMemory → why ≢ kind.DisplayHelp → why ≢ kind.DisplayVersion → ((status ≡ 2) ⊎ (status ≡ 3)) × (after ≡ before)
+
+  -- a run of the program on these arguments ends with this exit code
+  abbrev pub Ran : List Text → ℕ → Type 0
+  Ran words status =
+      ((ask : Ask) × Gives words ask × (outcome : Outcome) × Does ask outcome × (status ≡ status_of_outcome outcome))
+      ⊎ ((why : ErrorKind) × ((why ≡ kind.OutOfMemory) ⊎ IsAmong why (fault_of clim words)) × IsUsage why status)

@@ -1,0 +1,49 @@
+use Rattle.std.proofs.Common.{◌-◌, ◌+◌, ◌≡◌, [], List, ℕ, subst, arith}
+use Rattle.table_schema.specs.declared.table.TableId.TheVariants.{TypeDef}
+use Rattle.metadata.specs.Metadata.{count_in}
+use Rattle.cli_reports.specs.Sent.{Prints, Sends, SendsPrefix}
+use Rattle.cli_reports.specs.TypeTexts.{type_text, types_text}
+use Rattle.cli_reports.proofs.SentLemmas.{cut_printed, prefix_more, prefix_of_nothing, sends_more, tail_printed}
+use Rattle.cli_reports.proofs.TableLemmas.{first_lines, lines_cut, lines_more}
+use Rattle.cli_reports.proofs.type_lines.print_types.Goals as goal
+
+pub returns-in_err-lines : goal.returns-in_err-lines
+returns-in_err-lines g c = λ model is.
+    let known = g.W.Write.contents c.args.out.now in
+    cut_printed c.from_residual.result known known (types_text model) c.from_residual.ensures.0 (prefix_of_nothing known (types_text model))
+
+pub returns-in_err-print_type : goal.returns-in_err-print_type
+returns-in_err-print_type g c = λ model is.
+    let before = g.W.Write.contents c.args.out.now in
+    let between = g.W.Write.contents c.loop-earlier.out in
+    let after = g.W.Write.contents c.print_type.new.out in
+    let earlier = c.loop-earlier.earlier in
+    let count = count_in model TypeDef in
+    let counted = c.count-earlier-end.ensures.model model is in
+    let whole : earlier + 1 + (count - (earlier + 1)) ≡ count = omega (arith, counted, c.loop-earlier-test.true) in
+    cut_printed c.from_residual-in_err-print_type.result before after (types_text model) c.from_residual-in_err-print_type.ensures.0
+    (lines_cut (type_text model) before after [] (earlier + 1) (count - (earlier + 1)) count whole
+    (subst (λ (bytes : List ℕ). SendsPrefix before after bytes) (lines_more (type_text model) [] earlier)
+    (prefix_more before between after (first_lines (type_text model) earlier) c.loop-earlier.lines.items (type_text model (earlier + 1))
+    (c.loop-earlier.invariant model is) (c.in_err-print_type.ensures model is))))
+
+pub loop-earlier-preserved : goal.loop-earlier-preserved
+loop-earlier-preserved g c = λ model is.
+    let before = g.W.Write.contents c.args.out.now in
+    let between = g.W.Write.contents c.loop-earlier.out in
+    let after = g.W.Write.contents c.print_type.new.out in
+    let earlier = c.loop-earlier.earlier in
+    subst (λ (bytes : List ℕ). Sends before after bytes c.print_type.new.lines.items) (lines_more (type_text model) [] earlier)
+    (sends_more before between after (first_lines (type_text model) earlier) c.loop-earlier.lines.items (type_text model (earlier + 1)) c.print_type.new.lines.items
+    (c.loop-earlier.invariant model is) (c.in_ok-print_type.ensures model is))
+
+pub returns : goal.returns
+returns g c = λ model is.
+    let before = g.W.Write.contents c.args.out.now in
+    let between = g.W.Write.contents c.loop-earlier.out in
+    let after = g.W.Write.contents c.finish.new.out in
+    let counted = c.count-earlier-end.ensures.model model is in
+    let all : c.loop-earlier.earlier ≡ count_in model TypeDef = omega (arith, counted, c.loop-earlier-test.false, c.loop-earlier.auto.earlier-end) in
+    tail_printed c.finish.result before between after (types_text model) c.loop-earlier.lines.items
+    (subst (λ (n : ℕ). Sends before between (first_lines (type_text model) n) c.loop-earlier.lines.items) all (c.loop-earlier.invariant model is))
+    (subst (λ (bytes : List ℕ). Prints between after c.finish.result bytes) c.deref.ensures.value c.finish.ensures)
