@@ -20,8 +20,8 @@
  *   - No pointer is null, even if the length after it is 0. Use "" then.
  *   - A pointer and a length describe that number of bytes or items. Nobody writes them during the call.
  *   - What a call writes through a pointer does not overlap its other arguments. It has a value before the call:
- *     initialise a clim_view, a clim_cell, a clim_bytes, a clim_fault and a clim_header with CLIM_CLOSED,
- *     CLIM_NO_CELL, CLIM_NO_BYTES, CLIM_NO_FAULT and CLIM_NO_HEADER.
+ *     initialise a clim_view, a clim_cell, a clim_bytes, a clim_fault, a clim_header and a clim_stream_header with
+ *     CLIM_CLOSED, CLIM_NO_CELL, CLIM_NO_BYTES, CLIM_NO_FAULT, CLIM_NO_HEADER and CLIM_NO_STREAM.
  *   - A clim_view is copied as a whole. Only calls write its fields.
  *   - The bytes that were opened do not change and do not move, while a view of them, or a text or a blob from
  *     that view, is in use.
@@ -122,6 +122,15 @@ typedef struct clim_cell {
     uint8_t guid[16];
 } clim_cell;
 
+/* A stream header of a root (II.24.2.2): the name, which the standard need not define, in ASCII and at most 32 characters;
+ * the offset of the header, and the offset and the size of the stream, in bytes from the start of the root. */
+typedef struct clim_stream_header {
+    clim_bytes name;
+    size_t header_offset;
+    uint32_t offset;
+    uint32_t size;
+} clim_stream_header;
+
 /* The tables, by their numbers (II.22). */
 enum clim_table {
     CLIM_MODULE = 0x00,
@@ -164,14 +173,24 @@ enum clim_table {
     CLIM_GENERIC_PARAM_CONSTRAINT = 0x2C
 };
 
+/* The version of this header. It changes if a program that was compiled before can no longer use the library. */
+#define CLIM_ABI_VERSION 1
+
 #define CLIM_NO_BYTES {(const uint8_t *)"", 0}
 #define CLIM_NO_FAULT {0, 0, 0}
 #define CLIM_NO_CELL {CLIM_NO_BYTES, 0, CLIM_NO_KIND, 0, {0}}
+#define CLIM_NO_STREAM {CLIM_NO_BYTES, 0, 0, 0}
 #define CLIM_NO_STARTS {1, {0}}
 #define CLIM_NOT_FOUND {CLIM_NO_STARTS, CLIM_NO_STARTS, CLIM_NO_STARTS, CLIM_NO_STARTS, CLIM_NO_STARTS, {false}, false}
 #define CLIM_CLOSED {CLIM_NO_BYTES, CLIM_NOT_FOUND, false}
 #define CLIM_NO_HEADER \
     {0, 0, 0, 0, 0, 0, {0, 0}, 0, 0, {0, 0}, {0, 0}, {0, 0}, {0, 0}, {0, 0}, {0, 0}}
+
+/* The CLIM_ABI_VERSION of the library. */
+uint32_t clim_abi_version(void);
+
+/* sizeof(clim_view) in the library, for callers that do not include this header. */
+size_t clim_view_size(void);
 
 /* Whether a file meets all rules of II.22 to II.25. Otherwise writes *fault, the first rule that it breaks.
  * Reads the len bytes at file. */
@@ -190,6 +209,26 @@ bool clim_open(const uint8_t *file, size_t len, clim_view *view, clim_fault *fau
 
 /* The same for a bare metadata root. */
 bool clim_open_root(const uint8_t *root, size_t len, clim_view *view, clim_fault *fault);
+
+/* The same as clim_check, within a budget: the number of bytes of signatures that it may check at most. Use these four
+ * calls for files of strangers, which can be made such that the time of a check grows with the square of their size.
+ *
+ * *spent is set to whether the budget did not suffice. If it did not, the call returns false and *fault is unchanged.
+ * That happens only if the signature blobs of all rows together are longer than the budget, and the rules before those
+ * of signatures hold. In any other case the call returns and writes what clim_check does. A blob counts its length each
+ * time that it is checked; one that was accepted shortly before is free. 64 times the size of the file is far more than
+ * any compiler's file needs. */
+bool clim_check_within(const uint8_t *file, size_t len, uint64_t budget, clim_fault *fault, bool *spent);
+
+/* The same for a bare metadata root. */
+bool clim_check_root_within(const uint8_t *root, size_t len, uint64_t budget, clim_fault *fault, bool *spent);
+
+/* The same as clim_open, within a budget, as for clim_check_within. If it returns false, *view is unchanged. */
+bool clim_open_within(const uint8_t *file, size_t len, uint64_t budget, clim_view *view, clim_fault *fault, bool *spent);
+
+/* The same for a bare metadata root. */
+bool clim_open_root_within(const uint8_t *root, size_t len, uint64_t budget, clim_view *view, clim_fault *fault,
+                           bool *spent);
 
 /* Writes the name of the rule with this number, for example "BadIndex"; no bytes if no rule has it. The bytes belong
  * to the library. */
@@ -211,6 +250,30 @@ void clim_version(const clim_view *view, clim_bytes *version);
 
 /* Writes the bytes of #US, as they are in the root (II.24.2.4); no bytes if the view is not open. Reads *view. */
 void clim_user(const clim_view *view, clim_bytes *user);
+
+/* The number of stream headers of the root (II.24.2.2), at most 65,535; 0 if the view is not open. Reads *view and the
+ * headers in the root. */
+size_t clim_stream_count(const clim_view *view);
+
+/* Writes *stream, the stream header with an index, from 0, in the order of the root. False if the view is not open, or
+ * has fewer headers; then *stream is unchanged. Reads *view and the headers up to this one. */
+bool clim_stream(const clim_view *view, size_t index, clim_stream_header *stream);
+
+/* The flag of a user string of no bytes, which has no last byte. */
+#define CLIM_NO_FLAG 256
+
+/* Writes the UTF-16 units of the user string that a token names (II.24.2.4) into units[0] to units[room - 1]; units that
+ * do not fit are left out, and the other elements are unchanged. Writes *count, the number of units of the string, which
+ * can be more than room, and *flag, its last byte, or CLIM_NO_FLAG for a string of no bytes. The units need not be valid
+ * UTF-16. The high byte of the token is 0x70, and the others are the offset in #US, which counts as padded with zeros to
+ * a multiple of four. False if the view is not open, the token is another, or the offset has no user string; then
+ * nothing is written. Reads *view and the root. */
+bool clim_user_string(const clim_view *view, uint32_t token, uint16_t *units, size_t room, size_t *count, uint16_t *flag);
+
+/* Writes the text of a GUID, such as "{03020100-0504-0706-0809-0a0b0c0d0e0f}", into buffer[0] to buffer[room - 1];
+ * characters that do not fit are left out. Returns 38, the length of the text. No NUL follows it. Reads guid[0] to
+ * guid[15]. */
+size_t clim_guid_text(const uint8_t *guid, uint8_t *buffer, size_t room);
 
 /* The number of rows in a table; 0 if no table has the number, or the view is not open. Reads *view. */
 uint32_t clim_count(const clim_view *view, uint8_t table);

@@ -1,2 +1,7 @@
+pub mod Buffers
+pub mod GuidLemmas
+pub mod HeaderLemmas
+pub mod PaddedLemmas
 pub mod Texts
+pub mod UnitLemmas
 pub mod Written

@@ -2,3 +2,5 @@ pub mod Faults
 pub mod Headers
 pub mod Reported
 pub mod LookUps
+pub mod Streams
+pub mod Texts
