@@ -173,6 +173,207 @@ enum clim_table {
     CLIM_GENERIC_PARAM_CONSTRAINT = 0x2C
 };
 
+/* The columns of each table, by their index in a row (II.22). c/columns makes these lists. */
+enum clim_module_column {
+    CLIM_MODULE_GENERATION = 0,
+    CLIM_MODULE_NAME = 1,
+    CLIM_MODULE_MVID = 2,
+    CLIM_MODULE_ENC_ID = 3,
+    CLIM_MODULE_ENC_BASE_ID = 4
+};
+enum clim_type_ref_column {
+    CLIM_TYPE_REF_RESOLUTION_SCOPE = 0,
+    CLIM_TYPE_REF_TYPE_NAME = 1,
+    CLIM_TYPE_REF_TYPE_NAMESPACE = 2
+};
+enum clim_type_def_column {
+    CLIM_TYPE_DEF_FLAGS = 0,
+    CLIM_TYPE_DEF_TYPE_NAME = 1,
+    CLIM_TYPE_DEF_TYPE_NAMESPACE = 2,
+    CLIM_TYPE_DEF_EXTENDS = 3,
+    CLIM_TYPE_DEF_FIELD_LIST = 4,
+    CLIM_TYPE_DEF_METHOD_LIST = 5
+};
+enum clim_field_column {
+    CLIM_FIELD_FLAGS = 0,
+    CLIM_FIELD_NAME = 1,
+    CLIM_FIELD_SIGNATURE = 2
+};
+enum clim_method_def_column {
+    CLIM_METHOD_DEF_RVA = 0,
+    CLIM_METHOD_DEF_IMPL_FLAGS = 1,
+    CLIM_METHOD_DEF_FLAGS = 2,
+    CLIM_METHOD_DEF_NAME = 3,
+    CLIM_METHOD_DEF_SIGNATURE = 4,
+    CLIM_METHOD_DEF_PARAM_LIST = 5
+};
+enum clim_param_column {
+    CLIM_PARAM_FLAGS = 0,
+    CLIM_PARAM_SEQUENCE = 1,
+    CLIM_PARAM_NAME = 2
+};
+enum clim_interface_impl_column {
+    CLIM_INTERFACE_IMPL_CLASS = 0,
+    CLIM_INTERFACE_IMPL_INTERFACE = 1
+};
+enum clim_member_ref_column {
+    CLIM_MEMBER_REF_CLASS = 0,
+    CLIM_MEMBER_REF_NAME = 1,
+    CLIM_MEMBER_REF_SIGNATURE = 2
+};
+enum clim_constant_column {
+    CLIM_CONSTANT_TYPE = 0,
+    CLIM_CONSTANT_PARENT = 1,
+    CLIM_CONSTANT_VALUE = 2
+};
+enum clim_custom_attribute_column {
+    CLIM_CUSTOM_ATTRIBUTE_PARENT = 0,
+    CLIM_CUSTOM_ATTRIBUTE_TYPE = 1,
+    CLIM_CUSTOM_ATTRIBUTE_VALUE = 2
+};
+enum clim_field_marshal_column {
+    CLIM_FIELD_MARSHAL_PARENT = 0,
+    CLIM_FIELD_MARSHAL_NATIVE_TYPE = 1
+};
+enum clim_decl_security_column {
+    CLIM_DECL_SECURITY_ACTION = 0,
+    CLIM_DECL_SECURITY_PARENT = 1,
+    CLIM_DECL_SECURITY_PERMISSION_SET = 2
+};
+enum clim_class_layout_column {
+    CLIM_CLASS_LAYOUT_PACKING_SIZE = 0,
+    CLIM_CLASS_LAYOUT_CLASS_SIZE = 1,
+    CLIM_CLASS_LAYOUT_PARENT = 2
+};
+enum clim_field_layout_column {
+    CLIM_FIELD_LAYOUT_OFFSET = 0,
+    CLIM_FIELD_LAYOUT_FIELD = 1
+};
+enum clim_stand_alone_sig_column {
+    CLIM_STAND_ALONE_SIG_SIGNATURE = 0
+};
+enum clim_event_map_column {
+    CLIM_EVENT_MAP_PARENT = 0,
+    CLIM_EVENT_MAP_EVENT_LIST = 1
+};
+enum clim_event_column {
+    CLIM_EVENT_EVENT_FLAGS = 0,
+    CLIM_EVENT_NAME = 1,
+    CLIM_EVENT_EVENT_TYPE = 2
+};
+enum clim_property_map_column {
+    CLIM_PROPERTY_MAP_PARENT = 0,
+    CLIM_PROPERTY_MAP_PROPERTY_LIST = 1
+};
+enum clim_property_column {
+    CLIM_PROPERTY_FLAGS = 0,
+    CLIM_PROPERTY_NAME = 1,
+    CLIM_PROPERTY_TYPE = 2
+};
+enum clim_method_semantics_column {
+    CLIM_METHOD_SEMANTICS_SEMANTICS = 0,
+    CLIM_METHOD_SEMANTICS_METHOD = 1,
+    CLIM_METHOD_SEMANTICS_ASSOCIATION = 2
+};
+enum clim_method_impl_column {
+    CLIM_METHOD_IMPL_CLASS = 0,
+    CLIM_METHOD_IMPL_METHOD_BODY = 1,
+    CLIM_METHOD_IMPL_METHOD_DECLARATION = 2
+};
+enum clim_module_ref_column {
+    CLIM_MODULE_REF_NAME = 0
+};
+enum clim_type_spec_column {
+    CLIM_TYPE_SPEC_SIGNATURE = 0
+};
+enum clim_impl_map_column {
+    CLIM_IMPL_MAP_MAPPING_FLAGS = 0,
+    CLIM_IMPL_MAP_MEMBER_FORWARDED = 1,
+    CLIM_IMPL_MAP_IMPORT_NAME = 2,
+    CLIM_IMPL_MAP_IMPORT_SCOPE = 3
+};
+enum clim_field_rva_column {
+    CLIM_FIELD_RVA_RVA = 0,
+    CLIM_FIELD_RVA_FIELD = 1
+};
+enum clim_assembly_column {
+    CLIM_ASSEMBLY_HASH_ALG_ID = 0,
+    CLIM_ASSEMBLY_MAJOR_VERSION = 1,
+    CLIM_ASSEMBLY_MINOR_VERSION = 2,
+    CLIM_ASSEMBLY_BUILD_NUMBER = 3,
+    CLIM_ASSEMBLY_REVISION_NUMBER = 4,
+    CLIM_ASSEMBLY_FLAGS = 5,
+    CLIM_ASSEMBLY_PUBLIC_KEY = 6,
+    CLIM_ASSEMBLY_NAME = 7,
+    CLIM_ASSEMBLY_CULTURE = 8
+};
+enum clim_assembly_processor_column {
+    CLIM_ASSEMBLY_PROCESSOR_PROCESSOR = 0
+};
+enum clim_assembly_os_column {
+    CLIM_ASSEMBLY_OS_OS_PLATFORM_ID = 0,
+    CLIM_ASSEMBLY_OS_OS_MAJOR_VERSION = 1,
+    CLIM_ASSEMBLY_OS_OS_MINOR_VERSION = 2
+};
+enum clim_assembly_ref_column {
+    CLIM_ASSEMBLY_REF_MAJOR_VERSION = 0,
+    CLIM_ASSEMBLY_REF_MINOR_VERSION = 1,
+    CLIM_ASSEMBLY_REF_BUILD_NUMBER = 2,
+    CLIM_ASSEMBLY_REF_REVISION_NUMBER = 3,
+    CLIM_ASSEMBLY_REF_FLAGS = 4,
+    CLIM_ASSEMBLY_REF_PUBLIC_KEY_OR_TOKEN = 5,
+    CLIM_ASSEMBLY_REF_NAME = 6,
+    CLIM_ASSEMBLY_REF_CULTURE = 7,
+    CLIM_ASSEMBLY_REF_HASH_VALUE = 8
+};
+enum clim_assembly_ref_processor_column {
+    CLIM_ASSEMBLY_REF_PROCESSOR_PROCESSOR = 0,
+    CLIM_ASSEMBLY_REF_PROCESSOR_ASSEMBLY_REF = 1
+};
+enum clim_assembly_ref_os_column {
+    CLIM_ASSEMBLY_REF_OS_OS_PLATFORM_ID = 0,
+    CLIM_ASSEMBLY_REF_OS_OS_MAJOR_VERSION = 1,
+    CLIM_ASSEMBLY_REF_OS_OS_MINOR_VERSION = 2,
+    CLIM_ASSEMBLY_REF_OS_ASSEMBLY_REF = 3
+};
+enum clim_file_column {
+    CLIM_FILE_FLAGS = 0,
+    CLIM_FILE_NAME = 1,
+    CLIM_FILE_HASH_VALUE = 2
+};
+enum clim_exported_type_column {
+    CLIM_EXPORTED_TYPE_FLAGS = 0,
+    CLIM_EXPORTED_TYPE_TYPE_DEF_ID = 1,
+    CLIM_EXPORTED_TYPE_TYPE_NAME = 2,
+    CLIM_EXPORTED_TYPE_TYPE_NAMESPACE = 3,
+    CLIM_EXPORTED_TYPE_IMPLEMENTATION = 4
+};
+enum clim_manifest_resource_column {
+    CLIM_MANIFEST_RESOURCE_OFFSET = 0,
+    CLIM_MANIFEST_RESOURCE_FLAGS = 1,
+    CLIM_MANIFEST_RESOURCE_NAME = 2,
+    CLIM_MANIFEST_RESOURCE_IMPLEMENTATION = 3
+};
+enum clim_nested_class_column {
+    CLIM_NESTED_CLASS_NESTED_CLASS = 0,
+    CLIM_NESTED_CLASS_ENCLOSING_CLASS = 1
+};
+enum clim_generic_param_column {
+    CLIM_GENERIC_PARAM_NUMBER = 0,
+    CLIM_GENERIC_PARAM_FLAGS = 1,
+    CLIM_GENERIC_PARAM_OWNER = 2,
+    CLIM_GENERIC_PARAM_NAME = 3
+};
+enum clim_method_spec_column {
+    CLIM_METHOD_SPEC_METHOD = 0,
+    CLIM_METHOD_SPEC_INSTANTIATION = 1
+};
+enum clim_generic_param_constraint_column {
+    CLIM_GENERIC_PARAM_CONSTRAINT_OWNER = 0,
+    CLIM_GENERIC_PARAM_CONSTRAINT_CONSTRAINT = 1
+};
+/* End of the columns. */
+
 /* The version of this header. It changes if a program that was compiled before can no longer use the library. */
 #define CLIM_ABI_VERSION 1
 
@@ -233,6 +434,13 @@ bool clim_open_root_within(const uint8_t *root, size_t len, uint64_t budget, cli
 /* Writes the name of the rule with this number, for example "BadIndex"; no bytes if no rule has it. The bytes belong
  * to the library. */
 void clim_fault_name(uint16_t code, clim_bytes *name);
+
+/* Writes the text that explains a rule into buffer[0] to buffer[room - 1]; characters that do not fit are left out. It is
+ * what clim explain prints, but no line is broken: the number and the name of the rule and what is wrong, an empty line,
+ * and a line each for the rule, its section, where the offset of a fault points, and the usual cause, each ending in a
+ * line feed. Returns the length of the whole text, which can be more than room, and at most 2,000 today. No NUL follows
+ * it. Returns 0 if no rule has the number; the buffer is then unchanged. */
+size_t clim_explain(uint16_t code, uint8_t *buffer, size_t room);
 
 /* Writes the name of a table, for example "TypeDef"; no bytes if no table has the number. The bytes belong to the
  * library. */

@@ -6,6 +6,7 @@
  *     test write FILE FOLDER     writes these inputs into files of a folder, in the same order
  *     test calls FILE [bare]     compares calls with one another, and makes calls that must be rejected; the last line
  *                                is 'N passed, M failed'
+ *     test explain FILE          prints what each rule means
  *     test times FILE [bare]     prints how long calls take
  *
  * Each input ends at the end of a page, and the next page may not be read.
@@ -525,6 +526,34 @@ static void ask_padded(void) {
     }
 }
 
+static size_t write_explanation(const void *of, uint8_t *buffer, size_t room) {
+    return clim_explain(*(const uint16_t *)of, buffer, room);
+}
+
+/* Each rule has a text, which begins with its number and its name. */
+static void ask_explanations(void) {
+    unsigned rules = 0;
+    bool unwritten = true;
+    for (uint32_t number = 0; number < 0x10000; number++) {
+        uint16_t code = (uint16_t)number;
+        clim_bytes name = CLIM_NO_BYTES;
+        clim_fault_name(code, &name);
+        uint8_t text[2000] = {7};
+        size_t len = clim_explain(code, text, sizeof text);
+        if (len == 0) {
+            unwritten &= name.len == 0 && text[0] == 7 && text[1] == 0;
+            continue;
+        }
+        rules++;
+        char begin[64];
+        int digits = name.len > 0 ? snprintf(begin, sizeof begin, "%u %.*s: ", number, (int)name.len, (const char *)name.at)
+                                  : snprintf(begin, sizeof begin, "%u: ", number);
+        CHECK(len <= sizeof text && memcmp(text, begin, (size_t)digits) == 0 && text[len - 1] == '\n');
+        CHECK(same_text(write_explanation, &code, len));
+    }
+    CHECK(rules == 45 && unwritten);
+}
+
 /* The header names the root of the view. */
 static void ask_header(guarded file, const clim_view *view) {
     clim_header header = CLIM_NO_HEADER;
@@ -572,6 +601,7 @@ static void calls(guarded file, clim_view *view, bool bare) {
     uint32_t row = 7;
     ask_closed();
     ask_names();
+    ask_explanations();
     if (!bare) ask_header(file, view);
     for (unsigned table = 0; table < 256; table++) {
         if (clim_count(view, (uint8_t)table) > 0 && clim_count(view, (uint8_t)table) < 30000) compare_cells(view, (uint8_t)table);
@@ -591,6 +621,15 @@ static void calls(guarded file, clim_view *view, bool bare) {
     ask_padded();
     ask_streams(view);
     ask_user_strings(view);
+}
+
+/* ---- what rules mean */
+
+static void explain(void) {
+    for (uint32_t code = 0; code < 0x10000; code++) {
+        uint8_t text[2000];
+        fwrite(text, 1, clim_explain((uint16_t)code, text, sizeof text), stdout);
+    }
 }
 
 /* ---- times */
@@ -657,6 +696,8 @@ int main(int count, char **words) {
         with_each(file, write_input, &to);
     } else if (strcmp(words[1], "times") == 0) {
         times(file, bare);
+    } else if (strcmp(words[1], "explain") == 0) {
+        explain();
     } else {
         clim_view view = CLOSED;
         clim_fault fault = CLIM_NO_FAULT;

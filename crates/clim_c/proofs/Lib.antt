@@ -1,4 +1,5 @@
 pub mod Buffers
+pub mod ExplainedLemmas
 pub mod GuidLemmas
 pub mod HeaderLemmas
 pub mod PaddedLemmas

@@ -4,3 +4,4 @@ pub mod Reported
 pub mod LookUps
 pub mod Streams
 pub mod Texts
+pub mod Explained

@@ -13,6 +13,7 @@
 #![tactic(auto)]
 
 mod check_calls;
+mod explained;
 mod fault;
 mod guid_text;
 mod library;
@@ -31,6 +32,7 @@ mod view_parts;
 mod within;
 
 pub use check_calls::{clim_check, clim_check_root};
+pub use explained::clim_explain;
 pub use fault::ClimFault;
 pub use guid_text::clim_guid_text;
 pub use library::{clim_abi_version, clim_view_size};
