@@ -20,8 +20,8 @@
  *   - No pointer is null, even if the length after it is 0. Use "" then.
  *   - A pointer and a length describe that number of bytes or items. Nobody writes them during the call.
  *   - What a call writes through a pointer does not overlap its other arguments. It has a value before the call:
- *     initialise a clim_view, a clim_cell, a clim_bytes, a clim_fault and a clim_header with CLIM_CLOSED,
- *     CLIM_NO_CELL, CLIM_NO_BYTES, CLIM_NO_FAULT and CLIM_NO_HEADER.
+ *     initialise a clim_view, a clim_cell, a clim_bytes, a clim_fault, a clim_header and a clim_stream_header with
+ *     CLIM_CLOSED, CLIM_NO_CELL, CLIM_NO_BYTES, CLIM_NO_FAULT, CLIM_NO_HEADER and CLIM_NO_STREAM.
  *   - A clim_view is copied as a whole. Only calls write its fields.
  *   - The bytes that were opened do not change and do not move, while a view of them, or a text or a blob from
  *     that view, is in use.
@@ -122,6 +122,15 @@ typedef struct clim_cell {
     uint8_t guid[16];
 } clim_cell;
 
+/* A stream header of a root (II.24.2.2): the name, which the standard need not define, in ASCII and at most 32 characters;
+ * the offset of the header, and the offset and the size of the stream, in bytes from the start of the root. */
+typedef struct clim_stream_header {
+    clim_bytes name;
+    size_t header_offset;
+    uint32_t offset;
+    uint32_t size;
+} clim_stream_header;
+
 /* The tables, by their numbers (II.22). */
 enum clim_table {
     CLIM_MODULE = 0x00,
@@ -164,14 +173,225 @@ enum clim_table {
     CLIM_GENERIC_PARAM_CONSTRAINT = 0x2C
 };
 
+/* The columns of each table, by their index in a row (II.22). c/columns makes these lists. */
+enum clim_module_column {
+    CLIM_MODULE_GENERATION = 0,
+    CLIM_MODULE_NAME = 1,
+    CLIM_MODULE_MVID = 2,
+    CLIM_MODULE_ENC_ID = 3,
+    CLIM_MODULE_ENC_BASE_ID = 4
+};
+enum clim_type_ref_column {
+    CLIM_TYPE_REF_RESOLUTION_SCOPE = 0,
+    CLIM_TYPE_REF_TYPE_NAME = 1,
+    CLIM_TYPE_REF_TYPE_NAMESPACE = 2
+};
+enum clim_type_def_column {
+    CLIM_TYPE_DEF_FLAGS = 0,
+    CLIM_TYPE_DEF_TYPE_NAME = 1,
+    CLIM_TYPE_DEF_TYPE_NAMESPACE = 2,
+    CLIM_TYPE_DEF_EXTENDS = 3,
+    CLIM_TYPE_DEF_FIELD_LIST = 4,
+    CLIM_TYPE_DEF_METHOD_LIST = 5
+};
+enum clim_field_column {
+    CLIM_FIELD_FLAGS = 0,
+    CLIM_FIELD_NAME = 1,
+    CLIM_FIELD_SIGNATURE = 2
+};
+enum clim_method_def_column {
+    CLIM_METHOD_DEF_RVA = 0,
+    CLIM_METHOD_DEF_IMPL_FLAGS = 1,
+    CLIM_METHOD_DEF_FLAGS = 2,
+    CLIM_METHOD_DEF_NAME = 3,
+    CLIM_METHOD_DEF_SIGNATURE = 4,
+    CLIM_METHOD_DEF_PARAM_LIST = 5
+};
+enum clim_param_column {
+    CLIM_PARAM_FLAGS = 0,
+    CLIM_PARAM_SEQUENCE = 1,
+    CLIM_PARAM_NAME = 2
+};
+enum clim_interface_impl_column {
+    CLIM_INTERFACE_IMPL_CLASS = 0,
+    CLIM_INTERFACE_IMPL_INTERFACE = 1
+};
+enum clim_member_ref_column {
+    CLIM_MEMBER_REF_CLASS = 0,
+    CLIM_MEMBER_REF_NAME = 1,
+    CLIM_MEMBER_REF_SIGNATURE = 2
+};
+enum clim_constant_column {
+    CLIM_CONSTANT_TYPE = 0,
+    CLIM_CONSTANT_PARENT = 1,
+    CLIM_CONSTANT_VALUE = 2
+};
+enum clim_custom_attribute_column {
+    CLIM_CUSTOM_ATTRIBUTE_PARENT = 0,
+    CLIM_CUSTOM_ATTRIBUTE_TYPE = 1,
+    CLIM_CUSTOM_ATTRIBUTE_VALUE = 2
+};
+enum clim_field_marshal_column {
+    CLIM_FIELD_MARSHAL_PARENT = 0,
+    CLIM_FIELD_MARSHAL_NATIVE_TYPE = 1
+};
+enum clim_decl_security_column {
+    CLIM_DECL_SECURITY_ACTION = 0,
+    CLIM_DECL_SECURITY_PARENT = 1,
+    CLIM_DECL_SECURITY_PERMISSION_SET = 2
+};
+enum clim_class_layout_column {
+    CLIM_CLASS_LAYOUT_PACKING_SIZE = 0,
+    CLIM_CLASS_LAYOUT_CLASS_SIZE = 1,
+    CLIM_CLASS_LAYOUT_PARENT = 2
+};
+enum clim_field_layout_column {
+    CLIM_FIELD_LAYOUT_OFFSET = 0,
+    CLIM_FIELD_LAYOUT_FIELD = 1
+};
+enum clim_stand_alone_sig_column {
+    CLIM_STAND_ALONE_SIG_SIGNATURE = 0
+};
+enum clim_event_map_column {
+    CLIM_EVENT_MAP_PARENT = 0,
+    CLIM_EVENT_MAP_EVENT_LIST = 1
+};
+enum clim_event_column {
+    CLIM_EVENT_EVENT_FLAGS = 0,
+    CLIM_EVENT_NAME = 1,
+    CLIM_EVENT_EVENT_TYPE = 2
+};
+enum clim_property_map_column {
+    CLIM_PROPERTY_MAP_PARENT = 0,
+    CLIM_PROPERTY_MAP_PROPERTY_LIST = 1
+};
+enum clim_property_column {
+    CLIM_PROPERTY_FLAGS = 0,
+    CLIM_PROPERTY_NAME = 1,
+    CLIM_PROPERTY_TYPE = 2
+};
+enum clim_method_semantics_column {
+    CLIM_METHOD_SEMANTICS_SEMANTICS = 0,
+    CLIM_METHOD_SEMANTICS_METHOD = 1,
+    CLIM_METHOD_SEMANTICS_ASSOCIATION = 2
+};
+enum clim_method_impl_column {
+    CLIM_METHOD_IMPL_CLASS = 0,
+    CLIM_METHOD_IMPL_METHOD_BODY = 1,
+    CLIM_METHOD_IMPL_METHOD_DECLARATION = 2
+};
+enum clim_module_ref_column {
+    CLIM_MODULE_REF_NAME = 0
+};
+enum clim_type_spec_column {
+    CLIM_TYPE_SPEC_SIGNATURE = 0
+};
+enum clim_impl_map_column {
+    CLIM_IMPL_MAP_MAPPING_FLAGS = 0,
+    CLIM_IMPL_MAP_MEMBER_FORWARDED = 1,
+    CLIM_IMPL_MAP_IMPORT_NAME = 2,
+    CLIM_IMPL_MAP_IMPORT_SCOPE = 3
+};
+enum clim_field_rva_column {
+    CLIM_FIELD_RVA_RVA = 0,
+    CLIM_FIELD_RVA_FIELD = 1
+};
+enum clim_assembly_column {
+    CLIM_ASSEMBLY_HASH_ALG_ID = 0,
+    CLIM_ASSEMBLY_MAJOR_VERSION = 1,
+    CLIM_ASSEMBLY_MINOR_VERSION = 2,
+    CLIM_ASSEMBLY_BUILD_NUMBER = 3,
+    CLIM_ASSEMBLY_REVISION_NUMBER = 4,
+    CLIM_ASSEMBLY_FLAGS = 5,
+    CLIM_ASSEMBLY_PUBLIC_KEY = 6,
+    CLIM_ASSEMBLY_NAME = 7,
+    CLIM_ASSEMBLY_CULTURE = 8
+};
+enum clim_assembly_processor_column {
+    CLIM_ASSEMBLY_PROCESSOR_PROCESSOR = 0
+};
+enum clim_assembly_os_column {
+    CLIM_ASSEMBLY_OS_OS_PLATFORM_ID = 0,
+    CLIM_ASSEMBLY_OS_OS_MAJOR_VERSION = 1,
+    CLIM_ASSEMBLY_OS_OS_MINOR_VERSION = 2
+};
+enum clim_assembly_ref_column {
+    CLIM_ASSEMBLY_REF_MAJOR_VERSION = 0,
+    CLIM_ASSEMBLY_REF_MINOR_VERSION = 1,
+    CLIM_ASSEMBLY_REF_BUILD_NUMBER = 2,
+    CLIM_ASSEMBLY_REF_REVISION_NUMBER = 3,
+    CLIM_ASSEMBLY_REF_FLAGS = 4,
+    CLIM_ASSEMBLY_REF_PUBLIC_KEY_OR_TOKEN = 5,
+    CLIM_ASSEMBLY_REF_NAME = 6,
+    CLIM_ASSEMBLY_REF_CULTURE = 7,
+    CLIM_ASSEMBLY_REF_HASH_VALUE = 8
+};
+enum clim_assembly_ref_processor_column {
+    CLIM_ASSEMBLY_REF_PROCESSOR_PROCESSOR = 0,
+    CLIM_ASSEMBLY_REF_PROCESSOR_ASSEMBLY_REF = 1
+};
+enum clim_assembly_ref_os_column {
+    CLIM_ASSEMBLY_REF_OS_OS_PLATFORM_ID = 0,
+    CLIM_ASSEMBLY_REF_OS_OS_MAJOR_VERSION = 1,
+    CLIM_ASSEMBLY_REF_OS_OS_MINOR_VERSION = 2,
+    CLIM_ASSEMBLY_REF_OS_ASSEMBLY_REF = 3
+};
+enum clim_file_column {
+    CLIM_FILE_FLAGS = 0,
+    CLIM_FILE_NAME = 1,
+    CLIM_FILE_HASH_VALUE = 2
+};
+enum clim_exported_type_column {
+    CLIM_EXPORTED_TYPE_FLAGS = 0,
+    CLIM_EXPORTED_TYPE_TYPE_DEF_ID = 1,
+    CLIM_EXPORTED_TYPE_TYPE_NAME = 2,
+    CLIM_EXPORTED_TYPE_TYPE_NAMESPACE = 3,
+    CLIM_EXPORTED_TYPE_IMPLEMENTATION = 4
+};
+enum clim_manifest_resource_column {
+    CLIM_MANIFEST_RESOURCE_OFFSET = 0,
+    CLIM_MANIFEST_RESOURCE_FLAGS = 1,
+    CLIM_MANIFEST_RESOURCE_NAME = 2,
+    CLIM_MANIFEST_RESOURCE_IMPLEMENTATION = 3
+};
+enum clim_nested_class_column {
+    CLIM_NESTED_CLASS_NESTED_CLASS = 0,
+    CLIM_NESTED_CLASS_ENCLOSING_CLASS = 1
+};
+enum clim_generic_param_column {
+    CLIM_GENERIC_PARAM_NUMBER = 0,
+    CLIM_GENERIC_PARAM_FLAGS = 1,
+    CLIM_GENERIC_PARAM_OWNER = 2,
+    CLIM_GENERIC_PARAM_NAME = 3
+};
+enum clim_method_spec_column {
+    CLIM_METHOD_SPEC_METHOD = 0,
+    CLIM_METHOD_SPEC_INSTANTIATION = 1
+};
+enum clim_generic_param_constraint_column {
+    CLIM_GENERIC_PARAM_CONSTRAINT_OWNER = 0,
+    CLIM_GENERIC_PARAM_CONSTRAINT_CONSTRAINT = 1
+};
+/* End of the columns. */
+
+/* The version of this header. It changes if a program that was compiled before can no longer use the library. */
+#define CLIM_ABI_VERSION 1
+
 #define CLIM_NO_BYTES {(const uint8_t *)"", 0}
 #define CLIM_NO_FAULT {0, 0, 0}
 #define CLIM_NO_CELL {CLIM_NO_BYTES, 0, CLIM_NO_KIND, 0, {0}}
+#define CLIM_NO_STREAM {CLIM_NO_BYTES, 0, 0, 0}
 #define CLIM_NO_STARTS {1, {0}}
 #define CLIM_NOT_FOUND {CLIM_NO_STARTS, CLIM_NO_STARTS, CLIM_NO_STARTS, CLIM_NO_STARTS, CLIM_NO_STARTS, {false}, false}
 #define CLIM_CLOSED {CLIM_NO_BYTES, CLIM_NOT_FOUND, false}
 #define CLIM_NO_HEADER \
     {0, 0, 0, 0, 0, 0, {0, 0}, 0, 0, {0, 0}, {0, 0}, {0, 0}, {0, 0}, {0, 0}, {0, 0}}
+
+/* The CLIM_ABI_VERSION of the library. */
+uint32_t clim_abi_version(void);
+
+/* sizeof(clim_view) in the library, for callers that do not include this header. */
+size_t clim_view_size(void);
 
 /* Whether a file meets all rules of II.22 to II.25. Otherwise writes *fault, the first rule that it breaks.
  * Reads the len bytes at file. */
@@ -191,9 +411,36 @@ bool clim_open(const uint8_t *file, size_t len, clim_view *view, clim_fault *fau
 /* The same for a bare metadata root. */
 bool clim_open_root(const uint8_t *root, size_t len, clim_view *view, clim_fault *fault);
 
+/* The same as clim_check, within a budget: the number of bytes of signatures that it may check at most. Use these four
+ * calls for files of strangers, which can be made such that the time of a check grows with the square of their size.
+ *
+ * *spent is set to whether the budget did not suffice. If it did not, the call returns false and *fault is unchanged.
+ * That happens only if the signature blobs of all rows together are longer than the budget, and the rules before those
+ * of signatures hold. In any other case the call returns and writes what clim_check does. A blob counts its length each
+ * time that it is checked; one that was accepted shortly before is free. 64 times the size of the file is far more than
+ * any compiler's file needs. */
+bool clim_check_within(const uint8_t *file, size_t len, uint64_t budget, clim_fault *fault, bool *spent);
+
+/* The same for a bare metadata root. */
+bool clim_check_root_within(const uint8_t *root, size_t len, uint64_t budget, clim_fault *fault, bool *spent);
+
+/* The same as clim_open, within a budget, as for clim_check_within. If it returns false, *view is unchanged. */
+bool clim_open_within(const uint8_t *file, size_t len, uint64_t budget, clim_view *view, clim_fault *fault, bool *spent);
+
+/* The same for a bare metadata root. */
+bool clim_open_root_within(const uint8_t *root, size_t len, uint64_t budget, clim_view *view, clim_fault *fault,
+                           bool *spent);
+
 /* Writes the name of the rule with this number, for example "BadIndex"; no bytes if no rule has it. The bytes belong
  * to the library. */
 void clim_fault_name(uint16_t code, clim_bytes *name);
+
+/* Writes the text that explains a rule into buffer[0] to buffer[room - 1]; characters that do not fit are left out. It is
+ * what clim explain prints, but no line is broken: the number and the name of the rule and what is wrong, an empty line,
+ * and a line each for the rule, its section, where the offset of a fault points, and the usual cause, each ending in a
+ * line feed. Returns the length of the whole text, which can be more than room, and at most 2,000 today. No NUL follows
+ * it. Returns 0 if no rule has the number; the buffer is then unchanged. */
+size_t clim_explain(uint16_t code, uint8_t *buffer, size_t room);
 
 /* Writes the name of a table, for example "TypeDef"; no bytes if no table has the number. The bytes belong to the
  * library. */
@@ -211,6 +458,30 @@ void clim_version(const clim_view *view, clim_bytes *version);
 
 /* Writes the bytes of #US, as they are in the root (II.24.2.4); no bytes if the view is not open. Reads *view. */
 void clim_user(const clim_view *view, clim_bytes *user);
+
+/* The number of stream headers of the root (II.24.2.2), at most 65,535; 0 if the view is not open. Reads *view and the
+ * headers in the root. */
+size_t clim_stream_count(const clim_view *view);
+
+/* Writes *stream, the stream header with an index, from 0, in the order of the root. False if the view is not open, or
+ * has fewer headers; then *stream is unchanged. Reads *view and the headers up to this one. */
+bool clim_stream(const clim_view *view, size_t index, clim_stream_header *stream);
+
+/* The flag of a user string of no bytes, which has no last byte. */
+#define CLIM_NO_FLAG 256
+
+/* Writes the UTF-16 units of the user string that a token names (II.24.2.4) into units[0] to units[room - 1]; units that
+ * do not fit are left out, and the other elements are unchanged. Writes *count, the number of units of the string, which
+ * can be more than room, and *flag, its last byte, or CLIM_NO_FLAG for a string of no bytes. The units need not be valid
+ * UTF-16. The high byte of the token is 0x70, and the others are the offset in #US, which counts as padded with zeros to
+ * a multiple of four. False if the view is not open, the token is another, or the offset has no user string; then
+ * nothing is written. Reads *view and the root. */
+bool clim_user_string(const clim_view *view, uint32_t token, uint16_t *units, size_t room, size_t *count, uint16_t *flag);
+
+/* Writes the text of a GUID, such as "{03020100-0504-0706-0809-0a0b0c0d0e0f}", into buffer[0] to buffer[room - 1];
+ * characters that do not fit are left out. Returns 38, the length of the text. No NUL follows it. Reads guid[0] to
+ * guid[15]. */
+size_t clim_guid_text(const uint8_t *guid, uint8_t *buffer, size_t room);
 
 /* The number of rows in a table; 0 if no table has the number, or the view is not open. Reads *view. */
 uint32_t clim_count(const clim_view *view, uint8_t table);

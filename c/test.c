@@ -6,6 +6,7 @@
  *     test write FILE FOLDER     writes these inputs into files of a folder, in the same order
  *     test calls FILE [bare]     compares calls with one another, and makes calls that must be rejected; the last line
  *                                is 'N passed, M failed'
+ *     test explain FILE          prints what each rule means
  *     test times FILE [bare]     prints how long calls take
  *
  * Each input ends at the end of a page, and the next page may not be read.
@@ -27,6 +28,7 @@ _Static_assert(sizeof(clim_header) == 96 && offsetof(clim_header, managed_native
 _Static_assert(sizeof(clim_starts) == 1028, "clim_starts");
 _Static_assert(offsetof(clim_found, in_order) == 5140 && offsetof(clim_found, utf8_texts) == 5185, "clim_found");
 _Static_assert(sizeof(clim_view) == 5208 && offsetof(clim_view, is_open) == 5204, "clim_view");
+_Static_assert(sizeof(clim_stream_header) == 32 && offsetof(clim_stream_header, size) == 28, "clim_stream_header");
 _Static_assert(sizeof(clim_cell) == 40 && offsetof(clim_cell, guid) == 22, "clim_cell");
 
 static const clim_cell NO_CELL = CLIM_NO_CELL;
@@ -111,6 +113,30 @@ static void print_fault(clim_fault fault) {
            (const char *)name.at);
 }
 
+static bool same_fault(clim_fault a, clim_fault b) {
+    return a.offset == b.offset && a.code == b.code && a.layer == b.layer;
+}
+
+/* Whether checking and opening within a budget return what they return without. */
+static bool same_within(const uint8_t *bytes, size_t len, bool bare, bool valid, clim_fault fault) {
+    for (unsigned i = 0; i < 3; i++) {
+        uint64_t budget = i == 0 ? UINT64_MAX : i == 1 ? 64 * (uint64_t)len : 0;
+        clim_fault checked = {7, 7, 7}, opened = {7, 7, 7};
+        clim_view view = CLOSED;
+        bool no_check = i % 2 == 0, no_open = i % 2 == 0;
+        bool check = bare ? clim_check_root_within(bytes, len, budget, &checked, &no_check)
+                          : clim_check_within(bytes, len, budget, &checked, &no_check);
+        bool open = bare ? clim_open_root_within(bytes, len, budget, &view, &opened, &no_open)
+                         : clim_open_within(bytes, len, budget, &view, &opened, &no_open);
+        if (check != open || no_check != no_open || !same_fault(checked, opened) || view.is_open != open) return false;
+        if (!open && !same_view(&view, &CLOSED)) return false;
+        /* Only a budget of 0 is spent, and only if rules before those of signatures (7) hold. */
+        if (no_check && (i < 2 || check || checked.code != 7 || (!valid && fault.layer < 7))) return false;
+        if (!no_check && (check != valid || !same_fault(checked, fault))) return false;
+    }
+    return true;
+}
+
 /* Checks and opens: both return the same, and what a call does not write is unchanged. */
 static void answer(const uint8_t *bytes, size_t len, void *with) {
     bool bare = *(bool *)with;
@@ -121,6 +147,8 @@ static void answer(const uint8_t *bytes, size_t len, void *with) {
     if (checked != opened || fault.offset != same.offset || fault.code != same.code || fault.layer != same.layer ||
         view.is_open != opened || (!opened && !same_view(&view, &CLOSED))) {
         printf("check and open differ\n");
+    } else if (!same_within(bytes, len, bare, checked, fault)) {
+        printf("a call within a budget differs\n");
     } else if (checked) {
         printf(fault.offset == 7 && fault.code == 7 && fault.layer == 7 ? "ok\n" : "a fault is written beside ok\n");
     } else {
@@ -171,10 +199,12 @@ static void print_cell(const clim_cell *cell) {
     case CLIM_NULL_ROW: printf("null"); break;
     case CLIM_ROW: printf("%02x%06x", cell->table, cell->number); break;
     case CLIM_START: printf("+%u", cell->number); break;
-    case CLIM_GUID:
-        printf("{%02x%02x%02x%02x-%02x%02x-%02x%02x-%02x%02x-%02x%02x%02x%02x%02x%02x}", g[3], g[2], g[1], g[0], g[5],
-               g[4], g[7], g[6], g[8], g[9], g[10], g[11], g[12], g[13], g[14], g[15]);
+    case CLIM_GUID: {
+        uint8_t text[38];
+        if (clim_guid_text(g, text, sizeof text) != sizeof text) stop("a GUID has another length");
+        printf("%.38s", (const char *)text);
         break;
+    }
     default: printf("?");
     }
 }
@@ -330,6 +360,11 @@ static void ask_closed(void) {
     text.len = 1;
     clim_user(&view, &text);
     CHECK(text.len == 0);
+    clim_stream_header stream = CLIM_NO_STREAM;
+    uint16_t unit = 7, flag = 7;
+    size_t count = 7;
+    CHECK(clim_stream_count(&view) == 0 && !clim_stream(&view, 0, &stream) && stream.name.len == 0);
+    CHECK(!clim_user_string(&view, 0x70000000, &unit, 1, &count, &flag) && unit == 7 && count == 7 && flag == 7);
 }
 
 /* The names of tables and columns: a table has a name, and exactly one name for each cell. */
@@ -351,6 +386,174 @@ static void ask_names(void) {
     CHECK(tables == 38);
 }
 
+/* A call that writes a text into a buffer. */
+typedef size_t write_text(const void *of, uint8_t *buffer, size_t room);
+
+/* Whether a call writes a text of this length, and in buffers that are too small its first bytes. What follows them is
+ * unchanged. */
+static bool same_text(write_text *write, const void *of, size_t len) {
+    guarded whole = guard(len), part = guard(len + 2);
+    bool same = write(of, whole.at, len) == len;
+    for (size_t room = 0; room <= len + 1; room++) {
+        size_t put = room < len ? room : len;
+        memset(part.at, 0xEE, part.len);
+        same &= write(of, part.at + 1, room) == len && memcmp(part.at + 1, whole.at, put) == 0 && part.at[0] == 0xEE;
+        for (size_t i = 1 + put; i < part.len; i++) same &= part.at[i] == 0xEE;
+        /* The page after the buffer may not be written. */
+        same &= write(of, part.at + part.len - room, room) == len;
+    }
+    munmap(whole.pages, whole.room);
+    munmap(part.pages, part.room);
+    return same;
+}
+
+static size_t write_guid(const void *of, uint8_t *buffer, size_t room) {
+    return clim_guid_text(of, buffer, room);
+}
+
+/* The text of a GUID has its fields of 4, 2 and 2 bytes in the order of numbers (II.24.2.5). */
+static void ask_guids(void) {
+    static const uint8_t guid[16] = {0, 1, 2, 3, 4, 5, 6, 7, 8, 9, 10, 11, 12, 13, 14, 0xFF};
+    uint8_t text[38];
+    CHECK(clim_guid_text(guid, text, 38) == 38 && memcmp(text, "{03020100-0504-0706-0809-0a0b0c0d0eff}", 38) == 0);
+    CHECK(same_text(write_guid, guid, 38));
+}
+
+/* A number of the file. */
+static uint64_t little_endian(const uint8_t *at, unsigned count) {
+    uint64_t number = 0;
+    while (count-- > 0) number = number << 8 | at[count];
+    return number;
+}
+
+/* The stream headers are those in the bytes of the root. */
+static void ask_streams(const clim_view *view) {
+    const uint8_t *root = view->root.at;
+    size_t count = clim_stream_count(view), at = 16 + (size_t)little_endian(root + 12, 4);
+    clim_stream_header stream = CLIM_NO_STREAM;
+    clim_bytes user = CLIM_NO_BYTES;
+    clim_user(view, &user);
+    bool same = count == little_endian(root + at + 2, 2), has_tables = false, has_user = user.len == 0;
+    at += 4;
+    for (size_t i = 0; i < count; i++) {
+        same &= clim_stream(view, i, &stream) && stream.header_offset == at && stream.offset == little_endian(root + at, 4);
+        same &= stream.size == little_endian(root + at + 4, 4) && stream.name.at == root + at + 8;
+        same &= stream.name.len == strlen((const char *)root + at + 8);
+        has_tables |= stream.name.len == 2 && memcmp(stream.name.at, "#~", 2) == 0;
+        has_user |= stream.name.len == 3 && memcmp(stream.name.at, "#US", 3) == 0 && user.at == root + stream.offset;
+        at += 8 + (stream.name.len + 4) / 4 * 4;
+    }
+    CHECK(same && has_tables && has_user);
+    clim_stream_header last = stream;
+    CHECK(!clim_stream(view, count, &stream) && !clim_stream(view, SIZE_MAX, &stream));
+    CHECK(memcmp(&last, &stream, sizeof last) == 0);
+}
+
+/* The length before a blob, and the number of its bytes (II.23.2); false if there is none. */
+static bool read_length(const uint8_t *at, const uint8_t *end, uint32_t *length, uint32_t *used) {
+    if (at == end || *at >= 0xE0) return false;
+    *used = *at < 0x80 ? 1 : *at < 0xC0 ? 2 : 4;
+    if ((size_t)(end - at) < *used) return false;
+    *length = *at & (*used == 1 ? 0x7F : *used == 2 ? 0x3F : 0x1F);
+    for (uint32_t i = 1; i < *used; i++) *length = *length << 8 | at[i];
+    return true;
+}
+
+/* The user string at an offset is that in a padded copy of #US. A buffer that is too small has its first units. */
+static bool same_user_string(const clim_view *view, const uint8_t *heap, size_t len, uint32_t offset) {
+    uint16_t units[6] = {0xEEEE, 0xEEEE, 0xEEEE, 0xEEEE, 0xEEEE, 0xEEEE}, flag = 0xEEEE;
+    size_t count = 7;
+    uint32_t length = 0, used = 0;
+    bool is_there = offset == 0 || (offset <= len && read_length(heap + offset, heap + len, &length, &used) &&
+                                    length <= len - offset - used && (length == 0 || length % 2 == 1));
+    bool found = clim_user_string(view, 0x70000000 | offset, units + 1, 4, &count, &flag);
+    if (found != is_there) return false;
+    if (!found) return count == 7 && flag == 0xEEEE && units[1] == 0xEEEE && units[4] == 0xEEEE;
+    const uint8_t *blob = heap + offset + used;
+    if (count != length / 2 || flag != (length == 0 ? CLIM_NO_FLAG : blob[length - 1])) return false;
+    for (size_t i = 0; i < 4; i++) {
+        if (units[1 + i] != (i < count ? (uint16_t)little_endian(blob + 2 * i, 2) : 0xEEEE)) return false;
+    }
+    uint16_t *all = malloc((count + 1) * sizeof *all);
+    if (all == NULL) stop("no memory");
+    bool same = clim_user_string(view, 0x70000000 | offset, all, count, &count, &flag);
+    for (size_t i = 0; i < count; i++) same &= all[i] == (uint16_t)little_endian(blob + 2 * i, 2);
+    free(all);
+    return same && units[0] == 0xEEEE && units[5] == 0xEEEE;
+}
+
+/* At each offset of #US there is the user string of the padded heap, or none. */
+static void ask_user_strings(const clim_view *view) {
+    clim_bytes user = CLIM_NO_BYTES;
+    clim_user(view, &user);
+    size_t padded = (user.len + 3) / 4 * 4, step = user.len / 20000 + 1;
+    uint8_t *heap = calloc(padded + 1, 1);
+    if (heap == NULL) stop("no memory");
+    memcpy(heap, user.at, user.len);
+    bool same = true;
+    for (size_t offset = 0; offset < padded + 8 && offset < 1 << 24; offset += offset + 64 < padded ? step : 1) {
+        same &= same_user_string(view, heap, padded, (uint32_t)offset);
+    }
+    CHECK(same && same_user_string(view, heap, padded, 0xFFFFFF));
+    free(heap);
+    uint16_t unit = 7, flag = 7;
+    size_t count = 7;
+    CHECK(!clim_user_string(view, 0, &unit, 1, &count, &flag) && !clim_user_string(view, 0x71000000, &unit, 1, &count, &flag));
+    CHECK(!clim_user_string(view, 0x06000001, &unit, 1, &count, &flag) && unit == 7 && count == 7 && flag == 7);
+}
+
+/* Roots with bytes of #US that no sample has: strings and lengths that only the padding completes. */
+static void ask_padded(void) {
+    static const uint8_t front[72] = {
+        0x42, 0x53, 0x4A, 0x42, 1, 0, 1, 0, 0, 0, 0, 0, 4, 0, 0, 0, 'v', 0, 0, 0, 0, 0, 2, 0,
+        48, 0, 0, 0, 24, 0, 0, 0, '#', '~', 0, 0, 72, 0, 0, 0, 0, 0, 0, 0, '#', 'U', 'S', 0,
+        0, 0, 0, 0, 2, 0, 0, 1};
+    static const struct { size_t len; uint8_t bytes[14]; } heaps[] = {
+        {0, {0}}, {1, {0}}, {1, {3}}, {2, {0, 1}}, {3, {0, 3, 'A'}}, {2, {0, 0x80}}, {3, {0, 0x81, 0}},
+        {5, {0, 0, 0, 0, 0xC0}}, {6, {0, 0, 0, 0, 0xC0, 1}}, {7, {0, 0, 0, 0, 0xC0, 0, 1}}, {4, {0, 0xE0, 0xFF, 2}},
+        {14, {0, 3, 'A', 0, 1, 0x80, 0, 2, 'B', 'B', 5, 'A', 0, 'B'}}};
+    for (size_t i = 0; i < sizeof heaps / sizeof *heaps; i++) {
+        guarded root = guard(sizeof front + heaps[i].len);
+        memcpy(root.at, front, sizeof front);
+        root.at[40] = (uint8_t)heaps[i].len;
+        memcpy(root.at + sizeof front, heaps[i].bytes, heaps[i].len);
+        clim_view view = CLOSED;
+        clim_fault fault = CLIM_NO_FAULT;
+        CHECK(clim_open_root(root.at, root.len, &view, &fault));
+        ask_streams(&view);
+        ask_user_strings(&view);
+        munmap(root.pages, root.room);
+    }
+}
+
+static size_t write_explanation(const void *of, uint8_t *buffer, size_t room) {
+    return clim_explain(*(const uint16_t *)of, buffer, room);
+}
+
+/* Each rule has a text, which begins with its number and its name. */
+static void ask_explanations(void) {
+    unsigned rules = 0;
+    bool unwritten = true;
+    for (uint32_t number = 0; number < 0x10000; number++) {
+        uint16_t code = (uint16_t)number;
+        clim_bytes name = CLIM_NO_BYTES;
+        clim_fault_name(code, &name);
+        uint8_t text[2000] = {7};
+        size_t len = clim_explain(code, text, sizeof text);
+        if (len == 0) {
+            unwritten &= name.len == 0 && text[0] == 7 && text[1] == 0;
+            continue;
+        }
+        rules++;
+        char begin[64];
+        int digits = name.len > 0 ? snprintf(begin, sizeof begin, "%u %.*s: ", number, (int)name.len, (const char *)name.at)
+                                  : snprintf(begin, sizeof begin, "%u: ", number);
+        CHECK(len <= sizeof text && memcmp(text, begin, (size_t)digits) == 0 && text[len - 1] == '\n');
+        CHECK(same_text(write_explanation, &code, len));
+    }
+    CHECK(rules == 45 && unwritten);
+}
+
 /* The header names the root of the view. */
 static void ask_header(guarded file, const clim_view *view) {
     clim_header header = CLIM_NO_HEADER;
@@ -361,6 +564,30 @@ static void ask_header(guarded file, const clim_view *view) {
     clim_header same = header;
     CHECK(!clim_read_header(file.at, 0, &same, &fault) && fault.code == 102);
     CHECK(memcmp(&same, &header, sizeof same) == 0);
+}
+
+/* Signatures are checked within a budget: with one byte less than they need it is spent. */
+static void ask_within(guarded file, const clim_view *view, bool bare) {
+    CHECK(clim_abi_version() == CLIM_ABI_VERSION && clim_view_size() == sizeof(clim_view));
+    clim_fault fault = {7, 7, 7};
+    uint64_t low = 0, high = UINT64_MAX;
+    bool spent = true, is_first = true;
+    while (low < high) {
+        uint64_t budget = low + (high - low) / 2;
+        clim_view opened = CLOSED;
+        bool open = bare ? clim_open_root_within(file.at, file.len, budget, &opened, &fault, &spent)
+                         : clim_open_within(file.at, file.len, budget, &opened, &fault, &spent);
+        is_first &= open != spent && same_view(&opened, open ? view : &CLOSED);
+        if (open) high = budget;
+        else low = budget + 1;
+    }
+    CHECK(is_first && fault.code == 7);
+    CHECK(high <= 64 * (uint64_t)file.len);
+    /* A rule before those of signatures is reported whatever the budget is. */
+    spent = true;
+    CHECK(!clim_check_within(file.at, 0, 0, &fault, &spent) && !spent && fault.code == 102);
+    spent = true;
+    CHECK(!clim_check_root_within(file.at, 0, 0, &fault, &spent) && !spent && fault.code == 301);
 }
 
 static void calls(guarded file, clim_view *view, bool bare) {
@@ -374,6 +601,7 @@ static void calls(guarded file, clim_view *view, bool bare) {
     uint32_t row = 7;
     ask_closed();
     ask_names();
+    ask_explanations();
     if (!bare) ask_header(file, view);
     for (unsigned table = 0; table < 256; table++) {
         if (clim_count(view, (uint8_t)table) > 0 && clim_count(view, (uint8_t)table) < 30000) compare_cells(view, (uint8_t)table);
@@ -388,6 +616,20 @@ static void calls(guarded file, clim_view *view, bool bare) {
     clim_fault fault = CLIM_NO_FAULT;
     CHECK(!clim_open(file.at, 0, &copy, &fault) && fault.code == 102 && same_view(&copy, view));
     CHECK(!clim_open_root(file.at, 0, &copy, &fault) && same_view(&copy, view));
+    ask_within(file, view, bare);
+    ask_guids();
+    ask_padded();
+    ask_streams(view);
+    ask_user_strings(view);
+}
+
+/* ---- what rules mean */
+
+static void explain(void) {
+    for (uint32_t code = 0; code < 0x10000; code++) {
+        uint8_t text[2000];
+        fwrite(text, 1, clim_explain((uint16_t)code, text, sizeof text), stdout);
+    }
 }
 
 /* ---- times */
@@ -454,6 +696,8 @@ int main(int count, char **words) {
         with_each(file, write_input, &to);
     } else if (strcmp(words[1], "times") == 0) {
         times(file, bare);
+    } else if (strcmp(words[1], "explain") == 0) {
+        explain();
     } else {
         clim_view view = CLOSED;
         clim_fault fault = CLIM_NO_FAULT;

@@ -12,7 +12,7 @@ use crate::view::ClimView;
 use opening::{View, open_image, open_root, view_again};
 
 /// What a C caller keeps of an opened root.
-fn kept<'a>(view: &View<'a>) -> ClimView<'a>
+pub(crate) fn kept<'a>(view: &View<'a>) -> ClimView<'a>
     ensures root { result.root.now ≡ view.now }
     ensures open { result.is_open ≡ true }
 {
