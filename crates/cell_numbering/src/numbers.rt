@@ -18,7 +18,7 @@ ghost use Rattle.cell_numbering.specs.CellIndexes.{IsCellIndexOf};
 use crate::gathering::Gathering;
 use heap_pools::PoolError;
 use metadata_source::{ReadCells, SignatureBytes, kind_of};
-use reading::CellRef;
+use reading::{CellRef, RunCursors};
 use root_writer::{Numbering, row_number};
 use std::alloc::Global;
 use table_schema::{ColumnKind, SigKind, TableId, columns};
@@ -53,16 +53,19 @@ fn value_number(
 fn number_of<'a, S: ReadCells>(
     gathering: &mut Gathering<'a>,
     source: &'a S,
+    cursors: &mut RunCursors,
     kind: ColumnKind,
     table: TableId,
     row: u32,
     cell_index: usize,
 ) -> Result<u32, PoolError>
+    requires cursors { S.follow source.now cursors.old }
     requires first { 1 ≤ row }
     requires last { row ≤ S.row_count source.now table }
     requires cell_index { cell_index < cell_count table }
     requires kind { kind ≡ kind_at table cell_index }
     requires other { kind ≢ Text }
+    ensures cursors { S.follow source.now cursors.new }
     ensures pools { (model : Metadata) → S.shows source.now model
         → OnOk result (gathering.new ≡ with_values gathering.old (cell_in model table row cell_index)) }
     ensures number { (model : Metadata) → S.shows source.now model
@@ -78,7 +81,11 @@ fn number_of<'a, S: ReadCells>(
             let bytes = source.signature(gathering.alloc(), encoded, table, row, cell_index)?;
             signature_number(gathering, encoded, bytes)
         }
-        _ => value_number(gathering, kind, source.cell(table, row, cell_index)),
+        _ => value_number(
+            gathering,
+            kind,
+            source.cell_onward(cursors, table, row, cell_index),
+        ),
     }
 }
 
@@ -87,13 +94,16 @@ fn put_cell<'a, S: ReadCells>(
     gathering: &mut Gathering<'a>,
     indexes: &[u32],
     source: &'a S,
+    cursors: &mut RunCursors,
     table: TableId,
     row: u32,
     cell_index: usize,
 ) -> Result<(), PoolError>
+    requires cursors { S.follow source.now cursors.old }
     requires first { 1 ≤ row }
     requires last { row ≤ S.row_count source.now table }
     requires cell_index { cell_index < cell_count table }
+    ensures cursors { S.follow source.now cursors.new }
     ensures ok { (model : Metadata) → S.shows source.now model
         → OnOk result (gathering.new ≡ with_cell indexes.now (kind_at table cell_index) (cell_in model table row cell_index) gathering.old) }
     ensures full { (model : Metadata) → S.shows source.now model → result ≡ Err PoolError.Full
@@ -104,7 +114,7 @@ fn put_cell<'a, S: ReadCells>(
     match kind {
         ColumnKind::Text => Ok(gathering.put_text(indexes)?),
         _ => {
-            let number = number_of(gathering, source, kind, table, row, cell_index)?;
+            let number = number_of(gathering, source, cursors, kind, table, row, cell_index)?;
             Ok(gathering.put_number(number)?)
         }
     }
@@ -115,15 +125,18 @@ fn put_next<'a, S: ReadCells>(
     gathering: &mut Gathering<'a>,
     indexes: &[u32],
     source: &'a S,
+    cursors: &mut RunCursors,
     table: TableId,
     row: u32,
     index: usize,
     cell_index: usize,
 ) -> Result<usize, PoolError>
+    requires cursors { S.follow source.now cursors.old }
     requires first { 1 ≤ row }
     requires last { row ≤ S.row_count source.now table }
     requires column { index < length (columns_of table) }
     requires cell_index { IsCellIndexOf table index cell_index }
+    ensures cursors { S.follow source.now cursors.new }
     ensures ok { (model : Metadata) → S.shows source.now model → (tail : List Says → Numbered → Numbered)
         → IfOk result (λ behind. with_next_cell (is_padding (column_at table index).kind) (with_cell indexes.now (column_at table index).kind)
         tail (drop cell_index (row_of model table row)) gathering.old ≡ tail (drop behind (row_of model table row)) gathering.new) }
@@ -141,7 +154,7 @@ fn put_next<'a, S: ReadCells>(
             Ok(cell_index)
         }
         _ => {
-            put_cell(gathering, indexes, source, table, row, cell_index)?;
+            put_cell(gathering, indexes, source, cursors, table, row, cell_index)?;
             Ok(cell_index + 1)
         }
     }
@@ -152,11 +165,14 @@ fn put_row<'a, S: ReadCells>(
     gathering: &mut Gathering<'a>,
     indexes: &[u32],
     source: &'a S,
+    cursors: &mut RunCursors,
     table: TableId,
     row: u32,
 ) -> Result<(), PoolError>
+    requires cursors { S.follow source.now cursors.old }
     requires first { 1 ≤ row }
     requires last { row ≤ S.row_count source.now table }
+    ensures cursors { S.follow source.now cursors.new }
     ensures ok { (model : Metadata) → S.shows source.now model
         → OnOk result (gathering.new ≡ with_row indexes.now (columns_of table) (row_of model table row) gathering.old) }
     ensures full { (model : Metadata) → S.shows source.now model → result ≡ Err PoolError.Full
@@ -165,7 +181,9 @@ fn put_row<'a, S: ReadCells>(
     root_writer::laws::heaps_stay_too_long();
     let mut cell_index = 0;
     for index in 0..columns(table).len() {
-        cell_index = put_next(gathering, indexes, source, table, row, index, cell_index)?;
+        cell_index = put_next(
+            gathering, indexes, source, cursors, table, row, index, cell_index,
+        )?;
     }
     Ok(())
 }
@@ -184,9 +202,10 @@ fn put_rows<'a, S: ReadCells>(
 {
     root_writer::laws::heaps_stay_too_long();
     source.holds_one();
+    let mut cursors = source.run_cursors();
     let count = source.count(table);
     for row in 0..count {
-        put_row(gathering, indexes, source, table, row + 1)?;
+        put_row(gathering, indexes, source, &mut cursors, table, row + 1)?;
     }
     Ok(())
 }

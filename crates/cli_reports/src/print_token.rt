@@ -11,7 +11,7 @@ use crate::row_lines::push_row;
 use crate::sending::finish;
 use cli_faults::{Failure, printed};
 use heap_entries::{UserString, user_string};
-use opening::{Token, View};
+use opening::{CellCursor, Token, View};
 use std::alloc::{AllocError, Global};
 use std::io;
 use std::io::{BufWriter, Write};
@@ -65,7 +65,8 @@ fn print<W: Write>(alloc: Global, view: &View<'_>, token: Token, out: &mut W) ->
     requires last { token.row ≤ row_count view.now token.table }
 {
     let mut line = Vec::new(alloc);
-    push_row(alloc, view, token.table, token.row, &mut line)?;
+    let mut cells = CellCursor::new(view);
+    push_row(alloc, &mut cells, token.table, token.row, &mut line)?;
     finish(&line, out)
 }
 

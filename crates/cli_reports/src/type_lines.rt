@@ -7,7 +7,7 @@ ghost use Rattle.opening.specs.Views.{row_count, HasModel};
 ghost use Rattle.table_schema.specs.declared.table.TableId.TheVariants.{TypeDef};
 
 use cli_faults::Escaped;
-use opening::{CellRef, TableId, Token, View};
+use opening::{CellCursor, CellRef, MemberList, TableId, Token, View};
 use std::io;
 use std::io::Write;
 
@@ -18,17 +18,20 @@ use std::io::Write;
 pub fn print_types<W: Write>(view: &View<'_>, out: &mut W) -> io::Result<()> {
     // The root of a view has a model.
     let _root = view.root();
+    let mut cells = CellCursor::new(view);
     for row in 1..=view.count(TableId::TypeDef) {
-        print_type(view, row, out)?;
+        print_type(&mut cells, row, out)?;
     }
     Ok(())
 }
 
-fn print_type<W: Write>(view: &View<'_>, row: u32, out: &mut W) -> io::Result<()>
-    requires model { HasModel view.now }
+fn print_type<W: Write>(cells: &mut CellCursor<'_, '_>, row: u32, out: &mut W) -> io::Result<()>
+    requires model { HasModel cells.old }
     requires first { 1 ≤ row }
-    requires last { row ≤ row_count view.now TypeDef }
+    requires last { row ≤ row_count cells.old TypeDef }
+    ensures { cells.new ≡ cells.old }
 {
+    let view = cells.view();
     let token = Token {
         table: TableId::TypeDef,
         row,
@@ -45,7 +48,8 @@ fn print_type<W: Write>(view: &View<'_>, row: u32, out: &mut W) -> io::Result<()
             Escaped(text_of(view, row, 1))
         )?;
     }
-    let (fields, methods) = (view.fields_of(row).len(), view.methods_of(row).len());
+    let fields = cells.run(MemberList::Fields, row).len();
+    let methods = cells.run(MemberList::Methods, row).len();
     writeln!(out, " {fields} {methods}")
 }
 

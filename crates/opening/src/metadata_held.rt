@@ -2,11 +2,13 @@ ghost use Rattle.table_schema.specs.CellColumns.{column_of};
 ghost use Rattle.metadata.specs.Source.{number_of};
 ghost use Rattle.metadata.specs.Model.{IsModel};
 ghost use Rattle.metadata.specs.SourceAt.{source_of};
+ghost use Rattle.reading.specs.Cursors.{AreCursors};
 ghost use Rattle.opening.specs.Views.{row_count};
 
+use crate::cell_cursor::cell_in_pass;
 use crate::view::View;
 use metadata_source::{MemberList, ReadCells, ReadMetadata, SignatureBytes};
-use reading::{CellRef, is_text_at, start_at};
+use reading::{CellRef, RunCursors, is_text_at, start_at};
 use std::alloc::{AllocError, Global};
 use table_schema::{SigKind, TableId, column_of_cell};
 
@@ -63,6 +65,22 @@ impl ReadMetadata for View<'_> {
 }
 
 impl ReadCells for View<'_> {
+    ghost follow = { λ root cursors. AreCursors (source_of root) cursors };
+
+    fn run_cursors(&self) -> RunCursors {
+        RunCursors::new()
+    }
+
+    fn cell_onward(
+        &self,
+        cursors: &mut RunCursors,
+        table: TableId,
+        row: u32,
+        cell: usize,
+    ) -> CellRef<'_> {
+        cell_in_pass(self, cursors, table, row, cell)
+    }
+
     fn cell(&self, table: TableId, row: u32, cell: usize) -> CellRef<'_> {
         View::cell(self, table, row, cell)
     }

@@ -20,10 +20,10 @@ value_number-requires g c =
           let rows = c.holds_one.ensures.rows some.0 some.1 table in
           let there : HasRow some.0 table row = (c.requires.first, omega (arith, rows, c.requires.last)) in
           let valid = c.holds_one.ensures.valid some.0 some.1 in
-          let P : ColumnKind → Type 0 = λ k. Shows k c.cell.result cell in
+          let P : ColumnKind → Type 0 = λ k. Shows k c.cell_onward.result cell in
           none (
             cell,
-            subst P (sym c.requires.kind) (c.cell.ensures some.0 some.1),
+            subst P (sym c.requires.kind) (c.cell_onward.ensures.cell some.0 some.1),
             c.cells_can_be_numbered.ensures.cell some.0 valid table row cell_index there c.requires.cell_index,
             no_texts some.0 (kind_at table cell_index) (nullable_at table cell_index) cell (λ e. c.requires.other (c.requires.kind ∙ e))
                 (valid.cells table row cell_index there c.requires.cell_index),

@@ -6,7 +6,7 @@ use Rattle.cell_numbering.proofs.CellIndexLemmas.{first_cell_index, row_left, ro
 use Rattle.cell_numbering.proofs.numbers.put_row.Goals as goal
 
 pub loop-index-init : goal.loop-index-init
-loop-index-init g c = record { whole = λ model is. refl; at = first_cell_index c.args.table }
+loop-index-init g c = record { whole = λ model is. refl; at = first_cell_index c.args.table; follow = c.requires.cursors }
 
 pub loop-index-preserved : goal.loop-index-preserved
 loop-index-preserved g c =
@@ -19,6 +19,7 @@ loop-index-preserved g c =
           sym (c.in_ok-cell_index.ensures.ok model is (with_row indexes (drop (i + 1) columns)))
           ∙ row_left indexes columns i _ c.loop-index.gathering _ below (c.loop-index.invariant.whole model is);
       at = c.in_ok-cell_index.ensures.cell_index;
+      follow = c.put_next.ensures.cursors;
     }
 
 pub returns-in_err-cell_index-clause-full : goal.returns-in_err-cell_index-clause-full

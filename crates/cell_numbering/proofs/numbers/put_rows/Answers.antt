@@ -7,7 +7,7 @@ use Rattle.cell_numbering.proofs.CellIndexLemmas.{rows_left, rows_done}
 use Rattle.cell_numbering.proofs.numbers.put_rows.Goals as goal
 
 pub loop-row-preserved : goal.loop-row-preserved
-loop-row-preserved g c = λ model is.
+loop-row-preserved g c = record { follow = c.put_row.ensures.cursors; whole = λ model is.
     let indexes = c.args.indexes.now in
     let columns = columns_of c.args.table in
     let rows = rows_of model c.args.table in
@@ -18,7 +18,7 @@ loop-row-preserved g c = λ model is.
     let back : i + 1 - 1 ≡ i = omega arith in
     ap (λ (n : Numbered). with_rows indexes columns (drop (i + 1) rows) n)
     (c.in_ok-put_row.ensures.ok model is ∙ ap (λ (k : ℕ). with_row indexes columns (get_or rows k []) c.loop-row.gathering) back)
-    ∙ rows_left indexes columns rows i c.loop-row.gathering _ below (c.loop-row.invariant model is)
+    ∙ rows_left indexes columns rows i c.loop-row.gathering _ below (c.loop-row.invariant.whole model is) }
 
 pub returns-in_err-put_row-clause-full : goal.returns-in_err-put_row-clause-full
 returns-in_err-put_row-clause-full g c = λ model is e.
@@ -32,7 +32,7 @@ returns-in_err-put_row-clause-full g c = λ model is e.
     let back : i + 1 - 1 ≡ i = omega arith in
     let full : c.put_row.result ≡ Err Full = search rules in
     let here = subst (λ (k : ℕ). IsOver (with_row indexes columns (get_or rows k []) c.loop-row.gathering)) back (c.put_row.ensures.full model is full) in
-    subst IsOver (rows_left indexes columns rows i c.loop-row.gathering _ below (c.loop-row.invariant model is))
+    subst IsOver (rows_left indexes columns rows i c.loop-row.gathering _ below (c.loop-row.invariant.whole model is))
     (c.heaps_stay_too_long.ensures.rows indexes columns (drop (i + 1) rows) _ here)
 
 pub returns-clause-ok : goal.returns-clause-ok
@@ -42,4 +42,4 @@ returns-clause-ok g c = λ model is.
     let held = c.holds_one.ensures.rows model is c.args.table in
     let count = c.count-count.ensures.rows in
     let past : length rows ≤ c.loop-row.row = omega (arith, count) in
-    rows_done indexes (columns_of c.args.table) rows c.loop-row.row c.loop-row.gathering _ past (c.loop-row.invariant model is)
+    rows_done indexes (columns_of c.args.table) rows c.loop-row.row c.loop-row.gathering _ past (c.loop-row.invariant.whole model is)
