@@ -14,7 +14,7 @@ ghost use Rattle.cell_numbering.specs.NumbersSoFar.{SoFar, no_pools, none_number
 
 use crate::numbers_so_far::{Indexes, NumbersSoFar};
 use metadata_source::{ReadCells, kind_of};
-use reading::CellRef;
+use reading::{CellRef, RunCursors};
 use root_writer::row_number;
 use std::alloc::{AllocError, Global};
 use table_schema::{ColumnKind, TableId, columns};
@@ -41,14 +41,17 @@ fn put_cell<S: ReadCells>(
     so_far: &mut NumbersSoFar,
     indexes: Indexes,
     source: &S,
+    cursors: &mut RunCursors,
     table: TableId,
     row: u32,
     cell_index: usize,
 ) -> Result<(), AllocError>
+    requires cursors { S.follow source.now cursors.old }
     requires first { 1 ≤ row }
     requires last { row ≤ S.row_count source.now table }
     requires cell_index { cell_index < cell_count table }
-    ensures { (model : Metadata) → S.shows source.now model
+    ensures cursors { S.follow source.now cursors.new }
+    ensures ok { (model : Metadata) → S.shows source.now model
         → OnOk result (so_far.new ≡ with_cell indexes.entry (kind_at table cell_index) (cell_in model table row cell_index) so_far.old) }
 {
     root_writer::laws::cells_can_be_numbered();
@@ -59,7 +62,10 @@ fn put_cell<S: ReadCells>(
         ColumnKind::Guid => so_far.put_guid(indexes.guids),
         ColumnKind::Blob => so_far.put_blob(indexes.blobs),
         ColumnKind::Signature(_) => so_far.put_blob(indexes.blobs),
-        _ => so_far.put_number(plain_number(kind, source.cell(table, row, cell_index))),
+        _ => {
+            let seen = source.cell_onward(cursors, table, row, cell_index);
+            so_far.put_number(plain_number(kind, seen))
+        }
     }
 }
 
@@ -68,15 +74,18 @@ fn put_next<S: ReadCells>(
     so_far: &mut NumbersSoFar,
     indexes: Indexes,
     source: &S,
+    cursors: &mut RunCursors,
     table: TableId,
     row: u32,
     index: usize,
     cell_index: usize,
 ) -> Result<usize, AllocError>
+    requires cursors { S.follow source.now cursors.old }
     requires first { 1 ≤ row }
     requires last { row ≤ S.row_count source.now table }
     requires column { index < length (columns_of table) }
     requires cell_index { IsCellIndexOf table index cell_index }
+    ensures cursors { S.follow source.now cursors.new }
     ensures ok { (model : Metadata) → S.shows source.now model → (tail : List Says → SoFar → SoFar)
         → IfOk result (λ behind. with_next_cell (is_padding (column_at table index).kind) (with_cell indexes.entry (column_at table index).kind)
         tail (drop cell_index (row_of model table row)) so_far.old ≡ tail (drop behind (row_of model table row)) so_far.new) }
@@ -90,7 +99,7 @@ fn put_next<S: ReadCells>(
             Ok(cell_index)
         }
         _ => {
-            put_cell(so_far, indexes, source, table, row, cell_index)?;
+            put_cell(so_far, indexes, source, cursors, table, row, cell_index)?;
             Ok(cell_index + 1)
         }
     }
@@ -101,17 +110,22 @@ fn put_row<S: ReadCells>(
     so_far: &mut NumbersSoFar,
     indexes: Indexes,
     source: &S,
+    cursors: &mut RunCursors,
     table: TableId,
     row: u32,
 ) -> Result<(), AllocError>
+    requires cursors { S.follow source.now cursors.old }
     requires first { 1 ≤ row }
     requires last { row ≤ S.row_count source.now table }
-    ensures { (model : Metadata) → S.shows source.now model
+    ensures cursors { S.follow source.now cursors.new }
+    ensures ok { (model : Metadata) → S.shows source.now model
         → OnOk result (so_far.new ≡ with_row indexes.entry (columns_of table) (row_of model table row) so_far.old) }
 {
     let mut cell_index = 0;
     for index in 0..columns(table).len() {
-        cell_index = put_next(so_far, indexes, source, table, row, index, cell_index)?;
+        cell_index = put_next(
+            so_far, indexes, source, cursors, table, row, index, cell_index,
+        )?;
     }
     Ok(())
 }
@@ -128,8 +142,9 @@ fn put_rows<S: ReadCells>(
 {
     source.holds_one();
     let count = source.count(table);
+    let mut cursors = source.run_cursors();
     for row in 0..count {
-        put_row(so_far, indexes, source, table, row + 1)?;
+        put_row(so_far, indexes, source, &mut cursors, table, row + 1)?;
     }
     Ok(())
 }

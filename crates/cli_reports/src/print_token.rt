@@ -18,7 +18,7 @@ use crate::sending::finish;
 use crate::user_string_line::print_user_string;
 use cli_faults::{Failure, printed};
 use heap_entries::user_string;
-use opening::{Token, View};
+use opening::{CellCursor, Token, View};
 use std::alloc::{AllocError, Global};
 use std::io;
 use std::io::Write;
@@ -79,7 +79,8 @@ fn print<W: Write>(alloc: Global, view: &View<'_>, token: Token, out: &mut W) ->
         → Prints (W.contents out.old) (W.contents out.new) result (row_text token.row (row_of model token.table token.row)) }
 {
     let mut line = Vec::new(alloc);
-    push_row(alloc, view, token.table, token.row, &mut line)?;
+    let mut cells = CellCursor::new(view);
+    push_row(alloc, &mut cells, token.table, token.row, &mut line)?;
     finish(&line, out)
 }
 

@@ -15,7 +15,7 @@ ghost use Rattle.cli_reports.specs.Values.{IsOfModel};
 
 use crate::line::{push_decimal, push_escaped, push_hexadecimal};
 use heap_entries::guid_text;
-use opening::{CellRef, TableId, Token, View};
+use opening::{CellCursor, CellRef, TableId, Token};
 use signatures::{SigError, canonical_encoding};
 use std::alloc::{AllocError, Global};
 use table_schema::{ColumnKind, SigKind, cell_count, column_of_cell, columns};
@@ -149,23 +149,24 @@ fn push_value(
 /// Appends a cell, by its index in its row.
 fn push_cell(
     alloc: Global,
-    view: &View<'_>,
+    cells: &mut CellCursor<'_, '_>,
     table: TableId,
     row: u32,
     cell_index: usize,
     line: &mut Vec<u8>,
 ) -> Result<(), AllocError>
-    requires model { HasModel view.now }
+    requires model { HasModel cells.old }
     requires first { 1 ≤ row }
-    requires last { row ≤ row_count view.now table }
+    requires last { row ≤ row_count cells.old table }
     requires cell_index { cell_index < cell_count table }
-    ensures { OnOk result ((model : Metadata) → IsModel view.now model
+    ensures same { cells.new ≡ cells.old }
+    ensures line { OnOk result ((model : Metadata) → IsModel cells.old model
         → line.new.items ≡ line.old.items ++ cell_text (cell_in model table row cell_index)) }
 {
     metadata::laws::models_are_read();
     metadata::laws::models_of_roots_are_valid();
     let kind = kind_of(table, cell_index);
-    let value = view.cell(table, row, cell_index);
+    let value = cells.cell(table, row, cell_index);
     push_value(alloc, kind, value, line)
 }
 
@@ -183,24 +184,25 @@ fn push_cell(
 /// Out of memory.
 pub fn push_row(
     alloc: Global,
-    view: &View<'_>,
+    cells: &mut CellCursor<'_, '_>,
     table: TableId,
     row: u32,
     line: &mut Vec<u8>,
 ) -> Result<(), AllocError>
     requires first { 1 ≤ row }
-    requires last { row ≤ row_count view.now table }
-    ensures { OnOk result ((model : Metadata) → IsModel view.now model
+    requires last { row ≤ row_count cells.old table }
+    ensures same { cells.new ≡ cells.old }
+    ensures line { OnOk result ((model : Metadata) → IsModel cells.old model
         → line.new.items ≡ line.old.items ++ row_text row (row_of model table row)) }
 {
     // The root of a view has a model.
-    let _root = view.root();
+    let _view = cells.view();
     metadata::laws::models_are_read();
     push_decimal(u64::from(row), line)?;
     line.push(b':')?;
     for cell_index in 0..cell_count(table) {
         line.push(b' ')?;
-        push_cell(alloc, view, table, row, cell_index, line)?;
+        push_cell(alloc, cells, table, row, cell_index, line)?;
     }
     Ok(line.push(b'\n')?)
 }

@@ -9,7 +9,7 @@ ghost use Rattle.cli_reports.specs.Sent.{Moves, Prints};
 use crate::line::{push_decimal, push_upper_hexadecimal};
 use crate::row_lines::push_row;
 use crate::sending::{FULL, finish, send_full};
-use opening::{TableId, View};
+use opening::{CellCursor, TableId, View};
 use std::alloc::{AllocError, Global};
 use std::io;
 use std::io::Write;
@@ -75,8 +75,9 @@ fn print_rows<W: Write>(
     ensures { (model : Metadata) → IsModel view.now model
         → Moves (W.contents out.old) (W.contents out.new) result (lines.old.items ++ rows_text model table (count_in model table)) lines.new.items }
 {
+    let mut cells = CellCursor::new(view);
     for earlier in 0..view.count(table) {
-        print_row(alloc, view, table, earlier + 1, lines, out)?;
+        print_row(alloc, &mut cells, table, earlier + 1, lines, out)?;
     }
     Ok(())
 }
@@ -84,17 +85,18 @@ fn print_rows<W: Write>(
 /// Prints a row.
 fn print_row<W: Write>(
     alloc: Global,
-    view: &View<'_>,
+    cells: &mut CellCursor<'_, '_>,
     table: TableId,
     row: u32,
     lines: &mut Vec<u8>,
     out: &mut W,
 ) -> io::Result<()>
     requires first { 1 ≤ row }
-    requires last { row ≤ row_count view.now table }
-    ensures { (model : Metadata) → IsModel view.now model
+    requires last { row ≤ row_count cells.old table }
+    ensures same { cells.new ≡ cells.old }
+    ensures row { (model : Metadata) → IsModel cells.old model
         → Moves (W.contents out.old) (W.contents out.new) result (lines.old.items ++ row_text row (row_of model table row)) lines.new.items }
 {
-    push_row(alloc, view, table, row, lines)?;
+    push_row(alloc, cells, table, row, lines)?;
     send_full(lines, out)
 }

@@ -12,7 +12,7 @@ ghost use Rattle.cli_reports.specs.TypeTexts.{dotted, type_text, types_text};
 use crate::line::{push_escaped, push_spaced};
 use crate::row_lines::push_token;
 use crate::sending::{FULL, finish, send_full};
-use opening::{CellRef, TableId, Token, View};
+use opening::{CellCursor, CellRef, MemberList, TableId, Token, View};
 use std::alloc::{AllocError, Global};
 use std::io;
 use std::io::Write;
@@ -36,38 +36,40 @@ pub fn print_types<W: Write>(alloc: Global, view: &View<'_>, out: &mut W) -> io:
     ensures { (model : Metadata) → IsModel view.now model → Prints (W.contents out.old) (W.contents out.new) result (types_text model) }
 {
     let mut lines = Vec::with_capacity(alloc, FULL)?;
+    let mut cells = CellCursor::new(view);
     for earlier in 0..view.count(TableId::TypeDef) {
-        print_type(view, earlier + 1, &mut lines, out)?;
+        print_type(&mut cells, earlier + 1, &mut lines, out)?;
     }
     finish(&lines, out)
 }
 
 /// Prints the line of a type.
 fn print_type<W: Write>(
-    view: &View<'_>,
+    cells: &mut CellCursor<'_, '_>,
     row: u32,
     lines: &mut Vec<u8>,
     out: &mut W,
 ) -> io::Result<()>
     requires first { 1 ≤ row }
-    requires last { row ≤ row_count view.now TypeDef }
+    requires last { row ≤ row_count cells.old TypeDef }
     requires limit { row ≤ 0xFFFFFF }
-    ensures { (model : Metadata) → IsModel view.now model
+    ensures same { cells.new ≡ cells.old }
+    ensures line { (model : Metadata) → IsModel cells.old model
         → Moves (W.contents out.old) (W.contents out.new) result (lines.old.items ++ type_text model row) lines.new.items }
 {
-    push_type(view, row, lines)?;
+    push_type(cells, row, lines)?;
     send_full(lines, out)
 }
 
 /// Appends the line of a type.
-fn push_type(view: &View<'_>, row: u32, line: &mut Vec<u8>) -> Result<(), AllocError>
+fn push_type(cells: &mut CellCursor<'_, '_>, row: u32, line: &mut Vec<u8>) -> Result<(), AllocError>
     requires first { 1 ≤ row }
-    requires last { row ≤ row_count view.now TypeDef }
+    requires last { row ≤ row_count cells.old TypeDef }
     requires limit { row ≤ 0xFFFFFF }
-    ensures { OnOk result ((model : Metadata) → IsModel view.now model → line.new.items ≡ line.old.items ++ type_text model row) }
+    ensures same { cells.new ≡ cells.old }
+    ensures line { OnOk result ((model : Metadata) → IsModel cells.old model → line.new.items ≡ line.old.items ++ type_text model row) }
 {
-    // The root of a view has a model.
-    let _root = view.root();
+    let view = cells.view();
     metadata::laws::models_are_read();
     let token = Token {
         table: TableId::TypeDef,
@@ -77,8 +79,8 @@ fn push_type(view: &View<'_>, row: u32, line: &mut Vec<u8>) -> Result<(), AllocE
     line.push(b' ')?;
     push_namespace(text_of(view, row, NAMESPACE), line)?;
     push_escaped(text_of(view, row, NAME).as_bytes(), line)?;
-    push_count(view.fields_of(row), line)?;
-    push_count(view.methods_of(row), line)?;
+    push_count(cells.run(MemberList::Fields, row), line)?;
+    push_count(cells.run(MemberList::Methods, row), line)?;
     Ok(line.push(b'\n')?)
 }
 

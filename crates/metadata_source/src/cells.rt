@@ -1,6 +1,6 @@
 use crate::signature_bytes::SignatureBytes;
 use crate::source::ReadMetadata;
-use reading::CellRef;
+use reading::{CellRef, RunCursors};
 use std::alloc::{AllocError, Global};
 use table_schema::{SigKind, TableId};
 
@@ -13,11 +13,15 @@ pub trait ReadCells: ReadMetadata {
     ghost use Rattle.metadata.specs.Metadata.{Metadata, cell_in};
     ghost use Rattle.metadata.specs.Valid.{kind_at};
     ghost use Rattle.reading.specs.Shown.{Shows};
+    ghost use Rattle.reading.specs.declared.run_cursors.RunCursors.{RunCursors as Cursors};
     ghost use Rattle.metadata_source.specs.SharedBlobs.{CellId, HasCell, ShareBlob, cell_by_id};
     ghost use Rattle.metadata_source.specs.SignatureBytes.{AreBytesOf};
 
     // The index of a cell's blob in the blob heap that it is read from, if it is read from one.
     ghost heap_index: { Self → CellId → Option ℕ };
+
+    // The cursors are at owners of this metadata.
+    ghost follow: { Self → Cursors → Type 0 };
 
     /// Two cells in columns of one kind are equal if their blobs are at one index of the blob heap. Nothing is done.
     fn shared_blobs_are_one(&self)
@@ -31,6 +35,28 @@ pub trait ReadCells: ReadMetadata {
         requires cell { cell < cell_count table }
         requires kind { (encoded : TheKind) → kind_at table cell ≢ Signature encoded }
         ensures { (model : Metadata) → Self.shows self.now model → Shows (kind_at table cell) result (cell_in model table row cell) };
+
+    /// Cursors for the runs of members, at no owner.
+    fn run_cursors(&self) -> RunCursors
+        ensures { Self.follow self.now result };
+
+    /// A cell that is not a signature, in a pass over the rows of a table, as [`ReadCells::cell`] returns it.
+    ///
+    /// With the cursors a pass in ascending order passes over null starts once.
+    fn cell_onward(
+        &self,
+        cursors: &mut RunCursors,
+        table: TableId,
+        row: u32,
+        cell: usize,
+    ) -> CellRef<'_>
+        requires cursors { Self.follow self.now cursors.old }
+        requires first { 1 ≤ row }
+        requires last { row ≤ Self.row_count self.now table }
+        requires cell { cell < cell_count table }
+        requires kind { (encoded : TheKind) → kind_at table cell ≢ Signature encoded }
+        ensures cursors { Self.follow self.now cursors.new }
+        ensures cell { (model : Metadata) → Self.shows self.now model → Shows (kind_at table cell) result (cell_in model table row cell) };
 
     /// The bytes of a signature, in a column of signatures of a kind (II.23.2).
     ///

@@ -3,11 +3,13 @@ ghost use Rattle.table_schema.specs.CellColumns.{column_of};
 ghost use Rattle.metadata.specs.Source.{number_of};
 ghost use Rattle.metadata.specs.Model.{IsModel};
 ghost use Rattle.metadata.specs.SourceAt.{source_of};
+ghost use Rattle.reading.specs.Cursors.{AreCursors};
 ghost use Rattle.opening.specs.Views.{row_count};
 
+use crate::cell_cursor::cell_in_pass;
 use crate::view::View;
 use metadata_source::{MemberList, ReadCells, ReadMetadata, SignatureBytes};
-use reading::{CellRef, is_text_at, start_at};
+use reading::{CellRef, RunCursors, is_text_at, start_at};
 use std::alloc::{AllocError, Global};
 use table_schema::{SigKind, TableId, column_of_cell};
 
@@ -66,6 +68,8 @@ impl ReadMetadata for View<'_> {
 impl ReadCells for View<'_> {
     ghost heap_index = { λ root id. Some (number_of (source_of root) id.table id.row (column_of id.table id.cell_index)) };
 
+    ghost follow = { λ root cursors. AreCursors (source_of root) cursors };
+
     fn shared_blobs_are_one(&self) {
         metadata::laws::models_are_read();
         metadata::laws::cells_are_one();
@@ -76,6 +80,20 @@ impl ReadCells for View<'_> {
             self.source()
                 .number(table, row, column_of_cell(table, cell)),
         )
+    }
+
+    fn run_cursors(&self) -> RunCursors {
+        RunCursors::new()
+    }
+
+    fn cell_onward(
+        &self,
+        cursors: &mut RunCursors,
+        table: TableId,
+        row: u32,
+        cell: usize,
+    ) -> CellRef<'_> {
+        cell_in_pass(self, cursors, table, row, cell)
     }
 
     fn cell(&self, table: TableId, row: u32, cell: usize) -> CellRef<'_> {

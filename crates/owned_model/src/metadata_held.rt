@@ -7,7 +7,7 @@ ghost use Rattle.metadata.specs.KeyOrder.{key_in, key_number};
 use crate::valid_model::Model;
 use metadata::row_number;
 use metadata_source::{MemberList, ReadCells, ReadMetadata, SignatureBytes};
-use reading::CellRef;
+use reading::{CellRef, RunCursors};
 use signatures::encode;
 use std::alloc::{AllocError, Global};
 use table_schema::{ColumnKind, SigKind, TableId, column_of_cell, columns};
@@ -70,10 +70,27 @@ impl ReadMetadata for Model {
 impl ReadCells for Model {
     ghost heap_index = { λ model id. None };
 
+    // The starts of its cells are never null, so it asks nothing of cursors.
+    ghost follow = { λ model cursors. Unit {0} };
+
     fn shared_blobs_are_one(&self) {}
 
     fn blob_index(&self, _table: TableId, _row: u32, _cell: usize) -> Option<u32> {
         None
+    }
+
+    fn run_cursors(&self) -> RunCursors {
+        RunCursors::new()
+    }
+
+    fn cell_onward(
+        &self,
+        _cursors: &mut RunCursors,
+        table: TableId,
+        row: u32,
+        cell: usize,
+    ) -> CellRef<'_> {
+        ReadCells::cell(self, table, row, cell)
     }
 
     fn cell(&self, table: TableId, row: u32, cell: usize) -> CellRef<'_> {

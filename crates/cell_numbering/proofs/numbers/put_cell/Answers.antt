@@ -11,8 +11,8 @@ use Rattle.cell_numbering.specs.NumbersSoFar.{no_pools, with_number}
 use Rattle.cell_numbering.proofs.KindLemmas.{IsPlainKind, next_text, next_guid, next_blob, next_signature, next_plain, plain_cell}
 use Rattle.cell_numbering.proofs.numbers.put_cell.Goals as goal
 
-pub returns-in-Text : goal.returns-in-Text
-returns-in-Text g c = λ model is.
+pub returns-in-Text-clause-ok : goal.returns-in-Text-clause-ok
+returns-in-Text-clause-ok g c = λ model is.
     let table = c.args.table in
     let cell_index = c.args.cell_index in
     let cell = cell_in model table c.args.row cell_index in
@@ -21,8 +21,8 @@ returns-in-Text g c = λ model is.
     let good = (c.holds_one.ensures.valid model is).cells table c.args.row cell_index there c.requires.cell_index in
     on_ok_weaker c.put_text.result (λ e. e ∙ sym (next_text c.args.indexes (kind_at table cell_index) cell c.args.so_far.now good.of_kind (sym c.kind_of-kind.ensures ∙ c.in-Text.is))) c.put_text.ensures
 
-pub returns-in-Guid : goal.returns-in-Guid
-returns-in-Guid g c = λ model is.
+pub returns-in-Guid-clause-ok : goal.returns-in-Guid-clause-ok
+returns-in-Guid-clause-ok g c = λ model is.
     let table = c.args.table in
     let cell_index = c.args.cell_index in
     let cell = cell_in model table c.args.row cell_index in
@@ -31,8 +31,8 @@ returns-in-Guid g c = λ model is.
     let good = (c.holds_one.ensures.valid model is).cells table c.args.row cell_index there c.requires.cell_index in
     on_ok_weaker c.put_guid.result (λ e. e ∙ sym (next_guid c.args.indexes (kind_at table cell_index) cell c.args.so_far.now good.of_kind (sym c.kind_of-kind.ensures ∙ c.in-Guid.is))) c.put_guid.ensures
 
-pub returns-in-Blob : goal.returns-in-Blob
-returns-in-Blob g c = λ model is.
+pub returns-in-Blob-clause-ok : goal.returns-in-Blob-clause-ok
+returns-in-Blob-clause-ok g c = λ model is.
     let table = c.args.table in
     let cell_index = c.args.cell_index in
     let cell = cell_in model table c.args.row cell_index in
@@ -41,8 +41,8 @@ returns-in-Blob g c = λ model is.
     let good = (c.holds_one.ensures.valid model is).cells table c.args.row cell_index there c.requires.cell_index in
     on_ok_weaker c.put_blob.result (λ e. e ∙ sym (next_blob c.args.indexes (kind_at table cell_index) cell c.args.so_far.now good.of_kind (sym c.kind_of-kind.ensures ∙ c.in-Blob.is))) c.put_blob.ensures
 
-pub returns-in-Signature : goal.returns-in-Signature
-returns-in-Signature g c = λ model is.
+pub returns-in-Signature-clause-ok : goal.returns-in-Signature-clause-ok
+returns-in-Signature-clause-ok g c = λ model is.
     let table = c.args.table in
     let cell_index = c.args.cell_index in
     let cell = cell_in model table c.args.row cell_index in
@@ -68,16 +68,16 @@ plain_number-requires g c = λ none. not_there c.holds_one.ensures.shown (λ som
       blob = λ e. c.in_default.not-Blob (kind ∙ e);
       signature = λ column e. c.in_default.not-Signature column (kind ∙ e);
     } in
-    let P : ColumnKind → Type 0 = λ k. Shows k c.cell.result cell in
+    let P : ColumnKind → Type 0 = λ k. Shows k c.seen.result cell in
     none (
       cell,
-      subst P (sym kind) (c.cell.ensures some.0 some.1),
+      subst P (sym kind) (c.seen.ensures.cell some.0 some.1),
       c.cells_can_be_numbered.ensures.cell some.0 valid table row cell_index there c.requires.cell_index,
       plain_cell (kind_at table cell_index) cell plain good.of_kind,
     ))
 
-pub returns-in_default : goal.returns-in_default
-returns-in_default g c = λ model is.
+pub returns-in_default-clause-ok : goal.returns-in_default-clause-ok
+returns-in_default-clause-ok g c = λ model is.
     let table = c.args.table in
     let cell_index = c.args.cell_index in
     let cell = cell_in model table c.args.row cell_index in
@@ -91,6 +91,6 @@ returns-in_default g c = λ model is.
       blob = λ e. c.in_default.not-Blob (kind ∙ e);
       signature = λ column e. c.in_default.not-Signature column (kind ∙ e);
     } in
-    let P : ColumnKind → Type 0 = λ k. Shows k c.cell.result cell in
-    let number = c.plain_number.ensures cell (subst P (sym kind) (c.cell.ensures model is)) ∙ ap (λ (k : ColumnKind). cell_number no_pools k cell) kind in
+    let P : ColumnKind → Type 0 = λ k. Shows k c.seen.result cell in
+    let number = c.plain_number.ensures cell (subst P (sym kind) (c.seen.ensures.cell model is)) ∙ ap (λ (k : ColumnKind). cell_number no_pools k cell) kind in
     on_ok_weaker c.put_number.result (λ e. e ∙ ap (with_number c.args.so_far.now) number ∙ sym (next_plain c.args.indexes (kind_at table cell_index) cell c.args.so_far.now (plain_cell (kind_at table cell_index) cell plain good.of_kind))) c.put_number.ensures

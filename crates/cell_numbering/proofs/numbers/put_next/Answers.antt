@@ -15,6 +15,7 @@ no_padding table index columns same other = unpadded (column_at table index).kin
 
 pub put_cell-requires : goal.put_cell-requires
 put_cell-requires g c = record {
+  cursors = c.requires.cursors;
   first = c.requires.first;
   last = c.requires.last;
   cell_index = (cell_index_is c.args.table c.args.index c.args.cell_index c.requires.column c.requires.cell_index (no_padding c.args.table c.args.index c.columns.result.now c.columns.ensures c.in_default.not-Padding)).0;
@@ -33,7 +34,7 @@ returns-in_ok-put_cell-in_default-clause-ok g c = λ model is tail.
     let there : HasRow model table c.args.row = (c.requires.first, omega (arith, rows, c.requires.last)) in
     let long = (c.holds_one.ensures.valid model is).long table c.args.row there in
     next_cell table c.args.index c.args.cell_index c.requires.column c.requires.cell_index (no_padding c.args.table c.args.index c.columns.result.now c.columns.ensures c.in_default.not-Padding) c.args.indexes tail row c.args.so_far.now long
-    ∙ ap (tail (drop (c.args.cell_index + 1) row)) (sym (c.in_ok-put_cell-in_default.ensures model is))
+    ∙ ap (tail (drop (c.args.cell_index + 1) row)) (sym (c.in_ok-put_cell-in_default.ensures.ok model is))
 
 pub returns-in_ok-put_cell-in_default-clause-cell_index : goal.returns-in_ok-put_cell-in_default-clause-cell_index
 returns-in_ok-put_cell-in_default-clause-cell_index g c =

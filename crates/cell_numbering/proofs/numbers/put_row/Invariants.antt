@@ -12,4 +12,5 @@ invariant-loop-index g l = record {
       → with_row l.indexes (drop l.index (columns_of l.table)) (drop l.cell_index (row_of model l.table l.row)) l.so_far
       ≡ with_row l.indexes (columns_of l.table) (row_of model l.table l.row) l.fn.so_far;
   at : IsCellIndexOf l.table l.index l.cell_index;
+  follow : g.S.ReadCells.follow l.source l.cursors;
 }

@@ -6,18 +6,21 @@ use Rattle.cell_numbering.proofs.CellIndexLemmas.{rows_left, rows_done}
 use Rattle.cell_numbering.proofs.numbers.put_rows.Goals as goal
 
 pub loop-row-preserved : goal.loop-row-preserved
-loop-row-preserved g c = λ model is.
-    let indexes = c.args.indexes in
-    let columns = columns_of c.args.table in
-    let rows = rows_of model c.args.table in
-    let i = c.loop-row.row in
-    let held = c.holds_one.ensures.rows model is c.args.table in
-    let count = c.count-count.ensures.rows in
-    let below : i < length rows = omega (arith, count) in
-    let back : i + 1 - 1 ≡ i = omega arith in
-    ap (λ (n : SoFar). with_rows indexes columns (drop (i + 1) rows) n)
-    (c.in_ok-put_row.ensures model is ∙ ap (λ (k : ℕ). with_row indexes columns (get_or rows k []) c.loop-row.so_far) back)
-    ∙ rows_left indexes columns rows i c.loop-row.so_far _ below (c.loop-row.invariant model is)
+loop-row-preserved g c = record {
+  follow = c.put_row.ensures.cursors;
+  whole = λ model is.
+      let indexes = c.args.indexes in
+      let columns = columns_of c.args.table in
+      let rows = rows_of model c.args.table in
+      let i = c.loop-row.row in
+      let held = c.holds_one.ensures.rows model is c.args.table in
+      let count = c.count-count.ensures.rows in
+      let below : i < length rows = omega (arith, count) in
+      let back : i + 1 - 1 ≡ i = omega arith in
+      ap (λ (n : SoFar). with_rows indexes columns (drop (i + 1) rows) n)
+      (c.in_ok-put_row.ensures.ok model is ∙ ap (λ (k : ℕ). with_row indexes columns (get_or rows k []) c.loop-row.so_far) back)
+      ∙ rows_left indexes columns rows i c.loop-row.so_far _ below (c.loop-row.invariant.whole model is);
+}
 
 pub returns : goal.returns
 returns g c = λ model is.
@@ -26,4 +29,4 @@ returns g c = λ model is.
     let held = c.holds_one.ensures.rows model is c.args.table in
     let count = c.count-count.ensures.rows in
     let past : length rows ≤ c.loop-row.row = omega (arith, count) in
-    rows_done indexes (columns_of c.args.table) rows c.loop-row.row c.loop-row.so_far _ past (c.loop-row.invariant model is)
+    rows_done indexes (columns_of c.args.table) rows c.loop-row.row c.loop-row.so_far _ past (c.loop-row.invariant.whole model is)

@@ -1,36 +1,49 @@
-use Rattle.std.proofs.Common.{◌++◌, ◌∷◌, [], ◌∙◌, ◌<◌, ◌≤◌, length, take, ap, arith, append_assoc, decimal}
+use Rattle.std.proofs.Common.{◌++◌, ◌∷◌, [], ◌∙◌, ◌<◌, ◌≤◌, List, ℕ, length, take, ap, sym, subst, rules, arith, append_assoc, decimal}
 use Rattle.std.proofs.lemmas.List.{take_all}
 use Rattle.std.specs.List.{flat_map}
-use Rattle.opening.specs.Views.{row_count}
+use Rattle.opening.specs.Views.{row_count, HasModel}
 use Rattle.metadata.specs.Cell.{Number}
 use Rattle.metadata.specs.Metadata.{cell_in, row_of}
+use Rattle.metadata.specs.Model.{IsModel}
 use Rattle.cli_reports.specs.RowTexts.{cell_text, row_text, spaced}
 use Rattle.cli_reports.proofs.LineLemmas.{four_joined, items_more}
 use Rattle.cli_reports.proofs.row_lines.push_row.Goals as goal
 
+pub push_cell-requires : goal.push_cell-requires
+push_cell-requires c = record {
+  model = subst (λ (root : List ℕ). HasModel root) (sym c.loop-cell_index.invariant.same) c.view-view.ensures.model;
+  first = c.requires.first;
+  last = subst (λ (root : List ℕ). c.args.row ≤ row_count root c.args.table) (sym c.loop-cell_index.invariant.same) c.requires.last;
+  cell_index = search rules;
+}
+
 pub loop-cell_index-preserved : goal.loop-cell_index-preserved
 unfolding row_count
-loop-cell_index-preserved c = λ model is.
-    let cells = row_of model c.args.table c.args.row in
-    let index = c.loop-cell_index.cell_index in
-    let start = c.push.new.self.items in
-    let long = c.models_are_read.ensures.long c.args.view.now model is c.args.table c.args.row c.requires.first c.requires.last in
-    let within : index < length cells = omega (arith, long, c.loop-cell_index-test.true, c.cell_count-cell_index-end.ensures) in
-    c.in_ok-push_cell.ensures model is
-    ∙ ap (λ xs. xs ++ cell_text (cell_in model c.args.table c.args.row index))
-    (c.in_ok-push-2.ensures.items ∙ ap (λ xs. xs ++ 32 ∷ []) (c.loop-cell_index.invariant model is))
-    ∙ append_assoc (start ++ flat_map spaced (take index cells)) (32 ∷ []) (cell_text (cell_in model c.args.table c.args.row index))
-    ∙ items_more spaced start cells index (Number 0) within
+loop-cell_index-preserved c = record {
+  same = c.push_cell.ensures.same ∙ c.loop-cell_index.invariant.same;
+  line = λ model is.
+      let here : IsModel c.loop-cell_index.cells model = subst (λ (root : List ℕ). IsModel root model) (sym c.loop-cell_index.invariant.same) is in
+      let cells = row_of model c.args.table c.args.row in
+      let index = c.loop-cell_index.cell_index in
+      let start = c.push.new.self.items in
+      let long = c.models_are_read.ensures.long c.args.cells.now model is c.args.table c.args.row c.requires.first c.requires.last in
+      let within : index < length cells = omega (arith, long, c.loop-cell_index-test.true, c.cell_count-cell_index-end.ensures) in
+      c.in_ok-push_cell.ensures.line model here
+      ∙ ap (λ xs. xs ++ cell_text (cell_in model c.args.table c.args.row index))
+      (c.in_ok-push-2.ensures.items ∙ ap (λ xs. xs ++ 32 ∷ []) (c.loop-cell_index.invariant.line model is))
+      ∙ append_assoc (start ++ flat_map spaced (take index cells)) (32 ∷ []) (cell_text (cell_in model c.args.table c.args.row index))
+      ∙ items_more spaced start cells index (Number 0) within;
+}
 
-pub returns : goal.returns
+pub returns-clause-line : goal.returns-clause-line
 unfolding row_count row_text
-returns c = λ model is.
+returns-clause-line c = λ model is.
     let cells = row_of model c.args.table c.args.row in
     let index = c.loop-cell_index.cell_index in
-    let long = c.models_are_read.ensures.long c.args.view.now model is c.args.table c.args.row c.requires.first c.requires.last in
+    let long = c.models_are_read.ensures.long c.args.cells.now model is c.args.table c.args.row c.requires.first c.requires.last in
     let all : length cells ≤ index = omega (arith, long, c.loop-cell_index-test.false, c.cell_count-cell_index-end.ensures) in
     c.in_ok-push-3.ensures.items
-    ∙ ap (λ xs. xs ++ 10 ∷ []) (c.loop-cell_index.invariant model is ∙ ap (λ xs. c.push.new.self.items ++ flat_map spaced xs) (take_all index cells all)
+    ∙ ap (λ xs. xs ++ 10 ∷ []) (c.loop-cell_index.invariant.line model is ∙ ap (λ xs. c.push.new.self.items ++ flat_map spaced xs) (take_all index cells all)
     ∙ ap (λ xs. xs ++ flat_map spaced cells) (c.in_ok-push.ensures.items ∙ ap (λ xs. xs ++ 58 ∷ []) (c.in_ok-push_decimal.ensures
     ∙ ap (λ n. c.args.line.now.items ++ decimal n) c.from.ensures)))
     ∙ four_joined c.args.line.now.items (decimal c.args.row) (58 ∷ []) (flat_map spaced cells) (10 ∷ [])

@@ -6,5 +6,8 @@ use Rattle.cli_reports.specs.RowTexts.{spaced}
 use Rattle.cli_reports.proofs.row_lines.push_row.Given as goal
 
 abbrev pub invariant-loop-cell_index : goal.invariant-loop-cell_index
-invariant-loop-cell_index l = (model : Metadata) → IsModel l.view model
-    → l.line.items ≡ l.initial.line.items ++ flat_map spaced (take l.cell_index (row_of model l.table l.row))
+invariant-loop-cell_index l = record {
+  same : l.cells ≡ l.initial.cells;
+  line : (model : Metadata) → IsModel l.initial.cells model
+      → l.line.items ≡ l.initial.line.items ++ flat_map spaced (take l.cell_index (row_of model l.table l.row));
+}

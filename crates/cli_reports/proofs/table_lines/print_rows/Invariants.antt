@@ -1,4 +1,4 @@
-use Rattle.std.proofs.Common.{◌++◌}
+use Rattle.std.proofs.Common.{◌≡◌, ◌++◌}
 use Rattle.metadata.specs.Metadata.{Metadata}
 use Rattle.metadata.specs.Model.{IsModel}
 use Rattle.cli_reports.specs.RowTexts.{rows_text}
@@ -6,5 +6,8 @@ use Rattle.cli_reports.specs.Sent.{Sends}
 use Rattle.cli_reports.proofs.table_lines.print_rows.Given as goal
 
 abbrev pub invariant-loop-earlier : goal.invariant-loop-earlier
-invariant-loop-earlier g l = (model : Metadata) → IsModel l.view model
-    → Sends (g.W.Write.contents l.initial.out) (g.W.Write.contents l.out) (l.initial.lines.items ++ rows_text model l.table l.earlier) l.lines.items
+invariant-loop-earlier g l = record {
+  same : l.cells ≡ l.view;
+  rows : (model : Metadata) → IsModel l.view model
+      → Sends (g.W.Write.contents l.initial.out) (g.W.Write.contents l.out) (l.initial.lines.items ++ rows_text model l.table l.earlier) l.lines.items;
+}
