@@ -62,10 +62,7 @@ fn canonical_bytes<'u>(
 }
 
 /// The bytes that are written for the use of a blob.
-pub fn written_bytes<'u>(
-    alloc: Global,
-    found: &'u BlobUse<'_>,
-) -> Result<BlobBytes<'u>, AllocError>
+pub fn written_bytes<'u>(alloc: Global, found: &'u BlobUse<'_>) -> Result<BlobBytes<'u>, AllocError>
     requires { ¬ (¬ ((blob : List ℕ) × IsUseOf found.now blob)) }
     ensures { (blob : List ℕ) → IsUseOf found.now blob → IfOk result (λ bytes. bytes_in bytes ≡ blob) }
 {

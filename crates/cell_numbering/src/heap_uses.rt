@@ -147,10 +147,7 @@ fn add_rows<'a, S: ReadCells>(
 }
 
 /// The values that all cells use, in order of use.
-pub fn heap_uses<'a, S: ReadCells>(
-    alloc: Global,
-    source: &'a S,
-) -> Result<HeapUses<'a>, AllocError>
+pub fn heap_uses<'a, S: ReadCells>(alloc: Global, source: &'a S) -> Result<HeapUses<'a>, AllocError>
     ensures { (model : Metadata) → S.shows source.now model
         → IfOk result (λ uses. AreUsesIn (S.heap_index source.now) model uses (all_cells model)) }
 {
