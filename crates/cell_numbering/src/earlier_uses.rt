@@ -13,11 +13,11 @@ fn sorted_indexes(alloc: Global, uses: &[BlobUse<'_>]) -> Result<Vec<(u32, usize
     Ok(indexes)
 }
 
-/// For each use index the last earlier use with the same index in the heap, or itself. Only the time depends on it:
-/// what is written for a use is compared with the one that it repeats.
+/// For each use index the last earlier use with the same index in the heap, or itself. Only the time depends on it: the
+/// caller tests whether the two uses have one index and one kind.
 ///
-/// It sorts the indexes, and not the blobs. A table has columns of one kind of blobs alone, so uses with one index are
-/// in few groups of one kind.
+/// It sorts the indexes, and not the blobs. Uses with one index are in order of use, so by table. The blobs of a table
+/// are of one kind, so the kind of these uses changes a few times at most.
 pub fn earlier_uses(alloc: Global, uses: &[BlobUse<'_>]) -> Result<Vec<usize>, AllocError> {
     let sorted = sorted_indexes(alloc, uses)?;
     let mut earlier = Vec::with_capacity(alloc, uses.len())?;

@@ -9,9 +9,7 @@ ghost use Rattle.root_writer.specs.TableHeader.{table_header};
 ghost use Rattle.root_writer.specs.declared.root_parts.RootParts.{RootParts as TheParts};
 ghost use Rattle.root_writer.specs.Root.{root_bytes, ArePartsOf};
 
-pub use crate::numbering_laws::{
-    cells_can_be_numbered, numbers_are_put,
-};
+pub use crate::numbering_laws::{cells_can_be_numbered, numbers_are_put};
 
 /// The canonical root is what [`Writer::put_heading`](crate::Writer::put_heading) writes for the sizes of its streams,
 /// followed by the streams that have bytes.

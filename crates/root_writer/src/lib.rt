@@ -1,10 +1,7 @@
-//! Numbers the cells of a canonical root, and writes its bytes in sequence (ECMA-335 II.24.2).
+//! Writes the bytes of a canonical root in sequence (ECMA-335 II.24.2).
 //!
-//! A [`Numbering`] receives the cells in order of table, row and column. It pools GUIDs and blobs, signatures in their
-//! canonical encoding, and keeps one number per column. The strings heap is planned first, and each text receives the
-//! next of its indexes, so no text is looked up. The cells of a valid model give the pools and numbers of its canonical
-//! root ([`numberings_are_of_models`]). `cell_numbering` numbers the cells of a model, and those of a root that is read in
-//! place.
+//! A [`Numbering`] has the planned heaps of blobs and GUIDs, and the numbers of all cells, one per column.
+//! `cell_numbering` makes it for a model, and for a root that is read in place.
 //!
 //! A [`Writer`] has room for all bytes before it writes the first one, so only [`Writer::with_room`] can fail. Its
 //! calls write what `canonical` defines for a root ([`canonical_roots_are_put`]). They need the sizes of the streams, the

@@ -13,7 +13,8 @@ use std::alloc::Global;
 ///
 /// No cell is copied. The memory of the root is allocated once, when its length is known, and each byte is written
 /// once. During the call there are also the heaps, with each text, blob and GUID once. There is also a number of four
-/// bytes for each column of each row. The cost is that of reading each cell.
+/// bytes for each column of each row, and what sorting the values of the heaps needs. The cost is that of reading each
+/// cell, and of sorting these values. A blob that many rows name is read once for each kind of column.
 ///
 /// # Errors
 ///
