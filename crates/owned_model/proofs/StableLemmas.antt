@@ -1,5 +1,5 @@
 -- A fact that is not impossible holds, if it can be tested. So a model that is not invalid is valid.
-use Rattle.std.proofs.Common.{◌≡◌, ◌≢◌, ◌⊎◌, ◌↔◌, ℕ, ◌+◌, ◌*◌, ◌-◌, ◌^◌, ◌<◌, ◌≤◌, ℤ, neg_ℤ, ◌≤ℤ◌, ◌<ℤ◌, Bool, true, false, IsTrue, List, [], ◌∷◌, length, Option, Some, None, slice_get, slice_index_or, IfSome, Contains, All, IsUtf8, zero, suc, inl, inr, refl, sym, ap, ◌∙◌, subst, arith}
+use Rattle.std.proofs.Common.{◌≡◌, ◌⊎◌, ℕ, ◌+◌, ◌*◌, ◌-◌, ◌^◌, ◌<◌, ◌≤◌, ℤ, neg_ℤ, Bool, true, false, List, [], ◌∷◌, length, Option, Some, None, slice_get, slice_index_or, IfSome, Contains, IsUtf8, zero, suc, inl, inr, refl, sym, ap, ◌∙◌, subst, arith}
 use Rattle.std.specs.List.{AllByRecursion}
 use Rattle.std.specs.Str.{is_utf8}
 use Rattle.std.proofs.lemmas.Bool.{cases_eq, cases_lt}
@@ -8,7 +8,7 @@ use Rattle.std.proofs.lemmas.Str.{IsUtf8-from_is_utf8, is_utf8-from_IsUtf8}
 use Rattle.packed.specs.Packed.{FitsBits, half_range}
 use Rattle.heap_entries.specs.Entries.{HasNoNul}
 use Rattle.table_schema.specs.declared.table.TableId.{TableId}
-use Rattle.table_schema.specs.declared.table.TableId.TheVariants.{Module, TypeDef, Field, MethodDef, Param, EventMap, Event, PropertyMap, Property, NestedClass}
+use Rattle.table_schema.specs.declared.table.TableId.TheVariants.{Module, TypeDef, Field, MethodDef, Param, EventMap, Event, PropertyMap, Property}
 use Rattle.table_schema.specs.declared.token.Token.{Token}
 use Rattle.table_schema.specs.declared.column.ColumnKind.{ColumnKind}
 use Rattle.table_schema.specs.declared.column.ColumnKind.TheVariants as kind
@@ -26,7 +26,7 @@ use Rattle.sig_grammar.specs.Encodes.{Holds, IsEncodable, short, tokens}
 use Rattle.metadata.specs.Cell.{Cell}
 use Rattle.metadata.specs.Cell as cell
 use Rattle.metadata.specs.Kinds.{IsTo, IsOfKind, IsStorable, IsHeld}
-use Rattle.metadata.specs.Metadata.{Metadata, count_in, cell_in}
+use Rattle.metadata.specs.Metadata.{Metadata, count_in}
 use Rattle.metadata.specs.Valid.{Names, MayRefer, IsWithinMembers, NamesTypes, IsValidCell, HasOwners, IsValid}
 
 -- the fact holds if it is not impossible
