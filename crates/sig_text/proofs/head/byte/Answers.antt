@@ -1,0 +1,3 @@
+use Rattle.sig_text.proofs.WholeRead.{body_is, declared_text_is}
+use Rattle.sig_text.proofs.MarksShown.{mark_read}
+use Rattle.sig_text.proofs.ShapeShown.{listed_next}

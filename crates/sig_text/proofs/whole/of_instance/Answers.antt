@@ -1,0 +1,11 @@
+use Rattle.std.proofs.Common.{rules, arith, ◌≡◌, ◌∙◌, ◌%◌, ◌/◌, eqb, true, false, sym, refl, ap}
+use Rattle.sig_text.specs.Receives.{Receives, nothing, refused, taken}
+use Rattle.sig_text.proofs.Chains.{one, joined, stopped}
+use Rattle.std.proofs.lemmas.Bool.{ne_eqb}
+use Rattle.sig_text.proofs.whole.of_instance.Goals as goal
+
+pub returns-then-code-eq-INSTANCE_PROPERTY-clause-pieces : goal.returns-then-code-eq-INSTANCE_PROPERTY-clause-pieces
+returns-then-code-eq-INSTANCE_PROPERTY-clause-pieces g c = let e : c.args.code ≡ 0x28 = search rules in rw e (one c.text.ensures.piece)
+
+pub returns-clause-pieces : goal.returns-clause-pieces
+returns-clause-pieces g c = let e : eqb c.args.code 0x28 ≡ false = search rules in rw e nothing
