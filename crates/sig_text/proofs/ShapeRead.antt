@@ -21,18 +21,21 @@ module _ {A : Type 0} (r : Reader A) (read : List ℕ → A × List ℕ) (same :
   unfolding many_at next_of
   step zero b xs c e = of_none xs e
     where
-      of_none : (ys : List A) → Some ([], b) ≡ Some (ys, c) → (None ≡ slice_get ys 0) × (Some ([], b) ≡ Some (drop 1 ys, c))
+      of_none : (ys : List A) → ◌≡◌ {A = Option (List A × List ℕ)} (Some ([], b)) (Some (ys, c)) → (None ≡ slice_get ys 0) × (◌≡◌ {A = Option (List A × List ℕ)} (Some ([], b)) (Some (drop 1 ys, c)))
       of_none [] f = (refl, f)
-      of_none (y ∷ ys) f = absurd cc
+      of_none (y ∷ ys) f = let p : ◌≡◌ {A = List A × List ℕ} ([], b) (y ∷ ys, c) = cc in let heads : [] ≡ (y ∷ ys) = ap (λ (w : List A × List ℕ). w.0) p in absurd cc
   step (suc k) b xs c e = of_first (r b) (same b) e
     where
       of_more : (x : A × List ℕ) (o : Option (List A × List ℕ)) → prefixed x.0 o ≡ Some (xs, c) → (Some x.0 ≡ slice_get xs 0) × (o ≡ Some (drop 1 xs, c))
       of_more x None f = absurd cc
       of_more x (Some y) f = of_list x y xs f
         where
-          of_list : (x : A × List ℕ) (y : List A × List ℕ) (zs : List A) → Some (x.0 ∷ y.0, y.1) ≡ Some (zs, c) → (Some x.0 ≡ slice_get zs 0) × (Some y ≡ Some (drop 1 zs, c))
-          of_list x y [] g = absurd cc
-          of_list x y (z ∷ zs) g = (cc, cc)
+          of_list : (x : A × List ℕ) (y : List A × List ℕ) (zs : List A) → ◌≡◌ {A = Option (List A × List ℕ)} (Some (x.0 ∷ y.0, y.1)) (Some (zs, c)) → (Some x.0 ≡ slice_get zs 0) × (Some y ≡ Some (drop 1 zs, c))
+          of_list x y [] g = let p : ◌≡◌ {A = List A × List ℕ} (x.0 ∷ y.0, y.1) ([], c) = cc in let heads : (x.0 ∷ y.0) ≡ [] = ap (λ (w : List A × List ℕ). w.0) p in absurd cc
+          of_list x y (z ∷ zs) g = let p : ◌≡◌ {A = List A × List ℕ} (x.0 ∷ y.0, y.1) (z ∷ zs, c) = cc in let heads : (x.0 ∷ y.0) ≡ (z ∷ zs) = ap (λ (w : List A × List ℕ). w.0) p in let ends : y.1 ≡ c = ap (λ (w : List A × List ℕ). w.1) p in let one : x.0 ≡ z = cc in let rest : y.0 ≡ zs = cc in (ap (λ (w : A). Some w) one, ap2 rest ends)
+            where
+              ap2 : y.0 ≡ zs → y.1 ≡ c → Some y ≡ Some (zs, c)
+              ap2 f h = λ i. Some (f i, h i)
 
       of_first : (o : Option (A × List ℕ)) → IfSome o (λ x. read b ≡ x) → first_then k o ≡ Some (xs, c) → (Some (read b).0 ≡ slice_get xs 0) × (many_at r k (read b).1 ≡ Some (drop 1 xs, c))
       of_first None h f = absurd cc

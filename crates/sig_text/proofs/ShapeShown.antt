@@ -4,7 +4,8 @@ use Rattle.std.specs.Prelude.{codes}
 use Rattle.std.proofs.lemmas.Bool.{ne_eqb}
 use Rattle.sig_text.specs.SignatureText.{Piece, word, comma, dimension_text}
 use Rattle.sig_text.specs.Shown.{Shown, CoreShown, number_or, signed_or, numbers_behind, next_of, before, dimensions_shown, slot_shown, is_marked, behind_mark, listed_shown, named_slots_shown}
-use Rattle.sig_text.specs.SignatureText.{flag_text, param_name}
+use Rattle.std.proofs.Common.{◌⊎◌, inl, inr}
+use Rattle.sig_text.specs.SignatureText.{flag_text, param_name, mark_text}
 use Rattle.sig_text.specs.Receives.{Receives}
 use Rattle.sig_text.proofs.Chains.{joined, stopped}
 
@@ -67,3 +68,8 @@ pub named_more : (core : CoreShown) (start : List Piece) (position n done : ℕ)
 unfolding named_slots_shown
 named_more core start position zero done b h = absurd (omega arith)
 named_more core start position (suc n) done b h = let less : suc n - 1 ≡ n = omega arith in rw (less, before_next (codes ", ") done) refl
+
+pub mark_none : (r s l : ℕ) → (((r ≡ 1) × (s ≡ 0) × (l ≡ 0 → ⊥)) ⊎ (((r ≡ 1) × (s ≡ 0 → ⊥)) ⊎ (r ≡ 1 → ⊥))) → mark_text r s l ≡ []
+mark_none r s l (inl p) = let e = ne_eqb l 0 p.2 in rw (p.0, p.1, e) refl
+mark_none r s l (inr (inl p)) = let e = ne_eqb s 0 p.1 in rw (p.0, e) refl
+mark_none r s l (inr (inr p)) = let e = ne_eqb r 1 p in rw e refl

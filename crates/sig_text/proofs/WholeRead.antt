@@ -1,7 +1,7 @@
 -- Whole signatures, as they are read and as they are shown.
-use Rattle.std.proofs.Common.{◌≡◌, ◌∙◌, ℕ, zero, suc, ◌<◌, ◌%◌, ◌/◌, ◌&&◌, Bool, true, false, cond, eqb, Option, Some, None, IfSome, List, [], ◌∷◌, ◌++◌, refl, sym, ap, subst, arith}
+use Rattle.std.proofs.Common.{◌≡◌, ◌≢◌, ◌||◌, ◌∙◌, ℕ, zero, suc, ◌<◌, ◌%◌, ◌/◌, ◌&&◌, Bool, true, false, cond, eqb, Option, Some, None, IfSome, List, [], ◌∷◌, ◌++◌, refl, sym, ap, subst, arith}
 use Rattle.std.specs.Prelude.{option_map, option_and_then, codes}
-use Rattle.std.proofs.lemmas.Bool.{eqb-true}
+use Rattle.std.proofs.lemmas.Bool.{eqb-true, ne_eqb}
 use Rattle.table_schema.specs.declared.column.SigKind.{SigKind}
 use Rattle.table_schema.specs.declared.column.SigKind.TheVariants as column
 use Rattle.sig_grammar.specs.Syntax as sig
@@ -9,7 +9,7 @@ use Rattle.sig_grammar.specs.Views.{slots_from}
 use Rattle.sig_grammar.specs.Reading.{Reader, change, both, behind, fail, number_at, many_at, counted_at, typed_at, slot_at, ret_at, params_at, generic_at, takes_sentinel, is_method_code, method_from, method_at, core_at}
 use Rattle.sig_grammar.specs.Columns.{local_at, headed_at, property_from, method_or, field_or, locals_or, property_or, instance_or, body_at}
 use Rattle.sig_text.specs.SignatureText.{Piece, word, comma, listed, flag_text, arity_text, typed_text, slot_text, ret_text, method_text, local_text, text_of, declared_text, method_name, named_slots_text}
-use Rattle.sig_text.specs.Shown.{Shown, CoreShown, number_or, slot_shown, listed_shown, enclosed_shown, generic_or, method_shown, core_shown, property_shown, counted_shown, headed_shown, body_shown, named_slots_shown, declared_shown}
+use Rattle.sig_text.specs.Shown.{Shown, CoreShown, byte_or, number_or, slot_shown, listed_shown, enclosed_shown, generic_or, method_shown, core_shown, property_shown, counted_shown, headed_shown, body_shown, named_slots_shown, declared_shown}
 use Rattle.sig_text.proofs.Options.{if_bind, if_map, if_cond, if_more}
 use Rattle.sig_text.proofs.TypesRead.{by_code, Agrees, NotAt, Fits, IsDeep, typed_agrees, typed_not, slot_agrees, slot_not, ret_agrees, local_agrees, local_not, many_listed, params_named}
 use Rattle.sig_text.proofs.BodiesRead.{number_read, enclosed_is, generic_read, method_agrees, deep_shown, fits_at}
@@ -142,3 +142,46 @@ declared_text_is b m e = of_some (method_at false (core_at 128) b) (declared_agr
     of_some : (o : Option (sig.Method × List ℕ)) → IfSome o (λ x. declared_shown (core_shown 128) b ≡ declared_text x.0) → option_map {U = sig.Body × List ℕ} (λ x. (sig.method_body x.0, x.1)) o ≡ Some (sig.method_body m, []) → declared_shown (core_shown 128) b ≡ declared_text m
     of_some None h f = absurd cc
     of_some (Some x) h f = let p : ◌≡◌ {A = sig.Body × List ℕ} (sig.method_body x.0, x.1) (sig.method_body m, []) = cc in let q : sig.method_body x.0 ≡ sig.method_body m = ap (λ (y : sig.Body × List ℕ). y.0) p in let same : x.0 ≡ m = cc in h ∙ ap declared_text same
+
+pub body_type : (core : CoreShown) (b : List ℕ) → body_shown core column.TypeSpec b ≡ (slot_shown core b).0
+unfolding body_shown
+body_type core b = refl
+
+pub body_other : (core : CoreShown) (kind : SigKind) (b : List ℕ) → (kind ≡ column.TypeSpec → ⊥) → body_shown core kind b ≡ (headed_shown core b).0
+unfolding body_shown
+body_other core column.Field b h = refl
+body_other core column.MethodDef b h = refl
+body_other core column.MemberRef b h = refl
+body_other core column.StandAlone b h = refl
+body_other core column.Property b h = refl
+body_other core column.TypeSpec b h = absurd (h refl)
+body_other core column.Instance b h = refl
+
+-- ---- by the first byte
+
+module _ (core : CoreShown) (c : ℕ) (b tail : List ℕ) (first : (c, tail) ≡ byte_or b) where
+  pub headed_field : c ≡ 0x06 → headed_shown core b ≡ slot_shown core tail
+  unfolding headed_shown
+  headed_field e = let t : eqb c 0x06 ≡ true = rw e refl in rw (← first, t) refl
+
+  pub headed_locals : c ≡ 0x07 → headed_shown core b ≡ counted_shown core (codes "(") (codes ")") tail
+  unfolding headed_shown
+  headed_locals e = let t1 : eqb c 0x06 ≡ false = rw e refl in let t2 : eqb c 0x07 ≡ true = rw e refl in rw (← first, t1, t2) refl
+
+  pub headed_arguments : c ≡ 0x0A → headed_shown core b ≡ counted_shown core (codes "<") (codes ">") tail
+  unfolding headed_shown
+  headed_arguments e = let t1 : eqb c 0x06 ≡ false = rw e refl in let t2 : eqb c 0x07 ≡ false = rw e refl in let t3 : eqb c 0x0A ≡ true = rw e refl in rw (← first, t1, t2, t3) refl
+
+  pub headed_property : (eqb c 0x08 || eqb c 0x28) ≡ true → eqb c 0x06 ≡ false → eqb c 0x07 ≡ false → eqb c 0x0A ≡ false → headed_shown core b ≡ property_shown core c tail
+  unfolding headed_shown
+  headed_property t t1 t2 t3 = rw (← first, t1, t2, t3, t) refl
+
+  pub headed_plain : c ≡ 0x08 → headed_shown core b ≡ property_shown core c tail
+  headed_plain e = headed_property (rw e refl) (rw e refl) (rw e refl) (rw e refl)
+
+  pub headed_instance : c ≡ 0x28 → headed_shown core b ≡ property_shown core c tail
+  headed_instance e = headed_property (rw e refl) (rw e refl) (rw e refl) (rw e refl)
+
+  pub headed_method : c ≢ 0x06 → c ≢ 0x07 → c ≢ 0x0A → c ≢ 0x08 → c ≢ 0x28 → headed_shown core b ≡ method_shown core b
+  unfolding headed_shown
+  headed_method p1 p2 p3 p4 p5 = let t1 = ne_eqb c 0x06 p1 in let t2 = ne_eqb c 0x07 p2 in let t3 = ne_eqb c 0x0A p3 in let t4 = ne_eqb c 0x08 p4 in let t5 = ne_eqb c 0x28 p5 in rw (← first, t1, t2, t3, t4, t5) refl

@@ -151,7 +151,8 @@ fn coded<'a, S: TextSink>(sink: &mut S, code: u8, bytes: &'a [u8], depth: u8) ->
     ensures tail { IfSome result (λ tail. tail.now ≡ (code_shown (core_shown depth) code bytes.now).1) }
 {
     match code {
-        CLASS | VALUETYPE => named(sink, code, bytes),
+        CLASS => named(sink, code, bytes),
+        VALUETYPE => named(sink, code, bytes),
         VAR => parameter(sink, "!", bytes),
         MVAR => parameter(sink, "!!", bytes),
         VOID => word(sink, "void", bytes),

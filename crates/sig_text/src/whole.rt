@@ -66,21 +66,21 @@ fn headed<'a, S: TextSink>(sink: &mut S, bytes: &'a [u8]) -> Option<&'a [u8]>
         0x06 => slot(sink, tail, DEPTH_LIMIT),
         0x07 => counted(sink, tail, "(", ")"),
         0x0A => counted(sink, tail, "<", ">"),
-        0x08 | 0x28 => property(sink, code, tail),
+        0x08 => property(sink, code, tail),
+        INSTANCE_PROPERTY => property(sink, code, tail),
         _ => method(sink, bytes, DEPTH_LIMIT),
     }
 }
 
-/// Writes the bytes of a signature in a column of this kind.
-fn body<S: TextSink>(sink: &mut S, bytes: &[u8], kind: SigKind) -> Option<()>
+/// Writes the bytes of a signature in a column of this kind, and returns the remaining bytes.
+fn body<'a, S: TextSink>(sink: &mut S, bytes: &'a [u8], kind: SigKind) -> Option<&'a [u8]>
     ensures words { S.refused sink.new ≡ refused_after result (S.refused sink.old) }
     ensures pieces { Receives S.gives sink.old (body_shown (core_shown 128) kind bytes.now) (is_some result) sink.new }
 {
     match kind {
-        SigKind::TypeSpec => slot(sink, bytes, DEPTH_LIMIT)?,
-        _ => headed(sink, bytes)?,
-    };
-    Some(())
+        SigKind::TypeSpec => slot(sink, bytes, DEPTH_LIMIT),
+        _ => headed(sink, bytes),
+    }
 }
 
 /// Writes the signature that all the bytes together encode, in a column of this kind, in the notation of ILAsm
@@ -103,5 +103,6 @@ pub fn write_signature<S: TextSink>(sink: &mut S, bytes: &[u8], kind: SigKind) -
     if !recognise(bytes, kind) {
         return Some(());
     }
-    body(sink, bytes, kind)
+    body(sink, bytes, kind)?;
+    Some(())
 }

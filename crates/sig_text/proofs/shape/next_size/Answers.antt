@@ -1,0 +1,13 @@
+use Rattle.std.proofs.Common.{rules, arith, ◌≡◌, ◌∙◌, ◌%◌, ◌/◌, eqb, true, false, sym, refl, ap}
+use Rattle.sig_text.specs.Receives.{Receives, nothing, refused, taken}
+use Rattle.sig_text.proofs.Chains.{one, joined, stopped}
+use Rattle.std.proofs.Common.{ℕ, ◌<◌, ◌-◌, ◌+◌}
+use Rattle.sig_text.specs.Shown.{number_or, signed_or, next_of, numbers_behind}
+use Rattle.sig_text.proofs.ShapeShown.{next_none, next_some, behind_more, behind_end}
+use Rattle.sig_text.proofs.shape.next_size.Goals as goal
+
+pub returns-then-left-eq0 : goal.returns-then-left-eq0
+returns-then-left-eq0 c = sym (next_none number_or c.args.left c.args.bytes.now c.if-left-eq0.true)
+
+pub returns : goal.returns
+returns c = let lt : 0 < c.args.left = omega arith in rw (next_some number_or c.args.left c.args.bytes.now lt, ← c.number-size.ensures) refl
