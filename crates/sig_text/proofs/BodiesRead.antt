@@ -1,22 +1,18 @@
 -- Methods, types by their first byte, and whole signatures, as they are read and as they are shown.
-use Rattle.std.proofs.Common.{◌≡◌, ◌≢◌, ◌∙◌, ℕ, zero, suc, ◌≤◌, ◌<◌, ◌%◌, ◌/◌, ◌&&◌, ◌||◌, Bool, true, false, cond, eqb, Option, Some, None, IfSome, List, [], ◌∷◌, ◌++◌, length, map, refl, sym, ap, subst, append_assoc, arith}
+use Rattle.std.proofs.Common.{◌≡◌, ◌∙◌, ℕ, zero, suc, ◌<◌, ◌%◌, ◌/◌, ◌&&◌, Bool, true, false, cond, eqb, Option, Some, None, IfSome, List, [], ◌∷◌, ◌++◌, refl, ap, append_assoc, arith}
 use Rattle.std.specs.Prelude.{option_map, option_and_then, codes}
-use Rattle.std.proofs.lemmas.Bool.{eqb-true}
 use Rattle.table_schema.specs.declared.token.Token.{Token}
 use Rattle.table_schema.specs.declared.table.TableId.TheVariants.{TypeDef}
-use Rattle.table_schema.specs.declared.column.SigKind.{SigKind}
-use Rattle.table_schema.specs.declared.column.SigKind.TheVariants as column
 use Rattle.sig_grammar.specs.declared.types.Modifier.{Modifier}
 use Rattle.sig_grammar.specs.declared.element.Element.{Element}
 use Rattle.sig_grammar.specs.Syntax as sig
 use Rattle.sig_grammar.specs.Views.{types_from, slots_from}
-use Rattle.sig_grammar.specs.Reading.{Reader, change, both, behind, fail, choose, deep, code_at, number_at, index_at, many_at, counted_at, named_at, typed_at, target_at, pointer_to, slot_at, ret_at, array_at, array_from, shape_at, instance_at, instance_from, params_at, generic_at, takes_sentinel, is_method_code, method_from, method_at, core_by, core_or, core_at, element_of}
-use Rattle.sig_grammar.specs.Columns.{local_at, headed_at, property_from, method_or, field_or, locals_or, property_or, instance_or, body_at}
-use Rattle.sig_text.specs.SignatureText.{Piece, word, name, number, comma, listed, modifiers_text, flag_text, kind_text, call_text, arity_text, core_text, typed_text, types_text, slot_text, slots_text, ret_text, method_text, local_text, text_of, declared_text, shape_text, method_name, named_slots_text}
-use Rattle.sig_text.specs.Shown.{Shown, CoreShown, word_shown, byte_or, number_or, index_or, named_shown, parameter_shown, slot_shown, listed_shown, enclosed_shown, instance_shown, generic_or, code_text, method_shown, after_element_shown, around_shown, code_shown, element_or, core_shown, shape_shown, property_shown, counted_shown, headed_shown, body_shown, named_slots_shown, declared_shown}
-use Rattle.sig_text.proofs.Options.{if_bind, if_map, if_cond, if_both, if_more, if_read}
+use Rattle.sig_grammar.specs.Reading.{Reader, change, both, deep, number_at, index_at, many_at, counted_at, named_at, typed_at, target_at, pointer_to, ret_at, array_at, array_from, shape_at, instance_at, instance_from, params_at, generic_at, takes_sentinel, is_method_code, method_from, method_at, core_by, core_or, core_at, element_of}
+use Rattle.sig_text.specs.SignatureText.{Piece, word, listed, modifiers_text, core_text, typed_text, slots_text, ret_text, method_text, shape_text}
+use Rattle.sig_text.specs.Shown.{CoreShown, byte_or, number_or, index_or, named_shown, parameter_shown, slot_shown, listed_shown, enclosed_shown, instance_shown, generic_or, method_shown, after_element_shown, around_shown, code_shown, element_or, core_shown, shape_shown}
+use Rattle.sig_text.proofs.Options.{if_bind, if_map, if_cond, if_more, if_read}
 use Rattle.sig_text.proofs.ShapeRead.{shape_read}
-use Rattle.sig_text.proofs.TypesRead.{by_code, Agrees, NotAt, Fits, IsDeep, void_text, typed_agrees, typed_not, target_agrees, slot_agrees, slot_not, ret_agrees, local_agrees, local_not, many_listed, types_listed, params_listed, params_named}
+use Rattle.sig_text.proofs.TypesRead.{by_code, Agrees, Fits, IsDeep, void_text, typed_agrees, typed_not, target_agrees, ret_agrees, many_listed, types_listed, params_listed}
 
 pub number_read : (b : List ℕ) → IfSome (number_at b) (λ x. number_or b ≡ x)
 number_read b = if_read (number_at b) (0, b)
@@ -25,7 +21,6 @@ index_read : (b : List ℕ) → IfSome (index_at b) (λ x. index_or b ≡ x)
 index_read b = if_read (index_at b) (record { table = TypeDef; row = 0 }, b)
 
 module _ (nested : Reader sig.Core) (core : CoreShown) (fits : Fits nested core) where
-
   pub enclosed_is : (first last : List ℕ) (n : ℕ) (b : List ℕ) (text : List Piece) (c : List ℕ) → listed_shown core [] n b ≡ (text, c) → enclosed_shown core first last n b ≡ (word first ∷ (text ++ word last ∷ []), c)
   unfolding enclosed_shown
   enclosed_is first last n b text c e = rw e refl
@@ -54,10 +49,10 @@ module _ (nested : Reader sig.Core) (core : CoreShown) (fits : Fits nested core)
   method_agrees deep own (c ∷ b) =
       if_cond (λ x. method_shown core (c ∷ b) ≡ (method_text x.0, x.1)) (is_method_code c) (method_from own nested c b) None
       (λ h. if_bind (λ g. generic_or c b ≡ g) (λ x. method_shown core (c ∷ b) ≡ (method_text x.0, x.1)) (λ g. option_and_then (λ n. option_and_then (λ r. option_map (λ p. (sig.method (c % 16) (eqb (c / 32 % 2) 1) (eqb (c / 64 % 2) 1) g.0 r.0 (slots_from p.0.0) p.0.1, p.1)) (params_at nested (own && takes_sentinel (c % 16)) n.0 r.1)) (ret_at nested n.1)) (number_at g.1)) (generic_at (eqb (c / 16 % 2) 1) b) (generic_read c b)
-        (λ g is. if_bind (λ n. number_or g.1 ≡ n) (λ x. method_shown core (c ∷ b) ≡ (method_text x.0, x.1)) (λ n. option_and_then (λ r. option_map (λ p. (sig.method (c % 16) (eqb (c / 32 % 2) 1) (eqb (c / 64 % 2) 1) g.0 r.0 (slots_from p.0.0) p.0.1, p.1)) (params_at nested (own && takes_sentinel (c % 16)) n.0 r.1)) (ret_at nested n.1)) (number_at g.1) (number_read g.1)
-          (λ n count. if_bind (λ r. slot_shown core n.1 ≡ (ret_text r.0, r.1)) (λ x. method_shown core (c ∷ b) ≡ (method_text x.0, x.1)) (λ r. option_map (λ p. (sig.method (c % 16) (eqb (c / 32 % 2) 1) (eqb (c / 64 % 2) 1) g.0 r.0 (slots_from p.0.0) p.0.1, p.1)) (params_at nested (own && takes_sentinel (c % 16)) n.0 r.1)) (ret_at nested n.1) (ret_agrees nested core fits deep n.1)
-            (λ r of. if_map (λ p. listed_shown core [] n.0 r.1 ≡ (slots_text [] (slots_from p.0.0) p.0.1, p.1)) (λ x. method_shown core (c ∷ b) ≡ (method_text x.0, x.1)) (λ p. (sig.method (c % 16) (eqb (c / 32 % 2) 1) (eqb (c / 64 % 2) 1) g.0 r.0 (slots_from p.0.0) p.0.1, p.1)) (params_at nested (own && takes_sentinel (c % 16)) n.0 r.1) (params_listed nested core fits deep n.0 (own && takes_sentinel (c % 16)) [] r.1)
-              (λ p list. method_is c b g n r.0 (slots_from p.0.0) p.0.1 r.1 p.1 is count of list)))))
+      (λ g is. if_bind (λ n. number_or g.1 ≡ n) (λ x. method_shown core (c ∷ b) ≡ (method_text x.0, x.1)) (λ n. option_and_then (λ r. option_map (λ p. (sig.method (c % 16) (eqb (c / 32 % 2) 1) (eqb (c / 64 % 2) 1) g.0 r.0 (slots_from p.0.0) p.0.1, p.1)) (params_at nested (own && takes_sentinel (c % 16)) n.0 r.1)) (ret_at nested n.1)) (number_at g.1) (number_read g.1)
+      (λ n count. if_bind (λ r. slot_shown core n.1 ≡ (ret_text r.0, r.1)) (λ x. method_shown core (c ∷ b) ≡ (method_text x.0, x.1)) (λ r. option_map (λ p. (sig.method (c % 16) (eqb (c / 32 % 2) 1) (eqb (c / 64 % 2) 1) g.0 r.0 (slots_from p.0.0) p.0.1, p.1)) (params_at nested (own && takes_sentinel (c % 16)) n.0 r.1)) (ret_at nested n.1) (ret_agrees nested core fits deep n.1)
+      (λ r of. if_map (λ p. listed_shown core [] n.0 r.1 ≡ (slots_text [] (slots_from p.0.0) p.0.1, p.1)) (λ x. method_shown core (c ∷ b) ≡ (method_text x.0, x.1)) (λ p. (sig.method (c % 16) (eqb (c / 32 % 2) 1) (eqb (c / 64 % 2) 1) g.0 r.0 (slots_from p.0.0) p.0.1, p.1)) (params_at nested (own && takes_sentinel (c % 16)) n.0 r.1) (params_listed nested core fits deep n.0 (own && takes_sentinel (c % 16)) [] r.1)
+      (λ p list. method_is c b g n r.0 (slots_from p.0.0) p.0.1 r.1 p.1 is count of list)))))
       (λ h. tt)
 
   -- ---- an instance
@@ -85,13 +80,13 @@ module _ (nested : Reader sig.Core) (core : CoreShown) (fits : Fits nested core)
   instance_agrees b =
       if_map (λ x. instance_shown core b ≡ (core_text (instance_from x.0), x.1)) (λ x. instance_shown core b ≡ (core_text x.0, x.1)) (λ x. (instance_from x.0, x.1)) (both (both named_at index_at) (counted_at (typed_at nested)) b)
       (if_bind (λ x. (eqb (byte_or b).0 0x11 ≡ x.0.0) × ((v : List ℕ) × ((byte_or b).1 ≡ v) × (index_or v ≡ (x.0.1, x.1)))) (λ x. instance_shown core b ≡ (core_text (instance_from x.0), x.1)) (λ x. option_map (λ y. ((x.0, y.0), y.1)) (counted_at (typed_at nested) x.1)) (both named_at index_at b)
-        (if_bind (λ x. (eqb (byte_or b).0 0x11 ≡ x.0) × ((byte_or b).1 ≡ x.1)) (λ x. (eqb (byte_or b).0 0x11 ≡ x.0.0) × ((v : List ℕ) × ((byte_or b).1 ≡ v) × (index_or v ≡ (x.0.1, x.1)))) (λ x. option_map (λ y. ((x.0, y.0), y.1)) (index_at x.1)) (named_at b) (named_is b)
-          (λ v h. if_map (λ t. index_or v.1 ≡ t) (λ x. (eqb (byte_or b).0 0x11 ≡ x.0.0) × ((v : List ℕ) × ((byte_or b).1 ≡ v) × (index_or v ≡ (x.0.1, x.1)))) (λ y. ((v.0, y.0), y.1)) (index_at v.1) (index_read v.1) (λ t of. (h.0, (v.1, h.1, of)))))
-        (λ x h. if_map (λ y. instance_shown core b ≡ (core_text (instance_from (x.0, y.0)), y.1)) (λ y. instance_shown core b ≡ (core_text (instance_from y.0), y.1)) (λ y. ((x.0, y.0), y.1)) (counted_at (typed_at nested) x.1)
-          (if_bind (λ n. number_or x.1 ≡ n) (λ y. instance_shown core b ≡ (core_text (instance_from (x.0, y.0)), y.1)) (λ n. many_at (typed_at nested) n.0 n.1) (number_at x.1) (number_read x.1)
-            (λ n count. if_more (λ y. listed_shown core [] n.0 n.1 ≡ (listed typed_text [] y.0, y.1)) (λ y. instance_shown core b ≡ (core_text (instance_from (x.0, y.0)), y.1)) (many_at (typed_at nested) n.0 n.1) (many_listed nested core fits (typed_at nested) typed_text (typed_agrees nested core fits) (typed_not nested core fits) n.0 [] n.1)
-              (λ y list. instance_is b (x.0.0, h.1.0) (x.0.1, x.1) n y.0 y.1 h.0 h.1.1 h.1.2 count list)))
-          (λ y f. f)))
+      (if_bind (λ x. (eqb (byte_or b).0 0x11 ≡ x.0) × ((byte_or b).1 ≡ x.1)) (λ x. (eqb (byte_or b).0 0x11 ≡ x.0.0) × ((v : List ℕ) × ((byte_or b).1 ≡ v) × (index_or v ≡ (x.0.1, x.1)))) (λ x. option_map (λ y. ((x.0, y.0), y.1)) (index_at x.1)) (named_at b) (named_is b)
+      (λ v h. if_map (λ t. index_or v.1 ≡ t) (λ x. (eqb (byte_or b).0 0x11 ≡ x.0.0) × ((v : List ℕ) × ((byte_or b).1 ≡ v) × (index_or v ≡ (x.0.1, x.1)))) (λ y. ((v.0, y.0), y.1)) (index_at v.1) (index_read v.1) (λ t of. (h.0, (v.1, h.1, of)))))
+      (λ x h. if_map (λ y. instance_shown core b ≡ (core_text (instance_from (x.0, y.0)), y.1)) (λ y. instance_shown core b ≡ (core_text (instance_from y.0), y.1)) (λ y. ((x.0, y.0), y.1)) (counted_at (typed_at nested) x.1)
+      (if_bind (λ n. number_or x.1 ≡ n) (λ y. instance_shown core b ≡ (core_text (instance_from (x.0, y.0)), y.1)) (λ n. many_at (typed_at nested) n.0 n.1) (number_at x.1) (number_read x.1)
+      (λ n count. if_more (λ y. listed_shown core [] n.0 n.1 ≡ (listed typed_text [] y.0, y.1)) (λ y. instance_shown core b ≡ (core_text (instance_from (x.0, y.0)), y.1)) (many_at (typed_at nested) n.0 n.1) (many_listed nested core fits (typed_at nested) typed_text (typed_agrees nested core fits) (typed_not nested core fits) n.0 [] n.1)
+      (λ y list. instance_is b (x.0.0, h.1.0) (x.0.1, x.1) n y.0 y.1 h.0 h.1.1 h.1.2 count list)))
+      (λ y f. f)))
       (λ x f. f)
 
   -- ---- what is around a type
@@ -148,8 +143,8 @@ module _ (nested : Reader sig.Core) (core : CoreShown) (fits : Fits nested core)
   array_agrees b =
       if_map (λ x. code_shown core 0x14 b ≡ (core_text (array_from x.0), x.1)) (λ x. code_shown core 0x14 b ≡ (core_text x.0, x.1)) (λ x. (array_from x.0, x.1)) (both (typed_at nested) shape_at b)
       (if_bind (λ x. slot_shown core b ≡ (typed_text x.0, x.1)) (λ x. code_shown core 0x14 b ≡ (core_text (array_from x.0), x.1)) (λ x. option_map (λ y. ((x.0, y.0), y.1)) (shape_at x.1)) (typed_at nested b) (typed_agrees nested core fits b)
-        (λ x h. if_map (λ y. shape_shown x.1 ≡ (shape_text y.0, y.1)) (λ y. code_shown core 0x14 b ≡ (core_text (array_from y.0), y.1)) (λ y. ((x.0, y.0), y.1)) (shape_at x.1) (shape_read x.1)
-          (λ y g. around_is 0x14 b (typed_text x.0) (shape_text y.0) x.1 y.1 h (after_array x.1 ∙ g))))
+      (λ x h. if_map (λ y. shape_shown x.1 ≡ (shape_text y.0, y.1)) (λ y. code_shown core 0x14 b ≡ (core_text (array_from y.0), y.1)) (λ y. ((x.0, y.0), y.1)) (shape_at x.1) (shape_read x.1)
+      (λ y g. around_is 0x14 b (typed_text x.0) (shape_text y.0) x.1 y.1 h (after_array x.1 ∙ g))))
       (λ x f. f)
 
   vector_agrees : (b : List ℕ) → IfSome (change sig.vector (typed_at nested) b) (λ x. code_shown core 0x1D b ≡ (core_text x.0, x.1))

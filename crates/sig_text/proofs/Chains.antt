@@ -1,5 +1,5 @@
 -- Pieces after other pieces.
-use Rattle.std.proofs.Common.{◌≡◌, Bool, true, false, List, [], ◌∷◌, ◌++◌, subst, sym}
+use Rattle.std.proofs.Common.{Bool, true, false, List, [], ◌∷◌, ◌++◌}
 use Rattle.sig_text.specs.SignatureText.{Piece}
 use Rattle.sig_text.specs.Receives.{Receives, nothing, refused, taken}
 

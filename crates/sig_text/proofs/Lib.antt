@@ -1,5 +1,6 @@
 pub mod Arms
 pub mod BodiesRead
+pub mod Calls
 pub mod Chains
 pub mod Loops
 pub mod MarksRead

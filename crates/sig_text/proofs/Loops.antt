@@ -1,11 +1,11 @@
 -- What is left of a loop: its pieces, after those that the sink received, and the bytes after them.
-use Rattle.std.proofs.Common.{◌≡◌, ◌∙◌, ℕ, zero, suc, ◌+◌, ◌-◌, ◌≤◌, ◌<◌, Bool, true, false, Option, Some, None, List, [], ◌∷◌, ◌++◌, refl, sym, ap, subst, arith}
+use Rattle.std.proofs.Common.{◌≡◌, ◌∙◌, ℕ, ◌+◌, ◌-◌, ◌<◌, Bool, true, false, Option, List, [], ◌∷◌, ◌++◌, refl, sym, ap, subst}
 use Rattle.std.specs.Prelude.{codes, ℤ}
 use Rattle.sig_text.specs.Receives.{Receives, nothing, refused, taken}
 use Rattle.sig_text.specs.SignatureText.{Piece, flag_text, dimension_text, param_name}
 use Rattle.sig_text.specs.Shown.{Shown, CoreShown, number_or, signed_or, next_of, before, dimensions_shown, slot_shown, is_marked, behind_mark, listed_shown, named_slots_shown}
 use Rattle.sig_text.proofs.Chains.{joined, stopped}
-use Rattle.sig_text.proofs.ShapeShown.{dimensions_end, dimensions_next, listed_end, listed_next, named_end, named_more}
+use Rattle.sig_text.proofs.ShapeShown.{dimensions_next, listed_next, named_more}
 
 -- whatever receives the pieces that are left, from this state on, receives all from the first state on
 pub record Left {S : Type 0} (gives : S → Piece → Bool → S → Type 0) (first : S) (whole : List Piece) (now : S) (left : List Piece) : Type 0 where

@@ -1,11 +1,10 @@
 -- The shape of an array, as it is read and as it is shown.
-use Rattle.std.proofs.Common.{◌≡◌, ◌∙◌, ℕ, ℤ, zero, suc, ◌≤◌, ◌<◌, Bool, true, false, cond, eqb, ltb, Option, Some, None, IfSome, List, [], ◌∷◌, ◌++◌, length, drop, refl, sym, ap, subst, arith}
+use Rattle.std.proofs.Common.{◌≡◌, ℕ, ℤ, zero, suc, ◌≤◌, cond, eqb, ltb, Option, Some, None, IfSome, List, [], ◌∷◌, length, drop, refl, ap, arith}
 use Rattle.std.specs.Prelude.{option_map, option_and_then, slice_get, codes, pos}
 use Rattle.std.proofs.lemmas.Bool.Decides.{nat_tests}
-use Rattle.sig_grammar.specs.Syntax.{ArrayShape}
 use Rattle.sig_grammar.specs.Reading.{Reader, change, both, number_at, signed_at, many_at, counted_within, shape_with, shape_from, shape_at}
-use Rattle.sig_text.specs.SignatureText.{Piece, word, dimension_text, dimensions_text, mark_text, shape_text}
-use Rattle.sig_text.specs.Shown.{Shown, number_or, signed_or, numbers_behind, next_of, dimensions_shown, shape_shown}
+use Rattle.sig_text.specs.SignatureText.{Piece, word, dimensions_text, shape_text}
+use Rattle.sig_text.specs.Shown.{number_or, signed_or, numbers_behind, next_of, dimensions_shown, shape_shown}
 use Rattle.sig_text.proofs.Options.{if_bind, if_map, if_cond, if_both, if_more, if_read}
 
 module _ {A : Type 0} (r : Reader A) (read : List ℕ → A × List ℕ) (same : (b : List ℕ) → IfSome (r b) (λ x. read b ≡ x)) where
@@ -102,9 +101,9 @@ unfolding counted_within
 within_read r read same most b =
     if_bind (λ x. number_or b ≡ x) (Counted r most b) (λ x. cond (ltb most x.0) None (many_at r x.0 x.1)) (number_at b) (numbers_read b)
     (λ x e. if_cond (Counted r most b) (ltb most x.0) None (many_at r x.0 x.1) (λ h. tt)
-      (λ h. if_more (λ y. (many_at r x.0 x.1 ≡ Some y) × (length y.0 ≡ x.0)) (Counted r most b) (many_at r x.0 x.1)
-        (if_both (λ y. many_at r x.0 x.1 ≡ Some y) (λ y. length y.0 ≡ x.0) (many_at r x.0 x.1) (itself (many_at r x.0 x.1)) (count_read r read same x.0 x.1))
-        (λ y f. let le : x.0 ≤ most = grind (arith, nat_tests) in rw e (le, f.0, f.1))))
+    (λ h. if_more (λ y. (many_at r x.0 x.1 ≡ Some y) × (length y.0 ≡ x.0)) (Counted r most b) (many_at r x.0 x.1)
+    (if_both (λ y. many_at r x.0 x.1 ≡ Some y) (λ y. length y.0 ≡ x.0) (many_at r x.0 x.1) (itself (many_at r x.0 x.1)) (count_read r read same x.0 x.1))
+    (λ y f. let le : x.0 ≤ most = grind (arith, nat_tests) in rw e (le, f.0, f.1))))
 
 shape_is : (b : List ℕ) (rank : ℕ × List ℕ) (sizes : List ℕ × List ℕ) (low : List ℤ × List ℕ) → number_or b ≡ rank → Counted number_at rank.0 rank.1 sizes → Counted signed_at rank.0 sizes.1 low
     → shape_shown b ≡ (shape_text (shape_with rank.0 (sizes.0, low.0)), low.1)
@@ -126,8 +125,8 @@ unfolding shape_at both
 shape_read b =
     if_bind (λ x. number_or b ≡ x) (λ x. shape_shown b ≡ (shape_text x.0, x.1)) (λ x. shape_from x.0 x.1) (number_at b) (numbers_read b)
     (λ rank e. if_cond (λ x. shape_shown b ≡ (shape_text x.0, x.1)) (eqb rank.0 0) None (change (shape_with rank.0) (both (counted_within number_at rank.0) (counted_within signed_at rank.0)) rank.1) (λ h. tt)
-      (λ h. if_map (λ x. shape_shown b ≡ (shape_text (shape_with rank.0 x.0), x.1)) (λ x. shape_shown b ≡ (shape_text x.0, x.1)) (λ x. (shape_with rank.0 x.0, x.1)) (both (counted_within number_at rank.0) (counted_within signed_at rank.0) rank.1)
-        (if_bind (Counted number_at rank.0 rank.1) (λ x. shape_shown b ≡ (shape_text (shape_with rank.0 x.0), x.1)) (λ x. option_map (λ y. ((x.0, y.0), y.1)) (counted_within signed_at rank.0 x.1)) (counted_within number_at rank.0 rank.1) (within_read number_at number_or numbers_read rank.0 rank.1)
-          (λ sizes p. if_map (Counted signed_at rank.0 sizes.1) (λ x. shape_shown b ≡ (shape_text (shape_with rank.0 x.0), x.1)) (λ y. ((sizes.0, y.0), y.1)) (counted_within signed_at rank.0 sizes.1) (within_read signed_at signed_or signed_read rank.0 sizes.1)
-            (λ low q. shape_is b rank sizes low e p q)))
-        (λ x f. f)))
+    (λ h. if_map (λ x. shape_shown b ≡ (shape_text (shape_with rank.0 x.0), x.1)) (λ x. shape_shown b ≡ (shape_text x.0, x.1)) (λ x. (shape_with rank.0 x.0, x.1)) (both (counted_within number_at rank.0) (counted_within signed_at rank.0) rank.1)
+    (if_bind (Counted number_at rank.0 rank.1) (λ x. shape_shown b ≡ (shape_text (shape_with rank.0 x.0), x.1)) (λ x. option_map (λ y. ((x.0, y.0), y.1)) (counted_within signed_at rank.0 x.1)) (counted_within number_at rank.0 rank.1) (within_read number_at number_or numbers_read rank.0 rank.1)
+    (λ sizes p. if_map (Counted signed_at rank.0 sizes.1) (λ x. shape_shown b ≡ (shape_text (shape_with rank.0 x.0), x.1)) (λ y. ((sizes.0, y.0), y.1)) (counted_within signed_at rank.0 sizes.1) (within_read signed_at signed_or signed_read rank.0 sizes.1)
+    (λ low q. shape_is b rank sizes low e p q)))
+    (λ x f. f)))

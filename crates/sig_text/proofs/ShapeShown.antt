@@ -1,13 +1,11 @@
 -- The shape of an array, step by step.
-use Rattle.std.proofs.Common.{◌≡◌, ◌∙◌, ℕ, zero, suc, ◌+◌, ◌-◌, ◌≤◌, ◌<◌, Bool, true, false, cond, eqb, Option, Some, None, List, [], ◌∷◌, ◌++◌, length, refl, sym, ap, subst, append_assoc, arith}
+use Rattle.std.proofs.Common.{◌≡◌, ℕ, zero, suc, ◌+◌, ◌-◌, ◌<◌, false, eqb, Some, None, List, [], ◌∷◌, ◌++◌, refl, arith}
 use Rattle.std.specs.Prelude.{codes}
 use Rattle.std.proofs.lemmas.Bool.{ne_eqb}
-use Rattle.sig_text.specs.SignatureText.{Piece, word, comma, dimension_text}
-use Rattle.sig_text.specs.Shown.{Shown, CoreShown, number_or, signed_or, numbers_behind, next_of, before, dimensions_shown, slot_shown, is_marked, behind_mark, listed_shown, named_slots_shown}
+use Rattle.sig_text.specs.SignatureText.{Piece, word, dimension_text}
+use Rattle.sig_text.specs.Shown.{CoreShown, number_or, signed_or, numbers_behind, next_of, before, dimensions_shown, slot_shown, is_marked, behind_mark, listed_shown, named_slots_shown}
 use Rattle.std.proofs.Common.{◌⊎◌, inl, inr}
 use Rattle.sig_text.specs.SignatureText.{flag_text, param_name, mark_text}
-use Rattle.sig_text.specs.Receives.{Receives}
-use Rattle.sig_text.proofs.Chains.{joined, stopped}
 
 pub behind_more : (n : ℕ) (b : List ℕ) → 0 < n → numbers_behind n b ≡ numbers_behind (n - 1) (number_or b).1
 unfolding numbers_behind
@@ -40,8 +38,10 @@ dimensions_end start zero s l e = refl
 dimensions_end start (suc n) s l e = absurd (omega arith)
 
 pub dimensions_next : (start : List Piece) (n done : ℕ) (s l : ℕ × List ℕ) → 0 < n → dimensions_shown start n s l
-    ≡ (start ++ (dimension_text (next_of signed_or l).0 (next_of number_or s).0 ++ (dimensions_shown (before (codes ",") (done + 1)) (n - 1) (next_of number_or s).1 (next_of signed_or l).1).0),
-      (dimensions_shown (before (codes ",") (done + 1)) (n - 1) (next_of number_or s).1 (next_of signed_or l).1).1)
+    ≡ (
+      start ++ (dimension_text (next_of signed_or l).0 (next_of number_or s).0 ++ (dimensions_shown (before (codes ",") (done + 1)) (n - 1) (next_of number_or s).1 (next_of signed_or l).1).0),
+      (dimensions_shown (before (codes ",") (done + 1)) (n - 1) (next_of number_or s).1 (next_of signed_or l).1).1,
+    )
 unfolding dimensions_shown
 dimensions_next start zero done s l h = absurd (omega arith)
 dimensions_next start (suc n) done s l h = let less : suc n - 1 ≡ n = omega arith in rw (less, before_next (codes ",") done) refl
@@ -52,8 +52,10 @@ listed_end core start zero b e = refl
 listed_end core start (suc n) b e = absurd (omega arith)
 
 pub listed_next : (core : CoreShown) (start : List Piece) (n done : ℕ) (b : List ℕ) → 0 < n → listed_shown core start n b
-    ≡ (start ++ (flag_text (is_marked b) (codes "..., ") ++ ((slot_shown core (behind_mark b)).0 ++ (listed_shown core (before (codes ", ") (done + 1)) (n - 1) (slot_shown core (behind_mark b)).1).0)),
-      (listed_shown core (before (codes ", ") (done + 1)) (n - 1) (slot_shown core (behind_mark b)).1).1)
+    ≡ (
+      start ++ (flag_text (is_marked b) (codes "..., ") ++ ((slot_shown core (behind_mark b)).0 ++ (listed_shown core (before (codes ", ") (done + 1)) (n - 1) (slot_shown core (behind_mark b)).1).0)),
+      (listed_shown core (before (codes ", ") (done + 1)) (n - 1) (slot_shown core (behind_mark b)).1).1,
+    )
 unfolding listed_shown
 listed_next core start zero done b h = absurd (omega arith)
 listed_next core start (suc n) done b h = let less : suc n - 1 ≡ n = omega arith in rw (less, before_next (codes ", ") done) refl

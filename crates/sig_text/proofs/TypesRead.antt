@@ -1,16 +1,15 @@
 -- Types, as they are read and as they are shown.
-use Rattle.std.proofs.Common.{◌≡◌, ◌≢◌, ◌∙◌, ℕ, zero, suc, ◌+◌, ◌≤◌, ◌<◌, ◌%◌, ◌/◌, ◌&&◌, Bool, true, false, cond, eqb, Option, Some, None, IfSome, List, [], ◌∷◌, ◌++◌, length, drop, map, refl, sym, ap, subst, append_assoc, arith}
+use Rattle.std.proofs.Common.{◌≡◌, ◌∙◌, ℕ, zero, suc, ◌+◌, ◌&&◌, Bool, true, false, eqb, Option, Some, None, IfSome, List, [], ◌∷◌, ◌++◌, drop, map, refl, sym, ap, subst}
 use Rattle.std.specs.Prelude.{option_map, option_and_then, codes}
 use Rattle.std.proofs.lemmas.Bool.{eqb-true}
 use Rattle.sig_grammar.specs.declared.types.Modifier.{Modifier}
-use Rattle.sig_grammar.specs.declared.body.Prefix.{Prefix}
 use Rattle.sig_grammar.specs.declared.body.Prefix.TheVariants.{Mod}
 use Rattle.sig_grammar.specs.Syntax as sig
 use Rattle.sig_grammar.specs.Views.{types_from, slots_from}
-use Rattle.sig_grammar.specs.Reading.{Reader, change, both, behind, items_then, leading_within, leading_at, modifier_at, modifiers_at, prefix_at, prefixes_at, head_is, many_at, typed_at, void_or, target_at, pointer_to, content_at, slot_at, ret_from, ret_at, params_at}
+use Rattle.sig_grammar.specs.Reading.{Reader, change, both, behind, leading_within, leading_at, modifier_at, modifiers_at, prefix_at, prefixes_at, head_is, many_at, typed_at, void_or, target_at, content_at, slot_at, ret_from, ret_at, params_at}
 use Rattle.sig_grammar.specs.Columns.{local_at, local_from}
-use Rattle.sig_text.specs.SignatureText.{Piece, word, comma, listed, following, modifiers_text, prefix_text, flag_text, sentinel_text, sentinel_after, core_text, typed_text, types_text, content_text, slot_text, slots_text, ret_text, local_text, param_name, named_slots_text}
-use Rattle.sig_text.specs.Shown.{Shown, CoreShown, word_shown, byte_or, marks_of, is_marked, behind_mark, by_ref_shown, content_shown, slot_shown, listed_shown, named_slots_shown}
+use Rattle.sig_text.specs.SignatureText.{Piece, word, comma, listed, following, modifiers_text, prefix_text, core_text, typed_text, types_text, content_text, slot_text, slots_text, ret_text, local_text, param_name, named_slots_text}
+use Rattle.sig_text.specs.Shown.{Shown, CoreShown, word_shown, byte_or, marks_of, by_ref_shown, content_shown, slot_shown, listed_shown, named_slots_shown}
 use Rattle.sig_text.proofs.Options.{if_bind, if_map, if_cond, if_both, if_more}
 use Rattle.sig_text.proofs.MarksRead.{marks_prefixes, marks_modifiers, following_modifiers}
 
@@ -57,15 +56,15 @@ module _ {A : Type 0} (q : Reader A) (text : A → List Piece) (f : List ℕ →
   led never b =
       if_bind (λ x. head_is 0x45 x.1 ≡ false → marks_of b ≡ (map Mod x.0, x.1)) (Led b) (λ x. option_map (λ y. ((x.0, y.0), y.1)) (q x.1)) (modifiers_at b) (marks_modifiers b)
       (λ x g. if_map (λ y. (head_is 0x45 x.1 ≡ false) × (f x.1 ≡ (text y.0, y.1))) (Led b) (λ y. ((x.0, y.0), y.1)) (q x.1)
-        (if_both (λ y. head_is 0x45 x.1 ≡ false) (λ y. f x.1 ≡ (text y.0, y.1)) (q x.1) (not_at 0x45 q never x.1) (agrees x.1))
-        (λ y h. let e = g h.0 in (rw e (following_modifiers x.0), rw e h.1)))
+      (if_both (λ y. head_is 0x45 x.1 ≡ false) (λ y. f x.1 ≡ (text y.0, y.1)) (q x.1) (not_at 0x45 q never x.1) (agrees x.1))
+      (λ y h. let e = g h.0 in (rw e (following_modifiers x.0), rw e h.1)))
 
   pub led_prefixes : (b : List ℕ) → IfSome (both prefixes_at q b) (λ x. ((marks_of b).0 ≡ x.0.0) × (f (marks_of b).1 ≡ (text x.0.1, x.1)))
   unfolding both
   led_prefixes b =
       if_bind (λ x. marks_of b ≡ x) (λ x. ((marks_of b).0 ≡ x.0.0) × (f (marks_of b).1 ≡ (text x.0.1, x.1))) (λ x. option_map (λ y. ((x.0, y.0), y.1)) (q x.1)) (prefixes_at b) (marks_prefixes b)
       (λ x e. if_map (λ y. f x.1 ≡ (text y.0, y.1)) (λ z. ((marks_of b).0 ≡ z.0.0) × (f (marks_of b).1 ≡ (text z.0.1, z.1))) (λ y. ((x.0, y.0), y.1)) (q x.1) (agrees x.1)
-        (λ y h. (rw e refl, rw e h)))
+      (λ y h. (rw e refl, rw e h)))
 
 -- nothing is read at a byte that is neither a modifier nor what follows
 both_not_sentinel : {A : Type 0} (q : Reader A) → NotAt 0x41 q → NotAt 0x41 (both modifiers_at q)
@@ -129,8 +128,8 @@ module _ (nested : Reader sig.Core) (core : CoreShown) (fits : Fits nested core)
       if_cond (λ x. content_shown core (c ∷ b) ≡ (content_text x.0, x.1)) (eqb c 0x16) (Some (sig.typed_ref, b)) (behind 0x10 (change (λ x. sig.by_ref x.0 x.1) (both modifiers_at nested)) (change sig.plain nested) (c ∷ b))
       (λ e. let code = eqb-true c 0x16 e in rw code (content_plain 0x16 b refl ∙ deep.reference b))
       (λ e. if_cond (λ x. content_shown core (c ∷ b) ≡ (content_text x.0, x.1)) (eqb c 0x10) (change (λ x. sig.by_ref x.0 x.1) (both modifiers_at nested) b) (change sig.plain nested (c ∷ b))
-        (λ f. let code = eqb-true c 0x10 f in rw code (ref_agrees b))
-        (λ f. if_map (λ x. core c b ≡ (core_text x.0, x.1)) (λ x. content_shown core (c ∷ b) ≡ (content_text x.0, x.1)) (λ x. (sig.plain x.0, x.1)) (nested (c ∷ b)) (fits.shown c b) (λ x h. content_plain c b f ∙ h)))
+      (λ f. let code = eqb-true c 0x10 f in rw code (ref_agrees b))
+      (λ f. if_map (λ x. core c b ≡ (core_text x.0, x.1)) (λ x. content_shown core (c ∷ b) ≡ (content_text x.0, x.1)) (λ x. (sig.plain x.0, x.1)) (nested (c ∷ b)) (fits.shown c b) (λ x h. content_plain c b f ∙ h)))
 
   content_not : (c : ℕ) → eqb c 0x16 ≡ false → eqb c 0x10 ≡ false → NotAt c nested → NotAt c (content_at nested)
   unfolding content_at
@@ -229,7 +228,7 @@ module _ (nested : Reader sig.Core) (core : CoreShown) (fits : Fits nested core)
       if_bind (λ x. (head_is 0x41 b ≡ false) × (slot_shown core b ≡ (text x.0, x.1))) (λ x. listed_shown core before (suc n) b ≡ (listed text before x.0, x.1)) (λ x. option_map (λ y. (x.0 ∷ y.0, y.1)) (many_at r n x.1)) (r b)
       (if_both (λ x. head_is 0x41 b ≡ false) (λ x. slot_shown core b ≡ (text x.0, x.1)) (r b) (not_at 0x41 r never b) (agrees b))
       (λ x h. if_map (λ y. listed_shown core comma n x.1 ≡ (listed text comma y.0, y.1)) (λ y. listed_shown core before (suc n) b ≡ (listed text before y.0, y.1)) (λ y. (x.0 ∷ y.0, y.1)) (many_at r n x.1) (many_listed r text agrees never n comma x.1)
-        (λ y g. listed_plain before n b (text x.0) (listed text comma y.0) x.1 y.1 h.0 h.1 g))
+      (λ y g. listed_plain before n b (text x.0) (listed text comma y.0) x.1 y.1 h.0 h.1 g))
 
   pub types_listed : (before : List Piece) (xs : List sig.Typed) → types_text before (types_from xs) ≡ listed typed_text before xs
   types_listed before [] = refl
@@ -271,13 +270,13 @@ module _ (nested : Reader sig.Core) (core : CoreShown) (fits : Fits nested core)
   params_listed deep (suc n) allowed before b =
       if_cond (λ x. listed_shown core before (suc n) b ≡ (slots_text before (slots_from x.0.0) x.0.1, x.1)) (allowed && head_is 0x41 b) (marked_next n (slot_at nested (drop 1 b))) (plain_next allowed n (slot_at nested b))
       (λ e. if_bind (λ x. slot_shown core (drop 1 b) ≡ (slot_text x.0, x.1)) (λ x. listed_shown core before (suc n) b ≡ (slots_text before (slots_from x.0.0) x.0.1, x.1)) (λ x. option_map (λ y. ((x.0 ∷ y.0.0, Some 0), y.1)) (params_at nested false n x.1)) (slot_at nested (drop 1 b)) (slot_agrees deep (drop 1 b))
-        (λ x h. if_map (λ y. (y.0.1 ≡ None) × (listed_shown core comma n x.1 ≡ (slots_text comma (slots_from y.0.0) y.0.1, y.1))) (λ y. listed_shown core before (suc n) b ≡ (slots_text before (slots_from y.0.0) y.0.1, y.1)) (λ y. ((x.0 ∷ y.0.0, Some 0), y.1)) (params_at nested false n x.1)
-          (if_both (λ y. y.0.1 ≡ None) (λ y. listed_shown core comma n x.1 ≡ (slots_text comma (slots_from y.0.0) y.0.1, y.1)) (params_at nested false n x.1) (no_mark n x.1) (params_listed deep n false comma x.1))
-          (λ y g. listed_marked before n b (slot_text x.0) (slots_text comma (slots_from y.0.0) None) x.1 y.1 (both_hold allowed (head_is 0x41 b) e) h (rw g.0 at g.1))))
+      (λ x h. if_map (λ y. (y.0.1 ≡ None) × (listed_shown core comma n x.1 ≡ (slots_text comma (slots_from y.0.0) y.0.1, y.1))) (λ y. listed_shown core before (suc n) b ≡ (slots_text before (slots_from y.0.0) y.0.1, y.1)) (λ y. ((x.0 ∷ y.0.0, Some 0), y.1)) (params_at nested false n x.1)
+      (if_both (λ y. y.0.1 ≡ None) (λ y. listed_shown core comma n x.1 ≡ (slots_text comma (slots_from y.0.0) y.0.1, y.1)) (params_at nested false n x.1) (no_mark n x.1) (params_listed deep n false comma x.1))
+      (λ y g. listed_marked before n b (slot_text x.0) (slots_text comma (slots_from y.0.0) None) x.1 y.1 (both_hold allowed (head_is 0x41 b) e) h (rw g.0 at g.1))))
       (λ e. if_bind (λ x. (head_is 0x41 b ≡ false) × (slot_shown core b ≡ (slot_text x.0, x.1))) (λ x. listed_shown core before (suc n) b ≡ (slots_text before (slots_from x.0.0) x.0.1, x.1)) (λ x. option_map (λ y. ((x.0 ∷ y.0.0, option_map suc y.0.1), y.1)) (params_at nested allowed n x.1)) (slot_at nested b)
-        (if_both (λ x. head_is 0x41 b ≡ false) (λ x. slot_shown core b ≡ (slot_text x.0, x.1)) (slot_at nested b) (not_at 0x41 (slot_at nested) slot_not b) (slot_agrees deep b))
-        (λ x h. if_map (λ y. listed_shown core comma n x.1 ≡ (slots_text comma (slots_from y.0.0) y.0.1, y.1)) (λ y. listed_shown core before (suc n) b ≡ (slots_text before (slots_from y.0.0) y.0.1, y.1)) (λ y. ((x.0 ∷ y.0.0, option_map suc y.0.1), y.1)) (params_at nested allowed n x.1) (params_listed deep n allowed comma x.1)
-          (λ y g. listed_plain before n b (slot_text x.0) (slots_text comma (slots_from y.0.0) y.0.1) x.1 y.1 h.0 h.1 g ∙ ap (λ (t : List Piece). (t, y.1)) (sym (plain_text before x.0 (slots_from y.0.0) y.0.1)))))
+      (if_both (λ x. head_is 0x41 b ≡ false) (λ x. slot_shown core b ≡ (slot_text x.0, x.1)) (slot_at nested b) (not_at 0x41 (slot_at nested) slot_not b) (slot_agrees deep b))
+      (λ x h. if_map (λ y. listed_shown core comma n x.1 ≡ (slots_text comma (slots_from y.0.0) y.0.1, y.1)) (λ y. listed_shown core before (suc n) b ≡ (slots_text before (slots_from y.0.0) y.0.1, y.1)) (λ y. ((x.0 ∷ y.0.0, option_map suc y.0.1), y.1)) (params_at nested allowed n x.1) (params_listed deep n allowed comma x.1)
+      (λ y g. listed_plain before n b (slot_text x.0) (slots_text comma (slots_from y.0.0) y.0.1) x.1 y.1 h.0 h.1 g ∙ ap (λ (t : List Piece). (t, y.1)) (sym (plain_text before x.0 (slots_from y.0.0) y.0.1)))))
 
   -- parameters with their names
 
@@ -291,4 +290,4 @@ module _ (nested : Reader sig.Core) (core : CoreShown) (fits : Fits nested core)
   params_named deep (suc n) position before b =
       if_bind (λ x. slot_shown core b ≡ (slot_text x.0, x.1)) (λ x. named_slots_shown core before position (suc n) b ≡ named_slots_text before position (slots_from x.0.0)) (λ x. option_map (λ y. ((x.0 ∷ y.0.0, option_map suc y.0.1), y.1)) (params_at nested false n x.1)) (slot_at nested b) (slot_agrees deep b)
       (λ x h. if_map (λ y. named_slots_shown core comma (position + 1) n x.1 ≡ named_slots_text comma (position + 1) (slots_from y.0.0)) (λ y. named_slots_shown core before position (suc n) b ≡ named_slots_text before position (slots_from y.0.0)) (λ y. ((x.0 ∷ y.0.0, option_map suc y.0.1), y.1)) (params_at nested false n x.1) (params_named deep n (position + 1) comma x.1)
-        (λ y g. named_next before position n b (slot_text x.0) x.1 h ∙ ap (λ (t : List Piece). before ++ (slot_text x.0 ++ (param_name position ∷ t))) g))
+      (λ y g. named_next before position n b (slot_text x.0) x.1 h ∙ ap (λ (t : List Piece). before ++ (slot_text x.0 ++ (param_name position ∷ t))) g))

@@ -1,14 +1,14 @@
 -- Whole signatures, as they are read and as they are shown.
-use Rattle.std.proofs.Common.{◌≡◌, ◌≢◌, ◌||◌, ◌∙◌, ℕ, zero, suc, ◌<◌, ◌%◌, ◌/◌, ◌&&◌, Bool, true, false, cond, eqb, Option, Some, None, IfSome, List, [], ◌∷◌, ◌++◌, refl, sym, ap, subst, arith}
+use Rattle.std.proofs.Common.{◌≡◌, ◌≢◌, ◌||◌, ◌∙◌, ℕ, ◌%◌, ◌/◌, Bool, true, false, eqb, Option, Some, None, IfSome, List, [], ◌∷◌, ◌++◌, refl, sym, ap, subst, arith}
 use Rattle.std.specs.Prelude.{option_map, option_and_then, codes}
 use Rattle.std.proofs.lemmas.Bool.{eqb-true, ne_eqb}
 use Rattle.table_schema.specs.declared.column.SigKind.{SigKind}
 use Rattle.table_schema.specs.declared.column.SigKind.TheVariants as column
 use Rattle.sig_grammar.specs.Syntax as sig
 use Rattle.sig_grammar.specs.Views.{slots_from}
-use Rattle.sig_grammar.specs.Reading.{Reader, change, both, behind, fail, number_at, many_at, counted_at, typed_at, slot_at, ret_at, params_at, generic_at, takes_sentinel, is_method_code, method_from, method_at, core_at}
-use Rattle.sig_grammar.specs.Columns.{local_at, headed_at, property_from, method_or, field_or, locals_or, property_or, instance_or, body_at}
-use Rattle.sig_text.specs.SignatureText.{Piece, word, comma, listed, flag_text, arity_text, typed_text, slot_text, ret_text, method_text, local_text, text_of, declared_text, method_name, named_slots_text}
+use Rattle.sig_grammar.specs.Reading.{Reader, change, both, behind, fail, number_at, many_at, counted_at, typed_at, slot_at, ret_at, params_at, generic_at, is_method_code, method_from, method_at, core_at}
+use Rattle.sig_grammar.specs.Columns.{local_at, headed_at, property_from, method_or, field_or, property_or, body_at}
+use Rattle.sig_text.specs.SignatureText.{Piece, word, listed, typed_text, slot_text, ret_text, method_text, local_text, text_of, declared_text, named_slots_text}
 use Rattle.sig_text.specs.Shown.{Shown, CoreShown, byte_or, number_or, slot_shown, listed_shown, enclosed_shown, generic_or, method_shown, core_shown, property_shown, counted_shown, headed_shown, body_shown, named_slots_shown, declared_shown}
 use Rattle.sig_text.proofs.Options.{if_bind, if_map, if_cond, if_more}
 use Rattle.sig_text.proofs.TypesRead.{by_code, Agrees, NotAt, Fits, IsDeep, typed_agrees, typed_not, slot_agrees, slot_not, ret_agrees, local_agrees, local_not, many_listed, params_named}
@@ -22,7 +22,7 @@ module _ (nested : Reader sig.Core) (core : CoreShown) (fits : Fits nested core)
   counted_agrees r text agrees never first last b =
       if_bind (λ n. number_or b ≡ n) (λ x. enclosed_shown core first last (number_or b).0 (number_or b).1 ≡ (word first ∷ (listed text [] x.0 ++ word last ∷ []), x.1)) (λ n. many_at r n.0 n.1) (number_at b) (number_read b)
       (λ n count. if_more (λ x. listed_shown core [] n.0 n.1 ≡ (listed text [] x.0, x.1)) (λ x. enclosed_shown core first last (number_or b).0 (number_or b).1 ≡ (word first ∷ (listed text [] x.0 ++ word last ∷ []), x.1)) (many_at r n.0 n.1) (many_listed nested core fits r text agrees never n.0 [] n.1)
-        (λ x h. rw count (enclosed_is nested core fits first last n.0 n.1 (listed text [] x.0) x.1 h)))
+      (λ x h. rw count (enclosed_is nested core fits first last n.0 n.1 (listed text [] x.0) x.1 h)))
 
   declared_is : (c : ℕ) (b : List ℕ) (g : Option ℕ × List ℕ) (n : ℕ × List ℕ) (r : sig.Ret) (ps : sig.Slots) (sentinel : Option ℕ) (d : List ℕ) → generic_or c b ≡ g → number_or g.1 ≡ n
       → slot_shown core n.1 ≡ (ret_text r, d) → named_slots_shown core [] 1 n.0 d ≡ named_slots_text [] 1 ps
@@ -36,10 +36,10 @@ module _ (nested : Reader sig.Core) (core : CoreShown) (fits : Fits nested core)
   declared_agrees (c ∷ b) =
       if_cond (λ x. declared_shown core (c ∷ b) ≡ declared_text x.0) (is_method_code c) (method_from false nested c b) None
       (λ h. if_bind (λ g. generic_or c b ≡ g) (λ x. declared_shown core (c ∷ b) ≡ declared_text x.0) (λ g. option_and_then (λ n. option_and_then (λ r. option_map (λ p. (sig.method (c % 16) (eqb (c / 32 % 2) 1) (eqb (c / 64 % 2) 1) g.0 r.0 (slots_from p.0.0) p.0.1, p.1)) (params_at nested false n.0 r.1)) (ret_at nested n.1)) (number_at g.1)) (generic_at (eqb (c / 16 % 2) 1) b) (generic_read nested core fits c b)
-        (λ g is. if_bind (λ n. number_or g.1 ≡ n) (λ x. declared_shown core (c ∷ b) ≡ declared_text x.0) (λ n. option_and_then (λ r. option_map (λ p. (sig.method (c % 16) (eqb (c / 32 % 2) 1) (eqb (c / 64 % 2) 1) g.0 r.0 (slots_from p.0.0) p.0.1, p.1)) (params_at nested false n.0 r.1)) (ret_at nested n.1)) (number_at g.1) (number_read g.1)
-          (λ n count. if_bind (λ r. slot_shown core n.1 ≡ (ret_text r.0, r.1)) (λ x. declared_shown core (c ∷ b) ≡ declared_text x.0) (λ r. option_map (λ p. (sig.method (c % 16) (eqb (c / 32 % 2) 1) (eqb (c / 64 % 2) 1) g.0 r.0 (slots_from p.0.0) p.0.1, p.1)) (params_at nested false n.0 r.1)) (ret_at nested n.1) (ret_agrees nested core fits deep n.1)
-            (λ r of. if_map (λ p. named_slots_shown core [] 1 n.0 r.1 ≡ named_slots_text [] 1 (slots_from p.0.0)) (λ x. declared_shown core (c ∷ b) ≡ declared_text x.0) (λ p. (sig.method (c % 16) (eqb (c / 32 % 2) 1) (eqb (c / 64 % 2) 1) g.0 r.0 (slots_from p.0.0) p.0.1, p.1)) (params_at nested false n.0 r.1) (params_named nested core fits deep n.0 1 [] r.1)
-              (λ p list. declared_is c b g n r.0 (slots_from p.0.0) p.0.1 r.1 is count of list)))))
+      (λ g is. if_bind (λ n. number_or g.1 ≡ n) (λ x. declared_shown core (c ∷ b) ≡ declared_text x.0) (λ n. option_and_then (λ r. option_map (λ p. (sig.method (c % 16) (eqb (c / 32 % 2) 1) (eqb (c / 64 % 2) 1) g.0 r.0 (slots_from p.0.0) p.0.1, p.1)) (params_at nested false n.0 r.1)) (ret_at nested n.1)) (number_at g.1) (number_read g.1)
+      (λ n count. if_bind (λ r. slot_shown core n.1 ≡ (ret_text r.0, r.1)) (λ x. declared_shown core (c ∷ b) ≡ declared_text x.0) (λ r. option_map (λ p. (sig.method (c % 16) (eqb (c / 32 % 2) 1) (eqb (c / 64 % 2) 1) g.0 r.0 (slots_from p.0.0) p.0.1, p.1)) (params_at nested false n.0 r.1)) (ret_at nested n.1) (ret_agrees nested core fits deep n.1)
+      (λ r of. if_map (λ p. named_slots_shown core [] 1 n.0 r.1 ≡ named_slots_text [] 1 (slots_from p.0.0)) (λ x. declared_shown core (c ∷ b) ≡ declared_text x.0) (λ p. (sig.method (c % 16) (eqb (c / 32 % 2) 1) (eqb (c / 64 % 2) 1) g.0 r.0 (slots_from p.0.0) p.0.1, p.1)) (params_at nested false n.0 r.1) (params_named nested core fits deep n.0 1 [] r.1)
+      (λ p list. declared_is c b g n r.0 (slots_from p.0.0) p.0.1 r.1 is count of list)))))
       (λ h. tt)
 
   -- the text of a whole signature
@@ -72,9 +72,9 @@ module _ (nested : Reader sig.Core) (core : CoreShown) (fits : Fits nested core)
   property_agrees c this e b =
       if_map (λ x. (property_shown core c b).0 ≡ text_of (property_from this x.0)) (Text (property_shown core c b).0) (λ x. (property_from this x.0, x.1)) (headed_at (slot_at nested) b)
       (if_bind (λ n. number_or b ≡ n) (λ x. (property_shown core c b).0 ≡ text_of (property_from this x.0)) (λ n. option_and_then (λ x. option_map (λ y. ((x.0, y.0), y.1)) (many_at (slot_at nested) n.0 x.1)) (slot_at nested n.1)) (number_at b) (number_read b)
-        (λ n count. if_bind (λ x. slot_shown core n.1 ≡ (slot_text x.0, x.1)) (λ x. (property_shown core c b).0 ≡ text_of (property_from this x.0)) (λ x. option_map (λ y. ((x.0, y.0), y.1)) (many_at (slot_at nested) n.0 x.1)) (slot_at nested n.1) (slot_agrees nested core fits deep n.1)
-          (λ x type. if_map (λ y. listed_shown core [] n.0 x.1 ≡ (listed slot_text [] y.0, y.1)) (λ y. (property_shown core c b).0 ≡ text_of (property_from this y.0)) (λ y. ((x.0, y.0), y.1)) (many_at (slot_at nested) n.0 x.1) (many_listed nested core fits (slot_at nested) slot_text (slot_agrees nested core fits deep) (slot_not nested core fits) n.0 [] x.1)
-            (λ y list. property_is c this b n x y.0 y.1 e count type list))))
+      (λ n count. if_bind (λ x. slot_shown core n.1 ≡ (slot_text x.0, x.1)) (λ x. (property_shown core c b).0 ≡ text_of (property_from this x.0)) (λ x. option_map (λ y. ((x.0, y.0), y.1)) (many_at (slot_at nested) n.0 x.1)) (slot_at nested n.1) (slot_agrees nested core fits deep n.1)
+      (λ x type. if_map (λ y. listed_shown core [] n.0 x.1 ≡ (listed slot_text [] y.0, y.1)) (λ y. (property_shown core c b).0 ≡ text_of (property_from this y.0)) (λ y. ((x.0, y.0), y.1)) (many_at (slot_at nested) n.0 x.1) (many_listed nested core fits (slot_at nested) slot_text (slot_agrees nested core fits deep) (slot_not nested core fits) n.0 [] x.1)
+      (λ y list. property_is c this b n x y.0 y.1 e count type list))))
       (λ x h. h)
 
   -- no other signature begins as a method does
@@ -84,8 +84,8 @@ module _ (nested : Reader sig.Core) (core : CoreShown) (fits : Fits nested core)
   method_headed own (c ∷ b) =
       let Q : ℕ → Type 0 = λ k. IfSome (change sig.method_body (method_at own nested) (k ∷ b)) (Text (headed_shown core (k ∷ b)).0) in
       by_code Q c 0x06 tt (λ p1. by_code Q c 0x07 tt (λ p2. by_code Q c 0x0A tt (λ p3. by_code Q c 0x08 tt (λ p4. by_code Q c 0x28 tt (λ p5.
-        if_map (λ x. method_shown core (c ∷ b) ≡ (method_text x.0, x.1)) (Text (headed_shown core (c ∷ b)).0) (λ x. (sig.method_body x.0, x.1)) (method_at own nested (c ∷ b)) (method_agrees nested core fits deep own (c ∷ b))
-        (λ x h. rw (other c b p1 p2 p3 p4 p5, h) refl))))))
+      if_map (λ x. method_shown core (c ∷ b) ≡ (method_text x.0, x.1)) (Text (headed_shown core (c ∷ b)).0) (λ x. (sig.method_body x.0, x.1)) (method_at own nested (c ∷ b)) (method_agrees nested core fits deep own (c ∷ b))
+      (λ x h. rw (other c b p1 p2 p3 p4 p5, h) refl))))))
     where
       other : (c : ℕ) (b : List ℕ) → eqb c 0x06 ≡ false → eqb c 0x07 ≡ false → eqb c 0x0A ≡ false → eqb c 0x08 ≡ false → eqb c 0x28 ≡ false → headed_shown core (c ∷ b) ≡ method_shown core (c ∷ b)
       other c b p1 p2 p3 p4 p5 = rw (p1, p2, p3, p4, p5) refl

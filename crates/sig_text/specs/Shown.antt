@@ -1,6 +1,6 @@
 -- What the private functions pass to a sink, and the bytes that they leave, for bytes of any kind. There is nothing to
 -- believe here: it is proved that for the bytes of a signature this is the text of the signature.
-use Rattle.std.specs.Prelude.{ℕ, zero, suc, ◌+◌, ◌-◌, ◌/◌, ◌%◌, ◌==◌, ◌||◌, ℤ, pos, Bool, true, false, if◌then◌else◌, Option, Some, None, option_map, drop, length, List, [], ◌∷◌, ◌++◌, codes}
+use Rattle.std.specs.Prelude.{ℕ, zero, suc, ◌+◌, ◌/◌, ◌%◌, ◌==◌, ◌||◌, ℤ, pos, Bool, if◌then◌else◌, Option, Some, None, drop, length, List, [], ◌∷◌, ◌++◌, codes}
 use Rattle.std.specs.Option.{unwrap_or}
 use Rattle.table_schema.specs.declared.token.Token.{Token}
 use Rattle.table_schema.specs.declared.table.TableId.TheVariants.{TypeDef}

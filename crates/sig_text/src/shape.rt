@@ -1,4 +1,4 @@
-ghost use Rattle.std.specs.Prelude.{◌≡◌, [], is_some, IfSome};
+ghost use Rattle.std.specs.Prelude.{◌≡◌, [], is_some, IfSome, pos, ◌+ℤ◌, ◌-ℤ◌};
 ghost use Rattle.sig_text.specs.Receives.{Receives};
 ghost use Rattle.sig_text.specs.Refused.{refused_after};
 ghost use Rattle.sig_text.specs.Shown.{number_or, signed_or, numbers_behind, next_of, before as before_piece, dimensions_shown, shape_shown};
@@ -40,6 +40,14 @@ fn next_low(left: u32, bytes: &[u8]) -> (Option<i32>, u32, &[u8])
     (Some(low), left - 1, tail)
 }
 
+/// The upper bound of a dimension, from its lower bound and its size (II.14.2).
+#[tactic(auto, using(std::proofs::lemmas::Int::ints))]
+fn upper_bound(low: i32, size: u32) -> i64
+    ensures { result ≡ ((low +ℤ pos size) -ℤ pos 1) }
+{
+    i64::from(low) + i64::from(size) - 1
+}
+
 /// Writes a dimension (II.14.2): its lower bound and its size, if they are given.
 fn dimension<S: TextSink>(sink: &mut S, low: Option<i32>, size: Option<u32>) -> Option<()>
     ensures words { S.refused sink.new ≡ refused_after result (S.refused sink.old) }
@@ -55,7 +63,7 @@ fn dimension<S: TextSink>(sink: &mut S, low: Option<i32>, size: Option<u32>) -> 
         (Some(low), Some(size)) => {
             sink.signed(i64::from(low))?;
             sink.text("...")?;
-            sink.signed(i64::from(low) + i64::from(size) - 1)
+            sink.signed(upper_bound(low, size))
         }
     }
 }

@@ -118,10 +118,10 @@ fn by_ref<'a, S: TextSink>(sink: &mut S, bytes: &'a [u8], depth: u8) -> Option<&
     ensures pieces { Receives S.gives sink.old (by_ref_shown (core_shown depth) bytes.now).0 (is_some result) sink.new }
     ensures tail { IfSome result (λ tail. tail.now ≡ (by_ref_shown (core_shown depth) bytes.now).1) }
 {
-    let (count, inner) = behind_all(bytes);
+    let (marked, inner) = behind_all(bytes);
     let (code, tail) = byte(inner);
     let tail = core(sink, code, tail, depth)?;
-    marks(sink, bytes, count)?;
+    marks(sink, bytes, marked)?;
     sink.text("&")?;
     Some(tail)
 }

@@ -1,9 +1,7 @@
-use Rattle.std.proofs.Common.{rules, arith, ◌≡◌, ◌∙◌, ◌%◌, ◌/◌, eqb, true, false, sym, refl, ap}
-use Rattle.sig_text.specs.Receives.{Receives, nothing, refused, taken}
-use Rattle.sig_text.proofs.Chains.{one, joined, stopped}
-use Rattle.sig_text.specs.Shown.{mark_at, marks_in, marks_of}
-use Rattle.sig_text.proofs.MarksShown.{mark_read, mark_none, marks_next, marks_end, halves, one_text, no_text, zero_text}
-use Rattle.std.proofs.Common.{None, Some, ℕ, ◌≤◌, ◌+◌, length}
+use Rattle.std.proofs.Common.{arith, ◌≡◌, ◌∙◌, sym, refl, ap}
+use Rattle.sig_text.specs.Shown.{mark_at, marks_in}
+use Rattle.sig_text.proofs.MarksShown.{marks_next, marks_end}
+use Rattle.std.proofs.Common.{None, Some, ◌≤◌}
 use Rattle.sig_text.proofs.marks.behind.Goals as goal
 
 pub loop-done-init : goal.loop-done-init

@@ -1,8 +1,5 @@
-use Rattle.std.proofs.Common.{rules, arith, ◌≡◌, ◌∙◌, ◌%◌, ◌/◌, eqb, true, false, sym, refl, ap}
-use Rattle.sig_text.specs.Receives.{Receives, nothing, refused, taken}
-use Rattle.sig_text.proofs.Chains.{one, joined, stopped}
-use Rattle.sig_text.specs.Shown.{mark_at, marks_in, marks_of}
-use Rattle.sig_text.proofs.MarksShown.{mark_read, mark_none, marks_next, marks_end, halves, one_text, no_text, zero_text}
+use Rattle.std.proofs.Common.{rules, ◌≡◌, false, sym}
+use Rattle.sig_text.proofs.MarksShown.{mark_read, mark_none}
 use Rattle.sig_grammar.specs.Reading.{starts_prefix}
 use Rattle.sig_text.proofs.marks.mark.Goals as goal
 

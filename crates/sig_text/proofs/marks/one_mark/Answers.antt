@@ -1,8 +1,8 @@
-use Rattle.std.proofs.Common.{rules, arith, ◌≡◌, ◌∙◌, ◌%◌, ◌/◌, eqb, true, false, sym, refl, ap}
-use Rattle.sig_text.specs.Receives.{Receives, nothing, refused, taken}
-use Rattle.sig_text.proofs.Chains.{one, joined, stopped}
-use Rattle.sig_text.specs.Shown.{mark_at, marks_in, marks_of}
-use Rattle.sig_text.proofs.MarksShown.{mark_read, mark_none, marks_next, marks_end, halves, one_text, no_text, zero_text}
+use Rattle.std.proofs.Common.{◌≡◌, sym}
+use Rattle.sig_text.specs.Receives.{nothing}
+use Rattle.sig_text.proofs.Chains.{one}
+use Rattle.sig_text.specs.Shown.{mark_at}
+use Rattle.sig_text.proofs.MarksShown.{one_text, no_text}
 use Rattle.sig_grammar.specs.declared.body.Prefix.TheVariants.{Mod, Pinned}
 use Rattle.std.proofs.Common.{Some, None}
 use Rattle.sig_text.proofs.marks.one_mark.Goals as goal

@@ -1,6 +1,6 @@
-use Rattle.std.proofs.Common.{rules, arith, ◌≡◌, ◌∙◌, ◌%◌, ◌/◌, eqb, true, false, sym, refl, ap}
-use Rattle.sig_text.specs.Receives.{Receives, nothing, refused, taken}
-use Rattle.sig_text.proofs.Chains.{one, joined, stopped}
+use Rattle.std.proofs.Common.{◌≡◌, eqb, false}
+use Rattle.sig_text.specs.Receives.{nothing}
+use Rattle.sig_text.proofs.Chains.{one}
 use Rattle.std.proofs.lemmas.Bool.{ne_eqb}
 use Rattle.sig_text.proofs.shape.before.Goals as goal
 

@@ -1,9 +1,6 @@
-use Rattle.std.proofs.Common.{rules, arith, ◌≡◌, ◌∙◌, ◌%◌, ◌/◌, eqb, true, false, sym, refl, ap}
-use Rattle.sig_text.specs.Receives.{Receives, nothing, refused, taken}
-use Rattle.sig_text.proofs.Chains.{one, joined, stopped}
-use Rattle.std.proofs.Common.{ℕ, ◌<◌, ◌-◌, ◌+◌}
-use Rattle.sig_text.specs.Shown.{number_or, signed_or, next_of, numbers_behind}
-use Rattle.sig_text.proofs.ShapeShown.{next_none, next_some, behind_more, behind_end}
+use Rattle.std.proofs.Common.{arith, ◌≡◌, ◌∙◌, sym, ap}
+use Rattle.std.proofs.Common.{◌<◌, ◌-◌, ◌+◌}
+use Rattle.sig_text.proofs.ShapeShown.{behind_more, behind_end}
 use Rattle.sig_text.proofs.shape.behind_numbers.Goals as goal
 
 pub loop-done-preserved : goal.loop-done-preserved

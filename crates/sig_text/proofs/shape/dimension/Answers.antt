@@ -1,9 +1,9 @@
-use Rattle.std.proofs.Common.{rules, arith, ◌≡◌, ◌∙◌, ◌%◌, ◌/◌, eqb, true, false, sym, refl, ap}
-use Rattle.sig_text.specs.Receives.{Receives, nothing, refused, taken}
-use Rattle.sig_text.proofs.Chains.{one, joined, stopped}
+use Rattle.std.proofs.Common.{rules, arith, ◌≡◌}
+use Rattle.sig_text.specs.Receives.{nothing, refused, taken}
+use Rattle.sig_text.proofs.Chains.{one}
 use mir.Val.{to_z, of_z, SFits}
-use Rattle.std.proofs.Common.{w32, w64}
-use Rattle.std.proofs.Math.IntN.{ℤ, pos, ◌+ℤ◌, ◌-ℤ◌}
+use Rattle.std.proofs.Common.{w64}
+use Rattle.std.proofs.Math.IntN.{pos, ◌+ℤ◌, ◌-ℤ◌}
 use Rattle.std.proofs.lemmas.Int.{ints}
 use Rattle.sig_text.proofs.shape.dimension.Goals as goal
 
@@ -26,4 +26,4 @@ pub returns-in_ok-signed-in-Some-None-clause-pieces : goal.returns-in_ok-signed-
 returns-in_ok-signed-in-Some-None-clause-pieces g c = let v : to_z w64 (of_z w64 c.from.result) ≡ c.in-Some-None.low = omega (arith, ints) in rw (c.in-Some-None.is-0, c.in-Some-None.is-1, ← v) (taken c.in_ok-signed-in-Some-None.ensures.piece (one c.text.ensures.piece))
 
 pub returns-in_ok-text-in-Some-Some-clause-pieces : goal.returns-in_ok-text-in-Some-Some-clause-pieces
-returns-in_ok-text-in-Some-Some-clause-pieces g c = let v : to_z w64 (of_z w64 c.from-in-Some-Some.result) ≡ c.in-Some-Some.low = omega (arith, ints) in let u : to_z w64 (of_z w64 (to_z w64 (of_z w64 (to_z w64 (of_z w64 c.from-in-Some-Some-2.result) +ℤ to_z w64 (of_z w64 c.from-in-Some-Some-3.result))) -ℤ pos 1)) ≡ (c.in-Some-Some.low +ℤ pos c.in-Some-Some.size) -ℤ pos 1 = omega (arith, ints) in rw (c.in-Some-Some.is-0, c.in-Some-Some.is-1) (taken (rw v at c.in_ok-signed-in-Some-Some.ensures.piece) (taken c.in_ok-text-in-Some-Some.ensures.piece (one (rw u at c.signed-in-Some-Some-2.ensures.piece))))
+returns-in_ok-text-in-Some-Some-clause-pieces g c = let v : to_z w64 (of_z w64 c.from-in-Some-Some.result) ≡ c.in-Some-Some.low = omega (arith, ints) in let f : SFits w64 c.upper_bound.result = search rules in let u : to_z w64 (of_z w64 c.upper_bound.result) ≡ (c.in-Some-Some.low +ℤ pos c.in-Some-Some.size) -ℤ pos 1 = omega (arith, ints) in rw (c.in-Some-Some.is-0, c.in-Some-Some.is-1) (taken (rw v at c.in_ok-signed-in-Some-Some.ensures.piece) (taken c.in_ok-text-in-Some-Some.ensures.piece (one (rw u at c.signed-in-Some-Some-2.ensures.piece))))

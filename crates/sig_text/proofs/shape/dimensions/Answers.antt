@@ -1,7 +1,5 @@
-use Rattle.std.proofs.Common.{rules, arith, ◌≡◌, ◌∙◌, ◌%◌, ◌/◌, eqb, true, false, sym, refl, ap}
-use Rattle.sig_text.specs.Receives.{Receives, nothing, refused, taken}
-use Rattle.sig_text.proofs.Chains.{one, joined, stopped}
-use Rattle.std.proofs.Common.{ℕ, ◌<◌, ◌-◌, ◌+◌}
+use Rattle.std.proofs.Common.{rules, arith, ◌≡◌, ◌∙◌, sym, refl, ap}
+use Rattle.std.proofs.Common.{◌<◌, ◌-◌, ◌+◌}
 use Rattle.std.specs.Prelude.{codes}
 use Rattle.sig_text.specs.Shown.{before}
 use Rattle.sig_text.proofs.ShapeShown.{dimensions_end}

@@ -1,9 +1,7 @@
-use Rattle.std.proofs.Common.{rules, arith, ◌≡◌, ◌∙◌, ◌%◌, ◌/◌, eqb, true, false, sym, refl, ap}
-use Rattle.sig_text.specs.Receives.{Receives, nothing, refused, taken}
-use Rattle.sig_text.proofs.Chains.{one, joined, stopped}
-use Rattle.std.proofs.Common.{ℕ, ◌<◌, ◌-◌, ◌+◌}
-use Rattle.sig_text.specs.Shown.{number_or, signed_or, next_of, numbers_behind}
-use Rattle.sig_text.proofs.ShapeShown.{next_none, next_some, behind_more, behind_end}
+use Rattle.std.proofs.Common.{rules, arith, ◌≡◌, sym, refl}
+use Rattle.std.proofs.Common.{◌<◌}
+use Rattle.sig_text.specs.Shown.{signed_or}
+use Rattle.sig_text.proofs.ShapeShown.{next_none, next_some}
 use mir.Val.{to_z, of_z, SFits}
 use Rattle.std.proofs.Common.{w32}
 use Rattle.std.proofs.lemmas.Int.{ints}

@@ -1,9 +1,7 @@
-use Rattle.std.proofs.Common.{rules, arith, ◌≡◌, ◌∙◌, ◌%◌, ◌/◌, eqb, true, false, sym, refl, ap}
-use Rattle.sig_text.specs.Receives.{Receives, nothing, refused, taken}
-use Rattle.sig_text.proofs.Chains.{one, joined, stopped}
-use Rattle.std.proofs.Common.{ℕ, ◌<◌, ◌-◌, ◌+◌}
-use Rattle.sig_text.specs.Shown.{number_or, signed_or, next_of, numbers_behind}
-use Rattle.sig_text.proofs.ShapeShown.{next_none, next_some, behind_more, behind_end}
+use Rattle.std.proofs.Common.{arith, sym, refl}
+use Rattle.std.proofs.Common.{◌<◌}
+use Rattle.sig_text.specs.Shown.{number_or}
+use Rattle.sig_text.proofs.ShapeShown.{next_none, next_some}
 use Rattle.sig_text.proofs.shape.next_size.Goals as goal
 
 pub returns-then-left-eq0 : goal.returns-then-left-eq0

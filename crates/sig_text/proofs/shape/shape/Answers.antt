@@ -1,6 +1,5 @@
-use Rattle.std.proofs.Common.{rules, arith, ◌≡◌, ◌∙◌, ◌%◌, ◌/◌, eqb, true, false, sym, refl, ap}
-use Rattle.sig_text.specs.Receives.{Receives, nothing, refused, taken}
-use Rattle.sig_text.proofs.Chains.{one, joined, stopped}
+use Rattle.sig_text.specs.Receives.{nothing, refused, taken}
+use Rattle.sig_text.proofs.Chains.{joined, stopped}
 use Rattle.sig_text.specs.Shown.{shape_shown}
 use Rattle.sig_text.proofs.shape.shape.Goals as goal
 

@@ -1,12 +1,11 @@
-use Rattle.std.proofs.Common.{rules, arith, ◌≡◌, ◌∙◌, ◌%◌, ◌/◌, eqb, true, false, sym, refl, ap}
-use Rattle.sig_text.specs.Receives.{Receives, nothing, refused, taken}
-use Rattle.sig_text.proofs.Chains.{one, joined, stopped}
-use Rattle.std.proofs.Common.{ℕ, ◌<◌, ◌+◌, ◌-◌, ◌++◌, [], ◌∷◌, List, ◌≤◌}
+use Rattle.std.proofs.Common.{rules, arith, ◌≡◌, ◌∙◌, eqb, true, false, sym, refl, ap}
+use Rattle.sig_text.specs.Receives.{nothing, refused, taken}
+use Rattle.sig_text.proofs.Chains.{joined, stopped}
+use Rattle.std.proofs.Common.{◌<◌, ◌+◌, ◌-◌, []}
 use Rattle.std.specs.Prelude.{codes}
-use Rattle.sig_text.specs.SignatureText.{flag_text}
-use Rattle.sig_text.specs.Shown.{slot_shown, content_shown, by_ref_shown, core_shown, code_shown, around_shown, enclosed_shown, instance_shown, method_shown, listed_shown, before, is_marked, behind_mark}
+use Rattle.sig_text.specs.Shown.{slot_shown, content_shown, by_ref_shown, core_shown, around_shown, enclosed_shown, instance_shown, method_shown, before}
 use Rattle.sig_text.proofs.Arms.{core_none, core_element, core_code, code_class, code_value, code_var, code_mvar, code_void, code_ref, code_method, code_instance, code_around}
-use Rattle.sig_text.proofs.ShapeShown.{listed_end, listed_next}
+use Rattle.sig_text.proofs.ShapeShown.{listed_end}
 use Rattle.sig_text.proofs.Loops.{start_left, end_left, listed_pass, listed_tail, listed_stop_before, listed_stop_mark, listed_stop}
 use Rattle.std.proofs.Common.{◌≢◌}
 use Rattle.sig_text.proofs.types.+text.Goals as goal
@@ -45,23 +44,23 @@ content-returns-clause-tail g t c = let e : eqb c.byte-code.result.0 0x10 ≡ fa
 
 pub by_ref-returns-in_err-tail-clause-pieces : goal.by_ref-returns-in_err-tail-clause-pieces
 unfolding by_ref_shown
-by_ref-returns-in_err-tail-clause-pieces g t c = rw (c.from_residual.ensures, ← c.behind_all-count.ensures.tail, ← c.behind_all-count.ensures.count, ← c.byte-code.ensures) (stopped _ c.in_err-tail.ensures.pieces)
+by_ref-returns-in_err-tail-clause-pieces g t c = rw (c.from_residual.ensures, ← c.behind_all-marked.ensures.tail, ← c.behind_all-marked.ensures.count, ← c.byte-code.ensures) (stopped _ c.in_err-tail.ensures.pieces)
 
 pub by_ref-returns-in_err-marks-clause-pieces : goal.by_ref-returns-in_err-marks-clause-pieces
 unfolding by_ref_shown
-by_ref-returns-in_err-marks-clause-pieces g t c = rw (c.from_residual-in_err-marks.ensures, ← c.behind_all-count.ensures.tail, ← c.behind_all-count.ensures.count, ← c.byte-code.ensures) (joined c.in_ok-tail.ensures.pieces (stopped _ c.in_err-marks.ensures.pieces))
+by_ref-returns-in_err-marks-clause-pieces g t c = rw (c.from_residual-in_err-marks.ensures, ← c.behind_all-marked.ensures.tail, ← c.behind_all-marked.ensures.count, ← c.byte-code.ensures) (joined c.in_ok-tail.ensures.pieces (stopped _ c.in_err-marks.ensures.pieces))
 
 pub by_ref-returns-in_err-text-clause-pieces : goal.by_ref-returns-in_err-text-clause-pieces
 unfolding by_ref_shown
-by_ref-returns-in_err-text-clause-pieces g t c = rw (c.from_residual-in_err-text.ensures, ← c.behind_all-count.ensures.tail, ← c.behind_all-count.ensures.count, ← c.byte-code.ensures) (joined c.in_ok-tail.ensures.pieces (joined c.in_ok-marks.ensures.pieces (refused c.in_err-text.ensures.piece)))
+by_ref-returns-in_err-text-clause-pieces g t c = rw (c.from_residual-in_err-text.ensures, ← c.behind_all-marked.ensures.tail, ← c.behind_all-marked.ensures.count, ← c.byte-code.ensures) (joined c.in_ok-tail.ensures.pieces (joined c.in_ok-marks.ensures.pieces (refused c.in_err-text.ensures.piece)))
 
 pub by_ref-returns-clause-pieces : goal.by_ref-returns-clause-pieces
 unfolding by_ref_shown
-by_ref-returns-clause-pieces g t c = rw (← c.behind_all-count.ensures.tail, ← c.behind_all-count.ensures.count, ← c.byte-code.ensures) (joined c.in_ok-tail.ensures.pieces (joined c.in_ok-marks.ensures.pieces (taken c.in_ok-text.ensures.piece (nothing))))
+by_ref-returns-clause-pieces g t c = rw (← c.behind_all-marked.ensures.tail, ← c.behind_all-marked.ensures.count, ← c.byte-code.ensures) (joined c.in_ok-tail.ensures.pieces (joined c.in_ok-marks.ensures.pieces (taken c.in_ok-text.ensures.piece (nothing))))
 
 pub by_ref-returns-clause-tail : goal.by_ref-returns-clause-tail
 unfolding by_ref_shown
-by_ref-returns-clause-tail g t c = rw (← c.behind_all-count.ensures.tail, ← c.byte-code.ensures) (c.in_ok-tail.ensures.tail)
+by_ref-returns-clause-tail g t c = rw (← c.behind_all-marked.ensures.tail, ← c.byte-code.ensures) (c.in_ok-tail.ensures.tail)
 
 pub core-returns-then-depth-eq0-clause-pieces : goal.core-returns-then-depth-eq0-clause-pieces
 core-returns-then-depth-eq0-clause-pieces g t c = rw (core_none c.args.depth c.args.code c.args.bytes.now c.if-depth-eq0.true) nothing

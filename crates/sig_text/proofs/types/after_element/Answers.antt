@@ -1,6 +1,5 @@
-use Rattle.std.proofs.Common.{rules, arith, ◌≡◌, ◌∙◌, ◌%◌, ◌/◌, eqb, true, false, sym, refl, ap}
-use Rattle.sig_text.specs.Receives.{Receives, nothing, refused, taken}
-use Rattle.sig_text.proofs.Chains.{one, joined, stopped}
+use Rattle.std.proofs.Common.{rules, refl}
+use Rattle.sig_text.specs.Receives.{nothing}
 use Rattle.std.proofs.Common.{◌≢◌}
 use Rattle.sig_text.proofs.Arms.{after_pointer, after_vector, after_array, after_none}
 use Rattle.sig_text.proofs.types.after_element.Goals as goal

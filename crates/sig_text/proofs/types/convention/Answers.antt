@@ -1,5 +1,3 @@
-use Rattle.std.proofs.Common.{rules, arith, ◌≡◌, ◌∙◌, ◌%◌, ◌/◌, eqb, true, false, sym, refl, ap}
-use Rattle.sig_text.specs.Receives.{Receives, nothing, refused, taken}
 use Rattle.sig_text.proofs.Chains.{one, joined, stopped}
 use Rattle.sig_text.proofs.types.convention.Goals as goal
 

@@ -1,6 +1,5 @@
-use Rattle.std.proofs.Common.{rules, arith, ◌≡◌, ◌∙◌, ◌%◌, ◌/◌, eqb, true, false, sym, refl, ap}
-use Rattle.sig_text.specs.Receives.{Receives, nothing, refused, taken}
-use Rattle.sig_text.proofs.Chains.{one, joined, stopped}
+use Rattle.sig_text.specs.Receives.{nothing}
+use Rattle.sig_text.proofs.Chains.{one}
 use Rattle.sig_text.proofs.types.variable.Goals as goal
 
 pub returns-then-found-clause-pieces : goal.returns-then-found-clause-pieces

@@ -1,6 +1,4 @@
-use Rattle.std.proofs.Common.{rules, arith, ◌≡◌, ◌∙◌, ◌%◌, ◌/◌, eqb, true, false, sym, refl, ap}
-use Rattle.sig_text.specs.Receives.{Receives, nothing, refused, taken}
-use Rattle.sig_text.proofs.Chains.{one, joined, stopped}
+use Rattle.sig_text.specs.Receives.{nothing, refused, taken}
 use Rattle.sig_text.proofs.types.word.Goals as goal
 
 pub returns-in_err-text-clause-pieces : goal.returns-in_err-text-clause-pieces

@@ -1,6 +1,4 @@
-use Rattle.std.proofs.Common.{rules, arith, ◌≡◌, ◌∙◌, ◌%◌, ◌/◌, eqb, true, false, sym, refl, ap}
-use Rattle.sig_text.specs.Receives.{Receives, nothing, refused, taken}
-use Rattle.sig_text.proofs.Chains.{one, joined, stopped}
+use Rattle.std.proofs.Common.{rules}
 use Rattle.std.proofs.Common.{◌≢◌}
 use Rattle.sig_text.specs.Shown.{core_shown}
 use Rattle.sig_text.proofs.WholeRead.{headed_field, headed_locals, headed_arguments, headed_plain, headed_instance, headed_method}

@@ -1,7 +1,6 @@
-use Rattle.std.proofs.Common.{rules, arith, ◌≡◌, ◌∙◌, ◌%◌, ◌/◌, eqb, true, false, sym, refl, ap}
-use Rattle.sig_text.specs.Receives.{Receives, nothing, refused, taken}
-use Rattle.sig_text.proofs.Chains.{one, joined, stopped}
-use Rattle.std.proofs.lemmas.Bool.{ne_eqb}
+use Rattle.std.proofs.Common.{rules, ◌≡◌, eqb, false}
+use Rattle.sig_text.specs.Receives.{nothing}
+use Rattle.sig_text.proofs.Chains.{one}
 use Rattle.sig_text.proofs.whole.of_instance.Goals as goal
 
 pub returns-then-code-eq-INSTANCE_PROPERTY-clause-pieces : goal.returns-then-code-eq-INSTANCE_PROPERTY-clause-pieces
