@@ -1,1 +1,5 @@
+pub mod PieceText
+pub mod Receives
 pub mod Refused
+pub mod Shown
+pub mod SignatureText

@@ -1,4 +1,7 @@
-ghost use Rattle.std.specs.Prelude.{◌≡◌, false};
+ghost use Rattle.std.specs.Prelude.{◌≡◌, true, false, List, ℕ, Option, None, OnOk, is_some, is_ok};
+ghost use Rattle.std.specs.Fmt.{WritesText};
+ghost use Rattle.table_schema.specs.declared.token.Token.{Token};
+ghost use Rattle.sig_text.specs.PieceText.{piece_text};
 ghost use Rattle.sig_text.specs.Refused.{refused_after};
 
 use crate::sink::TextSink;
@@ -7,12 +10,16 @@ use table_schema::Token;
 
 /// Writes the names of rows.
 pub trait TokenNames {
+    /// The text that is written for a row, or `None` if the impl does not specify it.
+    ghost name_text: { Self → Token → Option (List ℕ) } = { λ _ _. None };
+
     /// Writes the name of a row of TypeDef, TypeRef or TypeSpec. The row need not exist.
     ///
     /// # Errors
     ///
     /// The writer refused a part of the name.
-    fn write_name<W: fmt::Write>(&self, token: Token, writer: &mut W) -> fmt::Result;
+    fn write_name<W: fmt::Write>(&self, token: Token, writer: &mut W) -> fmt::Result
+        ensures { OnOk result (WritesText W.write_str_gives writer.old (name_text self.now token) writer.new) };
 }
 
 /// A sink that writes to a [`fmt::Write`], with names from a [`TokenNames`].
@@ -41,7 +48,8 @@ impl<W: fmt::Write, N: TokenNames> NamedText<W, N> {
 
 /// The result of a sink's call from the result of its writer. It records whether the word was refused.
 fn answer(refused: &mut bool, written: fmt::Result) -> Option<()>
-    ensures { refused.new ≡ refused_after result refused.old }
+    ensures words { refused.new ≡ refused_after result refused.old }
+    ensures taken { is_some result ≡ is_ok written }
 {
     if written.is_err() {
         *refused = true;
@@ -52,6 +60,8 @@ fn answer(refused: &mut bool, written: fmt::Result) -> Option<()>
 
 impl<W: fmt::Write, N: TokenNames> TextSink for NamedText<W, N> {
     ghost refused = { λ s. s.refused };
+
+    ghost gives = { λ s piece taken t. taken ≡ true → (t.names ≡ s.names) × WritesText W.write_str_gives s.writer (piece_text (N.name_text s.names) piece) t.writer };
 
     fn text(&mut self, text: &str) -> Option<()> {
         let written = self.writer.write_str(text);

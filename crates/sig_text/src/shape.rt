@@ -1,11 +1,16 @@
-ghost use Rattle.std.specs.Prelude.{◌≡◌};
+ghost use Rattle.std.specs.Prelude.{◌≡◌, [], is_some, IfSome, pos, ◌+ℤ◌, ◌-ℤ◌};
+ghost use Rattle.sig_text.specs.Receives.{Receives};
 ghost use Rattle.sig_text.specs.Refused.{refused_after};
+ghost use Rattle.sig_text.specs.Shown.{number_or, signed_or, numbers_behind, next_of, before as before_piece, dimensions_shown, shape_shown};
+ghost use Rattle.sig_text.specs.SignatureText.{dimension_text, mark_text};
 
 use crate::head::{number, signed};
 use crate::sink::TextSink;
 
-/// The bytes after `count` numbers, signed or unsigned.
-fn behind_numbers(bytes: &[u8], count: u32) -> &[u8] {
+/// The bytes after `count` numbers.
+fn behind_numbers(bytes: &[u8], count: u32) -> &[u8]
+    ensures { result.now ≡ numbers_behind count bytes.now }
+{
     let mut tail = bytes;
     for done in 0..count {
         (_, tail) = number(tail);
@@ -13,9 +18,40 @@ fn behind_numbers(bytes: &[u8], count: u32) -> &[u8] {
     tail
 }
 
+/// The next of `left` sizes at the start, the number of sizes after it, and the remaining bytes.
+fn next_size(left: u32, bytes: &[u8]) -> (Option<u32>, u32, &[u8])
+    ensures { (result.0, (result.1, result.2.now)) ≡ next_of number_or (left, bytes.now) }
+{
+    if left == 0 {
+        return (None, 0, bytes);
+    }
+    let (size, tail) = number(bytes);
+    (Some(size), left - 1, tail)
+}
+
+/// The next of `left` lower bounds at the start, the number of lower bounds after it, and the remaining bytes.
+fn next_low(left: u32, bytes: &[u8]) -> (Option<i32>, u32, &[u8])
+    ensures { (result.0, (result.1, result.2.now)) ≡ next_of signed_or (left, bytes.now) }
+{
+    if left == 0 {
+        return (None, 0, bytes);
+    }
+    let (low, tail) = signed(bytes);
+    (Some(low), left - 1, tail)
+}
+
+/// The upper bound of a dimension, from its lower bound and its size (II.14.2).
+#[tactic(auto, using(std::proofs::lemmas::Int::ints))]
+fn upper_bound(low: i32, size: u32) -> i64
+    ensures { result ≡ ((low +ℤ pos size) -ℤ pos 1) }
+{
+    i64::from(low) + i64::from(size) - 1
+}
+
 /// Writes a dimension (II.14.2): its lower bound and its size, if they are given.
 fn dimension<S: TextSink>(sink: &mut S, low: Option<i32>, size: Option<u32>) -> Option<()>
-    ensures { S.refused sink.new ≡ refused_after result (S.refused sink.old) }
+    ensures words { S.refused sink.new ≡ refused_after result (S.refused sink.old) }
+    ensures pieces { Receives S.gives sink.old (dimension_text low size) (is_some result) sink.new }
 {
     match (low, size) {
         (None, None) => Some(()),
@@ -27,51 +63,76 @@ fn dimension<S: TextSink>(sink: &mut S, low: Option<i32>, size: Option<u32>) -> 
         (Some(low), Some(size)) => {
             sink.signed(i64::from(low))?;
             sink.text("...")?;
-            sink.signed(i64::from(low) + i64::from(size) - 1)
+            sink.signed(upper_bound(low, size))
         }
     }
 }
 
-/// Writes the dimensions of a shape. `rank` is their number. The sizes are at the start of the first bytes, and
-/// the lower bounds at the start of the second.
-fn dimensions<S: TextSink>(
+/// Writes a separator before all values but the first. `done` is the number of those written.
+pub fn before<S: TextSink>(sink: &mut S, separator: &str, done: u32) -> Option<()>
+    ensures words { S.refused sink.new ≡ refused_after result (S.refused sink.old) }
+    ensures pieces { Receives S.gives sink.old (before_piece separator.now done) (is_some result) sink.new }
+{
+    if done == 0 {
+        return Some(());
+    }
+    sink.text(separator)
+}
+
+/// Writes the dimensions of a shape, and returns the bytes after their lower bounds. `rank` is their number. The sizes
+/// are at the start of the first bytes, and the lower bounds at the start of the second.
+fn dimensions<'a, S: TextSink>(
     sink: &mut S,
     rank: u32,
-    sizes: (u32, &[u8]),
-    low: (u32, &[u8]),
-) -> Option<()>
-    ensures { S.refused sink.new ≡ refused_after result (S.refused sink.old) }
+    size_count: u32,
+    sizes: &[u8],
+    low_count: u32,
+    bounds: &'a [u8],
+) -> Option<&'a [u8]>
+    ensures words { S.refused sink.new ≡ refused_after result (S.refused sink.old) }
+    ensures pieces { Receives S.gives sink.old (dimensions_shown [] rank (size_count, sizes.now) (low_count, bounds.now)).0 (is_some result) sink.new }
+    ensures tail { IfSome result (λ tail. tail.now ≡ (dimensions_shown [] rank (size_count, sizes.now) (low_count, bounds.now)).1) }
 {
-    let (size_count, mut size_bytes) = sizes;
-    let (low_count, mut low_bytes) = low;
+    let mut sizes_left = size_count;
+    let mut size_bytes = sizes;
+    let mut low_left = low_count;
+    let mut low_bytes = bounds;
     for done in 0..rank {
-        if 0 < done {
-            sink.text(",")?;
-        }
-        let (size, behind_size) = number(size_bytes);
-        let (low, behind_low) = signed(low_bytes);
-        let size = (done < size_count).then_some(size);
-        let low = (done < low_count).then_some(low);
+        before(sink, ",", done)?;
+        let (size, left, tail) = next_size(sizes_left, size_bytes);
+        sizes_left = left;
+        size_bytes = tail;
+        let (low, left, tail) = next_low(low_left, low_bytes);
+        low_left = left;
+        low_bytes = tail;
         dimension(sink, low, size)?;
-        size_bytes = behind_size;
-        low_bytes = behind_low;
+    }
+    Some(low_bytes)
+}
+
+/// Marks a single dimension without bounds, because a vector is written without one.
+fn mark<S: TextSink>(sink: &mut S, rank: u32, sizes: u32, low: u32) -> Option<()>
+    ensures words { S.refused sink.new ≡ refused_after result (S.refused sink.old) }
+    ensures pieces { Receives S.gives sink.old (mark_text rank sizes low) (is_some result) sink.new }
+{
+    if rank == 1 && sizes == 0 && low == 0 {
+        return sink.text("...");
     }
     Some(())
 }
 
-/// Writes the shape of an array (II.23.2.13), and returns the bytes after it. A single dimension without bounds is
-/// marked, because a vector is written without one.
+/// Writes the shape of an array (II.23.2.13), and returns the bytes after it.
 pub fn shape<'a, S: TextSink>(sink: &mut S, bytes: &'a [u8]) -> Option<&'a [u8]>
-    ensures { S.refused sink.new ≡ refused_after result (S.refused sink.old) }
+    ensures words { S.refused sink.new ≡ refused_after result (S.refused sink.old) }
+    ensures pieces { Receives S.gives sink.old (shape_shown bytes.now).0 (is_some result) sink.new }
+    ensures tail { IfSome result (λ tail. tail.now ≡ (shape_shown bytes.now).1) }
 {
     let (rank, tail) = number(bytes);
     let (size_count, sizes) = number(tail);
     let (low_count, low) = number(behind_numbers(sizes, size_count));
     sink.text("[")?;
-    if rank == 1 && size_count == 0 && low_count == 0 {
-        sink.text("...")?;
-    }
-    dimensions(sink, rank, (size_count, sizes), (low_count, low))?;
+    mark(sink, rank, size_count, low_count)?;
+    let tail = dimensions(sink, rank, size_count, sizes, low_count, low)?;
     sink.text("]")?;
-    Some(behind_numbers(low, low_count))
+    Some(tail)
 }

@@ -1,26 +1,42 @@
-use Rattle.std.proofs.Common.{◌≡◌, ◌+◌, ◌*◌}
+use Rattle.std.proofs.Common.{◌≡◌, ◌+◌, ◌*◌, ◌-◌, []}
+use Rattle.std.specs.Prelude.{codes}
+use Rattle.sig_text.specs.Shown.{before, core_shown, listed_shown}
+use Rattle.sig_text.proofs.Loops.{Left}
 use Rattle.sig_text.proofs.types.+text.Given as goal
 
 abbrev pub decreases-core : goal.decreases-core
 decreases-core g l = 8 * l.depth
 
+abbrev pub decreases-coded : goal.decreases-coded
+decreases-coded g l = 8 * l.depth + 7
+
+abbrev pub decreases-by_ref : goal.decreases-by_ref
+decreases-by_ref g l = 8 * l.depth + 1
+
 abbrev pub decreases-content : goal.decreases-content
-decreases-content g l = 8 * l.depth + 1
+decreases-content g l = 8 * l.depth + 2
 
 abbrev pub decreases-slot : goal.decreases-slot
-decreases-slot g l = 8 * l.depth + 2
+decreases-slot g l = 8 * l.depth + 3
 
 abbrev pub decreases-around : goal.decreases-around
-decreases-around g l = 8 * l.depth + 3
+decreases-around g l = 8 * l.depth + 4
 
 abbrev pub decreases-listed : goal.decreases-listed
-decreases-listed g l = 8 * l.depth + 3
+decreases-listed g l = 8 * l.depth + 4
+
+abbrev pub decreases-enclosed : goal.decreases-enclosed
+decreases-enclosed g l = 8 * l.depth + 5
 
 abbrev pub decreases-instance : goal.decreases-instance
-decreases-instance g l = 8 * l.depth + 4
+decreases-instance g l = 8 * l.depth + 6
 
 abbrev pub decreases-method : goal.decreases-method
-decreases-method g l = 8 * l.depth + 4
+decreases-method g l = 8 * l.depth + 6
 
 abbrev pub invariant-listed-loop-done : goal.invariant-listed-loop-done
-invariant-listed-loop-done g l = g.S.TextSink.refused l.sink ≡ g.S.TextSink.refused l.fn.sink
+invariant-listed-loop-done g l = record {
+  words : g.S.TextSink.refused l.sink ≡ g.S.TextSink.refused l.fn.sink;
+  left : Left g.S.TextSink.gives l.fn.sink (listed_shown (core_shown l.depth) [] l.count l.bytes).0 l.sink (listed_shown (core_shown l.depth) (before (codes ", ") l.done) (l.count - l.done) l.tail).0;
+  tail : (listed_shown (core_shown l.depth) (before (codes ", ") l.done) (l.count - l.done) l.tail).1 ≡ (listed_shown (core_shown l.depth) [] l.count l.bytes).1;
+}

@@ -1,0 +1,28 @@
+use Rattle.std.proofs.Common.{arith, ◌≡◌, ◌∙◌, sym, refl, ap}
+use Rattle.sig_text.specs.Shown.{mark_at, marks_in, marks_of}
+use Rattle.sig_text.proofs.MarksShown.{marks_next, marks_end}
+use Rattle.std.proofs.Common.{None, Some, ◌≤◌, length}
+use Rattle.sig_text.proofs.marks.behind_all.Goals as goal
+
+pub loop-count-init : goal.loop-count-init
+unfolding marks_in
+loop-count-init c = refl
+
+pub returns-in-None-clause-count : goal.returns-in-None-clause-count
+unfolding marks_of
+returns-in-None-clause-count c = let e : mark_at (marks_in c.loop-count.count c.args.bytes.now).1 ≡ None = rw (← c.loop-count.invariant) (sym c.in-None.ensures) in let le : c.loop-count.count ≤ length c.args.bytes.now = omega arith in sym (marks_end c.loop-count.count (length c.args.bytes.now) c.args.bytes.now e le)
+
+pub returns-in-None-clause-tail : goal.returns-in-None-clause-tail
+unfolding marks_of
+returns-in-None-clause-tail c = let e : mark_at (marks_in c.loop-count.count c.args.bytes.now).1 ≡ None = rw (← c.loop-count.invariant) (sym c.in-None.ensures) in let le : c.loop-count.count ≤ length c.args.bytes.now = omega arith in c.loop-count.invariant ∙ sym (ap (λ x. x.1) (marks_end c.loop-count.count (length c.args.bytes.now) c.args.bytes.now e le))
+
+pub loop-count-preserved : goal.loop-count-preserved
+loop-count-preserved c = let e : mark_at (marks_in c.loop-count.count c.args.bytes.now).1 ≡ Some (c.in-Some.field-0-0, c.in-Some.next.now) = rw (← c.loop-count.invariant) (sym c.in-Some.ensures) in sym (marks_next c.loop-count.count c.args.bytes.now c.in-Some.field-0-0 c.in-Some.next.now e)
+
+pub returns-clause-count : goal.returns-clause-count
+unfolding marks_of
+returns-clause-count c = refl
+
+pub returns-clause-tail : goal.returns-clause-tail
+unfolding marks_of
+returns-clause-tail c = let e : c.loop-count.count ≡ length c.args.bytes.now = omega arith in rw (← e) c.loop-count.invariant

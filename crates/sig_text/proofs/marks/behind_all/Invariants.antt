@@ -1,0 +1,6 @@
+use Rattle.std.proofs.Common.{◌≡◌}
+use Rattle.sig_text.specs.Shown.{marks_in}
+use Rattle.sig_text.proofs.marks.behind_all.Given as goal
+
+abbrev pub invariant-loop-count : goal.invariant-loop-count
+invariant-loop-count l = l.tail ≡ (marks_in l.count l.bytes).1
