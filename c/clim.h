@@ -122,8 +122,9 @@ typedef struct clim_cell {
     uint8_t guid[16];
 } clim_cell;
 
-/* A stream header of a root (II.24.2.2): the name, which the standard need not define, in ASCII and at most 32 characters;
- * the offset of the header, and the offset and the size of the stream, in bytes from the start of the root. */
+/* A stream header of a root (II.24.2.2): the name, which the standard need not define, in ASCII and at most 32
+ * characters; the offset of the header, and the offset and the size of the stream, in bytes from the start of the
+ * root. */
 typedef struct clim_stream_header {
     clim_bytes name;
     size_t header_offset;
@@ -411,21 +412,23 @@ bool clim_open(const uint8_t *file, size_t len, clim_view *view, clim_fault *fau
 /* The same for a bare metadata root. */
 bool clim_open_root(const uint8_t *root, size_t len, clim_view *view, clim_fault *fault);
 
-/* The same as clim_check, within a budget: the number of bytes of signatures that it may check at most. Use these four
- * calls for files of strangers, which can be made such that the time of a check grows with the square of their size.
+/* The same as clim_check, within a budget: the number of bytes of signatures that it may check at most. Use these
+ * four calls for files of strangers, which can be made such that the time of a check grows with the square of their
+ * size.
  *
  * *spent is set to whether the budget did not suffice. If it did not, the call returns false and *fault is unchanged.
- * That happens only if the signature blobs of all rows together are longer than the budget, and the rules before those
- * of signatures hold. In any other case the call returns and writes what clim_check does. A blob counts its length each
- * time that it is checked; one that was accepted shortly before is free. 64 times the size of the file is far more than
- * any compiler's file needs. */
+ * That happens only if the signature blobs of all rows together are longer than the budget, and the rules before
+ * those of signatures hold. In any other case the call returns and writes what clim_check does. A blob counts its
+ * length each time that it is checked; one that was accepted shortly before is free. 64 times the size of the file is
+ * far more than any compiler's file needs. */
 bool clim_check_within(const uint8_t *file, size_t len, uint64_t budget, clim_fault *fault, bool *spent);
 
 /* The same for a bare metadata root. */
 bool clim_check_root_within(const uint8_t *root, size_t len, uint64_t budget, clim_fault *fault, bool *spent);
 
 /* The same as clim_open, within a budget, as for clim_check_within. If it returns false, *view is unchanged. */
-bool clim_open_within(const uint8_t *file, size_t len, uint64_t budget, clim_view *view, clim_fault *fault, bool *spent);
+bool clim_open_within(const uint8_t *file, size_t len, uint64_t budget, clim_view *view, clim_fault *fault,
+                      bool *spent);
 
 /* The same for a bare metadata root. */
 bool clim_open_root_within(const uint8_t *root, size_t len, uint64_t budget, clim_view *view, clim_fault *fault,
@@ -435,11 +438,11 @@ bool clim_open_root_within(const uint8_t *root, size_t len, uint64_t budget, cli
  * to the library. */
 void clim_fault_name(uint16_t code, clim_bytes *name);
 
-/* Writes the text that explains a rule into buffer[0] to buffer[room - 1]; characters that do not fit are left out. It is
- * what clim explain prints, but no line is broken: the number and the name of the rule and what is wrong, an empty line,
- * and a line each for the rule, its section, where the offset of a fault points, and the usual cause, each ending in a
- * line feed. Returns the length of the whole text, which can be more than room, and at most 2,000 today. No NUL follows
- * it. Returns 0 if no rule has the number; the buffer is then unchanged. */
+/* Writes the text that explains a rule into buffer[0] to buffer[room - 1]; characters that do not fit are left out.
+ * It is what clim explain prints, but no line is broken: the number and the name of the rule and what is wrong, an
+ * empty line, and a line each for the rule, its section, where the offset of a fault points, and the usual cause,
+ * each ending in a line feed. Returns the length of the whole text, which can be more than room, and at most 2,000
+ * today. No NUL follows it. Returns 0 if no rule has the number; the buffer is then unchanged. */
 size_t clim_explain(uint16_t code, uint8_t *buffer, size_t room);
 
 /* Writes the name of a table, for example "TypeDef"; no bytes if no table has the number. The bytes belong to the
@@ -459,24 +462,25 @@ void clim_version(const clim_view *view, clim_bytes *version);
 /* Writes the bytes of #US, as they are in the root (II.24.2.4); no bytes if the view is not open. Reads *view. */
 void clim_user(const clim_view *view, clim_bytes *user);
 
-/* The number of stream headers of the root (II.24.2.2), at most 65,535; 0 if the view is not open. Reads *view and the
- * headers in the root. */
+/* The number of stream headers of the root (II.24.2.2), at most 65,535; 0 if the view is not open. Reads *view and
+ * the headers in the root. */
 size_t clim_stream_count(const clim_view *view);
 
-/* Writes *stream, the stream header with an index, from 0, in the order of the root. False if the view is not open, or
- * has fewer headers; then *stream is unchanged. Reads *view and the headers up to this one. */
+/* Writes *stream, the stream header with an index, from 0, in the order of the root. False if the view is not open,
+ * or has fewer headers; then *stream is unchanged. Reads *view and the headers up to this one. */
 bool clim_stream(const clim_view *view, size_t index, clim_stream_header *stream);
 
 /* The flag of a user string of no bytes, which has no last byte. */
 #define CLIM_NO_FLAG 256
 
-/* Writes the UTF-16 units of the user string that a token names (II.24.2.4) into units[0] to units[room - 1]; units that
- * do not fit are left out, and the other elements are unchanged. Writes *count, the number of units of the string, which
- * can be more than room, and *flag, its last byte, or CLIM_NO_FLAG for a string of no bytes. The units need not be valid
- * UTF-16. The high byte of the token is 0x70, and the others are the offset in #US, which counts as padded with zeros to
- * a multiple of four. False if the view is not open, the token is another, or the offset has no user string; then
- * nothing is written. Reads *view and the root. */
-bool clim_user_string(const clim_view *view, uint32_t token, uint16_t *units, size_t room, size_t *count, uint16_t *flag);
+/* Writes the UTF-16 units of the user string that a token names (II.24.2.4) into units[0] to units[room - 1]; units
+ * that do not fit are left out, and the other elements are unchanged. Writes *count, the number of units of the
+ * string, which can be more than room, and *flag, its last byte, or CLIM_NO_FLAG for a string of no bytes. The units
+ * need not be valid UTF-16. The high byte of the token is 0x70, and the others are the offset in #US, which counts as
+ * padded with zeros to a multiple of four. False if the view is not open, the token is another, or the offset has no
+ * user string; then nothing is written. Reads *view and the root. */
+bool clim_user_string(const clim_view *view, uint32_t token, uint16_t *units, size_t room, size_t *count,
+                      uint16_t *flag);
 
 /* Writes the text of a GUID, such as "{03020100-0504-0706-0809-0a0b0c0d0e0f}", into buffer[0] to buffer[room - 1];
  * characters that do not fit are left out. Returns 38, the length of the text. No NUL follows it. Reads guid[0] to
@@ -495,6 +499,19 @@ bool clim_cell_at(const clim_view *view, uint8_t table, uint32_t row, size_t col
  * that it wrote; the other elements are unchanged. 0 if the view is not open, or has no such table, row or column.
  * Reads *view and the root. Much faster than a call of clim_cell_at for each cell. */
 size_t clim_cells(const clim_view *view, uint8_t table, uint32_t first, size_t column, clim_cell *cells, size_t room);
+
+/* What clim_signature_text returns for a text of more than 65,536 bytes. */
+#define CLIM_TOO_LONG SIZE_MAX
+
+/* Writes a signature in the notation of ILAsm (II.7.1, II.15.3), such as "method instance string *(int32, class
+ * 01000007)", into buffer[0] to buffer[room - 1]; characters that do not fit are left out. A type is named by its
+ * token: two hexadecimal digits of the table and six of the row, which clim_cell_at reads. The text is ASCII. Returns
+ * the length of the whole text, which can be more than room: so ask with room 0 for the length. No NUL follows the
+ * text. Returns 0 if the view is not open, or has no such table, row or column, or the column has no signatures; the
+ * buffer is then unchanged. Returns CLIM_TOO_LONG for a text of more than 65,536 bytes, which a crafted file can ask
+ * for; the buffer then has the first bytes of it. Reads *view and the root. */
+size_t clim_signature_text(const clim_view *view, uint8_t table, uint32_t row, size_t column, uint8_t *buffer,
+                           size_t room);
 
 /* Writes the rows of the table member that a row of the table owner owns: from *first to before *past. Types own
  * fields and methods, methods own parameters, and the rows of EventMap and PropertyMap own events and properties.

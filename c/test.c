@@ -34,6 +34,9 @@ _Static_assert(sizeof(clim_cell) == 40 && offsetof(clim_cell, guid) == 22, "clim
 static const clim_cell NO_CELL = CLIM_NO_CELL;
 static const clim_view CLOSED = CLIM_CLOSED;
 
+/* A buffer without room, which may not be null. */
+#define NULL_BUFFER ((uint8_t[1]){0})
+
 static unsigned passed, failed;
 
 #define CHECK(fact) check(fact, #fact, __LINE__)
@@ -384,6 +387,11 @@ static void ask_names(void) {
         CHECK(column.len == 0);
     }
     CHECK(tables == 38);
+    clim_bytes name = CLIM_NO_BYTES;
+    clim_column_name(CLIM_TYPE_DEF, CLIM_TYPE_DEF_TYPE_NAME, &name);
+    CHECK(name.len == 8 && memcmp(name.at, "TypeName", 8) == 0);
+    clim_column_name(CLIM_CONSTANT, CLIM_CONSTANT_VALUE, &name);
+    CHECK(name.len == 5 && memcmp(name.at, "Value", 5) == 0);
 }
 
 /* A call that writes a text into a buffer. */
@@ -504,7 +512,7 @@ static void ask_user_strings(const clim_view *view) {
 
 /* Roots with bytes of #US that no sample has: strings and lengths that only the padding completes. */
 static void ask_padded(void) {
-    static const uint8_t front[72] = {
+    static const uint8_t header[72] = {
         0x42, 0x53, 0x4A, 0x42, 1, 0, 1, 0, 0, 0, 0, 0, 4, 0, 0, 0, 'v', 0, 0, 0, 0, 0, 2, 0,
         48, 0, 0, 0, 24, 0, 0, 0, '#', '~', 0, 0, 72, 0, 0, 0, 0, 0, 0, 0, '#', 'U', 'S', 0,
         0, 0, 0, 0, 2, 0, 0, 1};
@@ -513,10 +521,10 @@ static void ask_padded(void) {
         {5, {0, 0, 0, 0, 0xC0}}, {6, {0, 0, 0, 0, 0xC0, 1}}, {7, {0, 0, 0, 0, 0xC0, 0, 1}}, {4, {0, 0xE0, 0xFF, 2}},
         {14, {0, 3, 'A', 0, 1, 0x80, 0, 2, 'B', 'B', 5, 'A', 0, 'B'}}};
     for (size_t i = 0; i < sizeof heaps / sizeof *heaps; i++) {
-        guarded root = guard(sizeof front + heaps[i].len);
-        memcpy(root.at, front, sizeof front);
+        guarded root = guard(sizeof header + heaps[i].len);
+        memcpy(root.at, header, sizeof header);
         root.at[40] = (uint8_t)heaps[i].len;
-        memcpy(root.at + sizeof front, heaps[i].bytes, heaps[i].len);
+        memcpy(root.at + sizeof header, heaps[i].bytes, heaps[i].len);
         clim_view view = CLOSED;
         clim_fault fault = CLIM_NO_FAULT;
         CHECK(clim_open_root(root.at, root.len, &view, &fault));
@@ -552,6 +560,39 @@ static void ask_explanations(void) {
         CHECK(same_text(write_explanation, &code, len));
     }
     CHECK(rules == 45 && unwritten);
+}
+
+typedef struct cell_position {
+    const clim_view *view;
+    size_t column;
+    uint32_t row;
+    uint8_t table;
+} cell_position;
+
+static size_t write_signature(const void *of, uint8_t *buffer, size_t room) {
+    const cell_position *at = of;
+    return clim_signature_text(at->view, at->table, at->row, at->column, buffer, room);
+}
+
+/* Each cell with a signature has a text, and no other cell. */
+static void ask_signatures(const clim_view *view, uint8_t table) {
+    uint32_t rows = clim_count(view, table), step = rows / 300 + 1;
+    size_t columns = clim_cell_count(table);
+    bool same = true;
+    clim_cell cell = NO_CELL;
+    for (uint32_t row = 1; row <= rows; row += step) {
+        for (size_t column = 0; column < columns; column++) {
+            cell_position at = {view, column, row, table};
+            size_t len = clim_signature_text(view, table, row, column, NULL_BUFFER, 0);
+            same &= clim_cell_at(view, table, row, column, &cell) && (len > 0) == (cell.kind == CLIM_SIGNATURE);
+            if (len > 0 && len < 1000) same &= same_text(write_signature, &at, len);
+        }
+    }
+    CHECK(same);
+    CHECK(clim_signature_text(view, table, 0, 0, NULL_BUFFER, 0) == 0);
+    CHECK(clim_signature_text(view, table, rows + 1, 0, NULL_BUFFER, 0) == 0);
+    CHECK(clim_signature_text(view, table, 1, columns, NULL_BUFFER, 0) == 0);
+    CHECK(clim_signature_text(view, table, 1, SIZE_MAX, NULL_BUFFER, 0) == 0);
 }
 
 /* The header names the root of the view. */
@@ -605,6 +646,7 @@ static void calls(guarded file, clim_view *view, bool bare) {
     if (!bare) ask_header(file, view);
     for (unsigned table = 0; table < 256; table++) {
         if (clim_count(view, (uint8_t)table) > 0 && clim_count(view, (uint8_t)table) < 30000) compare_cells(view, (uint8_t)table);
+        ask_signatures(view, (uint8_t)table);
     }
     for (size_t i = 0; i < sizeof runs / sizeof *runs; i++) compare_runs(view, runs[i].owner, runs[i].column, runs[i].member);
     compare_types(view);

@@ -35,9 +35,9 @@ short_text buffer text more at at_is fits =
     ∙ ap (drop (length more)) (drop_at text (drop (length text) buffer) (length text) refl)
     ∙ drop-drop (length more) (length text) buffer in
     let e : length buffer ≡ length text + (length buffer - length text) = omega (arith, fits) in
-    let front : take (length buffer) (text ++ more) ≡ text ++ take (length buffer - length text) more =
+    let prefix : take (length buffer) (text ++ more) ≡ text ++ take (length buffer - length text) more =
     ap (λ (n : ℕ). take n (text ++ more)) e ∙ take_past text more (length buffer - length text) in
-    rw (whole, at_is, take_at text (drop (length text) buffer) (length text) refl, long, last, front, length-append text more) refl
+    rw (whole, at_is, take_at text (drop (length text) buffer) (length text) refl, long, last, prefix, length-append text more) refl
 
 -- a text that is longer than the buffer, and more after it
 long_text : (buffer text more : List ℕ) (at : ℕ) → length buffer ≤ at → length buffer ≤ length text

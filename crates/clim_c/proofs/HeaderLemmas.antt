@@ -5,11 +5,11 @@ use Rattle.root.specs.Root.{IsRoot, AreHeaders}
 use Rattle.root.specs.Streams.{Header}
 
 -- each header has some bytes
-few_in : (place : ℕ) (bytes : List ℕ) (headers : List Header) → AreHeaders place bytes headers → length headers ≤ length bytes
-few_in place bytes [] are = omega arith
-few_in place bytes (header ∷ headers) are =
+few_in : (offset : ℕ) (bytes : List ℕ) (headers : List Header) → AreHeaders offset bytes headers → length headers ≤ length bytes
+few_in offset bytes [] are = omega arith
+few_in offset bytes (header ∷ headers) are =
     let (first, tail, whole, at, is, left) = are in
-    let more = few_in (place + length first) tail headers left in
+    let more = few_in (offset + length first) tail headers left in
     let long = length-append first tail in
     let some = simp length-append at (ap length is.whole) in
     omega (arith, more, long, some, ap length whole, is.offset.long)

@@ -76,8 +76,8 @@ counted_is heap offset used count within fits packed =
       count = take used tail;
       after = drop count bytes;
       whole =
-      sym (take-append-drop offset heap) ∙ ap (λ (l : List ℕ). take offset heap ++ l) (sym (take-append-drop used tail)
-      ∙ ap (λ (l : List ℕ). take used tail ++ l) (sym (take-append-drop count bytes)));
+          sym (take-append-drop offset heap) ∙ ap (λ (l : List ℕ). take offset heap ++ l) (sym (take-append-drop used tail)
+          ∙ ap (λ (l : List ℕ). take used tail ++ l) (sym (take-append-drop count bytes)));
       at = length-take-le offset heap within;
       counts = subst P (sym long) packed;
     }
@@ -111,9 +111,9 @@ number_sound bytes head (Some it) is sound =
     packed_in_head bytes it.0 it.1 within.0 within.1
 
 -- the bytes after a packed length
-pub rest_is : (tail prefix rest bytes : List ℕ) (used : ℕ) → tail ≡ prefix ++ rest → used ≡ length prefix → bytes ≡ drop used tail → bytes ≡ rest
-rest_is tail prefix rest bytes used whole used_is bytes_is =
-    bytes_is ∙ ap (λ (n : ℕ). drop n tail) used_is ∙ ap (drop (length prefix)) whole ∙ drop_at prefix rest (length prefix) refl
+pub remainder_is : (tail prefix remainder bytes : List ℕ) (used : ℕ) → tail ≡ prefix ++ remainder → used ≡ length prefix → bytes ≡ drop used tail → bytes ≡ remainder
+remainder_is tail prefix remainder bytes used whole used_is bytes_is =
+    bytes_is ∙ ap (λ (n : ℕ). drop n tail) used_is ∙ ap (drop (length prefix)) whole ∙ drop_at prefix remainder (length prefix) refl
 
 pub blob_is : (heap tail bytes : List ℕ) (offset used count : ℕ) → 0 < offset → offset ≤ length heap → tail ≡ drop offset heap → bytes ≡ drop used tail
     → count ≤ length bytes → IsPacked count (take used tail) → IsBlob heap offset (take count bytes)

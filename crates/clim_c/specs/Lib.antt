@@ -5,3 +5,4 @@ pub mod LookUps
 pub mod Streams
 pub mod Texts
 pub mod Explained
+pub mod SignatureCells

@@ -12,6 +12,7 @@
 //! ```
 #![tactic(auto)]
 
+mod buffer_text;
 mod check_calls;
 mod explained;
 mod fault;
@@ -24,6 +25,7 @@ mod padded_heap;
 mod read_header;
 mod reported_cell;
 mod shown;
+mod signature_text;
 mod streams;
 mod text_parts;
 mod user_strings;
@@ -42,8 +44,11 @@ pub use opened::{clim_open, clim_open_root};
 pub use read_header::{ClimDirectory, ClimHeader, clim_read_header};
 pub use reported_cell::ClimCell;
 pub use shown::{clim_cell_at, clim_cells};
+pub use signature_text::clim_signature_text;
 pub use streams::{ClimStreamHeader, clim_stream, clim_stream_count};
 pub use user_strings::clim_user_string;
 pub use view::ClimView;
 pub use view_parts::{clim_count, clim_user, clim_version};
-pub use within::{clim_check_root_within, clim_check_within, clim_open_root_within, clim_open_within};
+pub use within::{
+    clim_check_root_within, clim_check_within, clim_open_root_within, clim_open_within,
+};

@@ -7,9 +7,6 @@ ghost use Rattle.heap_entries.specs.Padding.{zero_padded};
 use packed::read_unsigned;
 use std::marker::Model;
 
-/// The largest number of bytes of a packed number (II.23.2).
-const PACKED_LIMIT: usize = 4;
-
 /// Bytes of a heap, and the zeros that pad it. It borrows the bytes.
 #[derive(Drop)]
 pub(crate) struct PaddedHeap<'a> {
@@ -81,7 +78,7 @@ impl<'a> PaddedHeap<'a> {
             → IsSomeAnd result (λ read. (read.0 ≡ n) × (read.1 ≡ length prefix)) }
     {
         let head = [self.at(0), self.at(1), self.at(2), self.at(3)];
-        let (head, _) = head.split_at(self.len().min(PACKED_LIMIT));
+        let (head, _) = head.split_at(self.len().min(head.len()));
         read_unsigned(head)
     }
 

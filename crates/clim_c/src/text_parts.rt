@@ -2,7 +2,7 @@
 ghost use Rattle.std.specs.Prelude.{◌≡◌, ◌+◌, length};
 ghost use Rattle.clim_c.specs.Texts.{counted, joined, overwritten, with_text};
 
-/// Writes bytes into a buffer from an offset on, as many as there is room for.
+/// Writes bytes into a buffer from an offset on, up to the end of the buffer.
 pub(crate) fn copy_at(buffer: &mut [u8], at: usize, bytes: &[u8])
     ensures { buffer.new ≡ overwritten buffer.old at bytes.now }
 {

@@ -32,14 +32,11 @@ pub extern "C" fn clim_check_within(
     ensures same { OnTrue result (fault.new ≡ fault.old) }
     ensures quiet { OnTrue spent.new (fault.new ≡ fault.old) }
 {
+    *spent = false;
     match open_image_within(file, budget) {
-        Ok(_) => {
-            *spent = false;
-            true
-        }
+        Ok(_) => true,
         Err(BoundedError::Fault(found)) => {
             *fault = ClimFault::of(found);
-            *spent = false;
             false
         }
         Err(BoundedError::BudgetSpent) => {
@@ -65,14 +62,11 @@ pub extern "C" fn clim_check_root_within(
     ensures same { OnTrue result (fault.new ≡ fault.old) }
     ensures quiet { OnTrue spent.new (fault.new ≡ fault.old) }
 {
+    *spent = false;
     match open_root_within(root, budget) {
-        Ok(_) => {
-            *spent = false;
-            true
-        }
+        Ok(_) => true,
         Err(BoundedError::Fault(found)) => {
             *fault = ClimFault::of(found);
-            *spent = false;
             false
         }
         Err(BoundedError::BudgetSpent) => {
@@ -101,15 +95,14 @@ pub extern "C" fn clim_open_root_within<'a>(
     ensures quiet { OnTrue result (fault.new ≡ fault.old) }
     ensures unreported { OnTrue spent.new (fault.new ≡ fault.old) }
 {
+    *spent = false;
     match open_root_within(root, budget) {
         Ok(opened) => {
             *view = kept(&opened);
-            *spent = false;
             true
         }
         Err(BoundedError::Fault(found)) => {
             *fault = ClimFault::of(found);
-            *spent = false;
             false
         }
         Err(BoundedError::BudgetSpent) => {
@@ -139,15 +132,14 @@ pub extern "C" fn clim_open_within<'a>(
     ensures quiet { OnTrue result (fault.new ≡ fault.old) }
     ensures unreported { OnTrue spent.new (fault.new ≡ fault.old) }
 {
+    *spent = false;
     match open_image_within(file, budget) {
         Ok((_, opened)) => {
             *view = kept(&opened);
-            *spent = false;
             true
         }
         Err(BoundedError::Fault(found)) => {
             *fault = ClimFault::of(found);
-            *spent = false;
             false
         }
         Err(BoundedError::BudgetSpent) => {

@@ -1,6 +1,6 @@
 use Rattle.std.proofs.Common.{◌≡◌, ℕ, ◌<◌, ◌≤◌, List, ◌++◌, length, take, sym, ◌∙◌, ap, arith}
 use Rattle.std.proofs.lemmas.List.{length-append, take_at}
-use Rattle.clim_c.proofs.PaddedLemmas.{blob_is, blob_counted, counted_behind, rest_is}
+use Rattle.clim_c.proofs.PaddedLemmas.{blob_is, blob_counted, counted_behind, remainder_is}
 use Rattle.clim_c.proofs.padded_heap.PaddedHeap.blob.Goals as goal
 
 pub returns-in_err-count-clause-complete : goal.returns-in_err-count-clause-complete
@@ -13,9 +13,9 @@ returns-then-len-count-clause-complete c = λ blob is.
     let e = blob_counted c.args.self.now c.args.offset blob (omega arith) is in
     let behind = c.after-tail.ensures ∙ counted_behind c.args.self.now c.args.offset blob e in
     let found = c.in_ok-count.ensures.complete (length blob) e.count (blob ++ e.after) behind e.counts in
-    let rest = rest_is c.after-tail.result e.count (blob ++ e.after) c.after-bytes.result c.in_ok-count.used behind found.1 c.after-bytes.ensures in
+    let remainder = remainder_is c.after-tail.result e.count (blob ++ e.after) c.after-bytes.result c.in_ok-count.used behind found.1 c.after-bytes.ensures in
     let long = length-append blob e.after in
-    omega (arith, long, ap length rest, found.0)
+    omega (arith, long, ap length remainder, found.0)
 
 pub returns-clause-sound : goal.returns-clause-sound
 returns-clause-sound c =
@@ -31,5 +31,5 @@ returns-clause-complete c = λ blob is.
     let e = blob_counted c.args.self.now c.args.offset blob (omega arith) is in
     let behind = c.after-tail.ensures ∙ counted_behind c.args.self.now c.args.offset blob e in
     let found = c.in_ok-count.ensures.complete (length blob) e.count (blob ++ e.after) behind e.counts in
-    let rest = rest_is c.after-tail.result e.count (blob ++ e.after) c.after-bytes.result c.in_ok-count.used behind found.1 c.after-bytes.ensures in
-    ap (take c.in_ok-count.count) rest ∙ take_at blob e.after c.in_ok-count.count (sym found.0)
+    let remainder = remainder_is c.after-tail.result e.count (blob ++ e.after) c.after-bytes.result c.in_ok-count.used behind found.1 c.after-bytes.ensures in
+    ap (take c.in_ok-count.count) remainder ∙ take_at blob e.after c.in_ok-count.count (sym found.0)

@@ -1,0 +1,85 @@
+ghost use Rattle.std.specs.Prelude.{◌≡◌, ◌≤◌, ◌<◌, ◌⊎◌, ◌^◌, ◌-◌, IfSome, true, false};
+ghost use Rattle.table_schema.specs.declared.table.TableId.{TableId as Table};
+ghost use Rattle.table_schema.specs.declared.column.SigKind.{SigKind as Kind};
+ghost use Rattle.table_schema.specs.declared.column.ColumnKind.TheVariants.{Signature};
+ghost use Rattle.table_schema.specs.Tables.{table_number};
+ghost use Rattle.table_schema.specs.Columns.{column_at};
+ghost use Rattle.table_schema.specs.CellColumns.{cell_count, column_of};
+ghost use Rattle.opening.specs.Views.{row_count};
+ghost use Rattle.clim_c.specs.SignatureCells.{HasSignature};
+
+use crate::buffer_text::BufferText;
+use crate::opened::seen;
+use crate::view::ClimView;
+use opening::{CellRef, TableId, View};
+use sig_text::{NamedText, SigKind, Token, TokenNames, write_signature};
+use std::fmt;
+use table_schema::{ColumnKind, cell_count, column_of_cell, columns};
+
+/// What is returned for a text of more than 65,536 bytes.
+const TOO_LONG: usize = usize::MAX;
+
+/// Writes the token of a row as its name: eight hexadecimal digits.
+#[derive(Clone, Copy)]
+struct Tokens;
+
+impl TokenNames for Tokens {
+    fn write_name<W: fmt::Write>(&self, token: Token, writer: &mut W) -> fmt::Result {
+        write!(writer, "{:02x}{:06x}", token.table.number(), token.row)
+    }
+}
+
+/// The blob of a cell and the kind of its signature; `None` if the column has no signatures.
+fn signature_at<'a>(
+    seen: &View<'a>,
+    table: TableId,
+    row: u32,
+    column: usize,
+) -> Option<(&'a [u8], SigKind)>
+    requires first { 1 ≤ row }
+    requires last { row ≤ row_count seen.now table }
+    requires column { column < cell_count table }
+    ensures { IfSome result (λ found. (column_at table (column_of table column)).kind ≡ Signature found.1) }
+{
+    let ColumnKind::Signature(kind) = columns(table)[column_of_cell(table, column)].kind else {
+        return None;
+    };
+    match seen.cell(table, row, column) {
+        CellRef::Sig(blob) => Some((blob, kind)),
+        _ => None,
+    }
+}
+
+/// Writes a signature in the notation of ILAsm into a buffer, up to its length, with tokens as the names of types (II.7.1,
+/// II.15.3). Returns the length of the whole text, or `CLIM_TOO_LONG` if it is more than 65,536 bytes. Returns 0 if the
+/// view is not open, or has no such row, or the column has no signatures; the buffer is then unchanged.
+#[unsafe(no_mangle)]
+pub extern "C" fn clim_signature_text(
+    view: &ClimView,
+    table: u8,
+    row: u32,
+    column: usize,
+    buffer: &mut [u8],
+) -> usize
+    ensures within { (result ≤ 2 ^ 16) ⊎ (result ≡ 2 ^ 64 - 1) }
+    ensures there { 0 < result → (view.now.is_open ≡ true)
+        × ((known : Table) × (kind : Kind) × (table_number known ≡ table) × HasSignature view.now.root.now known row column kind) }
+    ensures none { ((known : Table) (kind : Kind) → table_number known ≡ table → ¬ HasSignature view.now.root.now known row column kind)
+        → (result ≡ 0) × (buffer.new ≡ buffer.old) }
+    ensures closed { view.now.is_open ≡ false → (result ≡ 0) × (buffer.new ≡ buffer.old) }
+{
+    let (Some(table), Some(seen)) = (TableId::from_number(table), seen(view)) else {
+        return 0;
+    };
+    if row < 1 || row > seen.count(table) || column >= cell_count(table) {
+        return 0;
+    }
+    let Some((blob, kind)) = signature_at(&seen, table, row, column) else {
+        return 0;
+    };
+    let mut text = NamedText::new(BufferText { buffer, len: 0 }, Tokens);
+    match write_signature(&mut text, blob, kind) {
+        Some(()) => text.writer.len,
+        None => TOO_LONG,
+    }
+}
