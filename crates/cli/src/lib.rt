@@ -1,8 +1,9 @@
 //! The program `clim`, without the collection of its arguments.
 //!
 //! [`ask`] parses the arguments. Its contract says that the subcommand, flags and values are those that `clap` gives
-//! for them. [`go`] is the whole run: it parses the arguments, reads the file, prints, and returns the exit code. What
-//! it prints is tested, not proved.
+//! for them. [`go`] is the whole run: it parses the arguments, reads the file, prints, and returns the exit code. Its
+//! contract says what goes to the output and which exit code it returns, for what reading the file gave. The texts of
+//! help, of usage errors and of `explain` are tested, not proved.
 //!
 //! ```text
 //! let status = go(&rt, &["clim", "root", "--bare", "one_module.root"], &mut out, &mut err);

@@ -30,8 +30,7 @@ use std::rt::Files;
 ///
 /// - 0: success, or help or the version was printed;
 /// - 1: the file breaks a rule of the standard, reported as `fault LAYER CODE at OFFSET: NAME`; or it has nothing that
-///   the
-/// token names; or its canonical root is too long;
+///   the token names; or its canonical root is too long;
 /// - 2: usage error; no file was read;
 /// - 3: I/O error, out of memory, or budget spent.
 ///
@@ -44,7 +43,8 @@ pub fn go<R: Files + AllocGlobal, W: Write, E: Write>(
     err: &mut E,
 ) -> u8
     ensures limit { result ≤ 3 }
-    // What the arguments ask for was done, with what reading the file gave; the exit code and the output are that of it.
+    // It does what the arguments ask for, with what reading the file gave. The exit code and the output are those of
+    // that run.
     ensures run { Ran W.contents out.old out.new (map (λ word. word.now) words.now) result }
     // If it succeeds, nothing goes to `err`.
     ensures quiet { result ≡ 0 → err.new ≡ err.old }
