@@ -2,7 +2,7 @@ ghost use Rattle.std.specs.Prelude.{◌≤◌, OnOk, codes};
 ghost use Rattle.std.specs.Fmt.{WritesInCalls};
 ghost use Rattle.table_schema.specs.declared.table.TableId.TheVariants.{TypeDef, TypeRef};
 ghost use Rattle.metadata.specs.Metadata.{Metadata};
-ghost use Rattle.records.specs.Names.{full_name};
+ghost use Rattle.type_records.specs.Names.{full_name};
 ghost use Rattle.full_names.specs.Names.{IsOwnText, IsTypeDefText, IsTypeRefText, Wrote};
 
 use navigation::{ReadCells, cells, enclosing_type, enclosing_type_ref};

@@ -3,7 +3,7 @@ ghost use Rattle.table_schema.specs.declared.table.TableId.TheVariants as table;
 ghost use Rattle.metadata.specs.Cell.{Number, Text, Ref, Start};
 ghost use Rattle.tables.specs.Said.{all_said};
 
-use records::{Cell, FieldValue, FromRow, Record, Row, TableId, Token, owned_cells};
+use type_records::{Cell, FieldValue, FromRow, Record, Row, TableId, Token, owned_cells};
 use std::alloc::{AllocError, Global};
 
 /// A type that has events (II.22.12).

@@ -4,7 +4,7 @@ ghost use Rattle.table_schema.specs.declared.column.SigKind.TheVariants as colum
 ghost use Rattle.metadata.specs.Cell.{Number, Text, Bytes, Ref, Sig};
 ghost use Rattle.tables.specs.Said.{all_said};
 
-use records::{
+use type_records::{
     Cell, FieldValue, FromRow, IsSignature, Record, Row, SigKind, Signature, TableId, Token,
     owned_cells,
 };

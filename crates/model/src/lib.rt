@@ -80,7 +80,7 @@ pub use signatures::{
 };
 
 // Rows as records.
-pub use assembly_records::{
+pub use records::{
     Assembly, AssemblyOS, AssemblyProcessor, AssemblyRef, AssemblyRefOS, AssemblyRefProcessor,
     CellRow, ClassLayout, CodedRow, Constant, CustomAttribute, CustomAttributeType, DeclSecurity,
     Event, EventMap, ExportedType, Field, FieldLayout, FieldMarshal, FieldRVA, File, FromRow,

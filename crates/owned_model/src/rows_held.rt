@@ -5,7 +5,7 @@ ghost use Rattle.metadata.specs.Lookups.{HasRow};
 ghost use Rattle.typed_rows.specs.RowsLeft.{rows_between};
 
 use crate::valid_model::Model;
-use records::{CellRow, CodedRow, FromRow};
+use type_records::{CellRow, CodedRow, FromRow};
 use table_schema::{TableId, Token};
 use typed_rows::{ReadRows, Records};
 
@@ -23,8 +23,8 @@ impl<'m> ReadRows<'m> for &'m Model {
     }
 
     fn row_at(&self, table: TableId, row: u32) -> CellRow<'m> {
-        records::laws::valid_rows_are_of_kinds();
-        records::laws::owned_cells_are_rows();
+        type_records::laws::valid_rows_are_of_kinds();
+        type_records::laws::owned_cells_are_rows();
         // The cells are those of a valid model.
         let _tables = self.tables();
         CellRow {

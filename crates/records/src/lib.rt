@@ -1,36 +1,30 @@
-//! The rows of tables as records, whose fields have the names of the columns (ECMA-335 II.22). This crate
-//! has the records of the module, of types, and of generics.
-//!
-//! A record borrows from its source. [`Record::from_cells`] reads it from owned cells, and
-//! [`Record::cells`] makes the cells again. [`FromRow`] reads it from any kind of [`Row`], so that a
-//! record has one list of fields. If the text of a field does not say what null means, null is invalid
-//! there; such a record can still be made.
+//! The rows of tables as records (ECMA-335 II.22). This crate has the records of assemblies, their files and
+//! their resources, and of what is attached to other rows. It exports the other records too, so that all 38
+//! are here. For each coded index it has an enum of the records of the tables that the index lists.
 //!
 //! ```text
-//! let record = TypeDef::from_cells(cells)?; // None if they are not a row of TypeDef
-//! record.type_name == "Object" && record.extends.is_none()
+//! let record = AssemblyRef::from_cells(cells)?; // None if they are not a row of AssemblyRef
+//! record.name == "mscorlib" && record.culture.is_empty()
 //! ```
 #![tactic(auto)]
 
-mod cell_row;
-mod coded_row;
-mod field_value;
-mod generics;
-mod kinds;
-pub mod laws;
-mod record;
-mod row;
-mod signature;
-mod types;
+mod assemblies;
+mod attached;
+mod files;
+mod named_members;
+mod named_types;
+mod references;
 
-pub use cell_row::CellRow;
-pub use coded_row::{CodedRow, coded_row_of, lists};
-pub use field_value::{FieldValue, owned_cells};
-pub use generics::{GenericParam, GenericParamConstraint, MethodSpec};
-pub use kinds::is_row_of;
-pub use record::{FromRow, Record, record_of};
-pub use row::Row;
-pub use signature::IsSignature;
-pub use table_schema::{SigKind, TableId};
-pub use tables::{Bytes, Cell, Signature, Text, Token};
-pub use types::{ClassLayout, InterfaceImpl, Module, NestedClass, TypeDef, TypeRef, TypeSpec};
+pub use assemblies::{Assembly, AssemblyOS, AssemblyProcessor};
+pub use attached::{Constant, CustomAttribute, DeclSecurity};
+pub use files::{ExportedType, File, ManifestResource};
+pub use member_records::{
+    Bytes, Cell, CellRow, ClassLayout, CodedRow, Event, EventMap, Field, FieldLayout, FieldMarshal,
+    FieldRVA, FromRow, GenericParam, GenericParamConstraint, InterfaceImpl, IsSignature, MemberRef,
+    MethodDef, MethodImpl, MethodSemantics, MethodSpec, Module, NestedClass, Param, Property,
+    PropertyMap, Record, Row, SigKind, Signature, StandAloneSig, TableId, Text, Token, TypeDef,
+    TypeRef, TypeSpec, coded_row_of, is_row_of, lists, record_of,
+};
+pub use named_members::{CustomAttributeType, MemberRefParent, MethodDefOrRef, TypeOrMethodDef};
+pub use named_types::{Implementation, ResolutionScope, TypeDefOrRef};
+pub use references::{AssemblyRef, AssemblyRefOS, AssemblyRefProcessor, ImplMap, ModuleRef};

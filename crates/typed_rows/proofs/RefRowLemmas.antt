@@ -17,9 +17,9 @@ use Rattle.metadata.specs.Kinds.{IsOfKind}
 use Rattle.reading.specs.declared.cell_ref.CellRef.{CellRef}
 use Rattle.reading.specs.declared.cell_ref.CellRef.TheVariants as seen
 use Rattle.reading.specs.Shown.{Shows}
-use Rattle.records.specs.Kinds.{kinds_of, AreOfKinds}
-use Rattle.records.specs.Shapes.{Shape, number, text, bytes, guid, reference, start, signature, shape_of, AreHeld, AreSaid}
-use Rattle.records.specs.Signatures.{encoded}
+use Rattle.type_records.specs.Kinds.{kinds_of, AreOfKinds}
+use Rattle.type_records.specs.Shapes.{Shape, number, text, bytes, guid, reference, start, signature, shape_of, AreHeld, AreSaid}
+use Rattle.type_records.specs.Signatures.{encoded}
 use Rattle.typed_rows.specs.declared.ref_row.RefRow.{RefRow}
 use Rattle.typed_rows.specs.RefRows.{IsShown, IsRefOfShape, IsSaid, shape_at, HoldsAt, SaysAt}
 

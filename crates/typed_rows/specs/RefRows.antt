@@ -5,9 +5,9 @@ use Rattle.metadata.specs.Cell.{Cell, Number, Text, Bytes, Guid, Ref, Start, Sig
 use Rattle.reading.specs.declared.cell_ref.CellRef.{CellRef}
 use Rattle.reading.specs.declared.cell_ref.CellRef.TheVariants as seen
 use Rattle.reading.specs.Shown.{ShowsCell}
-use Rattle.records.specs.Kinds.{kinds_of}
-use Rattle.records.specs.Shapes.{Shape, number, text, bytes, guid, reference, start, signature, shape_of}
-use Rattle.records.specs.Signatures.{encoded}
+use Rattle.type_records.specs.Kinds.{kinds_of}
+use Rattle.type_records.specs.Shapes.{Shape, number, text, bytes, guid, reference, start, signature, shape_of}
+use Rattle.type_records.specs.Signatures.{encoded}
 use Rattle.typed_rows.specs.declared.ref_row.RefRow.{RefRow}
 
 -- there is a value, and it equals the cell of the table at this index

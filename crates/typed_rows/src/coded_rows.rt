@@ -1,10 +1,10 @@
 ghost use Rattle.std.specs.Prelude.{◌≡◌, ◌≤◌, ◌↔◌, Some, IsSome, IfSome, Contains};
 ghost use Rattle.table_schema.specs.CodedIndexes.{tables_of};
 ghost use Rattle.metadata.specs.Metadata.{Metadata, row_of};
-ghost use Rattle.records.specs.Listed.{IsOneOf};
+ghost use Rattle.type_records.specs.Listed.{IsOneOf};
 
 use crate::rows_read::ReadRows;
-use records::{CodedRow, lists};
+use type_records::{CodedRow, lists};
 use table_schema::Token;
 
 /// The record of a row that exists, of a table that its coded index lists.

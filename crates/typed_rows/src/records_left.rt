@@ -4,7 +4,7 @@ ghost use Rattle.metadata.specs.Metadata.{Metadata, rows_of, row_of};
 ghost use Rattle.typed_rows.specs.RowsLeft.{YieldsRow, rows_between};
 
 use crate::rows_read::ReadRows;
-use records::FromRow;
+use type_records::FromRow;
 use std::marker::{Model, PhantomData};
 
 /// The record of a row that exists.

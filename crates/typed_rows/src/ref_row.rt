@@ -1,7 +1,7 @@
 ghost use Rattle.typed_rows.specs.RefRows.{HoldsAt, SaysAt};
 
 use opening::{CellRef, TableId, Token};
-use records::Row;
+use type_records::Row;
 use table_schema::SigKind;
 
 /// The cells of a row. They borrow from the bytes that were opened.

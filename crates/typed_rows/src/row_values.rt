@@ -3,8 +3,8 @@ ghost use Rattle.table_schema.specs.CellColumns.{cell_count};
 ghost use Rattle.metadata.specs.Metadata.{Metadata, row_of, cell_in};
 ghost use Rattle.metadata.specs.Model.{IsModel};
 ghost use Rattle.opening.specs.Views.{row_count};
-ghost use Rattle.records.specs.Kinds.{kinds_of};
-ghost use Rattle.records.specs.Shapes.{AreHeld, AreSaid};
+ghost use Rattle.type_records.specs.Kinds.{kinds_of};
+ghost use Rattle.type_records.specs.Shapes.{AreHeld, AreSaid};
 ghost use Rattle.typed_rows.specs.RefRows.{IsShown, HoldsAt, SaysAt};
 
 use crate::ref_row::RefRow;
@@ -37,9 +37,9 @@ pub fn cells_of<'a>(view: &View<'a>, table: TableId, row: u32) -> RefRow<'a>
 {
     metadata::laws::models_are_read();
     metadata::laws::models_of_roots_are_valid();
-    records::laws::valid_rows_are_of_kinds();
-    records::laws::cells_have_kinds();
-    records::laws::blobs_say_signatures();
+    type_records::laws::valid_rows_are_of_kinds();
+    type_records::laws::cells_have_kinds();
+    type_records::laws::blobs_say_signatures();
     // The root has a model.
     let _root = view.root();
     RefRow {

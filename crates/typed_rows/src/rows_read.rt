@@ -6,7 +6,7 @@ ghost use Rattle.opening.specs.Views.{row_count as rows_of_root};
 use crate::ref_row::RefRow;
 use crate::row_values::cells_of;
 use opening::View;
-use records::Row;
+use type_records::Row;
 use table_schema::TableId;
 
 /// A reference to what holds the rows of one metadata. The parts of a row live as long as what it is read from.
@@ -15,8 +15,8 @@ pub trait ReadRows<'m> {
     ghost use Rattle.table_schema.specs.declared.table.TableId.{TableId as Table};
     ghost use Rattle.metadata.specs.Cell.{Cell as TheCell};
     ghost use Rattle.metadata.specs.Metadata.{Metadata, count_in, row_of};
-    ghost use Rattle.records.specs.Kinds.{kinds_of};
-    ghost use Rattle.records.specs.Shapes.{AreHeld, AreSaid};
+    ghost use Rattle.type_records.specs.Kinds.{kinds_of};
+    ghost use Rattle.type_records.specs.Shapes.{AreHeld, AreSaid};
 
     /// The form of its rows.
     type Form: Row<'m> + Drop;

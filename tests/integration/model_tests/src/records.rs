@@ -1,4 +1,4 @@
-//! Tests of the records of all 38 tables, by the public calls of `assembly_records`, `model_records`, `view_records`
+//! Tests of the records of all 38 tables, by the public calls of `records`, `model_records`, `view_records`
 //! and the crates below them.
 //!
 //! A root with a row of each table is laid out by the columns that `schema` lists. Its cells are read as records,

@@ -1,6 +1,6 @@
 use crate::records::field_names::shown_record;
 use crate::records::full_root::full_root;
-use assembly_records::{
+use records::{
     Assembly, AssemblyOS, AssemblyProcessor, AssemblyRef, AssemblyRefOS, AssemblyRefProcessor,
     ClassLayout, Constant, CustomAttribute, DeclSecurity, Event, EventMap, ExportedType, Field,
     FieldLayout, FieldMarshal, FieldRVA, File, GenericParam, GenericParamConstraint, ImplMap,

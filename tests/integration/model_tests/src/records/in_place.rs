@@ -1,5 +1,5 @@
 use crate::records::full_root::full_root;
-use assembly_records::{
+use records::{
     Assembly, AssemblyOS, AssemblyProcessor, AssemblyRef, AssemblyRefOS, AssemblyRefProcessor,
     ClassLayout, Constant, CustomAttribute, DeclSecurity, Event, EventMap, ExportedType, Field,
     FieldLayout, FieldMarshal, FieldRVA, File, FromRow, GenericParam, GenericParamConstraint,

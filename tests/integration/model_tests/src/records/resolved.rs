@@ -1,6 +1,6 @@
 use crate::records::field_names::shown_record;
 use crate::records::full_root::full_root;
-use assembly_records::{
+use records::{
     CellRow, CodedRow, CustomAttributeType, Implementation, MemberRefParent, MethodDefOrRef,
     ResolutionScope, TypeDefOrRef, TypeOrMethodDef,
 };

@@ -1,5 +1,5 @@
 use crate::records::laid_out::{BLOB, GUID, STRINGS, root_of};
-use assembly_records::{ExportedType, Field, MethodDef, Module, SigKind, TypeDef};
+use records::{ExportedType, Field, MethodDef, Module, SigKind, TypeDef};
 use loading::load_root;
 use opening::open_root;
 use signatures::decode;

@@ -1,5 +1,5 @@
 use Rattle.metadata.specs.Metadata.{row_of}
-use Rattle.records.specs.Kinds.{kinds_of}
+use Rattle.type_records.specs.Kinds.{kinds_of}
 use Rattle.typed_rows.proofs.RefRowLemmas.{row_is_one}
 use Rattle.typed_rows.proofs.rows_read.RefViewReadRows.row_at.Goals as goal
 

@@ -1,0 +1,156 @@
+ghost use Rattle.std.specs.Prelude.{◌≡◌, [], ◌∷◌, IfOk};
+ghost use Rattle.table_schema.specs.declared.table.TableId.TheVariants as table;
+ghost use Rattle.metadata.specs.Cell.{Number, Text, Bytes};
+ghost use Rattle.tables.specs.Said.{all_said};
+
+use type_records::{Cell, FieldValue, FromRow, Record, Row, TableId, owned_cells};
+use std::alloc::{AllocError, Global};
+
+/// This assembly, in at most one row (II.22.2).
+#[derive(Clone, Copy, Debug, PartialEq, Eq)]
+pub struct Assembly<'m> {
+    /// AssemblyHashAlgorithm (II.23.1.1).
+    pub hash_alg_id: u32,
+    /// The major version.
+    pub major_version: u32,
+    /// The minor version.
+    pub minor_version: u32,
+    /// The build number of its version.
+    pub build_number: u32,
+    /// The revision number of its version.
+    pub revision_number: u32,
+    /// AssemblyFlags (II.23.1.2).
+    pub flags: u32,
+    /// The public key of its publisher; empty if it has none.
+    pub public_key: &'m [u8],
+    /// Its name.
+    pub name: &'m str,
+    /// Its culture (II.23.1.3); empty if it is neutral.
+    pub culture: &'m str,
+}
+
+impl<'m, W: Row<'m>> FromRow<'m, W> for Assembly<'m> {
+    ghost table = { table.Assembly };
+
+    ghost fields = { λ r. Number r.hash_alg_id ∷ Number r.major_version ∷ Number r.minor_version
+        ∷ Number r.build_number ∷ Number r.revision_number ∷ Number r.flags ∷ Bytes r.public_key.now ∷ Text r.name.now
+        ∷ Text r.culture.now ∷ [] };
+
+    fn table_id() -> TableId
+        ensures { result ≡ table.Assembly }
+    {
+        TableId::Assembly
+    }
+
+    fn from_row(row: &W) -> Assembly<'m> {
+        Assembly {
+            hash_alg_id: row.number(0),
+            major_version: row.number(1),
+            minor_version: row.number(2),
+            build_number: row.number(3),
+            revision_number: row.number(4),
+            flags: row.number(5),
+            public_key: row.bytes(6),
+            name: row.text(7),
+            culture: row.text(8),
+        }
+    }
+}
+
+impl<'m> Record<'m> for Assembly<'m> {
+    fn cells(&self, alloc: Global) -> Result<Vec<Cell>, AllocError> {
+        owned_cells(
+            alloc,
+            &[
+                FieldValue::Number(self.hash_alg_id),
+                FieldValue::Number(self.major_version),
+                FieldValue::Number(self.minor_version),
+                FieldValue::Number(self.build_number),
+                FieldValue::Number(self.revision_number),
+                FieldValue::Number(self.flags),
+                FieldValue::Bytes(self.public_key),
+                FieldValue::Text(self.name),
+                FieldValue::Text(self.culture),
+            ],
+        )
+    }
+}
+
+/// A processor of this assembly (II.22.4). The standard says to ignore it.
+#[derive(Clone, Copy, Debug, PartialEq, Eq)]
+pub struct AssemblyProcessor {
+    /// The processor.
+    pub processor: u32,
+}
+
+impl<'m, W: Row<'m>> FromRow<'m, W> for AssemblyProcessor {
+    ghost table = { table.AssemblyProcessor };
+
+    ghost fields = { λ r. Number r.processor ∷ [] };
+
+    fn table_id() -> TableId
+        ensures { result ≡ table.AssemblyProcessor }
+    {
+        TableId::AssemblyProcessor
+    }
+
+    fn from_row(row: &W) -> AssemblyProcessor {
+        AssemblyProcessor {
+            processor: row.number(0),
+        }
+    }
+}
+
+impl<'m> Record<'m> for AssemblyProcessor {
+    fn cells(&self, alloc: Global) -> Result<Vec<Cell>, AllocError>
+        ensures { IfOk result (λ cells. all_said cells.items ≡ Number self.now.processor ∷ []) }
+    {
+        owned_cells(alloc, &[FieldValue::Number(self.processor)])
+    }
+}
+
+/// An operating system of this assembly (II.22.3). The standard says to ignore it.
+#[derive(Clone, Copy, Debug, PartialEq, Eq)]
+pub struct AssemblyOS {
+    /// The operating system.
+    pub os_platform_id: u32,
+    /// The major version of the operating system.
+    pub os_major_version: u32,
+    /// The minor version of the operating system.
+    pub os_minor_version: u32,
+}
+
+impl<'m, W: Row<'m>> FromRow<'m, W> for AssemblyOS {
+    ghost table = { table.AssemblyOS };
+
+    ghost fields = { λ r. Number r.os_platform_id ∷ Number r.os_major_version ∷ Number r.os_minor_version ∷ [] };
+
+    fn table_id() -> TableId
+        ensures { result ≡ table.AssemblyOS }
+    {
+        TableId::AssemblyOS
+    }
+
+    fn from_row(row: &W) -> AssemblyOS {
+        AssemblyOS {
+            os_platform_id: row.number(0),
+            os_major_version: row.number(1),
+            os_minor_version: row.number(2),
+        }
+    }
+}
+
+impl<'m> Record<'m> for AssemblyOS {
+    fn cells(&self, alloc: Global) -> Result<Vec<Cell>, AllocError>
+        ensures { IfOk result (λ cells. all_said cells.items ≡ Number self.now.os_platform_id ∷ Number self.now.os_major_version ∷ Number self.now.os_minor_version ∷ []) }
+    {
+        owned_cells(
+            alloc,
+            &[
+                FieldValue::Number(self.os_platform_id),
+                FieldValue::Number(self.os_major_version),
+                FieldValue::Number(self.os_minor_version),
+            ],
+        )
+    }
+}

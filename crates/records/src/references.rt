@@ -1,0 +1,248 @@
+ghost use Rattle.std.specs.Prelude.{◌≡◌, [], ◌∷◌, IfOk};
+ghost use Rattle.table_schema.specs.declared.table.TableId.TheVariants as table;
+ghost use Rattle.metadata.specs.Cell.{Number, Text, Bytes, Ref};
+ghost use Rattle.tables.specs.Said.{all_said};
+
+use type_records::{Cell, FieldValue, FromRow, Record, Row, TableId, Token, owned_cells};
+use std::alloc::{AllocError, Global};
+
+/// Another assembly (II.22.5).
+#[derive(Clone, Copy, Debug, PartialEq, Eq)]
+pub struct AssemblyRef<'m> {
+    /// The major version.
+    pub major_version: u32,
+    /// The minor version.
+    pub minor_version: u32,
+    /// The build number of its version.
+    pub build_number: u32,
+    /// The revision number of its version.
+    pub revision_number: u32,
+    /// AssemblyFlags (II.23.1.2), which say whether the key is complete.
+    pub flags: u32,
+    /// The public key of its publisher, or the token of that key; empty if it has none.
+    pub public_key_or_token: &'m [u8],
+    /// Its name.
+    pub name: &'m str,
+    /// Its culture (II.23.1.3); empty if it is neutral.
+    pub culture: &'m str,
+    /// The hash of its bytes; empty if none is given.
+    pub hash_value: &'m [u8],
+}
+
+impl<'m, W: Row<'m>> FromRow<'m, W> for AssemblyRef<'m> {
+    ghost table = { table.AssemblyRef };
+
+    ghost fields = { λ r. Number r.major_version ∷ Number r.minor_version ∷ Number r.build_number
+        ∷ Number r.revision_number ∷ Number r.flags ∷ Bytes r.public_key_or_token.now ∷ Text r.name.now
+        ∷ Text r.culture.now ∷ Bytes r.hash_value.now ∷ [] };
+
+    fn table_id() -> TableId
+        ensures { result ≡ table.AssemblyRef }
+    {
+        TableId::AssemblyRef
+    }
+
+    fn from_row(row: &W) -> AssemblyRef<'m> {
+        AssemblyRef {
+            major_version: row.number(0),
+            minor_version: row.number(1),
+            build_number: row.number(2),
+            revision_number: row.number(3),
+            flags: row.number(4),
+            public_key_or_token: row.bytes(5),
+            name: row.text(6),
+            culture: row.text(7),
+            hash_value: row.bytes(8),
+        }
+    }
+}
+
+impl<'m> Record<'m> for AssemblyRef<'m> {
+    fn cells(&self, alloc: Global) -> Result<Vec<Cell>, AllocError> {
+        owned_cells(
+            alloc,
+            &[
+                FieldValue::Number(self.major_version),
+                FieldValue::Number(self.minor_version),
+                FieldValue::Number(self.build_number),
+                FieldValue::Number(self.revision_number),
+                FieldValue::Number(self.flags),
+                FieldValue::Bytes(self.public_key_or_token),
+                FieldValue::Text(self.name),
+                FieldValue::Text(self.culture),
+                FieldValue::Bytes(self.hash_value),
+            ],
+        )
+    }
+}
+
+/// A processor of another assembly (II.22.7). The standard says to ignore it.
+#[derive(Clone, Copy, Debug, PartialEq, Eq)]
+pub struct AssemblyRefProcessor {
+    /// The processor.
+    pub processor: u32,
+    /// The assembly, in AssemblyRef.
+    pub assembly_ref: Option<Token>,
+}
+
+impl<'m, W: Row<'m>> FromRow<'m, W> for AssemblyRefProcessor {
+    ghost table = { table.AssemblyRefProcessor };
+
+    ghost fields = { λ r. Number r.processor ∷ Ref r.assembly_ref ∷ [] };
+
+    fn table_id() -> TableId
+        ensures { result ≡ table.AssemblyRefProcessor }
+    {
+        TableId::AssemblyRefProcessor
+    }
+
+    fn from_row(row: &W) -> AssemblyRefProcessor {
+        AssemblyRefProcessor {
+            processor: row.number(0),
+            assembly_ref: row.reference(1),
+        }
+    }
+}
+
+impl<'m> Record<'m> for AssemblyRefProcessor {
+    fn cells(&self, alloc: Global) -> Result<Vec<Cell>, AllocError>
+        ensures { IfOk result (λ cells. all_said cells.items ≡ Number self.now.processor ∷ Ref self.now.assembly_ref ∷ []) }
+    {
+        owned_cells(
+            alloc,
+            &[
+                FieldValue::Number(self.processor),
+                FieldValue::Ref(self.assembly_ref),
+            ],
+        )
+    }
+}
+
+/// An operating system of another assembly (II.22.6). The standard says to ignore it.
+#[derive(Clone, Copy, Debug, PartialEq, Eq)]
+pub struct AssemblyRefOS {
+    /// The operating system.
+    pub os_platform_id: u32,
+    /// The major version of the operating system.
+    pub os_major_version: u32,
+    /// The minor version of the operating system.
+    pub os_minor_version: u32,
+    /// The assembly, in AssemblyRef.
+    pub assembly_ref: Option<Token>,
+}
+
+impl<'m, W: Row<'m>> FromRow<'m, W> for AssemblyRefOS {
+    ghost table = { table.AssemblyRefOS };
+
+    ghost fields = { λ r. Number r.os_platform_id ∷ Number r.os_major_version ∷ Number r.os_minor_version
+        ∷ Ref r.assembly_ref ∷ [] };
+
+    fn table_id() -> TableId
+        ensures { result ≡ table.AssemblyRefOS }
+    {
+        TableId::AssemblyRefOS
+    }
+
+    fn from_row(row: &W) -> AssemblyRefOS {
+        AssemblyRefOS {
+            os_platform_id: row.number(0),
+            os_major_version: row.number(1),
+            os_minor_version: row.number(2),
+            assembly_ref: row.reference(3),
+        }
+    }
+}
+
+impl<'m> Record<'m> for AssemblyRefOS {
+    fn cells(&self, alloc: Global) -> Result<Vec<Cell>, AllocError>
+        ensures { IfOk result (λ cells. all_said cells.items ≡ Number self.now.os_platform_id ∷ Number self.now.os_major_version ∷ Number self.now.os_minor_version ∷ Ref self.now.assembly_ref ∷ []) }
+    {
+        owned_cells(
+            alloc,
+            &[
+                FieldValue::Number(self.os_platform_id),
+                FieldValue::Number(self.os_major_version),
+                FieldValue::Number(self.os_minor_version),
+                FieldValue::Ref(self.assembly_ref),
+            ],
+        )
+    }
+}
+
+/// Another module (II.22.31).
+#[derive(Clone, Copy, Debug, PartialEq, Eq)]
+pub struct ModuleRef<'m> {
+    /// The module's name, which a row of File repeats.
+    pub name: &'m str,
+}
+
+impl<'m, W: Row<'m>> FromRow<'m, W> for ModuleRef<'m> {
+    ghost table = { table.ModuleRef };
+
+    ghost fields = { λ r. Text r.name.now ∷ [] };
+
+    fn table_id() -> TableId
+        ensures { result ≡ table.ModuleRef }
+    {
+        TableId::ModuleRef
+    }
+
+    fn from_row(row: &W) -> ModuleRef<'m> {
+        ModuleRef { name: row.text(0) }
+    }
+}
+
+impl<'m> Record<'m> for ModuleRef<'m> {
+    fn cells(&self, alloc: Global) -> Result<Vec<Cell>, AllocError> {
+        owned_cells(alloc, &[FieldValue::Text(self.name)])
+    }
+}
+
+/// A method that is implemented in unmanaged code (II.22.22).
+#[derive(Clone, Copy, Debug, PartialEq, Eq)]
+pub struct ImplMap<'m> {
+    /// PInvokeAttributes (II.23.1.8).
+    pub mapping_flags: u32,
+    /// The method, a MethodDef. A Field is possible but not used.
+    pub member_forwarded: Option<Token>,
+    /// The name of the function in its module.
+    pub import_name: &'m str,
+    /// The module that exports it, in ModuleRef.
+    pub import_scope: Option<Token>,
+}
+
+impl<'m, W: Row<'m>> FromRow<'m, W> for ImplMap<'m> {
+    ghost table = { table.ImplMap };
+
+    ghost fields = { λ r. Number r.mapping_flags ∷ Ref r.member_forwarded ∷ Text r.import_name.now
+        ∷ Ref r.import_scope ∷ [] };
+
+    fn table_id() -> TableId
+        ensures { result ≡ table.ImplMap }
+    {
+        TableId::ImplMap
+    }
+
+    fn from_row(row: &W) -> ImplMap<'m> {
+        ImplMap {
+            mapping_flags: row.number(0),
+            member_forwarded: row.reference(1),
+            import_name: row.text(2),
+            import_scope: row.reference(3),
+        }
+    }
+}
+
+impl<'m> Record<'m> for ImplMap<'m> {
+    fn cells(&self, alloc: Global) -> Result<Vec<Cell>, AllocError> {
+        owned_cells(
+            alloc,
+            &[
+                FieldValue::Number(self.mapping_flags),
+                FieldValue::Ref(self.member_forwarded),
+                FieldValue::Text(self.import_name),
+                FieldValue::Ref(self.import_scope),
+            ],
+        )
+    }
+}

@@ -1,0 +1,354 @@
+ghost use Rattle.std.specs.Prelude.{◌≡◌, [], ◌∷◌, Some, IfOk};
+ghost use Rattle.table_schema.specs.declared.table.TableId.TheVariants as table;
+ghost use Rattle.table_schema.specs.declared.column.SigKind.TheVariants as column;
+ghost use Rattle.metadata.specs.Cell.{Number, Text, Guid, Ref, Start, Sig};
+ghost use Rattle.tables.specs.Said.{all_said};
+ghost use Rattle.type_records.specs.Names.{full_name};
+
+use crate::field_value::{FieldValue, owned_cells};
+use crate::record::{FromRow, Record};
+use crate::row::Row;
+use crate::signature::IsSignature;
+use std::alloc::{AllocError, Global};
+use std::fmt;
+use table_schema::{SigKind, TableId};
+use tables::{Cell, Signature, Token};
+
+/// This module, the only row of its table (II.22.30).
+#[derive(Clone, Copy, Debug, PartialEq, Eq)]
+pub struct Module<'m> {
+    /// Reserved: 0.
+    pub generation: u32,
+    /// The module's name, with its extension.
+    pub name: &'m str,
+    /// A GUID that identifies this version of the module.
+    pub mvid: Option<[u8; 16]>,
+    /// Reserved: null.
+    pub enc_id: Option<[u8; 16]>,
+    /// Reserved: null.
+    pub enc_base_id: Option<[u8; 16]>,
+}
+
+impl<'m, W: Row<'m>> FromRow<'m, W> for Module<'m> {
+    ghost table = { table.Module };
+
+    ghost fields = { λ r. Number r.generation ∷ Text r.name.now ∷ Guid r.mvid ∷ Guid r.enc_id ∷ Guid r.enc_base_id
+        ∷ [] };
+
+    fn table_id() -> TableId
+        ensures { result ≡ table.Module }
+    {
+        TableId::Module
+    }
+
+    fn from_row(row: &W) -> Module<'m> {
+        Module {
+            generation: row.number(0),
+            name: row.text(1),
+            mvid: row.guid(2),
+            enc_id: row.guid(3),
+            enc_base_id: row.guid(4),
+        }
+    }
+}
+
+impl<'m> Record<'m> for Module<'m> {
+    fn cells(&self, alloc: Global) -> Result<Vec<Cell>, AllocError> {
+        owned_cells(
+            alloc,
+            &[
+                FieldValue::Number(self.generation),
+                FieldValue::Text(self.name),
+                FieldValue::Guid(self.mvid),
+                FieldValue::Guid(self.enc_id),
+                FieldValue::Guid(self.enc_base_id),
+            ],
+        )
+    }
+}
+
+/// A type of another module or assembly (II.22.38).
+#[derive(Clone, Copy, Debug, PartialEq, Eq)]
+pub struct TypeRef<'m> {
+    /// The scope of the type: this module, a ModuleRef, an AssemblyRef, or the TypeRef that encloses it. If it is null,
+    /// a row of ExportedType gives the scope.
+    pub resolution_scope: Option<Token>,
+    /// The type's name.
+    pub type_name: &'m str,
+    /// Its namespace; empty if it has none.
+    pub type_namespace: &'m str,
+}
+
+impl<'m, W: Row<'m>> FromRow<'m, W> for TypeRef<'m> {
+    ghost table = { table.TypeRef };
+
+    ghost fields = { λ r. Ref r.resolution_scope ∷ Text r.type_name.now ∷ Text r.type_namespace.now ∷ [] };
+
+    fn table_id() -> TableId
+        ensures { result ≡ table.TypeRef }
+    {
+        TableId::TypeRef
+    }
+
+    fn from_row(row: &W) -> TypeRef<'m> {
+        TypeRef {
+            resolution_scope: row.reference(0),
+            type_name: row.text(1),
+            type_namespace: row.text(2),
+        }
+    }
+}
+
+impl<'m> Record<'m> for TypeRef<'m> {
+    fn cells(&self, alloc: Global) -> Result<Vec<Cell>, AllocError> {
+        owned_cells(
+            alloc,
+            &[
+                FieldValue::Ref(self.resolution_scope),
+                FieldValue::Text(self.type_name),
+                FieldValue::Text(self.type_namespace),
+            ],
+        )
+    }
+}
+
+/// The full name of the type: the namespace and a dot, unless the namespace is empty, then the name.
+impl fmt::Display for TypeRef<'_> {
+    ghost output = { λ r. Some (full_name r.type_namespace.now r.type_name.now) };
+
+    fn fmt<W: fmt::Write>(&self, f: &mut fmt::Formatter<W>) -> fmt::Result {
+        let (namespace, name) = (self.type_namespace, self.type_name);
+        if namespace.is_empty() {
+            return write!(f, "{name}");
+        }
+        write!(f, "{namespace}.{name}")
+    }
+}
+
+/// A type of this module (II.22.37).
+#[derive(Clone, Copy, Debug, PartialEq, Eq)]
+pub struct TypeDef<'m> {
+    /// TypeAttributes (II.23.1.15).
+    pub flags: u32,
+    /// The type's name.
+    pub type_name: &'m str,
+    /// Its namespace; empty if it has none.
+    pub type_namespace: &'m str,
+    /// The type that it extends; null for `System.Object`, an interface and `<Module>`.
+    pub extends: Option<Token>,
+    /// The first of its fields, in Field.
+    pub field_list: u32,
+    /// The first of its methods, in MethodDef.
+    pub method_list: u32,
+}
+
+impl<'m, W: Row<'m>> FromRow<'m, W> for TypeDef<'m> {
+    ghost table = { table.TypeDef };
+
+    ghost fields = { λ r. Number r.flags ∷ Text r.type_name.now ∷ Text r.type_namespace.now ∷ Ref r.extends
+        ∷ Start r.field_list ∷ Start r.method_list ∷ [] };
+
+    fn table_id() -> TableId
+        ensures { result ≡ table.TypeDef }
+    {
+        TableId::TypeDef
+    }
+
+    fn from_row(row: &W) -> TypeDef<'m> {
+        TypeDef {
+            flags: row.number(0),
+            type_name: row.text(1),
+            type_namespace: row.text(2),
+            extends: row.reference(3),
+            field_list: row.start(4),
+            method_list: row.start(5),
+        }
+    }
+}
+
+impl<'m> Record<'m> for TypeDef<'m> {
+    fn cells(&self, alloc: Global) -> Result<Vec<Cell>, AllocError> {
+        owned_cells(
+            alloc,
+            &[
+                FieldValue::Number(self.flags),
+                FieldValue::Text(self.type_name),
+                FieldValue::Text(self.type_namespace),
+                FieldValue::Ref(self.extends),
+                FieldValue::Start(self.field_list),
+                FieldValue::Start(self.method_list),
+            ],
+        )
+    }
+}
+
+/// The full name of the type: the namespace and a dot, unless the namespace is empty, then the name.
+impl fmt::Display for TypeDef<'_> {
+    ghost output = { λ r. Some (full_name r.type_namespace.now r.type_name.now) };
+
+    fn fmt<W: fmt::Write>(&self, f: &mut fmt::Formatter<W>) -> fmt::Result {
+        let (namespace, name) = (self.type_namespace, self.type_name);
+        if namespace.is_empty() {
+            return write!(f, "{name}");
+        }
+        write!(f, "{namespace}.{name}")
+    }
+}
+
+/// An interface that a type of this module implements (II.22.23).
+#[derive(Clone, Copy, Debug, PartialEq, Eq)]
+pub struct InterfaceImpl {
+    /// The type, in TypeDef.
+    pub class: Option<Token>,
+    /// The interface: a TypeDef, TypeRef or TypeSpec.
+    pub interface: Option<Token>,
+}
+
+impl<'m, W: Row<'m>> FromRow<'m, W> for InterfaceImpl {
+    ghost table = { table.InterfaceImpl };
+
+    ghost fields = { λ r. Ref r.class ∷ Ref r.interface ∷ [] };
+
+    fn table_id() -> TableId
+        ensures { result ≡ table.InterfaceImpl }
+    {
+        TableId::InterfaceImpl
+    }
+
+    fn from_row(row: &W) -> InterfaceImpl {
+        InterfaceImpl {
+            class: row.reference(0),
+            interface: row.reference(1),
+        }
+    }
+}
+
+impl<'m> Record<'m> for InterfaceImpl {
+    fn cells(&self, alloc: Global) -> Result<Vec<Cell>, AllocError>
+        ensures { IfOk result (λ cells. all_said cells.items ≡ Ref self.now.class ∷ Ref self.now.interface ∷ []) }
+    {
+        owned_cells(
+            alloc,
+            &[FieldValue::Ref(self.class), FieldValue::Ref(self.interface)],
+        )
+    }
+}
+
+/// A type that is nested in another (II.22.32).
+#[derive(Clone, Copy, Debug, PartialEq, Eq)]
+pub struct NestedClass {
+    /// The type, in TypeDef.
+    pub nested_class: Option<Token>,
+    /// The type that encloses it, in TypeDef.
+    pub enclosing_class: Option<Token>,
+}
+
+impl<'m, W: Row<'m>> FromRow<'m, W> for NestedClass {
+    ghost table = { table.NestedClass };
+
+    ghost fields = { λ r. Ref r.nested_class ∷ Ref r.enclosing_class ∷ [] };
+
+    fn table_id() -> TableId
+        ensures { result ≡ table.NestedClass }
+    {
+        TableId::NestedClass
+    }
+
+    fn from_row(row: &W) -> NestedClass {
+        NestedClass {
+            nested_class: row.reference(0),
+            enclosing_class: row.reference(1),
+        }
+    }
+}
+
+impl<'m> Record<'m> for NestedClass {
+    fn cells(&self, alloc: Global) -> Result<Vec<Cell>, AllocError>
+        ensures { IfOk result (λ cells. all_said cells.items ≡ Ref self.now.nested_class ∷ Ref self.now.enclosing_class ∷ []) }
+    {
+        owned_cells(
+            alloc,
+            &[
+                FieldValue::Ref(self.nested_class),
+                FieldValue::Ref(self.enclosing_class),
+            ],
+        )
+    }
+}
+
+/// The layout of a type in memory (II.22.8).
+#[derive(Clone, Copy, Debug, PartialEq, Eq)]
+pub struct ClassLayout {
+    /// The alignment of its fields in bytes, a power of two up to 128; 0 if the runtime chooses.
+    pub packing_size: u32,
+    /// Its size in bytes; 0 if the runtime chooses.
+    pub class_size: u32,
+    /// The type, in TypeDef.
+    pub parent: Option<Token>,
+}
+
+impl<'m, W: Row<'m>> FromRow<'m, W> for ClassLayout {
+    ghost table = { table.ClassLayout };
+
+    ghost fields = { λ r. Number r.packing_size ∷ Number r.class_size ∷ Ref r.parent ∷ [] };
+
+    fn table_id() -> TableId
+        ensures { result ≡ table.ClassLayout }
+    {
+        TableId::ClassLayout
+    }
+
+    fn from_row(row: &W) -> ClassLayout {
+        ClassLayout {
+            packing_size: row.number(0),
+            class_size: row.number(1),
+            parent: row.reference(2),
+        }
+    }
+}
+
+impl<'m> Record<'m> for ClassLayout {
+    fn cells(&self, alloc: Global) -> Result<Vec<Cell>, AllocError>
+        ensures { IfOk result (λ cells. all_said cells.items ≡ Number self.now.packing_size ∷ Number self.now.class_size ∷ Ref self.now.parent ∷ []) }
+    {
+        owned_cells(
+            alloc,
+            &[
+                FieldValue::Number(self.packing_size),
+                FieldValue::Number(self.class_size),
+                FieldValue::Ref(self.parent),
+            ],
+        )
+    }
+}
+
+/// A type that is given by a signature (II.22.39).
+#[derive(Clone, Copy, Debug, PartialEq, Eq)]
+pub struct TypeSpec<S> {
+    /// The type (II.23.2.14).
+    pub signature: S,
+}
+
+impl<'m, S: IsSignature, W: Row<'m, Signature = S>> FromRow<'m, W> for TypeSpec<S> {
+    ghost table = { table.TypeSpec };
+
+    ghost fields = { λ r. Sig (S.body column.TypeSpec r.signature) ∷ [] };
+
+    fn table_id() -> TableId
+        ensures { result ≡ table.TypeSpec }
+    {
+        TableId::TypeSpec
+    }
+
+    fn from_row(row: &W) -> TypeSpec<S> {
+        TypeSpec {
+            signature: row.signature(0, SigKind::TypeSpec),
+        }
+    }
+}
+
+impl<'m> Record<'m> for TypeSpec<&'m Signature> {
+    fn cells(&self, alloc: Global) -> Result<Vec<Cell>, AllocError> {
+        owned_cells(alloc, &[FieldValue::Sig(self.signature)])
+    }
+}
