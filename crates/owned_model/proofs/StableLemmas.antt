@@ -225,8 +225,8 @@ stable_owners model owner cell_index member h = record {
 tag_is : (shifted tag n : ℕ) → n ≡ shifted + tag → tag ≡ n - shifted
 tag_is shifted tag n e = omega arith
 
-rest_is : (shifted tag n : ℕ) → n ≡ shifted + tag → n ≡ shifted + (n - shifted)
-rest_is shifted tag n e = omega arith
+tail_is : (shifted tag n : ℕ) → n ≡ shifted + tag → n ≡ shifted + (n - shifted)
+tail_is shifted tag n e = omega arith
 
 module _ (stand : (table : TableId) → slice_index_or tables (table_index_of table) Module ≡ table) where
   decided_table : (a b : TableId) → (a ≡ b) ⊎ (¬ (a ≡ b))
@@ -272,7 +272,7 @@ module _ (stand : (table : TableId) → slice_index_or tables (table_index_of ta
         tag = n - shifted;
         listed = stable_found (slice_get (tables_of coded) (n - shifted)) table
             (so h (λ is. subst (λ t. slice_get (tables_of coded) t ≡ Some (Some table)) (tag_is shifted is.tag n is.equal) is.listed));
-        equal = stable_eq n (shifted + (n - shifted)) (so h (λ is. rest_is shifted is.tag n is.equal));
+        equal = stable_eq n (shifted + (n - shifted)) (so h (λ is. tail_is shifted is.tag n is.equal));
       }
 
   stable_part : (part : Part) → Stable (HasEncoding part)

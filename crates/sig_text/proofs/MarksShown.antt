@@ -41,7 +41,7 @@ split_at (suc h) k (suc m) b e = of_mark (mark_at b) refl (λ c. split_at h k m 
     of_mark : (o : Option (Prefix × List ℕ)) → mark_at b ≡ o → ((c : List ℕ) → marks_in m c ≡ ((marks_in h c).0 ++ (marks_in k (marks_in h c).1).0, (marks_in k (marks_in h c).1).1))
         → after_mark (marks_in m) b o ≡ ((after_mark (marks_in h) b o).0 ++ (marks_in k (after_mark (marks_in h) b o).1).0, (marks_in k (after_mark (marks_in h) b o).1).1)
     of_mark None f more = let end = none_in k b f in rw end refl
-    of_mark (Some x) f more = let rest = more x.1 in rw rest refl
+    of_mark (Some x) f more = let tail = more x.1 in rw tail refl
 
 last_mark : (d : List ℕ) (p : Prefix) (c : List ℕ) → mark_at d ≡ Some (p, c) → marks_in 1 d ≡ (p ∷ [], c)
 unfolding marks_in

@@ -31,7 +31,7 @@ module _ {A : Type 0} (r : Reader A) (read : List ℕ → A × List ℕ) (same :
         where
           of_list : (x : A × List ℕ) (y : List A × List ℕ) (zs : List A) → ◌≡◌ {A = Option (List A × List ℕ)} (Some (x.0 ∷ y.0, y.1)) (Some (zs, c)) → (Some x.0 ≡ slice_get zs 0) × (Some y ≡ Some (drop 1 zs, c))
           of_list x y [] g = let p : ◌≡◌ {A = List A × List ℕ} (x.0 ∷ y.0, y.1) ([], c) = cc in let heads : (x.0 ∷ y.0) ≡ [] = ap (λ (w : List A × List ℕ). w.0) p in absurd cc
-          of_list x y (z ∷ zs) g = let p : ◌≡◌ {A = List A × List ℕ} (x.0 ∷ y.0, y.1) (z ∷ zs, c) = cc in let heads : (x.0 ∷ y.0) ≡ (z ∷ zs) = ap (λ (w : List A × List ℕ). w.0) p in let ends : y.1 ≡ c = ap (λ (w : List A × List ℕ). w.1) p in let one : x.0 ≡ z = cc in let rest : y.0 ≡ zs = cc in (ap (λ (w : A). Some w) one, ap2 rest ends)
+          of_list x y (z ∷ zs) g = let p : ◌≡◌ {A = List A × List ℕ} (x.0 ∷ y.0, y.1) (z ∷ zs, c) = cc in let heads : (x.0 ∷ y.0) ≡ (z ∷ zs) = ap (λ (w : List A × List ℕ). w.0) p in let ends : y.1 ≡ c = ap (λ (w : List A × List ℕ). w.1) p in let one : x.0 ≡ z = cc in let tails : y.0 ≡ zs = cc in (ap (λ (w : A). Some w) one, ap2 tails ends)
             where
               ap2 : y.0 ≡ zs → y.1 ≡ c → Some y ≡ Some (zs, c)
               ap2 f h = λ i. Some (f i, h i)
