@@ -192,6 +192,14 @@ static class Tests
                     var listed = assembly.ByKey<CustomAttributeRow>(attributes.Key).Select(it => it.Token);
                     Expect(listed.SequenceEqual(attributes.Select(it => it.Token)), "the attributes of " + attributes.Key);
                 }
+            Newer("clim_signature_text", () =>
+            {
+                foreach (var table in new[] {
+                    TableId.Field, TableId.MethodDef, TableId.MemberRef, TableId.StandAloneSig, TableId.Property,
+                    TableId.TypeSpec, TableId.MethodSpec })
+                    Expect(assembly.Count(table) == 0 || assembly.SignatureText(new Token(table, 1)) != null,
+                        "the text of a signature of " + table);
+            });
             Expect(methods == assembly.Count(TableId.MethodDef) && types == assembly.Count(TableId.TypeDef), "all rows");
         }
         Check(failed == before, "the names of " + path);

@@ -455,6 +455,12 @@ class Features(unittest.TestCase):
                 self.assertIn("int32", signature.text)
         self.assertRaises(ValueError, lambda: signature.text)
         self.assertRaises(ValueError, lambda: clim.Signature(b"").text)
+        for path, assembly in opened():
+            for table in assembly:
+                for row in table[:: len(table) // 50 + 1]:
+                    for cell in row.cells().values():
+                        if isinstance(cell, clim.Signature) and clim.supports("clim_signature_text"):
+                            self.assertNotEqual(cell.text, "", (path, row))
 
     def test_user_string(self):
         with clim.open(self.with_user_strings(), bare=True) as assembly:

@@ -231,6 +231,17 @@ fn texts_in_a_buffer() {
             assert_eq!(view.signature_text(Token { table, row }), Ok(None));
         }
     }
+    each(|view| {
+        let signed = [
+            Table::Field, Table::MethodDef, Table::MemberRef, Table::StandAloneSig, Table::Property, Table::TypeSpec,
+            Table::MethodSpec,
+        ];
+        for table in Table::ALL.into_iter().filter(|&it| view.count(it) > 0) {
+            if let Ok(text) = view.signature_text(Token { table, row: view.count(table) }) {
+                assert_eq!(text.is_some(), signed.contains(&table), "{table}");
+            }
+        }
+    });
     if has(clim_sys::HAS_USER_STRING, "clim_user_string", view.user_string(0x7000_0001)) {
         assert_eq!(view.user_string(0x7000_0001), Ok(None));
         assert_eq!(view.user_string(0x0200_0001), Ok(None));
