@@ -16,6 +16,15 @@
  * microseconds, for a small file and for one of 5 MB alike. clim_find_type also scans a table, at 6 nanoseconds per
  * type. In a call of clim_cells a cell takes about 20 nanoseconds. So read whole columns if you need many cells.
  *
+ * Errors: clim_check, clim_open, clim_read_header and their variants return false and write a clim_fault, or say that a
+ * budget is spent. Any other call has no error: for a view that is not open, and for a number that names nothing, it
+ * returns false, 0 or no bytes. A fault has no table, row or column, only the offset of what is wrong.
+ *
+ * Sizes: a clim_view has 5,208 bytes. No call needs memory but its stack, which was measured and is not proved: up to
+ * 256 kB in the calls that check or open (90 kB, and more for types that are nested in a signature, at most 128 deep),
+ * up to 192 kB in clim_signature_text, and up to 48 kB in any other call. So a thread needs CLIM_STACK bytes beside its
+ * own. Any file overruns a stack of 64 kB, and a crafted file one of 128 kB.
+ *
  * A caller must ensure the following. Nothing checks it:
  *   - No pointer is null, even if the length after it is 0. Use "" then.
  *   - A pointer and a length describe that number of bytes or items. Nobody writes them during the call.
@@ -378,6 +387,9 @@ enum clim_generic_param_constraint_column {
 /* The version of this header. It changes if a program that was compiled before can no longer use the library. */
 #define CLIM_ABI_VERSION 1
 
+/* The stack that a call needs at most, in bytes. */
+#define CLIM_STACK 262144
+
 #define CLIM_NO_BYTES {(const uint8_t *)"", 0}
 #define CLIM_NO_FAULT {0, 0, 0}
 #define CLIM_NO_CELL {CLIM_NO_BYTES, 0, CLIM_NO_KIND, 0, {0}}
@@ -419,8 +431,8 @@ bool clim_open_root(const uint8_t *root, size_t len, clim_view *view, clim_fault
  * *spent is set to whether the budget did not suffice. If it did not, the call returns false and *fault is unchanged.
  * That happens only if the signature blobs of all rows together are longer than the budget, and the rules before
  * those of signatures hold. In any other case the call returns and writes what clim_check does. A blob counts its
- * length each time that it is checked; one that was accepted shortly before is free. 64 times the size of the file is
- * far more than any compiler's file needs. */
+ * length each time that it is checked; one that was accepted shortly before is free. Files of
+ * compilers need less than their own size, as far as they were tried. */
 bool clim_check_within(const uint8_t *file, size_t len, uint64_t budget, clim_fault *fault, bool *spent);
 
 /* The same for a bare metadata root. */

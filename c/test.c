@@ -20,6 +20,7 @@
 #include <string.h>
 #include <sys/mman.h>
 #include <time.h>
+#include <ucontext.h>
 #include <unistd.h>
 
 _Static_assert(sizeof(clim_bytes) == 16, "clim_bytes");
@@ -595,6 +596,75 @@ static void ask_signatures(const clim_view *view, uint8_t table) {
     CHECK(clim_signature_text(view, table, 1, SIZE_MAX, NULL_BUFFER, 0) == 0);
 }
 
+/* ---- the stack that clim.h says */
+
+#if defined(__SANITIZE_ADDRESS__)
+#define HAS_OWN_STACK 0
+#elif defined(__has_feature)
+#if __has_feature(address_sanitizer)
+#define HAS_OWN_STACK 0
+#else
+#define HAS_OWN_STACK 1
+#endif
+#else
+#define HAS_OWN_STACK 1
+#endif
+
+static ucontext_t caller, callee;
+static guarded deep;
+static bool deep_same;
+
+/* Opens a root with one signature that is as deep as it may be, and writes the signature. */
+static void open_deep(void) {
+    static uint8_t text[1 << 16];
+    clim_view view = CLOSED;
+    clim_fault fault = CLIM_NO_FAULT;
+    bool spent = true;
+    deep_same = clim_check_root(deep.at, deep.len, &fault) && clim_open_root(deep.at, deep.len, &view, &fault);
+    deep_same &= clim_open_root_within(deep.at, deep.len, deep.len, &view, &fault, &spent) && !spent;
+    size_t len = clim_signature_text(&view, CLIM_TYPE_SPEC, 1, CLIM_TYPE_SPEC_SIGNATURE, text, sizeof text);
+    deep_same &= len > 127 && len <= sizeof text;
+}
+
+/* A call on a stack of this many bytes; the page before them may not be written. */
+static void call_on_stack(size_t len, void (*call)(void)) {
+    size_t page = (size_t)sysconf(_SC_PAGESIZE);
+    uint8_t *pages = mmap(NULL, len + page, PROT_READ | PROT_WRITE, MAP_PRIVATE | MAP_ANONYMOUS, -1, 0);
+    if (pages == MAP_FAILED || mprotect(pages, page, PROT_NONE) != 0 || getcontext(&callee) != 0) stop("no stack");
+    callee.uc_stack.ss_sp = pages + page;
+    callee.uc_stack.ss_size = len;
+    callee.uc_link = &caller;
+    makecontext(&callee, call, 0);
+    if (swapcontext(&caller, &callee) != 0) stop("no stack");
+    munmap(pages, len + page);
+}
+
+/* Types in a signature nest at most 128 deep (II.23.2). Opening such a root needs the most stack. */
+static void ask_deep(void) {
+    static const struct { uint8_t len, bytes[4]; } kinds[] = {
+        {3, {0x1B, 0, 0}}, {4, {0x1B, 0, 1, 1}}, {1, {0x1D}}, {1, {0x0F}}};
+    static const uint8_t header[] = {
+        0x42, 0x53, 0x4A, 0x42, 1, 0, 1, 0, 0, 0, 0, 0, 4, 0, 0, 0, 'v', 0, 0, 0, 0, 0, 2, 0,
+        52, 0, 0, 0, 32, 0, 0, 0, '#', '~', 0, 0, 84, 0, 0, 0, 0, 0, 0, 0, '#', 'B', 'l', 'o', 'b', 0, 0, 0,
+        0, 0, 0, 0, 2, 0, 0, 1, 0, 0, 0, 8, 0, 0, 0, 0, 0, 0, 0, 0, 0, 0, 0, 0, 1, 0, 0, 0, 1, 0, 0, 0, 0};
+    for (size_t i = 0; i < sizeof kinds / sizeof *kinds; i++) {
+        size_t len = 127 * (size_t)kinds[i].len + 1;
+        deep = guard(sizeof header + 2 + len);
+        uint8_t *at = deep.at + sizeof header;
+        memcpy(deep.at, header, sizeof header);
+        deep.at[40] = (uint8_t)(len + 3);
+        deep.at[41] = (uint8_t)((len + 3) >> 8);
+        at[0] = (uint8_t)(0x80 | len >> 8);
+        at[1] = (uint8_t)len;
+        for (size_t k = 0; k < 127; k++) memcpy(at + 2 + k * kinds[i].len, kinds[i].bytes, kinds[i].len);
+        at[len + 1] = 0x08;
+        if (HAS_OWN_STACK) call_on_stack(CLIM_STACK, open_deep);
+        else open_deep();
+        CHECK(deep_same);
+        munmap(deep.pages, deep.room);
+    }
+}
+
 /* The header names the root of the view. */
 static void ask_header(guarded file, const clim_view *view) {
     clim_header header = CLIM_NO_HEADER;
@@ -661,6 +731,7 @@ static void calls(guarded file, clim_view *view, bool bare) {
     ask_within(file, view, bare);
     ask_guids();
     ask_padded();
+    ask_deep();
     ask_streams(view);
     ask_user_strings(view);
 }
