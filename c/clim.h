@@ -5,7 +5,7 @@
  *     clim_cell cell = CLIM_NO_CELL;
  *     if (clim_open(file, len, &view, &fault))
  *         for (uint32_t row = 1; row <= clim_count(&view, CLIM_TYPE_DEF); row++)
- *             if (clim_cell_at(&view, CLIM_TYPE_DEF, row, 1, &cell))
+ *             if (clim_cell_at(&view, CLIM_TYPE_DEF, row, CLIM_TYPE_DEF_TYPE_NAME, &cell))
  *                 printf("%.*s\n", (int)cell.bytes.len, (const char *)cell.bytes.at);
  *
  * Each function is proved for any bytes and any numbers. It returns, it writes only what is stated below, and its
@@ -13,8 +13,9 @@
  * may call them at the same time. Rows count from 1. Columns, which are the cells of a row, count from 0.
  *
  * A call on a view reads the directory of the root and the row counts again, but no heap. It takes about 3
- * microseconds, for a small file and for one of 5 MB alike. clim_find_type also scans a table, at 6 nanoseconds per
- * type. In a call of clim_cells a cell takes about 20 nanoseconds. So read whole columns if you need many cells.
+ * microseconds, for a small file and for one of 5 MB alike; a crafted root of 200 kB with 16,000 stream headers makes
+ * it 3 to 6 milliseconds. clim_find_type also scans a table, at 6 nanoseconds per type. In a call of clim_cells a
+ * cell takes about 20 nanoseconds. So read whole columns if you need many cells.
  *
  * Errors: clim_check, clim_open, clim_read_header and their variants return false and write a clim_fault, or say that a
  * budget is spent. Any other call has no error: for a view that is not open, and for a number that names nothing, it
@@ -431,8 +432,8 @@ bool clim_open_root(const uint8_t *root, size_t len, clim_view *view, clim_fault
  * *spent is set to whether the budget did not suffice. If it did not, the call returns false and *fault is unchanged.
  * That happens only if the signature blobs of all rows together are longer than the budget, and the rules before
  * those of signatures hold. In any other case the call returns and writes what clim_check does. A blob counts its
- * length each time that it is checked; one that was accepted shortly before is free. Files of
- * compilers need less than their own size, as far as they were tried. */
+ * length each time that it is checked; one that was accepted shortly before is free. The samples of this library need
+ * a budget below their own size. */
 bool clim_check_within(const uint8_t *file, size_t len, uint64_t budget, clim_fault *fault, bool *spent);
 
 /* The same for a bare metadata root. */
@@ -453,8 +454,8 @@ void clim_fault_name(uint16_t code, clim_bytes *name);
 /* Writes the text that explains a rule into buffer[0] to buffer[room - 1]; characters that do not fit are left out.
  * It is what clim explain prints, but no line is broken: the number and the name of the rule and what is wrong, an
  * empty line, and a line each for the rule, its section, where the offset of a fault points, and the usual cause,
- * each ending in a line feed. Returns the length of the whole text, which can be more than room, and at most 2,000
- * today. No NUL follows it. Returns 0 if no rule has the number; the buffer is then unchanged. */
+ * each ending in a line feed. Returns the length of the whole text, which can be more than room, and is below
+ * 1,000 today. No NUL follows it. Returns 0 if no rule has the number; the buffer is then unchanged. */
 size_t clim_explain(uint16_t code, uint8_t *buffer, size_t room);
 
 /* Writes the name of a table, for example "TypeDef"; no bytes if no table has the number. The bytes belong to the
@@ -478,8 +479,9 @@ void clim_user(const clim_view *view, clim_bytes *user);
  * the headers in the root. */
 size_t clim_stream_count(const clim_view *view);
 
-/* Writes *stream, the stream header with an index, from 0, in the order of the root. False if the view is not open,
- * or has fewer headers; then *stream is unchanged. Reads *view and the headers up to this one. */
+/* Writes *stream, the stream header with an index, from 0, in the order of the root. False if the view is not open, or
+ * has fewer headers; then *stream is unchanged. Reads *view and all headers. So reading them one after another takes
+ * time that grows with the square of their number: of a root of a stranger, read no more than you need. */
 bool clim_stream(const clim_view *view, size_t index, clim_stream_header *stream);
 
 /* The flag of a user string of no bytes, which has no last byte. */

@@ -639,29 +639,51 @@ static void call_on_stack(size_t len, void (*call)(void)) {
     munmap(pages, len + page);
 }
 
-/* Types in a signature nest at most 128 deep (II.23.2). Opening such a root needs the most stack. */
-static void ask_deep(void) {
-    static const struct { uint8_t len, bytes[4]; } kinds[] = {
-        {3, {0x1B, 0, 0}}, {4, {0x1B, 0, 1, 1}}, {1, {0x1D}}, {1, {0x0F}}};
+/* A root with one row of TypeSpec, which has this signature. */
+static guarded root_of(const uint8_t *signature, size_t len) {
     static const uint8_t header[] = {
         0x42, 0x53, 0x4A, 0x42, 1, 0, 1, 0, 0, 0, 0, 0, 4, 0, 0, 0, 'v', 0, 0, 0, 0, 0, 2, 0,
         52, 0, 0, 0, 32, 0, 0, 0, '#', '~', 0, 0, 84, 0, 0, 0, 0, 0, 0, 0, '#', 'B', 'l', 'o', 'b', 0, 0, 0,
         0, 0, 0, 0, 2, 0, 0, 1, 0, 0, 0, 8, 0, 0, 0, 0, 0, 0, 0, 0, 0, 0, 0, 0, 1, 0, 0, 0, 1, 0, 0, 0, 0};
+    guarded root = guard(sizeof header + 2 + len);
+    memcpy(root.at, header, sizeof header);
+    root.at[40] = (uint8_t)(len + 3);
+    root.at[41] = (uint8_t)((len + 3) >> 8);
+    root.at[sizeof header] = (uint8_t)(0x80 | len >> 8);
+    root.at[sizeof header + 1] = (uint8_t)len;
+    memcpy(root.at + sizeof header + 2, signature, len);
+    return root;
+}
+
+/* Types in a signature nest at most 128 deep (II.23.2). Opening such a root needs the most stack. */
+static void ask_deep(void) {
+    static const struct { uint8_t len, bytes[4]; } kinds[] = {{3, {0x1B, 0, 0}}, {4, {0x1B, 0, 1, 1}}, {1, {0x1D}}, {1, {0x0F}}};
     for (size_t i = 0; i < sizeof kinds / sizeof *kinds; i++) {
-        size_t len = 127 * (size_t)kinds[i].len + 1;
-        deep = guard(sizeof header + 2 + len);
-        uint8_t *at = deep.at + sizeof header;
-        memcpy(deep.at, header, sizeof header);
-        deep.at[40] = (uint8_t)(len + 3);
-        deep.at[41] = (uint8_t)((len + 3) >> 8);
-        at[0] = (uint8_t)(0x80 | len >> 8);
-        at[1] = (uint8_t)len;
-        for (size_t k = 0; k < 127; k++) memcpy(at + 2 + k * kinds[i].len, kinds[i].bytes, kinds[i].len);
-        at[len + 1] = 0x08;
+        uint8_t signature[127 * 4 + 1];
+        size_t len = 127 * (size_t)kinds[i].len;
+        for (size_t k = 0; k < len; k++) signature[k] = kinds[i].bytes[k % kinds[i].len];
+        signature[len] = 0x08;
+        deep = root_of(signature, len + 1);
         if (HAS_OWN_STACK) call_on_stack(CLIM_STACK, open_deep);
         else open_deep();
         CHECK(deep_same);
         munmap(deep.pages, deep.room);
+    }
+}
+
+/* An array of 2^28 dimensions is a few bytes (II.23.2.13). Its text is refused, after its first bytes were written. */
+static void ask_long(void) {
+    static const uint8_t ranks[2][8] = {{0x14, 0x08, 0xD0, 0, 0, 0, 0, 0}, {0x14, 0x08, 0xC0, 0, 0xFF, 0xF9, 0, 0}};
+    for (size_t i = 0; i < 2; i++) {
+        guarded root = root_of(ranks[i], 8), part = guard(9);
+        clim_view view = CLOSED;
+        clim_fault fault = CLIM_NO_FAULT;
+        memset(part.at, 0xEE, part.len);
+        CHECK(clim_open_root(root.at, root.len, &view, &fault));
+        size_t len = clim_signature_text(&view, CLIM_TYPE_SPEC, 1, CLIM_TYPE_SPEC_SIGNATURE, part.at, 8);
+        CHECK(len == (i == 0 ? CLIM_TOO_LONG : 65535) && memcmp(part.at, "int32[,,\xEE", 9) == 0);
+        munmap(root.pages, root.room);
+        munmap(part.pages, part.room);
     }
 }
 
@@ -732,6 +754,7 @@ static void calls(guarded file, clim_view *view, bool bare) {
     ask_guids();
     ask_padded();
     ask_deep();
+    ask_long();
     ask_streams(view);
     ask_user_strings(view);
 }
