@@ -3,8 +3,8 @@ ghost use Rattle.table_schema.specs.declared.table.TableId.TheVariants as table;
 ghost use Rattle.metadata.specs.Cell.{Number, Text, Ref, Start};
 ghost use Rattle.tables.specs.Said.{all_said};
 
-use type_records::{Cell, FieldValue, FromRow, Record, Row, TableId, Token, owned_cells};
 use std::alloc::{AllocError, Global};
+use type_records::{Cell, FieldValue, FromRow, Record, Row, TableId, Token, owned_cells};
 
 /// A type that has events (II.22.12).
 #[derive(Clone, Copy, Debug, PartialEq, Eq)]

@@ -4,11 +4,11 @@ ghost use Rattle.table_schema.specs.declared.column.SigKind.TheVariants as colum
 ghost use Rattle.metadata.specs.Cell.{Number, Text, Ref, Start, Sig};
 ghost use Rattle.tables.specs.Said.{all_said};
 
+use std::alloc::{AllocError, Global};
 use type_records::{
     Cell, FieldValue, FromRow, IsSignature, Record, Row, SigKind, Signature, TableId, Token,
     owned_cells,
 };
-use std::alloc::{AllocError, Global};
 
 /// A method of a type of this module (II.22.26).
 #[derive(Clone, Copy, Debug, PartialEq, Eq)]

@@ -5,8 +5,8 @@ ghost use Rattle.metadata.specs.Lookups.{HasRow};
 ghost use Rattle.typed_rows.specs.RowsLeft.{rows_between};
 
 use crate::valid_model::Model;
-use type_records::{CellRow, CodedRow, FromRow};
 use table_schema::{TableId, Token};
+use type_records::{CellRow, CodedRow, FromRow};
 use typed_rows::{ReadRows, Records};
 
 impl<'m> ReadRows<'m> for &'m Model {

@@ -3,8 +3,8 @@ ghost use Rattle.table_schema.specs.declared.table.TableId.TheVariants as table;
 ghost use Rattle.metadata.specs.Cell.{Number, Text, Bytes};
 ghost use Rattle.tables.specs.Said.{all_said};
 
-use type_records::{Cell, FieldValue, FromRow, Record, Row, TableId, owned_cells};
 use std::alloc::{AllocError, Global};
+use type_records::{Cell, FieldValue, FromRow, Record, Row, TableId, owned_cells};
 
 /// This assembly, in at most one row (II.22.2).
 #[derive(Clone, Copy, Debug, PartialEq, Eq)]

@@ -2,8 +2,8 @@ ghost use Rattle.std.specs.Prelude.{◌≡◌, [], ◌∷◌};
 ghost use Rattle.table_schema.specs.declared.table.TableId.TheVariants as table;
 ghost use Rattle.metadata.specs.Cell.{Number, Bytes, Ref};
 
-use type_records::{Cell, FieldValue, FromRow, Record, Row, TableId, Token, owned_cells};
 use std::alloc::{AllocError, Global};
+use type_records::{Cell, FieldValue, FromRow, Record, Row, TableId, Token, owned_cells};
 
 /// The constant value of a field, parameter or property (II.22.9).
 #[derive(Clone, Copy, Debug, PartialEq, Eq)]

@@ -3,9 +3,9 @@ ghost use Rattle.table_schema.specs.declared.table.TableId.TheVariants as table;
 ghost use Rattle.metadata.specs.Cell.{Number, Text, Bytes, Ref};
 ghost use Rattle.type_records.specs.Names.{full_name};
 
-use type_records::{Cell, FieldValue, FromRow, Record, Row, TableId, Token, owned_cells};
 use std::alloc::{AllocError, Global};
 use std::fmt;
+use type_records::{Cell, FieldValue, FromRow, Record, Row, TableId, Token, owned_cells};
 
 /// Another file of this assembly (II.22.19).
 #[derive(Clone, Copy, Debug, PartialEq, Eq)]

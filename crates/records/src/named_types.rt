@@ -4,8 +4,10 @@ ghost use Rattle.table_schema.specs.declared.table.TableId.TheVariants as table;
 
 use crate::files::{ExportedType, File};
 use crate::references::{AssemblyRef, ModuleRef};
-use type_records::{CodedRow, FromRow, IsSignature, Module, Row, TableId, TypeDef, TypeRef, TypeSpec};
 use table_schema::Coded;
+use type_records::{
+    CodedRow, FromRow, IsSignature, Module, Row, TableId, TypeDef, TypeRef, TypeSpec,
+};
 
 /// A type that a TypeDefOrRef names (II.24.2.6).
 #[derive(Clone, Copy, Debug)]

@@ -4,8 +4,8 @@ ghost use Rattle.metadata.specs.Metadata.{Metadata, row_of};
 ghost use Rattle.type_records.specs.Listed.{IsOneOf};
 
 use crate::rows_read::ReadRows;
-use type_records::{CodedRow, lists};
 use table_schema::Token;
+use type_records::{CodedRow, lists};
 
 /// The record of a row that exists, of a table that its coded index lists.
 fn coded_row_at<'m, R: CodedRow<'m, S::Form>, S: ReadRows<'m>>(source: &S, token: Token) -> R

@@ -4,8 +4,8 @@ ghost use Rattle.metadata.specs.Metadata.{Metadata, rows_of, row_of};
 ghost use Rattle.typed_rows.specs.RowsLeft.{YieldsRow, rows_between};
 
 use crate::rows_read::ReadRows;
-use type_records::FromRow;
 use std::marker::{Model, PhantomData};
+use type_records::FromRow;
 
 /// The record of a row that exists.
 fn record_at<'m, R: FromRow<'m, S::Form>, S: ReadRows<'m>>(source: &S, row: u32) -> R

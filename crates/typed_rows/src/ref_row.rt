@@ -1,8 +1,8 @@
 ghost use Rattle.typed_rows.specs.RefRows.{HoldsAt, SaysAt};
 
 use opening::{CellRef, TableId, Token};
-use type_records::Row;
 use table_schema::SigKind;
+use type_records::Row;
 
 /// The cells of a row. They borrow from the bytes that were opened.
 #[derive(Clone, Copy, Debug)]

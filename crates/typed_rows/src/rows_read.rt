@@ -6,8 +6,8 @@ ghost use Rattle.opening.specs.Views.{row_count as rows_of_root};
 use crate::ref_row::RefRow;
 use crate::row_values::cells_of;
 use opening::View;
-use type_records::Row;
 use table_schema::TableId;
+use type_records::Row;
 
 /// A reference to what holds the rows of one metadata. The parts of a row live as long as what it is read from.
 pub trait ReadRows<'m> {
