@@ -1,5 +1,4 @@
 pub mod BlobLemmas
-pub mod BlobPlanLemmas
 pub mod BlockLemmas
 pub mod DistinctLemmas
 pub mod EndingLemmas
@@ -8,7 +7,6 @@ pub mod FirstLemmas
 pub mod FoundLemmas
 pub mod GrowLemmas
 pub mod GuidLemmas
-pub mod GuidPlanLemmas
 pub mod HeapLemmas
 pub mod HeapTextLemmas
 pub mod HolderLemmas
@@ -16,8 +14,8 @@ pub mod IndexLemmas
 pub mod MemberLemmas
 pub mod MergeLemmas
 pub mod NumberLemmas
-pub mod PlaceLemmas
 pub mod PlanLemmas
 pub mod PoolLemmas
 pub mod RunLemmas
+pub mod StartUseLemmas
 pub mod UseLemmas

@@ -6,11 +6,10 @@ pub mod EndingOrder
 pub mod FirstByte
 pub mod GuidHeap
 pub mod GuidPoolView
-pub mod HeapPlanView
 pub mod HeapTexts
-pub mod Places
 pub mod Ranking
 pub mod SortedTextsView
+pub mod StartUses
 pub mod TextHeap
 pub mod TextPlan
 pub mod TextPoolView

@@ -1,14 +1,14 @@
 ghost use Rattle.std.specs.Prelude.{◌≡◌, ◌≤◌, ◌<◌, ◌-◌, ◌⊎◌, ℕ, length, slice_index, vec_len, IfOk};
 ghost use Rattle.heap_pools.specs.HeapTexts.{heap_text, texts_at};
-ghost use Rattle.heap_pools.specs.Places.{ArePlaces};
+ghost use Rattle.heap_pools.specs.StartUses.{AreStartUses};
 ghost use Rattle.heap_pools.specs.Uses.{bytes_of};
 
 use memchr::memchr;
 use std::alloc::{AllocError, Global};
 
-/// The start of a text in a strings heap, and its use index. Places are ordered by starts.
+/// The start of a text in a strings heap, and its use index. StartUses are ordered by starts.
 #[derive(Clone, Copy, PartialEq, Eq, PartialOrd, Ord)]
-pub struct Place {
+pub struct StartUse {
     pub start: u32,
     pub use_index: usize,
 }
@@ -52,18 +52,18 @@ fn group_at<'a>(heap: &'a [u8], group: Group<'a>, start: usize) -> Group<'a>
 }
 
 /// The start at each use index, in the order of the starts, and then of the use indexes.
-pub fn places_of(alloc: Global, starts: &[u32]) -> Result<Vec<Place>, AllocError>
-    ensures { IfOk result (λ places. ArePlaces starts.now places.items) }
+pub fn start_uses_of(alloc: Global, starts: &[u32]) -> Result<Vec<StartUse>, AllocError>
+    ensures { IfOk result (λ start_uses. AreStartUses starts.now start_uses.items) }
 {
-    let mut places = Vec::with_capacity(alloc, starts.len())?;
+    let mut start_uses = Vec::with_capacity(alloc, starts.len())?;
     for use_index in 0..starts.len() {
-        places.push(Place {
+        start_uses.push(StartUse {
             start: starts[use_index],
             use_index,
         })?;
     }
-    places.sort_unstable();
-    Ok(places)
+    start_uses.sort_unstable();
+    Ok(start_uses)
 }
 
 /// The text at each use index.
@@ -73,9 +73,9 @@ pub fn read_texts<'a>(
     alloc: Global,
     heap: &'a [u8],
     starts: &[u32],
-    places: &[Place],
+    start_uses: &[StartUse],
 ) -> Result<Vec<&'a [u8]>, AllocError>
-    requires { ArePlaces starts.now places.now }
+    requires { AreStartUses starts.now start_uses.now }
     ensures { IfOk result (λ texts. bytes_of texts.items ≡ texts_at heap.now starts.now) }
 {
     let mut group = Group {
@@ -83,24 +83,24 @@ pub fn read_texts<'a>(
         text: &[],
     };
     let mut texts = vec![in alloc; group.text; starts.len()]?;
-    for place in places {
-        let start = place.start as usize;
+    for start_use in start_uses {
+        let start = start_use.start as usize;
         group = group_at(heap, group, start);
         let (_, text) = group.text.split_at(start - group.start);
-        texts[place.use_index] = text;
+        texts[start_use.use_index] = text;
     }
     Ok(texts)
 }
 
-/// The first use index with the start of a place, if the place before has that of its own start.
-fn first_with_start(before: Place, place: &Place) -> usize
-    ensures within { result ≤ place.now.use_index }
-    ensures from { (result ≡ place.now.use_index) ⊎ ((result ≡ before.use_index) × (before.start ≡ place.now.start)) }
+/// The first use index with the start of a use, if the use before it has that of its own start.
+fn first_with_start(before: StartUse, start_use: &StartUse) -> usize
+    ensures within { result ≤ start_use.now.use_index }
+    ensures from { (result ≡ start_use.now.use_index) ⊎ ((result ≡ before.use_index) × (before.start ≡ start_use.now.start)) }
 {
-    if before.start == place.start && before.use_index <= place.use_index {
+    if before.start == start_use.start && before.use_index <= start_use.use_index {
         return before.use_index;
     }
-    place.use_index
+    start_use.use_index
 }
 
 /// Each use index below `count`, as the first one of its text.
@@ -116,23 +116,27 @@ pub fn own_firsts(alloc: Global, count: usize) -> Result<Vec<usize>, AllocError>
 }
 
 /// For each use index, the first one with its start.
-pub fn firsts_of(alloc: Global, starts: &[u32], places: &[Place]) -> Result<Vec<usize>, AllocError>
-    requires { ArePlaces starts.now places.now }
+pub fn firsts_of(
+    alloc: Global,
+    starts: &[u32],
+    start_uses: &[StartUse],
+) -> Result<Vec<usize>, AllocError>
+    requires { AreStartUses starts.now start_uses.now }
     ensures len { IfOk result (λ firsts. vec_len firsts ≡ length starts.now) }
     ensures firsts { IfOk result (λ firsts. (use_index : ℕ) → use_index < length starts.now
         → (slice_index firsts.items use_index ≤ use_index)
         × (slice_index starts.now (slice_index firsts.items use_index) ≡ slice_index starts.now use_index)) }
 {
     let mut firsts = own_firsts(alloc, starts.len())?;
-    let mut before = Place {
+    let mut before = StartUse {
         start: 0,
         use_index: starts.len(),
     };
-    for place in places {
-        let use_index = first_with_start(before, place);
-        firsts[place.use_index] = use_index;
-        before = Place {
-            start: place.start,
+    for start_use in start_uses {
+        let use_index = first_with_start(before, start_use);
+        firsts[start_use.use_index] = use_index;
+        before = StartUse {
+            start: start_use.start,
             use_index,
         };
     }

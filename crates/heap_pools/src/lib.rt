@@ -1,8 +1,8 @@
 //! The heaps that are written (ECMA-335 II.24.2.3 to II.24.2.5).
 //!
 //! [`TextPool`], [`BlobPool`] and [`GuidPool`] hold each value once, in the order of first use. A text that another
-//! text ends with has no entry of its own. [`HeapPlan`] makes the heap of a pool of blobs or GUIDs from all of them
-//! at once, by sorting. The laws say that what is pooled is read back, and that its index stays as the pool grows.
+//! text ends with has no entry of its own. The laws say that what is pooled is read back, and that its index stays as
+//! the pool grows. [`sorted_uses`] and the calls beside it are for `heap_plans`, which plans heaps of blobs and GUIDs.
 //!
 //! ```text
 //! let pool = TextPool::plan(alloc, &["me", "Name"])?;
@@ -14,16 +14,16 @@ mod blob_pool;
 mod ending;
 mod first_byte;
 mod guid_pool;
-mod heap_plan;
 mod heap_texts;
 pub mod laws;
 mod pool_error;
 mod text_plan;
 mod text_pool;
 
-pub use blob_pool::BlobPool;
+pub use blob_pool::{BlobPool, write_blob};
 pub use first_byte::begin;
 pub use guid_pool::GuidPool;
-pub use heap_plan::{HeapPlan, SortedBlobs, SortedGuids};
+pub use heap_texts::own_firsts;
 pub use pool_error::{HEAP_LIMIT, PoolError};
+pub use text_plan::{Use, sorted_uses};
 pub use text_pool::{SortedTexts, TextPool};

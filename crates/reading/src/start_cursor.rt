@@ -14,7 +14,7 @@ use table_schema::TableId;
 ///
 /// A null start is that of the next owner, so owners with null starts share one. The cursor passes over them once.
 /// In a pass over the owners in ascending order each list value is read at most once. A call for an earlier owner, or
-/// for one behind the last, begins anew at that owner. No call passes over more than 1/256 of the owners.
+/// for one after the last, begins anew at that owner. No call passes over more than 1/256 of the owners.
 #[derive(Clone, Copy)]
 pub struct StartCursor {
     first: u32,

@@ -1,0 +1,2 @@
+pub mod BlobPlanLemmas
+pub mod GuidPlanLemmas

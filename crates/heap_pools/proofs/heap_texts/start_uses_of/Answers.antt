@@ -1,0 +1,26 @@
+use Rattle.std.proofs.Common.{◌≡◌, length, slice_index, refl, sym, subst, arith}
+use Rattle.heap_pools.specs.StartUses.{start_use_at}
+use Rattle.heap_pools.proofs.StartUseLemmas.{IsStartUse, start_use_more, start_uses_sorted}
+use Rattle.heap_pools.proofs.heap_texts.start_uses_of.Goals as goal
+
+pub loop-use_index-preserved : goal.loop-use_index-preserved
+loop-use_index-preserved c =
+    let starts = c.args.starts.now in
+    let n = c.loop-use_index.use_index in
+    let kept = c.loop-use_index.invariant in
+    let old = c.loop-use_index.start_uses.items in
+    let long : length old ≡ n = omega (arith, kept.len, c.loop-use_index.start_uses.ok.0) in
+    record {
+      len = omega (arith, c.in_ok-push.ensures.len, kept.len);
+      each = λ k h. subst (λ l. IsStartUse starts k (start_use_at l k)) (sym c.in_ok-push.ensures.items)
+          (start_use_more starts old n (record { start = slice_index starts n; use_index = n }) long (refl, refl) kept.each k h);
+    }
+
+pub returns : goal.returns
+returns c =
+    let starts = c.args.starts.now in
+    let kept = c.loop-use_index.invariant in
+    let old = c.loop-use_index.start_uses.items in
+    let end : c.loop-use_index.use_index ≡ length starts = omega arith in
+    let long : length old ≡ length starts = omega (arith, kept.len, c.loop-use_index.start_uses.ok.0, end) in
+    start_uses_sorted starts old c.sort_unstable.new.self.items long (λ k h. kept.each k (omega (arith, h, end))) c.sort_unstable.ensures.permutation
