@@ -30,7 +30,11 @@ impl Model for BlobPool {
     ghost invariant = { IsBlobPool };
 }
 
-/// Appends the entry of a blob. Before the first one it appends the first byte of the heap.
+/// Appends the entry of a blob (II.24.2.4). Before the first one it appends the first byte of the heap.
+///
+/// # Errors
+///
+/// Only if out of memory. Then the heap may have a part of the entry.
 #[tactic(auto, unfolding(crate::specs::BlobHeap::counted))]
 pub fn write_blob(heap: &mut Vec<u8>, blob: &[u8]) -> Result<(), AllocError>
     requires { length blob.now < 2 ^ 29 }

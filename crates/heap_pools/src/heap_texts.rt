@@ -104,6 +104,10 @@ fn first_with_start(before: StartUse, start_use: &StartUse) -> usize
 }
 
 /// Each use index below `count`, as the first one of its text.
+///
+/// # Errors
+///
+/// Only if out of memory.
 pub fn own_firsts(alloc: Global, count: usize) -> Result<Vec<usize>, AllocError>
     ensures len { IfOk result (λ firsts. vec_len firsts ≡ count) }
     ensures own { IfOk result (λ firsts. (use_index : ℕ) → use_index < count → slice_index firsts.items use_index ≡ use_index) }
