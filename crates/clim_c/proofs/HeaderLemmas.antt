@@ -1,5 +1,5 @@
 -- The number of stream headers of a root.
-use Rattle.std.proofs.Common.{◌≡◌, ℕ, zero, suc, ◌+◌, ◌<◌, ◌≤◌, List, [], ◌∷◌, ◌++◌, length, slice_get, None, ap, arith}
+use Rattle.std.proofs.Common.{◌≡◌, ℕ, zero, suc, ◌+◌, ◌<◌, ◌≤◌, List, [], ◌∷◌, length, slice_get, None, ap, arith}
 use Rattle.std.proofs.lemmas.List.{length-append}
 use Rattle.root.specs.Root.{IsRoot, AreHeaders}
 use Rattle.root.specs.Streams.{Header}

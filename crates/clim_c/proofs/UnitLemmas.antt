@@ -1,5 +1,5 @@
 -- The units and the last byte of a user string, by its bytes.
-use Rattle.std.proofs.Common.{◌≡◌, ℕ, zero, suc, ◌+◌, ◌-◌, ◌*◌, ◌/◌, ◌%◌, ◌<◌, ◌≤◌, min, List, [], ◌∷◌, ◌++◌, length, take, drop, set, flat_map, get_or, Option, Some, None, unwrap_or, inl, inr, refl, sym, ap, subst, ◌∙◌, ⊎_elim, arith}
+use Rattle.std.proofs.Common.{◌≡◌, ℕ, zero, suc, ◌+◌, ◌-◌, ◌*◌, ◌/◌, ◌%◌, ◌<◌, ◌≤◌, min, List, [], ◌∷◌, ◌++◌, length, take, drop, set, flat_map, get_or, Option, Some, unwrap_or, inl, inr, refl, sym, ap, subst, ◌∙◌, ⊎_elim, arith}
 use Rattle.std.proofs.lemmas.Bool.{cases_lt}
 use Rattle.std.proofs.lemmas.List.{get_or_append_left, get_or-append-add, get_or_past, take_more, take_more_set, drop-set-lt, drop-drop, length-take-le, get_or-take, take-append-drop, take_min, drop_min}
 use Rattle.heap_entries.specs.Entries.{IsCounted, IsBlob, UserText, EncodesUserText}

@@ -1,6 +1,5 @@
-use Rattle.std.proofs.Common.{◌≡◌, sym, ◌∙◌}
+use Rattle.std.proofs.Common.{◌≡◌, ◌∙◌}
 use Rattle.std.proofs.lemmas.Option.{same_Some}
-use Rattle.packed.specs.declared.code.FaultCode.{FaultCode}
 use Rattle.clim_c.proofs.explained.clim_explain.Goals as goal
 
 pub returns-in-Some-clause-known : goal.returns-in-Some-clause-known

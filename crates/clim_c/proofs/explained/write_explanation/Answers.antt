@@ -1,4 +1,4 @@
-use Rattle.std.proofs.Common.{◌≡◌, List, ℕ, [], ◌∷◌, ◌++◌, length, ◌∙◌, ap}
+use Rattle.std.proofs.Common.{List, ℕ, [], ◌∷◌, length, ◌∙◌, ap}
 use Rattle.std.specs.Prelude.{codes}
 use Rattle.packed.specs.Codes.{name_of}
 use Rattle.packed.specs.declared.fault.Fault.{Fault}

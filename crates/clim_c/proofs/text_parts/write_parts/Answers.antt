@@ -1,4 +1,4 @@
-use Rattle.std.proofs.Common.{◌≡◌, length, refl, arith, ◌∙◌}
+use Rattle.std.proofs.Common.{refl, arith, ◌∙◌}
 use Rattle.clim_c.proofs.Buffers.{part_written, part_counted}
 use Rattle.clim_c.proofs.text_parts.write_parts.Goals as goal
 

@@ -1,6 +1,6 @@
 use Rattle.std.proofs.Common.{◌≡◌, ℕ, ◌<◌, ◌%◌, ◌^◌, List, length, take, unwrap_or, Option, refl, sym, subst, ◌∙◌, ap, arith}
 use Rattle.std.proofs.lemmas.List.{length-take-le}
-use Rattle.heap_entries.specs.Entries.{IsBlob, EncodesUserText}
+use Rattle.heap_entries.specs.Entries.{IsBlob}
 use Rattle.heap_entries.specs.Padding.{zero_padded}
 use Rattle.heap_entries.specs.UserView.{user_text}
 use Rattle.opening.specs.Views.{user_of}

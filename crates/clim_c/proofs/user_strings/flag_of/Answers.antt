@@ -1,4 +1,4 @@
-use Rattle.std.proofs.Common.{◌≡◌, ◌<◌, ◌∙◌, arith}
+use Rattle.std.proofs.Common.{◌∙◌, arith}
 use Rattle.clim_c.proofs.UnitLemmas.{flag_is}
 use Rattle.clim_c.proofs.user_strings.flag_of.Goals as goal
 

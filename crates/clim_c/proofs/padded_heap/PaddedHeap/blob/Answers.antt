@@ -1,4 +1,4 @@
-use Rattle.std.proofs.Common.{◌≡◌, ℕ, ◌<◌, ◌≤◌, List, ◌++◌, length, take, sym, ◌∙◌, ap, arith}
+use Rattle.std.proofs.Common.{◌≤◌, ◌++◌, length, take, sym, ◌∙◌, ap, arith}
 use Rattle.std.proofs.lemmas.List.{length-append, take_at}
 use Rattle.clim_c.proofs.PaddedLemmas.{blob_is, blob_counted, counted_behind, remainder_is}
 use Rattle.clim_c.proofs.padded_heap.PaddedHeap.blob.Goals as goal

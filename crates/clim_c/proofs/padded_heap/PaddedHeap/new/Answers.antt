@@ -1,4 +1,3 @@
-use Rattle.std.proofs.Common.{◌-◌, ◌%◌, length}
 use Rattle.clim_c.proofs.PaddedLemmas.{padded_byte}
 use Rattle.clim_c.proofs.padded_heap.PaddedHeap.new.Goals as goal
 

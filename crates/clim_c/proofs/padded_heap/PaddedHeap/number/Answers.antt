@@ -1,4 +1,4 @@
-use Rattle.std.proofs.Common.{◌≡◌, ℕ, ◌-◌, List, length, take, min, ◌∙◌, arith}
+use Rattle.std.proofs.Common.{◌≡◌, ◌-◌, length, take, min, ◌∙◌, arith}
 use Rattle.clim_c.proofs.PaddedLemmas.{head_of, number_sound, head_of_packed}
 use Rattle.clim_c.proofs.padded_heap.PaddedHeap.number.Goals as goal
 
