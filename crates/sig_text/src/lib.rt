@@ -2,7 +2,11 @@
 //!
 //! [`write_signature`] reads the bytes of a blob and passes the text to a [`TextSink`], word by word. The sink
 //! writes the names of tokens, because only its owner knows them. [`NamedText`] is a sink that writes to any
-//! `fmt::Write`. [`write_method`] writes a method with its name and the names of its parameters. The recursion is as deep as types nest, at most 128.
+//! `fmt::Write`. [`write_method`] writes a method with its name and the names of its parameters. The recursion is as deep
+//! as types nest, at most 128.
+//!
+//! The text of a signature is the definition `text_of` in `specs/SignatureText.antt`. It is proved that a sink receives
+//! its pieces and nothing else, until it refuses one (`specs/Receives.antt`).
 //!
 //! ```text
 //! // 20 02 01 08 1D 0E: an instance method without result; its parameters are an integer and a vector of strings
