@@ -1,5 +1,5 @@
 -- The runs of tasks on what reading a file gave, case by case.
-use Rattle.std.proofs.Common.{◌≡◌, ℕ, Bool, List, ◌++◌, Option, Some, Result, Ok, Err, refl, subst, sym, ap, inl, inr, length}
+use Rattle.std.proofs.Common.{◌≡◌, ℕ, Bool, List, [], ◌++◌, append-nil, Option, None, Some, Result, Ok, Err, refl, subst, sym, ap, inl, inr, length}
 use Rattle.std.specs.Prelude.{IfErr, IfOk, IfSome, IsErr, IsErrAnd, IsOk, OnOk, ◌↔◌, ◌⊎◌, MatchResult}
 use Rattle.std.specs.Borrow.{Bor}
 use Rattle.std.specs.Io.KnownBytes.{Appends}
@@ -13,14 +13,14 @@ use Rattle.cli_reports.specs.declared.stop.Stop.TheVariants.{BudgetSpent, Failed
 use Rattle.cli_reports.specs.Checked.{IsWhole, rules_of, signature_bytes_of}
 use Rattle.cli_reports.specs.Printed.{IsReportText, check_text}
 use Rattle.cli_reports.specs.Reported.{IsMet, LeavesOutput, Reports}
-use Rattle.cli_reports.specs.Sent.{Prints}
+use Rattle.cli_reports.specs.Sent.{Prints, SendsPrefix}
 use Rattle.cli_reports.specs.Stops.{StopLeavesOutput, StopsWithin, status_of_stop}
 use Rattle.cli.specs.declared.stopped.Stopped.{Stopped}
 use Rattle.cli.specs.declared.task.Task.{Task}
 use Rattle.cli.specs.Hints.{hint_for}
 use Rattle.cli.specs.Read.{IsRefused}
 use Rattle.cli.specs.Rewritten.{IsRewritten, ReportsUnwritten}
-use Rattle.cli.specs.Runs.{Does, IsChecked, IsReported, IsRewriting, IsRunOf, IsRunOn, Outcome, StopsBy, wrote_text}
+use Rattle.cli.specs.Runs.{Does, IsChecked, IsReported, IsRewriting, IsRunOf, IsRunOn, Outcome, PrintsPart, StopsBy, wrote_text}
 use Rattle.cli.specs.Stopped.{IsStopOf}
 use Rattle.cli.specs.Tasks.{IsTask}
 
@@ -63,7 +63,7 @@ module _ {W : Type 0} (contents : W → Option (List ℕ)) (before after : W) (b
 
   pub rewriting : (path : List ℕ) (first : Result (Unit {0}) Failure) (second : Result (Unit {0}) Stop) (last : Outcome)
       → OnOk first ((root : List ℕ) × IsRewritten bare bytes root × Appends (contents before) (contents after) (wrote_text (length root)))
-      → IfErr first (λ failure. ((ReportsUnwritten bare bytes failure ⊎ IsUnwritten path failure) × (after ≡ before)) ⊎ IsOutput failure)
+      → IfErr first (λ failure. ((ReportsUnwritten bare bytes failure ⊎ IsUnwritten path failure) × (after ≡ before)) ⊎ (IsOutput failure × PrintsPart bare bytes (contents before) (contents after)))
       → IsStopOf first second → IsOk last ↔ IsOk second → Hinted bare bytes second last
       → IsRewriting contents before after path bare bytes last
   rewriting path (Ok done) (Ok same) (Ok end) written reports stops ok hinted = record { written = written; stopped = tt; hint = tt }
@@ -95,3 +95,21 @@ failure_never_zero OutOfMemory is = cc
 pub never_zero : (stop : Stop) → status_of_stop stop ≡ 0 → ⊥
 never_zero (Failed failure) is = failure_never_zero failure is
 never_zero BudgetSpent is = cc
+
+-- the line went out if it succeeds, else a prefix of it
+pub line_sent : {E : Type 0} (before after : Option (List ℕ)) (text : List ℕ) (first : Result (Unit {0}) E) (last : Result (Unit {0}) Failure)
+    → IsOk last ↔ IsOk first → IfErr last IsOutput → Prints before after first text
+    → OnOk last (Appends before after text) × IfErr last (λ failure. IsOutput failure × SendsPrefix before after text)
+line_sent before after text (Ok done) (Ok end) ok output printed = (printed, tt)
+line_sent before after text (Ok done) (Err failure) ok output printed = let no = ok.1 refl in cc
+line_sent before after text (Err error) (Ok end) ok output printed = let no = ok.0 refl in cc
+line_sent before after text (Err error) (Err failure) ok output printed = (tt, (output, printed))
+
+appends_nothing : (known : Option (List ℕ)) → Appends known known []
+appends_nothing None = tt
+appends_nothing (Some xs) = sym (append-nil xs)
+
+-- nothing went out
+pub none_sent : {T E : Type 0} (result : Result T E) (known : Option (List ℕ)) (text : List ℕ) → IsErr result → Prints known known result text
+none_sent (Ok done) known text is = cc
+none_sent (Err error) known text is = (text, ([], refl, appends_nothing known))

@@ -18,7 +18,7 @@ use Rattle.cli_reports.specs.Checked.{IsWhole, rules_of, signature_bytes_of}
 use Rattle.cli_reports.specs.Printed.{IsReportText, check_text}
 use Rattle.cli_reports.specs.Reported.{IsMet, LeavesOutput, Reports}
 use Rattle.cli_reports.specs.RowTexts.{line_feed}
-use Rattle.cli_reports.specs.Sent.{Prints}
+use Rattle.cli_reports.specs.Sent.{Prints, SendsPrefix}
 use Rattle.cli_reports.specs.Stops.{StopLeavesOutput, StopsWithin, status_of_stop}
 use Rattle.cli.specs.declared.stopped.Stopped.{Stopped}
 use Rattle.cli.specs.declared.task.Task.{Task}
@@ -40,6 +40,10 @@ status_of_outcome (Err stopped) = status_of_stop stopped.stop
 -- the line of `clim rewrite`
 abbrev pub wrote_text : ℕ → List ℕ
 wrote_text count = codes "wrote " ++ decimal count ++ codes " bytes" ++ line_feed
+
+-- a prefix of the line went out, after the canonical root of the bytes' model was written
+abbrev pub PrintsPart : Bool → List ℕ → Option (List ℕ) → Option (List ℕ) → Type 0
+PrintsPart bare bytes before after = (root : List ℕ) × IsRewritten bare bytes root × SendsPrefix before after (wrote_text (length root))
 
 -- it stopped by this failure, without a hint
 abbrev pub StopsBy : Failure → Stopped → Type 0
@@ -69,7 +73,8 @@ module _ {W : Type 0} (contents : W → Option (List ℕ)) (before after : W) wh
   pub record IsRewriting (path : List ℕ) (bare : Bool) (bytes : List ℕ) (outcome : Outcome) : Type 0 where
     pub written : OnOk outcome ((root : List ℕ) × IsRewritten bare bytes root × Appends (contents before) (contents after) (wrote_text (length root)))
     pub stopped : IfErr outcome (λ stopped. (failure : Failure) × (stopped.stop ≡ Failed failure)
-        × (((ReportsUnwritten bare bytes failure ⊎ IsUnwritten path failure) × (after ≡ before)) ⊎ IsOutput failure))
+        × (((ReportsUnwritten bare bytes failure ⊎ IsUnwritten path failure) × (after ≡ before))
+        ⊎ (IsOutput failure × PrintsPart bare bytes (contents before) (contents after))))
     pub hint : IfErr outcome (λ stopped. stopped.hint ≡ hint_for bare bytes stopped.stop)
 
   -- What reading a file gave decides: the run on its bytes; or the failure to read it, and nothing is printed.

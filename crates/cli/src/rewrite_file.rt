@@ -2,7 +2,8 @@
 ghost use Rattle.std.specs.Prelude.{◌≡◌, ◌⊎◌, ℕ, List, IfOk, IfErr, OnOk, length};
 ghost use Rattle.std.specs.Io.KnownBytes.{Appends};
 ghost use Rattle.cli_faults.specs.Status.{IsOutput, IsUnwritten};
-ghost use Rattle.cli.specs.Runs.{wrote_text};
+ghost use Rattle.cli_reports.specs.Sent.{Prints};
+ghost use Rattle.cli.specs.Runs.{PrintsPart, wrote_text};
 ghost use Rattle.cli.specs.Rewritten.{IsRewritten, ReportsUnwritten};
 
 use crate::output_file::write_root;
@@ -31,7 +32,8 @@ pub(crate) fn rewrite<'a, R: Files + AllocGlobal, W: Write>(
     ensures written { OnOk result ((root : List ℕ) × IsRewritten bare bytes.now root
         × Appends (W.contents out.old) (W.contents out.new) (wrote_text (length root))) }
     ensures stopped { IfErr result (λ failure.
-        ((ReportsUnwritten bare bytes.now failure ⊎ IsUnwritten path.now failure) × (out.new ≡ out.old)) ⊎ IsOutput failure) }
+        ((ReportsUnwritten bare bytes.now failure ⊎ IsUnwritten path.now failure) × (out.new ≡ out.old))
+        ⊎ (IsOutput failure × PrintsPart bare bytes.now (W.contents out.old) (W.contents out.new))) }
 {
     let root = canonical_root(rt.alloc(), bytes, bare)?;
     write_root(rt, &root, file, path)?;
@@ -53,7 +55,7 @@ fn canonical_root(alloc: Global, bytes: &[u8], bare: bool) -> Result<Prepared, F
 
 /// Prints the length of the root that was written.
 fn print<W: Write>(alloc: Global, count: u32, out: &mut W) -> io::Result<()>
-    ensures { OnOk result (Appends (W.contents out.old) (W.contents out.new) (wrote_text count)) }
+    ensures { Prints (W.contents out.old) (W.contents out.new) result (wrote_text count) }
 {
     let line = format!(in alloc; "wrote {count} bytes\n")?;
     finish(line.as_bytes(), out)
