@@ -68,10 +68,10 @@ plain_number-requires g c = λ none. not_there c.holds_one.ensures.shown (λ som
       blob = λ e. c.in_default.not-Blob (kind ∙ e);
       signature = λ column e. c.in_default.not-Signature column (kind ∙ e);
     } in
-    let P : ColumnKind → Type 0 = λ k. Shows k c.seen.result cell in
+    let P : ColumnKind → Type 0 = λ k. Shows k c.cell_onward-seen.result cell in
     none (
       cell,
-      subst P (sym kind) (c.seen.ensures.cell some.0 some.1),
+      subst P (sym kind) (c.cell_onward-seen.ensures.cell some.0 some.1),
       c.cells_can_be_numbered.ensures.cell some.0 valid table row cell_index there c.requires.cell_index,
       plain_cell (kind_at table cell_index) cell plain good.of_kind,
     ))
@@ -91,6 +91,6 @@ returns-in_default-clause-ok g c = λ model is.
       blob = λ e. c.in_default.not-Blob (kind ∙ e);
       signature = λ column e. c.in_default.not-Signature column (kind ∙ e);
     } in
-    let P : ColumnKind → Type 0 = λ k. Shows k c.seen.result cell in
-    let number = c.plain_number.ensures cell (subst P (sym kind) (c.seen.ensures.cell model is)) ∙ ap (λ (k : ColumnKind). cell_number no_pools k cell) kind in
+    let P : ColumnKind → Type 0 = λ k. Shows k c.cell_onward-seen.result cell in
+    let number = c.plain_number.ensures cell (subst P (sym kind) (c.cell_onward-seen.ensures.cell model is)) ∙ ap (λ (k : ColumnKind). cell_number no_pools k cell) kind in
     on_ok_weaker c.put_number.result (λ e. e ∙ ap (with_number c.args.so_far.now) number ∙ sym (next_plain c.args.indexes (kind_at table cell_index) cell c.args.so_far.now (plain_cell (kind_at table cell_index) cell plain good.of_kind))) c.put_number.ensures

@@ -1,5 +1,6 @@
-use Rattle.std.proofs.Common.{List, ℕ, ◌++◌, ◌∙◌, ap, subst}
+use Rattle.std.proofs.Common.{List, ℕ, ◌++◌, ◌∙◌, ap, subst, sym}
 use Rattle.metadata.specs.Metadata.{row_of}
+use Rattle.metadata.specs.Model.{IsModel}
 use Rattle.cli_reports.specs.RowTexts.{row_text}
 use Rattle.cli_reports.specs.Sent.{Prints}
 use Rattle.cli_reports.proofs.SentLemmas.{cut_printed, prefix_of_nothing}
@@ -13,6 +14,7 @@ returns-in_err-push_row g c = λ model is.
 
 pub returns : goal.returns
 returns g c = λ model is.
+    let here : IsModel c.new-cells.result model = subst (λ (root : List ℕ). IsModel root model) (sym c.new-cells.ensures) is in
     subst (λ (bytes : List ℕ). Prints (g.W.Write.contents c.args.out.now) (g.W.Write.contents c.finish.new.out) c.finish.result bytes)
-    (c.deref.ensures.value ∙ c.in_ok-push_row.ensures model is ∙ ap (λ xs. xs ++ row_text c.args.token.row (row_of model c.args.token.table c.args.token.row)) c.new-line.ensures.items)
+    (c.deref.ensures.value ∙ c.in_ok-push_row.ensures.line model here ∙ ap (λ xs. xs ++ row_text c.args.token.row (row_of model c.args.token.table c.args.token.row)) c.new-line.ensures.items)
     c.finish.ensures

@@ -5,9 +5,17 @@ use Rattle.metadata.specs.Model.{IsModel}
 use Rattle.opening.specs.Views.{row_count}
 use Rattle.cli_reports.specs.Sent.{Prints, Sends, SendsPrefix}
 use Rattle.cli_reports.specs.TypeTexts.{type_text, types_text}
-use Rattle.cli_reports.proofs.SentLemmas.{cut_printed, prefix_more, prefix_of_nothing, sends_more, tail_printed}
+use Rattle.cli_reports.proofs.SentLemmas.{cut_printed, prefix_more, prefix_of_nothing, sends_more, sends_nothing, tail_printed}
 use Rattle.cli_reports.proofs.TableLemmas.{first_lines, lines_cut, lines_more}
 use Rattle.cli_reports.proofs.type_lines.print_types.Goals as goal
+
+pub loop-earlier-init : goal.loop-earlier-init
+loop-earlier-init g c = record {
+  same = c.new-cells.ensures;
+  lines = λ model is.
+      let known = g.W.Write.contents c.args.out.now in
+      subst (λ (bytes : List ℕ). Sends known known [] bytes) (sym c.in_ok-lines.ensures.items) (sends_nothing known []);
+}
 
 pub returns-in_err-lines : goal.returns-in_err-lines
 returns-in_err-lines g c = λ model is.
