@@ -64,6 +64,7 @@ impl<'v, 'a> CellCursor<'v, 'a> {
     }
 
     /// A cell of a row, as [`View::cell`] returns it.
+    #[inline]
     pub fn cell(&mut self, table: TableId, row: u32, column: usize) -> CellRef<'a>
         requires first { 1 ≤ row }
         requires last { row ≤ row_count self.old table }
@@ -112,6 +113,7 @@ impl<'v, 'a> CellCursor<'v, 'a> {
 }
 
 /// A cell of a row of a view, with cursors for its runs.
+#[inline]
 pub(crate) fn cell_in_pass<'a>(
     view: &View<'a>,
     cursors: &mut RunCursors,

@@ -22,6 +22,7 @@ use heap_entries::{Strings, blob, guid};
 use table_schema::{Coded, ColumnKind, TableId, Token};
 
 /// The cell that the number of a column stands for, if there is one.
+#[inline]
 pub fn cell_of<'a>(
     source: &Source<'a>,
     known: &KnownRuns,
@@ -55,6 +56,7 @@ pub fn cell_of<'a>(
 }
 
 /// The cell that the number of a column stands for, in a pass over the rows of a table with cursors for the runs.
+#[inline]
 pub fn cell_onward<'a>(
     source: &Source<'a>,
     known: &KnownRuns,
