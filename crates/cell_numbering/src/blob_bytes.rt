@@ -6,7 +6,7 @@ ghost use Rattle.cell_numbering.specs.BlobGroups.{bytes_in};
 
 use crate::blob_use::BlobUse;
 use metadata_source::SignatureBytes;
-use signatures::{SigError, canonical_encoding};
+use signatures::{SigError, canonical_encoding, is_plainly_canonical};
 use std::alloc::{AllocError, Global};
 use table_schema::{ColumnKind, SigKind};
 
@@ -53,6 +53,9 @@ fn canonical_bytes<'u>(
     requires { ¬ (¬ ((signature : Body) × Encodes kind signature blob.now)) }
     ensures { (signature : Body) → Encodes kind signature blob.now → IfOk result (λ bytes. bytes_in bytes ≡ short signature) }
 {
+    if is_plainly_canonical(blob) {
+        return Ok(BlobBytes::Found(blob));
+    }
     let encoding = encoding_of(alloc, blob, kind)?;
     if encoding.as_slice() == blob {
         Ok(BlobBytes::Found(blob))

@@ -1,6 +1,5 @@
 pub mod DigitLemmas
 pub mod LineLemmas
-pub mod ShortLemmas
 pub mod SentLemmas
 pub mod ItemLemmas
 pub mod TableLemmas

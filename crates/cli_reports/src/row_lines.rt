@@ -16,7 +16,7 @@ ghost use Rattle.cli_reports.specs.Values.{IsOfModel};
 use crate::line::{push_decimal, push_escaped, push_hexadecimal};
 use heap_entries::guid_text;
 use opening::{CellCursor, CellRef, TableId, Token};
-use signatures::{SigError, canonical_encoding};
+use signatures::{SigError, canonical_encoding, is_plainly_canonical};
 use std::alloc::{AllocError, Global};
 use table_schema::{ColumnKind, SigKind, cell_count, column_of_cell, columns};
 
@@ -58,8 +58,7 @@ fn push_bracketed(bytes: &[u8], line: &mut Vec<u8>) -> Result<(), AllocError>
     Ok(line.push(b'>')?)
 }
 
-/// Appends the canonical encoding of the signature in a blob (II.23.2). A blob whose bytes are all below 0x80 is its
-/// own canonical encoding: each number in it has one byte.
+/// Appends the canonical encoding of the signature in a blob (II.23.2). Most blobs are that themselves.
 fn push_signature(
     alloc: Global,
     kind: SigKind,
@@ -69,8 +68,7 @@ fn push_signature(
     requires { ¬ (¬ ((signature : Body) × Encodes kind signature blob.now)) }
     ensures { OnOk result ((signature : Body) → Encodes kind signature blob.now → line.new.items ≡ line.old.items ++ bracketed (short signature)) }
 {
-    packed::laws::shortest_forms_encode();
-    if blob.is_ascii() {
+    if is_plainly_canonical(blob) {
         return push_bracketed(blob, line);
     }
     let encoding = shortest(alloc, kind, blob)?;

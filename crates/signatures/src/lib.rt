@@ -15,8 +15,10 @@
 
 mod columns;
 pub mod laws;
+mod long_forms;
 mod signature;
 
+pub use long_forms::is_plainly_canonical;
 pub use sig_decoder::SigError;
 pub use sig_grammar::{
     Core, Element, FieldSig, InstanceSig, Local, LocalsSig, MethodSig, Modifier, Prefix,
