@@ -1,23 +1,33 @@
 -- The remainder of a signature after its parts, without their values. Private functions compute this in the same way.
-use Rattle.std.specs.Prelude.{ℕ, zero, suc, ◌==◌, ◌&&◌, ◌/◌, ◌%◌, nat_lt, Bool, true, false, not, if◌then◌else◌, Option, Some, None, option_map, option_and_then, is_some, List, [], ◌∷◌, drop}
+use Rattle.std.specs.Prelude.{ℕ, zero, suc, ◌==◌, ◌&&◌, ◌/◌, ◌%◌, nat_lt, Bool, true, false, not, if◌then◌else◌, Option, Some, None, option_map, option_and_then, unwrap_or, is_some, List, [], ◌∷◌, drop}
 use Rattle.std.specs.Option.{option_or}
 use Rattle.table_schema.specs.declared.token.Token.{Token}
+use Rattle.table_schema.specs.declared.table.TableId.TheVariants.{TypeDef}
 use Rattle.table_schema.specs.declared.column.SigKind.{SigKind}
 use Rattle.table_schema.specs.declared.column.SigKind.TheVariants as column
 use Rattle.sig_grammar.specs.ElementTypes.{VOID, PTR, BYREF, VALUETYPE, CLASS, VAR, ARRAY, GENERICINST, TYPEDBYREF, FNPTR, SZARRAY, MVAR, SENTINEL}
 use Rattle.sig_grammar.specs.Parts.{Part, part_tokens}
 use Rattle.sig_grammar.specs.Grammar.{modifiers_parts, prefixes_parts}
 use Rattle.sig_grammar.specs.Encodes.{first_bad}
-use Rattle.sig_grammar.specs.Reading.{number_at, index_at, modifiers_at, prefixes_at, element_of, head_is, is_method_code, takes_sentinel}
+use Rattle.sig_grammar.specs.Reading.{token_of, number_at, index_at, modifiers_at, prefixes_at, element_of, head_is, is_method_code, takes_sentinel}
 use Rattle.std.specs.List.{flat_map}
-use Rattle.sig_recogniser.specs.declared.tail.Tail.{Tail}
+use Rattle.sig_recogniser.specs.declared.position.Position.{Position}
 
 -- the remaining bytes, and the first type index so far whose row does not exist
 abbrev pub Left : Type 0
 Left = List ℕ × Option Token
 
-abbrev pub left : Tail → Left
-left tail = (tail.bytes.now, tail.bad)
+-- the bytes from an offset on
+unfoldable pub remains : List ℕ → ℕ → List ℕ
+remains bytes offset = drop offset bytes
+
+-- a number of a type index, or 0 for none, as the walk keeps it: one more than the number
+unfoldable pub bad_token : ℕ → Option Token
+bad_token zero = None
+bad_token (suc number) = Some (unwrap_or (token_of number) (record { table = TypeDef; row = 0 }))
+
+abbrev pub left : List ℕ → Position → Left
+left bytes here = (remains bytes here.offset, bad_token here.bad)
 
 abbrev pub Skip : Type 0
 Skip = Left → Option Left
