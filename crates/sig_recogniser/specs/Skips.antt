@@ -1,5 +1,5 @@
 -- The remainder of a signature after its parts, without their values. Private functions compute this in the same way.
-use Rattle.std.specs.Prelude.{ℕ, zero, suc, ◌==◌, ◌&&◌, ◌/◌, ◌%◌, nat_lt, Bool, true, false, not, if◌then◌else◌, Option, Some, None, option_map, option_and_then, unwrap_or, is_some, List, [], ◌∷◌, drop}
+use Rattle.std.specs.Prelude.{ℕ, zero, suc, ◌==◌, ◌&&◌, ◌/◌, ◌%◌, ◌^◌, nat_lt, Bool, true, false, not, if◌then◌else◌, Option, Some, None, option_map, option_and_then, unwrap_or, is_some, List, [], ◌∷◌, drop}
 use Rattle.std.specs.Option.{option_or}
 use Rattle.table_schema.specs.declared.token.Token.{Token}
 use Rattle.table_schema.specs.declared.table.TableId.TheVariants.{TypeDef}
@@ -17,17 +17,26 @@ use Rattle.sig_recogniser.specs.declared.position.Position.{Position}
 abbrev pub Left : Type 0
 Left = List ℕ × Option Token
 
--- the bytes from an offset on
-unfoldable pub remains : List ℕ → ℕ → List ℕ
-remains bytes offset = drop offset bytes
+-- the two numbers of a position: the bytes before it, and what is kept of a type index
+abbrev pub offset_of : Position → ℕ
+offset_of here = here.bits % 2 ^ 32
 
--- a number of a type index, or 0 for none, as the walk keeps it: one more than the number
-unfoldable pub bad_token : ℕ → Option Token
-bad_token zero = None
-bad_token (suc number) = Some (unwrap_or (token_of number) (record { table = TypeDef; row = 0 }))
+abbrev pub bad_of : Position → ℕ
+bad_of here = here.bits / 2 ^ 32
+
+-- the type index of a number is kept as one more; 0 is none
+abbrev pub token_kept : ℕ → Option Token
+token_kept zero = None
+token_kept (suc number) = Some (unwrap_or (token_of number) (record { table = TypeDef; row = 0 }))
+
+unfoldable pub remains : List ℕ → Position → List ℕ
+remains bytes here = drop (offset_of here) bytes
+
+unfoldable pub bad_token : Position → Option Token
+bad_token here = token_kept (bad_of here)
 
 abbrev pub left : List ℕ → Position → Left
-left bytes here = (remains bytes here.offset, bad_token here.bad)
+left bytes here = (remains bytes here, bad_token here)
 
 abbrev pub Skip : Type 0
 Skip = Left → Option Left

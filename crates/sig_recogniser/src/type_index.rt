@@ -1,28 +1,10 @@
-ghost use Rattle.std.specs.Prelude.{◌≡◌, ◌<◌, ◌^◌, ◌==◌, ◌∷◌, [], Some, length, option_map, if◌then◌else◌};
+ghost use Rattle.std.specs.Prelude.{◌≡◌, ◌<◌, ◌^◌, ◌==◌, Some, length, option_map, if◌then◌else◌};
 ghost use Rattle.sig_grammar.specs.ElementTypes as of;
-ghost use Rattle.sig_grammar.specs.Reading.{token_of};
-ghost use Rattle.sig_recogniser.specs.Skips.{bad_token, left, noted, skip_index, skip_modifiers, skip_prefixes};
+ghost use Rattle.sig_recogniser.specs.Skips.{left, skip_index, skip_modifiers, skip_prefixes};
 
-use crate::position::{Position, byte, has_modifier, has_prefix, number};
+use crate::position::{Position, byte, has_modifier, has_prefix, noted, number};
 use sig_grammar::element_type::PINNED;
-use sig_grammar::{names_row, token_of_index};
-use table_schema::Token;
-
-/// One more than the number of the first type index whose row does not exist, after one more index.
-#[inline(always)]
-fn first_bad(bad: u32, number: u32, token: Token, counts: &[u32; 45]) -> u32
-    requires token { token_of number ≡ Some token }
-    requires limit { number < 2 ^ 29 }
-    ensures { bad_token result ≡ noted counts.now (bad_token bad) (token ∷ []) }
-{
-    if bad != 0 {
-        return bad;
-    }
-    if names_row(token, counts) {
-        return 0;
-    }
-    number + 1
-}
+use sig_grammar::token_of_index;
 
 /// The position after a type index (II.23.2.8).
 #[inline(always)]
@@ -33,8 +15,7 @@ pub fn after_index(bytes: &[u8], here: Position, counts: &[u32; 45]) -> Option<P
 {
     let (number, behind) = number(bytes, here)?;
     let token = token_of_index(number)?;
-    let bad = first_bad(behind.bad, number, token, counts);
-    Some(Position { bad, ..behind })
+    Some(noted(behind, number, token, counts))
 }
 
 /// The position after the modifiers (II.23.2.7). Most types have none.
@@ -43,7 +24,7 @@ pub fn after_modifiers(bytes: &[u8], here: Position, counts: &[u32; 45]) -> Opti
     requires { length bytes.now < 2 ^ 29 }
     ensures { option_map (left bytes.now) result ≡ skip_modifiers counts.now (left bytes.now here) }
 {
-    if has_modifier(bytes, here.offset) {
+    if has_modifier(bytes, here) {
         return after_each_modifier(bytes, here, counts);
     }
     Some(here)
@@ -55,7 +36,7 @@ fn after_each_modifier(bytes: &[u8], here: Position, counts: &[u32; 45]) -> Opti
     ensures { option_map (left bytes.now) result ≡ skip_modifiers counts.now (left bytes.now here) }
 {
     let mut here = here;
-    while has_modifier(bytes, here.offset) {
+    while has_modifier(bytes, here) {
         let (_, behind) = byte(bytes, here)?;
         here = after_index(bytes, behind, counts)?;
     }
@@ -84,7 +65,7 @@ pub fn after_prefixes(bytes: &[u8], here: Position, counts: &[u32; 45]) -> Optio
     ensures { option_map (left bytes.now) result ≡ skip_prefixes counts.now (left bytes.now here) }
 {
     let mut here = here;
-    while has_prefix(bytes, here.offset) {
+    while has_prefix(bytes, here) {
         let (code, behind) = byte(bytes, here)?;
         here = after_prefix(bytes, code, behind, counts)?;
     }

@@ -12,6 +12,7 @@ use sig_grammar::method_byte::{begins_method, is_generic, may_have_sentinel};
 
 /// The position after a core of at most the given depth (II.23.2.12).
 #[cycle(walk)]
+#[inline(always)]
 #[tactic(auto, using(crate::proofs::Loops::skip_core_next, crate::proofs::Loops::skip_core_none))]
 fn after_core(bytes: &[u8], here: Position, depth: u8, counts: &[u32; 45]) -> Option<Position>
     requires { length bytes.now < 2 ^ 29 }
@@ -122,6 +123,7 @@ pub fn after_types(
 
 /// The position after the kind and type of a parameter, a field or a local variable (II.23.2.10).
 #[cycle(walk)]
+#[inline(always)]
 #[tactic(auto, unfolding(crate::specs::Skips::skip_content))]
 pub fn after_content(bytes: &[u8], here: Position, depth: u8, counts: &[u32; 45]) -> Option<Position>
     requires { length bytes.now < 2 ^ 29 }

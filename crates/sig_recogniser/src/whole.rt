@@ -26,11 +26,11 @@ pub fn recognise_first_bad(bytes: &[u8], kind: SigKind, counts: &[u32; 45]) -> O
         return None;
     }
     let end = after_body(bytes, START, kind, DEPTH_LIMIT, counts)?;
-    let behind = bytes_from(bytes, end.offset);
+    let behind = bytes_from(bytes, end);
     if !behind.is_empty() {
         return None;
     }
-    Some(bad_token(end.bad))
+    Some(bad_token(end))
 }
 
 /// Whether all the bytes together encode a signature that a column of this kind holds.

@@ -6,5 +6,5 @@ use Rattle.sig_recogniser.proofs.type_index.after_modifiers.Goals as goal
 
 pub returns : goal.returns
 returns c =
-    let stops : starts_modifier (remains c.args.bytes.now c.args.here.offset) ≡ false = sym c.has_modifier.ensures ∙ c.if-has_modifier.false in
-    sym (modifiers_end c.args.counts.now (remains c.args.bytes.now c.args.here.offset) (bad_token c.args.here.bad) stops)
+    let stops : starts_modifier (remains c.args.bytes.now c.args.here) ≡ false = sym c.has_modifier.ensures ∙ c.if-has_modifier.false in
+    sym (modifiers_end c.args.counts.now (remains c.args.bytes.now c.args.here) (bad_token c.args.here) stops)

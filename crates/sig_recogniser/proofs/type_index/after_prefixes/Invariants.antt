@@ -6,4 +6,4 @@ abbrev pub invariant-loop-here : goal.invariant-loop-here
 invariant-loop-here l = skip_prefixes l.counts (left l.bytes l.here) ≡ skip_prefixes l.counts (left l.bytes l.fn.here)
 
 abbrev pub decreases-loop-here : goal.decreases-loop-here
-decreases-loop-here l = length (remains l.bytes l.here.offset)
+decreases-loop-here l = length (remains l.bytes l.here)
