@@ -1,23 +1,42 @@
 -- The remainder of a signature after its parts, without their values. Private functions compute this in the same way.
-use Rattle.std.specs.Prelude.{ℕ, zero, suc, ◌==◌, ◌&&◌, ◌/◌, ◌%◌, nat_lt, Bool, true, false, not, if◌then◌else◌, Option, Some, None, option_map, option_and_then, is_some, List, [], ◌∷◌, drop}
+use Rattle.std.specs.Prelude.{ℕ, zero, suc, ◌==◌, ◌&&◌, ◌/◌, ◌%◌, ◌^◌, nat_lt, Bool, true, false, not, if◌then◌else◌, Option, Some, None, option_map, option_and_then, unwrap_or, is_some, List, [], ◌∷◌, drop}
 use Rattle.std.specs.Option.{option_or}
 use Rattle.table_schema.specs.declared.token.Token.{Token}
+use Rattle.table_schema.specs.declared.table.TableId.TheVariants.{TypeDef}
 use Rattle.table_schema.specs.declared.column.SigKind.{SigKind}
 use Rattle.table_schema.specs.declared.column.SigKind.TheVariants as column
 use Rattle.sig_grammar.specs.ElementTypes.{VOID, PTR, BYREF, VALUETYPE, CLASS, VAR, ARRAY, GENERICINST, TYPEDBYREF, FNPTR, SZARRAY, MVAR, SENTINEL}
 use Rattle.sig_grammar.specs.Parts.{Part, part_tokens}
 use Rattle.sig_grammar.specs.Grammar.{modifiers_parts, prefixes_parts}
 use Rattle.sig_grammar.specs.Encodes.{first_bad}
-use Rattle.sig_grammar.specs.Reading.{number_at, index_at, modifiers_at, prefixes_at, element_of, head_is, is_method_code, takes_sentinel}
+use Rattle.sig_grammar.specs.Reading.{token_of, number_at, index_at, modifiers_at, prefixes_at, element_of, head_is, is_method_code, takes_sentinel}
 use Rattle.std.specs.List.{flat_map}
-use Rattle.sig_recogniser.specs.declared.tail.Tail.{Tail}
+use Rattle.sig_recogniser.specs.declared.position.Position.{Position}
 
 -- the remaining bytes, and the first type index so far whose row does not exist
 abbrev pub Left : Type 0
 Left = List ℕ × Option Token
 
-abbrev pub left : Tail → Left
-left tail = (tail.bytes.now, tail.bad)
+-- the two numbers of a position: the bytes before it, and what is kept of a type index
+abbrev pub offset_of : Position → ℕ
+offset_of here = here.bits % 2 ^ 32
+
+abbrev pub bad_of : Position → ℕ
+bad_of here = here.bits / 2 ^ 32
+
+-- the type index of a number is kept as one more; 0 is none
+abbrev pub token_kept : ℕ → Option Token
+token_kept zero = None
+token_kept (suc number) = Some (unwrap_or (token_of number) (record { table = TypeDef; row = 0 }))
+
+unfoldable pub remains : List ℕ → Position → List ℕ
+remains bytes here = drop (offset_of here) bytes
+
+unfoldable pub bad_token : Position → Option Token
+bad_token here = token_kept (bad_of here)
+
+abbrev pub left : List ℕ → Position → Left
+left bytes here = (remains bytes here, bad_token here)
 
 abbrev pub Skip : Type 0
 Skip = Left → Option Left

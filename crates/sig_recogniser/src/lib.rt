@@ -19,8 +19,8 @@
 mod columns;
 mod head;
 mod items;
+mod position;
 mod shape;
-mod tail;
 mod type_index;
 mod walk;
 mod whole;

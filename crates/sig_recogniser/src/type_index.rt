@@ -1,80 +1,73 @@
-ghost use Rattle.std.specs.Prelude.{◌≡◌, option_map, ◌∷◌, []};
-ghost use Rattle.std.specs.List.{flat_map};
-ghost use Rattle.sig_grammar.specs.Parts.{part_tokens};
-ghost use Rattle.sig_grammar.specs.Grammar.{prefix_parts};
-ghost use Rattle.sig_recogniser.specs.Skips.{left, noted, skip_index, skip_modifiers, skip_prefixes};
+ghost use Rattle.std.specs.Prelude.{◌≡◌, ◌<◌, ◌^◌, ◌==◌, Some, length, option_map, if◌then◌else◌};
+ghost use Rattle.sig_grammar.specs.ElementTypes as of;
+ghost use Rattle.sig_recogniser.specs.Skips.{left, skip_index, skip_modifiers, skip_prefixes};
 
-use crate::head::index;
-use crate::items::{has_modifier, has_prefix, modifier, prefix};
-use crate::tail::Tail;
-use sig_grammar::{Prefix, names_row};
-use table_schema::Token;
+use crate::position::{Position, byte, has_modifier, has_prefix, noted, number};
+use sig_grammar::element_type::PINNED;
+use sig_grammar::token_of_index;
 
-/// The first token without a row, after one more token.
-#[inline]
-fn first_bad(bad: Option<Token>, token: Token, counts: &[u32; 45]) -> Option<Token>
-    ensures { result ≡ noted counts.now bad (token ∷ []) }
-{
-    if bad.is_some() || names_row(token, counts) {
-        return bad;
-    }
-    Some(token)
-}
-
-/// The same, after one more modifier or PINNED.
-fn first_bad_with(bad: Option<Token>, prefix: Prefix, counts: &[u32; 45]) -> Option<Token>
-    ensures { result ≡ noted counts.now bad (flat_map part_tokens (prefix_parts prefix)) }
-{
-    match prefix {
-        Prefix::Mod(modifier) => first_bad(bad, modifier.of, counts),
-        Prefix::Pinned => bad,
-    }
-}
-
-/// The remainder after a type index (II.23.2.8).
+/// The position after a type index (II.23.2.8).
 #[inline(always)]
-#[tactic(auto, unfolding(crate::specs::Skips::skip_index))]
-pub fn after_index<'a>(tail: Tail<'a>, counts: &[u32; 45]) -> Option<Tail<'a>>
-    ensures { option_map left result ≡ skip_index counts.now (left tail.entry) }
+#[tactic(auto, unfolding(crate::specs::Skips::skip_index, crate::specs::Skips::number_left, sig_grammar::specs::Reading::index_at))]
+pub fn after_index(bytes: &[u8], here: Position, counts: &[u32; 45]) -> Option<Position>
+    requires { length bytes.now < 2 ^ 29 }
+    ensures { option_map (left bytes.now) result ≡ skip_index counts.now (left bytes.now here) }
 {
-    let (token, bytes) = index(tail.bytes)?;
-    let bad = first_bad(tail.bad, token, counts);
-    Some(Tail { bytes, bad })
+    let (number, behind) = number(bytes, here)?;
+    let token = token_of_index(number)?;
+    Some(noted(behind, number, token, counts))
 }
 
-/// The remainder after the modifiers at the start (II.23.2.7). Most types have none.
+/// The position after the modifiers (II.23.2.7). Most types have none.
 #[inline(always)]
-pub fn after_modifiers<'a>(tail: Tail<'a>, counts: &[u32; 45]) -> Option<Tail<'a>>
-    ensures { option_map left result ≡ skip_modifiers counts.now (left tail.entry) }
+pub fn after_modifiers(bytes: &[u8], here: Position, counts: &[u32; 45]) -> Option<Position>
+    requires { length bytes.now < 2 ^ 29 }
+    ensures { option_map (left bytes.now) result ≡ skip_modifiers counts.now (left bytes.now here) }
 {
-    if has_modifier(tail.bytes) {
-        return after_each_modifier(tail, counts);
+    if has_modifier(bytes, here) {
+        return after_each_modifier(bytes, here, counts);
     }
-    Some(tail)
+    Some(here)
 }
 
 /// The same, one modifier after another.
-fn after_each_modifier<'a>(tail: Tail<'a>, counts: &[u32; 45]) -> Option<Tail<'a>>
-    ensures { option_map left result ≡ skip_modifiers counts.now (left tail.entry) }
+fn after_each_modifier(bytes: &[u8], here: Position, counts: &[u32; 45]) -> Option<Position>
+    requires { length bytes.now < 2 ^ 29 }
+    ensures { option_map (left bytes.now) result ≡ skip_modifiers counts.now (left bytes.now here) }
 {
-    let mut tail = tail;
-    while has_modifier(tail.bytes) {
-        let (modifier, bytes) = modifier(tail.bytes)?;
-        let bad = first_bad(tail.bad, modifier.of, counts);
-        tail = Tail { bytes, bad };
+    let mut here = here;
+    while has_modifier(bytes, here) {
+        let (_, behind) = byte(bytes, here)?;
+        here = after_index(bytes, behind, counts)?;
     }
-    Some(tail)
+    Some(here)
 }
 
-/// The remainder after the modifiers and PINNED at the start (II.23.2.6).
-pub fn after_prefixes<'a>(tail: Tail<'a>, counts: &[u32; 45]) -> Option<Tail<'a>>
-    ensures { option_map left result ≡ skip_prefixes counts.now (left tail.entry) }
+/// The position after a modifier or PINNED whose first byte was read.
+fn after_prefix(
+    bytes: &[u8],
+    code: u8,
+    behind: Position,
+    counts: &[u32; 45],
+) -> Option<Position>
+    requires { length bytes.now < 2 ^ 29 }
+    ensures { option_map (left bytes.now) result ≡ (if code == of.PINNED then Some (left bytes.now behind) else skip_index counts.now (left bytes.now behind)) }
 {
-    let mut tail = tail;
-    while has_prefix(tail.bytes) {
-        let (prefix, bytes) = prefix(tail.bytes)?;
-        let bad = first_bad_with(tail.bad, prefix, counts);
-        tail = Tail { bytes, bad };
+    if code == PINNED {
+        return Some(behind);
     }
-    Some(tail)
+    after_index(bytes, behind, counts)
+}
+
+/// The position after the modifiers and PINNED (II.23.2.6).
+pub fn after_prefixes(bytes: &[u8], here: Position, counts: &[u32; 45]) -> Option<Position>
+    requires { length bytes.now < 2 ^ 29 }
+    ensures { option_map (left bytes.now) result ≡ skip_prefixes counts.now (left bytes.now here) }
+{
+    let mut here = here;
+    while has_prefix(bytes, here) {
+        let (code, behind) = byte(bytes, here)?;
+        here = after_prefix(bytes, code, behind, counts)?;
+    }
+    Some(here)
 }

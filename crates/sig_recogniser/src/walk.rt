@@ -1,9 +1,8 @@
-ghost use Rattle.std.specs.Prelude.{◌≡◌, ◌/◌, ◌%◌, ◌==◌, option_map};
+ghost use Rattle.std.specs.Prelude.{◌≡◌, ◌<◌, ◌^◌, length, ◌/◌, ◌%◌, ◌==◌, option_map};
 ghost use Rattle.sig_recogniser.specs.Skips.{left, skip_core, skip_by, skip_typed, skip_target, skip_instance, skip_many, skip_content, skip_slot, skip_ret, skip_params, skip_generic, skip_method};
 
-use crate::head::sentinel;
 use crate::shape::after_shape;
-use crate::tail::{Tail, after_number, byte, number};
+use crate::position::{Position, after_number, after_sentinel, byte, number};
 use crate::type_index::{after_index, after_modifiers};
 use sig_grammar::Element;
 use sig_grammar::element_type::{
@@ -11,197 +10,213 @@ use sig_grammar::element_type::{
 };
 use sig_grammar::method_byte::{begins_method, is_generic, may_have_sentinel};
 
-/// The remainder after a core of at most the given depth (II.23.2.12).
+/// The position after a core of at most the given depth (II.23.2.12).
 #[cycle(walk)]
+#[inline(always)]
 #[tactic(auto, using(crate::proofs::Loops::skip_core_next, crate::proofs::Loops::skip_core_none))]
-fn after_core<'a>(tail: Tail<'a>, depth: u8, counts: &[u32; 45]) -> Option<Tail<'a>>
-    ensures { option_map left result ≡ skip_core counts.now depth (left tail.entry) }
+fn after_core(bytes: &[u8], here: Position, depth: u8, counts: &[u32; 45]) -> Option<Position>
+    requires { length bytes.now < 2 ^ 29 }
+    ensures { option_map (left bytes.now) result ≡ skip_core counts.now depth (left bytes.now here) }
 {
     if depth == 0 {
         return None;
     }
-    let (code, tail) = byte(tail)?;
+    let (code, here) = byte(bytes, here)?;
     if Element::from_byte(code).is_some() {
-        return Some(tail);
+        return Some(here);
     }
-    after_code(code, tail, depth - 1, counts)
+    after_code(bytes, code, here, depth - 1, counts)
 }
 
-/// The remainder after a core with first byte `code`. The types in it are at most `depth` deep.
+/// The position after a core with first byte `code`. The types in it are at most `depth` deep.
 #[cycle(walk)]
 #[tactic(auto, using(crate::proofs::Loops::skip_deep_some), unfolding(crate::specs::Skips::skip_by))]
-fn after_code<'a>(code: u8, tail: Tail<'a>, depth: u8, counts: &[u32; 45]) -> Option<Tail<'a>>
-    ensures { option_map left result ≡ skip_by counts.now depth (skip_core counts.now depth) code (left tail.entry) }
+fn after_code(bytes: &[u8], code: u8, here: Position, depth: u8, counts: &[u32; 45]) -> Option<Position>
+    requires { length bytes.now < 2 ^ 29 }
+    ensures { option_map (left bytes.now) result ≡ skip_by counts.now depth (skip_core counts.now depth) code (left bytes.now here) }
 {
     match code {
         PTR => {
             if depth == 0 {
                 return None;
             }
-            after_target(tail, depth, counts)
+            after_target(bytes, here, depth, counts)
         }
-        VALUETYPE | CLASS => after_index(tail, counts),
-        VAR | MVAR => after_number(tail),
+        VALUETYPE | CLASS => after_index(bytes, here, counts),
+        VAR | MVAR => after_number(bytes, here),
         ARRAY => {
-            let tail = after_typed(tail, depth, counts)?;
-            after_shape(tail)
+            let here = after_typed(bytes, here, depth, counts)?;
+            after_shape(bytes, here)
         }
-        GENERICINST => after_instance(tail, depth, counts),
+        GENERICINST => after_instance(bytes, here, depth, counts),
         FNPTR => {
             if depth == 0 {
                 return None;
             }
-            after_method(tail, true, depth, counts)
+            after_method(bytes, here, true, depth, counts)
         }
-        SZARRAY => after_typed(tail, depth, counts),
+        SZARRAY => after_typed(bytes, here, depth, counts),
         _ => None,
     }
 }
 
-/// The remainder after a type.
+/// The position after a type.
 #[cycle(walk)]
 #[tactic(auto, unfolding(crate::specs::Skips::skip_typed))]
-fn after_typed<'a>(tail: Tail<'a>, depth: u8, counts: &[u32; 45]) -> Option<Tail<'a>>
-    ensures { option_map left result ≡ skip_typed counts.now (skip_core counts.now depth) (left tail.entry) }
+fn after_typed(bytes: &[u8], here: Position, depth: u8, counts: &[u32; 45]) -> Option<Position>
+    requires { length bytes.now < 2 ^ 29 }
+    ensures { option_map (left bytes.now) result ≡ skip_typed counts.now (skip_core counts.now depth) (left bytes.now here) }
 {
-    let tail = after_modifiers(tail, counts)?;
-    after_core(tail, depth, counts)
+    let here = after_modifiers(bytes, here, counts)?;
+    after_core(bytes, here, depth, counts)
 }
 
-/// The remainder after the target of a pointer.
+/// The position after the target of a pointer.
 #[cycle(walk)]
 #[tactic(auto, unfolding(crate::specs::Skips::skip_target, crate::specs::Skips::skip_void_or))]
-fn after_target<'a>(tail: Tail<'a>, depth: u8, counts: &[u32; 45]) -> Option<Tail<'a>>
-    ensures { option_map left result ≡ skip_target counts.now (skip_core counts.now depth) (left tail.entry) }
+fn after_target(bytes: &[u8], here: Position, depth: u8, counts: &[u32; 45]) -> Option<Position>
+    requires { length bytes.now < 2 ^ 29 }
+    ensures { option_map (left bytes.now) result ≡ skip_target counts.now (skip_core counts.now depth) (left bytes.now here) }
 {
-    let tail = after_modifiers(tail, counts)?;
-    match byte(tail)? {
-        (VOID, tail) => Some(tail),
-        _ => after_core(tail, depth, counts),
+    let here = after_modifiers(bytes, here, counts)?;
+    match byte(bytes, here)? {
+        (VOID, here) => Some(here),
+        _ => after_core(bytes, here, depth, counts),
     }
 }
 
-/// The remainder after the type index and the arguments of a generic type.
+/// The position after the type index and the arguments of a generic type.
 #[cycle(walk)]
 #[tactic(auto, unfolding(crate::specs::Skips::skip_instance, crate::specs::Skips::skip_named, crate::specs::Skips::skip_counted))]
-fn after_instance<'a>(tail: Tail<'a>, depth: u8, counts: &[u32; 45]) -> Option<Tail<'a>>
-    ensures { option_map left result ≡ skip_instance counts.now (skip_core counts.now depth) (left tail.entry) }
+fn after_instance(bytes: &[u8], here: Position, depth: u8, counts: &[u32; 45]) -> Option<Position>
+    requires { length bytes.now < 2 ^ 29 }
+    ensures { option_map (left bytes.now) result ≡ skip_instance counts.now (skip_core counts.now depth) (left bytes.now here) }
 {
-    let (code, tail) = byte(tail)?;
+    let (code, here) = byte(bytes, here)?;
     if code != VALUETYPE && code != CLASS {
         return None;
     }
-    let tail = after_index(tail, counts)?;
-    let (count, tail) = number(tail)?;
-    after_types(tail, count, depth, counts)
+    let here = after_index(bytes, here, counts)?;
+    let (count, here) = number(bytes, here)?;
+    after_types(bytes, here, count, depth, counts)
 }
 
-/// The remainder after `count` types.
+/// The position after `count` types.
 #[cycle(walk)]
 #[tactic(auto, using(crate::proofs::Loops::skip_many_next, crate::proofs::Loops::skip_many_end))]
-pub fn after_types<'a>(
-    tail: Tail<'a>,
+pub fn after_types(
+    bytes: &[u8],
+    here: Position,
     count: u32,
     depth: u8,
     counts: &[u32; 45],
-) -> Option<Tail<'a>>
-    ensures { option_map left result ≡ skip_many (skip_typed counts.now (skip_core counts.now depth)) count (left tail.entry) }
+) -> Option<Position>
+    requires { length bytes.now < 2 ^ 29 }
+    ensures { option_map (left bytes.now) result ≡ skip_many (skip_typed counts.now (skip_core counts.now depth)) count (left bytes.now here) }
 {
-    let mut tail = tail;
+    let mut here = here;
     for done in 0..count {
-        tail = after_typed(tail, depth, counts)?;
+        here = after_typed(bytes, here, depth, counts)?;
     }
-    Some(tail)
+    Some(here)
 }
 
-/// The remainder after the kind and type of a parameter, a field or a local variable (II.23.2.10).
+/// The position after the kind and type of a parameter, a field or a local variable (II.23.2.10).
 #[cycle(walk)]
+#[inline(always)]
 #[tactic(auto, unfolding(crate::specs::Skips::skip_content))]
-pub fn after_content<'a>(tail: Tail<'a>, depth: u8, counts: &[u32; 45]) -> Option<Tail<'a>>
-    ensures { option_map left result ≡ skip_content counts.now (skip_core counts.now depth) (left tail.entry) }
+pub fn after_content(bytes: &[u8], here: Position, depth: u8, counts: &[u32; 45]) -> Option<Position>
+    requires { length bytes.now < 2 ^ 29 }
+    ensures { option_map (left bytes.now) result ≡ skip_content counts.now (skip_core counts.now depth) (left bytes.now here) }
 {
-    match byte(tail)? {
-        (TYPEDBYREF, tail) => Some(tail),
-        (BYREF, tail) => after_typed(tail, depth, counts),
-        _ => after_core(tail, depth, counts),
+    match byte(bytes, here)? {
+        (TYPEDBYREF, here) => Some(here),
+        (BYREF, here) => after_typed(bytes, here, depth, counts),
+        _ => after_core(bytes, here, depth, counts),
     }
 }
 
-/// The remainder after a parameter or a field.
+/// The position after a parameter or a field.
 #[cycle(walk)]
 #[tactic(auto, unfolding(crate::specs::Skips::skip_slot))]
-pub fn after_slot<'a>(tail: Tail<'a>, depth: u8, counts: &[u32; 45]) -> Option<Tail<'a>>
-    ensures { option_map left result ≡ skip_slot counts.now (skip_core counts.now depth) (left tail.entry) }
+pub fn after_slot(bytes: &[u8], here: Position, depth: u8, counts: &[u32; 45]) -> Option<Position>
+    requires { length bytes.now < 2 ^ 29 }
+    ensures { option_map (left bytes.now) result ≡ skip_slot counts.now (skip_core counts.now depth) (left bytes.now here) }
 {
-    let tail = after_modifiers(tail, counts)?;
-    after_content(tail, depth, counts)
+    let here = after_modifiers(bytes, here, counts)?;
+    after_content(bytes, here, depth, counts)
 }
 
-/// The remainder after a result (II.23.2.11).
+/// The position after a result (II.23.2.11).
 #[cycle(walk)]
 #[tactic(auto, unfolding(crate::specs::Skips::skip_ret, crate::specs::Skips::skip_void_or))]
-pub fn after_ret<'a>(tail: Tail<'a>, depth: u8, counts: &[u32; 45]) -> Option<Tail<'a>>
-    ensures { option_map left result ≡ skip_ret counts.now (skip_core counts.now depth) (left tail.entry) }
+pub fn after_ret(bytes: &[u8], here: Position, depth: u8, counts: &[u32; 45]) -> Option<Position>
+    requires { length bytes.now < 2 ^ 29 }
+    ensures { option_map (left bytes.now) result ≡ skip_ret counts.now (skip_core counts.now depth) (left bytes.now here) }
 {
-    let tail = after_modifiers(tail, counts)?;
-    match byte(tail)? {
-        (VOID, tail) => Some(tail),
-        _ => after_content(tail, depth, counts),
+    let here = after_modifiers(bytes, here, counts)?;
+    match byte(bytes, here)? {
+        (VOID, here) => Some(here),
+        _ => after_content(bytes, here, depth, counts),
     }
 }
 
-/// The remainder after `count` parameters, with SENTINEL before one of them if it is allowed.
+/// The position after `count` parameters, with SENTINEL before one of them if it is allowed.
 #[cycle(walk)]
 #[tactic(auto, using(crate::proofs::Loops::skip_params_next, crate::proofs::Loops::skip_params_end))]
-fn after_params<'a>(
-    tail: Tail<'a>,
+fn after_params(
+    bytes: &[u8],
+    here: Position,
     count: u32,
     allowed: bool,
     depth: u8,
     counts: &[u32; 45],
-) -> Option<Tail<'a>>
-    ensures { option_map left result ≡ skip_params counts.now (skip_core counts.now depth) allowed count (left tail.entry) }
+) -> Option<Position>
+    requires { length bytes.now < 2 ^ 29 }
+    ensures { option_map (left bytes.now) result ≡ skip_params counts.now (skip_core counts.now depth) allowed count (left bytes.now here) }
 {
-    let mut tail = tail;
+    let mut here = here;
     let mut allowed = allowed;
     for done in 0..count {
-        let (marked, bytes) = sentinel(tail.bytes, allowed);
+        let (marked, slot) = after_sentinel(bytes, here, allowed);
         allowed = allowed && !marked;
-        let slot = Tail { bytes, ..tail };
-        tail = after_slot(slot, depth, counts)?;
+        here = after_slot(bytes, slot, depth, counts)?;
     }
-    Some(tail)
+    Some(here)
 }
 
-/// The remainder after the number of generic parameters, if the first byte of the method says that the
+/// The position after the number of generic parameters, if the first byte of the method says that the
 /// method is generic.
 #[tactic(auto, unfolding(crate::specs::Skips::skip_generic))]
-fn after_generic(tail: Tail<'_>, code: u8) -> Option<Tail<'_>>
-    ensures { option_map left result ≡ skip_generic (code / 16 % 2 == 1) (left tail.entry) }
+fn after_generic(bytes: &[u8], here: Position, code: u8) -> Option<Position>
+    requires { length bytes.now < 2 ^ 29 }
+    ensures { option_map (left bytes.now) result ≡ skip_generic (code / 16 % 2 == 1) (left bytes.now here) }
 {
     if is_generic(code) {
-        return after_number(tail);
+        return after_number(bytes, here);
     }
-    Some(tail)
+    Some(here)
 }
 
-/// The remainder after a method; `own` says whether it may have a SENTINEL (II.23.2.1 to II.23.2.3).
+/// The position after a method; `own` says whether it may have a SENTINEL (II.23.2.1 to II.23.2.3).
 #[cycle(walk)]
 #[tactic(auto, unfolding(crate::specs::Skips::skip_method, crate::specs::Skips::skip_call))]
-pub fn after_method<'a>(
-    tail: Tail<'a>,
+pub fn after_method(
+    bytes: &[u8],
+    here: Position,
     own: bool,
     depth: u8,
     counts: &[u32; 45],
-) -> Option<Tail<'a>>
-    ensures { option_map left result ≡ skip_method counts.now own (skip_core counts.now depth) (left tail.entry) }
+) -> Option<Position>
+    requires { length bytes.now < 2 ^ 29 }
+    ensures { option_map (left bytes.now) result ≡ skip_method counts.now own (skip_core counts.now depth) (left bytes.now here) }
 {
-    let (code, tail) = byte(tail)?;
+    let (code, here) = byte(bytes, here)?;
     if !begins_method(code) {
         return None;
     }
-    let tail = after_generic(tail, code)?;
-    let (count, tail) = number(tail)?;
-    let tail = after_ret(tail, depth, counts)?;
-    after_params(tail, count, own && may_have_sentinel(code), depth, counts)
+    let here = after_generic(bytes, here, code)?;
+    let (count, here) = number(bytes, here)?;
+    let here = after_ret(bytes, here, depth, counts)?;
+    after_params(bytes, here, count, own && may_have_sentinel(code), depth, counts)
 }

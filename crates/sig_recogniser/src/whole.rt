@@ -3,7 +3,7 @@ ghost use Rattle.sig_grammar.specs.Syntax.{Body};
 ghost use Rattle.sig_grammar.specs.Encodes.{Encodes, tokens, first_bad};
 
 use crate::columns::after_body;
-use crate::tail::Tail;
+use crate::position::{START, bad_token, bytes_from};
 use packed::BLOB_LIMIT;
 use sig_grammar::DEPTH_LIMIT;
 use table_schema::{SigKind, Token};
@@ -25,11 +25,12 @@ pub fn recognise_first_bad(bytes: &[u8], kind: SigKind, counts: &[u32; 45]) -> O
     if bytes.len() > BLOB_LIMIT {
         return None;
     }
-    let tail = after_body(Tail { bytes, bad: None }, kind, DEPTH_LIMIT, counts)?;
-    if !tail.bytes.is_empty() {
+    let end = after_body(bytes, START, kind, DEPTH_LIMIT, counts)?;
+    let behind = bytes_from(bytes, end);
+    if !behind.is_empty() {
         return None;
     }
-    Some(tail.bad)
+    Some(bad_token(end))
 }
 
 /// Whether all the bytes together encode a signature that a column of this kind holds.

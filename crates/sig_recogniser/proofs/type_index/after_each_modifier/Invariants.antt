@@ -1,9 +1,9 @@
 use Rattle.std.proofs.Common.{◌≡◌, length}
-use Rattle.sig_recogniser.specs.Skips.{left, skip_modifiers}
+use Rattle.sig_recogniser.specs.Skips.{left, remains, skip_modifiers}
 use Rattle.sig_recogniser.proofs.type_index.after_each_modifier.Given as goal
 
-abbrev pub invariant-loop-tail : goal.invariant-loop-tail
-invariant-loop-tail l = skip_modifiers l.counts (left l.tail) ≡ skip_modifiers l.counts (left l.fn.tail)
+abbrev pub invariant-loop-here : goal.invariant-loop-here
+invariant-loop-here l = skip_modifiers l.counts (left l.bytes l.here) ≡ skip_modifiers l.counts (left l.bytes l.fn.here)
 
-abbrev pub decreases-loop-tail : goal.decreases-loop-tail
-decreases-loop-tail l = length l.tail.bytes.now
+abbrev pub decreases-loop-here : goal.decreases-loop-here
+decreases-loop-here l = length (remains l.bytes l.here)

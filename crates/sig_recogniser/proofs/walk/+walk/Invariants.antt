@@ -37,8 +37,8 @@ decreases-after_method l = 8 * l.depth + 5
 
 abbrev pub invariant-after_types-loop-done : goal.invariant-after_types-loop-done
 invariant-after_types-loop-done l =
-    skip_many (skip_typed l.counts (skip_core l.counts l.depth)) (l.count - l.done) (left l.tail) ≡ skip_many (skip_typed l.counts (skip_core l.counts l.depth)) l.count (left l.fn.tail)
+    skip_many (skip_typed l.counts (skip_core l.counts l.depth)) (l.count - l.done) (left l.bytes l.here) ≡ skip_many (skip_typed l.counts (skip_core l.counts l.depth)) l.count (left l.bytes l.fn.here)
 
 abbrev pub invariant-after_params-loop-done : goal.invariant-after_params-loop-done
 invariant-after_params-loop-done l =
-    skip_params l.counts (skip_core l.counts l.depth) l.allowed (l.count - l.done) (left l.tail) ≡ skip_params l.counts (skip_core l.counts l.depth) l.fn.allowed l.count (left l.fn.tail)
+    skip_params l.counts (skip_core l.counts l.depth) l.allowed (l.count - l.done) (left l.bytes l.here) ≡ skip_params l.counts (skip_core l.counts l.depth) l.fn.allowed l.count (left l.bytes l.fn.here)

@@ -1,0 +1,10 @@
+use Rattle.std.proofs.Common.{◌≡◌, true, ltb, rules}
+use Rattle.sig_recogniser.proofs.Positions.{number_short, number_end}
+use Rattle.sig_recogniser.proofs.position.number.Goals as goal
+
+pub returns-in_err-first-clause-number : goal.returns-in_err-first-clause-number
+returns-in_err-first-clause-number c = rw c.from_residual.ensures (number_end c.args.bytes.now c.args.here c.in_err-first.ensures)
+
+pub returns-then-first-lt-TWO_BYTES-clause-number : goal.returns-then-first-lt-TWO_BYTES-clause-number
+returns-then-first-lt-TWO_BYTES-clause-number c =
+    rw c.from.ensures (number_short c.args.bytes.now c.args.here c.in_ok-first.behind c.in_ok-first.first c.in_ok-first.ensures.0 c.in_ok-first.ensures.1 c.if-first-lt-TWO_BYTES.true)
