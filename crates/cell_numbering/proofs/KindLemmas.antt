@@ -57,7 +57,8 @@ module _ (indexes : Indexes) (k : ColumnKind) (cell : Cell) (so_far : SoFar) (of
 
 -- ---- a cell in a column of another kind is in no heap
 
-only_text : (k : ColumnKind) (text : List ℕ) → IsOfKind k (Text text) → k ≡ kind.Text
+-- only a column of texts has a text
+pub only_text : (k : ColumnKind) (text : List ℕ) → IsOfKind k (Text text) → k ≡ kind.Text
 only_text kind.U8 text of = absurd of
 only_text kind.U16 text of = absurd of
 only_text kind.U32 text of = absurd of
@@ -176,6 +177,25 @@ no_value k (seen.Guid guid) cell column other shown = absurd (other.guid guid re
 no_value k (seen.Ref reference) cell column other shown = subst IsInNoHeap (sym shown) tt
 no_value k (seen.Start start) cell column other shown = subst IsInNoHeap (sym shown) tt
 no_value k (seen.Sig blob) cell column other shown = absurd (no_signature k blob.now cell column shown)
+
+-- in a column of texts, each value is a text
+pub is_text : (value : CellRef) (cell : Cell) → Shows kind.Text value cell → IsOfKind kind.Text cell → ((text : Bor (List ℕ)) → value ≡ seen.Text text → ⊥) → ⊥
+is_text (seen.Number number) cell shown of none = subst (IsOfKind kind.Text) shown of
+is_text (seen.Text text) cell shown of none = none text refl
+is_text (seen.Bytes blob) cell shown of none = subst (IsOfKind kind.Text) shown of
+is_text (seen.Guid guid) cell shown of none = subst (IsOfKind kind.Text) shown of
+is_text (seen.Ref token) cell shown of none = subst (IsOfKind kind.Text) shown of
+is_text (seen.Start start) cell shown of none = subst (IsOfKind kind.Text) shown of
+is_text (seen.Sig blob) cell shown of none = shown
+
+-- a cell in a column of texts has no GUID and no blob
+pub record IsOnlyText (cell : Cell) : Type 0 where
+  pub guids : guid_of cell ≡ []
+  pub blobs : blobs_of cell ≡ []
+
+pub text_alone : (cell : Cell) → IsOfKind kind.Text cell → IsOnlyText cell
+text_alone (Text text) of = record { guids = refl; blobs = refl }
+text_alone cell of = absurd of
 
 -- a signature is neither a text nor a GUID
 pub record IsNoText (cell : Cell) : Type 0 where

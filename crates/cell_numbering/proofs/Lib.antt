@@ -3,3 +3,4 @@ pub mod CellIndexLemmas
 pub mod KindLemmas
 pub mod NumberLemmas
 pub mod UseLemmas
+pub mod TextLemmas

@@ -9,7 +9,6 @@ use Rattle.table_schema.specs.declared.column.SigKind.{SigKind}
 use Rattle.table_schema.specs.declared.column.ColumnKind.{ColumnKind}
 use Rattle.table_schema.specs.declared.column.ColumnKind.TheVariants as kind
 use Rattle.heap_pools.specs.GuidHeap.{given}
-use Rattle.heap_pools.specs.Uses.{bytes_of}
 use Rattle.metadata.specs.Cell.{Cell, Number, Text, Bytes, Guid, Ref, Start, Sig}
 use Rattle.metadata.specs.Metadata.{Metadata}
 use Rattle.sig_grammar.specs.Encodes.{short}
@@ -21,7 +20,9 @@ use Rattle.metadata_source.specs.SharedBlobs.{CellId, HasCell, IsBlobKind, Share
 use Rattle.canonical.specs.Pools.{texts_of, blobs_of, guids_of, used}
 use Rattle.cell_numbering.specs.declared.blob_use.BlobUse.{BlobUse}
 use Rattle.cell_numbering.specs.declared.heap_uses.HeapUses.{HeapUses}
+use Rattle.cell_numbering.specs.declared.text_uses.TextUses.{TextUses}
 use Rattle.cell_numbering.specs.HeapUses.{AreUsesIn, AreUsesOf, GivesBlob, HaveOneIndex, IsUseIn, IsUseOf, all_cells, guid_of}
+use Rattle.cell_numbering.specs.TextUses.{AreTextUses}
 
 -- ---- related lists
 
@@ -56,34 +57,39 @@ flat_more : {X : Type 0} (f : Cell → List X) (cells : List Cell) (cell : Cell)
 flat_more f cells cell = flat_map-append f cells (cell ∷ []) ∙ ap (λ list. flat_map f cells ++ list) (append-nil (f cell))
 
 module _ (index_of : CellId → Option ℕ) (model : Metadata) (before after : HeapUses) (cells : List Cell) (cell : Cell) (are : AreUsesIn index_of model before cells) where
-  pub added : bytes_of after.texts.items ≡ bytes_of before.texts.items ++ texts_of cell → after.guids.items ≡ before.guids.items ++ guid_of cell
+  pub added : AreTextUses index_of model after.texts (flat_map texts_of cells ++ texts_of cell) → after.guids.items ≡ before.guids.items ++ guid_of cell
       → AllZip (IsUseIn index_of model) after.blobs.items (flat_map blobs_of cells ++ blobs_of cell) → AreUsesIn index_of model after (cells ++ cell ∷ [])
   added texts guids blobs = record {
-    texts = texts ∙ ap (λ list. list ++ texts_of cell) are.texts ∙ sym (flat_more texts_of cells cell);
+    texts = subst (AreTextUses index_of model after.texts) (sym (flat_more texts_of cells cell)) texts;
     guids = guids ∙ ap (λ list. list ++ guid_of cell) are.guids ∙ sym (flat_more guid_of cells cell);
     blobs = subst (λ list. AllZip (IsUseIn index_of model) after.blobs.items list) (sym (flat_more blobs_of cells cell)) blobs;
   }
 
-  pub added_text : (text : List ℕ) → cell ≡ Text text → bytes_of after.texts.items ≡ bytes_of before.texts.items ++ text ∷ [] → after.guids.items ≡ before.guids.items
-      → after.blobs.items ≡ before.blobs.items → AreUsesIn index_of model after (cells ++ cell ∷ [])
-  added_text text is texts guids blobs =
-      added (texts ∙ sym (ap (λ c. bytes_of before.texts.items ++ texts_of c) is))
-      (guids ∙ sym (ap (λ c. before.guids.items ++ guid_of c) is ∙ append-nil before.guids.items))
-      (subst (λ list. AllZip (IsUseIn index_of model) after.blobs.items list) (sym (ap (λ c. flat_map blobs_of cells ++ blobs_of c) is ∙ append-nil (flat_map blobs_of cells)))
+  no_more_texts : after.texts ≡ before.texts → texts_of cell ≡ [] → AreTextUses index_of model after.texts (flat_map texts_of cells ++ texts_of cell)
+  no_more_texts same none =
+      subst (λ (uses : TextUses). AreTextUses index_of model uses (flat_map texts_of cells ++ texts_of cell)) (sym same)
+      (subst (AreTextUses index_of model before.texts) (sym (ap (λ list. flat_map texts_of cells ++ list) none ∙ append-nil (flat_map texts_of cells))) are.texts)
+
+  pub added_text : AreTextUses index_of model after.texts (flat_map texts_of cells ++ texts_of cell) → guid_of cell ≡ [] → blobs_of cell ≡ []
+      → after.guids.items ≡ before.guids.items → after.blobs.items ≡ before.blobs.items → AreUsesIn index_of model after (cells ++ cell ∷ [])
+  added_text texts no_guid no_blob guids blobs =
+      added texts
+      (guids ∙ sym (ap (λ list. before.guids.items ++ list) no_guid ∙ append-nil before.guids.items))
+      (subst (λ list. AllZip (IsUseIn index_of model) after.blobs.items list) (sym (ap (λ list. flat_map blobs_of cells ++ list) no_blob ∙ append-nil (flat_map blobs_of cells)))
       (subst (λ (list : List BlobUse). AllZip (IsUseIn index_of model) list (flat_map blobs_of cells)) (sym blobs) are.blobs))
 
-  pub added_guid : (guid : Option (List ℕ)) → cell ≡ Guid guid → after.texts.items ≡ before.texts.items → after.guids.items ≡ before.guids.items ++ guid ∷ []
+  pub added_guid : (guid : Option (List ℕ)) → cell ≡ Guid guid → after.texts ≡ before.texts → after.guids.items ≡ before.guids.items ++ guid ∷ []
       → after.blobs.items ≡ before.blobs.items → AreUsesIn index_of model after (cells ++ cell ∷ [])
   added_guid guid is texts guids blobs =
-      added (ap bytes_of texts ∙ sym (ap (λ c. bytes_of before.texts.items ++ texts_of c) is ∙ append-nil (bytes_of before.texts.items)))
+      added (no_more_texts texts (ap texts_of is))
       (guids ∙ sym (ap (λ c. before.guids.items ++ guid_of c) is))
       (subst (λ list. AllZip (IsUseIn index_of model) after.blobs.items list) (sym (ap (λ c. flat_map blobs_of cells ++ blobs_of c) is ∙ append-nil (flat_map blobs_of cells)))
       (subst (λ (list : List BlobUse). AllZip (IsUseIn index_of model) list (flat_map blobs_of cells)) (sym blobs) are.blobs))
 
-  pub added_blob : (used : BlobUse) → AllZip (IsUseIn index_of model) (used ∷ []) (blobs_of cell) → texts_of cell ≡ [] → guid_of cell ≡ [] → after.texts.items ≡ before.texts.items
+  pub added_blob : (used : BlobUse) → AllZip (IsUseIn index_of model) (used ∷ []) (blobs_of cell) → texts_of cell ≡ [] → guid_of cell ≡ [] → after.texts ≡ before.texts
       → after.guids.items ≡ before.guids.items → after.blobs.items ≡ before.blobs.items ++ used ∷ [] → AreUsesIn index_of model after (cells ++ cell ∷ [])
   added_blob used is no_text no_guid texts guids blobs =
-      added (ap bytes_of texts ∙ sym (ap (λ list. bytes_of before.texts.items ++ list) no_text ∙ append-nil (bytes_of before.texts.items)))
+      added (no_more_texts texts no_text)
       (guids ∙ sym (ap (λ list. before.guids.items ++ list) no_guid ∙ append-nil before.guids.items))
       (subst (λ (list : List BlobUse). AllZip (IsUseIn index_of model) list (flat_map blobs_of cells ++ blobs_of cell)) (sym blobs)
       (zip_append (IsUseIn index_of model) before.blobs.items (flat_map blobs_of cells) (used ∷ []) (blobs_of cell) are.blobs is))
@@ -93,7 +99,7 @@ pub unchanged : (index_of : CellId → Option ℕ) (model : Metadata) (uses : He
     → texts_of cell ≡ [] → guid_of cell ≡ [] → blobs_of cell ≡ [] → AreUsesIn index_of model uses (cells ++ cell ∷ [])
 unchanged index_of model uses cells cell are texts guids blobs =
     added index_of model uses uses cells cell are
-    (sym (ap (λ list. bytes_of uses.texts.items ++ list) texts ∙ append-nil (bytes_of uses.texts.items)))
+    (no_more_texts index_of model uses uses cells cell are refl texts)
     (sym (ap (λ list. uses.guids.items ++ list) guids ∙ append-nil uses.guids.items))
     (subst (λ list. AllZip (IsUseIn index_of model) uses.blobs.items list) (sym (ap (λ list. flat_map blobs_of cells ++ list) blobs ∙ append-nil (flat_map blobs_of cells))) are.blobs)
 
@@ -221,10 +227,10 @@ pub no_cells_yet : (index_of : CellId → Option ℕ) (model : Metadata) (uses :
     → AreUsesIn index_of model uses (cells ++ [])
 no_cells_yet index_of model uses cells are = subst (AreUsesIn index_of model uses) (sym (append-nil cells)) are
 
-pub no_uses : (index_of : CellId → Option ℕ) (model : Metadata) (uses : HeapUses) → uses.texts.items ≡ [] → uses.guids.items ≡ [] → uses.blobs.items ≡ []
+pub no_uses : (index_of : CellId → Option ℕ) (model : Metadata) (uses : HeapUses) → AreTextUses index_of model uses.texts [] → uses.guids.items ≡ [] → uses.blobs.items ≡ []
     → AreUsesIn index_of model uses []
 no_uses index_of model uses texts guids blobs = record {
-  texts = ap bytes_of texts;
+  texts = texts;
   guids = guids;
   blobs = subst (λ (list : List BlobUse). AllZip (IsUseIn index_of model) list []) (sym blobs) tt;
 }

@@ -6,7 +6,6 @@ use Rattle.table_schema.specs.declared.column.ColumnKind.TheVariants as kind
 use Rattle.heap_pools.specs.BlobHeap.{blob_index}
 use Rattle.heap_pools.specs.GuidHeap.{guid_index}
 use Rattle.heap_pools.specs.TextHeap.{text_index}
-use Rattle.heap_pools.specs.Uses.{bytes_of}
 use Rattle.sig_grammar.specs.Syntax.{Body}
 use Rattle.sig_grammar.specs.Encodes.{Encodes, short}
 use Rattle.metadata.specs.Cell.{Cell, Guid}
@@ -19,6 +18,7 @@ use Rattle.canonical.specs.Pools.{texts_of, blobs_of, pools_of}
 use Rattle.cell_numbering.specs.declared.blob_use.BlobUse.{BlobUse}
 use Rattle.cell_numbering.specs.declared.heap_uses.HeapUses.{HeapUses}
 use Rattle.cell_numbering.specs.declared.numbers_so_far.Indexes.{Indexes}
+use Rattle.cell_numbering.specs.TextUses.{AreTextUses}
 
 -- the cells of all tables, by table, row and column
 abbrev pub all_cells : Metadata → List Cell
@@ -77,7 +77,7 @@ pub record IsUseIn (index_of : CellId → Option ℕ) (model : Metadata) (found 
 
 -- the uses are those of these cells of the model
 pub record AreUsesIn (index_of : CellId → Option ℕ) (model : Metadata) (uses : HeapUses) (cells : List Cell) : Type 0 where
-  pub texts : bytes_of uses.texts.items ≡ flat_map texts_of cells
+  pub texts : AreTextUses index_of model uses.texts (flat_map texts_of cells)
   pub guids : uses.guids.items ≡ flat_map guid_of cells
   pub blobs : AllZip (IsUseIn index_of model) uses.blobs.items (flat_map blobs_of cells)
 

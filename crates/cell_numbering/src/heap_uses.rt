@@ -1,6 +1,6 @@
 ghost use Rattle.std.specs.Prelude.{◌≡◌, ◌≢◌, ◌≤◌, ◌<◌, ◌++◌, ◌∷◌, [], List, OnOk, IfOk, flat_map};
 ghost use Rattle.table_schema.specs.declared.column.SigKind.{SigKind as TheKind};
-ghost use Rattle.table_schema.specs.declared.column.ColumnKind.TheVariants.{Signature};
+ghost use Rattle.table_schema.specs.declared.column.ColumnKind.TheVariants.{Text, Signature};
 ghost use Rattle.table_schema.specs.CellColumns.{cell_count};
 ghost use Rattle.metadata.specs.Cell.{Cell as Says};
 ghost use Rattle.metadata.specs.Metadata.{Metadata, rows_of, row_of, cell_in};
@@ -8,6 +8,7 @@ ghost use Rattle.metadata.specs.Valid.{kind_at};
 ghost use Rattle.cell_numbering.specs.HeapUses.{AreUsesIn, all_cells};
 
 use crate::blob_use::BlobUse;
+use crate::text_uses::TextUses;
 use metadata_source::{ReadCells, SignatureBytes, kind_of};
 use reading::CellRef;
 use std::alloc::{AllocError, Global};
@@ -17,14 +18,14 @@ use table_schema::{ColumnKind, SigKind, TableId, cell_count};
 #[derive(Drop)]
 pub struct HeapUses<'a> {
     /// The texts.
-    pub texts: Vec<&'a str>,
+    pub texts: TextUses<'a>,
     /// The GUIDs; `None` is null.
     pub guids: Vec<Option<[u8; 16]>>,
     /// The blobs, with those of signatures.
     pub blobs: Vec<BlobUse<'a>>,
 }
 
-/// Adds the value of a cell that is not a signature, if it is a text, a GUID or a blob.
+/// Adds the value of a cell that is neither a text nor a signature, if it is a GUID or a blob.
 fn add_value<'a, S: ReadCells>(
     uses: &mut HeapUses<'a>,
     source: &'a S,
@@ -38,16 +39,16 @@ fn add_value<'a, S: ReadCells>(
     requires cell_index { cell_index < cell_count table }
     requires kind { kind ≡ kind_at table cell_index }
     requires other { (encoded : TheKind) → kind ≢ Signature encoded }
+    requires no_text { kind ≢ Text }
     ensures { (model : Metadata) → S.shows source.now model → (cells : List Says) → AreUsesIn (S.heap_index source.now) model uses.old cells
         → OnOk result (AreUsesIn (S.heap_index source.now) model uses.new (cells ++ cell_in model table row cell_index ∷ [])) }
 {
     root_writer::laws::cells_can_be_numbered();
     source.holds_one();
     match source.cell(table, row, cell_index) {
-        CellRef::Text(text) => Ok(uses.texts.push(text)?),
         CellRef::Guid(guid) => Ok(uses.guids.push(guid)?),
         CellRef::Bytes(blob) => {
-            let index = source.blob_index(table, row, cell_index);
+            let index = source.index_in_heap(table, row, cell_index);
             let bytes = SignatureBytes::Stored(blob);
             Ok(uses.blobs.push(BlobUse { kind, index, bytes })?)
         }
@@ -75,7 +76,7 @@ fn add_signature<'a, S: ReadCells>(
     root_writer::laws::cells_can_be_numbered();
     source.holds_one();
     let bytes = source.signature(alloc, encoded, table, row, cell_index)?;
-    let index = source.blob_index(table, row, cell_index);
+    let index = source.index_in_heap(table, row, cell_index);
     let kind = ColumnKind::Signature(encoded);
     Ok(uses.blobs.push(BlobUse { kind, index, bytes })?)
 }
@@ -98,7 +99,8 @@ fn add_cell<'a, S: ReadCells>(
     source.holds_one();
     let kind = kind_of(table, cell_index);
     match kind {
-        ColumnKind::Text | ColumnKind::Guid | ColumnKind::Blob => {
+        ColumnKind::Text => uses.texts.add(source, table, row, cell_index),
+        ColumnKind::Guid | ColumnKind::Blob => {
             add_value(uses, source, kind, table, row, cell_index)
         }
         ColumnKind::Signature(encoded) => {
@@ -154,7 +156,7 @@ pub fn heap_uses<'a, S: ReadCells>(alloc: Global, source: &'a S) -> Result<HeapU
     source.holds_one();
     table_schema::laws::tables_stand();
     let mut uses = HeapUses {
-        texts: Vec::new(alloc),
+        texts: TextUses::new(alloc, source),
         guids: Vec::new(alloc),
         blobs: Vec::new(alloc),
     };

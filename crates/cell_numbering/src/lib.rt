@@ -6,9 +6,9 @@
 //! sorting. Then it numbers each cell, by table, row and column. The number of a text, GUID or blob is the next index of
 //! its plan.
 //!
-//! No value is hashed, and none is copied, except a signature whose blob is not its canonical encoding. Blobs that are
-//! read from a heap are grouped by their index there. So a blob that many rows name is read, decoded and compared a few
-//! times at most, once for each kind of column.
+//! No value is hashed, and none is copied, except a signature whose blob is not its canonical encoding. Values that are
+//! read from a heap are grouped by their index there. So a text that many rows name is read once. A blob that many rows
+//! name is read, decoded and compared a few times at most, once for each kind of column.
 //!
 //! ```text
 //! let (texts, numbering) = pools_of(alloc, &source)?;
@@ -24,5 +24,6 @@ mod heap_uses;
 mod numbers;
 mod numbers_so_far;
 mod pools;
+mod text_uses;
 
 pub use pools::pools_of;

@@ -64,7 +64,7 @@ pub fn pools_of<S: ReadCells>(alloc: Global, source: &S) -> Result<(TextPool, Nu
     source.holds_one();
     source.shared_blobs_are_one();
     let uses = heap_uses(alloc, source)?;
-    let texts = TextPool::plan(alloc, &uses.texts)?;
+    let texts = uses.texts.plan(alloc)?;
     let guids = guid_plan(alloc, &uses.guids)?;
     let (blobs, blob_indexes) = blob_plan(alloc, &uses.blobs)?;
     drop(uses);

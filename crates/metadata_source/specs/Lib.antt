@@ -2,3 +2,4 @@ pub mod Keys
 pub mod MemberLists
 pub mod SharedBlobs
 pub mod SignatureBytes
+pub mod TextsIn

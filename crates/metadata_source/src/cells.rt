@@ -6,7 +6,7 @@ use table_schema::{SigKind, TableId};
 
 /// A metadata whose cells can be read.
 pub trait ReadCells: ReadMetadata {
-    ghost use Rattle.std.specs.Prelude.{◌≡◌, ◌≢◌, ◌≤◌, ◌<◌, ℕ, IfOk, Option};
+    ghost use Rattle.std.specs.Prelude.{◌≡◌, ◌≢◌, ◌≤◌, ◌<◌, ℕ, IfOk, IfSome, Option};
     ghost use Rattle.table_schema.specs.declared.column.SigKind.{SigKind as TheKind};
     ghost use Rattle.table_schema.specs.declared.column.ColumnKind.TheVariants.{Signature};
     ghost use Rattle.table_schema.specs.CellColumns.{cell_count};
@@ -16,8 +16,9 @@ pub trait ReadCells: ReadMetadata {
     ghost use Rattle.reading.specs.declared.run_cursors.RunCursors.{RunCursors as Cursors};
     ghost use Rattle.metadata_source.specs.SharedBlobs.{CellId, HasCell, ShareBlob, cell_by_id};
     ghost use Rattle.metadata_source.specs.SignatureBytes.{AreBytesOf};
+    ghost use Rattle.metadata_source.specs.TextsIn.{AreTextsIn};
 
-    // The index of a cell's blob in the blob heap that it is read from, if it is read from one.
+    // The index of a cell's value in the heap that it is read from, if it is read from one.
     ghost heap_index: { Self → CellId → Option ℕ };
 
     // The cursors are at owners of this metadata.
@@ -78,11 +79,16 @@ pub trait ReadCells: ReadMetadata {
         ensures { (model : Metadata) → Self.shows self.now model
             → IfOk result (λ bytes. AreBytesOf kind bytes (cell_in model table row cell)) };
 
-    /// The index of a cell's blob in the blob heap that it is read from, in a column of blobs or signatures (II.24.2.4).
-    /// `None` if the cells are not read from a heap.
-    fn blob_index(&self, table: TableId, row: u32, cell: usize) -> Option<u32>
+    /// The index of a cell's value in the heap that it is read from, in a column of texts, blobs or signatures (II.24.2.3,
+    /// II.24.2.4). `None` if the cells are not read from heaps.
+    fn index_in_heap(&self, table: TableId, row: u32, cell: usize) -> Option<u32>
         requires first { 1 ≤ row }
         requires last { row ≤ Self.row_count self.now table }
         requires cell { cell < cell_count table }
         ensures { result ≡ Self.heap_index self.now (record { table = table; row = row; cell_index = cell }) };
+
+    /// The bytes of the strings heap that has the text of each cell, at the cell's index (II.24.2.3). `None` if the cells
+    /// are not read from heaps.
+    fn strings_heap(&self) -> Option<&[u8]>
+        ensures { (model : Metadata) → Self.shows self.now model → IfSome result (λ heap. AreTextsIn (Self.heap_index self.now) heap.now model) };
 }

@@ -1,10 +1,11 @@
--- Two cells whose blobs are at one index of the blob heap are equal.
-use Rattle.std.proofs.Common.{◌≡◌, ℕ, Bool, Option, Some, sym, subst, ◌∙◌, rules}
+-- Two cells whose blobs are at one index of the blob heap are equal, and each text is at the index of its cell.
+use Rattle.std.proofs.Common.{◌≡◌, ℕ, Bool, List, Option, Some, sym, subst, ◌∙◌, rules}
 use Rattle.table_schema.specs.declared.table.TableId.{TableId}
 use Rattle.table_schema.specs.declared.column.ColumnKind.{ColumnKind}
 use Rattle.table_schema.specs.declared.column.ColumnKind.TheVariants as kind
 use Rattle.table_schema.specs.CellColumns.{column_of}
-use Rattle.metadata.specs.Cell.{Cell}
+use Rattle.heap_entries.specs.Entries.{IsText}
+use Rattle.metadata.specs.Cell.{Cell, Text}
 use Rattle.metadata.specs.Rows.{IsCell}
 use Rattle.metadata.specs.Source.{Source, number_of}
 use Rattle.metadata.specs.Stands.{StandsFor}
@@ -44,3 +45,12 @@ represented source first second share cell is =
     let Q : ℕ → Type 0 = λ n. StandsFor source (kind_by_id first) nullable start n cell in
     stands_alike source (kind_by_id first) nullable (nullable_at first.table first.cell_index) start (start_of source first.table first.row (column_of first.table first.cell_index))
     (number_by_id source first) cell share.blobs (subst Q (sym number) (subst P (sym share.kind) is))
+
+-- the number in a column of texts represents the text at this index of the heap
+pub text_stands : (source : Source) (id : CellId) (cell : Cell) → kind_by_id id ≡ kind.Text → IsCell source id.table id.row id.cell_index cell
+    → (text : List ℕ) × IsText source.texts (number_by_id source id) text × (cell ≡ Text text)
+text_stands source id cell column is =
+    let nullable = nullable_at id.table id.cell_index in
+    let start = start_of source id.table id.row (column_of id.table id.cell_index) in
+    let P : ColumnKind → Type 0 = λ k. StandsFor source k nullable start (number_by_id source id) cell in
+    subst P column is

@@ -75,11 +75,16 @@ impl ReadCells for View<'_> {
         metadata::laws::cells_are_one();
     }
 
-    fn blob_index(&self, table: TableId, row: u32, cell: usize) -> Option<u32> {
+    fn index_in_heap(&self, table: TableId, row: u32, cell: usize) -> Option<u32> {
         Some(
             self.source()
                 .number(table, row, column_of_cell(table, cell)),
         )
+    }
+
+    fn strings_heap(&self) -> Option<&[u8]> {
+        metadata::laws::models_are_read();
+        Some(self.source().texts())
     }
 
     fn run_cursors(&self) -> RunCursors {

@@ -75,7 +75,11 @@ impl ReadCells for Model {
 
     fn shared_blobs_are_one(&self) {}
 
-    fn blob_index(&self, _table: TableId, _row: u32, _cell: usize) -> Option<u32> {
+    fn index_in_heap(&self, _table: TableId, _row: u32, _cell: usize) -> Option<u32> {
+        None
+    }
+
+    fn strings_heap(&self) -> Option<&[u8]> {
         None
     }
 

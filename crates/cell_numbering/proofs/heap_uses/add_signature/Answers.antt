@@ -20,5 +20,5 @@ returns g c = λ model is cells are.
     let bytes = c.in_ok-bytes.ensures model is in
     let none = signature_has_none c.args.encoded c.in_ok-bytes.bytes (cell_in model table row cell_index) bytes in
     added_blob index_of model c.args.uses.now _ cells (cell_in model table row cell_index) are _
-    (signature_use index_of model id c.blob_index-index.result (there, c.requires.cell_index) can c.blob_index-index.ensures c.args.encoded c.in_ok-bytes.bytes c.requires.kind bytes)
+    (signature_use index_of model id c.index_in_heap-index.result (there, c.requires.cell_index) can c.index_in_heap-index.ensures c.args.encoded c.in_ok-bytes.bytes c.requires.kind bytes)
     none.texts none.guids refl refl c.in_ok-push.ensures.items

@@ -1,7 +1,6 @@
-use Rattle.std.proofs.Common.{ℕ, List, Bor, refl, sym, ap, subst, ◌∙◌, arith}
-use Rattle.std.proofs.lemmas.List.{map_push}
+use Rattle.std.proofs.Common.{◌≡◌, ℕ, List, refl, sym, ap, subst, ◌∙◌, arith}
+use Rattle.std.specs.Borrow.{Bor}
 use Rattle.table_schema.specs.declared.column.ColumnKind.{ColumnKind}
-use Rattle.heap_pools.specs.Uses.{bytes_of}
 use Rattle.metadata.specs.Cell.{Cell}
 use Rattle.metadata.specs.Kinds.{IsOfKind}
 use Rattle.metadata.specs.Metadata.{cell_in}
@@ -9,19 +8,13 @@ use Rattle.metadata.specs.Lookups.{HasRow}
 use Rattle.metadata.specs.Valid.{kind_at}
 use Rattle.reading.specs.Shown.{Shows}
 use Rattle.reading.specs.declared.cell_ref.CellRef.{CellRef}
+use Rattle.reading.specs.declared.cell_ref.CellRef.TheVariants as seen
 use Rattle.metadata_source.specs.SharedBlobs.{CellId}
 use Rattle.canonical.specs.Pools.{texts_of}
 use Rattle.cell_numbering.specs.HeapUses.{guid_of}
-use Rattle.cell_numbering.proofs.KindLemmas.{has_none, no_value, only_blob}
-use Rattle.cell_numbering.proofs.UseLemmas.{added_blob, added_guid, added_text, blob_use, unchanged}
+use Rattle.cell_numbering.proofs.KindLemmas.{has_none, no_value, only_blob, only_text}
+use Rattle.cell_numbering.proofs.UseLemmas.{added_blob, added_guid, blob_use, unchanged}
 use Rattle.cell_numbering.proofs.heap_uses.add_value.Goals as goal
-
-pub returns-in_ok-push-in-Text : goal.returns-in_ok-push-in-Text
-returns-in_ok-push-in-Text g c = λ model is cells are.
-    let cell = cell_in model c.args.table c.args.row c.args.cell_index in
-    let P : CellRef → Type 0 = λ value. Shows (kind_at c.args.table c.args.cell_index) value cell in
-    added_text (g.S.ReadCells.heap_index c.args.source.now) model c.args.uses.now _ cells cell are c.in-Text.text.now (subst P c.in-Text.is (c.cell.ensures model is))
-    (ap bytes_of c.in_ok-push-in-Text.ensures.items ∙ map_push (λ (t : Bor (List ℕ)). t.now) c.args.uses.now.texts.items c.in-Text.text) refl refl
 
 pub returns-in_ok-push-in-Guid : goal.returns-in_ok-push-in-Guid
 returns-in_ok-push-in-Guid g c = λ model is cells are.
@@ -48,13 +41,24 @@ returns-in_ok-push-in-Bytes g c = λ model is cells are.
     let Q : Cell → Type 0 = λ it. IsOfKind (kind_at table cell_index) it in
     let blob = only_blob (kind_at table cell_index) c.in-Bytes.blob.now (subst Q has good.of_kind) in
     added_blob index_of model c.args.uses.now _ cells cell are _
-    (blob_use index_of model id c.blob_index-index.result (there, c.requires.cell_index) can c.blob_index-index.ensures c.args.kind c.in-Bytes.blob (sym c.requires.kind) (c.requires.kind ∙ blob) has)
+    (blob_use index_of model id c.index_in_heap-index.result (there, c.requires.cell_index) can c.index_in_heap-index.ensures c.args.kind c.in-Bytes.blob (sym c.requires.kind) (c.requires.kind ∙ blob) has)
     (ap texts_of has) (ap guid_of has) refl refl c.in_ok-push-in-Bytes.ensures.items
 
 pub returns-in_default : goal.returns-in_default
 returns-in_default g c = λ model is cells are.
-    let cell = cell_in model c.args.table c.args.row c.args.cell_index in
-    let P : ColumnKind → Type 0 = λ k. Shows k c.cell.result cell in
-    let none = has_none cell (no_value c.args.kind c.cell.result cell c.requires.other (record { text = c.in_default.not-Text; guid = c.in_default.not-Guid; blob = c.in_default.not-Bytes })
-    (subst P (sym c.requires.kind) (c.cell.ensures model is))) in
+    let table = c.args.table in
+    let row = c.args.row in
+    let cell_index = c.args.cell_index in
+    let cell = cell_in model table row cell_index in
+    let rows = c.holds_one.ensures.rows model is table in
+    let there : HasRow model table row = (c.requires.first, omega (arith, rows, c.requires.last)) in
+    let good = (c.holds_one.ensures.valid model is).cells table row cell_index there c.requires.cell_index in
+    let shown = c.cell.ensures model is in
+    let P : CellRef → Type 0 = λ value. Shows (kind_at table cell_index) value cell in
+    let Q : Cell → Type 0 = λ it. IsOfKind (kind_at table cell_index) it in
+    let no_text : (text : Bor (List ℕ)) → c.cell.result ≡ seen.Text text → ⊥ = λ text e.
+    c.requires.no_text (c.requires.kind ∙ only_text (kind_at table cell_index) text.now (subst Q (subst P e shown) good.of_kind)) in
+    let R : ColumnKind → Type 0 = λ k. Shows k c.cell.result cell in
+    let none = has_none cell (no_value c.args.kind c.cell.result cell c.requires.other (record { text = no_text; guid = c.in_default.not-Guid; blob = c.in_default.not-Bytes })
+    (subst R (sym c.requires.kind) shown)) in
     unchanged (g.S.ReadCells.heap_index c.args.source.now) model c.args.uses.now cells cell are none.texts none.guids none.blobs
