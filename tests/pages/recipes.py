@@ -27,7 +27,7 @@ README_LINES = 100
 MODEL = ["Rattle.metadata.specs.Model"]
 RULES = ["Rattle.metadata.specs.Rules"]
 # The crates of cells that own their content, and those that are above them.
-OWNERS = {"tables", "refusals", "owned_model", "loading", "type_records", "member_records", "records", "typed_rows"}
+OWNERS = {"tables", "refusals", "owned_model", "type_records", "member_records", "records", "typed_rows"}
 # How far a count on a page may be from the count of the files.
 TOLERANCE = 0.05
 

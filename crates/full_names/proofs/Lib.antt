@@ -1,1 +1,3 @@
+mod ParamLemmas
+mod PieceLemmas
 mod TextLemmas

@@ -1,18 +1,22 @@
 -- The text of a chain of types, from the texts that were written one after another.
-use Rattle.std.proofs.Common.{◌≡◌, ℕ, zero, suc, ◌-◌, List, [], ◌∷◌, ◌++◌, inl, inr, OnOk, Ok, Err, Result, refl, sym, ◌∙◌, ap, subst, arith}
+use Rattle.std.proofs.Common.{◌≡◌, length, ℕ, zero, suc, ◌-◌, List, [], ◌∷◌, ◌++◌, inl, inr, OnOk, Ok, Err, Result, refl, sym, ◌∙◌, ap, subst, arith}
 use Rattle.std.proofs.lemmas.List.Folds.{concat-append}
 use Rattle.std.specs.List.{FoldsTo, concat}
 use Rattle.std.specs.Prelude.{codes}
 use Rattle.std.specs.Fmt.{WritesInCalls}
 use Rattle.std.specs.declared.fmt.Error.{Error}
 use Rattle.full_names.specs.Names.{IsChainText, Wrote}
+use Rattle.full_names.specs.Texts.{spaced}
 
 module _ {W : Type 0} (took : W → List ℕ → W → Type 0) where
   folds_append : (w : W) (xs : List (List ℕ)) (v : W) (ys : List (List ℕ)) (u : W) → FoldsTo took w xs v → FoldsTo took v ys u → FoldsTo took w (xs ++ ys) u
   folds_append w [] v ys u p q = subst (λ (x : W). FoldsTo took x ys u) (sym p) q
   folds_append w (x ∷ xs) v ys u p q = (p.0, p.1, folds_append p.0 xs v ys u p.2 q)
 
-  writes_append : (w : W) (a : List ℕ) (v : W) (b : List ℕ) (u : W) → WritesInCalls took w a v → WritesInCalls took v b u → WritesInCalls took w (a ++ b) u
+  pub writes_nothing : (w : W) → WritesInCalls took w [] w
+  writes_nothing w = record { parts = []; calls = refl; whole = refl }
+
+  pub writes_append : (w : W) (a : List ℕ) (v : W) (b : List ℕ) (u : W) → WritesInCalls took w a v → WritesInCalls took v b u → WritesInCalls took w (a ++ b) u
   writes_append w a v b u p q = record {
     parts = p.parts ++ q.parts;
     calls = folds_append w p.parts v q.parts u p.calls q.calls;
@@ -47,3 +51,14 @@ module _ {W : Type 0} (took : W → List ℕ → W → Type 0) where
           inr (outer, outside, before.0, subst P less before.1, wrote.0, wrote.1, refl),
           writes_append w before.0 v (codes "/" ++ wrote.0) x before.2 (writes_append v (codes "/") u wrote.0 x slash wrote.2),
         )
+
+  -- ---- a name after a space
+
+  pub spaced_none : (w : W) (name : List ℕ) → length name ≡ 0 → WritesInCalls took w (spaced name) w
+  spaced_none w [] none = writes_nothing w
+  spaced_none w (c ∷ name) none = absurd (omega arith)
+
+  pub spaced_some : (w : W) (name : List ℕ) (result : Result (Unit {0}) Error) (v : W) → ¬ (length name ≡ 0) → OnOk result (WritesInCalls took w (codes " " ++ name) v)
+      → OnOk result (WritesInCalls took w (spaced name) v)
+  spaced_some w [] result v some wrote = absurd (some refl)
+  spaced_some w (c ∷ name) result v some wrote = wrote

@@ -1,24 +1,29 @@
 //! Names of types and signatures of methods as text, in the notation of ILAsm (ECMA-335 II.5.3, II.7.2, II.15.3), of a root that
-//! was opened in place. Nothing is allocated.
+//! was opened in place and of tables in memory. Only the bytes of a signature that is held as a value are allocated, so
+//! nothing of a root in place.
 //!
 //! Every call returns on every root: a TypeSpec may name itself, and the scopes of TypeRefs may go in a circle. A chain
 //! of enclosing types is written up to [`DEPTH`] types, and `..` marks what is left out.
 //!
 //! ```text
-//! write_full_name(&view, token, &mut out)?; // Hello.Greeter/Settings
-//! write_method(&view, method, &mut out)?; // string Hello.Greeter::Greet(string name, int32 times)
+//! write_full_name(alloc, &view, token, &mut out)?; // Hello.Greeter/Settings
+//! write_method(alloc, &view, method, &mut out)?; // string Hello.Greeter::Greet(string name, int32 times)
 //! ```
 #![tactic(auto)]
 
-mod lent;
+mod inner_names;
+mod method_text;
 mod methods;
 mod names;
-mod signatures_read;
+mod params;
+mod parts;
+mod signature_bytes;
 mod specs_named;
+mod text_error;
 
 pub use methods::write_method;
 pub use names::{DEPTH, write_type_def, write_type_ref};
 pub use navigation::{ReadCells, ReadMetadata};
-pub use signatures_read::ReadSignatures;
 pub use specs_named::{FullNames, write_full_name};
 pub use table_schema::{TableId, Token};
+pub use text_error::TextError;

@@ -1,136 +1,66 @@
-ghost use Rattle.std.specs.Prelude.{◌≡◌, ◌≤◌, ◌+◌};
-ghost use Rattle.table_schema.specs.declared.table.TableId.TheVariants.{MethodDef, Param};
+ghost use Rattle.std.specs.Prelude.{◌≡◌, ◌≤◌, OnOk};
+ghost use Rattle.table_schema.specs.declared.table.TableId.TheVariants.{MethodDef};
+ghost use Rattle.sig_grammar.specs.Syntax.{Method, method_body};
+ghost use Rattle.metadata.specs.Cell.{Sig};
+ghost use Rattle.metadata.specs.Metadata.{Metadata, cell_in};
+ghost use Rattle.full_names.specs.Names.{Wrote};
+ghost use Rattle.full_names.specs.Texts.{IsDeclaration};
 
-use crate::lent::Lent;
-use crate::signatures_read::ReadSignatures;
-use crate::specs_named::FullNames;
+use crate::method_text::{Declared, MethodText, put_declaration};
+use crate::signature_bytes::bytes_of;
+use crate::text_error::TextError;
 use metadata_source::params_of;
-use navigation::{cells, type_of_method};
-use sig_text::{MethodSink, NamedText, TextSink};
+use navigation::{ReadCells, cells, type_of_method};
+use std::alloc::Global;
 use std::fmt;
-use table_schema::{TableId, Token};
+use table_schema::{SigKind, TableId, Token};
 
 /// The cell of a method's name (II.22.26).
 const METHOD_NAME: usize = 3;
 
-/// The cell of a parameter's position (II.22.33).
-const SEQUENCE: usize = 1;
-
-/// The cell of a parameter's name (II.22.33).
-const PARAM_NAME: usize = 2;
-
-/// A sink for one method, which knows its name and those of its parameters.
-#[derive(Drop)]
-struct MethodText<'s, 'w, S, W> {
-    source: &'s S,
-    // The token of its type.
-    class: Token,
-    // The method's name.
-    name: &'s str,
-    // The rows of its parameters that are left, from `next` to before `past`.
-    next: u32,
-    past: u32,
-    text: NamedText<Lent<'w, W>, FullNames<'s, S>>,
-}
-
-impl<S: ReadSignatures, W: fmt::Write> TextSink for MethodText<'_, '_, S, W> {
-    ghost refused = { λ s. s.text.refused };
-
-    fn text(&mut self, text: &str) -> Option<()> {
-        self.text.text(text)
-    }
-
-    fn number(&mut self, number: u32) -> Option<()> {
-        self.text.number(number)
-    }
-
-    fn signed(&mut self, value: i64) -> Option<()> {
-        self.text.signed(value)
-    }
-
-    fn name(&mut self, token: Token) -> Option<()> {
-        self.text.name(token)
-    }
-}
-
-/// The name of the parameter at a position among rows of Param, from a row on to before another, and the row after the
-/// last one that was looked at. The rows are in order of their positions (II.22.33). `None` if none of them has it.
-#[tactic(auto, unfolding(table_schema::specs::CellColumns::cell_columns))]
-fn param_at<S: ReadSignatures>(
-    source: &S,
-    next: u32,
-    past: u32,
-    position: u32,
-) -> (Option<&str>, u32)
-    requires first { 1 ≤ next }
-    ensures { next ≤ result.1 }
-{
-    let past = past.min(source.count(TableId::Param).saturating_add(1));
-    for row in next..past {
-        let sequence = cells::number(source, TableId::Param, row, SEQUENCE);
-        if sequence == position {
-            return (
-                Some(cells::text(source, TableId::Param, row, PARAM_NAME)),
-                row + 1,
-            );
-        }
-        if sequence > position {
-            return (None, row);
-        }
-    }
-    (None, next.max(past))
-}
-
-impl<S: ReadSignatures, W: fmt::Write> MethodSink for MethodText<'_, '_, S, W> {
-    fn method_name(&mut self) -> Option<()> {
-        self.text.name(self.class)?;
-        self.text.text("::")?;
-        self.text.text(self.name)
-    }
-
-    fn param_name(&mut self, position: u32) -> Option<()> {
-        let (name, next) = param_at(self.source, self.next.max(1), self.past, position);
-        self.next = next;
-        match name {
-            Some(name) if !name.is_empty() => {
-                self.text.text(" ")?;
-                self.text.text(name)
-            }
-            _ => Some(()),
-        }
-    }
-}
+/// The cell of the signature of a method (II.22.26).
+const METHOD_SIGNATURE: usize = 4;
 
 /// Writes a method as it is declared (II.15.3): `string Hello.Greeter::Greet(string name, int32 times)`.
 ///
-/// That is its calling convention, its result, its type as [`write_full_name`] writes it, its name, and its parameters with
-/// their names. A parameter has a name if a row of Param has its position; rows of Param that are out of order are passed
+/// That is its calling convention, its result, its type as [`write_full_name`](crate::write_full_name) writes it, its
+/// name, and its parameters with their names. A parameter has a name if a row of Param has its position; rows of Param that are out of order are passed
 /// over (II.22.33). Names are written unchanged.
+///
+/// It allocates only the bytes of signatures that are held as values, so nothing of a view.
 ///
 /// # Errors
 ///
-/// The writer refused a part of the text.
+/// `Writer` if the writer refused a part of the text. `Memory` if out of memory.
 #[tactic(auto, unfolding(table_schema::specs::CellColumns::cell_columns))]
-pub fn write_method<S: ReadSignatures, W: fmt::Write>(
+pub fn write_method<S: ReadCells, W: fmt::Write>(
+    alloc: Global,
     source: &S,
     row: u32,
     out: &mut W,
-) -> fmt::Result
+) -> Result<(), TextError>
     requires first { 1 ≤ row }
     requires last { row ≤ S.row_count source.now MethodDef }
+    ensures text { (model : Metadata) → S.shows source.now model → (method : Method) → cell_in model MethodDef row 4 ≡ Sig (method_body method)
+        → OnOk result (Wrote W.write_str_gives out.old (IsDeclaration model row method) out.new) }
 {
+    sig_values::laws::shortest_encodes();
+    source.holds_one();
+    let kind = SigKind::MethodDef;
+    let bytes = source.signature(alloc, kind, TableId::MethodDef, row, METHOD_SIGNATURE)?;
     let params = params_of(source, row);
-    let class = Token {
-        table: TableId::TypeDef,
-        row: type_of_method(source, row),
-    };
-    let mut sink = MethodText {
-        source,
-        class,
+    let of = Declared {
+        class: Token {
+            table: TableId::TypeDef,
+            row: type_of_method(source, row),
+        },
         name: cells::text(source, TableId::MethodDef, row, METHOD_NAME),
-        next: params.start,
+        first: params.start,
         past: params.end,
-        text: NamedText::new(Lent { writer: out }, FullNames { source }),
     };
-    source.write_declared(row, &mut sink).ok_or(fmt::Error)
+    let mut sink = MethodText::new(alloc, source, of, out);
+    match put_declaration(&mut sink, bytes_of(&bytes)) {
+        Some(()) => Ok(()),
+        None => Err(sink.error.unwrap_or(TextError::Writer)),
+    }
 }

@@ -1,10 +1,9 @@
-ghost use Rattle.std.specs.Prelude.{◌≤◌, OnOk, codes};
-ghost use Rattle.std.specs.Fmt.{WritesInCalls};
+ghost use Rattle.std.specs.Prelude.{◌≤◌, OnOk};
 ghost use Rattle.table_schema.specs.declared.table.TableId.TheVariants.{TypeDef, TypeRef};
 ghost use Rattle.metadata.specs.Metadata.{Metadata};
-ghost use Rattle.type_records.specs.Names.{full_name};
 ghost use Rattle.full_names.specs.Names.{IsOwnText, IsTypeDefText, IsTypeRefText, Wrote};
 
+use crate::parts::{write_left_out, write_own_name, write_slash};
 use navigation::{ReadCells, cells, enclosing_type, enclosing_type_ref};
 use std::fmt;
 use table_schema::TableId;
@@ -17,30 +16,6 @@ const NAME: usize = 1;
 
 /// The cell of a type's namespace (II.22.37, II.22.38).
 const NAMESPACE: usize = 2;
-
-/// Writes the namespace and a dot, unless the namespace is empty, and the name.
-fn write_own_name<W: fmt::Write>(out: &mut W, namespace: &str, name: &str) -> fmt::Result
-    ensures { OnOk result (WritesInCalls W.write_str_gives out.old (full_name namespace.now name.now) out.new) }
-{
-    if namespace.is_empty() {
-        return write!(out, "{name}");
-    }
-    write!(out, "{namespace}.{name}")
-}
-
-/// Writes what stands for the part of a name that is left out.
-pub fn write_left_out<W: fmt::Write>(out: &mut W) -> fmt::Result
-    ensures { OnOk result (WritesInCalls W.write_str_gives out.old (codes "..") out.new) }
-{
-    write!(out, "..")
-}
-
-/// Writes what is between the names of two types of a chain.
-fn write_slash<W: fmt::Write>(out: &mut W) -> fmt::Result
-    ensures { OnOk result (WritesInCalls W.write_str_gives out.old (codes "/") out.new) }
-{
-    write!(out, "/")
-}
 
 /// Writes the name of a type of this module without those of the types that enclose it.
 #[tactic(auto, unfolding(table_schema::specs::CellColumns::cell_columns))]

@@ -1,44 +1,44 @@
 ghost use Rattle.std.specs.Prelude.{◌≡◌, ◌≤◌, OnOk};
 ghost use Rattle.table_schema.specs.declared.table.TableId.TheVariants.{TypeDef, TypeRef, TypeSpec};
-ghost use Rattle.metadata.specs.Metadata.{Metadata};
+ghost use Rattle.sig_grammar.specs.Syntax.{Body};
+ghost use Rattle.metadata.specs.Cell.{Sig};
+ghost use Rattle.metadata.specs.Metadata.{Metadata, cell_in};
 ghost use Rattle.full_names.specs.Names.{IsTypeDefText, IsTypeRefText, Wrote};
+ghost use Rattle.full_names.specs.Texts.{IsFullName, IsTypeSpecText};
 
-use crate::lent::Lent;
-use crate::names::{DEPTH, write_left_out, write_type_def, write_type_ref};
-use crate::signatures_read::ReadSignatures;
+use crate::inner_names::{TypeSpecText, put_type_spec};
+use crate::names::{DEPTH, write_type_def, write_type_ref};
+use crate::parts::write_left_out;
+use crate::signature_bytes::bytes_of;
+use crate::text_error::TextError;
 use navigation::ReadCells;
-use sig_text::{NamedText, TokenNames};
+use sig_text::TokenNames;
+use std::alloc::Global;
 use std::fmt;
-use table_schema::{TableId, Token};
+use table_schema::{SigKind, TableId, Token};
+
+/// The cell of the signature of a TypeSpec (II.22.39).
+const TYPE_SIGNATURE: usize = 0;
 
 /// The names of types, for the texts of signatures.
 #[derive(Drop)]
 pub struct FullNames<'s, S> {
+    /// For the bytes of TypeSpecs that are held as values.
+    pub alloc: Global,
     /// The metadata of the types.
     pub source: &'s S,
 }
 
-impl<S: ReadSignatures> TokenNames for FullNames<'_, S> {
+impl<S: ReadCells> TokenNames for FullNames<'_, S> {
+    /// Writes the name as [`write_full_name`] does.
+    ///
+    /// # Errors
+    ///
+    /// The writer refused a part of the name, or out of memory.
     fn write_name<W: fmt::Write>(&self, token: Token, writer: &mut W) -> fmt::Result {
-        write_full_name(self.source, token, writer)
-    }
-}
-
-/// The names of types in the text of a TypeSpec. A TypeSpec in it is left out, since it may be the same one.
-#[derive(Drop)]
-struct NamesWithin<'s, S> {
-    source: &'s S,
-}
-
-impl<S: ReadSignatures> TokenNames for NamesWithin<'_, S> {
-    fn write_name<W: fmt::Write>(&self, token: Token, writer: &mut W) -> fmt::Result {
-        if token.row == 0 || token.row > self.source.count(token.table) {
-            return write_left_out(writer);
-        }
-        match token.table {
-            TableId::TypeDef => write_type_def(self.source, token.row, writer, DEPTH),
-            TableId::TypeRef => write_type_ref(self.source, token.row, writer, DEPTH),
-            _ => write_left_out(writer),
+        match write_full_name(self.alloc, self.source, token, writer) {
+            Ok(()) => Ok(()),
+            Err(_) => Err(fmt::Error),
         }
     }
 }
@@ -50,41 +50,59 @@ impl<S: ReadSignatures> TokenNames for NamesWithin<'_, S> {
 /// written, and `..` before them if there are more. `..` stands for a TypeSpec in the text of a TypeSpec, too, and for a
 /// token that names no type. A TypeRef is written without its assembly.
 ///
-/// Of a TypeDef it looks up at most [`DEPTH`] enclosing types, each by binary search if NestedClass is in order.
+/// Of a TypeDef it looks up at most [`DEPTH`] enclosing types, each by binary search if NestedClass is in order. It
+/// allocates only the bytes of a TypeSpec that is held as a value, so nothing of a view.
 ///
 /// # Errors
 ///
-/// The writer refused a part of the name.
-pub fn write_full_name<S: ReadSignatures, W: fmt::Write>(
+/// `Writer` if the writer refused a part of the name. `Memory` if out of memory.
+pub fn write_full_name<S: ReadCells, W: fmt::Write>(
+    alloc: Global,
     source: &S,
     token: Token,
     out: &mut W,
-) -> fmt::Result
+) -> Result<(), TextError>
     ensures type_def { (model : Metadata) → S.shows source.now model → token.table ≡ TypeDef → 1 ≤ token.row → token.row ≤ S.row_count source.now TypeDef
         → OnOk result (Wrote W.write_str_gives out.old (IsTypeDefText model 64 token.row) out.new) }
     ensures type_ref { (model : Metadata) → S.shows source.now model → token.table ≡ TypeRef → 1 ≤ token.row → token.row ≤ S.row_count source.now TypeRef
         → OnOk result (Wrote W.write_str_gives out.old (IsTypeRefText model 64 token.row) out.new) }
+    // The text of each token, also of a TypeSpec.
+    ensures name { (model : Metadata) → S.shows source.now model → OnOk result (Wrote W.write_str_gives out.old (IsFullName model token) out.new) }
 {
+    source.holds_one();
     if token.row == 0 || token.row > source.count(token.table) {
-        return write_left_out(out);
+        return Ok(write_left_out(out)?);
     }
     match token.table {
-        TableId::TypeDef => write_type_def(source, token.row, out, DEPTH),
-        TableId::TypeRef => write_type_ref(source, token.row, out, DEPTH),
-        TableId::TypeSpec => write_type_spec(source, token.row, out),
-        _ => write_left_out(out),
+        TableId::TypeDef => Ok(write_type_def(source, token.row, out, DEPTH)?),
+        TableId::TypeRef => Ok(write_type_ref(source, token.row, out, DEPTH)?),
+        TableId::TypeSpec => write_type_spec(alloc, source, token.row, out),
+        _ => Ok(write_left_out(out)?),
     }
 }
 
 /// Writes the type that a TypeSpec is (II.22.39).
-fn write_type_spec<S: ReadSignatures, W: fmt::Write>(
+#[tactic(auto, unfolding(table_schema::specs::CellColumns::cell_columns))]
+fn write_type_spec<S: ReadCells, W: fmt::Write>(
+    alloc: Global,
     source: &S,
     row: u32,
     out: &mut W,
-) -> fmt::Result
+) -> Result<(), TextError>
     requires first { 1 ≤ row }
     requires last { row ≤ S.row_count source.now TypeSpec }
+    ensures { (model : Metadata) → S.shows source.now model → (signature : Body) → cell_in model TypeSpec row 0 ≡ Sig signature
+        → OnOk result (Wrote W.write_str_gives out.old (IsTypeSpecText model signature) out.new) }
 {
-    let mut sink = NamedText::new(Lent { writer: out }, NamesWithin { source });
-    source.write_type(row, &mut sink).ok_or(fmt::Error)
+    sig_values::laws::shortest_encodes();
+    source.holds_one();
+    let kind = SigKind::TypeSpec;
+    let bytes = source.signature(alloc, kind, TableId::TypeSpec, row, TYPE_SIGNATURE)?;
+    let mut sink = TypeSpecText {
+        source,
+        writer: out,
+        refused: false,
+    };
+    let written = put_type_spec(&mut sink, bytes_of(&bytes));
+    written.ok_or(TextError::Writer)
 }

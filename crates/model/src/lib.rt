@@ -65,8 +65,9 @@ pub use heaps::{HeapFault, PoolError, Units, UserHeap, UserString, guid_text, us
 pub use schema::{Coded, Column, ColumnKind, cell_count, column_names, columns, key};
 
 // Models that own their memory.
-pub use loading::{LoadError, ToModel, load_image, load_root};
-pub use owned_model::{Bytes, Cell, Model, Refusal, Row, Tables, Text};
+pub use owned_model::{
+    Bytes, Cell, LoadError, Model, Refusal, Row, Tables, Text, ToModel, load_image, load_root,
+};
 
 // Signatures in place: item by item, and in the notation of ILAsm.
 pub use sig_items::{CallingConvention, Item, Items, MethodHead};

@@ -20,7 +20,6 @@
 //! ```
 #![tactic(auto)]
 
-mod bits;
 mod counted;
 mod error;
 mod heap_lens;
@@ -34,7 +33,6 @@ mod sink;
 mod stream_lens;
 mod tables_plan;
 
-pub use bits::bit;
 pub use counted::Counted;
 pub use error::WriteError;
 pub use outline::Outline;

@@ -1,12 +1,15 @@
 use heap_pools::PoolError;
 use std::alloc::AllocError;
+use thiserror::Error;
 
 /// Why a root cannot be planned.
-#[derive(Debug, Clone, Copy, PartialEq, Eq)]
+#[derive(Clone, Copy, Debug, PartialEq, Eq, Error)]
 pub enum PlanError {
     /// The canonical root is longer than the limit.
+    #[error("the root is longer than the limit")]
     TooLarge,
     /// Out of memory.
+    #[error("out of memory")]
     Memory,
 }
 

@@ -2,9 +2,11 @@ ghost use Rattle.std.specs.Prelude.{◌≡◌, ◌+◌, ◌^◌, ◌<◌, ◌≤
 ghost use Rattle.std.specs.Io.KnownBytes.{Appends};
 
 use crate::sink::Sink;
+use thiserror::Error;
 
 /// The sink failed before all bytes were sent.
-#[derive(Clone, Copy, Debug, PartialEq, Eq)]
+#[derive(Clone, Copy, Debug, PartialEq, Eq, Error)]
+#[error("the writer failed after {given} bytes")]
 pub struct Stopped {
     /// The number of bytes that were sent: the prefix of this length.
     pub given: u64,

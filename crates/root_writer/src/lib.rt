@@ -32,4 +32,5 @@ pub use numbering::Numbering;
 pub use references::row_number;
 pub use root_parts::RootParts;
 pub use sizes::StreamSizes;
+pub use table_header::bit;
 pub use writer::Writer;

@@ -8,8 +8,8 @@ use crate::writer::Writer;
 use schema::Layout;
 use table_schema::TableId;
 
-/// The bit of a table if it is set, else 0.
-fn bit(set: bool, table: TableId) -> u64
+/// The bit of a table in Valid or Sorted if it is set, else 0 (II.24.2.6).
+pub fn bit(set: bool, table: TableId) -> u64
     ensures { result ≡ bit_if set table }
 {
     if set { 1 << table.number() } else { 0 }

@@ -6,7 +6,7 @@ ghost use Rattle.metadata.specs.Metadata.{Metadata};
 ghost use Rattle.canonical.specs.TableStream.{is_sorted as is_sorted_in};
 
 use metadata_source::ReadMetadata;
-use root_plan::bit;
+use root_writer::bit;
 use table_schema::{TableId, key};
 
 /// The row count of each table, by table number.

@@ -2,7 +2,7 @@
 //!
 //! Roots are samples, or are laid out from rows and heaps by the builder of `sample_roots`. Cells, runs, texts, the
 //! order of keys and faults are compared with what ECMA-335 Partition II (22 to 25) says of them. Bytes that are
-//! refused are loaded too: `loading` has to report the same fault. What is expected of changed bytes was found by
+//! refused are loaded too: `owned_model` has to report the same fault. What is expected of changed bytes was found by
 //! another reader, written from the standard alone.
 
 mod budgets;

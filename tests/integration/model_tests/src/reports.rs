@@ -1,7 +1,6 @@
 use crate::form::Form;
-use loading::{LoadError, ToModel, load_image, load_root};
 use opening::{CellRef, Fault, View, open_image, open_root};
-use owned_model::{Model, Tables};
+use owned_model::{LoadError, Model, Tables, ToModel, load_image, load_root};
 use sample_roots::fault_of;
 use sample_tables::{copy_cell, model_of};
 use schema::{ColumnKind, TableId, cell_count, column_of_cell, columns};
@@ -143,7 +142,7 @@ pub fn loaded(alloc: Global, form: Form, bytes: &[u8]) -> Result<Answer, Fail> {
     match (load(alloc, form, bytes), open(form, bytes)) {
         (Ok(model), Ok(view)) => Ok(Answer::Model(seen(alloc, model, &view)?)),
         (Err(LoadError::Fault(fault)), Err(opened)) if fault == opened => Ok(Answer::Fault(fault)),
-        _ => Err(Fail::from("loading and opening give different results")),
+        _ => Err(Fail::from("a load and opening give different results")),
     }
 }
 

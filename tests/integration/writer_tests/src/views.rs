@@ -1,8 +1,7 @@
 //! Tests of `writer` over views: views of roots are written as their models are.
 
-use loading::load_root;
 use opening::{View, open_root};
-use owned_model::TableId;
+use owned_model::{TableId, load_root};
 use sample_roots::{
     NAMES_APART, NAMES_SHARED, NO_ROWS, OF_ASSEMBLY, OF_MODULE, ONE_MODULE, OTHERS_SORTED,
     RootBuilder, THREE_TYPES, TWO_TYPES, root_of_attributes, root_of_implementation,

@@ -1,6 +1,5 @@
 use crate::copied::copied_tables;
-use loading::{load_image, load_root};
-use owned_model::Model;
+use owned_model::{Model, load_image, load_root};
 use std::alloc::{AllocError, Global};
 use writer::write_root;
 

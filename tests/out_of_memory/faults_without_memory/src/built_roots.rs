@@ -1,6 +1,6 @@
 use crate::built_root::BuiltRoot;
 use crate::reported::{Reported, both, counted, is_refused};
-use loading::load_root;
+use owned_model::load_root;
 use opening::{TableId, Token, open_image, open_root};
 use sample_roots::{NAMES_APART, NAMES_SHARED, OF_ASSEMBLY, OF_MODULE, ONE_MODULE, TWO_TYPES, image};
 use std::alloc::Global;

@@ -1,6 +1,6 @@
 use crate::built_roots::count_built;
 use crate::reported::{Reported, both, counted, is_refused};
-use loading::{load_image, load_root};
+use owned_model::{load_image, load_root};
 use sample_roots::{
     FILE_FAULTS, FILE_PREFIXES, FirstFault, PrefixFault, MODULE_FAULTS, MODULE_PREFIXES,
     NESTED_TYPE_FAULTS, ONE_MODULE, THREE_TYPES, TWO_TYPE_FAULTS, TWO_TYPE_PREFIXES, TWO_TYPES,

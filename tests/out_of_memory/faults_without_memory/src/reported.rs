@@ -1,4 +1,4 @@
-use loading::LoadError;
+use owned_model::LoadError;
 
 /// How many loads reported the expected fault, and how many did not.
 pub type Reported = (u32, u32);

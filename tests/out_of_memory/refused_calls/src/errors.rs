@@ -1,4 +1,4 @@
-use loading::LoadError;
+use owned_model::LoadError;
 use one_refusal::Stop;
 use writer::WriteError;
 

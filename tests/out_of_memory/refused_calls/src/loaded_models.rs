@@ -1,8 +1,7 @@
 use crate::errors::not_loaded;
-use loading::{LoadError, ToModel, load_image, load_root};
 use one_refusal::{Run, Stop, kept};
 use opening::{View, open_image, open_root};
-use owned_model::{Cell, Model, TableId, Tables};
+use owned_model::{Cell, LoadError, Model, TableId, Tables, ToModel, load_image, load_root};
 use sample_roots::{ONE_MODULE, image};
 use sample_tables::copy_cell;
 

@@ -1,4 +1,4 @@
-//! Every call of `tables`, `loading`, `writer` and the crates of records that can run out of
+//! Every call of `tables`, `owned_model`, `writer` and the crates of records that can run out of
 //! memory, once and, if it does, once more.
 
 mod errors;

@@ -1,8 +1,7 @@
 use crate::errors::{not_loaded, not_written};
-use loading::{LoadError, load_root};
 use one_refusal::{Run, Stop, kept};
 use opening::open_root;
-use owned_model::Model;
+use owned_model::{LoadError, Model, load_root};
 use std::io;
 use std::io::Write;
 use writer::{Counted, Prepared, Sink, WriteError, prepare, write_root, write_root_to};

@@ -1,6 +1,6 @@
 use crate::form::Form;
 use crate::reports::model_in;
-use loading::load_image;
+use owned_model::load_image;
 use opening::open_image;
 use sample_roots::{ONE_MODULE, image};
 use std::test::Fail;

@@ -1,6 +1,6 @@
 use crate::reports::{fault_of_root, has_cell, model_in, text_in};
 use crate::form::Form;
-use loading::load_root;
+use owned_model::load_root;
 use tables::Cell;
 use sample_roots::{
     FIELD, ONE_MODULE, RootBuilder, TWO_TYPES, changed, root_of_long_text, root_of_params,

@@ -8,8 +8,7 @@ use records::{
     Module, ModuleRef, NestedClass, Param, Property, PropertyMap, Record, StandAloneSig, TypeDef,
     TypeRef, TypeSpec,
 };
-use loading::load_root;
-use owned_model::Model;
+use owned_model::{Model, load_root};
 use std::alloc::Global;
 use std::fmt::Debug;
 use std::process::Abort;

@@ -7,9 +7,8 @@ use records::{
     MethodSpec, Module, ModuleRef, NestedClass, Param, Property, PropertyMap, Record, SigKind,
     Signature, StandAloneSig, TypeDef, TypeRef, TypeSpec,
 };
-use loading::load_root;
 use opening::{CellRef, TableId, View, open_root};
-use owned_model::Model;
+use owned_model::{Model, load_root};
 use signatures::decode;
 use std::alloc::Global;
 use std::fmt::Debug;

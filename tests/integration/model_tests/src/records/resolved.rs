@@ -4,9 +4,8 @@ use records::{
     CellRow, CodedRow, CustomAttributeType, Implementation, MemberRefParent, MethodDefOrRef,
     ResolutionScope, TypeDefOrRef, TypeOrMethodDef,
 };
-use loading::load_root;
 use opening::{View, open_root};
-use owned_model::Model;
+use owned_model::{Model, load_root};
 use schema::{Coded, TableId, Token};
 use std::alloc::Global;
 use std::fmt::Debug;

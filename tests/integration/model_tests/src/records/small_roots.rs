@@ -1,6 +1,6 @@
 use crate::records::laid_out::{BLOB, GUID, STRINGS, root_of};
 use records::{ExportedType, Field, MethodDef, Module, SigKind, TypeDef};
-use loading::load_root;
+use owned_model::load_root;
 use opening::open_root;
 use signatures::decode;
 use std::alloc::Global;

@@ -1,4 +1,4 @@
-use loading::load_root;
+use owned_model::load_root;
 use sample_roots::root_of_long_text;
 use std::test::Fail;
 use writer::{WriteError, write_root_within};

@@ -1,5 +1,4 @@
-use loading::load_root;
-use owned_model::TableId;
+use owned_model::{TableId, load_root};
 use sample_roots::{
     NAMES_APART, NAMES_SHARED, NO_ROWS, ONE_MODULE, THREE_TYPES, TWO_TYPES, root_of_implementation,
     root_of_params, root_of_signature, root_of_wide_indexes,

@@ -1,5 +1,4 @@
-use loading::{LoadError, load_root};
-use owned_model::Model;
+use owned_model::{LoadError, Model, load_root};
 use sample_roots::{NO_ROWS, ONE_MODULE, TWO_TYPES, changed};
 use sample_tables::{
     GUID, model_of, model_of_module, model_of_no_rows, model_of_two_types, root_of_whole_tables,

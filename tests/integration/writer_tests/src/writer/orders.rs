@@ -1,6 +1,5 @@
 use crate::writer::loaded::rewritten;
-use loading::load_root;
-use owned_model::TableId;
+use owned_model::{TableId, load_root};
 use sample_roots::{
     ALL_SORTED, OF_ASSEMBLY, OF_MODULE, OTHERS_SORTED, change, root_of_attributes, write_at,
 };

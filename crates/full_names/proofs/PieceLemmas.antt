@@ -1,0 +1,96 @@
+-- What a writer took, from the pieces that a sink received; and the bytes of a signature.
+use Rattle.std.proofs.Common.{◌≡◌, ℕ, Bool, true, List, [], ◌++◌, Option, Some, None, Result, Ok, Err, OnOk, OnSome, refl, sym, ap, subst, ◌∙◌}
+use Rattle.std.specs.Prelude.{is_some, is_ok}
+use Rattle.std.specs.Option.{ok_or}
+use Rattle.table_schema.specs.declared.table.TableId.TheVariants.{TypeDef, TypeRef, TypeSpec}
+use Rattle.table_schema.specs.declared.token.Token.{Token}
+use Rattle.table_schema.specs.declared.column.SigKind.{SigKind}
+use Rattle.table_schema.specs.declared.column.ColumnKind.TheVariants as kind
+use Rattle.sig_grammar.specs.Syntax.{Body}
+use Rattle.sig_grammar.specs.Encodes.{Encodes, Holds, IsEncodable, short}
+use Rattle.sig_text.specs.SignatureText.{Piece}
+use Rattle.sig_text.specs.Receives.{Receives, nothing, refused, taken}
+use Rattle.metadata.specs.Cell.{Cell, Sig}
+use Rattle.metadata.specs.Kinds.{IsHeld, IsOfKind}
+use Rattle.metadata.specs.Lookups.{HasRow}
+use Rattle.metadata.specs.Metadata.{Metadata, cell_in}
+use Rattle.metadata_source.specs.declared.signature_bytes.SignatureBytes.{SignatureBytes}
+use Rattle.metadata_source.specs.declared.signature_bytes.SignatureBytes.TheVariants.{Stored, Canonical}
+use Rattle.metadata_source.specs.SignatureBytes.{AreBytesOf}
+use Rattle.full_names.specs.Names.{Wrote}
+use Rattle.full_names.specs.SignatureBytes.{bytes_in}
+use Rattle.full_names.specs.Texts.{ArePiecesText, IsFullName, IsTypeSpecText}
+use Rattle.full_names.specs.declared.text_error.TextError.{TextError}
+use Rattle.full_names.proofs.TextLemmas.{writes_append, writes_nothing}
+
+-- a sink that keeps a fact, and writes the text of each piece, writes the texts of all pieces that it takes
+module _ {K W : Type 0} (gives : K → Piece → Bool → K → Type 0) (took : W → List ℕ → W → Type 0) (writer : K → W) (keeps : K → Type 0) (is_text : Piece → List ℕ → Type 0)
+    (step : (s : K) (p : Piece) (t : K) → gives s p true t → keeps s → keeps t × Wrote took (writer s) (is_text p) (writer t)) where
+  pub received : {s t : K} {ps : List Piece} {all : Bool} → Receives gives s ps all t → all ≡ true → keeps s
+      → keeps t × Wrote took (writer s) (ArePiecesText is_text ps) (writer t)
+  received {s = s} nothing whole kept = (kept, ([], refl, writes_nothing took (writer s)))
+  received (refused call) whole kept = absurd cc
+  received {s = s} {t = t} (taken {t = u} {p = p} call more) whole kept =
+      let one = step s p u call kept in
+      let rest = received more whole one.0 in
+      (rest.0, (one.1.0 ++ rest.1.0, (one.1.0, one.1.1, rest.1.0, rest.1.1, refl), writes_append took (writer s) one.1.0 (writer u) rest.1.0 (writer t) one.1.2 rest.1.2))
+
+signature_in : Body → Cell → Body
+signature_in other (Sig signature) = signature
+signature_in other cell = other
+
+-- the bytes of a cell's signature encode it
+pub encoded_in : (kind : SigKind) (bytes : SignatureBytes) (cell : Cell) (signature : Body) → ((other : Body) → Holds kind other → IsEncodable other → Encodes kind other (short other))
+    → AreBytesOf kind bytes cell → cell ≡ Sig signature → Holds kind signature → IsEncodable signature → Encodes kind signature (bytes_in bytes)
+unfolding signature_in
+encoded_in kind (Stored blob) cell signature short_encodes (other, encodes, is) of holds encodable =
+    let same : other ≡ signature = ap (signature_in other) (sym is ∙ of) in subst (λ (s : Body). Encodes kind s blob.now) same encodes
+encoded_in kind (Canonical bytes) cell signature short_encodes (other, items, is) of holds encodable =
+    let same : other ≡ signature = ap (signature_in other) (sym is ∙ of) in
+    let short_is : bytes.items ≡ short signature = items ∙ ap (λ (s : Body). short s) same in
+    subst (λ (b : List ℕ). Encodes kind signature b) (sym short_is) (short_encodes signature holds encodable)
+
+-- a signature in a column of signatures is of the column's kind and has an encoding
+pub held_in : (column : SigKind) (signature : Body) → IsHeld (kind.Signature column) (Sig signature) → Holds column signature × IsEncodable signature
+held_in column signature held = held
+
+-- what holds if a sink took all holds if the result is `Ok`
+pub when_ok : {E : Type 0} {P : Type 0} {result : Result (Unit {0}) E} (written : Option (Unit {0})) (e : E) → result ≡ ok_or written e → (is_some written ≡ true → P) → OnOk result P
+when_ok {P = P} None e is holds = rw is tt
+when_ok {P = P} (Some u) e is holds = rw is (holds refl)
+
+pub when_taken : {P : Type 0} (written : Option (Unit {0})) → (is_some written ≡ true → P) → OnSome written P
+when_taken None holds = tt
+when_taken (Some u) holds = holds refl
+
+-- the same, if a fact holds of each sink that took all
+pub ok_after : {E : Type 0} {P Q : Type 0} {result : Result (Unit {0}) E} (written : Option (Unit {0})) (e : E) → result ≡ ok_or written e → OnSome written P → (P → Q) → OnOk result Q
+ok_after None e is holds after = rw is tt
+ok_after (Some u) e is holds after = rw is (after holds)
+
+-- what holds if a writer's result is `Ok` holds if a sink took the piece
+pub on_taken : {E : Type 0} {P : Type 0} (written : Result (Unit {0}) E) → is_ok written ≡ true → OnOk written P → P
+on_taken (Ok u) is holds = holds
+on_taken (Err e) is holds = absurd cc
+
+-- a cell in a column of signatures is a signature
+pub signature_of : (column : SigKind) (cell : Cell) → IsOfKind (kind.Signature column) cell → (signature : Body) × (cell ≡ Sig signature)
+signature_of column (Sig signature) of = (signature, refl)
+signature_of column cell of = absurd of
+
+-- the text of a TypeSpec is its name
+pub spec_name : {W : Type 0} (took : W → List ℕ → W → Type 0) (model : Metadata) (token : Token) (signature : Body) (w v : W) (result : Result (Unit {0}) TextError)
+    → token.table ≡ TypeSpec → HasRow model token.table token.row → cell_in model TypeSpec token.row 0 ≡ Sig signature
+    → OnOk result (Wrote took w (IsTypeSpecText model signature) v) → OnOk result (Wrote took w (IsFullName model token) v)
+unfolding signature_in
+spec_name took model token signature w v (Err e) table there is wrote = tt
+spec_name took model token signature w v (Ok u) table there is wrote = (
+  wrote.0,
+  record {
+    type_def = λ other row. let f : TypeSpec ≡ TypeDef = sym table ∙ other in absurd cc;
+    type_ref = λ other row. let f : TypeSpec ≡ TypeRef = sym table ∙ other in absurd cc;
+    type_spec = λ same row other of. let one : signature ≡ other = ap (signature_in signature) (sym is ∙ of) in subst (λ (s : Body). IsTypeSpecText model s wrote.0) one wrote.1;
+    other = λ named spec. absurd (spec (table, there));
+  },
+  wrote.2,
+)

@@ -1,0 +1,22 @@
+use Rattle.std.proofs.Common.{subst, arith}
+use Rattle.table_schema.specs.declared.table.TableId.{TableId}
+use Rattle.table_schema.specs.declared.table.TableId.TheVariants.{TypeSpec}
+use Rattle.table_schema.specs.declared.column.SigKind.TheVariants as kind
+use Rattle.table_schema.specs.CellColumns.{cell_columns}
+use Rattle.metadata.specs.Lookups.{HasRow}
+use Rattle.metadata.specs.Metadata.{cell_in}
+use Rattle.full_names.proofs.PieceLemmas.{signature_of, spec_name}
+use Rattle.full_names.proofs.specs_named.write_full_name.Goals as goal
+
+pub returns-in-TypeSpec-clause-name : goal.returns-in-TypeSpec-clause-name
+unfolding cell_columns
+returns-in-TypeSpec-clause-name g c = λ model shown.
+    let token = c.args.token in
+    let some = c.if-token-eq0.false in
+    let count = c.count.ensures.rows in
+    let last = c.if-token-count.false in
+    let rows = c.holds_one.ensures.rows model shown token.table in
+    let there : HasRow model token.table token.row = (omega (arith, some), omega (arith, count, last, rows)) in
+    let at : HasRow model TypeSpec token.row = subst (λ (t : TableId). HasRow model t token.row) c.in-TypeSpec.is there in
+    let own = signature_of kind.TypeSpec (cell_in model TypeSpec token.row 0) ((c.holds_one.ensures.valid model shown).cells TypeSpec token.row 0 at (omega arith)).of_kind in
+    spec_name g.W.Write.write_str_gives model token own.0 c.args.out.now c.write_type_spec.new.out c.write_type_spec.result c.in-TypeSpec.is there own.1 (c.write_type_spec.ensures model shown own.0 own.1)

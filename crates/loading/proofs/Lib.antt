@@ -1,4 +1,0 @@
-pub mod PaddingLemmas
-pub mod Zeros
-pub mod Refusing
-pub mod ValidLemmas

@@ -1,9 +1,0 @@
-use Rattle.std.proofs.Common.{◌≡◌, take}
-use Rattle.tables.specs.Said.{all_said}
-use Rattle.metadata.specs.Metadata.{Metadata, row_of}
-use Rattle.metadata.specs.Model.{IsModel}
-use Rattle.loading.proofs.table_rows.load_row.Given as goal
-
--- the cells so far are the first cells of the row
-abbrev pub invariant-loop-column : goal.invariant-loop-column
-invariant-loop-column l = (model : Metadata) → IsModel l.view model → all_said l.cells.items ≡ take l.column (row_of model l.table l.row)

@@ -1,9 +1,0 @@
-use Rattle.std.proofs.Common.{◌≡◌, ◌++◌, take, drop}
-use Rattle.metadata.specs.Metadata.{Metadata}
-use Rattle.metadata.specs.Model.{IsModel}
-use Rattle.loading.proofs.table_rows.load_tables.Given as goal
-
--- the tables so far are the first tables of the model
-abbrev pub invariant-loop-table : goal.invariant-loop-table
-invariant-loop-table l =
-    (model : Metadata) → IsModel l.view model → l.tables ≡ record l.fn.tables { tables = take l.table-index model.tables ++ drop l.table-index l.fn.tables.tables }

@@ -1,0 +1,97 @@
+-- Rows and tables that are filled one by one.
+use Rattle.std.proofs.Common.{◌≡◌, ℕ, zero, suc, ◌+◌, ◌<◌, List, [], ◌∷◌, ◌++◌, length, map, get_or, set, take, drop, refl, sym, ap, ◌∙◌, add-one, add-zero, arith}
+use Rattle.std.proofs.lemmas.List.{map-append, take_more, get_or-map, get_or-set_same, set-set}
+use Rattle.table_schema.specs.declared.table.TableId.{TableId}
+use Rattle.table_schema.specs.declared.table.TableId.TheVariants.{Module}
+use Rattle.table_schema.specs.Tables.{tables, table_index_of}
+use Rattle.metadata.specs.Cell.{Cell}
+use Rattle.metadata.specs.Metadata.{Metadata, rows_of}
+use Rattle.tables.specs.declared.cell.Cell.{Cell as Owned}
+use Rattle.tables.specs.Said.{said, all_said}
+use Rattle.tables.specs.Push.{with_row}
+use Rattle.owned_model.specs.Padded.{with_rows}
+
+-- one more cell of a row
+pub next_cell : (cells : List Owned) (cell : Owned) (row : List Cell) (k : ℕ) (d : Cell) → k < length row → all_said cells ≡ take k row → said cell ≡ get_or row k d
+    → all_said (cells ++ cell ∷ []) ≡ take (k + 1) row
+next_cell cells cell row k d below before here =
+    map-append said cells (cell ∷ [])
+    ∙ ap (λ (prefix : List Cell). prefix ++ said cell ∷ []) before
+    ∙ ap (λ (last : Cell). take k row ++ last ∷ []) here
+    ∙ sym (take_more row k d below)
+
+-- one more row of a table
+pub next_row : (model : Metadata) (table : TableId) (rows : List (List Cell)) (k : ℕ) → table_index_of table < length model.tables → k < length rows
+    → with_row (with_rows model table (take k rows)) table (get_or rows k []) ≡ with_rows model table (take (k + 1) rows)
+next_row model table rows k within below =
+    let i = table_index_of table in
+    let prefix = take k rows in
+    let back : List (List Cell) = get_or rows k [] ∷ [] in
+    let here : get_or (set model.tables i prefix) i [] ≡ prefix = get_or-set_same model.tables i prefix [] within in
+    ap (λ (t : List (List (List Cell))). let m : Metadata = record model { tables = t } in m)
+    (set-set model.tables i prefix (get_or (set model.tables i prefix) i [] ++ back)
+    ∙ ap (λ (l : List (List Cell)). set model.tables i (l ++ back)) here
+    ∙ ap (λ (l : List (List Cell)). set model.tables i l) (sym (take_more rows k [] below)))
+
+-- the first tables are filled, and then the next one
+pub next_padded : {X : Type 0} (full empty : List X) (d : X) (j : ℕ) → j < length full → j < length empty
+    → set (take j full ++ drop j empty) j (get_or full j d) ≡ take (suc j) full ++ drop (suc j) empty
+next_padded [] empty d j below left = absurd (omega arith)
+next_padded (x ∷ full) [] d j below left = absurd (omega arith)
+next_padded (x ∷ full) (y ∷ empty) d zero below left = refl
+next_padded (x ∷ full) (y ∷ empty) d (suc j) below left = ap (λ l. x ∷ l) (next_padded full empty d j (omega arith) (omega arith))
+
+-- the next one is unchanged
+pub next_left : {X : Type 0} (full empty : List X) (d : X) (j : ℕ) → j < length full → j < length empty
+    → get_or (take j full ++ drop j empty) j d ≡ get_or empty j d
+next_left [] empty d j below left = absurd (omega arith)
+next_left (x ∷ full) [] d j below left = absurd (omega arith)
+next_left (x ∷ full) (y ∷ empty) d zero below left = refl
+next_left (x ∷ full) (y ∷ empty) d (suc j) below left = next_left full empty d j (omega arith) (omega arith)
+
+-- their number is the same
+pub padded_length : {X : Type 0} (full empty : List X) (j : ℕ) → length full ≡ length empty → length (take j full ++ drop j empty) ≡ length empty
+padded_length full empty zero same = refl
+padded_length [] [] (suc j) same = refl
+padded_length [] (y ∷ empty) (suc j) same = absurd (omega arith)
+padded_length (x ∷ full) [] (suc j) same = absurd (omega arith)
+padded_length (x ∷ full) (y ∷ empty) (suc j) same = ap suc (padded_length full empty j (omega arith))
+
+-- all of them are filled
+pub all_padded : {X : Type 0} (full empty : List X) → length full ≡ length empty → (j : ℕ) → length full ≡ j → take j full ++ drop j empty ≡ full
+all_padded [] [] same zero all = refl
+all_padded [] [] same (suc j) all = refl
+all_padded [] (y ∷ empty) same j all = absurd (omega arith)
+all_padded (x ∷ full) [] same j all = absurd (omega arith)
+all_padded (x ∷ full) (y ∷ empty) same zero all = absurd (omega arith)
+all_padded (x ∷ full) (y ∷ empty) same (suc j) all = ap (λ l. x ∷ l) (all_padded full empty (omega arith) j (omega arith))
+
+-- the table indexes, in order
+abbrev count_up : ℕ → ℕ → List ℕ
+count_up from zero = []
+count_up from (suc n) = from ∷ count_up (suc from) n
+
+count_up_at : (from n k : ℕ) → k < n → get_or (count_up from n) k 0 ≡ from + k
+count_up_at from zero k below = absurd (omega arith)
+count_up_at from (suc n) zero below = sym (add-zero from)
+count_up_at from (suc n) (suc k) below = count_up_at (suc from) n k (omega arith) ∙ omega arith
+
+table_indexes : map table_index_of tables ≡ count_up 0 38
+unfolding tables
+table_indexes = refl
+
+-- a table is found by its table index
+pub table_index_at : length tables ≡ 38 → (k : ℕ) → k < 38 → table_index_of (get_or tables k Module) ≡ k
+table_index_at count k below =
+    sym (get_or-map table_index_of tables k Module 0 (omega (arith, count))) ∙ ap (λ (l : List ℕ). get_or l k 0) table_indexes ∙ count_up_at 0 38 k below
+    ∙ omega arith
+
+-- one more table, of those that are filled in order
+pub next_table : (model before : Metadata) (table : TableId) (j : ℕ) → length model.tables ≡ 38 → length before.tables ≡ 38 → j < 38 → table_index_of table ≡ j
+    → with_rows (record before { tables = take j model.tables ++ drop j before.tables }) table (rows_of model table)
+    ≡ record before { tables = take (j + 1) model.tables ++ drop (j + 1) before.tables }
+next_table model before table j full empty below here =
+    let made : List (List (List Cell)) = take j model.tables ++ drop j before.tables in
+    let next = next_padded model.tables before.tables [] j (omega (arith, full)) (omega (arith, empty)) in
+    ap (λ (t : List (List (List Cell))). let m : Metadata = record before { tables = t } in m)
+    (ap (λ (i : ℕ). set made i (get_or model.tables i [])) here ∙ next ∙ ap (λ (i : ℕ). take i model.tables ++ drop i before.tables) (sym (add-one j)))
