@@ -1,0 +1,4 @@
+pub mod CellTests
+pub mod GrowthLemmas
+pub mod SignatureLemmas
+pub mod CellSteps
