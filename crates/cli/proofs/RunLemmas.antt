@@ -19,7 +19,7 @@ use Rattle.cli.specs.declared.stopped.Stopped.{Stopped}
 use Rattle.cli.specs.declared.task.Task.{Task}
 use Rattle.cli.specs.Hints.{hint_for}
 use Rattle.cli.specs.Read.{IsRefused}
-use Rattle.cli.specs.Rewritten.{IsRewritten, ReportsUnwritten}
+use Rattle.cli.specs.Rewritten.{IsGiven, IsRewritten, ReportsUnwritten}
 use Rattle.cli.specs.Runs.{Does, IsChecked, IsReported, IsRewriting, IsRunOf, IsRunOn, Outcome, PrintsPart, StopsBy, wrote_text}
 use Rattle.cli.specs.Stopped.{IsStopOf}
 use Rattle.cli.specs.Tasks.{IsTask}
@@ -61,17 +61,17 @@ module _ {W : Type 0} (contents : W → Option (List ℕ)) (before after : W) (b
     hint = rw hinted.0 hinted.1;
   }
 
-  pub rewriting : (path : List ℕ) (first : Result (Unit {0}) Failure) (second : Result (Unit {0}) Stop) (last : Outcome)
-      → OnOk first ((root : List ℕ) × IsRewritten bare bytes root × Appends (contents before) (contents after) (wrote_text (length root)))
-      → IfErr first (λ failure. ((ReportsUnwritten bare bytes failure ⊎ IsUnwritten path failure) × (after ≡ before)) ⊎ (IsOutput failure × PrintsPart bare bytes (contents before) (contents after)))
+  pub rewriting : {F : Type 0} (file_contents : F → Option (List ℕ)) (path : List ℕ) (first : Result (Unit {0}) Failure) (second : Result (Unit {0}) Stop) (last : Outcome)
+      → OnOk first ((root : List ℕ) × IsRewritten bare bytes root × IsGiven file_contents root × Appends (contents before) (contents after) (wrote_text (length root)))
+      → IfErr first (λ failure. ((ReportsUnwritten bare bytes failure ⊎ IsUnwritten path failure) × (after ≡ before)) ⊎ (IsOutput failure × PrintsPart file_contents bare bytes (contents before) (contents after)))
       → IsStopOf first second → IsOk last ↔ IsOk second → Hinted bare bytes second last
-      → IsRewriting contents before after path bare bytes last
-  rewriting path (Ok done) (Ok same) (Ok end) written reports stops ok hinted = record { written = written; stopped = tt; hint = tt }
-  rewriting path (Ok done) (Ok same) (Err stopped) written reports stops ok hinted = let no = ok.1 refl in cc
-  rewriting path (Ok done) (Err stop) last written reports stops ok hinted = cc
-  rewriting path (Err failure) (Ok same) last written reports stops ok hinted = absurd stops
-  rewriting path (Err failure) (Err stop) (Ok end) written reports stops ok hinted = let no = ok.0 refl in cc
-  rewriting path (Err failure) (Err stop) (Err stopped) written reports stops ok hinted = record {
+      → IsRewriting contents before after file_contents path bare bytes last
+  rewriting file_contents path (Ok done) (Ok same) (Ok end) written reports stops ok hinted = record { written = written; stopped = tt; hint = tt }
+  rewriting file_contents path (Ok done) (Ok same) (Err stopped) written reports stops ok hinted = let no = ok.1 refl in cc
+  rewriting file_contents path (Ok done) (Err stop) last written reports stops ok hinted = cc
+  rewriting file_contents path (Err failure) (Ok same) last written reports stops ok hinted = absurd stops
+  rewriting file_contents path (Err failure) (Err stop) (Ok end) written reports stops ok hinted = let no = ok.0 refl in cc
+  rewriting file_contents path (Err failure) (Err stop) (Err stopped) written reports stops ok hinted = record {
     written = tt;
     stopped = (failure, rw hinted.0 stops, reports);
     hint = rw hinted.0 hinted.1;

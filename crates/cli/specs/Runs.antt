@@ -25,7 +25,7 @@ use Rattle.cli.specs.declared.task.Task.{Task}
 use Rattle.cli.specs.declared.task.Task.TheVariants as task
 use Rattle.cli.specs.Hints.{hint_for}
 use Rattle.cli.specs.Read.{IsRefused}
-use Rattle.cli.specs.Rewritten.{IsRewritten, ReportsUnwritten}
+use Rattle.cli.specs.Rewritten.{IsGiven, IsRewritten, ReportsUnwritten}
 use Rattle.cli.specs.Tasks.{IsTask}
 
 -- how a run ends: it did its task, or it stopped early
@@ -41,9 +41,10 @@ status_of_outcome (Err stopped) = status_of_stop stopped.stop
 abbrev pub wrote_text : ℕ → List ℕ
 wrote_text count = codes "wrote " ++ decimal count ++ codes " bytes" ++ line_feed
 
--- a prefix of the line went out, after the canonical root of the bytes' model was written
-abbrev pub PrintsPart : Bool → List ℕ → Option (List ℕ) → Option (List ℕ) → Type 0
-PrintsPart bare bytes before after = (root : List ℕ) × IsRewritten bare bytes root × SendsPrefix before after (wrote_text (length root))
+-- a prefix of the line went out, after a file was given the canonical root of the bytes' model
+abbrev pub PrintsPart : {F : Type 0} → (F → Option (List ℕ)) → Bool → List ℕ → Option (List ℕ) → Option (List ℕ) → Type 0
+PrintsPart file_contents bare bytes before after =
+    (root : List ℕ) × IsRewritten bare bytes root × IsGiven file_contents root × SendsPrefix before after (wrote_text (length root))
 
 -- it stopped by this failure, without a hint
 abbrev pub StopsBy : Failure → Stopped → Type 0
@@ -68,13 +69,14 @@ module _ {W : Type 0} (contents : W → Option (List ℕ)) (before after : W) wh
         × StopLeavesOutput before after stopped.stop)
     pub hint : IfErr outcome (λ stopped. stopped.hint ≡ hint_for bare bytes stopped.stop)
 
-  -- The canonical root of the bytes' model was written to the file, and its length was printed. If it stopped, the
-  -- first broken rule is reported, or that the root is too long, or what else failed.
-  pub record IsRewriting (path : List ℕ) (bare : Bool) (bytes : List ℕ) (outcome : Outcome) : Type 0 where
-    pub written : OnOk outcome ((root : List ℕ) × IsRewritten bare bytes root × Appends (contents before) (contents after) (wrote_text (length root)))
+  -- A file was given the canonical root of the bytes' model, all of it, and the root's length was printed. If it
+  -- stopped, the first broken rule is reported, or that the root is too long, or what else failed.
+  pub record IsRewriting {F : Type 0} (file_contents : F → Option (List ℕ)) (path : List ℕ) (bare : Bool) (bytes : List ℕ) (outcome : Outcome) : Type 0 where
+    pub written : OnOk outcome ((root : List ℕ) × IsRewritten bare bytes root × IsGiven file_contents root
+        × Appends (contents before) (contents after) (wrote_text (length root)))
     pub stopped : IfErr outcome (λ stopped. (failure : Failure) × (stopped.stop ≡ Failed failure)
         × (((ReportsUnwritten bare bytes failure ⊎ IsUnwritten path failure) × (after ≡ before))
-        ⊎ (IsOutput failure × PrintsPart bare bytes (contents before) (contents after))))
+        ⊎ (IsOutput failure × PrintsPart file_contents bare bytes (contents before) (contents after))))
     pub hint : IfErr outcome (λ stopped. stopped.hint ≡ hint_for bare bytes stopped.stop)
 
   -- What reading a file gave decides: the run on its bytes; or the failure to read it, and nothing is printed.
@@ -87,18 +89,18 @@ module _ {W : Type 0} (contents : W → Option (List ℕ)) (before after : W) wh
   abbrev pub IsMixed : List ℕ → Outcome → Type 0
   IsMixed path outcome = IsErrAnd outcome (λ stopped. (failure : Failure) × StopsBy failure stopped × IsUnwritten path failure) × (after ≡ before)
 
-  -- the run of a task
-  abbrev pub IsRunOf : Task → Bool → Option (Bor (List ℕ)) → Outcome → Type 0
-  IsRunOf (task.Print report) bare file outcome = IfSome file (λ path. IsRunOn path.now (IsReported report bare) outcome)
-  IsRunOf (task.CheckWithin budget) bare file outcome = IfSome file (λ path. IsRunOn path.now (IsChecked budget bare) outcome)
-  IsRunOf (task.Rewrite out) bare file outcome = IfSome file (λ path. IsRunOn path.now (IsRewriting out.now bare) outcome ⊎ IsMixed out.now outcome)
-  IsRunOf (task.Explain code) bare file outcome = IfErr outcome (λ stopped. (failure : Failure) × StopsBy failure stopped × IsOutput failure)
+  -- the run of a task, over files of this kind
+  abbrev pub IsRunOf : {F : Type 0} → (F → Option (List ℕ)) → Task → Bool → Option (Bor (List ℕ)) → Outcome → Type 0
+  IsRunOf file_contents (task.Print report) bare file outcome = IfSome file (λ path. IsRunOn path.now (IsReported report bare) outcome)
+  IsRunOf file_contents (task.CheckWithin budget) bare file outcome = IfSome file (λ path. IsRunOn path.now (IsChecked budget bare) outcome)
+  IsRunOf file_contents (task.Rewrite out) bare file outcome = IfSome file (λ path. IsRunOn path.now (IsRewriting file_contents out.now bare) outcome ⊎ IsMixed out.now outcome)
+  IsRunOf file_contents (task.Explain code) bare file outcome = IfErr outcome (λ stopped. (failure : Failure) × StopsBy failure stopped × IsOutput failure)
 
   -- the run of what the arguments ask for: that of their task; or one of them is wrong, and nothing is read or printed
-  abbrev pub Does : Ask → Outcome → Type 0
-  Does ask outcome =
+  abbrev pub Does : {F : Type 0} → (F → Option (List ℕ)) → Ask → Outcome → Type 0
+  Does file_contents ask outcome =
       (asked : Result Task Failure) × IsTask ask.subcommand ask asked
-      × MatchResult asked (λ made. IsRunOf made ask.bare ask.file outcome) (λ failure. IsErrAnd outcome (StopsBy failure) × (after ≡ before))
+      × MatchResult asked (λ made. IsRunOf file_contents made ask.bare ask.file outcome) (λ failure. IsErrAnd outcome (StopsBy failure) × (after ≡ before))
 
   -- why `clap` gives no matches: 3 if memory runs out; 0 for help and the version, if they can be printed; else 2, and
   -- nothing is read or printed
@@ -108,7 +110,7 @@ module _ {W : Type 0} (contents : W → Option (List ℕ)) (before after : W) wh
     pub wrong : why ≢ kind.OutOfMemory → why ≢ kind.DisplayHelp → why ≢ kind.DisplayVersion → ((status ≡ 2) ⊎ (status ≡ 3)) × (after ≡ before)
 
   -- a run of the program on these arguments ends with this exit code
-  abbrev pub Ran : List Text → ℕ → Type 0
-  Ran words status =
-      ((ask : Ask) × Gives words ask × (outcome : Outcome) × Does ask outcome × (status ≡ status_of_outcome outcome))
+  abbrev pub Ran : {F : Type 0} → (F → Option (List ℕ)) → List Text → ℕ → Type 0
+  Ran file_contents words status =
+      ((ask : Ask) × Gives words ask × (outcome : Outcome) × Does file_contents ask outcome × (status ≡ status_of_outcome outcome))
       ⊎ ((why : ErrorKind) × ((why ≡ kind.OutOfMemory) ⊎ IsAmong why (fault_of clim words)) × IsUsage why status)

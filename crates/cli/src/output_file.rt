@@ -2,6 +2,7 @@
 ghost use Rattle.std.specs.Prelude.{IfErr, IfOk};
 ghost use Rattle.std.specs.Io.KnownBytes.{Appends};
 ghost use Rattle.cli_faults.specs.Status.{IsUnwritten};
+ghost use Rattle.cli.specs.Rewritten.{WasGiven};
 
 use crate::kind_keeper::KindKeeper;
 use cli_faults::{Failure, FileError};
@@ -42,15 +43,17 @@ fn file_at_both<R: Files>(rt: &R, left: &str, right: &str) -> Option<Metadata> {
     if is_same { Some(right) } else { None }
 }
 
-/// Writes a root to the file at `path`. The file is created or truncated first. But if it is the file that was read, the
-/// root is written beside it and then takes its place, so that nothing is lost if the disk is full.
+/// Writes a root to the file at `path`, and returns the file. The file is created or truncated first. But if it is the
+/// file that was read, the root is written beside it and then takes its place, so that nothing is lost if the disk is
+/// full.
 pub(crate) fn write_root<'a, R: Files + AllocGlobal>(
     rt: &R,
     root: &Prepared,
     read: &str,
     path: &'a str,
-) -> Result<(), Failure<'a>>
-    ensures { IfErr result (IsUnwritten path.now) }
+) -> Result<R::File, Failure<'a>>
+    ensures given { IfOk result (WasGiven R.File.contents root.now) }
+    ensures unwritten { IfErr result (IsUnwritten path.now) }
 {
     match file_at_both(rt, read, path) {
         Some(metadata) if metadata.is_file() => replace(rt, root, &metadata, path),
@@ -58,25 +61,27 @@ pub(crate) fn write_root<'a, R: Files + AllocGlobal>(
     }
 }
 
-/// Writes a root to a file, which is created or truncated first.
-fn overwrite<'a, R: Files>(rt: &R, root: &Prepared, path: &'a str) -> Result<(), Failure<'a>>
-    ensures { IfErr result (IsUnwritten path.now) }
+/// Writes a root to a file, which is created or truncated first, and returns it.
+fn overwrite<'a, R: Files>(rt: &R, root: &Prepared, path: &'a str) -> Result<R::File, Failure<'a>>
+    ensures given { IfOk result (WasGiven R.File.contents root.now) }
+    ensures unwritten { IfErr result (IsUnwritten path.now) }
 {
     match fs::create(rt, path) {
-        Ok(file) => send(root, file, path).map(|_| ()),
+        Ok(file) => send(root, file, path),
         Err(error) => Err(Failure::of_opening(&error, path)),
     }
 }
 
-/// Writes a root to a new file beside the one at `path`, gives it the same permissions, and renames it. If this fails,
-/// the new file is removed and the old one stays.
+/// Writes a root to a new file beside the one at `path`, gives it the same permissions, renames it and returns it. If
+/// this fails, the new file is removed and the old one stays.
 fn replace<'a, R: Files + AllocGlobal>(
     rt: &R,
     root: &Prepared,
     replaced: &Metadata,
     path: &'a str,
-) -> Result<(), Failure<'a>>
-    ensures { IfErr result (IsUnwritten path.now) }
+) -> Result<R::File, Failure<'a>>
+    ensures given { IfOk result (WasGiven R.File.contents root.now) }
+    ensures unwritten { IfErr result (IsUnwritten path.now) }
 {
     // A symbolic link stays. The file that it leads to is replaced.
     let target = match fs::canonicalize(rt, path) {
@@ -92,7 +97,7 @@ fn replace<'a, R: Files + AllocGlobal>(
     };
     let outcome = match send(root, file, path) {
         Ok(file) => match finish(rt, &file, replaced, beside.as_str(), target.as_str()) {
-            Ok(()) => Ok(()),
+            Ok(()) => Ok(file),
             Err(error) => Err(Failure::of_opening(&error, path)),
         },
         Err(failure) => Err(failure),

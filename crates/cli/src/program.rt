@@ -45,7 +45,7 @@ pub fn go<R: Files + AllocGlobal, W: Write, E: Write>(
     ensures limit { result ≤ 3 }
     // It does what the arguments ask for, with what reading the file gave. The exit code and the output are those of
     // that run.
-    ensures run { Ran W.contents out.old out.new (map (λ word. word.now) words.now) result }
+    ensures run { Ran W.contents out.old out.new R.File.contents (map (λ word. word.now) words.now) result }
     // If it succeeds, nothing goes to `err`.
     ensures quiet { result ≡ 0 → err.new ≡ err.old }
 {
@@ -124,7 +124,7 @@ fn run<'a, R: Files + AllocGlobal, W: Write>(
 ) -> Result<(), Stopped<'a>>
     requires file { HasFile ask }
     requires second { HasSecond ask }
-    ensures { Does W.contents out.old out.new ask.entry result }
+    ensures { Does W.contents out.old out.new R.File.contents ask.entry result }
 {
     let task = task_of(ask)?;
     match task {
@@ -199,7 +199,7 @@ fn rewrite_file<'a, R: Files + AllocGlobal, W: Write>(
     bare: bool,
     out: &mut W,
 ) -> Result<(), Stopped<'a>>
-    ensures { IsRunOn W.contents out.old out.new file.now (IsRewriting W.contents out.old out.new path.now bare) result
+    ensures { IsRunOn W.contents out.old out.new file.now (IsRewriting W.contents out.old out.new R.File.contents path.now bare) result
         ⊎ IsMixed W.contents out.old out.new path.now result }
 {
     if is_standard_output(rt, path) {
@@ -221,7 +221,7 @@ fn rewrite_bytes<'a, R: Files + AllocGlobal, W: Write>(
     bare: bool,
     out: &mut W,
 ) -> Result<(), Stopped<'a>>
-    ensures { IsRewriting W.contents out.old out.new path.now bare bytes.now result }
+    ensures { IsRewriting W.contents out.old out.new R.File.contents path.now bare bytes.now result }
 {
     let outcome = rewrite(rt, bytes, bare, file, path, out);
     with_hint(stopped_by(outcome), bare, bytes)

@@ -4,7 +4,7 @@ ghost use Rattle.std.specs.Io.KnownBytes.{Appends};
 ghost use Rattle.cli_faults.specs.Status.{IsOutput, IsUnwritten};
 ghost use Rattle.cli_reports.specs.Sent.{Prints};
 ghost use Rattle.cli.specs.Runs.{PrintsPart, wrote_text};
-ghost use Rattle.cli.specs.Rewritten.{IsRewritten, ReportsUnwritten};
+ghost use Rattle.cli.specs.Rewritten.{IsGiven, IsRewritten, ReportsUnwritten};
 
 use crate::output_file::write_root;
 use cli_faults::{Failure, printed};
@@ -29,11 +29,11 @@ pub(crate) fn rewrite<'a, R: Files + AllocGlobal, W: Write>(
     path: &'a str,
     out: &mut W,
 ) -> Result<(), Failure<'a>>
-    ensures written { OnOk result ((root : List ℕ) × IsRewritten bare bytes.now root
+    ensures written { OnOk result ((root : List ℕ) × IsRewritten bare bytes.now root × IsGiven R.File.contents root
         × Appends (W.contents out.old) (W.contents out.new) (wrote_text (length root))) }
     ensures stopped { IfErr result (λ failure.
         ((ReportsUnwritten bare bytes.now failure ⊎ IsUnwritten path.now failure) × (out.new ≡ out.old))
-        ⊎ (IsOutput failure × PrintsPart bare bytes.now (W.contents out.old) (W.contents out.new))) }
+        ⊎ (IsOutput failure × PrintsPart R.File.contents bare bytes.now (W.contents out.old) (W.contents out.new))) }
 {
     let root = canonical_root(rt.alloc(), bytes, bare)?;
     write_root(rt, &root, file, path)?;

@@ -14,7 +14,7 @@ use Rattle.clap.specs.declared.parser.matches.ValueSource.TheVariants.{CommandLi
 use Rattle.clap.proofs.OnLiterals.{clap_on_literals}
 use Rattle.std.proofs.lemmas.Slice.Eq.{bytes_eq-Decides}
 use Rattle.cli_arguments.specs.Asked.{name_of, subcommand_named}
-use Rattle.cli_arguments.specs.declared.asked.Subcommand.TheVariants.{Root, Check, Show, Types, Token, Rewrite, Explain}
+use Rattle.cli_arguments.specs.declared.asked.Subcommand.TheVariants.{Root, Check, Show, Types, Token, Rewrite, Digest, Compare, Explain}
 use Rattle.cli_arguments.specs.declared.asked.Subcommand.{Subcommand}
 use Rattle.cli_arguments.specs.CommandLine.{bare, budget, check, clim, code, explain, file, reader, second}
 use Rattle.cli_arguments.proofs.NoHelp.{StopsElsewhere, is_help, stops_elsewhere}
@@ -43,7 +43,7 @@ built_bare = with_index 2 (filled bare)
 abbrev pub values_in : Text → List Text
 values_in name =
     if bytes_eq name (name_of Explain) then []
-    else codes "FILE" ∷ (if bytes_eq name (name_of Token) || bytes_eq name (name_of Rewrite) then codes "second" ∷ [] else [])
+    else codes "FILE" ∷ (if bytes_eq name (name_of Token) || bytes_eq name (name_of Rewrite) || bytes_eq name (name_of Compare) then codes "second" ∷ [] else [])
 
 abbrev AllGiven : List Text → List Row → Type 0
 AllGiven [] rows = Unit {0}
@@ -147,6 +147,14 @@ pub rewrite_takes : values_in (codes "rewrite") ≡ codes "FILE" ∷ codes "seco
 unfolding clap_on_literals
 rewrite_takes = refl
 
+digest_takes : values_in (codes "digest") ≡ codes "FILE" ∷ []
+unfolding clap_on_literals
+digest_takes = refl
+
+pub compare_takes : values_in (codes "compare") ≡ codes "FILE" ∷ codes "second" ∷ []
+unfolding clap_on_literals
+compare_takes = refl
+
 explain_takes : values_in (codes "explain") ≡ []
 unfolding clap_on_literals
 explain_takes = refl
@@ -174,6 +182,14 @@ token_known = refl
 rewrite_known : IsSome (subcommand_named (codes "rewrite"))
 unfolding clap_on_literals
 rewrite_known = refl
+
+digest_known : IsSome (subcommand_named (codes "digest"))
+unfolding clap_on_literals
+digest_known = refl
+
+compare_known : IsSome (subcommand_named (codes "compare"))
+unfolding clap_on_literals
+compare_known = refl
 
 explain_known : IsSome (subcommand_named (codes "explain"))
 unfolding clap_on_literals
@@ -248,7 +264,13 @@ clim_ready word other = (
           (λ is. second_ready (codes "token") token_takes token_known),
           (
             (λ is. second_ready (codes "rewrite") rewrite_takes rewrite_known),
-            ((λ is. explain_ready), ((λ is. let help = answers_help word is in cc), tt)),
+            (
+              (λ is. reader_ready (codes "digest") digest_takes digest_known),
+              (
+                (λ is. second_ready (codes "compare") compare_takes compare_known),
+                ((λ is. explain_ready), ((λ is. let help = answers_help word is in cc), tt)),
+              ),
+            ),
           ),
         ),
       ),
@@ -264,6 +286,8 @@ file_first Show rows other there = (subst (λ (ids : List Text). AllThere ids ro
 file_first Types rows other there = (subst (λ (ids : List Text). AllThere ids rows) types_takes there).0
 file_first Token rows other there = (subst (λ (ids : List Text). AllThere ids rows) token_takes there).0
 file_first Rewrite rows other there = (subst (λ (ids : List Text). AllThere ids rows) rewrite_takes there).0
+file_first Digest rows other there = (subst (λ (ids : List Text). AllThere ids rows) digest_takes there).0
+file_first Compare rows other there = (subst (λ (ids : List Text). AllThere ids rows) compare_takes there).0
 file_first Explain rows other there = absurd (other refl)
 
 -- all required values are there

@@ -7,7 +7,7 @@ use Rattle.clap.specs.Words.{Row, Text, first_of, one_of, subcommand_of}
 use Rattle.cli_arguments.specs.CommandLine.{clim}
 use Rattle.cli_arguments.specs.declared.asked.Ask.{Ask}
 use Rattle.cli_arguments.specs.declared.asked.Subcommand.{Subcommand}
-use Rattle.cli_arguments.specs.declared.asked.Subcommand.TheVariants.{Root, Check, Show, Types, Token, Rewrite, Explain}
+use Rattle.cli_arguments.specs.declared.asked.Subcommand.TheVariants.{Root, Check, Show, Types, Token, Rewrite, Digest, Compare, Explain}
 
 -- the name of a subcommand
 abbrev pub name_of : Subcommand → Text
@@ -17,6 +17,8 @@ name_of Show = codes "show"
 name_of Types = codes "types"
 name_of Token = codes "token"
 name_of Rewrite = codes "rewrite"
+name_of Digest = codes "digest"
+name_of Compare = codes "compare"
 name_of Explain = codes "explain"
 
 -- the subcommand with this name
@@ -28,6 +30,8 @@ subcommand_named word =
     else if bytes_eq word (name_of Types) then Some Types
     else if bytes_eq word (name_of Token) then Some Token
     else if bytes_eq word (name_of Rewrite) then Some Rewrite
+    else if bytes_eq word (name_of Digest) then Some Digest
+    else if bytes_eq word (name_of Compare) then Some Compare
     else if bytes_eq word (name_of Explain) then Some Explain
     else None
 
@@ -56,4 +60,5 @@ HasFile ask = ask.subcommand ≢ Explain → IsSome ask.file
 
 -- there is a second value, if the subcommand has one
 abbrev pub HasSecond : Ask → Type 0
-HasSecond ask = (ask.subcommand ≡ Token → IsSome ask.second) × (ask.subcommand ≡ Rewrite → IsSome ask.second)
+HasSecond ask =
+    (ask.subcommand ≡ Token → IsSome ask.second) × (ask.subcommand ≡ Rewrite → IsSome ask.second) × (ask.subcommand ≡ Compare → IsSome ask.second)

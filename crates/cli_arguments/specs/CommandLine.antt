@@ -53,6 +53,14 @@ token = with_rule (reader (codes "token")) second
 abbrev pub rewrite : App
 rewrite = with_rule (reader (codes "rewrite")) second
 
+-- `digest [--bare] FILE`
+abbrev pub digest : App
+digest = reader (codes "digest")
+
+-- `compare [--bare] FILE OTHER`
+abbrev pub compare : App
+compare = with_rule (reader (codes "compare")) second
+
 -- `explain [CODE]`
 abbrev pub explain : App
 explain = with_rule (new_app (codes "explain")) code
@@ -64,5 +72,5 @@ without_subcommands = on_top (λ s. record s { has_version = true; subcommand_re
 -- the subcommands that read a file, and `explain`; `clap` adds `help`
 abbrev pub clim : App
 clim =
-    with_subcommand (with_subcommand (with_subcommand (with_subcommand (with_subcommand (with_subcommand (with_subcommand
-    without_subcommands root.top) check.top) show.top) types.top) token.top) rewrite.top) explain.top
+    with_subcommand (with_subcommand (with_subcommand (with_subcommand (with_subcommand (with_subcommand (with_subcommand (with_subcommand (with_subcommand
+    without_subcommands root.top) check.top) show.top) types.top) token.top) rewrite.top) digest.top) compare.top) explain.top

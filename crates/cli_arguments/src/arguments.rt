@@ -6,7 +6,8 @@ ghost use Rattle.cli_arguments.specs.CommandLine.{clim};
 
 use crate::asked::{Ask, Subcommand};
 use crate::subcommands::{
-    check_file, explain_fault, print_root, print_token, print_types, rewrite_file, show_tables,
+    check_file, compare_files, digest_file, explain_fault, print_root, print_token, print_types,
+    rewrite_file, show_tables,
 };
 use clap::{Command, Error};
 use std::alloc::{AllocError, Global};
@@ -51,6 +52,8 @@ fn command<'a>(alloc: Global) -> Result<Command<'a>, AllocError>
     let program = with(program, print_types::command(alloc));
     let program = with(program, print_token::command(alloc));
     let program = with(program, rewrite_file::command(alloc));
+    let program = with(program, digest_file::command(alloc));
+    let program = with(program, compare_files::command(alloc));
     with(program, explain_fault::command(alloc))
 }
 
@@ -73,6 +76,7 @@ const STATUSES: &str = "\
 Exit status:
   0  success
   1  FILE breaks a rule of the standard, printed as 'fault LAYER CODE at OFFSET: NAME';
-     or FILE has nothing that HEX names; or its canonical root has more than 2^30 bytes
+     or FILE has nothing that HEX names; or its canonical root has more than 2^30 bytes;
+     or FILE and OTHER differ
   2  usage error; FILE was not read
   3  I/O error, out of memory, or budget spent";

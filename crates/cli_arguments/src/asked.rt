@@ -10,7 +10,7 @@ pub struct Ask<'a> {
     pub bare: bool,
     /// The path of the file to read. `explain` has none.
     pub file: Option<&'a str>,
-    /// The argument after the file: the token of `token`, the output path of `rewrite`.
+    /// The argument after the file: the token of `token`, the output path of `rewrite`, the other file of `compare`.
     pub second: Option<&'a str>,
     /// The largest number of signature blob bytes that `check` may check, if given.
     pub budget: Option<u64>,
@@ -33,6 +33,10 @@ pub enum Subcommand {
     Token,
     /// `rewrite`: write the canonical metadata root of the file.
     Rewrite,
+    /// `digest`: print the SHA-256 digest of the canonical metadata root of the file.
+    Digest,
+    /// `compare`: print what differs between the metadata of two files.
+    Compare,
     /// `explain`: explain a fault, or list all.
     Explain,
 }
@@ -49,6 +53,8 @@ impl Subcommand {
             "types" => Some(Subcommand::Types),
             "token" => Some(Subcommand::Token),
             "rewrite" => Some(Subcommand::Rewrite),
+            "digest" => Some(Subcommand::Digest),
+            "compare" => Some(Subcommand::Compare),
             "explain" => Some(Subcommand::Explain),
             _ => None,
         }

@@ -8,6 +8,8 @@ use clap::{Arg, ArgAction, Command};
 use std::alloc::{AllocError, Global};
 
 pub(crate) mod check_file;
+pub(crate) mod compare_files;
+pub(crate) mod digest_file;
 pub(crate) mod explain_fault;
 pub(crate) mod print_root;
 pub(crate) mod print_token;

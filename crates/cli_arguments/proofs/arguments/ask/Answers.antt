@@ -10,7 +10,7 @@ use Rattle.clap.specs.Words.{App, HasKind, HasMatchesOf, Row, Text, fault_of, fi
 use Rattle.clap.specs.declared.ArgMatches.{ArgMatches}
 use Rattle.cli_arguments.specs.CommandLine.{clim}
 use Rattle.cli_arguments.specs.Asked.{name_of}
-use Rattle.cli_arguments.proofs.ValuesGiven.{AllThere, file_first, has_values, is_known, rewrite_takes, token_takes, values_in}
+use Rattle.cli_arguments.proofs.ValuesGiven.{AllThere, compare_takes, file_first, has_values, is_known, rewrite_takes, token_takes, values_in}
 use Rattle.cli_arguments.proofs.Readings.{count_is, named_back, rows_met, flag_is, some_mapped}
 use Rattle.cli_arguments.proofs.arguments.ask.Goals as goal
 
@@ -105,4 +105,5 @@ returns-clause-second c =
     let word = named_back c.unwrap.result.0.now c.unwrap-2.result (sym c.named.ensures ∙ c.unwrap-2.ensures) in (
       (λ is. second_there c (codes "token") (word ∙ ap name_of is) token_takes (returns-clause-refused c)),
       (λ is. second_there c (codes "rewrite") (word ∙ ap name_of is) rewrite_takes (returns-clause-refused c)),
+      (λ is. second_there c (codes "compare") (word ∙ ap name_of is) compare_takes (returns-clause-refused c)),
     )

@@ -1,0 +1,40 @@
+//! `clim compare`: whether two files have the same metadata.
+ghost use Rattle.std.specs.Prelude.{◌≡◌, IfOk, false};
+ghost use Rattle.clap.specs.Words.{app_of, rule_of};
+ghost use Rattle.clap.specs.declared.Command.TheViews.{out-Command as fields_of};
+ghost use Rattle.cli_arguments.specs.CommandLine as line;
+
+use crate::subcommands::{reader, second};
+use clap::Command;
+use std::alloc::{AllocError, Global};
+
+/// The arguments of the subcommand and its help.
+pub(crate) fn command<'a>(alloc: Global) -> Result<Command<'a>, AllocError>
+    ensures app { IfOk result (λ command. app_of command ≡ line.compare) }
+    ensures local { IfOk result (λ command. (fields_of command).has_globals ≡ false) }
+{
+    reader(
+        alloc,
+        "compare",
+        "Compare the metadata of two files",
+        OUTPUT,
+    )?
+    .arg(second(alloc, "OTHER", "The file to compare it with"))
+}
+
+const OUTPUT: &str = "\
+Prints 'equal' if both files have the same metadata. Then 'clim rewrite' writes the same bytes for both.
+Otherwise the exit status is 1, and the lines say what differs, each as 'WHAT: A | B' with A of FILE and B of
+OTHER. First comes the first of these that differs, if one does:
+  version       the version string
+  user strings  the number of bytes of '#US', padded to a multiple of four
+  rows NN NAME  the number of rows of a table
+Then come the first 20 cells that differ, in the rows that both files have: 'TOKEN COLUMN: A | B', with the name
+of the column (ECMA-335, II.22). The values are printed as by 'clim show'.
+
+FILE and OTHER are checked first, as by 'clim check'. If OTHER is refused, its name follows the fault.
+'--bare' is for both.
+
+Examples:
+  $ clim compare --bare one_module.root one_module.root
+  equal";

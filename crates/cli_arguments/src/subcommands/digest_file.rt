@@ -1,0 +1,35 @@
+//! `clim digest`: the SHA-256 digest of the canonical root of a file.
+ghost use Rattle.std.specs.Prelude.{◌≡◌, IfOk, false};
+ghost use Rattle.clap.specs.Words.{app_of};
+ghost use Rattle.clap.specs.declared.Command.TheViews.{out-Command as fields_of};
+ghost use Rattle.cli_arguments.specs.CommandLine as line;
+
+use crate::subcommands::reader;
+use clap::Command;
+use std::alloc::{AllocError, Global};
+
+/// The arguments of the subcommand and its help.
+pub(crate) fn command<'a>(alloc: Global) -> Result<Command<'a>, AllocError>
+    ensures app { IfOk result (λ command. app_of command ≡ line.digest) }
+    ensures local { IfOk result (λ command. (fields_of command).has_globals ≡ false) }
+{
+    reader(
+        alloc,
+        "digest",
+        "Print the SHA-256 digest of the canonical metadata root of a file",
+        OUTPUT,
+    )
+}
+
+const OUTPUT: &str = "\
+The line has the 64 hexadecimal digits of the digest, two spaces and FILE, as sha256sum prints it. The digest is
+that of the bytes that 'clim rewrite' writes: 'sha256sum OUT' has the same digits. Files with the same metadata
+have the same digest, whatever tool wrote them. Method bodies and resources do not count. In FILE, a quote, a
+backslash and a byte that is not printable ASCII become \\x and two hexadecimal digits. FILE is checked first, as
+by 'clim check'.
+
+Examples:
+  $ clim digest one_module.dll
+  40bf7100a055088dec71a67475f684ac5c72c04f6e4d9fb17cd8f99e053ead9e  one_module.dll
+  $ clim digest --bare one_module.root
+  40bf7100a055088dec71a67475f684ac5c72c04f6e4d9fb17cd8f99e053ead9e  one_module.root";

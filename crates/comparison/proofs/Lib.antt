@@ -1,0 +1,7 @@
+pub mod CellTests
+pub mod GrowthLemmas
+pub mod SignatureLemmas
+pub mod CellSteps
+pub mod PaddingLemmas
+pub mod OutlineLemmas
+pub mod EqualLemmas

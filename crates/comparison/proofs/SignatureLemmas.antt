@@ -1,0 +1,25 @@
+-- Two signatures in columns of one kind are equal if and only if their canonical encodings are.
+use Rattle.std.proofs.Common.{◌≡◌, ◌↔◌, ◌∙◌, Bool, true, false, IsTrue, List, ℕ, refl, ap, sym, subst}
+use Rattle.std.specs.Bool.{Decides}
+use Rattle.table_schema.specs.declared.column.SigKind.{SigKind}
+use Rattle.sig_grammar.specs.Syntax.{Body}
+use Rattle.sig_grammar.specs.Encodes.{Holds, Encodes, IsEncodable, short}
+
+module _ (one : (kind : SigKind) (first second : Body) (bytes : List ℕ) → Encodes kind first bytes → Encodes kind second bytes → first ≡ second)
+    (encodable : (kind : SigKind) (signature : Body) (bytes : List ℕ) → Encodes kind signature bytes → IsEncodable signature)
+    (encodes : (kind : SigKind) (signature : Body) → Holds kind signature → IsEncodable signature → Encodes kind signature (short signature)) where
+  pub same_short : (kind : SigKind) (first second : Body) (left right : List ℕ) → Encodes kind first left → Encodes kind second right → short first ≡ short second
+      → first ≡ second
+  same_short kind first second left right is also same =
+      one kind first second (short first) (encodes kind first is.column (encodable kind first left is))
+      (subst (λ (bytes : List ℕ). Encodes kind second bytes) (sym same) (encodes kind second also.column (encodable kind second right also)))
+
+  pub same_blob : (kind : SigKind) (first second : Body) (left right : List ℕ) → Encodes kind first left → Encodes kind second right → left ≡ right → first ≡ second
+  same_blob kind first second left right is also same = one kind first second right (subst (λ (bytes : List ℕ). Encodes kind first bytes) same is) also
+
+-- two tests of one fact are the same
+pub tests_same : {P : Type 0} (first second : Bool) → Decides first P → Decides second P → first ≡ second
+tests_same true true is also = refl
+tests_same false false is also = refl
+tests_same true false is also = sym (also.1 (is.0 refl))
+tests_same false true is also = is.1 (also.0 refl)

@@ -1,0 +1,31 @@
+use Rattle.std.proofs.Common.{◌≡◌, ◌∙◌, ◌+◌, ℕ, List, ap₂, min, subst, sym, arith}
+use Rattle.metadata.specs.Metadata.{count_in}
+use Rattle.metadata.specs.Model.{IsModel}
+use Rattle.comparison.specs.declared.difference.Difference.{Difference}
+use Rattle.comparison.specs.Differences.{Grows, row_differences}
+use Rattle.comparison.proofs.CellSteps.{number_found, table_is, there_kept}
+use Rattle.comparison.proofs.cells.find_in_table.Goals as goal
+
+pub loop-earlier-preserved : goal.loop-earlier-preserved
+loop-earlier-preserved c =
+    let loop = c.loop-earlier.invariant in
+    record {
+      left = c.find_in_row.ensures.left ∙ loop.left;
+      right = c.find_in_row.ensures.right ∙ loop.right;
+      few = c.in_ok-find_in_row.ensures.few;
+      there = λ all. there_kept c.args.left.now c.loop-earlier.left c.args.right.now c.loop-earlier.right c.loop-earlier.found.items c.find_in_row.new.found.items loop.left loop.right
+          c.in_ok-find_in_row.ensures.there (loop.there all);
+      found = λ first second is also.
+          number_found (row_differences first second c.args.table) 1 c.loop-earlier.earlier (c.loop-earlier.earlier + 1) c.args.limit
+          c.args.found.now.items c.loop-earlier.found.items c.find_in_row.new.found.items (omega arith) (loop.found first second is also)
+          (c.in_ok-find_in_row.ensures.found first second (subst (λ (root : List ℕ). IsModel root first) (sym loop.left) is) (subst (λ (root : List ℕ). IsModel root second) (sym loop.right) also));
+    }
+
+pub returns-clause-found : goal.returns-clause-found
+returns-clause-found c = λ first second is also.
+    let left = c.count.ensures.model first (subst (λ (root : List ℕ). IsModel root first) (sym c.view.ensures.view) is) in
+    let right = c.count-2.ensures.model second (subst (λ (root : List ℕ). IsModel root second) (sym c.view-2.ensures.view) also) in
+    let last : c.loop-earlier.earlier ≡ c.min-count.result = omega (arith, c.loop-earlier-test.false, c.loop-earlier.auto.earlier-end) in
+    let all : c.loop-earlier.earlier ≡ min (count_in first c.args.table) (count_in second c.args.table) = last ∙ c.min-count.ensures ∙ ap₂ min left right in
+    subst (λ (more : List Difference). Grows c.args.limit c.args.found.now.items c.loop-earlier.found.items more) (table_is first second c.args.table c.loop-earlier.earlier all)
+    (c.loop-earlier.invariant.found first second is also)

@@ -1,0 +1,43 @@
+use Rattle.std.proofs.Common.{◌≡◌, ◌∙◌, ◌<◌, ◌≤◌, ℕ, List, [], ◌∷◌, ap, length, take, get_or, subst, sym, arith}
+use Rattle.std.specs.List.{flat_map}
+use Rattle.std.proofs.lemmas.List.{take_all}
+use Rattle.table_schema.specs.declared.table.TableId.{TableId}
+use Rattle.table_schema.specs.declared.table.TableId.TheVariants.{Module}
+use Rattle.table_schema.specs.Tables.{tables}
+use Rattle.metadata.specs.Metadata.{count_in}
+use Rattle.comparison.specs.declared.difference.Difference.TheVariants.{RowCount}
+use Rattle.comparison.specs.Differences.{count_difference}
+use Rattle.comparison.proofs.OutlineLemmas.{count_differs, count_same, first_found, none_more}
+use Rattle.comparison.proofs.outlines.count_difference.Goals as goal
+
+pub returns-then-left_count-right_count-clause-first : goal.returns-then-left_count-right_count-clause-first
+returns-then-left_count-right_count-clause-first c = λ first second is also.
+    let index = c.loop-table.table-index in
+    let listed = c.all-table-items.result.now in
+    let many : length listed ≡ length tables = ap length c.all-table-items.ensures.value in
+    let within : index < length tables = omega (arith, many, c.loop-table-test.true) in
+    let left = c.count-left_count.ensures.model first is in
+    let right = c.count-right_count.ensures.model second also in
+    let found = count_differs first second (get_or listed index Module) c.count-left_count.result c.count-right_count.result left right c.if-left_count-right_count.true in
+    first_found (count_difference first second) tables index Module (RowCount (get_or listed index Module) c.count-left_count.result c.count-right_count.result) within
+    (c.loop-table.invariant first second is also)
+    (ap (λ (ts : List TableId). count_difference first second (get_or ts index Module)) (sym c.all-table-items.ensures.value) ∙ found)
+
+pub loop-table-preserved : goal.loop-table-preserved
+loop-table-preserved c = λ first second is also.
+    let index = c.loop-table.table-index in
+    let listed = c.all-table-items.result.now in
+    let many : length listed ≡ length tables = ap length c.all-table-items.ensures.value in
+    let within : index < length tables = omega (arith, many, c.loop-table-test.true) in
+    let left = c.count-left_count.ensures.model first is in
+    let right = c.count-right_count.ensures.model second also in
+    none_more (count_difference first second) tables index Module within (c.loop-table.invariant first second is also)
+    (ap (λ (ts : List TableId). count_difference first second (get_or ts index Module)) (sym c.all-table-items.ensures.value)
+    ∙ count_same first second (get_or listed index Module) (sym left ∙ c.if-left_count-right_count.false ∙ right))
+
+pub returns-clause-none : goal.returns-clause-none
+returns-clause-none c = λ first second is also.
+    let index = c.loop-table.table-index in
+    let many : length c.all-table-items.result.now ≡ length tables = ap length c.all-table-items.ensures.value in
+    let all : length tables ≤ index = omega (arith, many, c.loop-table-test.false) in
+    ap (λ (ts : List TableId). flat_map (count_difference first second) ts) (sym (take_all index tables all)) ∙ c.loop-table.invariant first second is also

@@ -1,0 +1,135 @@
+//! The cells of two views that differ.
+ghost use Rattle.std.specs.Prelude.{◌≡◌, ◌≤◌, ◌<◌, IfOk, OnOk, All, length, take};
+ghost use Rattle.table_schema.specs.CellColumns.{cell_count};
+ghost use Rattle.metadata.specs.Metadata.{Metadata};
+ghost use Rattle.metadata.specs.Model.{IsModel};
+ghost use Rattle.opening.specs.Views.{row_count};
+ghost use Rattle.comparison.specs.Differences.{Grows, IsThere, cell_difference, cell_differences, row_differences, table_differences};
+
+use crate::difference::Difference;
+use crate::same_cells::same_cell;
+use metadata_source::kind_of;
+use opening::{CellCursor, TableId, View};
+use std::alloc::{AllocError, Global};
+use table_schema::cell_count;
+
+/// The first cells that differ, at most `limit`, in the order of tables, rows and columns. Only rows that both views
+/// have are compared.
+///
+/// Each cell is read once, until `limit` are found. A signature is decoded only if its blobs have other bytes.
+///
+/// # Errors
+///
+/// Only if out of memory.
+pub fn differing_cells(
+    alloc: Global,
+    left: &View<'_>,
+    right: &View<'_>,
+    limit: usize,
+) -> Result<Vec<Difference>, AllocError>
+    ensures found { (first second : Metadata) → IsModel left.now first → IsModel right.now second
+        → IfOk result (λ found. found.items ≡ take limit (cell_differences first second)) }
+    ensures there { IfOk result (λ found. All (IsThere left.now right.now) found.items) }
+{
+    let mut left_cells = CellCursor::new(left);
+    let mut right_cells = CellCursor::new(right);
+    let mut found = Vec::new(alloc);
+    for table in TableId::all() {
+        find_in_table(alloc, &mut left_cells, &mut right_cells, *table, limit, &mut found)?;
+    }
+    Ok(found)
+}
+
+/// Adds the cells of a table that differ, up to the limit.
+fn find_in_table(
+    alloc: Global,
+    left: &mut CellCursor<'_, '_>,
+    right: &mut CellCursor<'_, '_>,
+    table: TableId,
+    limit: usize,
+    found: &mut Vec<Difference>,
+) -> Result<(), AllocError>
+    requires few { length found.old.items ≤ limit }
+    ensures left { left.new ≡ left.old }
+    ensures right { right.new ≡ right.old }
+    ensures few { OnOk result (length found.new.items ≤ limit) }
+    ensures there { OnOk result (All (IsThere left.old right.old) found.old.items → All (IsThere left.old right.old) found.new.items) }
+    ensures found { (first second : Metadata) → IsModel left.old first → IsModel right.old second
+        → OnOk result (Grows limit found.old.items found.new.items (table_differences first second table)) }
+{
+    let count = left.view().count(table).min(right.view().count(table));
+    for earlier in 0..count {
+        find_in_row(alloc, left, right, table, earlier + 1, limit, found)?;
+    }
+    Ok(())
+}
+
+/// Adds the cells of a row that differ, up to the limit.
+fn find_in_row(
+    alloc: Global,
+    left: &mut CellCursor<'_, '_>,
+    right: &mut CellCursor<'_, '_>,
+    table: TableId,
+    row: u32,
+    limit: usize,
+    found: &mut Vec<Difference>,
+) -> Result<(), AllocError>
+    requires first { 1 ≤ row }
+    requires left { row ≤ row_count left.old table }
+    requires right { row ≤ row_count right.old table }
+    requires few { length found.old.items ≤ limit }
+    ensures left { left.new ≡ left.old }
+    ensures right { right.new ≡ right.old }
+    ensures few { OnOk result (length found.new.items ≤ limit) }
+    ensures there { OnOk result (All (IsThere left.old right.old) found.old.items → All (IsThere left.old right.old) found.new.items) }
+    ensures found { (first second : Metadata) → IsModel left.old first → IsModel right.old second
+        → OnOk result (Grows limit found.old.items found.new.items (row_differences first second table row)) }
+{
+    if found.len() == limit {
+        return Ok(());
+    }
+    for cell_index in 0..cell_count(table) {
+        find_in_cell(alloc, left, right, table, row, cell_index, limit, found)?;
+    }
+    Ok(())
+}
+
+/// Adds a cell if it differs, up to the limit.
+fn find_in_cell(
+    alloc: Global,
+    left: &mut CellCursor<'_, '_>,
+    right: &mut CellCursor<'_, '_>,
+    table: TableId,
+    row: u32,
+    cell_index: usize,
+    limit: usize,
+    found: &mut Vec<Difference>,
+) -> Result<(), AllocError>
+    requires first { 1 ≤ row }
+    requires left { row ≤ row_count left.old table }
+    requires right { row ≤ row_count right.old table }
+    requires cell_index { cell_index < cell_count table }
+    requires few { length found.old.items ≤ limit }
+    ensures left { left.new ≡ left.old }
+    ensures right { right.new ≡ right.old }
+    ensures few { OnOk result (length found.new.items ≤ limit) }
+    ensures there { OnOk result (All (IsThere left.old right.old) found.old.items → All (IsThere left.old right.old) found.new.items) }
+    ensures found { (first second : Metadata) → IsModel left.old first → IsModel right.old second
+        → OnOk result (Grows limit found.old.items found.new.items (cell_difference first second table row cell_index)) }
+{
+    let kind = kind_of(table, cell_index);
+    let left_value = left.cell(table, row, cell_index);
+    let right_value = right.cell(table, row, cell_index);
+    let same = same_cell(alloc, kind, left_value, right_value)?;
+    if same {
+        return Ok(());
+    }
+    if found.len() == limit {
+        return Ok(());
+    }
+    Ok(found.push(Difference::Cell {
+        table,
+        row,
+        cell_index,
+    })?)
+}

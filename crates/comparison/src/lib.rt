@@ -1,0 +1,28 @@
+//! Compares metadata (ECMA-335 II.22 and II.24.2): whether two views have the same model, what differs, and a digest.
+//!
+//! [`is_equal`] says whether two views have the same model. [`outline_difference`] is the first of version, user strings
+//! and row counts that differs, and [`differing_cells`] are the first cells that differ. Views with the same model have
+//! the same canonical root, and [`digest`] is the SHA-256 digest of that.
+//!
+//! ```text
+//! if !is_equal(alloc, &left, &right)? {
+//!     let first = outline_difference(&left, &right);
+//!     let cells = differing_cells(alloc, &left, &right, 20)?; // at most 20
+//! }
+//! ```
+#![tactic(auto)]
+
+mod cells;
+mod difference;
+mod equal;
+pub mod laws;
+mod outlines;
+mod root_digest;
+mod same_cells;
+mod user_strings;
+
+pub use cells::differing_cells;
+pub use difference::Difference;
+pub use equal::is_equal;
+pub use outlines::outline_difference;
+pub use root_digest::digest;
