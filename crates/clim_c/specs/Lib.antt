@@ -6,3 +6,4 @@ pub mod Streams
 pub mod Texts
 pub mod Explained
 pub mod SignatureCells
+pub mod SignatureTexts

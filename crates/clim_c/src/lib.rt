@@ -12,7 +12,6 @@
 //! ```
 #![tactic(auto)]
 
-mod buffer_text;
 mod check_calls;
 mod explained;
 mod fault;
@@ -25,6 +24,7 @@ mod padded_heap;
 mod read_header;
 mod reported_cell;
 mod shown;
+mod signature_sink;
 mod signature_text;
 mod streams;
 mod text_parts;
