@@ -7,3 +7,4 @@ pub mod Texts
 pub mod Explained
 pub mod SignatureCells
 pub mod SignatureTexts
+pub mod CanonicalRoots
