@@ -1,5 +1,5 @@
 -- Texts that are written into a buffer.
-use Rattle.std.proofs.Common.{◌≡◌, ℕ, suc, ◌+◌, ◌-◌, ◌^◌, ◌<◌, ◌≤◌, ◌⊎◌, inl, inr, List, [], ◌∷◌, ◌++◌, length, take, drop, get_or, refl, sym, ◌∙◌, ap, arith}
+use Rattle.std.proofs.Common.{◌≡◌, ℕ, suc, ◌+◌, ◌-◌, ◌^◌, ◌<◌, ◌≤◌, ◌⊎◌, inl, inr, List, [], ◌∷◌, ◌++◌, length, take, drop, get_or, refl, sym, ◌∙◌, ap, ⊎_elim, arith}
 use Rattle.std.proofs.lemmas.Bool.{cases_lt}
 use Rattle.std.proofs.lemmas.List.{append-nil, length-append, length-take, length-drop, take_all, take_at, take-append-le, drop-drop, drop_at, drop_all, take_more}
 use Rattle.std.proofs.lemmas.List.Concat.{flat_map-append}
@@ -18,7 +18,7 @@ no_room buffer at text past =
     rw (take_all at buffer past, none, drop_all (at + length text) buffer behind, take_none text) (append-nil (buffer ++ []) ∙ append-nil buffer)
 
 -- bytes of two parts, the second cut
-take_past : (text more : List ℕ) (k : ℕ) → take (length text + k) (text ++ more) ≡ text ++ take k more
+pub take_past : (text more : List ℕ) (k : ℕ) → take (length text + k) (text ++ more) ≡ text ++ take k more
 take_past [] more k = let e : 0 + k ≡ k = omega arith in ap (λ (n : ℕ). take n more) e
 take_past (x ∷ text) more k =
     let e : suc (length text) + k ≡ suc (length text + k) = omega arith in
@@ -62,6 +62,13 @@ by_room buffer text more at at_is small (inr full) = long_text buffer text more 
 pub put_after : (buffer text more : List ℕ) (at : ℕ) → at ≡ counted (length text) → length buffer < 2 ^ 64
     → overwritten (with_text buffer text) at more ≡ with_text buffer (text ++ more)
 put_after buffer text more at at_is small = by_room buffer text more at at_is small (cases_lt (length text) (length buffer))
+
+-- more of a text is written at its end
+pub put_at_end : (buffer text more : List ℕ) (at : ℕ) → at ≡ length text → overwritten (with_text buffer text) at more ≡ with_text buffer (text ++ more)
+put_at_end buffer text more at is = ⊎_elim
+    (λ fits. short_text buffer text more at is (omega (arith, fits)))
+    (λ full. long_text buffer text more at (omega (arith, is, full)) full)
+    (cases_lt (length text) (length buffer))
 
 -- one more part
 joined_more : (parts : List (Bor (List ℕ))) (k : ℕ) (d : Bor (List ℕ)) → k < length parts

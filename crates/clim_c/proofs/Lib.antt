@@ -2,7 +2,10 @@ pub mod Buffers
 pub mod ExplainedLemmas
 pub mod GuidLemmas
 pub mod HeaderLemmas
+pub mod HexLemmas
 pub mod PaddedLemmas
+pub mod SignatureLemmas
+pub mod SinkLemmas
 pub mod Texts
 pub mod UnitLemmas
 pub mod Written

@@ -6,3 +6,5 @@ pub mod Streams
 pub mod Texts
 pub mod Explained
 pub mod SignatureCells
+pub mod SignatureTexts
+pub mod CanonicalRoots

@@ -1,5 +1,5 @@
 -- Texts in a caller's buffer.
-use Rattle.std.specs.Prelude.{ℕ, ◌+◌, ◌-◌, ◌^◌, min, List, ◌++◌, length, take, drop, flat_map}
+use Rattle.std.specs.Prelude.{◌≡◌, ◌↔◌, ℕ, ◌+◌, ◌-◌, ◌^◌, ◌<◌, ◌≤◌, Bool, IsTrue, min, List, ◌++◌, length, take, drop, flat_map}
 use Rattle.std.specs.Borrow.{Bor}
 
 -- a buffer after a text was written to its start, or the first bytes of the text if there is no room for more; the bytes
@@ -18,3 +18,20 @@ counted bytes = min bytes (2 ^ 64 - 1)
 -- the parts of a text, one after another
 abbrev pub joined : List (Bor (List ℕ)) → List ℕ
 joined parts = flat_map (λ part. part.now) parts
+
+-- the largest number of bytes of a text that is written as it is made
+abbrev pub text_limit : ℕ
+text_limit = 2 ^ 16
+
+-- the result for such a text: its length, or `CLIM_TOO_LONG` if it is longer than the limit
+abbrev pub IsLenWithin : ℕ → List ℕ → Type 0
+IsLenWithin len text = (length text ≤ text_limit → len ≡ length text) × (text_limit < length text → len ≡ 2 ^ 64 - 1)
+
+-- the buffer has the text, up to the limit and to its own end, and this many bytes of the text are within the limit
+abbrev pub HasText : List ℕ → List ℕ → List ℕ → ℕ → Type 0
+HasText initial text buffer len = (buffer ≡ with_text initial (take text_limit text)) × (len ≡ min text_limit (length text))
+
+-- bytes are written after a text that is within the limit, up to the limit: all of them if and only if `taken`
+abbrev pub Extends : List ℕ → ℕ → List ℕ → Bool → List ℕ → ℕ → Type 0
+Extends buffer len bytes taken new_buffer new_len = (initial text : List ℕ) → length text ≤ text_limit → HasText initial text buffer len
+    → HasText initial (text ++ bytes) new_buffer new_len × (IsTrue taken ↔ (length (text ++ bytes) ≤ text_limit))

@@ -12,7 +12,7 @@
 //! ```
 #![tactic(auto)]
 
-mod buffer_text;
+mod canonical_root;
 mod check_calls;
 mod explained;
 mod fault;
@@ -25,6 +25,7 @@ mod padded_heap;
 mod read_header;
 mod reported_cell;
 mod shown;
+mod signature_sink;
 mod signature_text;
 mod streams;
 mod text_parts;
@@ -33,6 +34,7 @@ mod view;
 mod view_parts;
 mod within;
 
+pub use canonical_root::{clim_canonical_root, clim_digest};
 pub use check_calls::{clim_check, clim_check_root};
 pub use explained::clim_explain;
 pub use fault::ClimFault;

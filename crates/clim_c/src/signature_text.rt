@@ -1,33 +1,29 @@
-ghost use Rattle.std.specs.Prelude.{◌≡◌, ◌≤◌, ◌<◌, ◌⊎◌, ◌^◌, ◌-◌, IfSome, true, false};
+ghost use Rattle.std.specs.Prelude.{◌≡◌, ◌≢◌, ◌≤◌, ◌<◌, ◌⊎◌, ◌^◌, ◌-◌, IfSome, IfNone, true, false, take};
 ghost use Rattle.table_schema.specs.declared.table.TableId.{TableId as Table};
 ghost use Rattle.table_schema.specs.declared.column.SigKind.{SigKind as Kind};
 ghost use Rattle.table_schema.specs.declared.column.ColumnKind.TheVariants.{Signature};
 ghost use Rattle.table_schema.specs.Tables.{table_number};
 ghost use Rattle.table_schema.specs.Columns.{column_at};
 ghost use Rattle.table_schema.specs.CellColumns.{cell_count, column_of};
+ghost use Rattle.sig_grammar.specs.Syntax.{Body};
+ghost use Rattle.metadata.specs.Cell.{Sig};
+ghost use Rattle.metadata.specs.Metadata.{Metadata, cell_in};
+ghost use Rattle.metadata.specs.Model.{IsModel};
+ghost use Rattle.reading.specs.Shown.{ShowsSignature};
 ghost use Rattle.opening.specs.Views.{row_count};
 ghost use Rattle.clim_c.specs.SignatureCells.{HasSignature};
+ghost use Rattle.clim_c.specs.SignatureTexts.{signature_text};
+ghost use Rattle.clim_c.specs.Texts.{IsLenWithin, text_limit, with_text};
 
-use crate::buffer_text::BufferText;
 use crate::opened::seen;
+use crate::signature_sink::SignatureSink;
 use crate::view::ClimView;
 use opening::{CellRef, TableId, View};
-use sig_text::{NamedText, SigKind, Token, TokenNames, write_signature};
-use std::fmt;
+use sig_text::{SigKind, write_signature};
 use table_schema::{ColumnKind, cell_count, column_of_cell, columns};
 
 /// What is returned for a text of more than 65,536 bytes.
 const TOO_LONG: usize = usize::MAX;
-
-/// Writes the token of a row as its name: eight hexadecimal digits.
-#[derive(Clone, Copy)]
-struct Tokens;
-
-impl TokenNames for Tokens {
-    fn write_name<W: fmt::Write>(&self, token: Token, writer: &mut W) -> fmt::Result {
-        write!(writer, "{:02x}{:06x}", token.table.number(), token.row)
-    }
-}
 
 /// The blob of a cell and the kind of its signature; `None` if the column has no signatures.
 fn signature_at<'a>(
@@ -39,8 +35,13 @@ fn signature_at<'a>(
     requires first { 1 ≤ row }
     requires last { row ≤ row_count seen.now table }
     requires column { column < cell_count table }
-    ensures { IfSome result (λ found. (column_at table (column_of table column)).kind ≡ Signature found.1) }
+    ensures kind { IfSome result (λ found. (column_at table (column_of table column)).kind ≡ Signature found.1) }
+    ensures shown { (model : Metadata) → IsModel seen.now model
+        → IfSome result (λ found. ShowsSignature (Signature found.1) found.0.now (cell_in model table row column)) }
+    ensures none { (model : Metadata) → IsModel seen.now model
+        → IfNone result ((kind : Kind) → (column_at table (column_of table column)).kind ≢ Signature kind) }
 {
+    metadata::laws::models_are_read();
     let ColumnKind::Signature(kind) = columns(table)[column_of_cell(table, column)].kind else {
         return None;
     };
@@ -61,6 +62,11 @@ pub extern "C" fn clim_signature_text(
     column: usize,
     buffer: &mut [u8],
 ) -> usize
+    ensures text { view.now.is_open ≡ true → (model : Metadata) → IsModel view.now.root.now model → (known : Table) (kind : Kind)
+        → table_number known ≡ table → HasSignature view.now.root.now known row column kind
+        → (signature : Body) × (cell_in model known row column ≡ Sig signature)
+        × (buffer.new ≡ with_text buffer.old (take text_limit (signature_text signature)))
+        × IsLenWithin result (signature_text signature) }
     ensures within { (result ≤ 2 ^ 16) ⊎ (result ≡ 2 ^ 64 - 1) }
     ensures there { 0 < result → (view.now.is_open ≡ true)
         × ((known : Table) × (kind : Kind) × (table_number known ≡ table) × HasSignature view.now.root.now known row column kind) }
@@ -77,9 +83,13 @@ pub extern "C" fn clim_signature_text(
     let Some((blob, kind)) = signature_at(&seen, table, row, column) else {
         return 0;
     };
-    let mut text = NamedText::new(BufferText { buffer, len: 0 }, Tokens);
+    let mut text = SignatureSink {
+        buffer,
+        len: 0,
+        refused: false,
+    };
     match write_signature(&mut text, blob, kind) {
-        Some(()) => text.writer.len,
+        Some(()) => text.len,
         None => TOO_LONG,
     }
 }

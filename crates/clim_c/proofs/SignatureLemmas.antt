@@ -1,0 +1,48 @@
+-- In a column of signatures, a value in place is the blob of a signature.
+use Rattle.std.proofs.Common.{◌≡◌, ℕ, ◌≤◌, Bool, true, false, true≢false, List, Bor, refl, sym, ap, subst, ◌∙◌}
+use Rattle.table_schema.specs.declared.table.TableId.{TableId}
+use Rattle.table_schema.specs.declared.column.SigKind.{SigKind}
+use Rattle.table_schema.specs.declared.column.ColumnKind.{ColumnKind}
+use Rattle.table_schema.specs.declared.column.ColumnKind.TheVariants as kind
+use Rattle.table_schema.specs.Columns.{column_at}
+use Rattle.table_schema.specs.CellColumns.{column_of}
+use Rattle.metadata.specs.Cell.{Cell, Sig}
+use Rattle.metadata.specs.Source.{Source, number_of, rows_in}
+use Rattle.metadata.specs.SourceAt.{source_of}
+use Rattle.metadata.specs.Starts.{start_of}
+use Rattle.metadata.specs.Stands.{StandsFor}
+use Rattle.metadata.specs.Rows.{IsCell}
+use Rattle.reading.specs.declared.cell_ref.CellRef.{CellRef}
+use Rattle.reading.specs.declared.cell_ref.CellRef.TheVariants as seen
+use Rattle.reading.specs.Shown.{Shows, ShowsCell}
+use Rattle.opening.specs.Views.{row_count}
+
+abbrev is_sig : Cell → Bool
+is_sig (Sig signature) = true
+is_sig _ = false
+
+other_cell : {A : Type 0} (cell other : Cell) → cell ≡ other → is_sig cell ≡ true → is_sig other ≡ false → A
+other_cell cell other same sig unlike = absurd (true≢false (sym sig ∙ ap is_sig same ∙ unlike))
+
+blob_of : (column : ColumnKind) (value : CellRef) (cell : Cell) → Shows column value cell → is_sig cell ≡ true → (blob : Bor (List ℕ)) × (value ≡ seen.Sig blob)
+blob_of column (seen.Number number) cell shows sig = other_cell cell _ shows sig refl
+blob_of column (seen.Text text) cell shows sig = other_cell cell _ shows sig refl
+blob_of column (seen.Bytes blob) cell shows sig = other_cell cell _ shows sig refl
+blob_of column (seen.Guid guid) cell shows sig = other_cell cell _ shows sig refl
+blob_of column (seen.Ref token) cell shows sig = other_cell cell _ shows sig refl
+blob_of column (seen.Start start) cell shows sig = other_cell cell _ shows sig refl
+blob_of column (seen.Sig blob) cell shows sig = (blob, refl)
+
+pub blob_of_cell : (source : Source) (table : TableId) (row column : ℕ) (sig_kind : SigKind) (cell : Cell) (value : CellRef)
+    → (column_at table (column_of table column)).kind ≡ kind.Signature sig_kind → IsCell source table row column cell → ShowsCell table column value cell
+    → (blob : Bor (List ℕ)) × (value ≡ seen.Sig blob)
+blob_of_cell source table row column sig_kind cell value is stands shows =
+    let place = column_of table column in
+    let P : ColumnKind → Type 0 = λ k. StandsFor source k (column_at table place).nullable (start_of source table row place) (number_of source table row place) cell in
+    let parts = subst P is stands in
+    blob_of (column_at table place).kind value cell shows (ap is_sig parts.5)
+
+-- a row that there is
+pub row_within : (root : List ℕ) (table : TableId) (row : ℕ) → row ≤ row_count root table → row ≤ rows_in (source_of root) table
+unfolding row_count
+row_within root table row within = within
