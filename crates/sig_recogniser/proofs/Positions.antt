@@ -1,5 +1,5 @@
 -- What remains at a position, and what is kept there of a type index.
-use Rattle.std.proofs.Common.{◌≡◌, ◌≢◌, ℕ, zero, suc, ◌+◌, ◌-◌, ◌<◌, ◌≤◌, ◌^◌, Bool, true, false, cond, ltb, Option, Some, None, List, [], ◌∷◌, length, drop, refl, sym, ap, ◌∙◌, subst, arith, length-drop}
+use Rattle.std.proofs.Common.{◌≡◌, ◌≢◌, ℕ, zero, suc, ◌+◌, ◌-◌, ◌*◌, ◌<◌, ◌≤◌, ◌^◌, Bool, true, false, cond, ltb, Option, Some, None, List, [], ◌∷◌, length, drop, refl, sym, ap, ◌∙◌, subst, arith, length-drop}
 use Rattle.std.specs.Prelude.{unwrap_or}
 use Rattle.std.proofs.lemmas.Bool.Decides.{nat_tests}
 use Rattle.std.proofs.lemmas.List.{drop-drop}
@@ -69,15 +69,18 @@ number_none bytes tail here h e =
     let f : unsigned_at (remains bytes here) ≡ None = subst (λ (t : List ℕ). unsigned_at t ≡ None) h (sym e) in
     rw f refl
 
-pub number_short : (bytes : List ℕ) (here next : Position) (c : ℕ) → remains bytes here ≡ c ∷ remains bytes next → bad_token next ≡ bad_token here → c < 0x80 → Some (c, left bytes next) ≡ number_left (left bytes here)
+pub number_short : (bytes : List ℕ) (here next : Position) (c : ℕ) → remains bytes here ≡ c ∷ remains bytes next → bad_token next ≡ bad_token here → c < 0x80 → number_left (left bytes here) ≡ Some (c, left bytes next)
 unfolding number_left number_at unsigned_at
 number_short bytes here next c h same lt =
     let low : ltb c 0x80 ≡ true = grind (arith, nat_tests) in
     rw (h, low, same) refl
 
-pub number_end : (bytes : List ℕ) (here : Position) → remains bytes here ≡ [] → None ≡ number_left (left bytes here)
+pub number_two : (bytes : List ℕ) (here behind next : Position) (a b : ℕ) → remains bytes here ≡ a ∷ remains bytes behind → remains bytes behind ≡ b ∷ remains bytes next → bad_token behind ≡ bad_token here → bad_token next ≡ bad_token behind → 0x80 ≤ a → a < 0xC0 → number_left (left bytes here) ≡ Some ((a - 0x80) * 0x100 + b, left bytes next)
 unfolding number_left number_at unsigned_at
-number_end bytes here h = rw h refl
+number_two bytes here behind next a b h k same too low high =
+    let long : ltb a 0x80 ≡ false = grind (arith, nat_tests) in
+    let two : ltb a 0xC0 ≡ true = grind (arith, nat_tests) in
+    rw (h, k, long, two, too, same) refl
 
 -- ---- another position with the same numbers
 

@@ -18,7 +18,13 @@ fn after_local(bytes: &[u8], here: Position, depth: u8, counts: &[u32; 45]) -> O
 
 /// The position after `count` local variables.
 #[tactic(auto, using(crate::proofs::Loops::skip_many_next, crate::proofs::Loops::skip_many_end))]
-fn after_locals(bytes: &[u8], here: Position, count: u32, depth: u8, counts: &[u32; 45]) -> Option<Position>
+fn after_locals(
+    bytes: &[u8],
+    here: Position,
+    count: u32,
+    depth: u8,
+    counts: &[u32; 45],
+) -> Option<Position>
     requires { length bytes.now < 2 ^ 29 }
     ensures { option_map (left bytes.now) result ≡ skip_many (skip_local counts.now (skip_core counts.now depth)) count (left bytes.now here) }
 {
@@ -31,7 +37,13 @@ fn after_locals(bytes: &[u8], here: Position, count: u32, depth: u8, counts: &[u
 
 /// The position after `count` parameters of a property.
 #[tactic(auto, using(crate::proofs::Loops::skip_many_next, crate::proofs::Loops::skip_many_end))]
-fn after_slots(bytes: &[u8], here: Position, count: u32, depth: u8, counts: &[u32; 45]) -> Option<Position>
+fn after_slots(
+    bytes: &[u8],
+    here: Position,
+    count: u32,
+    depth: u8,
+    counts: &[u32; 45],
+) -> Option<Position>
     requires { length bytes.now < 2 ^ 29 }
     ensures { option_map (left bytes.now) result ≡ skip_many (skip_slot counts.now (skip_core counts.now depth)) count (left bytes.now here) }
 {

@@ -1,4 +1,4 @@
-ghost use Rattle.std.specs.Prelude.{◌≡◌, ◌<◌, ◌^◌, ◌+◌, [], ◌∷◌, List, ℕ, length, drop, Some, option_map, MatchOption, IfSome};
+ghost use Rattle.std.specs.Prelude.{◌≡◌, ◌<◌, ◌≤◌, ◌^◌, ◌+◌, [], ◌∷◌, List, ℕ, length, drop, Some, option_map, MatchOption, IfSome};
 ghost use Rattle.sig_grammar.specs.Reading.{token_of, starts_modifier, starts_prefix};
 ghost use Rattle.sig_recogniser.specs.Skips.{offset_of, bad_of, remains, bad_token as noted_token, left, number_left, skip_number, is_marked, behind_mark, noted as noted_with};
 
@@ -10,8 +10,11 @@ use table_schema::{TableId, Token};
 /// One more than the greatest offset.
 const OFFSETS: u64 = 0x1_0000_0000;
 
-/// One more than the greatest number that one byte encodes (II.23.2).
+/// The least first byte of a number in two bytes (II.23.2).
 const TWO_BYTES: u8 = 0x80;
+
+/// The least first byte of a number in four bytes (II.23.2).
+const FOUR_BYTES: u8 = 0xC0;
 
 /// A position in the bytes of a signature: what a walk passed so far.
 ///
@@ -135,14 +138,19 @@ pub fn after_sentinel(bytes: &[u8], here: Position, allowed: bool) -> (bool, Pos
     ensures marked { result.0 ≡ is_marked allowed (left bytes.now here) }
     ensures behind { left bytes.now result.1 ≡ behind_mark result.0 (left bytes.now here) }
 {
+    if !allowed {
+        return (false, here);
+    }
     match byte(bytes, here) {
-        Some((SENTINEL, behind)) if allowed => (true, behind),
+        Some((SENTINEL, behind)) => (true, behind),
         _ => (false, here),
     }
 }
 
-/// The packed number after a position (II.23.2), and the position after it, if its form has two or four bytes.
-fn long_number(bytes: &[u8], here: Position) -> Option<(u32, Position)>
+/// The packed number after a position (II.23.2), and the position after it. For a number of more than one byte.
+#[cold]
+#[inline(never)]
+pub fn long_number(bytes: &[u8], here: Position) -> Option<(u32, Position)>
     requires { length bytes.now < 2 ^ 29 }
     ensures number { option_map (λ x. (x.0, left bytes.now x.1)) result ≡ number_left (left bytes.now here) }
     ensures limit { IfSome result (λ x. x.0 < 2 ^ 29) }
@@ -153,6 +161,37 @@ fn long_number(bytes: &[u8], here: Position) -> Option<(u32, Position)>
     Some((number, next))
 }
 
+/// The packed number of one byte after a position, and the position after it; `None` if another form is there.
+#[inline(always)]
+pub fn short_number(bytes: &[u8], here: Position) -> Option<(u32, Position)>
+    requires { length bytes.now < 2 ^ 29 }
+    ensures number { IfSome result (λ x. number_left (left bytes.now here) ≡ Some (x.0, left bytes.now x.1)) }
+    ensures limit { IfSome result (λ x. x.0 < 2 ^ 29) }
+{
+    let (first, behind) = byte(bytes, here)?;
+    if first < TWO_BYTES {
+        return Some((u32::from(first), behind));
+    }
+    None
+}
+
+/// The packed number of two bytes after a position, and the position after it; `None` if another form is there.
+#[inline(always)]
+pub fn middle_number(bytes: &[u8], here: Position) -> Option<(u32, Position)>
+    requires { length bytes.now < 2 ^ 29 }
+    ensures number { IfSome result (λ x. number_left (left bytes.now here) ≡ Some (x.0, left bytes.now x.1)) }
+    ensures limit { IfSome result (λ x. x.0 < 2 ^ 29) }
+{
+    let (first, behind) = byte(bytes, here)?;
+    if first < TWO_BYTES || first >= FOUR_BYTES {
+        return None;
+    }
+    let (second, next) = byte(bytes, behind)?;
+    let high = u32::from(first - TWO_BYTES);
+    let low = u32::from(second);
+    Some((high * 0x100 + low, next))
+}
+
 /// The packed number after a position (II.23.2), and the position after it.
 #[inline(always)]
 pub fn number(bytes: &[u8], here: Position) -> Option<(u32, Position)>
@@ -160,11 +199,22 @@ pub fn number(bytes: &[u8], here: Position) -> Option<(u32, Position)>
     ensures number { option_map (λ x. (x.0, left bytes.now x.1)) result ≡ number_left (left bytes.now here) }
     ensures limit { IfSome result (λ x. x.0 < 2 ^ 29) }
 {
-    let (first, behind) = byte(bytes, here)?;
-    if first < TWO_BYTES {
-        return Some((u32::from(first), behind));
+    if let Some(short) = short_number(bytes, here) {
+        return Some(short);
     }
     long_number(bytes, here)
+}
+
+/// The position after a packed number of more than one byte.
+#[cold]
+#[inline(never)]
+#[tactic(auto, unfolding(crate::specs::Skips::skip_number))]
+fn after_long_number(bytes: &[u8], here: Position) -> Option<Position>
+    requires { length bytes.now < 2 ^ 29 }
+    ensures { option_map (left bytes.now) result ≡ skip_number (left bytes.now here) }
+{
+    let (_, behind) = long_number(bytes, here)?;
+    Some(behind)
 }
 
 /// The position after a packed number.
@@ -174,8 +224,10 @@ pub fn after_number(bytes: &[u8], here: Position) -> Option<Position>
     requires { length bytes.now < 2 ^ 29 }
     ensures { option_map (left bytes.now) result ≡ skip_number (left bytes.now here) }
 {
-    let (_, behind) = number(bytes, here)?;
-    Some(behind)
+    if let Some((_, behind)) = short_number(bytes, here) {
+        return Some(behind);
+    }
+    after_long_number(bytes, here)
 }
 
 /// A position after one more type index, that of a token: its number is kept if it is the first whose row does not

@@ -1,8 +1,8 @@
-ghost use Rattle.std.specs.Prelude.{◌≡◌, ◌<◌, ◌^◌, length, ◌/◌, ◌%◌, ◌==◌, option_map};
-ghost use Rattle.sig_recogniser.specs.Skips.{left, skip_core, skip_by, skip_typed, skip_target, skip_instance, skip_many, skip_content, skip_slot, skip_ret, skip_params, skip_generic, skip_method};
+ghost use Rattle.std.specs.Prelude.{◌≡◌, ◌<◌, ◌^◌, length, ◌/◌, ◌%◌, ◌==◌, option_map, option_and_then};
+ghost use Rattle.sig_recogniser.specs.Skips.{left, skip_core, skip_by, skip_typed, skip_target, skip_instance, skip_many, skip_content, skip_slot, skip_ret, skip_void_or, skip_params, skip_generic, skip_method, skip_shape};
 
+use crate::position::{Position, after_number, after_sentinel, byte, has_modifier, number};
 use crate::shape::after_shape;
-use crate::position::{Position, after_number, after_sentinel, byte, number};
 use crate::type_index::{after_index, after_modifiers};
 use sig_grammar::Element;
 use sig_grammar::element_type::{
@@ -31,7 +31,13 @@ fn after_core(bytes: &[u8], here: Position, depth: u8, counts: &[u32; 45]) -> Op
 /// The position after a core with first byte `code`. The types in it are at most `depth` deep.
 #[cycle(walk)]
 #[tactic(auto, using(crate::proofs::Loops::skip_deep_some), unfolding(crate::specs::Skips::skip_by))]
-fn after_code(bytes: &[u8], code: u8, here: Position, depth: u8, counts: &[u32; 45]) -> Option<Position>
+fn after_code(
+    bytes: &[u8],
+    code: u8,
+    here: Position,
+    depth: u8,
+    counts: &[u32; 45],
+) -> Option<Position>
     requires { length bytes.now < 2 ^ 29 }
     ensures { option_map (left bytes.now) result ≡ skip_by counts.now depth (skip_core counts.now depth) code (left bytes.now here) }
 {
@@ -44,10 +50,7 @@ fn after_code(bytes: &[u8], code: u8, here: Position, depth: u8, counts: &[u32; 
         }
         VALUETYPE | CLASS => after_index(bytes, here, counts),
         VAR | MVAR => after_number(bytes, here),
-        ARRAY => {
-            let here = after_typed(bytes, here, depth, counts)?;
-            after_shape(bytes, here)
-        }
+        ARRAY => after_array(bytes, here, depth, counts),
         GENERICINST => after_instance(bytes, here, depth, counts),
         FNPTR => {
             if depth == 0 {
@@ -60,10 +63,27 @@ fn after_code(bytes: &[u8], code: u8, here: Position, depth: u8, counts: &[u32; 
     }
 }
 
-/// The position after a type.
+/// The position after the type of the items of an array, and its shape.
 #[cycle(walk)]
+#[inline(never)]
+fn after_array(bytes: &[u8], here: Position, depth: u8, counts: &[u32; 45]) -> Option<Position>
+    requires { length bytes.now < 2 ^ 29 }
+    ensures { option_map (left bytes.now) result ≡ option_and_then skip_shape (skip_typed counts.now (skip_core counts.now depth) (left bytes.now here)) }
+{
+    let here = after_typed(bytes, here, depth, counts)?;
+    after_shape(bytes, here)
+}
+
+/// The position after modifiers and a type.
+#[cycle(walk)]
+#[inline(never)]
 #[tactic(auto, unfolding(crate::specs::Skips::skip_typed))]
-fn after_typed(bytes: &[u8], here: Position, depth: u8, counts: &[u32; 45]) -> Option<Position>
+fn after_modified_type(
+    bytes: &[u8],
+    here: Position,
+    depth: u8,
+    counts: &[u32; 45],
+) -> Option<Position>
     requires { length bytes.now < 2 ^ 29 }
     ensures { option_map (left bytes.now) result ≡ skip_typed counts.now (skip_core counts.now depth) (left bytes.now here) }
 {
@@ -71,8 +91,22 @@ fn after_typed(bytes: &[u8], here: Position, depth: u8, counts: &[u32; 45]) -> O
     after_core(bytes, here, depth, counts)
 }
 
+/// The position after a type. Most types have no modifier.
+#[cycle(walk)]
+#[tactic(auto, using(crate::proofs::ItemLemmas::modifiers_end), unfolding(crate::specs::Skips::skip_typed))]
+fn after_typed(bytes: &[u8], here: Position, depth: u8, counts: &[u32; 45]) -> Option<Position>
+    requires { length bytes.now < 2 ^ 29 }
+    ensures { option_map (left bytes.now) result ≡ skip_typed counts.now (skip_core counts.now depth) (left bytes.now here) }
+{
+    if has_modifier(bytes, here) {
+        return after_modified_type(bytes, here, depth, counts);
+    }
+    after_core(bytes, here, depth, counts)
+}
+
 /// The position after the target of a pointer.
 #[cycle(walk)]
+#[inline(never)]
 #[tactic(auto, unfolding(crate::specs::Skips::skip_target, crate::specs::Skips::skip_void_or))]
 fn after_target(bytes: &[u8], here: Position, depth: u8, counts: &[u32; 45]) -> Option<Position>
     requires { length bytes.now < 2 ^ 29 }
@@ -87,6 +121,7 @@ fn after_target(bytes: &[u8], here: Position, depth: u8, counts: &[u32; 45]) -> 
 
 /// The position after the type index and the arguments of a generic type.
 #[cycle(walk)]
+#[inline(never)]
 #[tactic(auto, unfolding(crate::specs::Skips::skip_instance, crate::specs::Skips::skip_named, crate::specs::Skips::skip_counted))]
 fn after_instance(bytes: &[u8], here: Position, depth: u8, counts: &[u32; 45]) -> Option<Position>
     requires { length bytes.now < 2 ^ 29 }
@@ -125,7 +160,12 @@ pub fn after_types(
 #[cycle(walk)]
 #[inline(always)]
 #[tactic(auto, unfolding(crate::specs::Skips::skip_content))]
-pub fn after_content(bytes: &[u8], here: Position, depth: u8, counts: &[u32; 45]) -> Option<Position>
+pub fn after_content(
+    bytes: &[u8],
+    here: Position,
+    depth: u8,
+    counts: &[u32; 45],
+) -> Option<Position>
     requires { length bytes.now < 2 ^ 29 }
     ensures { option_map (left bytes.now) result ≡ skip_content counts.now (skip_core counts.now depth) (left bytes.now here) }
 {
@@ -136,10 +176,16 @@ pub fn after_content(bytes: &[u8], here: Position, depth: u8, counts: &[u32; 45]
     }
 }
 
-/// The position after a parameter or a field.
+/// The position after modifiers and a parameter or a field.
 #[cycle(walk)]
+#[inline(never)]
 #[tactic(auto, unfolding(crate::specs::Skips::skip_slot))]
-pub fn after_slot(bytes: &[u8], here: Position, depth: u8, counts: &[u32; 45]) -> Option<Position>
+fn after_modified_slot(
+    bytes: &[u8],
+    here: Position,
+    depth: u8,
+    counts: &[u32; 45],
+) -> Option<Position>
     requires { length bytes.now < 2 ^ 29 }
     ensures { option_map (left bytes.now) result ≡ skip_slot counts.now (skip_core counts.now depth) (left bytes.now here) }
 {
@@ -147,18 +193,61 @@ pub fn after_slot(bytes: &[u8], here: Position, depth: u8, counts: &[u32; 45]) -
     after_content(bytes, here, depth, counts)
 }
 
-/// The position after a result (II.23.2.11).
+/// The position after a parameter or a field. Most have no modifier.
 #[cycle(walk)]
-#[tactic(auto, unfolding(crate::specs::Skips::skip_ret, crate::specs::Skips::skip_void_or))]
-pub fn after_ret(bytes: &[u8], here: Position, depth: u8, counts: &[u32; 45]) -> Option<Position>
+#[tactic(auto, using(crate::proofs::ItemLemmas::modifiers_end), unfolding(crate::specs::Skips::skip_slot))]
+pub fn after_slot(bytes: &[u8], here: Position, depth: u8, counts: &[u32; 45]) -> Option<Position>
     requires { length bytes.now < 2 ^ 29 }
-    ensures { option_map (left bytes.now) result ≡ skip_ret counts.now (skip_core counts.now depth) (left bytes.now here) }
+    ensures { option_map (left bytes.now) result ≡ skip_slot counts.now (skip_core counts.now depth) (left bytes.now here) }
 {
-    let here = after_modifiers(bytes, here, counts)?;
+    if has_modifier(bytes, here) {
+        return after_modified_slot(bytes, here, depth, counts);
+    }
+    after_content(bytes, here, depth, counts)
+}
+
+/// The position after VOID or the type of a result.
+#[cycle(walk)]
+#[inline(always)]
+#[tactic(auto, unfolding(crate::specs::Skips::skip_void_or))]
+fn after_void_or(bytes: &[u8], here: Position, depth: u8, counts: &[u32; 45]) -> Option<Position>
+    requires { length bytes.now < 2 ^ 29 }
+    ensures { option_map (left bytes.now) result ≡ skip_void_or (skip_content counts.now (skip_core counts.now depth)) (left bytes.now here) }
+{
     match byte(bytes, here)? {
         (VOID, here) => Some(here),
         _ => after_content(bytes, here, depth, counts),
     }
+}
+
+/// The position after modifiers and a result.
+#[cycle(walk)]
+#[inline(never)]
+#[tactic(auto, unfolding(crate::specs::Skips::skip_ret))]
+fn after_modified_ret(
+    bytes: &[u8],
+    here: Position,
+    depth: u8,
+    counts: &[u32; 45],
+) -> Option<Position>
+    requires { length bytes.now < 2 ^ 29 }
+    ensures { option_map (left bytes.now) result ≡ skip_ret counts.now (skip_core counts.now depth) (left bytes.now here) }
+{
+    let here = after_modifiers(bytes, here, counts)?;
+    after_void_or(bytes, here, depth, counts)
+}
+
+/// The position after a result (II.23.2.11). Most have no modifier.
+#[cycle(walk)]
+#[tactic(auto, using(crate::proofs::ItemLemmas::modifiers_end), unfolding(crate::specs::Skips::skip_ret))]
+pub fn after_ret(bytes: &[u8], here: Position, depth: u8, counts: &[u32; 45]) -> Option<Position>
+    requires { length bytes.now < 2 ^ 29 }
+    ensures { option_map (left bytes.now) result ≡ skip_ret counts.now (skip_core counts.now depth) (left bytes.now here) }
+{
+    if has_modifier(bytes, here) {
+        return after_modified_ret(bytes, here, depth, counts);
+    }
+    after_void_or(bytes, here, depth, counts)
 }
 
 /// The position after `count` parameters, with SENTINEL before one of them if it is allowed.
@@ -200,6 +289,7 @@ fn after_generic(bytes: &[u8], here: Position, code: u8) -> Option<Position>
 
 /// The position after a method; `own` says whether it may have a SENTINEL (II.23.2.1 to II.23.2.3).
 #[cycle(walk)]
+#[inline(never)]
 #[tactic(auto, unfolding(crate::specs::Skips::skip_method, crate::specs::Skips::skip_call))]
 pub fn after_method(
     bytes: &[u8],
@@ -218,5 +308,12 @@ pub fn after_method(
     let here = after_generic(bytes, here, code)?;
     let (count, here) = number(bytes, here)?;
     let here = after_ret(bytes, here, depth, counts)?;
-    after_params(bytes, here, count, own && may_have_sentinel(code), depth, counts)
+    after_params(
+        bytes,
+        here,
+        count,
+        own && may_have_sentinel(code),
+        depth,
+        counts,
+    )
 }

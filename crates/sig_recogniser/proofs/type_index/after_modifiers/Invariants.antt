@@ -1,6 +1,6 @@
 use Rattle.std.proofs.Common.{◌≡◌, length}
 use Rattle.sig_recogniser.specs.Skips.{left, remains, skip_modifiers}
-use Rattle.sig_recogniser.proofs.type_index.after_each_modifier.Given as goal
+use Rattle.sig_recogniser.proofs.type_index.after_modifiers.Given as goal
 
 abbrev pub invariant-loop-here : goal.invariant-loop-here
 invariant-loop-here l = skip_modifiers l.counts (left l.bytes l.here) ≡ skip_modifiers l.counts (left l.bytes l.fn.here)
