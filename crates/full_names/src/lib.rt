@@ -1,6 +1,6 @@
-//! Names of types and signatures of methods as text, in the notation of ILAsm (ECMA-335 II.5.3, II.7.2, II.15.3), of a root that
-//! was opened in place and of tables in memory. Only the bytes of a signature that is held as a value are allocated, so
-//! nothing of a root in place.
+//! Names of types and signatures of methods as text, in the notation of ILAsm (ECMA-335 II.5.3, II.7.2, II.15.3). They
+//! are those of a root that was opened in place, or of tables in memory. Only the bytes of a signature that is held as a
+//! value are allocated, so nothing of a root in place.
 //!
 //! Every call returns on every root: a TypeSpec may name itself, and the scopes of TypeRefs may go in a circle. A chain
 //! of enclosing types is written up to [`DEPTH`] types, and `..` marks what is left out.

@@ -24,8 +24,8 @@ const METHOD_SIGNATURE: usize = 4;
 /// Writes a method as it is declared (II.15.3): `string Hello.Greeter::Greet(string name, int32 times)`.
 ///
 /// That is its calling convention, its result, its type as [`write_full_name`](crate::write_full_name) writes it, its
-/// name, and its parameters with their names. A parameter has a name if a row of Param has its position; rows of Param that are out of order are passed
-/// over (II.22.33). Names are written unchanged.
+/// name, and its parameters with their names. A parameter has a name if a row of Param has its position; rows of Param
+/// that are out of order are passed over (II.22.33). Names are written unchanged.
 ///
 /// It allocates only the bytes of signatures that are held as values, so nothing of a view.
 ///

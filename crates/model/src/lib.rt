@@ -40,12 +40,13 @@
 //! let root = prepare(alloc, &view, 1 << 30)?;          // of a view that is open: no model is made
 //! ```
 //!
-//! **Names** of types and methods are written to any `fmt::Write`, of a view without allocation:
+//! **Names** of types and methods are written to any `fmt::Write`, of a view and of a model. Only the bytes of a
+//! model's signature are allocated:
 //!
 //! ```text
 //! let class = type_of_method(&view, method);
-//! write_full_name(&view, Token { table: TableId::TypeDef, row: class }, &mut text)?; // Hello.Greeter/Settings
-//! write_method(&view, method, &mut text)?; // string Hello.Greeter::Greet(string name, int32 times)
+//! write_full_name(alloc, &view, Token { table: TableId::TypeDef, row: class }, &mut text)?; // Hello.Greeter/Settings
+//! write_method(alloc, &view, method, &mut text)?; // string Hello.Greeter::Greet(string name, int32 times)
 //! ```
 //!
 //! The contract of each call says what is proved of it. This crate has no code.
@@ -101,7 +102,7 @@ pub use navigation::{
 
 // Names of types and signatures of methods as text.
 pub use full_names::{
-    DEPTH, FullNames, ReadSignatures, write_full_name, write_method, write_type_def, write_type_ref,
+    DEPTH, FullNames, TextError, write_full_name, write_method, write_type_def, write_type_ref,
 };
 
 // Rows of a model and of a view as records.

@@ -8,8 +8,8 @@ ghost use Rattle.owned_model.specs.Refused.{IsRefused, HasHeaderAndModel};
 
 use crate::error::LoadError;
 use crate::to_model::ToModel;
-use opening::{CliHeader, open_image, open_root};
 use crate::valid_model::Model;
+use opening::{CliHeader, open_image, open_root};
 use std::alloc::Global;
 
 /// Loads the metadata root in these bytes (II.24.2). Except if it is out of memory, it succeeds if and only if the

@@ -6,8 +6,8 @@ ghost use Rattle.owned_model.specs.Models.{ReportsOrder};
 
 use crate::padding::copy_padded;
 use crate::table_rows::load_tables;
-use opening::View;
 use crate::valid_model::Model;
+use opening::View;
 use std::alloc::{AllocError, Global};
 use tables::Tables;
 

@@ -1,6 +1,7 @@
-ghost use Rattle.std.specs.Prelude.{◌≡◌, ◌^◌, ◌<◌, ◌≤◌, ⊤, IfOk, IfErr, length};
+ghost use Rattle.std.specs.Prelude.{◌≡◌, ◌^◌, ◌<◌, ◌≤◌, ◌↔◌, ⊤, Err, IfOk, IfErr, length};
 ghost use Rattle.metadata.specs.Metadata.{Metadata};
 ghost use Rattle.canonical.specs.Canonical.{canonical};
+ghost use Rattle.root_plan.specs.declared.error.WriteError.TheVariants as WriteError;
 ghost use Rattle.root_plan.specs.Errors.{MatchError};
 
 use crate::planned::plan_of;
@@ -20,6 +21,20 @@ use std::alloc::Global;
 ///
 /// `TooLarge` if the canonical root is longer than the limit. `Memory` if memory runs out before that is known.
 pub fn prepare<S: ReadCells>(alloc: Global, source: &S, limit: u32) -> Result<Prepared, WriteError>
+    requires { limit ≤ 2 ^ 30 }
+    ensures root { (model : Metadata) → S.shows source.now model → IfOk result (λ prepared. prepared ≡ canonical model) }
+    ensures within { IfOk result (λ prepared. length prepared ≤ limit) }
+    ensures refused { (model : Metadata) → S.shows source.now model
+        → IfErr result (MatchError (limit < length (canonical model)) ⊤ (λ given. ⊥)) }
+    // Unless out of memory, it is `TooLarge` if and only if the root is longer than the limit.
+    ensures too_large { (model : Metadata) → S.shows source.now model → ¬ (result ≡ Err WriteError.Memory)
+        → (result ≡ Err WriteError.TooLarge) ↔ (limit < length (canonical model)) }
+{
+    make_root(alloc, source, limit)
+}
+
+/// The canonical root, from its plan.
+fn make_root<S: ReadCells>(alloc: Global, source: &S, limit: u32) -> Result<Prepared, WriteError>
     requires { limit ≤ 2 ^ 30 }
     ensures root { (model : Metadata) → S.shows source.now model → IfOk result (λ prepared. prepared ≡ canonical model) }
     ensures within { IfOk result (λ prepared. length prepared ≤ limit) }

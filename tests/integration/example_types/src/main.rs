@@ -11,10 +11,10 @@ fn main(rt: HostRuntime) -> Result<()> {
     let view = open_root(&root)?;
     for row in 1..view.count(TableId::TypeDef) + 1 {
         let mut text = String::new(rt.alloc());
-        write_full_name(&view, Token { table: TableId::TypeDef, row }, &mut text)?;
+        write_full_name(rt.alloc(), &view, Token { table: TableId::TypeDef, row }, &mut text)?;
         for method in view.methods_of(row) {
             text.push_str("\n  ")?;
-            write_method(&view, method, &mut text)?;
+            write_method(rt.alloc(), &view, method, &mut text)?;
         }
         println!(rt; "{text}")?;
     }

@@ -3,8 +3,10 @@
 
 use anyhow::Result;
 use model::{
-    BoundedError, Fault, FaultCode, HeapFault, LoadError, PoolError, Refusal, SigError, WriteError,
+    BoundedError, Fault, FaultCode, HeapFault, LoadError, PoolError, Refusal, SigError, TextError,
+    WriteError,
 };
+use root_plan::{PlanError, Stopped};
 use std::alloc::Global;
 use std::error::Error;
 use std::process::Abort;
@@ -82,6 +84,11 @@ fn other_errors_have_a_text(rt: HostRuntime) -> Result<(), Fail> {
         SigError::Bad,
         "BadSignature: the bytes encode no signature of this kind (rule 701)",
     )?;
+    check(&rt, rt.alloc(), TextError::Memory, "out of memory")?;
+    check(&rt, rt.alloc(), TextError::Writer, "the writer refused a part of the text")?;
+    check(&rt, rt.alloc(), PlanError::Memory, "out of memory")?;
+    check(&rt, rt.alloc(), PlanError::TooLarge, "the root is longer than the limit")?;
+    check(&rt, rt.alloc(), Stopped { given: 28 }, "the writer failed after 28 bytes")?;
     check(&rt, rt.alloc(), WriteError::Memory, "out of memory")?;
     check(&rt, rt.alloc(), WriteError::TooLarge, "the root is longer than the limit")?;
     check(

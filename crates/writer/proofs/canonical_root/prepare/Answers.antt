@@ -1,29 +1,16 @@
-use Rattle.std.proofs.Common.{◌≡◌, Result, Ok, Err, IfErr, length, sym, subst, ap, arith}
-use Rattle.std.specs.Prelude.{⊤, IsErrAnd}
-use Rattle.std.proofs.Math.Logic.{∥∥₁_map, ∥∥₁_elim}
-use Rattle.std.specs.Coded.{le_prop}
+use Rattle.std.proofs.Common.{◌≡◌, ℕ, ◌≤◌, ◌<◌, List, Result, Ok, Err, IfOk, IfErr, length, refl, ap, arith}
+use Rattle.std.specs.Prelude.{◌↔◌, ⊤}
 use Rattle.root_plan.specs.Errors.{MatchError}
 use Rattle.root_plan.specs.declared.error.WriteError.{WriteError}
-use Rattle.root_plan.specs.declared.error.WriteError.TheVariants.{Memory}
+use Rattle.root_plan.specs.declared.error.WriteError.TheVariants as error
 use Rattle.writer.proofs.canonical_root.prepare.Goals as goal
 
--- `Memory` says nothing about the root
-refused : {T : Type 0} (result : Result T WriteError) (P : Type 0) → IsErrAnd result (λ error. error ≡ Memory) → IfErr result (MatchError P ⊤ (λ given. ⊥))
-refused (Ok value) P is = tt
-refused (Err error) P is =
-    let Reported : WriteError → Type 0 = λ error. MatchError P ⊤ (λ given. ⊥) error in
-    subst Reported (sym is) tt
+exactly : (limit : ℕ) (root : List ℕ) (result : Result (List ℕ) WriteError) → IfOk result (λ bytes. bytes ≡ root) → IfOk result (λ bytes. length bytes ≤ limit)
+    → IfErr result (MatchError (limit < length root) ⊤ (λ given. ⊥)) → ¬ (result ≡ Err error.Memory) → (result ≡ Err error.TooLarge) ↔ (limit < length root)
+exactly limit root (Ok bytes) is within refused some = (λ e. absurd cc, λ long. absurd (omega (arith, ap length is, within, long)))
+exactly limit root (Err error.TooLarge) is within refused some = (λ e. refused, λ long. refl)
+exactly limit root (Err error.Memory) is within refused some = absurd (some refl)
+exactly limit root (Err (error.Device given)) is within refused some = absurd refused
 
-pub make-prepared-requires : goal.make-prepared-requires
-make-prepared-requires g c = ∥∥₁_map c.holds_one.ensures.shown (λ some.
-    (some.0, c.holds_one.ensures.valid some.0 some.1, c.in_ok-plan.ensures.plan some.0 some.1))
-
-pub returns-in_err-prepared-clause-refused : goal.returns-in_err-prepared-clause-refused
-returns-in_err-prepared-clause-refused g c model is = refused c.from_residual-in_err-prepared.result _ c.from_residual-in_err-prepared.ensures.1
-
-pub returns-clause-root : goal.returns-clause-root
-returns-clause-root g c model is = c.in_ok-prepared.ensures model (c.in_ok-plan.ensures.plan model is)
-
-pub returns-clause-within : goal.returns-clause-within
-returns-clause-within g c = ∥∥₁_elim c.holds_one.ensures.shown le_prop (λ some.
-    omega (arith, ap length (c.in_ok-prepared.ensures some.0 (c.in_ok-plan.ensures.plan some.0 some.1)), c.in_ok-plan.ensures.fits some.0 some.1))
+pub returns-clause-too_large : goal.returns-clause-too_large
+returns-clause-too_large g c = λ model shown. exactly _ _ _ (c.make_root.ensures.root model shown) c.make_root.ensures.within (c.make_root.ensures.refused model shown)

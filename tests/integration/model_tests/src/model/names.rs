@@ -1,6 +1,11 @@
-use model::{TableId, Token, View, open_root, write_full_name, write_method, write_type_def};
-use sample_roots::RootBuilder;
+use model::{
+    ReadCells, TableId, Token, open_root, write_full_name, write_method, write_type_def,
+};
+use sample_roots::{
+    NAMES_APART, NAMES_SHARED, NO_ROWS, ONE_MODULE, RootBuilder, THREE_TYPES, TWO_TYPES,
+};
 use std::alloc::Global;
+use std::process::Abort;
 use std::test::Fail;
 
 /// The texts of the roots: `Outer` is at 1, `Inner` at 7, `Leaf` at 13, `Space` at 18 and `first` at 24.
@@ -15,10 +20,17 @@ fn nested_types(alloc: Global) -> Result<RootBuilder, Fail> {
     Ok(root)
 }
 
-/// The name of a row of a view.
-fn name_of(alloc: Global, view: &View<'_>, table: TableId, row: u32) -> Option<String> {
+/// The name of a row.
+fn name_of<S: ReadCells>(alloc: Global, source: &S, table: TableId, row: u32) -> Option<String> {
     let mut text = String::new(alloc);
-    write_full_name(view, Token { table, row }, &mut text).ok()?;
+    write_full_name(alloc, source, Token { table, row }, &mut text).ok()?;
+    Some(text)
+}
+
+/// The declaration of a method.
+fn declared<S: ReadCells>(alloc: Global, source: &S, row: u32) -> Option<String> {
+    let mut text = String::new(alloc);
+    write_method(alloc, source, row, &mut text).ok()?;
     Some(text)
 }
 
@@ -81,9 +93,12 @@ fn a_typespec_that_names_itself_is_cut(rt: HostRuntime) -> Result<(), Fail> {
     root.heap("#Blob", b"\0\x02\x12\x06\x03\x1D\x12\x04\x02\x12\x0A")?;
     let root = root.finish()?;
     let view = open_root(root.as_slice()).expect(&rt, "a root");
+    let model = model::load_root(rt.alloc(), root.as_slice()).expect(&rt, "a model");
     for (row, name) in [(1, "class .."), (2, "class Space.Outer[]"), (3, "class .."), (4, "..")] {
         let written = name_of(rt.alloc(), &view, TableId::TypeSpec, row).expect(&rt, "a text");
         assert_eq!(rt; written.as_str(), name, "of {row}");
+        let owned = name_of(rt.alloc(), &model, TableId::TypeSpec, row).expect(&rt, "a text");
+        assert_eq!(rt; owned.as_str(), name, "of {row} of a model");
     }
     Ok(())
 }
@@ -105,14 +120,51 @@ fn methods_have_the_names_of_their_parameters(rt: HostRuntime) -> Result<(), Fai
     root.heap("#Blob", b"\0\x05\0\x02\x01\x08\x0E\x06\x30\x01\x01\x01\x1E\0")?;
     let root = root.finish()?;
     let view = open_root(root.as_slice()).expect(&rt, "a root");
-    for (row, declared) in [
+    let model = model::load_root(rt.alloc(), root.as_slice()).expect(&rt, "a model");
+    for (row, expected) in [
         (1, "void Space.Outer::Leaf(int32 first, string)"),
         (2, "instance void Space.Outer::Inner<[1]>(!!0 first)"),
         (3, "void Space.Outer::Inner(int32, string first)"),
     ] {
-        let mut text = String::new(rt.alloc());
-        assert!(rt; write_method(&view, row, &mut text).is_ok());
-        assert_eq!(rt; text.as_str(), declared, "of {row}");
+        let text = declared(rt.alloc(), &view, row).expect(&rt, "a text");
+        assert_eq!(rt; text.as_str(), expected, "of {row}");
+        let owned = declared(rt.alloc(), &model, row).expect(&rt, "a text");
+        assert_eq!(rt; owned.as_str(), expected, "of {row} of a model");
+    }
+    Ok(())
+}
+
+/// Checks that each type and method of a root has the same text in place and in a model.
+fn check_texts(rt: &impl Abort, alloc: Global, root: &[u8]) -> Result<(), Fail> {
+    let view = open_root(root)?;
+    let model = model::load_root(alloc, root)?;
+    for table in [TableId::TypeDef, TableId::TypeRef, TableId::TypeSpec, TableId::Module] {
+        for row in 0..view.count(table) + 2 {
+            let written = name_of(alloc, &view, table, row).expect(rt, "a text");
+            let owned = name_of(alloc, &model, table, row).expect(rt, "a text");
+            assert_eq!(rt; written.as_str(), owned.as_str(), "of {table:?} {row}");
+        }
+    }
+    for row in 1..view.count(TableId::MethodDef) + 1 {
+        let written = declared(alloc, &view, row).expect(rt, "a text");
+        let owned = declared(alloc, &model, row).expect(rt, "a text");
+        assert_eq!(rt; written.as_str(), owned.as_str(), "of method {row}");
+    }
+    Ok(())
+}
+
+#[test]
+fn models_have_the_texts_of_views(rt: HostRuntime) -> Result<(), Fail> {
+    let roots = [
+        ONE_MODULE.as_slice(),
+        TWO_TYPES.as_slice(),
+        NO_ROWS.as_slice(),
+        THREE_TYPES.as_slice(),
+        NAMES_SHARED.as_slice(),
+        NAMES_APART.as_slice(),
+    ];
+    for root in roots {
+        check_texts(&rt, rt.alloc(), root)?;
     }
     Ok(())
 }

@@ -1,4 +1,4 @@
-use Rattle.std.proofs.Common.{◌≡◌, ℕ, None, Some, Option, rules}
+use Rattle.std.proofs.Common.{◌≡◌, ℕ, None, Some}
 use Rattle.owned_model.proofs.metadata_held.ModelReadCells.shared_blobs_are_one.Goals as goal
 
 no_index : (index : ℕ) → (None ≡ Some index) → ⊥
