@@ -100,14 +100,25 @@ fn first_in_column(
             first_refused(source, table, column, limit, check)
         }
         ColumnKind::Blob | ColumnKind::Signature(_) => {
-            let check = |number|
-                ensures { IsChecked source.entry.now.source kind.Blob false number result }
-            { source.check_blob(number) };
-            first_refused(source, table, column, limit, check)
+            let passes = |number|
+                ensures { IsTrue result → IsChecked source.entry.now.source kind.Blob false number (Ok tt) }
+            { has_blob(source, number) };
+            first_failing(source, table, column, limit, passes)
         }
         ColumnKind::Row(_) | ColumnKind::Coded(_) | ColumnKind::List(_) => first_index(
             source, table, column, limit,
         ),
+    }
+}
+
+/// Whether a blob is at an index.
+#[inline]
+fn has_blob(source: &Source, index: u32) -> bool
+    ensures { IsTrue result → IsChecked source.now.source kind.Blob false index (Ok tt) }
+{
+    match source.check_blob(index) {
+        Ok(()) => true,
+        Err(_) => false,
     }
 }
 

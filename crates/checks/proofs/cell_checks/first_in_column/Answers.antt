@@ -1,4 +1,4 @@
-use Rattle.std.proofs.Common.{inl, inr}
+use Rattle.std.proofs.Common.{inl, inr, refl}
 use Rattle.table_schema.specs.declared.column.ColumnKind.TheVariants as kind
 use Rattle.checks.proofs.Columns.{passed_stands, plain_stands}
 use Rattle.checks.proofs.cell_checks.first_in_column.Goals as goal
@@ -22,8 +22,8 @@ returns-in-Blob-clause-stands c =
     elim c.in-Blob.is [
       | inl of_kind ↦
           passed_stands c.args.source.now c.args.table c.args.column _ c.column_at.result c.column_at.ensures _ kind.Blob of_kind
-          c.first_refused-in-Blob.ensures.passed (λ number passed. passed)
+          c.first_failing.ensures.passed (λ number passed. passed refl)
       | inr of_kind ↦
           passed_stands c.args.source.now c.args.table c.args.column _ c.column_at.result c.column_at.ensures _ (kind.Signature of_kind.0) of_kind.1
-          c.first_refused-in-Blob.ensures.passed (λ number passed. passed)
+          c.first_failing.ensures.passed (λ number passed. passed refl)
     ]
