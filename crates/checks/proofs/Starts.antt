@@ -1,7 +1,7 @@
 -- The start of an owner, from that of the next owner.
 use Rattle.std.proofs.Common.{◌≡◌, ℕ, ◌+◌, ◌-◌, ◌<◌, ◌≤◌, ltb, ◌&&◌, cond, Bool, true, false, Option, Some, None}
-use Rattle.std.proofs.Common.{refl, arith, inl, inr}
-use Rattle.std.proofs.lemmas.Bool.{cases_lt}
+use Rattle.std.proofs.Common.{refl, sym, ◌∙◌, eqb, arith, inl, inr}
+use Rattle.std.proofs.lemmas.Bool.{cases_lt, cases_eq}
 use Rattle.std.proofs.lemmas.Bool.Decides.{nat_tests}
 use Rattle.packed.specs.declared.code.FaultCode.TheVariants.{BadRun}
 use Rattle.packed.specs.Rule.{rules_from, fault}
@@ -10,6 +10,7 @@ use Rattle.metadata.specs.Source.{Source, rows_in, number_of}
 use Rattle.metadata.specs.Starts.{start_from, start_of}
 use Rattle.metadata.specs.SourceAt.{SourceAt, cell_offset}
 use Rattle.metadata.specs.Rules.{rules_of_start}
+use Rattle.reading.proofs.StartLemmas.{start_here, start_next}
 use Rattle.checks.specs.Runs.{IsVerdict, fault_in_row}
 use Rattle.checks.proofs.Verdicts.{first_of, verdict_unless, verdict_prefix, verdict_over}
 
@@ -21,6 +22,19 @@ pub start_of_end : (source : Source) (owner : TableId) (row column : ℕ) (membe
 unfolding start_of
 start_of_end source owner row column member past =
     start_none (λ r. number_of source owner r column) _ row (rows_in source owner + 1 - row) (omega arith)
+
+-- the start of an owner, by its number and the start of the next owner
+pub start_by : (source : Source) (owner : TableId) (row column : ℕ) (member : TableId) (number next : ℕ) → row ≤ rows_in source owner
+    → number ≡ number_of source owner row column → next ≡ start_of source owner (row + 1) column member
+    → cond (eqb number 0) next number ≡ start_of source owner row column member
+start_by source owner row column member number next within is after = elim (cases_eq number 0) [
+  | inl null ↦
+      let test : eqb number 0 ≡ true = grind (arith, nat_tests) in
+      rw test (after ∙ sym (start_next source owner row column member within (sym is ∙ null)))
+  | inr other ↦
+      let test : eqb number 0 ≡ false = grind (arith, nat_tests) in
+      rw test (is ∙ sym (start_here source owner row column member within (λ null. other (is ∙ null))))
+]
 
 module _ (here : SourceAt) (owner : TableId) (column : ℕ) (member : TableId) where
   pick : (row : ℕ) (falls : Option ℕ) (lower : Bool) → fault_in_row here owner column (cond lower (Some (row + 1)) falls)

@@ -1,4 +1,4 @@
-ghost use Rattle.std.specs.Prelude.{◌≡◌, ◌≤◌, ◌<◌, ◌-◌, ◌+◌, ◌&&◌, length, IfOk, IfSome, Some, nat_lt, if◌then◌else◌};
+ghost use Rattle.std.specs.Prelude.{◌≡◌, ◌≤◌, ◌<◌, ◌-◌, ◌+◌, ◌&&◌, length, IfOk, IfSome, Some, ◌==◌, nat_lt, if◌then◌else◌};
 ghost use Rattle.packed.specs.Rule.{Reports, rules_from};
 ghost use Rattle.table_schema.specs.Columns.{columns_of};
 ghost use Rattle.metadata.specs.Source.{rows_in};
@@ -8,7 +8,7 @@ ghost use Rattle.reading.specs.KnownStarts.{IsKnownIn, AreKnown};
 ghost use Rattle.checks.specs.Runs.{IsVerdict, fault_in_row};
 
 use packed::{Fault, FaultCode};
-use reading::{KnownRuns, KnownStarts, Source, start_before};
+use reading::{KnownRuns, KnownStarts, Source};
 use table_schema::TableId;
 
 /// The results of a pass over owners: the start of the first run, the first owner whose start is less than the
@@ -80,12 +80,13 @@ fn walk_owners(source: &Source, owner: TableId, column: usize, member: TableId) 
     ensures known { IsKnownIn source.now.source owner column member result.known }
 {
     let count = source.count(owner);
+    let numbers = source.column(owner, column);
     let mut first = source.count(member) + 1;
     let mut falls = None;
     let mut known = KnownStarts::new(count);
     let mut row = count;
     while row > 0 {
-        let start = start_before(source, owner, row, column, member, first);
+        let start = start_by(numbers.number(row), first);
         falls = fallen(falls, row, count, first, start);
         known.keep(row, start);
         first = start;
@@ -96,6 +97,14 @@ fn walk_owners(source: &Source, owner: TableId, column: usize, member: TableId) 
         falls,
         known,
     }
+}
+
+/// The start of an owner's run, from its list value and the start of the next owner.
+#[inline]
+fn start_by(number: u32, next: u32) -> u32
+    ensures { result ≡ (if number == 0 then next else number) }
+{
+    if number == 0 { next } else { number }
 }
 
 /// The first owner whose start decreases, after one more owner before it.

@@ -308,12 +308,6 @@ pub fn after_method(
     let here = after_generic(bytes, here, code)?;
     let (count, here) = number(bytes, here)?;
     let here = after_ret(bytes, here, depth, counts)?;
-    after_params(
-        bytes,
-        here,
-        count,
-        own && may_have_sentinel(code),
-        depth,
-        counts,
-    )
+    let allowed = own && may_have_sentinel(code);
+    after_params(bytes, here, count, allowed, depth, counts)
 }

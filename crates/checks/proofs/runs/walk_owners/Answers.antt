@@ -1,9 +1,10 @@
-use Rattle.std.proofs.Common.{ℕ, ◌≡◌, ◌+◌, ◌-◌, sym, ◌∙◌, ap, arith}
+use Rattle.std.proofs.Common.{ℕ, ◌≡◌, ◌+◌, ◌-◌, ◌≤◌, sym, ◌∙◌, ap, arith}
 use Rattle.packed.proofs.RuleLemmas.{none_from}
+use Rattle.metadata.specs.Source.{rows_in, number_of}
 use Rattle.metadata.specs.Starts.{start_of}
 use Rattle.metadata.specs.Rules.{rules_of_start}
 use Rattle.reading.specs.KnownStarts.{IsKnown}
-use Rattle.checks.proofs.Starts.{start_of_end, falls_step}
+use Rattle.checks.proofs.Starts.{start_of_end, start_by, falls_step}
 use Rattle.checks.proofs.runs.walk_owners.Goals as goal
 
 pub loop-row-init : goal.loop-row-init
@@ -27,7 +28,11 @@ loop-row-preserved c =
     let before = c.loop-row.invariant in
     let row = c.loop-row.row in
     let starts : ℕ → ℕ = λ r. start_of here.source c.args.owner r c.args.column c.args.member in
-    let start : c.start_before-start.result ≡ starts row = c.start_before-start.ensures in
+    let within : row ≤ rows_in here.source c.args.owner = omega (arith, before.row, c.count-count.ensures.value) in
+    let number : c.number.result ≡ number_of here.source c.args.owner row c.args.column =
+    c.number.ensures ∙ c.column-numbers.ensures.numbers row (omega arith) within in
+    let start : c.start_by-start.result ≡ starts row =
+    c.start_by-start.ensures ∙ start_by here.source c.args.owner row c.args.column c.args.member c.number.result c.loop-row.first within number before.first in
     let again : row - 1 + 1 ≡ row = omega arith in
     let known : IsKnown c.keep.new.self starts row c.count-count.result =
     c.keep.ensures.known starts c.count-count.result start before.known in
@@ -35,7 +40,7 @@ loop-row-preserved c =
       row = omega (arith, before.row);
       first = start ∙ ap starts (sym again);
       falls = falls_step here c.args.owner c.args.column c.args.member
-          row c.count-count.result c.loop-row.first c.start_before-start.result c.loop-row.falls c.fallen-falls.result
+          row c.count-count.result c.loop-row.first c.start_by-start.result c.loop-row.falls c.fallen-falls.result
           (omega arith) before.row before.first start before.falls c.fallen-falls.ensures.value;
       room = rw c.keep.ensures.step before.room;
       known = rw again known;

@@ -10,11 +10,11 @@ use Rattle.checks.proofs.runs.walk_owners.Given as goal
 abbrev pub invariant-loop-row : goal.invariant-loop-row
 invariant-loop-row l = record {
   row : l.row ≤ l.count;
-  first : l.first ≡ start_of l.source.source l.owner (l.row + 1) l.column l.fn.member;
-  falls : IsVerdict (rules_from (rules_of_start l.source l.owner l.column l.fn.member) (l.row + 2) (l.count - (l.row + 1)))
-      (fault_in_row l.source l.owner l.column l.falls);
+  first : l.first ≡ start_of l.source.source l.fn.owner (l.row + 1) l.column l.fn.member;
+  falls : IsVerdict (rules_from (rules_of_start l.source l.fn.owner l.column l.fn.member) (l.row + 2) (l.count - (l.row + 1)))
+      (fault_in_row l.source l.fn.owner l.column l.falls);
   room : l.count < 256 * l.known.step;
-  known : IsKnown l.known (λ row. start_of l.source.source l.owner row l.column l.fn.member) (l.row + 1) l.count;
+  known : IsKnown l.known (λ row. start_of l.source.source l.fn.owner row l.column l.fn.member) (l.row + 1) l.count;
   within : IfSome l.falls (λ r. (1 ≤ r) × (r ≤ l.count));
 }
 
