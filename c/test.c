@@ -687,6 +687,45 @@ static void ask_long(void) {
     }
 }
 
+/* A canonical root is its own. It is written as a whole or not at all, and nothing is written past it. */
+static void ask_canonical(const clim_view *view) {
+    uint8_t digest[33], other[33];
+    memset(digest, 0xEE, sizeof digest);
+    memset(other, 0xEE, sizeof other);
+    size_t len = clim_canonical_root(view, digest, 0);
+    CHECK(len > 0 && len < CLIM_NO_MEMORY && digest[0] == 0xEE);
+    guarded root = guard(len), more = guard(len + 1);
+    memset(root.at, 0xEE, len);
+    memset(more.at, 0xEE, len + 1);
+    CHECK(clim_canonical_root(view, root.at, len - 1) == len && memcmp(root.at, more.at, len) == 0);
+    CHECK(clim_canonical_root(view, more.at, len + 1) == len && more.at[len] == 0xEE);
+    CHECK(clim_canonical_root(view, root.at, len) == len && memcmp(root.at, more.at, len) == 0);
+    CHECK(clim_digest(view, digest) == len && digest[32] == 0xEE);
+    clim_view again = CLOSED, closed = CLOSED;
+    clim_fault fault = CLIM_NO_FAULT;
+    CHECK(clim_open_root(root.at, len, &again, &fault));
+    CHECK(clim_canonical_root(&again, more.at, len) == len && memcmp(root.at, more.at, len) == 0);
+    CHECK(clim_digest(&closed, other) == 0 && other[0] == 0xEE && clim_digest(&again, other) == len);
+    CHECK(memcmp(digest, other, sizeof digest) == 0);
+    memset(more.at, 0xEE, len);
+    CHECK(clim_canonical_root(&closed, more.at, len) == 0 && more.at[0] == 0xEE && more.at[len - 1] == 0xEE);
+    munmap(root.pages, root.room);
+    munmap(more.pages, more.room);
+}
+
+/* Writes the canonical root to a file, as clim rewrite does, and prints its digest. */
+static void rewrite(const clim_view *view, const char *path) {
+    uint8_t digest[32] = {0};
+    size_t len = clim_digest(view, digest);
+    guarded root = guard(len);
+    FILE *out = fopen(path, "wb");
+    if (!out || clim_canonical_root(view, root.at, len) != len || fwrite(root.at, 1, len, out) != len || fclose(out))
+        stop("no canonical root");
+    for (size_t i = 0; i < sizeof digest; i++) printf("%02x", digest[i]);
+    puts("");
+    munmap(root.pages, root.room);
+}
+
 /* The header names the root of the view. */
 static void ask_header(guarded file, const clim_view *view) {
     clim_header header = CLIM_NO_HEADER;
@@ -757,6 +796,7 @@ static void calls(guarded file, clim_view *view, bool bare) {
     ask_long();
     ask_streams(view);
     ask_user_strings(view);
+    ask_canonical(view);
 }
 
 /* ---- what rules mean */
@@ -822,9 +862,9 @@ static void times(guarded file, bool bare) {
 }
 
 int main(int count, char **words) {
-    if (count < 3) stop("test show|vary|write|calls|times FILE ..");
+    if (count < 3) stop("test show|vary|write|rewrite|calls|times FILE ..");
     guarded file = read_file(words[2]);
-    bool bare = count > 3 && strcmp(words[3], "bare") == 0;
+    bool bare = strcmp(words[count - 1], "bare") == 0;
     if (strcmp(words[1], "vary") == 0) {
         with_each(file, answer, &bare);
     } else if (strcmp(words[1], "write") == 0 && count > 3) {
@@ -843,6 +883,8 @@ int main(int count, char **words) {
         }
         if (strcmp(words[1], "show") == 0) {
             show(&view);
+        } else if (strcmp(words[1], "rewrite") == 0 && count > 3) {
+            rewrite(&view, words[3]);
         } else {
             calls(file, &view, bare);
             printf("%u passed, %u failed\n", passed, failed);
