@@ -24,10 +24,11 @@
  * budget is spent. clim_canonical_root and clim_digest say if memory runs out. Any other call has no error: for a view
  * that is not open, and for a number that names nothing, it returns false, 0 or no bytes. A fault has no table, row or column, only the offset of what is wrong.
  *
- * Sizes: a clim_view has 5,208 bytes. No call needs memory but its stack, which was measured and is not proved: up to
- * 256 kB in the calls that check or open (90 kB, and more for types that are nested in a signature, at most 128 deep),
- * up to 192 kB in clim_signature_text, and up to 48 kB in any other call. So a thread needs CLIM_STACK bytes beside its
- * own. Any file overruns a stack of 64 kB, and a crafted file one of 128 kB.
+ * Sizes: a clim_view has 5,208 bytes. No other call needs memory but its stack, which was measured and is not proved:
+ * up to 256 kB in the calls that check or open (90 kB, and more for types that are nested in a signature, at most 128
+ * deep), up to 384 kB in clim_canonical_root and clim_digest (64 kB, and more for nested types), up to 192 kB in
+ * clim_signature_text, and up to 48 kB in any other call. So a thread needs CLIM_STACK bytes beside its own. Any file
+ * overruns a stack of 64 kB, and a crafted file one of 128 kB.
  *
  * A caller must ensure the following. Nothing checks it:
  *   - No pointer is null, even if the length after it is 0. Use "" then.
@@ -392,7 +393,7 @@ enum clim_generic_param_constraint_column {
 #define CLIM_ABI_VERSION 1
 
 /* The stack that a call needs at most, in bytes. */
-#define CLIM_STACK 262144
+#define CLIM_STACK 393216
 
 #define CLIM_NO_BYTES {(const uint8_t *)"", 0}
 #define CLIM_NO_FAULT {0, 0, 0}

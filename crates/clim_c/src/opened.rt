@@ -16,10 +16,10 @@ pub extern "C" fn clim_check(file: &[u8], fault: &mut ClimFault) -> bool
     ensures first_error { OnFalse result (FirstBroken (rules_of_file file.now) (fault_of fault.new)) }
     ensures same { OnTrue result (fault.new ≡ fault.old) }
 {
-    match open_image(file) {
-        Ok(_) => true,
-        Err(found) => fault.report(found),
+    if let Err(found) = open_image(file) {
+        return fault.report(found);
     }
+    true
 }
 
 /// Whether a metadata root meets all rules. Otherwise it writes the fault of the first rule that fails.
@@ -30,10 +30,10 @@ pub extern "C" fn clim_check_root(root: &[u8], fault: &mut ClimFault) -> bool
     ensures first_error { OnFalse result (FirstBroken (rules_of_metadata 0 root.now) (fault_of fault.new)) }
     ensures same { OnTrue result (fault.new ≡ fault.old) }
 {
-    match open_root(root) {
-        Ok(_) => true,
-        Err(found) => fault.report(found),
+    if let Err(found) = open_root(root) {
+        return fault.report(found);
     }
+    true
 }
 
 /// What a C caller keeps of an opened root.
@@ -98,7 +98,7 @@ pub extern "C" fn clim_open<'a>(
     ensures quiet { OnTrue result (fault.new ≡ fault.old) }
 {
     match open_image(file) {
-        Ok((_, opened)) => {
+        Ok((_header, opened)) => {
             *view = kept(&opened);
             true
         }
