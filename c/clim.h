@@ -18,12 +18,13 @@
  * A call on a view reads the directory of the root and the row counts again, but no heap. It takes about 3
  * microseconds, for a small file and for one of 5 MB alike; a crafted root of 200 kB with 16,000 stream headers makes
  * it 3 to 6 milliseconds. clim_find_type also scans a table, at 6 nanoseconds per type. In a call of clim_cells a
- * cell takes about 20 nanoseconds. So read whole columns if you need many cells.
- * clim_canonical_root and clim_digest take some 50 milliseconds for a file of 5 MB, and allocate some 12 MB then.
+ * cell takes about 20 nanoseconds. So read whole columns if you need many cells. clim_canonical_root and clim_digest
+ * take some 50 milliseconds for a file of 5 MB, and allocate some 12 MB then.
  *
  * Errors: clim_check, clim_open, clim_read_header and their variants return false and write a clim_fault, or say that a
  * budget is spent. clim_canonical_root and clim_digest say if memory runs out. Any other call has no error: for a view
- * that is not open, and for a number that names nothing, it returns false, 0 or no bytes. A fault has no table, row or column, only the offset of what is wrong.
+ * that is not open, and for a number that names nothing, it returns false, 0 or no bytes. A fault has no table, row or
+ * column, only the offset of what is wrong.
  *
  * Sizes: a clim_view has 5,208 bytes. No other call needs memory but its stack, which was measured and is not proved:
  * up to 256 kB in the calls that check or open (90 kB, and more for types that are nested in a signature, at most 128
