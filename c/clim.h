@@ -565,14 +565,14 @@ size_t clim_rows_by_key(const clim_view *view, uint8_t table, uint8_t key_table,
  * rewrite writes: a root with the same metadata and nothing else, each text and blob once, in an order that depends on
  * the metadata alone. So two files have the same canonical root if and only if they have the same metadata.
  *
- * Each call makes the root anew, so ask with a room that usually suffices, such as view->root.len. Returns 0 if the view
- * is not open, CLIM_TOO_LONG for a root of more than 2^30 bytes, and CLIM_NO_MEMORY if memory runs out; the buffer is
- * then unchanged. Reads *view and the root. Allocates. */
+ * Each call makes the root anew, so ask with a room that usually suffices, such as view->root.len. Returns 0 if the
+ * view is not open, CLIM_TOO_LONG for a root of more than 2^30 bytes, and CLIM_NO_MEMORY if memory runs out; the buffer
+ * is then unchanged. Reads *view and the root. Allocates. */
 size_t clim_canonical_root(const clim_view *view, uint8_t *buffer, size_t room);
 
-/* Writes the SHA-256 of the canonical root into digest[0] to digest[31], and returns the length of that root. Files with
- * the same metadata have the same digest. Returns 0, CLIM_TOO_LONG or CLIM_NO_MEMORY as clim_canonical_root does; the
- * digest is then unchanged. Reads *view and the root. Allocates. */
+/* Writes the SHA-256 of the canonical root into digest[0] to digest[31], and returns the length of that root. Files
+ * with the same metadata have the same digest. Returns 0, CLIM_TOO_LONG or CLIM_NO_MEMORY as clim_canonical_root does;
+ * the digest is then unchanged. Reads *view and the root. Allocates. */
 size_t clim_digest(const clim_view *view, uint8_t *digest);
 
 #ifdef __cplusplus

@@ -690,8 +690,8 @@ static void ask_long(void) {
     }
 }
 
-/* The number of blocks that can be allocated before memory runs out, or -1 for any number. c/run links this program such
- * that malloc and realloc, also those of the library, are these. */
+/* The number of blocks that can be allocated before memory runs out, or -1 for any number. c/run links this program
+ * such that malloc and realloc, also those of the library, are these. */
 static long blocks_left = -1;
 void *__real_malloc(size_t len);
 void *__real_realloc(void *at, size_t len);
