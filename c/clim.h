@@ -9,22 +9,28 @@
  *                 printf("%.*s\n", (int)cell.bytes.len, (const char *)cell.bytes.at);
  *
  * Each function is proved for any bytes and any numbers. It returns, it writes only what is stated below, and its
- * result is what its contract in crates/clim_c says. No function allocates or keeps state between calls, so threads
- * may call them at the same time. Rows count from 1. Columns, which are the cells of a row, count from 0.
+ * result is what its contract in crates/clim_c says. No function keeps state between calls, so threads may call them at
+ * the same time. Rows count from 1. Columns, which are the cells of a row, count from 0.
+ *
+ * Memory: only clim_canonical_root and clim_digest allocate. They call malloc, realloc and free, and free all of it
+ * before they return. So neither is called in a signal handler, or after fork in a process with threads.
  *
  * A call on a view reads the directory of the root and the row counts again, but no heap. It takes about 3
  * microseconds, for a small file and for one of 5 MB alike; a crafted root of 200 kB with 16,000 stream headers makes
  * it 3 to 6 milliseconds. clim_find_type also scans a table, at 6 nanoseconds per type. In a call of clim_cells a
- * cell takes about 20 nanoseconds. So read whole columns if you need many cells.
+ * cell takes about 20 nanoseconds. So read whole columns if you need many cells. clim_canonical_root and clim_digest
+ * take some 50 milliseconds for a file of 5 MB, and allocate some 12 MB then.
  *
  * Errors: clim_check, clim_open, clim_read_header and their variants return false and write a clim_fault, or say that a
- * budget is spent. Any other call has no error: for a view that is not open, and for a number that names nothing, it
- * returns false, 0 or no bytes. A fault has no table, row or column, only the offset of what is wrong.
+ * budget is spent. clim_canonical_root and clim_digest say if memory runs out. Any other call has no error: for a view
+ * that is not open, and for a number that names nothing, it returns false, 0 or no bytes. A fault has no table, row or
+ * column, only the offset of what is wrong.
  *
- * Sizes: a clim_view has 5,208 bytes. No call needs memory but its stack, which was measured and is not proved: up to
- * 256 kB in the calls that check or open (90 kB, and more for types that are nested in a signature, at most 128 deep),
- * up to 192 kB in clim_signature_text, and up to 48 kB in any other call. So a thread needs CLIM_STACK bytes beside its
- * own. Any file overruns a stack of 64 kB, and a crafted file one of 128 kB.
+ * Sizes: a clim_view has 5,208 bytes. No other call needs memory but its stack, which was measured and is not proved:
+ * up to 256 kB in the calls that check or open (90 kB, and more for types that are nested in a signature, at most 128
+ * deep), up to 384 kB in clim_canonical_root and clim_digest (64 kB, and more for nested types), up to 192 kB in
+ * clim_signature_text, and up to 48 kB in any other call. So a thread needs CLIM_STACK bytes beside its own. Any file
+ * overruns a stack of 64 kB, and a crafted file one of 128 kB.
  *
  * A caller must ensure the following. Nothing checks it:
  *   - No pointer is null, even if the length after it is 0. Use "" then.
@@ -389,7 +395,7 @@ enum clim_generic_param_constraint_column {
 #define CLIM_ABI_VERSION 1
 
 /* The stack that a call needs at most, in bytes. */
-#define CLIM_STACK 262144
+#define CLIM_STACK 393216
 
 #define CLIM_NO_BYTES {(const uint8_t *)"", 0}
 #define CLIM_NO_FAULT {0, 0, 0}
@@ -514,7 +520,8 @@ bool clim_cell_at(const clim_view *view, uint8_t table, uint32_t row, size_t col
  * Reads *view and the root. Much faster than a call of clim_cell_at for each cell. */
 size_t clim_cells(const clim_view *view, uint8_t table, uint32_t first, size_t column, clim_cell *cells, size_t room);
 
-/* What clim_signature_text returns for a text of more than 65,536 bytes. */
+/* What clim_signature_text returns for a text of more than 65,536 bytes, and clim_canonical_root and clim_digest for a
+ * root of more than 2^30 bytes. */
 #define CLIM_TOO_LONG SIZE_MAX
 
 /* Writes a signature in the notation of ILAsm (II.7.1, II.15.3), such as "method instance string *(int32, class
@@ -523,7 +530,7 @@ size_t clim_cells(const clim_view *view, uint8_t table, uint32_t first, size_t c
  * the length of the whole text, which can be more than room: so ask with room 0 for the length. No NUL follows the
  * text. Returns 0 if the view is not open, or has no such table, row or column, or the column has no signatures; the
  * buffer is then unchanged. Returns CLIM_TOO_LONG for a text of more than 65,536 bytes, which a crafted file can ask
- * for; the buffer then has the first bytes of it. Reads *view and the root. */
+ * for; the buffer then has the first 65,536 bytes of it, or as many as fit. Reads *view and the root. */
 size_t clim_signature_text(const clim_view *view, uint8_t table, uint32_t row, size_t column, uint8_t *buffer,
                            size_t room);
 
@@ -549,6 +556,24 @@ uint32_t clim_find_type(const clim_view *view, const uint8_t *name_space, size_t
  */
 size_t clim_rows_by_key(const clim_view *view, uint8_t table, uint8_t key_table, uint32_t key_row, uint32_t *rows,
                         size_t room);
+
+/* What clim_canonical_root and clim_digest return if memory runs out. */
+#define CLIM_NO_MEMORY (SIZE_MAX - 1)
+
+/* Writes the canonical root of the view (II.24.2) into buffer[0] to buffer[room - 1], if there is room for all of it;
+ * otherwise the buffer is unchanged. Returns the length of the root, which can be more than room. It is what clim
+ * rewrite writes: a root with the same metadata and nothing else, each text and blob once, in an order that depends on
+ * the metadata alone. So two files have the same canonical root if and only if they have the same metadata.
+ *
+ * Each call makes the root anew, so ask with a room that usually suffices, such as view->root.len. Returns 0 if the
+ * view is not open, CLIM_TOO_LONG for a root of more than 2^30 bytes, and CLIM_NO_MEMORY if memory runs out; the buffer
+ * is then unchanged. Reads *view and the root. Allocates. */
+size_t clim_canonical_root(const clim_view *view, uint8_t *buffer, size_t room);
+
+/* Writes the SHA-256 of the canonical root into digest[0] to digest[31], and returns the length of that root. Files
+ * with the same metadata have the same digest. Returns 0, CLIM_TOO_LONG or CLIM_NO_MEMORY as clim_canonical_root does;
+ * the digest is then unchanged. Reads *view and the root. Allocates. */
+size_t clim_digest(const clim_view *view, uint8_t *digest);
 
 #ifdef __cplusplus
 }

@@ -624,6 +624,9 @@ static void open_deep(void) {
     deep_same &= clim_open_root_within(deep.at, deep.len, deep.len, &view, &fault, &spent) && !spent;
     size_t len = clim_signature_text(&view, CLIM_TYPE_SPEC, 1, CLIM_TYPE_SPEC_SIGNATURE, text, sizeof text);
     deep_same &= len > 127 && len <= sizeof text;
+    uint8_t digest[32] = {0};
+    len = clim_canonical_root(&view, text, sizeof text);
+    deep_same &= len > 0 && len <= sizeof text && clim_digest(&view, digest) == len;
 }
 
 /* A call on a stack of this many bytes; the page before them may not be written. */
@@ -685,6 +688,93 @@ static void ask_long(void) {
         munmap(root.pages, root.room);
         munmap(part.pages, part.room);
     }
+}
+
+/* The number of blocks that can be allocated before memory runs out, or -1 for any number. c/run links this program
+ * such that malloc and realloc, also those of the library, are these. */
+static long blocks_left = -1;
+void *__real_malloc(size_t len);
+void *__real_realloc(void *at, size_t len);
+void *__wrap_malloc(size_t len);
+void *__wrap_realloc(void *at, size_t len);
+
+static bool has_block(void) {
+    if (blocks_left > 0) blocks_left--;
+    return blocks_left != 0;
+}
+
+void *__wrap_malloc(size_t len) {
+    return has_block() ? __real_malloc(len) : NULL;
+}
+
+void *__wrap_realloc(void *at, size_t len) {
+    return has_block() ? __real_realloc(at, len) : NULL;
+}
+
+/* Memory runs out at each block in turn: nothing is written then, and the view stays as it is. */
+static void ask_no_memory(const clim_view *view, size_t len) {
+    guarded root = guard(len), same = guard(len);
+    uint8_t digest[32], other[32];
+    long blocks = 1;
+    bool as_stated = true;
+    for (size_t made = CLIM_NO_MEMORY; made == CLIM_NO_MEMORY; blocks++) {
+        memset(root.at, 0xEE, len);
+        memset(same.at, 0xEE, len);
+        memset(digest, 0xEE, sizeof digest);
+        memset(other, 0xEE, sizeof other);
+        blocks_left = blocks;
+        made = clim_canonical_root(view, root.at, len);
+        blocks_left = blocks;
+        size_t hashed = clim_digest(view, digest);
+        blocks_left = -1;
+        as_stated &= made == hashed && (made == len || made == CLIM_NO_MEMORY);
+        if (made == CLIM_NO_MEMORY) as_stated &= memcmp(root.at, same.at, len) == 0 && memcmp(digest, other, 32) == 0;
+    }
+    CHECK(as_stated && blocks > 2);
+    CHECK(clim_canonical_root(view, same.at, len) == len && memcmp(root.at, same.at, len) == 0);
+    munmap(root.pages, root.room);
+    munmap(same.pages, same.room);
+}
+
+/* A canonical root is its own. It is written as a whole or not at all, and nothing is written past it. */
+static void ask_canonical(const clim_view *view) {
+    uint8_t digest[33], other[33];
+    memset(digest, 0xEE, sizeof digest);
+    memset(other, 0xEE, sizeof other);
+    size_t len = clim_canonical_root(view, digest, 0);
+    CHECK(len > 0 && len < CLIM_NO_MEMORY && digest[0] == 0xEE);
+    guarded root = guard(len), more = guard(len + 1);
+    memset(root.at, 0xEE, len);
+    memset(more.at, 0xEE, len + 1);
+    CHECK(clim_canonical_root(view, root.at, len - 1) == len && memcmp(root.at, more.at, len) == 0);
+    CHECK(clim_canonical_root(view, more.at, len + 1) == len && more.at[len] == 0xEE);
+    CHECK(clim_canonical_root(view, root.at, len) == len && memcmp(root.at, more.at, len) == 0);
+    CHECK(clim_digest(view, digest) == len && digest[32] == 0xEE);
+    clim_view again = CLOSED, closed = CLOSED;
+    clim_fault fault = CLIM_NO_FAULT;
+    CHECK(clim_open_root(root.at, len, &again, &fault));
+    CHECK(clim_canonical_root(&again, more.at, len) == len && memcmp(root.at, more.at, len) == 0);
+    CHECK(clim_digest(&closed, other) == 0 && other[0] == 0xEE && clim_digest(&again, other) == len);
+    CHECK(memcmp(digest, other, sizeof digest) == 0);
+    memset(more.at, 0xEE, len);
+    CHECK(clim_canonical_root(&closed, more.at, len) == 0 && more.at[0] == 0xEE && more.at[len - 1] == 0xEE);
+    munmap(root.pages, root.room);
+    munmap(more.pages, more.room);
+    /* Of a large file there are too many blocks. */
+    if (len < 1 << 14) ask_no_memory(view, len);
+}
+
+/* Writes the canonical root to a file, as clim rewrite does, and prints its digest. */
+static void rewrite(const clim_view *view, const char *path) {
+    uint8_t digest[32] = {0};
+    size_t len = clim_digest(view, digest);
+    guarded root = guard(len);
+    FILE *out = fopen(path, "wb");
+    if (!out || clim_canonical_root(view, root.at, len) != len || fwrite(root.at, 1, len, out) != len || fclose(out))
+        stop("no canonical root");
+    for (size_t i = 0; i < sizeof digest; i++) printf("%02x", digest[i]);
+    puts("");
+    munmap(root.pages, root.room);
 }
 
 /* The header names the root of the view. */
@@ -757,6 +847,7 @@ static void calls(guarded file, clim_view *view, bool bare) {
     ask_long();
     ask_streams(view);
     ask_user_strings(view);
+    ask_canonical(view);
 }
 
 /* ---- what rules mean */
@@ -822,9 +913,9 @@ static void times(guarded file, bool bare) {
 }
 
 int main(int count, char **words) {
-    if (count < 3) stop("test show|vary|write|calls|times FILE ..");
+    if (count < 3) stop("test show|vary|write|rewrite|calls|times FILE ..");
     guarded file = read_file(words[2]);
-    bool bare = count > 3 && strcmp(words[3], "bare") == 0;
+    bool bare = strcmp(words[count - 1], "bare") == 0;
     if (strcmp(words[1], "vary") == 0) {
         with_each(file, answer, &bare);
     } else if (strcmp(words[1], "write") == 0 && count > 3) {
@@ -843,6 +934,8 @@ int main(int count, char **words) {
         }
         if (strcmp(words[1], "show") == 0) {
             show(&view);
+        } else if (strcmp(words[1], "rewrite") == 0 && count > 3) {
+            rewrite(&view, words[3]);
         } else {
             calls(file, &view, bare);
             printf("%u passed, %u failed\n", passed, failed);

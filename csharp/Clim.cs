@@ -369,12 +369,20 @@ namespace Clim
             Memory view, uint token, [In, Out] ushort[] units, UIntPtr room, ref UIntPtr count, ref ushort flag);
 
         [DllImport(Library)]
+        public static extern UIntPtr clim_canonical_root(Memory view, [In, Out] byte[] buffer, UIntPtr room);
+
+        [DllImport(Library)]
+        public static extern UIntPtr clim_digest(Memory view, [In, Out] byte[] digest);
+
+        [DllImport(Library)]
         static extern uint clim_abi_version();
 
         // The interface that this file calls, CLIM_ABI_VERSION of clim.h.
         const uint Version = 1;
         // The length that most texts have at most.
         public const int Usual = 256;
+        // The number of bytes of a digest.
+        public const int DigestLength = 32;
 
         static readonly Lazy<uint> version = new Lazy<uint>(ReadVersion);
 
@@ -416,6 +424,18 @@ namespace Clim
                     return null;
                 buffer = new byte[length];
             }
+        }
+
+        /// <summary>The length of a canonical root, as a call returned it.</summary>
+        public static int RootLength(Func<UIntPtr> call)
+        {
+            ulong length = (ulong)Newer(call);
+            // CLIM_TOO_LONG and CLIM_NO_MEMORY.
+            if (length == ulong.MaxValue)
+                throw new OverflowException("the canonical root has more than 2^30 bytes");
+            if (length == ulong.MaxValue - 1)
+                throw new OutOfMemoryException();
+            return (int)length;
         }
 
         /// <summary>Makes a call of a function that an older library lacks.</summary>
@@ -835,6 +855,37 @@ namespace Clim
                     return new string(Array.ConvertAll(units, unit => (char)unit), 0, (int)count);
                 units = new ushort[(ulong)count];
             }
+        }
+
+        /// <summary>
+        /// The canonical root, which <c>clim rewrite</c> writes (II.24.2). Two files have the same canonical root if and
+        /// only if they have the same metadata.
+        /// </summary>
+        /// <exception cref="OverflowException">It would have more than 2^30 bytes.</exception>
+        /// <exception cref="OutOfMemoryException">Memory ran out.</exception>
+        /// <exception cref="NotSupportedException">The library is older than this file.</exception>
+        public byte[] CanonicalRoot()
+        {
+            for (var root = new byte[memory.Length]; ;)
+            {
+                int length = Native.RootLength(() => Native.clim_canonical_root(memory, root, (UIntPtr)root.Length));
+                bool fits = length <= root.Length;
+                if (length != root.Length)
+                    Array.Resize(ref root, length);
+                if (fits)
+                    return root;
+            }
+        }
+
+        /// <summary>The SHA-256 of the canonical root.</summary>
+        /// <exception cref="OverflowException">The root would have more than 2^30 bytes.</exception>
+        /// <exception cref="OutOfMemoryException">Memory ran out.</exception>
+        /// <exception cref="NotSupportedException">The library is older than this file.</exception>
+        public byte[] Digest()
+        {
+            var digest = new byte[Native.DigestLength];
+            Native.RootLength(() => Native.clim_digest(memory, digest));
+            return digest;
         }
 
         /// <summary>

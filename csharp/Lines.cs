@@ -3,6 +3,8 @@
 //     Lines.exe show FILE [bare]      prints the tables as clim show does, each signature as its blob
 //     Lines.exe vary FILE [bare]      prints what clim check prints for each prefix of the file, and for the file with
 //                                     one byte set to 00 or FF, one line each
+//     Lines.exe rewrite FILE OUT [bare]
+//                                     writes the canonical root to OUT, as clim rewrite does, and prints its digest
 
 using System;
 using System.Collections.Generic;
@@ -68,7 +70,7 @@ static class Lines
         if (value is string)
             return Escaped((string)value);
         if (value is byte[])
-            return "<" + BitConverter.ToString((byte[])value).Replace("-", "").ToLowerInvariant() + ">";
+            return "<" + Hex((byte[])value) + ">";
         if (value is Guid)
             return "{" + value + "}";
         return value is int ? "+" + value : value.ToString();
@@ -98,12 +100,23 @@ static class Lines
             show.MakeGenericMethod(Type.GetType("Clim." + table + "Row")).Invoke(null, new object[] { assembly });
     }
 
+    static string Hex(byte[] bytes)
+    {
+        return BitConverter.ToString(bytes).Replace("-", "").ToLowerInvariant();
+    }
+
+    static void Rewrite(Assembly assembly, string path)
+    {
+        File.WriteAllBytes(path, assembly.CanonicalRoot());
+        Console.WriteLine(Hex(assembly.Digest()));
+    }
+
     static int Main(string[] arguments)
     {
         if (arguments.Length < 2)
             return 2;
         var data = File.ReadAllBytes(arguments[1]);
-        bool bare = arguments.Length > 2 && arguments[2] == "bare";
+        bool bare = arguments.Last() == "bare";
         var output = new StreamWriter(Console.OpenStandardOutput(), new UTF8Encoding(false), 1 << 16);
         Console.SetOut(output);
         if (arguments[0] == "vary")
@@ -111,7 +124,10 @@ static class Lines
                 Console.WriteLine(Answer(input, bare));
         else
             using (var assembly = Open(data, bare))
-                Show(assembly);
+                if (arguments[0] == "rewrite")
+                    Rewrite(assembly, arguments[2]);
+                else
+                    Show(assembly);
         output.Flush();
         return 0;
     }

@@ -137,6 +137,17 @@ static class Tests
             });
             Check(assembly.SignatureText(new Token(TableId.TypeDef, 1)) == null, "types have no signatures");
             Newer("clim_user_string", () => Check(assembly.UserString(0x70000001) == null, "no user strings"));
+            Newer("clim_canonical_root", () =>
+            {
+                var canonical = assembly.CanonicalRoot();
+                using (var again = Assembly.OpenRoot(canonical))
+                    Check(again.CanonicalRoot().SequenceEqual(canonical), "a canonical root is its own");
+            });
+            Newer("clim_digest", () =>
+            {
+                using (var hash = System.Security.Cryptography.SHA256.Create())
+                    Check(assembly.Digest().SequenceEqual(hash.ComputeHash(assembly.CanonicalRoot())), "a digest");
+            });
         }
     }
 

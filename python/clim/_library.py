@@ -104,8 +104,10 @@ NUMBER, TEXT, BLOB, NULL_GUID, GUID, NULL_ROW, ROW, START, SIGNATURE = range(1, 
 
 _EMPTY = ctypes.create_string_buffer(1)
 EMPTY_AT = ctypes.addressof(_EMPTY)
-#: `CLIM_TOO_LONG`: the length of a text that is longer than any that is written.
+#: `CLIM_TOO_LONG`: the length of a text, or of a root, that is longer than any that is written.
 TOO_LONG = c_size_t(-1).value
+#: `CLIM_NO_MEMORY`.
+NO_MEMORY = TOO_LONG - 1
 # The length that the texts of most signatures and user strings have at most.
 _USUAL = 256
 #: `CLIM_NO_CELL`.
@@ -146,6 +148,8 @@ _NEWER: dict[str, tuple[Any, ...]] = {
     "clim_stream_count": (c_size_t, _VIEW),
     "clim_stream": (c_bool, _VIEW, c_size_t, POINTER(StreamStruct)),
     "clim_signature_text": (c_size_t, _VIEW, c_uint8, c_uint32, c_size_t, c_void_p, c_size_t),
+    "clim_canonical_root": (c_size_t, _VIEW, c_void_p, c_size_t),
+    "clim_digest": (c_size_t, _VIEW, c_void_p),
     "clim_user_string": (c_bool, _VIEW, c_uint32, c_void_p, c_size_t, POINTER(c_size_t), POINTER(c_uint16)),
 }
 
@@ -232,6 +236,15 @@ def written_text(call: Callable[..., int], *arguments: Any) -> Optional[str]:
         if length == TOO_LONG:
             return None
         room = length
+
+
+def canonical_length(length: int) -> int:
+    """The length of a canonical root, as a call returned it; or raises what the call says."""
+    if length == TOO_LONG:
+        raise OverflowError("the canonical root has more than 2**30 bytes")
+    if length == NO_MEMORY:
+        raise MemoryError
+    return length
 
 
 def written_units(view: Any, token: int) -> Optional[bytes]:

@@ -319,6 +319,30 @@ class Assembly:
             raise KeyError(token)
         return units.decode(f"utf-16-{sys.byteorder[0]}e", "surrogatepass")
 
+    def canonical_root(self) -> bytes:
+        """The canonical root, which `clim rewrite` writes (II.24.2).
+
+        Two files have the same canonical root if and only if they have the same metadata.
+
+        Raises:
+            OverflowError: It would have more than 2**30 bytes.
+            MemoryError: Memory ran out.
+            Unsupported: The library is older than this package.
+        """
+        view, room = self._view(), int(self._struct.root.len)
+        while True:
+            root = ctypes.create_string_buffer(room)
+            length = _c.canonical_length(library.clim_canonical_root(view, root, room))
+            if length <= room:
+                return ctypes.string_at(root, length)
+            room = length
+
+    def digest(self) -> bytes:
+        """The SHA-256 of the canonical root, 32 bytes. It raises what `canonical_root` raises."""
+        digest = ctypes.create_string_buffer(32)
+        _c.canonical_length(library.clim_digest(self._view(), digest))
+        return digest.raw
+
     def to_dict(self) -> Dict[str, Any]:
         """The version and the rows of all tables, as values that `json.dumps` takes."""
         return {"version": self.version, "tables": {table.name: table.to_dict() for table in self}}

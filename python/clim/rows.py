@@ -51,10 +51,12 @@ class Cell(Generic[T]):
     def __get__(self, row: Optional[Row], owner: Any = None) -> Union[Cell[T], T]:
         if row is None:
             return self
+        value: T
         try:
-            return row.table._columns_read[self.name][row.number - 1]
+            value = row.table._columns_read[self.name][row.number - 1]
         except KeyError:
-            return row.table.column(self.name)[row.number - 1]
+            value = row.table.column(self.name)[row.number - 1]
+        return value
 
     def __set__(self, row: Row, value: Any) -> None:
         raise AttributeError(f"{self.name} of {row!r} cannot be changed")
@@ -249,12 +251,14 @@ class TypeDef(_NamedType, table=0x02):
     @property
     def events(self) -> List[Event]:
         """The events of the type."""
-        return self._mapped("EventMap")
+        events: List[Event] = self._mapped("EventMap")
+        return events
 
     @property
     def properties(self) -> List[Property]:
         """The properties of the type."""
-        return self._mapped("PropertyMap")
+        properties: List[Property] = self._mapped("PropertyMap")
+        return properties
 
     @property
     def interfaces(self) -> List[Any]:
@@ -281,7 +285,8 @@ class TypeDef(_NamedType, table=0x02):
     @property
     def layout(self) -> Optional[ClassLayout]:
         """The row of ClassLayout of the type, or `None` (II.22.8)."""
-        return self._one("ClassLayout")
+        layout: Optional[ClassLayout] = self._one("ClassLayout")
+        return layout
 
     def _mapped(self, table: str) -> Any:
         owners = self.assembly._grouped(table, "Parent").get(self.token)
@@ -307,7 +312,8 @@ class Field(_Named, table=0x04):
     @property
     def constant(self) -> Optional[Constant]:
         """The row of Constant of the field, or `None` (II.22.9)."""
-        return self._one("Constant")
+        constant: Optional[Constant] = self._one("Constant")
+        return constant
 
 
 class MethodDef(_Named, table=0x06):
@@ -342,7 +348,8 @@ class MethodDef(_Named, table=0x06):
     @property
     def import_map(self) -> Optional[ImplMap]:
         """The row of ImplMap of the method, or `None` (II.22.22)."""
-        return self._one("ImplMap")
+        import_map: Optional[ImplMap] = self._one("ImplMap")
+        return import_map
 
 
 class Param(_Named, table=0x08):
@@ -361,7 +368,8 @@ class Param(_Named, table=0x08):
     @property
     def constant(self) -> Optional[Constant]:
         """The row of Constant of the parameter, or `None` (II.22.9)."""
-        return self._one("Constant")
+        constant: Optional[Constant] = self._one("Constant")
+        return constant
 
 
 class InterfaceImpl(Row, table=0x09):
@@ -548,7 +556,8 @@ class MethodSemantics(Row, table=0x18):
     @property
     def method(self) -> MethodDef:
         """The row of the cell `Method`."""
-        return self._row(self.Method)
+        method: MethodDef = self._row(self.Method)
+        return method
 
 
 class MethodImpl(Row, table=0x19):
@@ -591,7 +600,8 @@ class ImplMap(Row, table=0x1C):
     @property
     def module(self) -> ModuleRef:
         """The row of the cell `ImportScope`."""
-        return self._row(self.ImportScope)
+        module: ModuleRef = self._row(self.ImportScope)
+        return module
 
 
 class FieldRVA(Row, table=0x1D):

@@ -3,6 +3,8 @@
     lines.py show FILE [bare]      prints the tables as clim show does, each signature as its blob
     lines.py vary FILE [bare]      prints what clim check prints for each prefix of the file, and for the file with one
                                    byte set to 00 or FF, one line each
+    lines.py rewrite FILE OUT [bare]
+                                   writes the canonical root to OUT, as clim rewrite does, and prints its digest
     lines.py times FILE [bare]     prints how long calls take
 """
 
@@ -56,6 +58,12 @@ def show(assembly):
             print(f"{row.number}:", *map(shown, row.cells().values()))
 
 
+def rewrite(assembly, path):
+    with open(path, "wb") as out:
+        out.write(assembly.canonical_root())
+    print(assembly.digest().hex())
+
+
 def times(data, bare):
     def measure(name, call):
         begun = time.perf_counter()
@@ -71,11 +79,13 @@ def times(data, bare):
 def main():
     if len(sys.argv) < 3:
         sys.exit(__doc__)
-    bare = sys.argv[3:] == ["bare"]
+    bare = sys.argv[-1] == "bare"
     with open(sys.argv[2], "rb") as file:
         data = file.read()
     if sys.argv[1] == "show":
         show(clim.open(data, bare))
+    elif sys.argv[1] == "rewrite":
+        rewrite(clim.open(data, bare), sys.argv[3])
     else:
         {"vary": vary, "times": times}[sys.argv[1]](data, bare)
 

@@ -5,6 +5,7 @@
 
 import copy
 import doctest
+import hashlib
 import json
 import mmap
 import os
@@ -461,6 +462,25 @@ class Features(unittest.TestCase):
                     for cell in row.cells().values():
                         if isinstance(cell, clim.Signature) and clim.supports("clim_signature_text"):
                             self.assertNotEqual(cell.text, "", (path, row))
+
+    def test_canonical_root(self):
+        for path, assembly in opened():
+            if self.lacks("clim_canonical_root", assembly.canonical_root):
+                self.assertTrue(self.lacks("clim_digest", assembly.digest))
+                continue
+            root, digest = assembly.canonical_root(), assembly.digest()
+            self.assertEqual(digest, hashlib.sha256(root).digest(), path)
+            with clim.open(root, bare=True) as again:
+                self.assertEqual((again.canonical_root(), again.digest()), (root, digest), path)
+                self.assertEqual(again.types.column("TypeName"), assembly.types.column("TypeName"), path)
+                self.assertEqual(again.version, assembly.version)
+        self.assertRaises(ValueError, assembly.canonical_root)
+        self.assertRaises(ValueError, assembly.digest)
+
+    def test_lengths_of_a_canonical_root(self):
+        self.assertEqual(_library.canonical_length(1 << 30), 1 << 30)
+        self.assertRaises(OverflowError, _library.canonical_length, _library.TOO_LONG)
+        self.assertRaises(MemoryError, _library.canonical_length, _library.NO_MEMORY)
 
     def test_user_string(self):
         with clim.open(self.with_user_strings(), bare=True) as assembly:

@@ -19,6 +19,8 @@ const NEWER: &[&str] = &[
     "clim_explain",
     "clim_signature_text",
     "clim_user_string",
+    "clim_canonical_root",
+    "clim_digest",
 ];
 
 /// The folder of the library by pkg-config, or why there is none.

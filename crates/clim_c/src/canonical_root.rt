@@ -1,12 +1,9 @@
 ghost use Rattle.std.specs.Prelude.{◌≡◌, ◌⊎◌, ◌^◌, ◌<◌, ◌≤◌, IfOk, IfErr, OnOk, true, length};
-ghost use Rattle.sha2.specs.Sha256.{sha256};
-ghost use Rattle.metadata.specs.Metadata.{Metadata};
-ghost use Rattle.metadata.specs.Model.{IsModel};
-ghost use Rattle.canonical.specs.Canonical.{canonical};
 ghost use Rattle.clim_c.specs.CanonicalRoots.{HasWhole, IsNoRoot};
+ghost use Rattle.clim_c.specs.Words.{IsModel, Metadata, canonical, sha256};
 
 use crate::opened::seen;
-use crate::text_parts::copy_at;
+use crate::text_parts::{TOO_LONG, copy_at};
 use crate::view::ClimView;
 use root_plan::{Prepared, WriteError};
 use sha2::{Digest, Sha256};
@@ -16,10 +13,7 @@ use writer::prepare;
 /// The largest length of a root in bytes.
 const ROOT_LIMIT: u32 = 1 << 30;
 
-/// What is returned for a longer root.
-const TOO_LONG: usize = usize::MAX;
-
-/// What is returned if memory runs out.
+/// `CLIM_NO_MEMORY`: what is returned if memory runs out.
 const NO_MEMORY: usize = usize::MAX - 1;
 
 /// The canonical root of a view, or the number that says why there is none.
@@ -40,7 +34,6 @@ fn canonical_root(alloc: Global, view: &ClimView) -> Result<Prepared, usize>
 }
 
 /// Writes the canonical root of a view into a buffer, if there is room for all of it, and returns its length (II.24.2).
-///
 /// Otherwise the buffer is unchanged. Returns 0 if the view is not open, `CLIM_TOO_LONG` if the root would have more than
 /// 2^30 bytes, and `CLIM_NO_MEMORY` if memory runs out.
 #[unsafe(no_mangle)]
@@ -62,7 +55,6 @@ pub extern "C" fn clim_canonical_root(alloc: Global, view: &ClimView, buffer: &m
 }
 
 /// Writes the SHA-256 of the canonical root of a view, and returns the length of that root (FIPS 180-4).
-///
 /// If there is no root, `digest` is unchanged, and the result is that of [`clim_canonical_root`].
 #[unsafe(no_mangle)]
 pub extern "C" fn clim_digest(alloc: Global, view: &ClimView, digest: &mut [u8; 32]) -> usize

@@ -1,9 +1,7 @@
 ghost use Rattle.std.specs.Prelude.{◌≡◌, ◌≢◌, ◌++◌, length};
-ghost use Rattle.packed.specs.Codes.{number_of_code, name_of};
-ghost use Rattle.packed.specs.declared.code.FaultCode.{FaultCode as RuleCode};
-ghost use Rattle.cli_faults.specs.declared.explained.Explanation.{Explanation as Explained};
 ghost use Rattle.clim_c.specs.Explained.{explanation_text, item_text, spaced, three_digits};
 ghost use Rattle.clim_c.specs.Texts.{counted, with_text};
+ghost use Rattle.clim_c.specs.Words.{Explained, RuleCode, name_of, number_of_code};
 
 use crate::text_parts::write_parts;
 use cli_faults::{Explanation, code_of_number, explain};

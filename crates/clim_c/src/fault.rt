@@ -1,5 +1,3 @@
-ghost use Rattle.std.specs.Prelude.{◌≡◌};
-
 use opening::Fault;
 
 /// The first rule that some bytes break, and where.
@@ -15,16 +13,17 @@ pub struct ClimFault {
 }
 
 impl ClimFault {
+    ghost use Rattle.std.specs.Prelude.{◌≡◌, false};
     ghost use Rattle.clim_c.specs.Faults.{fault_of};
 
-    /// The fault as a C caller receives it.
-    pub(crate) fn of(fault: Fault) -> ClimFault
-        ensures { fault_of result ≡ fault }
+    /// Writes a fault for a C caller, and returns `false`.
+    pub(crate) fn report(&mut self, found: Fault) -> bool
+        ensures written { fault_of self.new ≡ found }
+        ensures unmet { result ≡ false }
     {
-        ClimFault {
-            offset: fault.offset,
-            code: fault.code,
-            layer: fault.layer,
-        }
+        self.offset = found.offset;
+        self.code = found.code;
+        self.layer = found.layer;
+        false
     }
 }

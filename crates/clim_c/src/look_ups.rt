@@ -1,15 +1,6 @@
 ghost use Rattle.std.specs.Prelude.{◌≡◌, ◌≤◌, ◌<◌, ℕ, true, false, IsSome, IfSome, IfNone, length, take};
-ghost use Rattle.std.specs.Bool.{OnTrue, OnFalse};
-ghost use Rattle.std.specs.List.{SameFrom};
-ghost use Rattle.table_schema.specs.declared.table.TableId.{TableId as Table};
-ghost use Rattle.table_schema.specs.declared.table.TableId.TheVariants.{TypeDef};
-ghost use Rattle.table_schema.specs.Tables.{table_number};
-ghost use Rattle.table_schema.specs.Columns.{key_of};
-ghost use Rattle.metadata.specs.Metadata.{Metadata};
-ghost use Rattle.metadata.specs.Model.{IsModel};
-ghost use Rattle.metadata.specs.Lookups.{IsFirstType, HasRow, HasNames};
-ghost use Rattle.opening.specs.Views.{row_count};
 ghost use Rattle.clim_c.specs.LookUps.{AreFirstByKey, IsOwned, Owns};
+ghost use Rattle.clim_c.specs.Words.{HasNames, HasRow, IsFirstType, IsModel, Metadata, OnFalse, OnTrue, SameFrom, Table, TypeDef, key_of, row_count, table_number};
 
 use crate::opened::seen;
 use crate::view::ClimView;

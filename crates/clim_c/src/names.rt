@@ -1,9 +1,5 @@
 ghost use Rattle.std.specs.Prelude.{◌≡◌, ◌≢◌, ◌≤◌, ◌<◌, [], slice_index_or};
-ghost use Rattle.packed.specs.Codes.{name_of};
-ghost use Rattle.table_schema.specs.declared.table.TableId.{TableId as Table};
-ghost use Rattle.table_schema.specs.Tables.{table_number, table_name};
-ghost use Rattle.table_schema.specs.CellColumns.{cell_count, column_of};
-ghost use Rattle.schema.specs.ColumnNames.{column_names_of};
+ghost use Rattle.clim_c.specs.Words.{Table, cell_count, column_names_of, column_of, name_of, table_name, table_number};
 
 use opening::{Fault, TableId};
 use schema::column_names;

@@ -1,8 +1,6 @@
 //! A heap, padded with zeros to a multiple of four (II.24.2.2).
 ghost use Rattle.std.specs.Prelude.{◌≡◌, ◌<◌, ◌≤◌, ◌^◌, ◌++◌, ℕ, List, IfSome, IsSomeAnd, length, take, drop, slice_index};
-ghost use Rattle.packed.specs.Packed.{IsPacked};
-ghost use Rattle.heap_entries.specs.Entries.{IsBlob};
-ghost use Rattle.heap_entries.specs.Padding.{zero_padded};
+ghost use Rattle.clim_c.specs.Words.{IsBlob, IsPacked, zero_padded};
 
 use packed::read_unsigned;
 use std::marker::Model;
@@ -47,10 +45,7 @@ impl<'a> PaddedHeap<'a> {
     pub(crate) fn at(&self, index: usize) -> u8
         ensures { result ≡ slice_index self.now index }
     {
-        match self.bytes.get(index) {
-            Some(byte) => *byte,
-            None => 0,
-        }
+        self.bytes.get(index).copied().unwrap_or(0)
     }
 
     /// The bytes after the first `count`.
@@ -58,16 +53,10 @@ impl<'a> PaddedHeap<'a> {
         requires { count ≤ length self.now }
         ensures { result ≡ drop count self.now }
     {
-        if count <= self.bytes.len() {
-            let (_, bytes) = self.bytes.split_at(count);
-            return PaddedHeap {
-                bytes,
-                zeros: self.zeros,
-            };
-        }
+        let (before, bytes) = self.bytes.split_at(count.min(self.bytes.len()));
         PaddedHeap {
-            bytes: &[],
-            zeros: self.zeros - (count - self.bytes.len()),
+            bytes,
+            zeros: self.zeros - (count - before.len()),
         }
     }
 

@@ -1,14 +1,7 @@
 ghost use Rattle.std.specs.Prelude.{◌≡◌, ◌≤◌, ◌<◌, ◌+◌, ◌-◌, ℕ, min, true, false, length, slice_index_or};
-ghost use Rattle.std.specs.Bool.{OnTrue, OnFalse};
-ghost use Rattle.std.specs.List.{SameFrom};
-ghost use Rattle.table_schema.specs.declared.table.TableId.{TableId as Table};
-ghost use Rattle.table_schema.specs.Tables.{table_number};
-ghost use Rattle.table_schema.specs.CellColumns.{cell_count};
-ghost use Rattle.metadata.specs.Metadata.{Metadata};
-ghost use Rattle.metadata.specs.Model.{IsModel};
-ghost use Rattle.opening.specs.Views.{row_count};
 ghost use Rattle.clim_c.specs.declared.reported_cell.ClimCell.{ClimCell as Reported};
 ghost use Rattle.clim_c.specs.Reported.{Reports, ReportsCell};
+ghost use Rattle.clim_c.specs.Words.{IsModel, Metadata, OnFalse, OnTrue, SameFrom, Table, cell_count, row_count, table_number};
 
 use crate::opened::seen;
 use crate::reported_cell::ClimCell;
@@ -63,10 +56,7 @@ pub extern "C" fn clim_cell_at<'a>(
         → 1 ≤ row → row ≤ row_count view.now.root.now known → column < cell_count known → result ≡ true }
     ensures same { OnFalse result (cell.new ≡ cell.old) }
 {
-    let Some(table) = TableId::from_number(table) else {
-        return false;
-    };
-    let Some(seen) = seen(view) else {
+    let (Some(table), Some(seen)) = (TableId::from_number(table), seen(view)) else {
         return false;
     };
     if row < 1 || row > seen.count(table) || column >= cell_count(table) {
@@ -94,10 +84,7 @@ pub extern "C" fn clim_cells<'a>(
         × ((known : Table) × (table_number known ≡ table) × (column < cell_count known)) }
     ensures same { SameFrom cells.old cells.new result }
 {
-    let Some(table) = TableId::from_number(table) else {
-        return 0;
-    };
-    let Some(seen) = seen(view) else {
+    let (Some(table), Some(seen)) = (TableId::from_number(table), seen(view)) else {
         return 0;
     };
     if first < 1 || column >= cell_count(table) {

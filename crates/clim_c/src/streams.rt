@@ -1,10 +1,7 @@
 ghost use Rattle.std.specs.Prelude.{◌≡◌, ◌<◌, ◌≤◌, ◌^◌, ℕ, List, Some, None, IfSome, IfNone, true, false, length, slice_get};
-ghost use Rattle.std.specs.Bool.{OnTrue, OnFalse};
-ghost use Rattle.std.specs.Option.{option_map};
-ghost use Rattle.root.specs.Root.{IsRoot};
-ghost use Rattle.root.specs.Streams.{Header};
 ghost use Rattle.root.specs.Views.{view as header_of};
 ghost use Rattle.clim_c.specs.Streams.{stream_of};
+ghost use Rattle.clim_c.specs.Words.{Header, IsRoot, OnFalse, OnTrue, option_map};
 
 use crate::view::ClimView;
 use root::{Headers, StreamHeader, read_root};

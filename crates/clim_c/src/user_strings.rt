@@ -1,10 +1,6 @@
 ghost use Rattle.std.specs.Prelude.{◌≡◌, ◌↔◌, ◌<◌, ◌≤◌, ◌/◌, ◌%◌, ◌^◌, IsTrue, true, false, length, take, unwrap_or};
-ghost use Rattle.std.specs.Bool.{OnTrue, OnFalse};
-ghost use Rattle.heap_entries.specs.Entries.{IsUserString, UserText};
-ghost use Rattle.heap_entries.specs.Padding.{zero_padded};
-ghost use Rattle.heap_entries.specs.UserView.{last_of, units_in};
-ghost use Rattle.opening.specs.Views.{user_of};
 ghost use Rattle.clim_c.specs.Texts.{with_text};
+ghost use Rattle.clim_c.specs.Words.{IsUserString, OnFalse, OnTrue, UserText, last_of, units_in, user_of, zero_padded};
 
 use crate::opened::seen;
 use crate::padded_heap::PaddedHeap;

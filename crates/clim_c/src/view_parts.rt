@@ -1,9 +1,5 @@
 ghost use Rattle.std.specs.Prelude.{◌≡◌, ◌≢◌, true, false, []};
-ghost use Rattle.table_schema.specs.declared.table.TableId.{TableId as Table};
-ghost use Rattle.table_schema.specs.Tables.{table_number};
-ghost use Rattle.metadata.specs.Metadata.{Metadata, count_in};
-ghost use Rattle.metadata.specs.Model.{IsModel};
-ghost use Rattle.opening.specs.Views.{user_of};
+ghost use Rattle.clim_c.specs.Words.{IsModel, Metadata, Table, count_in, table_number, user_of};
 
 use crate::opened::seen;
 use crate::view::ClimView;

@@ -107,8 +107,11 @@ pub const CLIM_SIGNATURE: u8 = 9;
 /// The version of the interface that this crate declares.
 pub const CLIM_ABI_VERSION: u32 = 1;
 
-/// What `clim_signature_text` returns for a text that is too long.
+/// What `clim_signature_text` returns for a text that is too long, and `clim_canonical_root` for a root that is.
 pub const CLIM_TOO_LONG: usize = usize::MAX;
+
+/// What `clim_canonical_root` and `clim_digest` return if memory runs out.
+pub const CLIM_NO_MEMORY: usize = usize::MAX - 1;
 
 pub const CLIM_NO_BYTES: clim_bytes = clim_bytes { at: b"".as_ptr(), len: 0 };
 pub const CLIM_NO_FAULT: clim_fault = clim_fault { offset: 0, code: 0, layer: 0 };
@@ -179,6 +182,8 @@ newer! {
     HAS_EXPLAIN: fn clim_explain(code: u16, buffer: *mut u8, room: usize) -> usize;
     HAS_SIGNATURE_TEXT: fn clim_signature_text(view: *const clim_view, table: u8, row: u32, column: usize, buffer: *mut u8, room: usize) -> usize;
     HAS_USER_STRING: fn clim_user_string(view: *const clim_view, token: u32, units: *mut u16, room: usize, count: *mut usize, flag: *mut u16) -> bool;
+    HAS_CANONICAL_ROOT: fn clim_canonical_root(view: *const clim_view, buffer: *mut u8, room: usize) -> usize;
+    HAS_DIGEST: fn clim_digest(view: *const clim_view, digest: *mut u8) -> usize;
 }
 
 // The layout of the structs, as tests of the C library have it.

@@ -3,6 +3,8 @@
 //!     lines show FILE [bare]      prints the tables as clim show does, each signature as its blob
 //!     lines vary FILE [bare]      prints what clim check prints for each prefix of the file, and for the file with one
 //!                                 byte set to 00 or FF, one line each
+//!     lines rewrite FILE OUT [bare]
+//!                                 writes the canonical root to OUT, as clim rewrite does, and prints its digest
 
 use clim::{check, check_root, Cell, Fault, Signature, Table, View};
 use std::error::Error;
@@ -85,15 +87,24 @@ fn show(out: &mut impl Write, view: &View) -> io::Result<()> {
     Ok(())
 }
 
+/// Writes the canonical root to a file, and its digest as hexadecimal digits.
+fn rewrite(out: &mut impl Write, view: &View, path: &str) -> Result<(), Box<dyn Error>> {
+    fs::write(path, view.canonical_root()?)?;
+    view.digest()?.iter().try_for_each(|byte| write!(out, "{byte:02x}"))?;
+    Ok(writeln!(out)?)
+}
+
 fn main() -> Result<(), Box<dyn Error>> {
     let arguments: Vec<_> = env::args().collect();
-    let [_, what, path, bare @ ..] = &arguments[..] else {
-        return Err("lines show|vary FILE [bare]".into());
+    let [_, what, path, others @ ..] = &arguments[..] else {
+        return Err("lines show|vary|rewrite FILE [OUT] [bare]".into());
     };
+    let bare = others.last().is_some_and(|it| it == "bare");
     let (mut data, mut out) = (fs::read(path)?, BufWriter::new(stdout().lock()));
     match what.as_str() {
-        "vary" => vary(&mut out, &mut data, !bare.is_empty())?,
-        _ => show(&mut out, &open(&data, !bare.is_empty())?)?,
+        "vary" => vary(&mut out, &mut data, bare)?,
+        "rewrite" => rewrite(&mut out, &open(&data, bare)?, &others[0])?,
+        _ => show(&mut out, &open(&data, bare)?)?,
     }
     Ok(())
 }

@@ -105,3 +105,32 @@ impl fmt::Display for BoundedError {
 }
 
 impl Error for BoundedError {}
+
+/// Why there is no canonical root.
+#[derive(Clone, Copy, Debug, PartialEq, Eq, Hash)]
+pub enum RootError {
+    /// It would have more than 2^30 bytes.
+    TooLong,
+    /// Memory ran out.
+    NoMemory,
+    /// The library is older than this crate.
+    Unsupported(Unsupported),
+}
+
+impl From<Unsupported> for RootError {
+    fn from(error: Unsupported) -> RootError {
+        RootError::Unsupported(error)
+    }
+}
+
+impl fmt::Display for RootError {
+    fn fmt(&self, f: &mut fmt::Formatter) -> fmt::Result {
+        match self {
+            RootError::TooLong => f.write_str("the canonical root has more than 2^30 bytes"),
+            RootError::NoMemory => f.write_str("out of memory"),
+            RootError::Unsupported(error) => error.fmt(f),
+        }
+    }
+}
+
+impl Error for RootError {}

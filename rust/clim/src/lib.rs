@@ -58,7 +58,7 @@ mod view;
 
 pub use cells::{Cell, Guid, Signature};
 pub use chunks::{Cells, Rows};
-pub use fault::{BoundedError, Fault, Unsupported};
+pub use fault::{BoundedError, Fault, RootError, Unsupported};
 pub use rows::Row;
 pub use tables::{Table, Token};
 pub use view::{check, check_root, check_root_within, check_within, read_header, Header, View, DEPTH};

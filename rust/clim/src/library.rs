@@ -1,6 +1,7 @@
 //! Calls whose results belong to the library.
 
-use clim_sys::{clim_bytes, CLIM_NO_BYTES, CLIM_TOO_LONG};
+use crate::fault::RootError;
+use clim_sys::{clim_bytes, CLIM_NO_BYTES, CLIM_NO_MEMORY, CLIM_TOO_LONG};
 use std::{slice, str};
 
 /// The length that most texts have at most.
@@ -47,6 +48,15 @@ pub(crate) fn written(write: impl Fn(&mut [u8]) -> usize) -> Option<String> {
             return None;
         }
         buffer.resize(len, 0);
+    }
+}
+
+/// The length of a canonical root, as a call returned it.
+pub(crate) fn root_len(len: usize) -> Result<usize, RootError> {
+    match len {
+        CLIM_TOO_LONG => Err(RootError::TooLong),
+        CLIM_NO_MEMORY => Err(RootError::NoMemory),
+        _ => Ok(len),
     }
 }
 

@@ -2,7 +2,7 @@
 
 use crate::cells::Cell;
 use crate::chunks::{Cells, Chunks, Rows};
-use crate::fault::{BoundedError, Fault, Unsupported};
+use crate::fault::{BoundedError, Fault, RootError, Unsupported};
 use crate::library;
 use crate::rows::{NestedClass, Row, TypeDef};
 use crate::tables::{Table, Token};
@@ -352,6 +352,45 @@ impl<'a> View<'a> {
             }
             units.resize(count, 0);
         }
+    }
+
+    /// The canonical root, which `clim rewrite` writes (II.24.2). Two files have the same canonical root if and only if
+    /// they have the same metadata.
+    ///
+    /// # Errors
+    ///
+    /// It would have more than 2^30 bytes, memory ran out, or the library is older than this crate.
+    pub fn canonical_root(&self) -> Result<Vec<u8>, RootError> {
+        Unsupported::unless(clim_sys::HAS_CANONICAL_ROOT, "clim_canonical_root")?;
+        let mut root = Vec::new();
+        let mut room = self.view.root.len;
+        loop {
+            root.try_reserve_exact(room).map_err(|_| RootError::NoMemory)?;
+            root.resize(room, 0);
+            // SAFETY: The view is open, and the pointer is valid for that number of bytes during the call.
+            let len = library::root_len(unsafe {
+                clim_sys::clim_canonical_root(&self.view, root.as_mut_ptr(), room)
+            })?;
+            if len <= room {
+                root.truncate(len);
+                return Ok(root);
+            }
+            root.clear();
+            room = len;
+        }
+    }
+
+    /// The SHA-256 of the canonical root.
+    ///
+    /// # Errors
+    ///
+    /// Those of [`View::canonical_root`].
+    pub fn digest(&self) -> Result<[u8; 32], RootError> {
+        Unsupported::unless(clim_sys::HAS_DIGEST, "clim_digest")?;
+        let mut digest = [0; 32];
+        // SAFETY: The view is open, and the pointer is valid for 32 bytes during the call.
+        library::root_len(unsafe { clim_sys::clim_digest(&self.view, digest.as_mut_ptr()) })?;
+        Ok(digest)
     }
 
     /// The namespace and the names of a type and of those that enclose it: `Namespace.Outer/Inner`. Empty if there is no

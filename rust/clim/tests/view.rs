@@ -1,7 +1,7 @@
 //! Tests on the samples, and on the file that CLIM_TEST_FILE names: a bare root if its name ends in `.root`.
 
 use clim::rows::*;
-use clim::{check, check_root, check_root_within, check_within, read_header, BoundedError, Cell, Fault, Row, Table, Token, View};
+use clim::{check, check_root, check_root_within, check_within, read_header, BoundedError, Cell, Fault, RootError, Row, Table, Token, View};
 use std::collections::BTreeMap;
 use std::error::Error;
 use std::{env, fs, thread};
@@ -255,4 +255,18 @@ fn the_version_of_the_interface() {
         assert!(!clim_sys::HAS_ABI_VERSION || clim_sys::clim_abi_version() == clim_sys::CLIM_ABI_VERSION);
         assert!(!clim_sys::HAS_VIEW_SIZE || clim_sys::clim_view_size() == std::mem::size_of::<clim_sys::clim_view>());
     }
+}
+
+#[test]
+fn a_canonical_root_is_its_own() {
+    each(|view| {
+        let Ok(root) = view.canonical_root() else {
+            assert!(matches!(view.digest(), Err(RootError::Unsupported(_))));
+            return;
+        };
+        let again = View::open_root(&root).expect("a canonical root");
+        assert_eq!(again.canonical_root().as_ref(), Ok(&root));
+        assert_eq!(again.digest(), view.digest());
+        assert_eq!(again.version(), view.version());
+    });
 }

@@ -1,5 +1,5 @@
 use Rattle.std.proofs.lemmas.Grind.{not_there}
-use Rattle.clim_c.proofs.within.clim_open_root_within.Goals as goal
+use Rattle.clim_c.proofs.opened.clim_check_root_within.Goals as goal
 
 pub returns-in-Err-Fault-clause-complete : goal.returns-in-Err-Fault-clause-complete
 returns-in-Err-Fault-clause-complete c = λ whole fits.

@@ -1,5 +1,5 @@
 use Rattle.std.proofs.lemmas.Grind.{not_there}
-use Rattle.clim_c.proofs.check_calls.clim_check_root.Goals as goal
+use Rattle.clim_c.proofs.opened.clim_check_root.Goals as goal
 
 pub returns-in-Err-clause-complete : goal.returns-in-Err-clause-complete
 returns-in-Err-clause-complete c = λ whole.

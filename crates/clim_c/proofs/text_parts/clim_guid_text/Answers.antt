@@ -3,7 +3,7 @@ use Rattle.std.proofs.lemmas.List.{append-nil}
 use Rattle.uuid.specs.Text.{braced_text, lower}
 use Rattle.clim_c.specs.Texts.{with_text}
 use Rattle.clim_c.proofs.GuidLemmas.{swapped_is}
-use Rattle.clim_c.proofs.guid_text.clim_guid_text.Goals as goal
+use Rattle.clim_c.proofs.text_parts.clim_guid_text.Goals as goal
 
 pub returns-clause-bytes : goal.returns-clause-bytes
 returns-clause-bytes c =

@@ -3,7 +3,7 @@ use Rattle.table_schema.specs.Tables.{table_number}
 use Rattle.table_schema.specs.Tokens.{hexadecimal, token_text}
 use Rattle.clim_c.proofs.HexLemmas.{two_of_byte}
 use Rattle.clim_c.proofs.SinkLemmas.{in_parts, stopped}
-use Rattle.clim_c.proofs.signature_sink.SignatureSinkTextSink.name.Goals as goal
+use Rattle.clim_c.proofs.signature_text.SignatureSinkTextSink.name.Goals as goal
 
 pub returns-in_err-push-clause-piece : goal.returns-in_err-push-clause-piece
 returns-in_err-push-clause-piece c =

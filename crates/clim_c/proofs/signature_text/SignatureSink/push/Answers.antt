@@ -1,7 +1,7 @@
 use Rattle.std.proofs.Common.{rules, ◌≡◌, ◌≢◌, length, length-drop, take, true, false, true≢false, refl, sym, ap, ◌∙◌, arith}
 use Rattle.std.proofs.lemmas.Bool.{eqb-true, eqb-false}
 use Rattle.clim_c.proofs.SinkLemmas.{pushed}
-use Rattle.clim_c.proofs.signature_sink.SignatureSink.push.Goals as goal
+use Rattle.clim_c.proofs.signature_text.SignatureSink.push.Goals as goal
 
 pub returns-then-is_empty-clause-written : goal.returns-then-is_empty-clause-written
 returns-then-is_empty-clause-written c =

@@ -1,0 +1,6 @@
+use Rattle.std.proofs.lemmas.Grind.{not_there}
+use Rattle.clim_c.proofs.opened.clim_check_within.Goals as goal
+
+pub returns-in-Err-Fault-clause-complete : goal.returns-in-Err-Fault-clause-complete
+returns-in-Err-Fault-clause-complete c = λ whole fits.
+    absurd (not_there whole (λ file. not_there file.1 (λ some. c.in-Err-Fault.ensures.complete file.0 some.0 some.1 fits)))

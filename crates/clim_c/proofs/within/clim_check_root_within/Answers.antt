@@ -1,6 +1,0 @@
-use Rattle.std.proofs.lemmas.Grind.{not_there}
-use Rattle.clim_c.proofs.within.clim_check_root_within.Goals as goal
-
-pub returns-in-Err-Fault-clause-complete : goal.returns-in-Err-Fault-clause-complete
-returns-in-Err-Fault-clause-complete c = λ whole fits.
-    absurd (not_there whole (λ some. let opened = c.in-Err-Fault.ensures.complete some.0 some.1 fits in cc))

@@ -1,0 +1,42 @@
+-- The words of other crates that the contracts of this crate use.
+pub use Rattle.std.specs.Bool.{OnFalse, OnTrue}
+pub use Rattle.std.specs.Fmt.{digit_glyph}
+pub use Rattle.std.specs.List.{SameFrom}
+pub use Rattle.std.specs.Option.{option_map}
+pub use Rattle.packed.specs.Codes.{name_of, number_of_code}
+pub use Rattle.packed.specs.declared.code.FaultCode.{FaultCode as RuleCode}
+pub use Rattle.packed.specs.Packed.{IsPacked}
+pub use Rattle.packed.specs.Rule.{AllHold, FirstBroken}
+pub use Rattle.root.specs.Root.{IsRoot}
+pub use Rattle.root.specs.Streams.{Header}
+pub use Rattle.pe.specs.Headers.{image_of}
+pub use Rattle.cli_header.specs.declared.header.CliHeader.{CliHeader}
+pub use Rattle.heap_entries.specs.Entries.{IsBlob, IsUserString, UserText}
+pub use Rattle.heap_entries.specs.GuidText.{as_read}
+pub use Rattle.heap_entries.specs.Padding.{zero_padded}
+pub use Rattle.heap_entries.specs.UserView.{last_of, units_in}
+pub use Rattle.table_schema.specs.CellColumns.{cell_count, column_of}
+pub use Rattle.table_schema.specs.Columns.{column_at, key_of}
+pub use Rattle.table_schema.specs.Tables.{table_name, table_number}
+pub use Rattle.table_schema.specs.Tokens.{hexadecimal}
+pub use Rattle.table_schema.specs.declared.column.SigKind.{SigKind as Kind}
+pub use Rattle.table_schema.specs.declared.column.ColumnKind.TheVariants.{Signature}
+pub use Rattle.table_schema.specs.declared.table.TableId.{TableId as Table}
+pub use Rattle.table_schema.specs.declared.table.TableId.TheVariants.{TypeDef}
+pub use Rattle.schema.specs.ColumnNames.{column_names_of}
+pub use Rattle.sig_grammar.specs.Syntax.{Body}
+pub use Rattle.sig_text.specs.Refused.{refused_after}
+pub use Rattle.metadata.specs.Cell.{Sig}
+pub use Rattle.metadata.specs.Lookups.{HasNames, HasRow, IsFirstType}
+pub use Rattle.metadata.specs.Metadata.{Metadata, cell_in, count_in}
+pub use Rattle.metadata.specs.Model.{IsModel}
+pub use Rattle.metadata.specs.Rules.{rules_of_file, rules_of_metadata}
+pub use Rattle.metadata.specs.Streams.{root_in}
+pub use Rattle.reading.specs.Shown.{ShowsSignature}
+pub use Rattle.opening.specs.Heads.{rules_of_heads}
+pub use Rattle.opening.specs.Views.{AreFound, HasImage, HasModel, row_count, user_of}
+pub use Rattle.opening.specs.Within.{HoldBeforeSignatures, signature_bytes_in, signature_bytes_in_file}
+pub use Rattle.cli_faults.specs.declared.explained.Explanation.{Explanation as Explained}
+pub use Rattle.canonical.specs.Canonical.{canonical}
+pub use Rattle.sha2.specs.Sha256.{sha256}
+pub use Rattle.uuid.specs.Text.{braced_text, lower}
