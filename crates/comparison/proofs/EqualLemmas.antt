@@ -89,9 +89,9 @@ module _ (tested : (a b : Cell) → IsTrue (is_same_cell a b) ↔ (a ≡ b)) whe
         → (version_difference first second ≡ []) × (user_difference first second ≡ []) × (flat_map (count_difference first second) tables ≡ [])
     unfolding outline_differences
     outline_parts none =
-        let front = first_nothing (version_difference first second ++ user_difference first second) (flat_map (count_difference first second) tables) none in (
-          first_nothing (version_difference first second) (user_difference first second) front,
-          last_nothing (version_difference first second) (user_difference first second) front,
+        let prefix = first_nothing (version_difference first second ++ user_difference first second) (flat_map (count_difference first second) tables) none in (
+          first_nothing (version_difference first second) (user_difference first second) prefix,
+          last_nothing (version_difference first second) (user_difference first second) prefix,
           last_nothing (version_difference first second ++ user_difference first second) (flat_map (count_difference first second) tables) none,
         )
 

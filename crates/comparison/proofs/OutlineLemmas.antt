@@ -67,6 +67,6 @@ module _ {Y : Type 0} (f : Y → List Difference) (ys : List Y) (i : ℕ) (d : Y
 
   pub first_found : (one : Difference) → i < length ys → flat_map f (take i ys) ≡ [] → f (get_or ys i d) ≡ one ∷ [] → take 1 (flat_map f ys) ≡ one ∷ []
   first_found one lt none found =
-      let front : flat_map f (take (i + 1) ys) ≡ one ∷ [] = item_more f ys i d lt ∙ ap (λ xs. xs ++ f (get_or ys i d)) none ∙ found in
+      let prefix : flat_map f (take (i + 1) ys) ≡ one ∷ [] = item_more f ys i d lt ∙ ap (λ xs. xs ++ f (get_or ys i d)) none ∙ found in
       ap (λ zs. take 1 (flat_map f zs)) (sym (take-append-drop (i + 1) ys)) ∙ ap (λ zs. take 1 zs) (flat_map-append f (take (i + 1) ys) (drop (i + 1) ys))
-      ∙ ap (λ zs. take 1 (zs ++ flat_map f (drop (i + 1) ys))) front
+      ∙ ap (λ zs. take 1 (zs ++ flat_map f (drop (i + 1) ys))) prefix

@@ -19,8 +19,8 @@ zeros_are [] all = refl
 zeros_are (x ∷ xs) all =
     ap (λ y. y ∷ xs) (all 0 0 (omega arith)) ∙ ap (λ ys. 0 ∷ ys) (zeros_are xs (λ k d lt. all (suc k) d (omega arith)))
 
-front_zeros : (n : ℕ) (xs ys : List ℕ) → replicate n 0 ≡ xs ++ ys → All IsZero xs
-front_zeros n xs ys is =
+leading_zeros : (n : ℕ) (xs ys : List ℕ) → replicate n 0 ≡ xs ++ ys → All IsZero xs
+leading_zeros n xs ys is =
     subst (λ (zs : List ℕ). All IsZero zs) (take-append_seam xs ys) (All-take IsZero (length xs) (xs ++ ys) (subst (λ (zs : List ℕ). All IsZero zs) is (All-replicate IsZero n 0 refl)))
 
 split_same : (xs ys zs ws : List ℕ) → length xs ≡ length ys → xs ++ zs ≡ ys ++ ws → (xs ≡ ys) × (zs ≡ ws)
@@ -30,11 +30,11 @@ split_same xs ys zs ws long same = (
 )
 
 -- bytes in two parts, the second of zeros, and padding
-padded_front : (bytes front tail : List ℕ) → bytes ≡ front ++ tail → All IsZero tail → zero_padded bytes ≡ front ++ replicate (length tail + padding (length bytes)) 0
-padded_front bytes front tail is all =
-    ap (λ xs. xs ++ replicate (padding (length bytes)) 0) (is ∙ ap (λ xs. front ++ xs) (zeros_are tail all))
-    ∙ append_assoc front (replicate (length tail) 0) (replicate (padding (length bytes)) 0)
-    ∙ ap (λ xs. front ++ xs) (replicate-append-replicate (length tail) (padding (length bytes)) 0)
+padded_prefix : (bytes prefix tail : List ℕ) → bytes ≡ prefix ++ tail → All IsZero tail → zero_padded bytes ≡ prefix ++ replicate (length tail + padding (length bytes)) 0
+padded_prefix bytes prefix tail is all =
+    ap (λ xs. xs ++ replicate (padding (length bytes)) 0) (is ∙ ap (λ xs. prefix ++ xs) (zeros_are tail all))
+    ∙ append_assoc prefix (replicate (length tail) 0) (replicate (padding (length bytes)) 0)
+    ∙ ap (λ xs. prefix ++ xs) (replicate-append-replicate (length tail) (padding (length bytes)) 0)
 
 pub padded_same : (left right : List ℕ) (left_groups right_groups : ℕ) → 4 * left_groups ≡ length left + padding (length left) → 4 * right_groups ≡ length right + padding (length right)
     → ((left_groups ≡ right_groups) × (take (min (length left) (length right)) left ≡ take (min (length left) (length right)) right)
@@ -47,31 +47,31 @@ padded_same left right left_groups right_groups left_counted right_counted =
     let rt = drop n right in
     let left_is : left ≡ lf ++ lt = sym (take-append-drop n left) in
     let right_is : right ≡ rf ++ rt = sym (take-append-drop n right) in
-    let left_front = length-take n left in
-    let right_front = length-take n right in
+    let left_prefix = length-take n left in
+    let right_prefix = length-take n right in
     let left_long = ap length left_is ∙ length-append lf lt in
     let right_long = ap length right_is ∙ length-append rf rt in
-    let fronts : length lf ≡ length rf = omega (arith, left_front, right_front) in
+    let prefixes : length lf ≡ length rf = omega (arith, left_prefix, right_prefix) in
     let to : (left_groups ≡ right_groups) × (lf ≡ rf) × All IsZero lt × All IsZero rt → zero_padded left ≡ zero_padded right = λ h.
-    let same : length lt + padding (length left) ≡ length rt + padding (length right) = omega (arith, left_counted, right_counted, h.0, fronts, left_long, right_long) in
-    padded_front left lf lt left_is h.2 ∙ ap₂ (λ (xs : List ℕ) (k : ℕ). xs ++ replicate k 0) h.1 same ∙ sym (padded_front right rf rt right_is h.3) in
+    let same : length lt + padding (length left) ≡ length rt + padding (length right) = omega (arith, left_counted, right_counted, h.0, prefixes, left_long, right_long) in
+    padded_prefix left lf lt left_is h.2 ∙ ap₂ (λ (xs : List ℕ) (k : ℕ). xs ++ replicate k 0) h.1 same ∙ sym (padded_prefix right rf rt right_is h.3) in
     let from : zero_padded left ≡ zero_padded right → (left_groups ≡ right_groups) × (lf ≡ rf) × All IsZero lt × All IsZero rt = λ same.
     let left_padded : zero_padded left ≡ lf ++ (lt ++ replicate (padding (length left)) 0) =
     ap (λ xs. xs ++ replicate (padding (length left)) 0) left_is ∙ append_assoc lf lt (replicate (padding (length left)) 0) in
     let right_padded : zero_padded right ≡ rf ++ (rt ++ replicate (padding (length right)) 0) =
     ap (λ xs. xs ++ replicate (padding (length right)) 0) right_is ∙ append_assoc rf rt (replicate (padding (length right)) 0) in
-    let parts = split_same lf rf (lt ++ replicate (padding (length left)) 0) (rt ++ replicate (padding (length right)) 0) fronts (sym left_padded ∙ same ∙ right_padded) in
+    let parts = split_same lf rf (lt ++ replicate (padding (length left)) 0) (rt ++ replicate (padding (length right)) 0) prefixes (sym left_padded ∙ same ∙ right_padded) in
     let lengths = sym (length-append left (replicate (padding (length left)) 0)) ∙ ap length same ∙ length-append right (replicate (padding (length right)) 0) in
     let left_zeros = length-replicate {A = ℕ} (padding (length left)) 0 in
     let right_zeros = length-replicate {A = ℕ} (padding (length right)) 0 in
     let groups : left_groups ≡ right_groups = omega (arith, left_counted, right_counted, lengths, left_zeros, right_zeros) in
-    let ends = tails lt rt (padding (length left)) (padding (length right)) (omega (arith, left_front, right_front, left_long, right_long)) parts.1 in
+    let ends = tails lt rt (padding (length left)) (padding (length right)) (omega (arith, left_prefix, right_prefix, left_long, right_long)) parts.1 in
     (groups, parts.0, ends.0, ends.1) in
     (to, from)
   where
     tails : (lt rt : List ℕ) (p q : ℕ) → min (length lt) (length rt) ≡ 0 → lt ++ replicate p 0 ≡ rt ++ replicate q 0 → All IsZero lt × All IsZero rt
-    tails [] rt p q one same = (All-nil IsZero, front_zeros p rt (replicate q 0) same)
-    tails (x ∷ xs) [] p q one same = (front_zeros q (x ∷ xs) (replicate p 0) (sym same), All-nil IsZero)
+    tails [] rt p q one same = (All-nil IsZero, leading_zeros p rt (replicate q 0) same)
+    tails (x ∷ xs) [] p q one same = (leading_zeros q (x ∷ xs) (replicate p 0) (sym same), All-nil IsZero)
     tails (x ∷ xs) (y ∷ ys) p q one same = absurd (omega (arith, one))
 
 pub parts_differ : (xs ys : List ℕ) (other : Bool) → other ≡ not (pointwise eqb xs ys) → other ≡ true → xs ≡ ys → ⊥

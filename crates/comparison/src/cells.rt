@@ -27,7 +27,7 @@ pub fn differing_cells(
     right: &View<'_>,
     limit: usize,
 ) -> Result<Vec<Difference>, AllocError>
-    ensures found { (first second : Metadata) → IsModel left.now first → IsModel right.now second
+    ensures sound { (first second : Metadata) → IsModel left.now first → IsModel right.now second
         → IfOk result (λ found. found.items ≡ take limit (cell_differences first second)) }
     ensures there { IfOk result (λ found. All (IsThere left.now right.now) found.items) }
 {
@@ -54,7 +54,7 @@ fn find_in_table(
     ensures right { right.new ≡ right.old }
     ensures few { OnOk result (length found.new.items ≤ limit) }
     ensures there { OnOk result (All (IsThere left.old right.old) found.old.items → All (IsThere left.old right.old) found.new.items) }
-    ensures found { (first second : Metadata) → IsModel left.old first → IsModel right.old second
+    ensures sound { (first second : Metadata) → IsModel left.old first → IsModel right.old second
         → OnOk result (Grows limit found.old.items found.new.items (table_differences first second table)) }
 {
     let count = left.view().count(table).min(right.view().count(table));
@@ -82,7 +82,7 @@ fn find_in_row(
     ensures right { right.new ≡ right.old }
     ensures few { OnOk result (length found.new.items ≤ limit) }
     ensures there { OnOk result (All (IsThere left.old right.old) found.old.items → All (IsThere left.old right.old) found.new.items) }
-    ensures found { (first second : Metadata) → IsModel left.old first → IsModel right.old second
+    ensures sound { (first second : Metadata) → IsModel left.old first → IsModel right.old second
         → OnOk result (Grows limit found.old.items found.new.items (row_differences first second table row)) }
 {
     if found.len() == limit {
@@ -114,7 +114,7 @@ fn find_in_cell(
     ensures right { right.new ≡ right.old }
     ensures few { OnOk result (length found.new.items ≤ limit) }
     ensures there { OnOk result (All (IsThere left.old right.old) found.old.items → All (IsThere left.old right.old) found.new.items) }
-    ensures found { (first second : Metadata) → IsModel left.old first → IsModel right.old second
+    ensures sound { (first second : Metadata) → IsModel left.old first → IsModel right.old second
         → OnOk result (Grows limit found.old.items found.new.items (cell_difference first second table row cell_index)) }
 {
     let kind = kind_of(table, cell_index);

@@ -10,12 +10,12 @@ pub(crate) fn same_padded(left: &[u8], right: &[u8]) -> bool
     ensures { IsTrue result ↔ (zero_padded left.now ≡ zero_padded right.now) }
 {
     let common = left.len().min(right.len());
-    let (left_front, left_tail) = left.split_at(common);
-    let (right_front, right_tail) = right.split_at(common);
+    let (left_prefix, left_tail) = left.split_at(common);
+    let (right_prefix, right_tail) = right.split_at(common);
     if group_count(left.len()) != group_count(right.len()) {
         return false;
     }
-    if left_front != right_front {
+    if left_prefix != right_prefix {
         return false;
     }
     if !are_zeros(left_tail) {

@@ -13,8 +13,8 @@ joined_before model first next past position low high = λ row there from to oth
     ⊎_elim (λ (l : row < next). low row there from l other is) (λ (l : next ≤ row). high row there l to other is) (cases_lt row next)
 
 -- positions before one are before any greater one
-pub raised_before : (model : Metadata) (first past last position : ℕ) → last ≤ position → ArePositionsBefore model first past last → ArePositionsBefore model first past position
-raised_before model first past last position le before = λ row there from to other is. let small = before row there from to other is in omega (arith, small)
+pub before_later : (model : Metadata) (first past last position : ℕ) → last ≤ position → ArePositionsBefore model first past last → ArePositionsBefore model first past position
+before_later model first past last position le before = λ row there from to other is. let small = before row there from to other is in omega (arith, small)
 
 -- there are no rows from one on to before itself
 pub none_before : (model : Metadata) (first position : ℕ) → ArePositionsBefore model first first position
@@ -48,4 +48,4 @@ found_text model first past position row own at is = record {
 pub begun_before : (model : Metadata) (first next begin last position : ℕ) → ((row : ℕ) → first ≤ row → row < begin → row < next) → last ≤ position
     → ArePositionsBefore model first next last → ArePositionsBefore model first begin position
 begun_before model first next begin last position within le before = λ row there from to other is.
-    raised_before model first next last position le before row there from (within row from to) other is
+    before_later model first next last position le before row there from (within row from to) other is

@@ -32,8 +32,8 @@ module _ {K W : Type 0} (gives : K → Piece → Bool → K → Type 0) (took : 
   received (refused call) whole kept = absurd cc
   received {s = s} {t = t} (taken {t = u} {p = p} call more) whole kept =
       let one = step s p u call kept in
-      let rest = received more whole one.0 in
-      (rest.0, (one.1.0 ++ rest.1.0, (one.1.0, one.1.1, rest.1.0, rest.1.1, refl), writes_append took (writer s) one.1.0 (writer u) rest.1.0 (writer t) one.1.2 rest.1.2))
+      let later = received more whole one.0 in
+      (later.0, (one.1.0 ++ later.1.0, (one.1.0, one.1.1, later.1.0, later.1.1, refl), writes_append took (writer s) one.1.0 (writer u) later.1.0 (writer t) one.1.2 later.1.2))
 
 signature_in : Body → Cell → Body
 signature_in other (Sig signature) = signature

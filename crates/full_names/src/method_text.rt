@@ -86,7 +86,7 @@ fn keep(error: &mut Option<TextError>, written: Result<(), TextError>) -> Option
     }
 }
 
-/// The same of a writer that tells no reason.
+/// The same of a writer that gives no reason.
 fn keep_refusal(error: &mut Option<TextError>, written: fmt::Result) -> Option<()>
     ensures words { is_some error.new ≡ refused_after result (is_some error.old) }
     ensures taken { is_some result ≡ is_ok written }

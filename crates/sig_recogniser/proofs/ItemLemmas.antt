@@ -93,8 +93,8 @@ modifier_left counts c b t bad worse starts h = of_index (index_at b) refl h
         modifier_shorter (c ∷ b) t _ (modifier_found c (c ∷ b) b t x.0 starts refl (e ∙ ap (λ (t : List ℕ). Some (x.0, t)) same))
 
 -- PINNED or a modifier by its first byte, and what follows it
-abbrev pub prefix_rest : List ℕ → ℕ → Left → Option Left
-prefix_rest counts c here = if eqb c 0x45 then Some here else skip_index counts here
+abbrev pub prefix_tail : List ℕ → ℕ → Left → Option Left
+prefix_tail counts c here = if eqb c 0x45 then Some here else skip_index counts here
 
 prefix_starts_modifier : (c : ℕ) (b : List ℕ) → eqb c 0x45 ≡ false → starts_prefix (c ∷ b) ≡ true → starts_modifier (c ∷ b) ≡ true
 prefix_starts_modifier c b other starts = subst (λ (p : Bool). (p || (eqb c 0x1F || eqb c 0x20)) ≡ true) other starts
@@ -115,7 +115,7 @@ prefix_other_found : (c : ℕ) (b t : List ℕ) (of : Token) → eqb c 0x45 ≡ 
 prefix_other_found c b t of other starts e =
     prefix_other c b other ∙ ap (λ (o : Option (Option Modifier × List ℕ)). option_map prefix_of o) (modifier_found c (c ∷ b) b t of (prefix_starts_modifier c b other starts) refl e)
 
-pub prefix_step : (counts : List ℕ) (c : ℕ) (b : List ℕ) (bad : Option Token) → starts_prefix (c ∷ b) ≡ true → skip_prefixes counts (c ∷ b, bad) ≡ option_and_then (skip_prefixes counts) (prefix_rest counts c (b, bad))
+pub prefix_step : (counts : List ℕ) (c : ℕ) (b : List ℕ) (bad : Option Token) → starts_prefix (c ∷ b) ≡ true → skip_prefixes counts (c ∷ b, bad) ≡ option_and_then (skip_prefixes counts) (prefix_tail counts c (b, bad))
 unfolding skip_index
 prefix_step counts c b bad starts = of_code (eqb c 0x45) refl (index_at b) refl
   where
@@ -125,7 +125,7 @@ prefix_step counts c b bad starts = of_code (eqb c 0x45) refl (index_at b) refl
     of_code false other (Some x) e =
         prefixes_next counts (c ∷ b) x.1 bad _ (prefix_other_found c b x.1 x.0 other starts e) ∙ ap (λ (t : Option Token). skip_prefixes counts (x.1, t)) (noted_one counts bad (eqb c 0x1F) x.0)
 
-pub prefix_left : (counts : List ℕ) (c : ℕ) (b t : List ℕ) (bad worse : Option Token) → starts_prefix (c ∷ b) ≡ true → prefix_rest counts c (b, bad) ≡ Some (t, worse) → length t < length (c ∷ b)
+pub prefix_left : (counts : List ℕ) (c : ℕ) (b t : List ℕ) (bad worse : Option Token) → starts_prefix (c ∷ b) ≡ true → prefix_tail counts c (b, bad) ≡ Some (t, worse) → length t < length (c ∷ b)
 unfolding skip_index
 prefix_left counts c b t bad worse starts h = of_code (eqb c 0x45) refl (index_at b) refl h
   where
@@ -152,12 +152,12 @@ modifier_shrinks counts b t u c bad now worse starts h e f =
     rw h (modifier_left counts c t u now worse same (sym f))
 
 -- the same in a list of bytes
-pub prefix_moves : (counts b t : List ℕ) (c : ℕ) (bad now : Option Token) (o : Option Left) → starts_prefix b ≡ true → b ≡ c ∷ t → now ≡ bad → o ≡ prefix_rest counts c (t, now) → skip_prefixes counts (b, bad) ≡ option_and_then (skip_prefixes counts) o
+pub prefix_moves : (counts b t : List ℕ) (c : ℕ) (bad now : Option Token) (o : Option Left) → starts_prefix b ≡ true → b ≡ c ∷ t → now ≡ bad → o ≡ prefix_tail counts c (t, now) → skip_prefixes counts (b, bad) ≡ option_and_then (skip_prefixes counts) o
 prefix_moves counts b t c bad now o starts h e f =
     let same : starts_prefix (c ∷ t) ≡ true = subst (λ (x : List ℕ). starts_prefix x ≡ true) h starts in
     rw (f, e, h) (prefix_step counts c t bad same)
 
-pub prefix_shrinks : (counts b t u : List ℕ) (c : ℕ) (bad now worse : Option Token) → starts_prefix b ≡ true → b ≡ c ∷ t → now ≡ bad → ◌≡◌ {A = Option Left} (Some (u, worse)) (prefix_rest counts c (t, now)) → length u < length b
+pub prefix_shrinks : (counts b t u : List ℕ) (c : ℕ) (bad now worse : Option Token) → starts_prefix b ≡ true → b ≡ c ∷ t → now ≡ bad → ◌≡◌ {A = Option Left} (Some (u, worse)) (prefix_tail counts c (t, now)) → length u < length b
 prefix_shrinks counts b t u c bad now worse starts h e f =
     let same : starts_prefix (c ∷ t) ≡ true = subst (λ (x : List ℕ). starts_prefix x ≡ true) h starts in
     rw h (prefix_left counts c t u now worse same (sym f))

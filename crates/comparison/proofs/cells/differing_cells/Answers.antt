@@ -23,14 +23,14 @@ loop-table-preserved c =
       there = there_kept c.args.left.now c.loop-table.left_cells c.args.right.now c.loop-table.right_cells c.loop-table.found.items c.find_in_table.new.found.items loop.left loop.right
           c.in_ok-find_in_table.ensures.there loop.there;
       found = λ first second is also.
-          let grown = c.in_ok-find_in_table.ensures.found first second (subst (λ (root : List ℕ). IsModel root first) (sym loop.left) is) (subst (λ (root : List ℕ). IsModel root second) (sym loop.right) also) in
+          let grown = c.in_ok-find_in_table.ensures.sound first second (subst (λ (root : List ℕ). IsModel root first) (sym loop.left) is) (subst (λ (root : List ℕ). IsModel root second) (sym loop.right) also) in
           item_found (table_differences first second) tables index c.args.limit Module c.loop-table.found.items c.find_in_table.new.found.items within (loop.found first second is also)
           (subst (λ (listed : List TableId). Grows c.args.limit c.loop-table.found.items c.find_in_table.new.found.items (table_differences first second (get_or listed index Module)))
           c.all-table-items.ensures.value grown);
     }
 
-pub returns-clause-found : goal.returns-clause-found
-returns-clause-found c = λ first second is also.
+pub returns-clause-sound : goal.returns-clause-sound
+returns-clause-sound c = λ first second is also.
     let many : length c.all-table-items.result.now ≡ length tables = ap length c.all-table-items.ensures.value in
     let all : length tables ≤ c.loop-table.table-index = omega (arith, many, c.loop-table-test.false) in
     subst (λ (more : List Difference). c.loop-table.found.items ≡ take c.args.limit more) (tables_are first second c.loop-table.table-index all)

@@ -6,8 +6,8 @@ use Rattle.comparison.proofs.CellSteps.{cell_differs, cell_same}
 use Rattle.comparison.proofs.GrowthLemmas.{grows_full}
 use Rattle.comparison.proofs.cells.find_in_cell.Goals as goal
 
-pub returns-then-same-clause-found : goal.returns-then-same-clause-found
-returns-then-same-clause-found c = λ first second is also.
+pub returns-then-same-clause-sound : goal.returns-then-same-clause-sound
+returns-then-same-clause-sound c = λ first second is also.
     let left = cell_in first c.args.table c.args.row c.args.cell_index in
     let right = cell_in second c.args.table c.args.row c.args.cell_index in
     let tested = c.in_ok-same.ensures left right
@@ -15,11 +15,11 @@ returns-then-same-clause-found c = λ first second is also.
     (subst (λ (kind : ColumnKind). Shows kind c.cell-right_value.result right) (sym c.kind_of-kind.ensures) (c.cell-right_value.ensures.cell second also)) in
     cell_same first second c.args.table c.args.row c.args.cell_index c.in_ok-same.same tested c.args.limit c.args.found.now.items c.requires.few c.if-same.true
 
-pub returns-then-len-limit-clause-found : goal.returns-then-len-limit-clause-found
-returns-then-len-limit-clause-found c = λ first second is also. grows_full c.args.limit c.args.found.now.items _ (omega (arith, c.len.ensures, c.if-len-limit.true))
+pub returns-then-len-limit-clause-sound : goal.returns-then-len-limit-clause-sound
+returns-then-len-limit-clause-sound c = λ first second is also. grows_full c.args.limit c.args.found.now.items _ (omega (arith, c.len.ensures, c.if-len-limit.true))
 
-pub returns-clause-found : goal.returns-clause-found
-returns-clause-found c = λ first second is also.
+pub returns-clause-sound : goal.returns-clause-sound
+returns-clause-sound c = λ first second is also.
     let left = cell_in first c.args.table c.args.row c.args.cell_index in
     let right = cell_in second c.args.table c.args.row c.args.cell_index in
     let tested = c.in_ok-same.ensures left right

@@ -18,11 +18,11 @@ loop-earlier-preserved c =
       found = λ first second is also.
           number_found (row_differences first second c.args.table) 1 c.loop-earlier.earlier (c.loop-earlier.earlier + 1) c.args.limit
           c.args.found.now.items c.loop-earlier.found.items c.find_in_row.new.found.items (omega arith) (loop.found first second is also)
-          (c.in_ok-find_in_row.ensures.found first second (subst (λ (root : List ℕ). IsModel root first) (sym loop.left) is) (subst (λ (root : List ℕ). IsModel root second) (sym loop.right) also));
+          (c.in_ok-find_in_row.ensures.sound first second (subst (λ (root : List ℕ). IsModel root first) (sym loop.left) is) (subst (λ (root : List ℕ). IsModel root second) (sym loop.right) also));
     }
 
-pub returns-clause-found : goal.returns-clause-found
-returns-clause-found c = λ first second is also.
+pub returns-clause-sound : goal.returns-clause-sound
+returns-clause-sound c = λ first second is also.
     let left = c.count.ensures.model first (subst (λ (root : List ℕ). IsModel root first) (sym c.view.ensures.view) is) in
     let right = c.count-2.ensures.model second (subst (λ (root : List ℕ). IsModel root second) (sym c.view-2.ensures.view) also) in
     let last : c.loop-earlier.earlier ≡ c.min-count.result = omega (arith, c.loop-earlier-test.false, c.loop-earlier.auto.earlier-end) in

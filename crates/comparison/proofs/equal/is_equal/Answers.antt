@@ -19,7 +19,7 @@ returns c = λ first second is also.
     (c.models_of_roots_are_valid.ensures c.args.right.now second also) 1 (omega arith) in
     let outline = outline_none c.outline_difference.result (outline_differences first second) (c.outline_difference.ensures.none first second is also)
     (sym c.is_some.ensures ∙ c.if-is_some.false) in
-    let found = c.in_ok-found.ensures.found first second is also in (
+    let found = c.in_ok-found.ensures.sound first second is also in (
       (λ empty.
         let zero = (Decides-eqb c.in_ok-found.found.len 0).0 (sym c.is_empty.ensures ∙ empty) in
         law.0 (outline, sym found ∙ nothing_long c.in_ok-found.found.items (sym c.in_ok-found.found.ok.0 ∙ zero))),

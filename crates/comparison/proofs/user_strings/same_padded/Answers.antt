@@ -24,13 +24,13 @@ returns-then-not-are_zeros c =
 pub returns : goal.returns
 returns c =
     let parts = padded_same c.args.left.now c.args.right.now c.group_count.result c.group_count-2.result c.group_count.ensures c.group_count-2.ensures in
-    let left_front = c.split_at.ensures.front ∙ ap (λ n. take n c.args.left.now) c.min-common.ensures in
-    let right_front = c.split_at-2.ensures.front ∙ ap (λ n. take n c.args.right.now) c.min-common.ensures in
+    let left_prefix = c.split_at.ensures.front ∙ ap (λ n. take n c.args.left.now) c.min-common.ensures in
+    let right_prefix = c.split_at-2.ensures.front ∙ ap (λ n. take n c.args.right.now) c.min-common.ensures in
     let left_tail = c.split_at.ensures.back ∙ ap (λ n. drop n c.args.left.now) c.min-common.ensures in
     let right_tail = c.split_at-2.ensures.back ∙ ap (λ n. drop n c.args.right.now) c.min-common.ensures in (
       (λ zero. parts.0 (
         c.if-group_count.false,
-        sym left_front ∙ parts_same _ _ c.ne.result c.ne.ensures c.if-ne.false ∙ right_front,
+        sym left_prefix ∙ parts_same _ _ c.ne.result c.ne.ensures c.if-ne.false ∙ right_prefix,
         subst (λ (xs : List ℕ). All IsZero xs) left_tail (c.are_zeros.ensures.0 c.if-not-are_zeros.false),
         subst (λ (xs : List ℕ). All IsZero xs) right_tail (c.are_zeros-2.ensures.0 zero),
       )),
