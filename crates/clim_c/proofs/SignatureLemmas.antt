@@ -1,4 +1,4 @@
--- In a column of signatures, a value in at is the blob of a signature.
+-- In a column of signatures, a value in index is the blob of a signature.
 use Rattle.std.proofs.Common.{◌≡◌, ℕ, ◌≤◌, Bool, true, false, true≢false, List, Bor, refl, sym, ap, subst, ◌∙◌}
 use Rattle.table_schema.specs.declared.table.TableId.{TableId}
 use Rattle.table_schema.specs.declared.column.SigKind.{SigKind}
@@ -37,10 +37,10 @@ pub blob_of_cell : (source : Source) (table : TableId) (row column : ℕ) (sig_k
     → (column_at table (column_of table column)).kind ≡ kind.Signature sig_kind → IsCell source table row column cell → ShowsCell table column value cell
     → (blob : Bor (List ℕ)) × (value ≡ seen.Sig blob)
 blob_of_cell source table row column sig_kind cell value is stands shows =
-    let at = column_of table column in
-    let P : ColumnKind → Type 0 = λ k. StandsFor source k (column_at table at).nullable (start_of source table row at) (number_of source table row at) cell in
+    let index = column_of table column in
+    let P : ColumnKind → Type 0 = λ k. StandsFor source k (column_at table index).nullable (start_of source table row index) (number_of source table row index) cell in
     let parts = subst P is stands in
-    blob_of (column_at table at).kind value cell shows (ap is_sig parts.5)
+    blob_of (column_at table index).kind value cell shows (ap is_sig parts.5)
 
 -- a row that there is
 pub row_within : (root : List ℕ) (table : TableId) (row : ℕ) → row ≤ row_count root table → row ≤ rows_in (source_of root) table

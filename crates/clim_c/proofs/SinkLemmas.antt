@@ -81,6 +81,6 @@ module _ {S A : Type 0} (name : S → A) (buffer : S → List ℕ) (len : S → 
       (step.0, after.0, after.1)
   received {s = s} {t = t} {all = all} (taken {t = m} {p = piece} {ps = pieces} step tail) initial text short has =
       let after = step.1 initial text short has in
-      let later = received tail initial (text ++ piece_bytes piece) (after.1.0 refl) after.0 in
+      let tail_ends = received tail initial (text ++ piece_bytes piece) (after.1.0 refl) after.0 in
       let whole = append_assoc text (piece_bytes piece) (flat_map piece_bytes pieces) in
-      subst (λ l. Ends s initial l all t) whole (later.0 ∙ step.0, later.1, later.2)
+      subst (λ l. Ends s initial l all t) whole (tail_ends.0 ∙ step.0, tail_ends.1, tail_ends.2)
