@@ -11,6 +11,7 @@
 //! ```
 #![tactic(auto)]
 
+mod digest_file;
 mod hint;
 mod input;
 mod kind_keeper;

@@ -8,9 +8,10 @@ ghost use Rattle.cli_faults.specs.declared.failure.Failure.{Failure as Failed};
 ghost use Rattle.cli_faults.specs.Status.{IsOutput};
 ghost use Rattle.cli_reports.specs.RowTexts.{line_feed};
 ghost use Rattle.cli_reports.specs.Stops.{status_of_stop};
-ghost use Rattle.cli.specs.Runs.{Does, IsChecked, IsMixed, IsReported, IsRewriting, IsRunOn, IsUsage, Ran, StopsBy, status_of_outcome};
+ghost use Rattle.cli.specs.Runs.{Does, IsChecked, IsDigesting, IsMixed, IsReported, IsRewriting, IsRunOn, IsUsage, Ran, StopsBy, status_of_outcome};
 ghost use Rattle.cli.specs.Stopped.{stopped_text};
 
+use crate::digest_file::digest_bytes_of;
 use crate::input::read_file;
 use crate::output_file::is_standard_output;
 use crate::rewrite_file::rewrite;
@@ -131,6 +132,7 @@ fn run<'a, R: Files + AllocGlobal, W: Write>(
         Task::Print(report) => print_file(rt, report, ask.file.unwrap(), ask.bare, out),
         Task::CheckWithin(budget) => check_file(rt, budget, ask.file.unwrap(), ask.bare, out),
         Task::Rewrite(path) => rewrite_file(rt, path, ask.file.unwrap(), ask.bare, out),
+        Task::Digest => digest_file(rt, ask.file.unwrap(), ask.bare, out),
         Task::Explain(code) => Ok(explain(rt.alloc(), code, out)?),
     }
 }
@@ -224,6 +226,33 @@ fn rewrite_bytes<'a, R: Files + AllocGlobal, W: Write>(
     ensures { IsRewriting W.contents out.old out.new R.File.contents path.now bare bytes.now result }
 {
     let outcome = rewrite(rt, bytes, bare, file, path, out);
+    with_hint(stopped_by(outcome), bare, bytes)
+}
+
+/// Prints the digest of the canonical root of a file.
+fn digest_file<'a, R: Files + AllocGlobal, W: Write>(
+    rt: &R,
+    file: &'a str,
+    bare: bool,
+    out: &mut W,
+) -> Result<(), Stopped<'a>>
+    ensures { IsRunOn W.contents out.old out.new file.now (IsDigesting W.contents out.old out.new file.now bare) result }
+{
+    let bytes = read_file(rt, file)?;
+    digest_bytes(rt.alloc(), file, &bytes, bare, out)
+}
+
+/// Prints the digest of the canonical root of bytes that were read from a file.
+fn digest_bytes<W: Write>(
+    alloc: Global,
+    file: &str,
+    bytes: &[u8],
+    bare: bool,
+    out: &mut W,
+) -> Result<(), Stopped<'static>>
+    ensures { IsDigesting W.contents out.old out.new file.now bare bytes.now result }
+{
+    let outcome = digest_bytes_of(alloc, bytes, bare, file, out);
     with_hint(stopped_by(outcome), bare, bytes)
 }
 

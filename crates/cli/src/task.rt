@@ -17,6 +17,8 @@ pub(crate) enum Task<'a> {
     CheckWithin(u64),
     /// Write the canonical root of a file to this path.
     Rewrite(&'a str),
+    /// Print the digest of the canonical root of a file.
+    Digest,
     /// Explain a fault, or list all.
     Explain(Option<FaultCode>),
 }
@@ -40,6 +42,7 @@ pub(crate) fn task_of<'a>(ask: Ask<'a>) -> Result<Task<'a>, Failure<'a>>
             Task::Print(Report::Token(number))
         }
         Subcommand::Rewrite => Task::Rewrite(ask.second.unwrap()),
+        Subcommand::Digest => Task::Digest,
         Subcommand::Explain => return explanation_of(ask.code),
     })
 }

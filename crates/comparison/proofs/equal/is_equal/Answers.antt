@@ -6,7 +6,7 @@ use Rattle.comparison.proofs.equal.is_equal.Goals as goal
 
 pub returns-then-is_some : goal.returns-then-is_some
 returns-then-is_some c = λ first second is also.
-    let law = c.models_without_differences_are_equal.ensures first second (c.models_of_roots_are_valid.ensures c.args.left.now first is)
+    let law = c.models_without_differences_are_equal.ensures.parts first second (c.models_of_roots_are_valid.ensures c.args.left.now first is)
     (c.models_of_roots_are_valid.ensures c.args.right.now second also) 1 (omega arith) in (
       (λ test. cc),
       (λ same. absurd (outline_some c.outline_difference.result (outline_differences first second) (c.outline_difference.ensures.first first second is also)
@@ -15,7 +15,7 @@ returns-then-is_some c = λ first second is also.
 
 pub returns : goal.returns
 returns c = λ first second is also.
-    let law = c.models_without_differences_are_equal.ensures first second (c.models_of_roots_are_valid.ensures c.args.left.now first is)
+    let law = c.models_without_differences_are_equal.ensures.parts first second (c.models_of_roots_are_valid.ensures c.args.left.now first is)
     (c.models_of_roots_are_valid.ensures c.args.right.now second also) 1 (omega arith) in
     let outline = outline_none c.outline_difference.result (outline_differences first second) (c.outline_difference.ensures.none first second is also)
     (sym c.is_some.ensures ∙ c.if-is_some.false) in
