@@ -9,7 +9,7 @@ use Rattle.cli_faults.specs.declared.failure.Failure.TheVariants.{Fault, NoSuchR
 use Rattle.cli_faults.specs.Status.{IsOutput, IsUnwritten, status_of}
 use Rattle.cli_reports.specs.declared.report.Report.{Report}
 use Rattle.cli_reports.specs.declared.stop.Stop.{Stop}
-use Rattle.cli_reports.specs.declared.stop.Stop.TheVariants.{BudgetSpent, Failed}
+use Rattle.cli_reports.specs.declared.stop.Stop.TheVariants.{BudgetSpent, Different, Failed}
 use Rattle.cli_reports.specs.Checked.{IsWhole, rules_of, signature_bytes_of}
 use Rattle.sha2.specs.Sha256.{sha256}
 use Rattle.cli_reports.specs.Digests.{digest_text}
@@ -113,6 +113,7 @@ failure_never_zero OutOfMemory is = cc
 pub never_zero : (stop : Stop) → status_of_stop stop ≡ 0 → ⊥
 never_zero (Failed failure) is = failure_never_zero failure is
 never_zero BudgetSpent is = cc
+never_zero Different is = cc
 
 -- the line went out if it succeeds, else a prefix of it
 pub line_sent : {E : Type 0} (before after : Option (List ℕ)) (text : List ℕ) (first : Result (Unit {0}) E) (last : Result (Unit {0}) Failure)

@@ -42,3 +42,6 @@ rewriting_is made path is = λ explains. subst IsExplanation is explains
 
 pub digest_is : (made : Task) → made ≡ task.Digest → ¬ IsExplanation made
 digest_is made is = λ explains. subst IsExplanation is explains
+
+pub comparing_is : (made : Task) (other : Bor (List ℕ)) → made ≡ task.Compare other → ¬ IsExplanation made
+comparing_is made other is = λ explains. subst IsExplanation is explains

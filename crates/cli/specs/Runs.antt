@@ -25,6 +25,7 @@ use Rattle.cli_reports.specs.Stops.{StopLeavesOutput, StopsWithin, status_of_sto
 use Rattle.cli.specs.declared.stopped.Stopped.{Stopped}
 use Rattle.cli.specs.declared.task.Task.{Task}
 use Rattle.cli.specs.declared.task.Task.TheVariants as task
+use Rattle.cli.specs.Compared.{IsComparing}
 use Rattle.cli.specs.Hints.{hint_for}
 use Rattle.cli.specs.Read.{IsRefused}
 use Rattle.cli.specs.Rewritten.{IsGiven, IsRewritten, ReportsUnwritten}
@@ -110,6 +111,8 @@ module _ {W : Type 0} (contents : W → Option (List ℕ)) (before after : W) wh
   IsRunOf file_contents (task.CheckWithin budget) bare file outcome = IfSome file (λ path. IsRunOn path.now (IsChecked budget bare) outcome)
   IsRunOf file_contents (task.Rewrite out) bare file outcome = IfSome file (λ path. IsRunOn path.now (IsRewriting file_contents out.now bare) outcome ⊎ IsMixed out.now outcome)
   IsRunOf file_contents task.Digest bare file outcome = IfSome file (λ path. IsRunOn path.now (IsDigesting path.now bare) outcome)
+  IsRunOf file_contents (task.Compare other) bare file outcome =
+      IfSome file (λ path. IsRunOn path.now (λ left. IsRunOn other.now (λ right. IsComparing contents before after bare left right path.now other.now)) outcome)
   IsRunOf file_contents (task.Explain code) bare file outcome = IfErr outcome (λ stopped. (failure : Failure) × StopsBy failure stopped × IsOutput failure)
 
   -- the run of what the arguments ask for: that of their task; or one of them is wrong, and nothing is read or printed

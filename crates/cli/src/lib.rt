@@ -11,6 +11,7 @@
 //! ```
 #![tactic(auto)]
 
+mod compare_files;
 mod digest_file;
 mod hint;
 mod input;

@@ -19,6 +19,8 @@ pub(crate) enum Task<'a> {
     Rewrite(&'a str),
     /// Print the digest of the canonical root of a file.
     Digest,
+    /// Print what differs between a file and the one at this path.
+    Compare(&'a str),
     /// Explain a fault, or list all.
     Explain(Option<FaultCode>),
 }
@@ -43,6 +45,7 @@ pub(crate) fn task_of<'a>(ask: Ask<'a>) -> Result<Task<'a>, Failure<'a>>
         }
         Subcommand::Rewrite => Task::Rewrite(ask.second.unwrap()),
         Subcommand::Digest => Task::Digest,
+        Subcommand::Compare => Task::Compare(ask.second.unwrap()),
         Subcommand::Explain => return explanation_of(ask.code),
     })
 }

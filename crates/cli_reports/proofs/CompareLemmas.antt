@@ -1,5 +1,6 @@
 -- The lines of what differs between two models.
-use Rattle.std.proofs.Common.{◌≡◌, ◌∙◌, ℕ, List, [], ◌∷◌, ◌++◌, refl, ap, codes, length, decimal}
+use Rattle.std.proofs.Common.{◌≡◌, ◌∙◌, ℕ, List, [], ◌∷◌, ◌++◌, refl, ap, codes, length, decimal, arith}
+use Rattle.std.specs.List.{flat_map}
 use Rattle.table_schema.specs.declared.table.TableId.{TableId}
 use Rattle.table_schema.specs.Tokens.{token_text}
 use Rattle.metadata.specs.Metadata.{Metadata, cell_in, count_in}
@@ -7,8 +8,8 @@ use Rattle.comparison.specs.declared.difference.Difference.{Difference}
 use Rattle.comparison.specs.declared.difference.Difference.TheVariants.{Version, UserStrings, RowCount, Cell}
 use Rattle.comparison.specs.Differences.{IsThere}
 use Rattle.cli_faults.specs.Escaped.{escaped_text}
-use Rattle.cli_reports.specs.Comparisons.{HasPlace, column_name, label_text, value_text}
-use Rattle.cli_reports.specs.RowTexts.{cell_text}
+use Rattle.cli_reports.specs.Comparisons.{HasPlace, column_name, compared_text, difference_text, label_text, value_text}
+use Rattle.cli_reports.specs.RowTexts.{cell_text, line_feed}
 use Rattle.cli_reports.proofs.LineLemmas.{four_joined, three_joined}
 
 pub place_left : (left right : List ℕ) (difference : Difference) → IsThere left right difference → HasPlace left difference
@@ -59,3 +60,15 @@ count_label table left right = refl
 pub cell_label : (table : TableId) (row cell_index : ℕ) → token_text (record { table = table; row = row }) ++ (32 ∷ []) ++ column_name table cell_index ≡ label_text (Cell table row cell_index)
 unfolding label_text
 cell_label table row cell_index = refl
+
+-- what is printed, by whether something differs
+pub compared_nothing : (left right : Metadata) (found : List Difference) → found ≡ [] → compared_text left right found ≡ codes "equal" ++ line_feed
+compared_nothing left right found none = ap (λ ds. compared_text left right ds) none
+
+pub compared_some : (left right : Metadata) (found : List Difference) → (found ≡ [] → ⊥) → compared_text left right found ≡ flat_map (difference_text left right) found
+compared_some left right [] some = absurd (some refl)
+compared_some left right (difference ∷ differences) some = refl
+
+pub long_nothing : {X : Type 0} (xs : List X) → length xs ≡ 0 → xs ≡ []
+long_nothing [] is = refl
+long_nothing (x ∷ xs) is = absurd (omega (arith, is))

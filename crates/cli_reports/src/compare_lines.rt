@@ -1,19 +1,20 @@
 //! Prints what differs between two views.
-ghost use Rattle.std.specs.Prelude.{◌≡◌, ◌++◌, ◌<◌, IfOk, OnOk, All, length};
+ghost use Rattle.std.specs.Prelude.{◌≡◌, ◌++◌, ◌<◌, IfErr, OnOk, All, length};
 ghost use Rattle.std.specs.List.{flat_map};
 ghost use Rattle.heap_entries.specs.Padding.{zero_padded};
 ghost use Rattle.table_schema.specs.CellColumns.{cell_count};
 ghost use Rattle.metadata.specs.Metadata.{Metadata};
 ghost use Rattle.metadata.specs.Model.{IsModel};
-ghost use Rattle.opening.specs.Views.{HasModel};
 ghost use Rattle.comparison.specs.declared.difference.Difference.TheVariants.{RowCount};
 ghost use Rattle.comparison.specs.Differences.{IsThere};
-ghost use Rattle.cli_reports.specs.Comparisons.{HasPlace, column_name, difference_text, label_text, value_text};
+ghost use Rattle.cli_faults.specs.Status.{IsOutput};
+ghost use Rattle.cli_reports.specs.Comparisons.{HasPlace, column_name, compared_text, difference_text, label_text, value_text};
 ghost use Rattle.cli_reports.specs.Sent.{Moves, Prints};
 
 use crate::line::{push_decimal, push_escaped, push_upper_hexadecimal};
 use crate::row_lines::{push_cell, push_token};
 use crate::sending::{finish, send_full};
+use cli_faults::{Failure, printed};
 use comparison::Difference;
 use opening::{CellCursor, TableId, Token, View};
 use schema::column_names;
@@ -22,6 +23,50 @@ use std::io;
 use std::io::Write;
 use table_schema::column_of_cell;
 
+/// Prints what differs between two views, as [`differences`] found it: a line `WHAT: A | B` for each, and `equal` if there
+/// is none. WHAT is `version`, `user strings`, `rows NN NAME`, or the token of a row and the name of a column. A cell is
+/// printed as by `clim show`.
+///
+/// Its memory is that of the longest line, and of the lines that wait to be sent.
+///
+/// # Errors
+///
+/// Out of memory, or the output cannot be written. By then the writer has nothing or a prefix of the lines.
+///
+/// [`differences`]: comparison::differences
+pub fn print_comparison<W: Write>(
+    alloc: Global,
+    left: &View<'_>,
+    right: &View<'_>,
+    found: &[Difference],
+    out: &mut W,
+) -> Result<(), Failure<'static>>
+    requires { All (IsThere left.now right.now) found.now }
+    ensures printed { (model other : Metadata) → IsModel left.now model → IsModel right.now other
+        → Prints (W.contents out.old) (W.contents out.new) result (compared_text model other found.now) }
+    ensures failed { IfErr result IsOutput }
+{
+    printed(print(alloc, left, right, found, out))
+}
+
+/// Prints what differs, or `equal` if nothing does.
+fn print<W: Write>(
+    alloc: Global,
+    left: &View<'_>,
+    right: &View<'_>,
+    found: &[Difference],
+    out: &mut W,
+) -> io::Result<()>
+    requires { All (IsThere left.now right.now) found.now }
+    ensures { (model other : Metadata) → IsModel left.now model → IsModel right.now other
+        → Prints (W.contents out.old) (W.contents out.new) result (compared_text model other found.now) }
+{
+    if found.is_empty() {
+        return finish(b"equal\n", out);
+    }
+    print_differences(alloc, left, right, found, out)
+}
+
 /// Prints the lines of what differs between two views, each `WHAT: A | B`.
 ///
 /// Its memory is that of the longest line, and of the lines that wait to be sent.
@@ -29,7 +74,7 @@ use table_schema::column_of_cell;
 /// # Errors
 ///
 /// Out of memory, or the error of the writer. By then the writer has nothing or a prefix of the lines.
-pub(crate) fn print_differences<W: Write>(
+fn print_differences<W: Write>(
     alloc: Global,
     left: &View<'_>,
     right: &View<'_>,
@@ -99,11 +144,7 @@ fn push_difference(
 }
 
 /// Appends what differs.
-fn push_label(
-    view: &View<'_>,
-    difference: Difference,
-    line: &mut Vec<u8>,
-) -> Result<(), AllocError>
+fn push_label(view: &View<'_>, difference: Difference, line: &mut Vec<u8>) -> Result<(), AllocError>
     requires { HasPlace view.now difference }
     ensures { OnOk result (line.new.items ≡ line.old.items ++ label_text difference) }
 {

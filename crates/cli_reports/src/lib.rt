@@ -12,7 +12,6 @@
 #![tactic(auto)]
 
 mod check_file;
-mod compare_files;
 mod compare_lines;
 mod digest_line;
 mod existing;
@@ -32,7 +31,7 @@ mod type_lines;
 mod user_string_line;
 
 pub use check_file::check_within;
-pub use compare_files::{Verdict, print_comparison};
+pub use compare_lines::print_comparison;
 pub use digest_line::print_digest;
 pub use explain_fault::explain;
 pub use opened::open;
