@@ -61,7 +61,7 @@ returns-then-is_empty g c =
 pub returns : goal.returns
 returns g c =
     ends_different g.W.Write.contents c.args.out.now c.print_comparison.new.out c.args.bare c.args.left.now c.args.right.now c.args.file.now c.args.other.now
-    c.from.result c.from.ensures.0 (c.in_ok-left_view.ensures.sound, c.in_ok-right_view.ensures.sound)
+    c.from-2.result c.from-2.ensures.0 (c.in_ok-left_view.ensures.sound, c.in_ok-right_view.ensures.sound)
     (λ model another is also.
     let here = c.in_ok-left_view.ensures.models model is in
     let there = c.in_ok-right_view.ensures.models another also in
