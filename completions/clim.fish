@@ -1,6 +1,6 @@
 # Completions of clim for fish.
 
-set -l readers root check show types token rewrite
+set -l readers root check show types token rewrite digest compare
 set -l subcommands $readers explain help
 
 complete -c clim -f
@@ -12,6 +12,8 @@ complete -c clim -n "not __fish_seen_subcommand_from $subcommands" -a show -d 'P
 complete -c clim -n "not __fish_seen_subcommand_from $subcommands" -a types -d 'Print the types, with the number of their fields and methods'
 complete -c clim -n "not __fish_seen_subcommand_from $subcommands" -a token -d 'Print the row or the user string that a token names'
 complete -c clim -n "not __fish_seen_subcommand_from $subcommands" -a rewrite -d 'Write the canonical metadata root of a file'
+complete -c clim -n "not __fish_seen_subcommand_from $subcommands" -a digest -d 'Print the SHA-256 digest of the canonical metadata root of a file'
+complete -c clim -n "not __fish_seen_subcommand_from $subcommands" -a compare -d 'Compare the metadata of two files'
 complete -c clim -n "not __fish_seen_subcommand_from $subcommands" -a explain -d 'Explain a fault, or list all faults'
 complete -c clim -n "not __fish_seen_subcommand_from $subcommands" -a help -d 'Print this message or the help of the given subcommand(s)'
 complete -c clim -n "__fish_seen_subcommand_from $readers" -F

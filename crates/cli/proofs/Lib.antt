@@ -1,5 +1,6 @@
 pub mod TaskFiles
 pub mod NumbersRead
+pub mod Comparing
 pub mod Rewritings
 pub mod RunLemmas
 pub mod Reading

@@ -9,8 +9,10 @@ use Rattle.cli_faults.specs.declared.failure.Failure.TheVariants.{Fault, NoSuchR
 use Rattle.cli_faults.specs.Status.{IsOutput, IsUnwritten, status_of}
 use Rattle.cli_reports.specs.declared.report.Report.{Report}
 use Rattle.cli_reports.specs.declared.stop.Stop.{Stop}
-use Rattle.cli_reports.specs.declared.stop.Stop.TheVariants.{BudgetSpent, Failed}
+use Rattle.cli_reports.specs.declared.stop.Stop.TheVariants.{BudgetSpent, Different, Failed}
 use Rattle.cli_reports.specs.Checked.{IsWhole, rules_of, signature_bytes_of}
+use Rattle.sha2.specs.Sha256.{sha256}
+use Rattle.cli_reports.specs.Digests.{digest_text}
 use Rattle.cli_reports.specs.Printed.{IsReportText, check_text}
 use Rattle.cli_reports.specs.Reported.{IsMet, LeavesOutput, Reports}
 use Rattle.cli_reports.specs.Sent.{Prints, SendsPrefix}
@@ -20,7 +22,7 @@ use Rattle.cli.specs.declared.task.Task.{Task}
 use Rattle.cli.specs.Hints.{hint_for}
 use Rattle.cli.specs.Read.{IsRefused}
 use Rattle.cli.specs.Rewritten.{IsGiven, IsRewritten, ReportsUnwritten}
-use Rattle.cli.specs.Runs.{Does, IsChecked, IsReported, IsRewriting, IsRunOf, IsRunOn, Outcome, PrintsPart, StopsBy, wrote_text}
+use Rattle.cli.specs.Runs.{DigestsPart, Does, IsChecked, IsDigesting, IsReported, IsRewriting, IsRunOf, IsRunOn, Outcome, PrintsPart, StopsBy, wrote_text}
 use Rattle.cli.specs.Stopped.{IsStopOf}
 use Rattle.cli.specs.Tasks.{IsTask}
 
@@ -77,6 +79,22 @@ module _ {W : Type 0} (contents : W → Option (List ℕ)) (before after : W) (b
     hint = rw hinted.0 hinted.1;
   }
 
+  pub digesting : (path : List ℕ) (first : Result (Unit {0}) Failure) (second : Result (Unit {0}) Stop) (last : Outcome)
+      → OnOk first ((root : List ℕ) × IsRewritten bare bytes root × Appends (contents before) (contents after) (digest_text (sha256 root) path))
+      → IfErr first (λ failure. (ReportsUnwritten bare bytes failure × (after ≡ before)) ⊎ (IsOutput failure × DigestsPart path bare bytes (contents before) (contents after)))
+      → IsStopOf first second → IsOk last ↔ IsOk second → Hinted bare bytes second last
+      → IsDigesting contents before after path bare bytes last
+  digesting path (Ok done) (Ok same) (Ok end) printed reports stops ok hinted = record { printed = printed; stopped = tt; hint = tt }
+  digesting path (Ok done) (Ok same) (Err stopped) printed reports stops ok hinted = let no = ok.1 refl in cc
+  digesting path (Ok done) (Err stop) last printed reports stops ok hinted = cc
+  digesting path (Err failure) (Ok same) last printed reports stops ok hinted = absurd stops
+  digesting path (Err failure) (Err stop) (Ok end) printed reports stops ok hinted = let no = ok.0 refl in cc
+  digesting path (Err failure) (Err stop) (Err stopped) printed reports stops ok hinted = record {
+    printed = tt;
+    stopped = (failure, rw hinted.0 stops, reports);
+    hint = rw hinted.0 hinted.1;
+  }
+
 -- the value of an option that is there has a property
 pub if_some : {T : Type 0} (P : T → Type 0) (option : Option T) (value : T) → option ≡ Some value → P value → IfSome option P
 if_some P option value is has = subst (λ (o : Option _). IfSome o P) (sym is) has
@@ -95,6 +113,7 @@ failure_never_zero OutOfMemory is = cc
 pub never_zero : (stop : Stop) → status_of_stop stop ≡ 0 → ⊥
 never_zero (Failed failure) is = failure_never_zero failure is
 never_zero BudgetSpent is = cc
+never_zero Different is = cc
 
 -- the line went out if it succeeds, else a prefix of it
 pub line_sent : {E : Type 0} (before after : Option (List ℕ)) (text : List ℕ) (first : Result (Unit {0}) E) (last : Result (Unit {0}) Failure)

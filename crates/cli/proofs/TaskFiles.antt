@@ -39,3 +39,9 @@ check_is made budget is = λ explains. subst IsExplanation is explains
 
 pub rewriting_is : (made : Task) (path : Bor (List ℕ)) → made ≡ task.Rewrite path → ¬ IsExplanation made
 rewriting_is made path is = λ explains. subst IsExplanation is explains
+
+pub digest_is : (made : Task) → made ≡ task.Digest → ¬ IsExplanation made
+digest_is made is = λ explains. subst IsExplanation is explains
+
+pub comparing_is : (made : Task) (other : Bor (List ℕ)) → made ≡ task.Compare other → ¬ IsExplanation made
+comparing_is made other is = λ explains. subst IsExplanation is explains

@@ -1,3 +1,4 @@
+pub mod Compared
 pub mod Hints
 pub mod Numbers
 pub mod Read

@@ -15,6 +15,8 @@ use Rattle.cli_reports.specs.declared.report.Report.{Report}
 use Rattle.cli_reports.specs.declared.stop.Stop.{Stop}
 use Rattle.cli_reports.specs.declared.stop.Stop.TheVariants.{Failed}
 use Rattle.cli_reports.specs.Checked.{IsWhole, rules_of, signature_bytes_of}
+use Rattle.sha2.specs.Sha256.{sha256}
+use Rattle.cli_reports.specs.Digests.{digest_text}
 use Rattle.cli_reports.specs.Printed.{IsReportText, check_text}
 use Rattle.cli_reports.specs.Reported.{IsMet, LeavesOutput, Reports}
 use Rattle.cli_reports.specs.RowTexts.{line_feed}
@@ -23,6 +25,7 @@ use Rattle.cli_reports.specs.Stops.{StopLeavesOutput, StopsWithin, status_of_sto
 use Rattle.cli.specs.declared.stopped.Stopped.{Stopped}
 use Rattle.cli.specs.declared.task.Task.{Task}
 use Rattle.cli.specs.declared.task.Task.TheVariants as task
+use Rattle.cli.specs.Compared.{IsComparing}
 use Rattle.cli.specs.Hints.{hint_for}
 use Rattle.cli.specs.Read.{IsRefused}
 use Rattle.cli.specs.Rewritten.{IsGiven, IsRewritten, ReportsUnwritten}
@@ -45,6 +48,10 @@ wrote_text count = codes "wrote " ++ decimal count ++ codes " bytes" ++ line_fee
 abbrev pub PrintsPart : {F : Type 0} → (F → Option (List ℕ)) → Bool → List ℕ → Option (List ℕ) → Option (List ℕ) → Type 0
 PrintsPart file_contents bare bytes before after =
     (root : List ℕ) × IsRewritten bare bytes root × IsGiven file_contents root × SendsPrefix before after (wrote_text (length root))
+
+-- a prefix of the line of the digest went out
+abbrev pub DigestsPart : List ℕ → Bool → List ℕ → Option (List ℕ) → Option (List ℕ) → Type 0
+DigestsPart path bare bytes before after = (root : List ℕ) × IsRewritten bare bytes root × SendsPrefix before after (digest_text (sha256 root) path)
 
 -- it stopped by this failure, without a hint
 abbrev pub StopsBy : Failure → Stopped → Type 0
@@ -79,6 +86,15 @@ module _ {W : Type 0} (contents : W → Option (List ℕ)) (before after : W) wh
         ⊎ (IsOutput failure × PrintsPart file_contents bare bytes (contents before) (contents after))))
     pub hint : IfErr outcome (λ stopped. stopped.hint ≡ hint_for bare bytes stopped.stop)
 
+  -- The line with the SHA-256 digest (FIPS 180-4) of the canonical root of the bytes' model was printed. If it stopped,
+  -- the first broken rule is reported, or that the root is too long, or what else failed.
+  pub record IsDigesting (path : List ℕ) (bare : Bool) (bytes : List ℕ) (outcome : Outcome) : Type 0 where
+    pub printed : OnOk outcome ((root : List ℕ) × IsRewritten bare bytes root × Appends (contents before) (contents after) (digest_text (sha256 root) path))
+    pub stopped : IfErr outcome (λ stopped. (failure : Failure) × (stopped.stop ≡ Failed failure)
+        × ((ReportsUnwritten bare bytes failure × (after ≡ before))
+        ⊎ (IsOutput failure × DigestsPart path bare bytes (contents before) (contents after))))
+    pub hint : IfErr outcome (λ stopped. stopped.hint ≡ hint_for bare bytes stopped.stop)
+
   -- What reading a file gave decides: the run on its bytes; or the failure to read it, and nothing is printed.
   abbrev pub IsRunOn : List ℕ → (List ℕ → Outcome → Type 0) → Outcome → Type 0
   IsRunOn file run outcome =
@@ -94,6 +110,9 @@ module _ {W : Type 0} (contents : W → Option (List ℕ)) (before after : W) wh
   IsRunOf file_contents (task.Print report) bare file outcome = IfSome file (λ path. IsRunOn path.now (IsReported report bare) outcome)
   IsRunOf file_contents (task.CheckWithin budget) bare file outcome = IfSome file (λ path. IsRunOn path.now (IsChecked budget bare) outcome)
   IsRunOf file_contents (task.Rewrite out) bare file outcome = IfSome file (λ path. IsRunOn path.now (IsRewriting file_contents out.now bare) outcome ⊎ IsMixed out.now outcome)
+  IsRunOf file_contents task.Digest bare file outcome = IfSome file (λ path. IsRunOn path.now (IsDigesting path.now bare) outcome)
+  IsRunOf file_contents (task.Compare other) bare file outcome =
+      IfSome file (λ path. IsRunOn path.now (λ left. IsRunOn other.now (λ right. IsComparing contents before after bare left right path.now other.now)) outcome)
   IsRunOf file_contents (task.Explain code) bare file outcome = IfErr outcome (λ stopped. (failure : Failure) × StopsBy failure stopped × IsOutput failure)
 
   -- the run of what the arguments ask for: that of their task; or one of them is wrong, and nothing is read or printed

@@ -1,5 +1,7 @@
 -- The lines that report why a run stopped early.
-use Rattle.std.specs.Prelude.{◌≡◌, ℕ, List, ◌∷◌, [], ◌++◌, IsErrAnd, IsOk, MatchResult, Option, Some, None, Result}
+use Rattle.std.specs.Prelude.{◌≡◌, ℕ, List, ◌∷◌, [], ◌++◌, codes, IsErrAnd, IsOk, MatchResult, Option, Some, None, Result}
+use Rattle.std.specs.Borrow.{Bor}
+use Rattle.cli_faults.specs.Escaped.{escaped_text}
 use Rattle.cli_faults.specs.declared.failure.Failure.{Failure}
 use Rattle.cli_reports.specs.declared.stop.Stop.{Stop}
 use Rattle.cli_reports.specs.declared.stop.Stop.TheVariants.{Failed}
@@ -13,9 +15,14 @@ abbrev hint_line : Option Hint → List ℕ
 hint_line (Some hint) = 10 ∷ hint_text hint
 hint_line None = []
 
--- the line of the stop, and then that of the hint if there is one, without the last line feed
+-- a line feed and the line that names the file, if two are read
+abbrev file_line : Option (Bor (List ℕ)) → List ℕ
+file_line (Some path) = 10 ∷ codes "  file: " ++ escaped_text path.now
+file_line None = []
+
+-- the line of the stop, and then those of the file and the hint if there are, without the last line feed
 abbrev pub stopped_text : Stopped → List ℕ
-stopped_text stopped = stop_text stopped.stop ++ hint_line stopped.hint
+stopped_text stopped = stop_text stopped.stop ++ file_line stopped.file ++ hint_line stopped.hint
 
 -- the same result, with its failure as why it stopped
 abbrev pub IsStopOf : {T : Type 0} → Result T Failure → Result T Stop → Type 0

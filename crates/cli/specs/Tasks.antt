@@ -47,4 +47,6 @@ IsTask word.Show ask result = result ≡ Ok (task.Print report.Show)
 IsTask word.Types ask result = result ≡ Ok (task.Print report.Types)
 IsTask word.Token ask result = IfSome ask.second (λ hex. IsTokenTask hex.now result)
 IsTask word.Rewrite ask result = IfSome ask.second (λ out. result ≡ Ok (task.Rewrite out))
+IsTask word.Digest ask result = result ≡ Ok task.Digest
+IsTask word.Compare ask result = IfSome ask.second (λ other. result ≡ Ok (task.Compare other))
 IsTask word.Explain ask result = IsExplainTask ask.code result

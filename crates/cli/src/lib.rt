@@ -11,6 +11,8 @@
 //! ```
 #![tactic(auto)]
 
+mod compare_files;
+mod digest_file;
 mod hint;
 mod input;
 mod kind_keeper;

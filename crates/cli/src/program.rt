@@ -8,9 +8,12 @@ ghost use Rattle.cli_faults.specs.declared.failure.Failure.{Failure as Failed};
 ghost use Rattle.cli_faults.specs.Status.{IsOutput};
 ghost use Rattle.cli_reports.specs.RowTexts.{line_feed};
 ghost use Rattle.cli_reports.specs.Stops.{status_of_stop};
-ghost use Rattle.cli.specs.Runs.{Does, IsChecked, IsMixed, IsReported, IsRewriting, IsRunOn, IsUsage, Ran, StopsBy, status_of_outcome};
+ghost use Rattle.cli.specs.Compared.{IsComparing};
+ghost use Rattle.cli.specs.Runs.{Does, IsChecked, IsDigesting, IsMixed, IsReported, IsRewriting, IsRunOn, IsUsage, Ran, StopsBy, status_of_outcome};
 ghost use Rattle.cli.specs.Stopped.{stopped_text};
 
+use crate::compare_files::compare;
+use crate::digest_file::digest_bytes_of;
 use crate::input::read_file;
 use crate::output_file::is_standard_output;
 use crate::rewrite_file::rewrite;
@@ -20,7 +23,7 @@ use crate::usage_text::usage_text;
 use clap::error::ErrorKind;
 use cli_arguments::{Ask, ask};
 use cli_faults::{Failure, FileError, Reason, printed};
-use cli_reports::{Report, check_within, explain, finish, print_report};
+use cli_reports::{Report, Stop, check_within, explain, finish, print_report};
 use std::alloc::Global;
 use std::io;
 use std::io::Write;
@@ -30,7 +33,7 @@ use std::rt::Files;
 ///
 /// - 0: success, or help or the version was printed;
 /// - 1: the file breaks a rule of the standard, reported as `fault LAYER CODE at OFFSET: NAME`; or it has nothing that
-///   the token names; or its canonical root is too long;
+///   the token names; or its canonical root is too long; or two files that are compared differ;
 /// - 2: usage error; no file was read;
 /// - 3: I/O error, out of memory, or budget spent.
 ///
@@ -68,7 +71,7 @@ pub fn refuse_words<E: Write>(error: &io::Error, err: &mut E) -> u8
     2
 }
 
-/// The exit code of a run. If the program stopped early, it reports that first.
+/// The exit code of a run. If the program stopped early, it reports that first, unless what differs was printed.
 fn status<E: Write>(outcome: Result<(), Stopped<'_>>, err: &mut E) -> u8
     ensures done { IfOk outcome.entry (λ _. result ≡ 0) }
     ensures stopped { IfErr outcome.entry (λ stopped. result ≡ status_of_stop stopped.stop) }
@@ -78,7 +81,9 @@ fn status<E: Write>(outcome: Result<(), Stopped<'_>>, err: &mut E) -> u8
     match outcome {
         Ok(()) => 0,
         Err(stopped) => {
-            let _ = report(&stopped, err);
+            if stopped.stop != Stop::Different {
+                let _ = report(&stopped, err);
+            }
             stopped.stop.status()
         }
     }
@@ -131,6 +136,8 @@ fn run<'a, R: Files + AllocGlobal, W: Write>(
         Task::Print(report) => print_file(rt, report, ask.file.unwrap(), ask.bare, out),
         Task::CheckWithin(budget) => check_file(rt, budget, ask.file.unwrap(), ask.bare, out),
         Task::Rewrite(path) => rewrite_file(rt, path, ask.file.unwrap(), ask.bare, out),
+        Task::Digest => digest_file(rt, ask.file.unwrap(), ask.bare, out),
+        Task::Compare(other) => compare_files(rt, other, ask.file.unwrap(), ask.bare, out),
         Task::Explain(code) => Ok(explain(rt.alloc(), code, out)?),
     }
 }
@@ -225,6 +232,49 @@ fn rewrite_bytes<'a, R: Files + AllocGlobal, W: Write>(
 {
     let outcome = rewrite(rt, bytes, bare, file, path, out);
     with_hint(stopped_by(outcome), bare, bytes)
+}
+
+/// Prints the digest of the canonical root of a file.
+fn digest_file<'a, R: Files + AllocGlobal, W: Write>(
+    rt: &R,
+    file: &'a str,
+    bare: bool,
+    out: &mut W,
+) -> Result<(), Stopped<'a>>
+    ensures { IsRunOn W.contents out.old out.new file.now (IsDigesting W.contents out.old out.new file.now bare) result }
+{
+    let bytes = read_file(rt, file)?;
+    digest_bytes(rt.alloc(), file, &bytes, bare, out)
+}
+
+/// Prints the digest of the canonical root of bytes that were read from a file.
+fn digest_bytes<W: Write>(
+    alloc: Global,
+    file: &str,
+    bytes: &[u8],
+    bare: bool,
+    out: &mut W,
+) -> Result<(), Stopped<'static>>
+    ensures { IsDigesting W.contents out.old out.new file.now bare bytes.now result }
+{
+    let outcome = digest_bytes_of(alloc, bytes, bare, file, out);
+    with_hint(stopped_by(outcome), bare, bytes)
+}
+
+/// Prints what differs between a file and another.
+fn compare_files<'a, R: Files + AllocGlobal, W: Write>(
+    rt: &R,
+    other: &'a str,
+    file: &'a str,
+    bare: bool,
+    out: &mut W,
+) -> Result<(), Stopped<'a>>
+    ensures { IsRunOn W.contents out.old out.new file.now (λ left. IsRunOn W.contents out.old out.new other.now
+        (λ right. IsComparing W.contents out.old out.new bare left right file.now other.now)) result }
+{
+    let left = read_file(rt, file)?;
+    let right = read_file(rt, other)?;
+    compare(rt.alloc(), &left, &right, bare, file, other, out)
 }
 
 /// Prints the help or the version.

@@ -41,7 +41,11 @@ pub(crate) fn rewrite<'a, R: Files + AllocGlobal, W: Write>(
 }
 
 /// The canonical root of bytes, before anything is written.
-fn canonical_root(alloc: Global, bytes: &[u8], bare: bool) -> Result<Prepared, Failure<'static>>
+pub(crate) fn canonical_root(
+    alloc: Global,
+    bytes: &[u8],
+    bare: bool,
+) -> Result<Prepared, Failure<'static>>
     ensures sound { IfOk result (IsRewritten bare bytes.now) }
     ensures first_error { IfErr result (ReportsUnwritten bare bytes.now) }
 {

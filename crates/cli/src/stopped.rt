@@ -5,16 +5,18 @@ ghost use Rattle.cli.specs.Stopped.{IsStopOf, stopped_text};
 ghost use Rattle.cli_reports.specs.declared.stop.Stop.TheVariants.{Failed};
 
 use crate::hint::{Hint, hint_of};
-use cli_faults::Failure;
+use cli_faults::{Escaped, Failure};
 use cli_reports::Stop;
 use std::fmt;
 
 /// Why a run stopped early, and what the user may have meant. `Display` gives the lines for standard error, without the
-/// last line feed: first that of the stop.
+/// last line feed: first that of the stop, then that of the file, then that of the hint.
 #[derive(Clone, Copy, Debug, PartialEq, Eq)]
 pub(crate) struct Stopped<'a> {
     /// Why it stopped.
     pub(crate) stop: Stop<'a>,
+    /// The file that the failure is about, if two are read.
+    pub(crate) file: Option<&'a str>,
     /// What the user may have meant.
     pub(crate) hint: Option<Hint>,
 }
@@ -32,6 +34,7 @@ pub(crate) fn with_hint<'a>(
         Ok(()) => Ok(()),
         Err(stop) => Err(Stopped {
             stop,
+            file: None,
             hint: hint_of(&stop, bare, bytes),
         }),
     }
@@ -48,7 +51,11 @@ impl<'a> From<Stop<'a>> for Stopped<'a> {
     ghost from_gives = { λ stop stopped. (stopped.stop ≡ stop) × (stopped.hint ≡ None) };
 
     fn from(stop: Stop<'a>) -> Self {
-        Stopped { stop, hint: None }
+        Stopped {
+            stop,
+            file: None,
+            hint: None,
+        }
     }
 }
 
@@ -58,6 +65,7 @@ impl<'a> From<Failure<'a>> for Stopped<'a> {
     fn from(failure: Failure<'a>) -> Self {
         Stopped {
             stop: Stop::Failed(failure),
+            file: None,
             hint: None,
         }
     }
@@ -67,9 +75,13 @@ impl fmt::Display for Stopped<'_> {
     ghost output = { λ stopped. Some (stopped_text stopped) };
 
     fn fmt<W: fmt::Write>(&self, f: &mut fmt::Formatter<W>) -> fmt::Result {
-        match &self.hint {
-            Some(hint) => write!(f, "{}\n{hint}", self.stop),
-            None => write!(f, "{}", self.stop),
+        match (self.file, &self.hint) {
+            (Some(file), Some(hint)) => {
+                write!(f, "{}\n  file: {}\n{hint}", self.stop, Escaped(file))
+            }
+            (Some(file), None) => write!(f, "{}\n  file: {}", self.stop, Escaped(file)),
+            (None, Some(hint)) => write!(f, "{}\n{hint}", self.stop),
+            (None, None) => write!(f, "{}", self.stop),
         }
     }
 }

@@ -17,6 +17,10 @@ pub(crate) enum Task<'a> {
     CheckWithin(u64),
     /// Write the canonical root of a file to this path.
     Rewrite(&'a str),
+    /// Print the digest of the canonical root of a file.
+    Digest,
+    /// Print what differs between a file and the one at this path.
+    Compare(&'a str),
     /// Explain a fault, or list all.
     Explain(Option<FaultCode>),
 }
@@ -40,6 +44,8 @@ pub(crate) fn task_of<'a>(ask: Ask<'a>) -> Result<Task<'a>, Failure<'a>>
             Task::Print(Report::Token(number))
         }
         Subcommand::Rewrite => Task::Rewrite(ask.second.unwrap()),
+        Subcommand::Digest => Task::Digest,
+        Subcommand::Compare => Task::Compare(ask.second.unwrap()),
         Subcommand::Explain => return explanation_of(ask.code),
     })
 }

@@ -8,3 +8,4 @@ pub mod TypeTexts
 pub mod Outcomes
 pub mod Heads
 pub mod Tokens
+pub mod CompareLemmas

@@ -12,6 +12,8 @@
 #![tactic(auto)]
 
 mod check_file;
+mod compare_lines;
+mod digest_line;
 mod existing;
 mod explain_fault;
 mod line;
@@ -29,6 +31,8 @@ mod type_lines;
 mod user_string_line;
 
 pub use check_file::check_within;
+pub use compare_lines::print_comparison;
+pub use digest_line::print_digest;
 pub use explain_fault::explain;
 pub use opened::open;
 pub use report::{Report, print_report};

@@ -145,7 +145,7 @@ fn push_value(
 }
 
 /// Appends a cell, by its index in its row.
-fn push_cell(
+pub(crate) fn push_cell(
     alloc: Global,
     cells: &mut CellCursor<'_, '_>,
     table: TableId,

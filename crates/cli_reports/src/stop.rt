@@ -13,19 +13,22 @@ pub enum Stop<'a> {
     Failed(Failure<'a>),
     /// The budget was spent before all signatures were checked.
     BudgetSpent,
+    /// Two files that were compared differ. What differs was printed.
+    Different,
 }
 
 impl Stop<'_> {
     ghost use Rattle.std.specs.Prelude.{◌≡◌};
     ghost use Rattle.cli_reports.specs.Stops.{status_of_stop};
 
-    /// The exit code of the process: that of the failure, or 3 if the budget was spent.
+    /// The exit code of the process: that of the failure, 3 if the budget was spent, or 1 if the files differ.
     pub fn status(&self) -> u8
         ensures { result ≡ status_of_stop self.now }
     {
         match self {
             Stop::Failed(failure) => failure.status(),
             Stop::BudgetSpent => 3,
+            Stop::Different => 1,
         }
     }
 }
@@ -45,6 +48,7 @@ impl fmt::Display for Stop<'_> {
         match self {
             Stop::Failed(failure) => write!(f, "{failure}"),
             Stop::BudgetSpent => f.write_str("error: budget spent"),
+            Stop::Different => f.write_str("the files differ"),
         }
     }
 }

@@ -17,7 +17,7 @@ use Rattle.metadata.specs.Valid.{IsValid}
 use Rattle.comparison.specs.declared.difference.Difference.{Difference}
 use Rattle.comparison.specs.declared.difference.Difference.TheVariants as difference
 use Rattle.comparison.specs.SameCells.{is_same_cell}
-use Rattle.comparison.specs.Differences.{cell_difference, cell_differences, count_difference, outline_differences, row_differences, table_differences, user_difference, version_difference}
+use Rattle.comparison.specs.Differences.{cell_difference, cell_differences, count_difference, first_differences, outline_differences, row_differences, table_differences, user_difference, version_difference}
 
 -- ---- lists of nothing
 
@@ -171,3 +171,27 @@ outline_none (Some one) xs found test = cc
 pub nothing_long : {X : Type 0} (xs : List X) → length xs ≡ 0 → xs ≡ []
 nothing_long [] is = refl
 nothing_long (x ∷ xs) is = absurd (omega (arith, is))
+
+pub first_differs : (first second : Metadata) (limit : ℕ) → first_differences first second limit ≡ []
+    → (outline_differences first second ≡ []) × (take limit (cell_differences first second) ≡ [])
+unfolding first_differences
+first_differs first second limit none = (
+  some_nothing (outline_differences first second) 1 (omega arith) (first_nothing (take 1 (outline_differences first second)) (take limit (cell_differences first second)) none),
+  last_nothing (take 1 (outline_differences first second)) (take limit (cell_differences first second)) none,
+)
+
+pub first_nothing_differs : (first second : Metadata) (limit : ℕ) → outline_differences first second ≡ [] → take limit (cell_differences first second) ≡ []
+    → first_differences first second limit ≡ []
+unfolding first_differences
+first_nothing_differs first second limit none also =
+    ap (λ (xs : List Difference). take 1 xs ++ take limit (cell_differences first second)) none ∙ also
+
+-- the differences, by the first one besides cells
+pub first_is : (first second : Metadata) (limit : ℕ) (one : Difference) → take 1 (outline_differences first second) ≡ one ∷ []
+    → one ∷ take limit (cell_differences first second) ≡ first_differences first second limit
+unfolding first_differences
+first_is first second limit one is = ap (λ (xs : List Difference). xs ++ take limit (cell_differences first second)) (sym is)
+
+pub none_is : (first second : Metadata) (limit : ℕ) → outline_differences first second ≡ [] → take limit (cell_differences first second) ≡ first_differences first second limit
+unfolding first_differences
+none_is first second limit none = ap (λ (xs : List Difference). take 1 xs ++ take limit (cell_differences first second)) (sym none)

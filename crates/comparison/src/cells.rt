@@ -35,7 +35,14 @@ pub fn differing_cells(
     let mut right_cells = CellCursor::new(right);
     let mut found = Vec::new(alloc);
     for table in TableId::all() {
-        find_in_table(alloc, &mut left_cells, &mut right_cells, *table, limit, &mut found)?;
+        find_in_table(
+            alloc,
+            &mut left_cells,
+            &mut right_cells,
+            *table,
+            limit,
+            &mut found,
+        )?;
     }
     Ok(found)
 }

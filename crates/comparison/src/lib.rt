@@ -1,17 +1,18 @@
 //! Compares metadata (ECMA-335 II.22 and II.24.2): whether two views have the same model, what differs, and a digest.
 //!
-//! [`is_equal`] says whether two views have the same model. [`outline_difference`] is the first of version, user strings
-//! and row counts that differs, and [`differing_cells`] are the first cells that differ. Views with the same model have
-//! the same canonical root, and [`digest`] is the SHA-256 digest of that.
+//! [`is_equal`] says whether two views have the same model. [`differences`] returns what differs: first
+//! [`outline_difference`], the first of version, user strings and row counts that differs, and then [`differing_cells`],
+//! the first cells that differ. Views with the same model have the same canonical root, and [`digest`] is the SHA-256
+//! digest of that.
 //!
 //! ```text
 //! if !is_equal(alloc, &left, &right)? {
-//!     let first = outline_difference(&left, &right);
-//!     let cells = differing_cells(alloc, &left, &right, 20)?; // at most 20
+//!     for difference in differences(alloc, &left, &right, 20)? { .. } // at most 21
 //! }
 //! ```
 #![tactic(auto)]
 
+mod all;
 mod cells;
 mod difference;
 mod equal;
@@ -21,6 +22,7 @@ mod root_digest;
 mod same_cells;
 mod user_strings;
 
+pub use all::differences;
 pub use cells::differing_cells;
 pub use difference::Difference;
 pub use equal::is_equal;

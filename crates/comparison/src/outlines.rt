@@ -4,7 +4,7 @@ ghost use Rattle.std.specs.List.{flat_map};
 ghost use Rattle.table_schema.specs.Tables.{tables};
 ghost use Rattle.metadata.specs.Metadata.{Metadata};
 ghost use Rattle.metadata.specs.Model.{IsModel};
-ghost use Rattle.comparison.specs.Differences.{count_difference, outline_differences};
+ghost use Rattle.comparison.specs.Differences.{IsThere, count_difference, outline_differences};
 
 use crate::difference::Difference;
 use crate::user_strings::same_padded;
@@ -15,6 +15,7 @@ use opening::{TableId, View};
 pub fn outline_difference(left: &View<'_>, right: &View<'_>) -> Option<Difference>
     ensures first { (first second : Metadata) → IsModel left.now first → IsModel right.now second
         → IfSome result (λ difference. take 1 (outline_differences first second) ≡ difference ∷ []) }
+    ensures there { IfSome result (IsThere left.now right.now) }
     ensures none { (first second : Metadata) → IsModel left.now first → IsModel right.now second
         → IfNone result (outline_differences first second ≡ []) }
 {
@@ -31,6 +32,7 @@ pub fn outline_difference(left: &View<'_>, right: &View<'_>) -> Option<Differenc
 fn count_difference(left: &View<'_>, right: &View<'_>) -> Option<Difference>
     ensures first { (first second : Metadata) → IsModel left.now first → IsModel right.now second
         → IfSome result (λ difference. take 1 (flat_map (count_difference first second) tables) ≡ difference ∷ []) }
+    ensures there { IfSome result (IsThere left.now right.now) }
     ensures none { (first second : Metadata) → IsModel left.now first → IsModel right.now second
         → IfNone result (flat_map (count_difference first second) tables ≡ []) }
 {

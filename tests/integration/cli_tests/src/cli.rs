@@ -1,6 +1,7 @@
-//! Tests of `cli`: budgets, `rewrite`, hints, escaped arguments, and files and outputs that fail.
+//! Tests of `cli`: budgets, `rewrite`, `digest`, `compare`, hints, escaped arguments, and files and outputs that fail.
 
 mod budgets;
+mod comparing;
 mod disks;
 mod escaping;
 mod hints;

@@ -11,7 +11,7 @@ returns-clause-written g c =
     let after = g.W.Write.contents c.print.new.out in
     let sent = line_sent before after (wrote_text (length c.in_ok-root.root)) c.print.result c.printed.result c.printed.ensures.ok c.printed.ensures.reported
     (subst (λ (n : ℕ). Prints before after c.print.result (wrote_text n)) c.len.ensures c.print.ensures) in
-    on_ok_weaker c.printed.result (λ all. (c.in_ok-root.root, c.in_ok-root.ensures.sound, (c.in_ok-write_root.field-0, c.in_ok-write_root.ensures), all)) sent.0
+    on_ok_weaker c.printed.result (λ all. (c.in_ok-root.root, c.in_ok-root.ensures.sound, (c.in_ok-write_root.field-0, c.in_ok-write_root.ensures.given), all)) sent.0
 
 pub returns-clause-stopped : goal.returns-clause-stopped
 returns-clause-stopped g c =
@@ -19,4 +19,4 @@ returns-clause-stopped g c =
     let after = g.W.Write.contents c.print.new.out in
     let sent = line_sent before after (wrote_text (length c.in_ok-root.root)) c.print.result c.printed.result c.printed.ensures.ok c.printed.ensures.reported
     (subst (λ (n : ℕ). Prints before after c.print.result (wrote_text n)) c.len.ensures c.print.ensures) in
-    IfErr-weaker c.printed.result _ _ (λ failure part. inr (part.0, (c.in_ok-root.root, c.in_ok-root.ensures.sound, (c.in_ok-write_root.field-0, c.in_ok-write_root.ensures), part.1))) sent.1
+    IfErr-weaker c.printed.result _ _ (λ failure part. inr (part.0, (c.in_ok-root.root, c.in_ok-root.ensures.sound, (c.in_ok-write_root.field-0, c.in_ok-write_root.ensures.given), part.1))) sent.1

@@ -6,22 +6,22 @@ use Rattle.comparison.proofs.equal.is_equal.Goals as goal
 
 pub returns-then-is_some : goal.returns-then-is_some
 returns-then-is_some c = λ first second is also.
-    let law = c.models_without_differences_are_equal.ensures first second (c.models_of_roots_are_valid.ensures c.args.left.now first is)
+    let law = c.models_without_differences_are_equal.ensures.parts first second (c.models_of_roots_are_valid.ensures c.args.left.now first is)
     (c.models_of_roots_are_valid.ensures c.args.right.now second also) 1 (omega arith) in (
       (λ test. cc),
       (λ same. absurd (outline_some c.outline_difference.result (outline_differences first second) (c.outline_difference.ensures.first first second is also)
-      (sym c.is_some.ensures ∙ c.if-is_some.true) (law.1 same).0)),
+          (sym c.is_some.ensures ∙ c.if-is_some.true) (law.1 same).0)),
     )
 
 pub returns : goal.returns
 returns c = λ first second is also.
-    let law = c.models_without_differences_are_equal.ensures first second (c.models_of_roots_are_valid.ensures c.args.left.now first is)
+    let law = c.models_without_differences_are_equal.ensures.parts first second (c.models_of_roots_are_valid.ensures c.args.left.now first is)
     (c.models_of_roots_are_valid.ensures c.args.right.now second also) 1 (omega arith) in
     let outline = outline_none c.outline_difference.result (outline_differences first second) (c.outline_difference.ensures.none first second is also)
     (sym c.is_some.ensures ∙ c.if-is_some.false) in
     let found = c.in_ok-found.ensures.sound first second is also in (
       (λ empty.
-        let zero = (Decides-eqb c.in_ok-found.found.len 0).0 (sym c.is_empty.ensures ∙ empty) in
-        law.0 (outline, sym found ∙ nothing_long c.in_ok-found.found.items (sym c.in_ok-found.found.ok.0 ∙ zero))),
+          let zero = (Decides-eqb c.in_ok-found.found.len 0).0 (sym c.is_empty.ensures ∙ empty) in
+          law.0 (outline, sym found ∙ nothing_long c.in_ok-found.found.items (sym c.in_ok-found.found.ok.0 ∙ zero))),
       (λ same. c.is_empty.ensures ∙ (Decides-eqb c.in_ok-found.found.len 0).1 (c.in_ok-found.found.ok.0 ∙ ap length (found ∙ (law.1 same).1))),
     )

@@ -46,6 +46,8 @@ fn print_what_help_reports(rt: HostRuntime) -> Result<(), Fail> {
         ("types", 1),
         ("token", 2),
         ("rewrite", 2),
+        ("digest", 2),
+        ("compare", 1),
         ("explain", 1),
     ] {
         assert_eq!(rt; run_examples(&rt, name)?, count, "{name}");

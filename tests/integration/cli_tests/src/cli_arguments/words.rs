@@ -14,7 +14,7 @@ const LINES_IN_HELP: &str = "\
 ";
 
 /// Arguments that are a usage error, and what the program prints for them.
-const REFUSED: [(&[&str], &str); 31] = [
+const REFUSED: [(&[&str], &str); 34] = [
     (&[], "Usage: clim <COMMAND>"),
     (&["clim"], "Usage: clim <COMMAND>"),
     (&["clim", "lacks"], "unrecognized subcommand 'lacks'"),
@@ -66,6 +66,12 @@ const REFUSED: [(&[&str], &str); 31] = [
         &["clim", "rewrite", "lacks", "out", "more"],
         "unexpected argument 'more'",
     ),
+    (&["clim", "digest"], "Usage: clim digest <FILE>"),
+    (
+        &["clim", "digest", "lacks", "more"],
+        "unexpected argument 'more'",
+    ),
+    (&["clim", "compare", "lacks"], "  <OTHER>\n"),
     (
         &["clim", "explain", "501", "502"],
         "unexpected argument '502'",
@@ -132,6 +138,8 @@ fn helps(rt: HostRuntime) -> Result<(), Fail> {
         "\n  types ",
         "\n  token ",
         "\n  rewrite ",
+        "\n  digest ",
+        "\n  compare ",
         "\n  explain ",
         "\n  help ",
         "Exit status:",
@@ -185,6 +193,16 @@ fn helps_with_each_subcommand(rt: HostRuntime) -> Result<(), Fail> {
             "rewrite",
             "Usage: clim rewrite [OPTIONS] <FILE> <OUT>",
             "\n  wrote 144 bytes\n",
+        ),
+        (
+            "digest",
+            "Usage: clim digest [OPTIONS] <FILE>",
+            "  one_module.dll\n",
+        ),
+        (
+            "compare",
+            "Usage: clim compare [OPTIONS] <FILE> <OTHER>",
+            "\n  equal\n",
         ),
         (
             "explain",

@@ -1,0 +1,38 @@
+//! All that differs between two views, up to a limit.
+ghost use Rattle.std.specs.Prelude.{◌≡◌, IfOk, All};
+ghost use Rattle.metadata.specs.Metadata.{Metadata};
+ghost use Rattle.metadata.specs.Model.{IsModel};
+ghost use Rattle.comparison.specs.Differences.{IsThere, first_differences};
+
+use crate::cells::differing_cells;
+use crate::difference::Difference;
+use crate::outlines::outline_difference;
+use opening::View;
+use std::alloc::{AllocError, Global};
+
+/// What differs between two views, in order: the first of version, user strings and row counts that differs, if one does,
+/// and then the first cells that differ, at most `limit`. If `limit` is not 0, there is none if and only if the views
+/// have the same model.
+///
+/// Each cell is read once, until `limit` are found. A signature is decoded only if its blobs have other bytes.
+///
+/// # Errors
+///
+/// Only if out of memory.
+pub fn differences(
+    alloc: Global,
+    left: &View<'_>,
+    right: &View<'_>,
+    limit: usize,
+) -> Result<Vec<Difference>, AllocError>
+    ensures found { (first second : Metadata) → IsModel left.now first → IsModel right.now second
+        → IfOk result (λ found. found.items ≡ first_differences first second limit) }
+    ensures there { IfOk result (λ found. All (IsThere left.now right.now) found.items) }
+{
+    let mut cells = differing_cells(alloc, left, right, limit)?;
+    let Some(first) = outline_difference(left, right) else {
+        return Ok(cells);
+    };
+    cells.insert(0, first)?;
+    Ok(cells)
+}

@@ -1,0 +1,115 @@
+use crate::cli::writers::Full;
+use crate::runs::answer;
+use cli::go;
+use sample_roots::{NAMES_APART, NAMES_SHARED, ONE_MODULE, TWO_TYPES, image, write_at};
+use std::fs;
+use std::test::Fail;
+
+/// What `sha256sum` prints for the bytes of `ONE_MODULE`, which is its own canonical root.
+const DIGEST: &str = "40bf7100a055088dec71a67475f684ac5c72c04f6e4d9fb17cd8f99e053ead9e";
+
+/// The arguments that compare two bare roots.
+const fn bare<'a>(file: &'a str, other: &'a str) -> [&'a str; 5] {
+    ["clim", "compare", "--bare", file, other]
+}
+
+/// Whether the arguments end with an exit code, and print these texts on the output and on standard error.
+fn ends(rt: &HostRuntime, words: &[&str], status: u8, out: &str, err: &str) -> Result<bool, Fail> {
+    let (ended, printed, reported) = answer(rt, words)?;
+    Ok(ended == status && printed.as_str() == out && reported.as_str() == err)
+}
+
+/// Writes a sample with some bytes changed.
+fn write_changed(rt: &HostRuntime, path: &str, sample: &[u8], offset: usize, bytes: &[u8]) -> Result<(), Fail> {
+    let mut file: Vec<u8> = sample.to_vec(rt.alloc())?;
+    write_at(&mut file, offset, bytes);
+    fs::write(rt, path, file.as_slice())?;
+    Ok(())
+}
+
+#[test]
+fn digests_what_rewrite_writes(rt: HostRuntime) -> Result<(), Fail> {
+    fs::write(&rt, "whole.dll", image().as_slice())?;
+    fs::write(&rt, "whole.root", ONE_MODULE.as_slice())?;
+    let line = format!(in rt.alloc(); "{DIGEST}  whole.dll\n")?;
+    assert!(rt; ends(&rt, &["clim", "digest", "whole.dll"], 0, &line, "")?);
+    let line = format!(in rt.alloc(); "{DIGEST}  whole.root\n")?;
+    assert!(rt; ends(&rt, &["clim", "digest", "--bare", "whole.root"], 0, &line, "")?);
+    let mut err = Vec::new(rt.alloc());
+    let words = ["clim", "digest", "--bare", "whole.root"];
+    assert_eq!(rt; go(&rt, &words, &mut Full { late: false }, &mut err), 3);
+    assert_eq!(rt; err.as_slice(), b"error: cannot write output\n".as_slice());
+    fs::remove_file(&rt, "whole.dll")?;
+    fs::remove_file(&rt, "whole.root")?;
+    Ok(())
+}
+
+#[test]
+fn digests_of_one_model_are_equal(rt: HostRuntime) -> Result<(), Fail> {
+    fs::write(&rt, "names.root", NAMES_APART.as_slice())?;
+    let (status, first, _) = answer(&rt, &["clim", "digest", "--bare", "names.root"])?;
+    assert_eq!(rt; status, 0);
+    fs::write(&rt, "names.root", NAMES_SHARED.as_slice())?;
+    let (_, second, _) = answer(&rt, &["clim", "digest", "--bare", "names.root"])?;
+    assert_eq!(rt; first, second);
+    fs::remove_file(&rt, "names.root")?;
+    Ok(())
+}
+
+#[test]
+fn finds_models_equal(rt: HostRuntime) -> Result<(), Fail> {
+    fs::write(&rt, "apart.root", NAMES_APART.as_slice())?;
+    fs::write(&rt, "shared.root", NAMES_SHARED.as_slice())?;
+    assert!(rt; ends(&rt, &bare("apart.root", "shared.root"), 0, "equal\n", "")?);
+    assert!(rt; ends(&rt, &bare("apart.root", "apart.root"), 0, "equal\n", "")?);
+    fs::write(&rt, "whole.dll", image().as_slice())?;
+    assert!(rt; ends(&rt, &["clim", "compare", "whole.dll", "whole.dll"], 0, "equal\n", "")?);
+    fs::remove_file(&rt, "apart.root")?;
+    fs::remove_file(&rt, "shared.root")?;
+    fs::remove_file(&rt, "whole.dll")?;
+    Ok(())
+}
+
+#[test]
+fn prints_what_differs(rt: HostRuntime) -> Result<(), Fail> {
+    fs::write(&rt, "first.root", ONE_MODULE.as_slice())?;
+    for (offset, bytes, printed) in [
+        (121, b"b".as_slice(), "00000001 Name: \"a.dll\" | \"b.dll\"\n"),
+        (17, b"5", "version: v4.0.30319 | v5.0.30319\n"),
+        (
+            128,
+            b"\xff",
+            "00000001 Mvid: {03020100-0504-0706-0809-0a0b0c0d0e0f} | {030201ff-0504-0706-0809-0a0b0c0d0e0f}\n",
+        ),
+    ] {
+        write_changed(&rt, "second.root", ONE_MODULE.as_slice(), offset, bytes)?;
+        assert!(rt; ends(&rt, &bare("first.root", "second.root"), 1, printed, "")?, "{printed}");
+    }
+    fs::write(&rt, "second.root", TWO_TYPES.as_slice())?;
+    // No table has rows in both.
+    let printed = "rows 00 Module: 1 | 0\n";
+    assert!(rt; ends(&rt, &bare("first.root", "second.root"), 1, printed, "")?);
+    fs::remove_file(&rt, "first.root")?;
+    fs::remove_file(&rt, "second.root")?;
+    Ok(())
+}
+
+#[test]
+fn names_the_file_with_a_fault(rt: HostRuntime) -> Result<(), Fail> {
+    fs::write(&rt, "whole.root", ONE_MODULE.as_slice())?;
+    fs::write(&rt, "cut.root", &ONE_MODULE[..143])?;
+    let reported = "fault 3 305 at 64: StreamRange\n  file: cut.root\n";
+    assert!(rt; ends(&rt, &bare("cut.root", "whole.root"), 1, "", reported)?);
+    assert!(rt; ends(&rt, &bare("whole.root", "cut.root"), 1, "", reported)?);
+    let hinted = "fault 1 102 at 0: DosHeader\n  file: whole.root\n  hint: FILE begins like a metadata root; try it with '--bare'\n";
+    assert!(rt; ends(&rt, &["clim", "compare", "whole.root", "cut.root"], 1, "", hinted)?);
+    let missing = "error: cannot read lacks\n  reason: no such file\n";
+    assert!(rt; ends(&rt, &bare("whole.root", "lacks"), 3, "", missing)?);
+    assert!(rt; ends(&rt, &bare("lacks", "whole.root"), 3, "", missing)?);
+    let mut err = Vec::new(rt.alloc());
+    assert_eq!(rt; go(&rt, &bare("whole.root", "whole.root"), &mut Full { late: false }, &mut err), 3);
+    assert_eq!(rt; err.as_slice(), b"error: cannot write output\n".as_slice());
+    fs::remove_file(&rt, "whole.root")?;
+    fs::remove_file(&rt, "cut.root")?;
+    Ok(())
+}
