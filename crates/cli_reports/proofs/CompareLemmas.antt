@@ -8,21 +8,21 @@ use Rattle.comparison.specs.declared.difference.Difference.{Difference}
 use Rattle.comparison.specs.declared.difference.Difference.TheVariants.{Version, UserStrings, RowCount, Cell}
 use Rattle.comparison.specs.Differences.{IsThere}
 use Rattle.cli_faults.specs.Escaped.{escaped_text}
-use Rattle.cli_reports.specs.Comparisons.{HasPlace, column_name, compared_text, difference_text, label_text, value_text}
+use Rattle.cli_reports.specs.Comparisons.{HasRows, column_name, compared_text, difference_text, label_text, value_text}
 use Rattle.cli_reports.specs.RowTexts.{cell_text, line_feed}
 use Rattle.cli_reports.proofs.LineLemmas.{four_joined, three_joined}
 
-pub place_left : (left right : List ℕ) (difference : Difference) → IsThere left right difference → HasPlace left difference
-place_left left right Version there = tt
-place_left left right UserStrings there = tt
-place_left left right (RowCount table m n) there = tt
-place_left left right (Cell table row cell_index) there = (there.0, there.1, there.3)
+pub in_left : (left right : List ℕ) (difference : Difference) → IsThere left right difference → HasRows left difference
+in_left left right Version there = tt
+in_left left right UserStrings there = tt
+in_left left right (RowCount table m n) there = tt
+in_left left right (Cell table row cell_index) there = (there.0, there.1, there.3)
 
-pub place_right : (left right : List ℕ) (difference : Difference) → IsThere left right difference → HasPlace right difference
-place_right left right Version there = tt
-place_right left right UserStrings there = tt
-place_right left right (RowCount table m n) there = tt
-place_right left right (Cell table row cell_index) there = (there.0, there.2, there.3)
+pub in_right : (left right : List ℕ) (difference : Difference) → IsThere left right difference → HasRows right difference
+in_right left right Version there = tt
+in_right left right UserStrings there = tt
+in_right left right (RowCount table m n) there = tt
+in_right left right (Cell table row cell_index) there = (there.0, there.2, there.3)
 
 pub six_joined : (line a b c d e f : List ℕ) → (((((line ++ a) ++ b) ++ c) ++ d) ++ e) ++ f ≡ line ++ (a ++ b ++ c ++ d ++ e ++ f)
 six_joined line a b c d e f = ap (λ xs. (xs ++ e) ++ f) (four_joined line a b c d) ∙ three_joined line (a ++ b ++ c ++ d) e f

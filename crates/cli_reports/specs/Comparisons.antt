@@ -50,6 +50,6 @@ unfoldable pub compare_text : Metadata → Metadata → List ℕ
 compare_text left right = compared_text left right (first_differences left right 20)
 
 -- a cell of the root, if a cell differs (II.24.2.6)
-abbrev pub HasPlace : List ℕ → Difference → Type 0
-HasPlace root (Cell table row cell_index) = (1 ≤ row) × (row ≤ row_count root table) × (cell_index < cell_count table)
-HasPlace root _ = Unit {0}
+abbrev pub HasRows : List ℕ → Difference → Type 0
+HasRows root (Cell table row cell_index) = (1 ≤ row) × (row ≤ row_count root table) × (cell_index < cell_count table)
+HasRows root _ = Unit {0}

@@ -8,7 +8,7 @@ ghost use Rattle.metadata.specs.Model.{IsModel};
 ghost use Rattle.comparison.specs.declared.difference.Difference.TheVariants.{RowCount};
 ghost use Rattle.comparison.specs.Differences.{IsThere};
 ghost use Rattle.cli_faults.specs.Status.{IsOutput};
-ghost use Rattle.cli_reports.specs.Comparisons.{HasPlace, column_name, compared_text, difference_text, label_text, value_text};
+ghost use Rattle.cli_reports.specs.Comparisons.{HasRows, column_name, compared_text, difference_text, label_text, value_text};
 ghost use Rattle.cli_reports.specs.Sent.{Moves, Prints};
 
 use crate::line::{push_decimal, push_escaped, push_upper_hexadecimal};
@@ -128,8 +128,8 @@ fn push_difference(
     difference: Difference,
     line: &mut Vec<u8>,
 ) -> Result<(), AllocError>
-    requires left { HasPlace left.old difference }
-    requires right { HasPlace right.old difference }
+    requires left { HasRows left.old difference }
+    requires right { HasRows right.old difference }
     ensures left { left.new ≡ left.old }
     ensures right { right.new ≡ right.old }
     ensures line { OnOk result ((model other : Metadata) → IsModel left.old model → IsModel right.old other
@@ -145,7 +145,7 @@ fn push_difference(
 
 /// Appends what differs.
 fn push_label(view: &View<'_>, difference: Difference, line: &mut Vec<u8>) -> Result<(), AllocError>
-    requires { HasPlace view.now difference }
+    requires { HasRows view.now difference }
     ensures { OnOk result (line.new.items ≡ line.old.items ++ label_text difference) }
 {
     match difference {
@@ -192,7 +192,7 @@ fn push_value(
     difference: Difference,
     line: &mut Vec<u8>,
 ) -> Result<(), AllocError>
-    requires { HasPlace cells.old difference }
+    requires { HasRows cells.old difference }
     ensures same { cells.new ≡ cells.old }
     ensures line { OnOk result ((model : Metadata) → IsModel cells.old model → line.new.items ≡ line.old.items ++ value_text model difference) }
 {

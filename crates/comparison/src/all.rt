@@ -25,7 +25,7 @@ pub fn differences(
     right: &View<'_>,
     limit: usize,
 ) -> Result<Vec<Difference>, AllocError>
-    ensures found { (first second : Metadata) → IsModel left.now first → IsModel right.now second
+    ensures sound { (first second : Metadata) → IsModel left.now first → IsModel right.now second
         → IfOk result (λ found. found.items ≡ first_differences first second limit) }
     ensures there { IfOk result (λ found. All (IsThere left.now right.now) found.items) }
 {

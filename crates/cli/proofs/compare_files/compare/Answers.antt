@@ -38,7 +38,7 @@ returns-in_err-print_comparison g c =
     let here = c.in_ok-left_view.ensures.models model is in
     let there = c.in_ok-right_view.ensures.models another also in
     subst (λ (text : List ℕ). SendsPrefix (g.W.Write.contents c.args.out.now) (g.W.Write.contents c.print_comparison.new.out) text)
-    (compared model another c.deref.result.now (c.deref.ensures.value ∙ c.in-Ok.ensures.found model another here there))
+    (compared model another c.deref.result.now (c.deref.ensures.value ∙ c.in-Ok.ensures.sound model another here there))
     (c.in_err-print_comparison.ensures.printed model another here there))
 
 pub returns-then-is_empty : goal.returns-then-is_empty
@@ -48,7 +48,7 @@ returns-then-is_empty g c =
     (λ model another is also.
     let here = c.in_ok-left_view.ensures.models model is in
     let there = c.in_ok-right_view.ensures.models another also in
-    let found = c.in-Ok.ensures.found model another here there in
+    let found = c.in-Ok.ensures.sound model another here there in
     let law = c.models_without_differences_are_equal.ensures.first model another (c.models_of_roots_are_valid.ensures c.in_ok-left_view.left_view model here)
     (c.models_of_roots_are_valid.ensures c.in_ok-right_view.right_view another there) 20 (omega arith) in
     let zero = (Decides-eqb c.in-Ok.found.len 0).0 (sym c.is_empty.ensures ∙ c.if-is_empty.true) in (
@@ -65,12 +65,12 @@ returns g c =
     (λ model another is also.
     let here = c.in_ok-left_view.ensures.models model is in
     let there = c.in_ok-right_view.ensures.models another also in
-    let found = c.in-Ok.ensures.found model another here there in
+    let found = c.in-Ok.ensures.sound model another here there in
     let law = c.models_without_differences_are_equal.ensures.first model another (c.models_of_roots_are_valid.ensures c.in_ok-left_view.left_view model here)
     (c.models_of_roots_are_valid.ensures c.in_ok-right_view.right_view another there) 20 (omega arith) in (
       (λ same.
-        let none = found ∙ law.1 same in
-        let test = sym c.if-is_empty.false ∙ c.is_empty.ensures ∙ (Decides-eqb c.in-Ok.found.len 0).1 (c.in-Ok.found.ok.0 ∙ ap length none) in cc),
+          let none = found ∙ law.1 same in
+          let test = sym c.if-is_empty.false ∙ c.is_empty.ensures ∙ (Decides-eqb c.in-Ok.found.len 0).1 (c.in-Ok.found.ok.0 ∙ ap length none) in cc),
       subst (λ (text : List ℕ). Appends (g.W.Write.contents c.args.out.now) (g.W.Write.contents c.print_comparison.new.out) text)
           (compared model another c.deref.result.now (c.deref.ensures.value ∙ found))
           (c.in_ok-print_comparison.ensures.printed model another here there),

@@ -1,13 +1,13 @@
 use Rattle.std.proofs.Common.{◌++◌}
 use Rattle.cli_reports.specs.Comparisons.{difference_text}
-use Rattle.cli_reports.proofs.CompareLemmas.{place_left, place_right}
+use Rattle.cli_reports.proofs.CompareLemmas.{in_left, in_right}
 use Rattle.cli_reports.proofs.SentLemmas.{cut_moved, prefix_of_nothing}
 use Rattle.cli_reports.proofs.compare_lines.print_difference.Goals as goal
 
 pub push_difference-requires : goal.push_difference-requires
 push_difference-requires g c = record {
-  left = place_left c.args.left.now c.args.right.now c.args.difference c.requires;
-  right = place_right c.args.left.now c.args.right.now c.args.difference c.requires;
+  left = in_left c.args.left.now c.args.right.now c.args.difference c.requires;
+  right = in_right c.args.left.now c.args.right.now c.args.difference c.requires;
 }
 
 pub returns-in_err-push_difference-clause-line : goal.returns-in_err-push_difference-clause-line

@@ -2,11 +2,11 @@ use Rattle.std.proofs.Common.{◌≡◌, ◌∙◌, ◌∷◌, List, ap, sym, su
 use Rattle.comparison.proofs.EqualLemmas.{first_is, none_is}
 use Rattle.comparison.proofs.all.differences.Goals as goal
 
-pub returns-in_default-clause-found : goal.returns-in_default-clause-found
-returns-in_default-clause-found c = λ first second is also.
-    c.in_ok-cells.ensures.found first second is also ∙ none_is first second c.args.limit (c.in_default.ensures.none first second is also)
+pub returns-in_default-clause-sound : goal.returns-in_default-clause-sound
+returns-in_default-clause-sound c = λ first second is also.
+    c.in_ok-cells.ensures.sound first second is also ∙ none_is first second c.args.limit (c.in_default.ensures.none first second is also)
 
-pub returns-clause-found : goal.returns-clause-found
-returns-clause-found c = λ first second is also.
-    c.in_ok-insert.ensures.items ∙ ap (λ xs. c.in-Some.first ∷ xs) (c.in_ok-cells.ensures.found first second is also)
+pub returns-clause-sound : goal.returns-clause-sound
+returns-clause-sound c = λ first second is also.
+    c.in_ok-insert.ensures.items ∙ ap (λ xs. c.in-Some.first ∷ xs) (c.in_ok-cells.ensures.sound first second is also)
     ∙ first_is first second c.args.limit c.in-Some.first (c.in-Some.ensures.first first second is also)
