@@ -5,7 +5,7 @@ use Rattle.std.specs.Io.KnownBytes.{Appends}
 use Rattle.metadata.specs.Metadata.{Metadata}
 use Rattle.cli_faults.specs.declared.failure.Failure.{Failure}
 use Rattle.cli_faults.specs.Status.{IsOutput}
-use Rattle.cli_reports.specs.declared.stop.Stop.TheVariants.{Different, Failed}
+use Rattle.cli_faults.specs.declared.stop.Stop.TheVariants.{Different, Failed}
 use Rattle.cli_reports.specs.Checked.{IsWhole}
 use Rattle.cli_reports.specs.Comparisons.{compare_text, compared_text}
 use Rattle.cli_reports.specs.Sent.{SendsPrefix}

@@ -8,15 +8,16 @@ use Rattle.cli_faults.specs.declared.failure.Failure.{Failure}
 use Rattle.cli_faults.specs.declared.failure.Failure.TheVariants.{Fault, NoSuchRow, NoToken, NoCode, CannotRead, CannotWriteOutput, CannotWriteFile, OutOfMemory}
 use Rattle.cli_faults.specs.Status.{IsOutput, IsUnwritten, status_of}
 use Rattle.cli_reports.specs.declared.report.Report.{Report}
-use Rattle.cli_reports.specs.declared.stop.Stop.{Stop}
-use Rattle.cli_reports.specs.declared.stop.Stop.TheVariants.{BudgetSpent, Different, Failed}
+use Rattle.cli_faults.specs.declared.stop.Stop.{Stop}
+use Rattle.cli_faults.specs.declared.stop.Stop.TheVariants.{BudgetSpent, Different, Failed}
 use Rattle.cli_reports.specs.Checked.{IsWhole, rules_of, signature_bytes_of}
 use Rattle.sha2.specs.Sha256.{sha256}
 use Rattle.cli_reports.specs.Digests.{digest_text}
 use Rattle.cli_reports.specs.Printed.{IsReportText, check_text}
 use Rattle.cli_reports.specs.Reported.{IsMet, LeavesOutput, Reports}
 use Rattle.cli_reports.specs.Sent.{Prints, SendsPrefix}
-use Rattle.cli_reports.specs.Stops.{StopLeavesOutput, StopsWithin, status_of_stop}
+use Rattle.cli_faults.specs.Stops.{status_of_stop}
+use Rattle.cli_reports.specs.Stops.{StopLeavesOutput, StopsWithin}
 use Rattle.cli.specs.declared.stopped.Stopped.{Stopped}
 use Rattle.cli.specs.declared.task.Task.{Task}
 use Rattle.cli.specs.Hints.{hint_for}

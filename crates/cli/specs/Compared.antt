@@ -8,7 +8,7 @@ use Rattle.metadata.specs.Metadata.{Metadata}
 use Rattle.cli_faults.specs.declared.failure.Failure.{Failure}
 use Rattle.cli_faults.specs.declared.failure.Failure.TheVariants as failed
 use Rattle.cli_faults.specs.Status.{IsOutput}
-use Rattle.cli_reports.specs.declared.stop.Stop.TheVariants.{Different, Failed}
+use Rattle.cli_faults.specs.declared.stop.Stop.TheVariants.{Different, Failed}
 use Rattle.cli_reports.specs.Checked.{IsWhole, rules_of}
 use Rattle.cli_reports.specs.Comparisons.{compare_text}
 use Rattle.cli_reports.specs.Printed.{IsModelOf}

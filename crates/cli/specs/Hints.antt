@@ -4,8 +4,8 @@ use Rattle.std.specs.Str.{bytes_eq}
 use Rattle.packed.specs.Codes.{number_of_code}
 use Rattle.packed.specs.declared.code.FaultCode.TheVariants.{DosHeader, RootSignature}
 use Rattle.cli_faults.specs.declared.failure.Failure.TheVariants.{Fault}
-use Rattle.cli_reports.specs.declared.stop.Stop.{Stop}
-use Rattle.cli_reports.specs.declared.stop.Stop.TheVariants.{Failed}
+use Rattle.cli_faults.specs.declared.stop.Stop.{Stop}
+use Rattle.cli_faults.specs.declared.stop.Stop.TheVariants.{Failed}
 use Rattle.cli.specs.declared.hint.Hint.{Hint}
 use Rattle.cli.specs.declared.hint.Hint.TheVariants.{AddBare, DropBare}
 

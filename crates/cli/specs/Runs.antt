@@ -12,8 +12,8 @@ use Rattle.cli_faults.specs.declared.failure.Failure.{Failure}
 use Rattle.cli_faults.specs.declared.file_error.Reason.TheVariants.{StandardOutput}
 use Rattle.cli_faults.specs.Status.{IsOutput, IsUnwritten}
 use Rattle.cli_reports.specs.declared.report.Report.{Report}
-use Rattle.cli_reports.specs.declared.stop.Stop.{Stop}
-use Rattle.cli_reports.specs.declared.stop.Stop.TheVariants.{Failed}
+use Rattle.cli_faults.specs.declared.stop.Stop.{Stop}
+use Rattle.cli_faults.specs.declared.stop.Stop.TheVariants.{Failed}
 use Rattle.cli_reports.specs.Checked.{IsWhole, rules_of, signature_bytes_of}
 use Rattle.sha2.specs.Sha256.{sha256}
 use Rattle.cli_reports.specs.Digests.{digest_text}
@@ -21,7 +21,8 @@ use Rattle.cli_reports.specs.Printed.{IsReportText, check_text}
 use Rattle.cli_reports.specs.Reported.{IsMet, LeavesOutput, Reports}
 use Rattle.cli_reports.specs.RowTexts.{line_feed}
 use Rattle.cli_reports.specs.Sent.{Prints, SendsPrefix}
-use Rattle.cli_reports.specs.Stops.{StopLeavesOutput, StopsWithin, status_of_stop}
+use Rattle.cli_faults.specs.Stops.{status_of_stop}
+use Rattle.cli_reports.specs.Stops.{StopLeavesOutput, StopsWithin}
 use Rattle.cli.specs.declared.stopped.Stopped.{Stopped}
 use Rattle.cli.specs.declared.task.Task.{Task}
 use Rattle.cli.specs.declared.task.Task.TheVariants as task

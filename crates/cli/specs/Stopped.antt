@@ -3,9 +3,9 @@ use Rattle.std.specs.Prelude.{◌≡◌, ℕ, List, ◌∷◌, [], ◌++◌, cod
 use Rattle.std.specs.Borrow.{Bor}
 use Rattle.cli_faults.specs.Escaped.{escaped_text}
 use Rattle.cli_faults.specs.declared.failure.Failure.{Failure}
-use Rattle.cli_reports.specs.declared.stop.Stop.{Stop}
-use Rattle.cli_reports.specs.declared.stop.Stop.TheVariants.{Failed}
-use Rattle.cli_reports.specs.Stops.{stop_text}
+use Rattle.cli_faults.specs.declared.stop.Stop.{Stop}
+use Rattle.cli_faults.specs.declared.stop.Stop.TheVariants.{Failed}
+use Rattle.cli_faults.specs.Stops.{stop_text}
 use Rattle.cli.specs.Hints.{hint_text}
 use Rattle.cli.specs.declared.hint.Hint.{Hint}
 use Rattle.cli.specs.declared.stopped.Stopped.{Stopped}

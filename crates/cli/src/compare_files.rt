@@ -8,8 +8,8 @@ ghost use Rattle.cli.specs.Compared.{IsComparing, IsRefusal};
 
 use crate::hint::hint_of;
 use crate::stopped::Stopped;
-use cli_faults::Failure;
-use cli_reports::{Stop, open, print_comparison};
+use cli_faults::{Failure, Stop};
+use cli_reports::{open, print_comparison};
 use comparison::differences;
 use opening::View;
 use std::alloc::Global;

@@ -2,8 +2,7 @@
 ghost use Rattle.std.specs.Prelude.{◌≡◌, Some};
 ghost use Rattle.cli.specs.Hints.{hint_for, hint_for_fault, hint_text};
 
-use cli_faults::Failure;
-use cli_reports::Stop;
+use cli_faults::{Failure, Stop};
 use packed::{Fault, FaultCode};
 use std::fmt;
 

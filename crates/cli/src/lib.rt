@@ -13,6 +13,7 @@
 
 mod compare_files;
 mod digest_file;
+mod explain_fault;
 mod hint;
 mod input;
 mod kind_keeper;

@@ -2,11 +2,10 @@
 ghost use Rattle.std.specs.Prelude.{◌≡◌, ◌↔◌, IfErr, IsOk, None, Some};
 ghost use Rattle.cli.specs.Hints.{hint_for};
 ghost use Rattle.cli.specs.Stopped.{IsStopOf, stopped_text};
-ghost use Rattle.cli_reports.specs.declared.stop.Stop.TheVariants.{Failed};
+ghost use Rattle.cli_faults.specs.declared.stop.Stop.TheVariants.{Failed};
 
 use crate::hint::{Hint, hint_of};
-use cli_faults::{Escaped, Failure};
-use cli_reports::Stop;
+use cli_faults::{Escaped, Failure, Stop};
 use std::fmt;
 
 /// Why a run stopped early, and what the user may have meant. `Display` gives the lines for standard error, without the

@@ -3,3 +3,4 @@ pub mod Escaped
 pub mod FileErrors
 pub mod Status
 pub mod Texts
+pub mod Stops

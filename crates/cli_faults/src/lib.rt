@@ -24,6 +24,7 @@ mod file_faults;
 mod numbered;
 mod order_faults;
 mod other_faults;
+mod stop;
 mod stream_faults;
 mod table_faults;
 
@@ -34,3 +35,4 @@ pub use failure::{Failure, printed};
 pub use file_error::{FileError, Reason};
 pub use numbered::{all_codes, code_of_number};
 pub use packed::FaultCode;
+pub use stop::Stop;

@@ -8,8 +8,7 @@ ghost use Rattle.cli_reports.specs.Sent.{Prints};
 
 use crate::opened::{open, open_within};
 use crate::sending::finish;
-use crate::stop::Stop;
-use cli_faults::{Failure, printed};
+use cli_faults::{Failure, Stop, printed};
 use opening::BoundedError;
 use std::alloc::Global;
 use std::io;

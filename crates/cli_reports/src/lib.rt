@@ -1,9 +1,9 @@
 //! Prints what `clim` reports about a file: its headers, whether it breaks a rule, its rows, its types, and what a
-//! token names. It also prints what a fault means.
+//! token names. It also prints what differs between two files, and a digest.
 //!
 //! [`print_report`] opens the bytes in place and prints a [`Report`] on them. Its contract says what is true of the
 //! bytes if it prints, and what it reports otherwise. It also says each byte that is printed. Rows, types and user strings
-//! are printed one per line. What [`explain`] prints is covered by tests.
+//! are printed one per line.
 //!
 //! ```text
 //! print_report(rt.alloc(), Report::Types, false, &file, &mut out)?; // a line for each type of a file
@@ -15,17 +15,13 @@ mod check_file;
 mod compare_lines;
 mod digest_line;
 mod existing;
-mod explain_fault;
 mod line;
 mod opened;
 mod print_root;
 mod print_token;
-mod print_types;
 mod report;
 mod row_lines;
 mod sending;
-mod show_tables;
-mod stop;
 mod table_lines;
 mod type_lines;
 mod user_string_line;
@@ -33,8 +29,6 @@ mod user_string_line;
 pub use check_file::check_within;
 pub use compare_lines::print_comparison;
 pub use digest_line::print_digest;
-pub use explain_fault::explain;
 pub use opened::open;
 pub use report::{Report, print_report};
 pub use sending::finish;
-pub use stop::Stop;

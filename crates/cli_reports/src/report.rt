@@ -4,7 +4,7 @@ ghost use Rattle.cli_reports.specs.Printed.{IsReportText};
 ghost use Rattle.cli_reports.specs.Reported.{IsMet, LeavesOutput, Reports};
 ghost use Rattle.cli_reports.specs.Sent.{Prints};
 
-use crate::{check_file, print_root, print_token, print_types, show_tables};
+use crate::{check_file, print_root, print_token, table_lines, type_lines};
 use cli_faults::Failure;
 use std::alloc::Global;
 use std::io::Write;
@@ -50,8 +50,8 @@ pub fn print_report<W: Write>(
     match report {
         Report::Root => print_root::run(alloc, bytes, bare, out),
         Report::Check => check_file::run(bytes, bare, out),
-        Report::Show => show_tables::run(alloc, bytes, bare, out),
-        Report::Types => print_types::run(alloc, bytes, bare, out),
+        Report::Show => table_lines::run(alloc, bytes, bare, out),
+        Report::Types => type_lines::run(alloc, bytes, bare, out),
         Report::Token(number) => print_token::run(alloc, bytes, bare, number, out),
     }
 }

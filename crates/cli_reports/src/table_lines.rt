@@ -1,18 +1,40 @@
 //! Prints all tables of a view.
-ghost use Rattle.std.specs.Prelude.{◌≡◌, ◌≤◌, ◌++◌, OnOk};
+ghost use Rattle.std.specs.Prelude.{◌≡◌, ◌≤◌, ◌++◌, OnOk, IfErr};
 ghost use Rattle.opening.specs.Views.{row_count};
 ghost use Rattle.metadata.specs.Metadata.{Metadata, count_in, row_of};
 ghost use Rattle.metadata.specs.Model.{IsModel};
 ghost use Rattle.cli_reports.specs.RowTexts.{heading_text, row_text, rows_text, show_text, table_text};
 ghost use Rattle.cli_reports.specs.Sent.{Moves, Prints};
+ghost use Rattle.cli_reports.specs.Checked.{IsWhole, rules_of};
+ghost use Rattle.cli_reports.specs.Printed.{IsModelOf};
+ghost use Rattle.cli_reports.specs.Reported.{LeavesOutput, ReportsFault};
 
 use crate::line::{push_decimal, push_upper_hexadecimal};
+use crate::opened::open;
 use crate::row_lines::push_row;
 use crate::sending::{FULL, finish, send_full};
+use cli_faults::{Failure, printed};
 use opening::{CellCursor, TableId, View};
 use std::alloc::{AllocError, Global};
 use std::io;
 use std::io::Write;
+
+/// Prints each table that has rows.
+pub(crate) fn run<W: Write>(
+    alloc: Global,
+    bytes: &[u8],
+    bare: bool,
+    out: &mut W,
+) -> Result<(), Failure<'static>>
+    ensures sound { OnOk result (IsWhole bare bytes.now) }
+    ensures first_error { IfErr result (ReportsFault (IsWhole bare bytes.now) (rules_of bare bytes.now)) }
+    ensures untouched { IfErr result (LeavesOutput out.old out.new) }
+    ensures printed { (model : Metadata) → IsModelOf bare bytes.now model
+        → Prints (W.contents out.old) (W.contents out.new) result (show_text model) }
+{
+    let view = open(bytes, bare)?;
+    printed(print_tables(alloc, &view, out))
+}
 
 /// Prints each table that has rows, lowest number first: the line `table NN NAME COUNT`, where NN is the table's number
 /// in two upper-case hexadecimal digits (II.22), and then the line of each row, as [`push_row`] makes it.

@@ -1,5 +1,5 @@
 //! Prints the types of a view.
-ghost use Rattle.std.specs.Prelude.{◌≡◌, ◌≤◌, ◌-◌, ◌++◌, ◌⊎◌, OnOk, codes, decimal};
+ghost use Rattle.std.specs.Prelude.{◌≡◌, ◌≤◌, ◌-◌, ◌++◌, ◌⊎◌, OnOk, codes, decimal, IfErr};
 ghost use Rattle.metadata.specs.Cell.{Text};
 ghost use Rattle.metadata.specs.Metadata.{Metadata, cell_in};
 ghost use Rattle.metadata.specs.Model.{IsModel};
@@ -8,10 +8,15 @@ ghost use Rattle.table_schema.specs.declared.table.TableId.TheVariants.{TypeDef}
 ghost use Rattle.cli_faults.specs.Escaped.{escaped_text};
 ghost use Rattle.cli_reports.specs.Sent.{Moves, Prints};
 ghost use Rattle.cli_reports.specs.TypeTexts.{dotted, type_text, types_text};
+ghost use Rattle.cli_reports.specs.Checked.{IsWhole, rules_of};
+ghost use Rattle.cli_reports.specs.Printed.{IsModelOf};
+ghost use Rattle.cli_reports.specs.Reported.{LeavesOutput, ReportsFault};
 
 use crate::line::{push_escaped, push_spaced};
+use crate::opened::open;
 use crate::row_lines::push_token;
 use crate::sending::{FULL, finish, send_full};
+use cli_faults::{Failure, printed};
 use opening::{CellCursor, CellRef, MemberList, TableId, Token, View};
 use std::alloc::{AllocError, Global};
 use std::io;
@@ -23,6 +28,23 @@ const NAME: usize = 1;
 
 /// The index of the cell with its namespace.
 const NAMESPACE: usize = 2;
+
+/// Prints a line for each type.
+pub(crate) fn run<W: Write>(
+    alloc: Global,
+    bytes: &[u8],
+    bare: bool,
+    out: &mut W,
+) -> Result<(), Failure<'static>>
+    ensures sound { OnOk result (IsWhole bare bytes.now) }
+    ensures first_error { IfErr result (ReportsFault (IsWhole bare bytes.now) (rules_of bare bytes.now)) }
+    ensures untouched { IfErr result (LeavesOutput out.old out.new) }
+    ensures printed { (model : Metadata) → IsModelOf bare bytes.now model
+        → Prints (W.contents out.old) (W.contents out.new) result (types_text model) }
+{
+    let view = open(bytes, bare)?;
+    printed(print_types(alloc, &view, out))
+}
 
 /// Prints a line for each row of TypeDef (II.22.37): its token in eight hexadecimal digits; its namespace and a dot, if
 /// it has one, and its name, both escaped as by [`push_escaped`]; and the number of its fields and of its methods.

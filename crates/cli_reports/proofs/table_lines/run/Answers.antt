@@ -1,8 +1,8 @@
 use Rattle.std.proofs.lemmas.Result.{IfErr-weaker}
 use Rattle.cli_reports.proofs.Outcomes.{reports_output}
-use Rattle.cli_reports.specs.TypeTexts.{types_text}
+use Rattle.cli_reports.specs.RowTexts.{show_text}
 use Rattle.cli_reports.proofs.SentLemmas.{cut_printed, prefix_of_nothing, same_printed}
-use Rattle.cli_reports.proofs.print_types.run.Goals as goal
+use Rattle.cli_reports.proofs.table_lines.run.Goals as goal
 
 pub returns-clause-first_error : goal.returns-clause-first_error
 returns-clause-first_error g c = IfErr-weaker c.printed.result _ _ (λ failure is. reports_output _ failure is c.in_ok-view.ensures.sound)
@@ -11,9 +11,9 @@ returns-clause-first_error g c = IfErr-weaker c.printed.result _ _ (λ failure i
 pub returns-in_err-view-clause-printed : goal.returns-in_err-view-clause-printed
 returns-in_err-view-clause-printed g c = λ model is.
     let known = g.W.Write.contents c.args.out.now in
-    cut_printed c.from_residual.result known known (types_text model) c.from_residual.ensures.0 (prefix_of_nothing known (types_text model))
+    cut_printed c.from_residual.result known known (show_text model) c.from_residual.ensures.0 (prefix_of_nothing known (show_text model))
 
 pub returns-clause-printed : goal.returns-clause-printed
 returns-clause-printed g c = λ model is.
-    same_printed c.print_types.result c.printed.result (g.W.Write.contents c.args.out.now) (g.W.Write.contents c.print_types.new.out) (types_text model) c.printed.ensures.ok
-    (c.print_types.ensures model (c.in_ok-view.ensures.models model is))
+    same_printed c.print_tables.result c.printed.result (g.W.Write.contents c.args.out.now) (g.W.Write.contents c.print_tables.new.out) (show_text model) c.printed.ensures.ok
+    (c.print_tables.ensures model (c.in_ok-view.ensures.models model is))

@@ -1,9 +1,9 @@
 //! Why the program stopped early.
 ghost use Rattle.std.specs.Prelude.{◌≡◌, Some};
-ghost use Rattle.cli_reports.specs.Stops.{stop_text};
-ghost use Rattle.cli_reports.specs.declared.stop.Stop.TheVariants.{Failed};
+ghost use Rattle.cli_faults.specs.Stops.{stop_text};
+ghost use Rattle.cli_faults.specs.declared.stop.Stop.TheVariants.{Failed};
 
-use cli_faults::Failure;
+use crate::failure::Failure;
 use std::fmt;
 
 /// Why the program stopped early. `Display` gives the line for standard error, without the line feed.
@@ -19,7 +19,7 @@ pub enum Stop<'a> {
 
 impl Stop<'_> {
     ghost use Rattle.std.specs.Prelude.{◌≡◌};
-    ghost use Rattle.cli_reports.specs.Stops.{status_of_stop};
+    ghost use Rattle.cli_faults.specs.Stops.{status_of_stop};
 
     /// The exit code of the process: that of the failure, 3 if the budget was spent, or 1 if the files differ.
     pub fn status(&self) -> u8

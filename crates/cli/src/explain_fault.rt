@@ -13,7 +13,7 @@ use std::io::{BufWriter, Write};
 /// # Errors
 ///
 /// Out of memory, or the output cannot be written.
-pub fn explain<W: Write>(
+pub(crate) fn explain<W: Write>(
     alloc: Global,
     code: Option<FaultCode>,
     out: &mut W,
