@@ -8,6 +8,7 @@ use Rattle.sig_grammar.specs.Encodes.{Encodes}
 use Rattle.metadata.specs.Cell.{Cell}
 use Rattle.metadata.specs.Kinds.{IsHeld}
 use Rattle.metadata.specs.Lookups.{HasRow}
+use Rattle.metadata.specs.Metadata.{cell_in}
 use Rattle.std.specs.Fmt.{WritesInCalls}
 use Rattle.sig_text.specs.SignatureText.{declared_text}
 use Rattle.full_names.specs.declared.method_text.Declared.{Declared}
@@ -24,7 +25,7 @@ returns-in-Some g c = record {
       let last = c.requires.last in
       let there : HasRow model MethodDef c.args.row = (c.requires.first, omega (arith, rows, last)) in
       let held = held_in kind.MethodDef (method_body method) (subst (λ (x : Cell). IsHeld (column.Signature kind.MethodDef) x) is ((c.holds_one.ensures.valid model shown).cells MethodDef c.args.row 4 there (omega arith)).held) in
-      let encodes = encoded_in kind.MethodDef c.in_ok-bytes.bytes _ (method_body method) (λ other h e. c.shortest_encodes.ensures kind.MethodDef other h e) (c.in_ok-bytes.ensures model shown) is held.0 held.1 in
+      let encodes = encoded_in kind.MethodDef c.in_ok-bytes.bytes (cell_in model MethodDef c.args.row 4) (method_body method) (λ other h e. c.shortest_encodes.ensures kind.MethodDef other h e) (c.in_ok-bytes.ensures model shown) is held.0 held.1 in
       let bytes : Encodes kind.MethodDef (method_body method) c.bytes_of.result.now = rw c.bytes_of.ensures encodes in
       let sink = c.new-sink.result in
       let held_by = subst (λ x. g.S.ReadMetadata.shows x model) (sym c.new-sink.ensures.source) shown in

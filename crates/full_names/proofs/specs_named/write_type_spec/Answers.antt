@@ -7,6 +7,7 @@ use Rattle.sig_grammar.specs.Encodes.{Encodes}
 use Rattle.metadata.specs.Cell.{Cell}
 use Rattle.metadata.specs.Kinds.{IsHeld}
 use Rattle.metadata.specs.Lookups.{HasRow}
+use Rattle.metadata.specs.Metadata.{cell_in}
 use Rattle.full_names.specs.Names.{Wrote}
 use Rattle.full_names.specs.Texts.{IsTypeSpecText}
 use Rattle.full_names.proofs.PieceLemmas.{encoded_in, held_in, ok_after}
@@ -19,7 +20,7 @@ returns g c = λ model shown signature is.
     let last = c.requires.last in
     let there : HasRow model TypeSpec c.args.row = (c.requires.first, omega (arith, rows, last)) in
     let held = held_in kind.TypeSpec signature (subst (λ (x : Cell). IsHeld (column.Signature kind.TypeSpec) x) is ((c.holds_one.ensures.valid model shown).cells TypeSpec c.args.row 0 there (omega arith)).held) in
-    let encodes = encoded_in kind.TypeSpec c.in_ok-bytes.bytes _ signature (λ other h e. c.shortest_encodes.ensures kind.TypeSpec other h e) (c.in_ok-bytes.ensures model shown) is held.0 held.1 in
+    let encodes = encoded_in kind.TypeSpec c.in_ok-bytes.bytes (cell_in model TypeSpec c.args.row 0) signature (λ other h e. c.shortest_encodes.ensures kind.TypeSpec other h e) (c.in_ok-bytes.ensures model shown) is held.0 held.1 in
     let bytes : Encodes kind.TypeSpec signature c.bytes_of.result.now = rw c.bytes_of.ensures encodes in
     ok_after _ _ c.ok_or.ensures.value (c.put_type_spec-written.ensures model shown signature bytes) (λ both.
     let same = sym both.0 in
