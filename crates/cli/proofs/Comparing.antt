@@ -1,11 +1,11 @@
 -- How comparing two files ends, case by case.
-use Rattle.std.proofs.Common.{◌≡◌, ◌≢◌, ◌∙◌, ℕ, Bool, true, false, List, [], ◌∷◌, Option, None, Some, Result, Ok, Err, append-nil, refl, ap, sym, subst, length, inl, inr, arith}
+use Rattle.std.proofs.Common.{◌≡◌, ◌≢◌, ℕ, Bool, List, [], ◌∷◌, Option, None, Some, Ok, Err, append-nil, refl, ap, sym, subst, length, inl, inr, arith}
 use Rattle.std.specs.Prelude.{IsErrAnd}
 use Rattle.std.specs.Io.KnownBytes.{Appends}
 use Rattle.metadata.specs.Metadata.{Metadata}
 use Rattle.cli_faults.specs.declared.failure.Failure.{Failure}
 use Rattle.cli_faults.specs.Status.{IsOutput}
-use Rattle.cli_faults.specs.declared.stop.Stop.TheVariants.{Different, Failed}
+use Rattle.cli_faults.specs.declared.stop.Stop.TheVariants.{Different}
 use Rattle.cli_reports.specs.Checked.{IsWhole}
 use Rattle.cli_reports.specs.Comparisons.{compare_text, compared_text}
 use Rattle.cli_reports.specs.Sent.{SendsPrefix}

@@ -1,9 +1,7 @@
 -- The runs of tasks on what reading a file gave, case by case.
-use Rattle.std.proofs.Common.{◌≡◌, ℕ, Bool, List, [], ◌++◌, append-nil, Option, None, Some, Result, Ok, Err, refl, subst, sym, ap, inl, inr, length}
-use Rattle.std.specs.Prelude.{IfErr, IfOk, IfSome, IsErr, IsErrAnd, IsOk, OnOk, ◌↔◌, ◌⊎◌, MatchResult}
-use Rattle.std.specs.Borrow.{Bor}
+use Rattle.std.proofs.Common.{◌≡◌, ℕ, Bool, List, [], append-nil, Option, None, Some, Result, Ok, Err, refl, subst, sym, length}
+use Rattle.std.specs.Prelude.{IfErr, IfSome, IsErr, IsOk, OnOk, ◌↔◌, ◌⊎◌}
 use Rattle.std.specs.Io.KnownBytes.{Appends}
-use Rattle.cli_arguments.specs.declared.asked.Ask.{Ask}
 use Rattle.cli_faults.specs.declared.failure.Failure.{Failure}
 use Rattle.cli_faults.specs.declared.failure.Failure.TheVariants.{Fault, NoSuchRow, NoToken, NoCode, CannotRead, CannotWriteOutput, CannotWriteFile, OutOfMemory}
 use Rattle.cli_faults.specs.Status.{IsOutput, IsUnwritten, status_of}
@@ -18,14 +16,10 @@ use Rattle.cli_reports.specs.Reported.{IsMet, LeavesOutput, Reports}
 use Rattle.cli_reports.specs.Sent.{Prints, SendsPrefix}
 use Rattle.cli_faults.specs.Stops.{status_of_stop}
 use Rattle.cli_reports.specs.Stops.{StopLeavesOutput, StopsWithin}
-use Rattle.cli.specs.declared.stopped.Stopped.{Stopped}
-use Rattle.cli.specs.declared.task.Task.{Task}
 use Rattle.cli.specs.Hints.{hint_for}
-use Rattle.cli.specs.Read.{IsRefused}
 use Rattle.cli.specs.Rewritten.{IsGiven, IsRewritten, ReportsUnwritten}
-use Rattle.cli.specs.Runs.{DigestsPart, Does, IsChecked, IsDigesting, IsReported, IsRewriting, IsRunOf, IsRunOn, Outcome, PrintsPart, StopsBy, wrote_text}
+use Rattle.cli.specs.Runs.{DigestsPart, IsChecked, IsDigesting, IsReported, IsRewriting, Outcome, PrintsPart, wrote_text}
 use Rattle.cli.specs.Stopped.{IsStopOf}
-use Rattle.cli.specs.Tasks.{IsTask}
 
 -- a hint for a result that stopped
 abbrev pub Hinted : Bool → List ℕ → Result (Unit {0}) Stop → Outcome → Type 0

@@ -1,6 +1,5 @@
 -- What `clim compare` does with the bytes of two files.
 use Rattle.std.specs.Prelude.{◌≡◌, ◌≢◌, ℕ, Bool, List, ◌⊎◌, IfErr, MatchOption, OnOk, Option, Result}
-use Rattle.std.specs.Borrow.{Bor}
 use Rattle.std.specs.Io.KnownBytes.{Appends}
 use Rattle.packed.specs.declared.fault.Fault.{Fault}
 use Rattle.packed.specs.Rule.{FirstBroken}

@@ -1,8 +1,8 @@
-use Rattle.std.proofs.Common.{◌≡◌, ◌∙◌, ℕ, List, [], All, Err, ap, length, refl, subst, sym, arith}
+use Rattle.std.proofs.Common.{◌∙◌, ℕ, List, All, Err, ap, length, refl, subst, sym, arith}
 use Rattle.std.specs.Io.KnownBytes.{Appends}
 use Rattle.std.proofs.lemmas.Bool.Decides.{Decides-eqb}
 use Rattle.comparison.specs.declared.difference.Difference.{Difference}
-use Rattle.comparison.specs.Differences.{IsThere, first_differences}
+use Rattle.comparison.specs.Differences.{IsThere}
 use Rattle.cli_faults.specs.declared.failure.Failure.TheVariants.{OutOfMemory}
 use Rattle.cli_reports.specs.Comparisons.{compare_text}
 use Rattle.cli_reports.specs.Sent.{SendsPrefix}
