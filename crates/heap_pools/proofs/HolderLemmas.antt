@@ -21,7 +21,7 @@ ends_either [] q a b e = inl (ends_from a b q e)
 ends_either (x ∷ p) [] a b e = inr (ends_from b a (x ∷ p) (sym e))
 ends_either (x ∷ p) (y ∷ q) a b e = ends_either p q a b (ap (drop 1) e)
 
-one_ends : (text a b : List ℕ) → ends_with text a ≡ true → ends_with text b ≡ true → (ends_with a b ≡ true) ⊎ (ends_with b a ≡ true)
+pub one_ends : (text a b : List ℕ) → ends_with text a ≡ true → ends_with text b ≡ true → (ends_with a b ≡ true) ⊎ (ends_with b a ≡ true)
 one_ends text a b ha hb =
     let p = ends_parts text a ha in
     let q = ends_parts text b hb in

@@ -1,5 +1,6 @@
 pub mod BlobHeap
 pub mod BlobPoolView
+pub mod Commons
 pub mod Distinct
 pub mod Ending
 pub mod EndingOrder
@@ -10,6 +11,7 @@ pub mod HeapTexts
 pub mod Ranking
 pub mod SortedTextsView
 pub mod StartUses
+pub mod TextGroups
 pub mod TextHeap
 pub mod TextPlan
 pub mod TextPoolView

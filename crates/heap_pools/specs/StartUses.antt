@@ -5,6 +5,12 @@ use Rattle.heap_pools.specs.declared.heap_texts.StartUse.{StartUse}
 abbrev pub start_use_at : List StartUse → ℕ → StartUse
 start_use_at start_uses k = slice_index_or start_uses k (record { start = 0; use_index = 0 })
 
+abbrev pub start_at : List StartUse → ℕ → ℕ
+start_at start_uses k = (start_use_at start_uses k).start
+
+abbrev pub index_at : List StartUse → ℕ → ℕ
+index_at start_uses k = (start_use_at start_uses k).use_index
+
 -- the start_uses have the start at each use index
 pub record AreStartUses (starts : List ℕ) (start_uses : List StartUse) : Type 0 where
   pub within : (k : ℕ) → k < length start_uses → (start_use_at start_uses k).use_index < length starts

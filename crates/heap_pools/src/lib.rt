@@ -2,7 +2,8 @@
 //!
 //! [`TextPool`], [`BlobPool`] and [`GuidPool`] hold each value once, in the order of first use. A text that another
 //! text ends with has no entry of its own. The laws say that what is pooled is read back, and that its index stays as
-//! the pool grows. [`sorted_uses`] and the calls beside it are for `heap_plans`, which plans heaps of blobs and GUIDs.
+//! the pool grows. Of the texts of another heap, only the longest one before each NUL is sorted by its bytes: so texts
+//! that overlap cost no more than their number. [`sorted_uses`] and the calls beside it are for `heap_plans`, which plans heaps of blobs and GUIDs.
 //!
 //! ```text
 //! let pool = TextPool::plan(alloc, &["me", "Name"])?;
@@ -17,6 +18,7 @@ mod guid_pool;
 mod heap_texts;
 pub mod laws;
 mod pool_error;
+mod text_groups;
 mod text_plan;
 mod text_pool;
 
@@ -25,5 +27,5 @@ pub use first_byte::begin;
 pub use guid_pool::GuidPool;
 pub use heap_texts::own_firsts;
 pub use pool_error::{HEAP_LIMIT, PoolError};
-pub use text_plan::{Use, sorted_uses};
+pub use text_plan::{RankedTexts, Use, sorted_uses};
 pub use text_pool::{SortedTexts, TextPool};
