@@ -1,2 +1,5 @@
+pub mod FirstByteLemmas
+pub mod BlobLemmas
+pub mod GuidLemmas
 pub mod BlobPlanLemmas
 pub mod GuidPlanLemmas

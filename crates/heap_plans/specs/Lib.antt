@@ -1,1 +1,4 @@
+pub mod FirstByte
+pub mod BlobPoolView
+pub mod GuidPoolView
 pub mod HeapPlanView

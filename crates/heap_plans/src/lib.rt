@@ -1,6 +1,7 @@
-//! Heaps of blobs and of GUIDs that are written, planned from all their values at once (ECMA-335 II.24.2.4, II.24.2.5).
+//! Heaps of blobs and of GUIDs that are written (ECMA-335 II.24.2.4, II.24.2.5).
 //!
-//! A [`HeapPlan`] has the bytes and the indexes of a pool of `heap_pools` to which the same values were added in turn. It
+//! [`BlobPool`] and [`GuidPool`] hold each value once, in the order of first use. A [`HeapPlan`] is planned from all values
+//! at once: it has the bytes and the indexes of the pool to which the same values were added in turn. It
 //! sorts and does not hash, so its time does not depend on who chose the values. The length of the heap is known, and
 //! `Full` is returned, before the heap is allocated.
 //!
@@ -10,7 +11,13 @@
 //! ```
 #![tactic(auto)]
 
+mod blob_pool;
+mod first_byte;
+mod guid_pool;
 mod heap_plan;
 
+pub use blob_pool::{BlobPool, write_blob};
+pub use first_byte::begin;
+pub use guid_pool::GuidPool;
 pub use heap_plan::{HeapPlan, SortedBlobs, SortedGuids};
 pub use heap_pools::{HEAP_LIMIT, PoolError};

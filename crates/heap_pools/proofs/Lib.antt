@@ -1,15 +1,12 @@
-pub mod BlobLemmas
 pub mod BlockLemmas
 pub mod CommonLemmas
 pub mod DistinctLemmas
 pub mod EndingLemmas
-pub mod FirstByteLemmas
 pub mod FirstLemmas
 pub mod FoundLemmas
 pub mod GroupLemmas
 pub mod GroupedLemmas
 pub mod GrowLemmas
-pub mod GuidLemmas
 pub mod HeapLemmas
 pub mod HeapTextLemmas
 pub mod HolderLemmas

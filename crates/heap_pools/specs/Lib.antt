@@ -1,12 +1,9 @@
 pub mod BlobHeap
-pub mod BlobPoolView
 pub mod Commons
 pub mod Distinct
 pub mod Ending
 pub mod EndingOrder
-pub mod FirstByte
 pub mod GuidHeap
-pub mod GuidPoolView
 pub mod HeapTexts
 pub mod Ranking
 pub mod SortedTextsView

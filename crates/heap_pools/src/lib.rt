@@ -1,9 +1,9 @@
-//! The heaps that are written (ECMA-335 II.24.2.3 to II.24.2.5).
+//! The strings heap that is written, and what all heaps that are written are (ECMA-335 II.24.2.3 to II.24.2.5).
 //!
-//! [`TextPool`], [`BlobPool`] and [`GuidPool`] hold each value once, in the order of first use. A text that another
-//! text ends with has no entry of its own. The laws say that what is pooled is read back, and that its index stays as
-//! the pool grows. Of the texts of another heap, only the longest one before each NUL is sorted by its bytes: so texts
-//! that overlap cost no more than their number. [`sorted_uses`] and the calls beside it are for `heap_plans`, which plans heaps of blobs and GUIDs.
+//! A [`TextPool`] holds each text once, in the order of first use. A text that another text ends with has no entry of its
+//! own. The laws say that what is pooled is read back, and that its index stays as the pool grows. Of the texts of
+//! another heap, only the longest one before each NUL is sorted by its bytes, so texts that overlap cost no more than
+//! their number. [`sorted_uses`] and the calls beside it are for `heap_plans`, which has the heaps of blobs and GUIDs.
 //!
 //! ```text
 //! let pool = TextPool::plan(alloc, &["me", "Name"])?;
@@ -11,10 +11,7 @@
 //! ```
 #![tactic(auto)]
 
-mod blob_pool;
 mod ending;
-mod first_byte;
-mod guid_pool;
 mod heap_texts;
 pub mod laws;
 mod pool_error;
@@ -22,9 +19,6 @@ mod text_groups;
 mod text_plan;
 mod text_pool;
 
-pub use blob_pool::{BlobPool, write_blob};
-pub use first_byte::begin;
-pub use guid_pool::GuidPool;
 pub use heap_texts::own_firsts;
 pub use pool_error::{HEAP_LIMIT, PoolError};
 pub use text_plan::{RankedTexts, Use, sorted_uses};

@@ -5,7 +5,7 @@ use Rattle.std.proofs.lemmas.Bool.Decides.{nat_tests}
 use Rattle.packed.specs.Packed.{IsPacked, short_unsigned}
 use Rattle.heap_entries.specs.Entries.{IsUserString}
 use Rattle.heap_entries.specs.Padding.{zero_padded}
-use Rattle.heap_pools.specs.FirstByte.{begun}
+use Rattle.heap_plans.specs.FirstByte.{begun}
 use Rattle.heap_entries.specs.Units.{unit_bytes}
 use Rattle.user_heap.specs.UserEntries.{last_byte, user_length, user_entry}
 use Rattle.user_heap.proofs.BytesLemmas.{length-begun}

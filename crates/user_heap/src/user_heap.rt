@@ -2,11 +2,12 @@ ghost use Rattle.std.specs.Prelude.{◌≡◌, ◌≤◌, ◌<◌, ◌+◌, ◌^
 ghost use Rattle.std.specs.List.{list_any};
 ghost use Rattle.heap_pools.specs.declared.pool_error.PoolError.TheVariants.{Full};
 ghost use Rattle.heap_entries.specs.Padding.{zero_padded};
-ghost use Rattle.heap_pools.specs.FirstByte.{begun};
+ghost use Rattle.heap_plans.specs.FirstByte.{begun};
 ghost use Rattle.heap_entries.specs.Units.{unit_bytes};
 ghost use Rattle.user_heap.specs.UserEntries.{is_special, last_byte, user_entry, user_length};
 
-use heap_pools::{HEAP_LIMIT, PoolError, begin};
+use heap_plans::begin;
+use heap_pools::{HEAP_LIMIT, PoolError};
 use packed::{BLOB_LIMIT, put_unsigned, unsigned_len};
 use std::alloc::{AllocError, Global};
 use std::marker::Model;

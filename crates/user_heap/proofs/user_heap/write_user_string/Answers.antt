@@ -1,6 +1,6 @@
 use Rattle.std.proofs.Common.{◌≡◌, ◌++◌, ◌∷◌, [], List, ℕ, length, flat_map, ap, ◌∙◌, append_assoc}
 use Rattle.packed.specs.Packed.{short_unsigned}
-use Rattle.heap_pools.specs.FirstByte.{begun}
+use Rattle.heap_plans.specs.FirstByte.{begun}
 use Rattle.heap_entries.specs.Units.{unit_bytes}
 use Rattle.user_heap.specs.UserEntries.{last_byte, user_length, user_entry}
 use Rattle.user_heap.proofs.BytesLemmas.{take_shorter, on_err}

@@ -2,7 +2,7 @@ ghost use Rattle.std.specs.Prelude.{◌≡◌, ◌<◌, ◌≤◌, ◌^◌, All,
 ghost use Rattle.heap_pools.specs.Distinct.{pooled};
 ghost use Rattle.heap_pools.specs.GuidHeap.{guid_heap, guid_index, pooled_guid};
 
-use crate::pool_error::{HEAP_LIMIT, PoolError};
+use heap_pools::{HEAP_LIMIT, PoolError};
 use indexmap::IndexSet;
 use std::alloc::Global;
 use std::marker::Model;
@@ -21,7 +21,7 @@ impl Model for GuidPool {
 
     ghost Value = { List (List ℕ) };
 
-    ghost use Rattle.heap_pools.specs.GuidPoolView.{guids_of, IsGuidPool};
+    ghost use Rattle.heap_plans.specs.GuidPoolView.{guids_of, IsGuidPool};
 
     ghost view = { guids_of };
 

@@ -1,10 +1,10 @@
 ghost use Rattle.std.specs.Prelude.{◌≡◌, ◌<◌, ◌≤◌, ◌+◌, ◌^◌, ◌++◌, ◌∷◌, ◌↔◌, true, false, [], Err, length, vec_len, take, IfSome, IfNone, IfOk, OnOk, OnErr, IsOk};
 ghost use Rattle.heap_pools.specs.BlobHeap.{blob_from, blob_heap, blob_index, counted};
 ghost use Rattle.heap_pools.specs.Distinct.{is_among, pooled};
-ghost use Rattle.heap_pools.specs.FirstByte.{begun};
+ghost use Rattle.heap_plans.specs.FirstByte.{begun};
 
 use crate::first_byte::begin;
-use crate::pool_error::{HEAP_LIMIT, PoolError};
+use heap_pools::{HEAP_LIMIT, PoolError};
 use indexmap::IndexMap;
 use packed::{put_unsigned, unsigned_len};
 use std::alloc::{AllocError, Global};
@@ -23,7 +23,7 @@ impl Model for BlobPool {
 
     ghost Value = { List (List ℕ) };
 
-    ghost use Rattle.heap_pools.specs.BlobPoolView.{blobs_of, IsBlobPool};
+    ghost use Rattle.heap_plans.specs.BlobPoolView.{blobs_of, IsBlobPool};
 
     ghost view = { blobs_of };
 
@@ -35,7 +35,7 @@ impl Model for BlobPool {
 /// # Errors
 ///
 /// Only if out of memory. Then the heap may have a part of the entry.
-#[tactic(auto, unfolding(crate::specs::BlobHeap::counted))]
+#[tactic(auto, unfolding(heap_pools::specs::BlobHeap::counted))]
 pub fn write_blob(heap: &mut Vec<u8>, blob: &[u8]) -> Result<(), AllocError>
     requires { length blob.now < 2 ^ 29 }
     ensures ok { OnOk result (heap.new.items ≡ begun heap.old.items ++ counted blob.now) }

@@ -1,8 +1,8 @@
 use Rattle.std.proofs.Common.{◌≡◌, ◌∙◌, List, ℕ, subst, true, false, IfSome, IfNone}
 use Rattle.heap_pools.specs.BlobHeap.{blob_from}
 use Rattle.heap_pools.specs.Distinct.{is_among}
-use Rattle.heap_pools.proofs.BlobLemmas.{found_there, found_new}
-use Rattle.heap_pools.proofs.blob_pool.BlobPool.find.Goals as goal
+use Rattle.heap_plans.proofs.BlobLemmas.{found_there, found_new}
+use Rattle.heap_plans.proofs.blob_pool.BlobPool.find.Goals as goal
 
 pub returns-clause-sound : goal.returns-clause-sound
 returns-clause-sound c =

@@ -1,7 +1,7 @@
 -- The value of a pool of blobs, and its invariant.
 use Rattle.std.specs.Prelude.{◌≡◌, ◌≤◌, ◌+◌, ◌^◌, ℕ, List, [], ◌∷◌, length, map}
 use Rattle.indexmap.specs.IndexMap.{keys, values}
-use Rattle.heap_pools.specs.declared.blob_pool.BlobPool.TheInside.{Inside}
+use Rattle.heap_plans.specs.declared.blob_pool.BlobPool.TheInside.{Inside}
 use Rattle.heap_pools.specs.BlobHeap.{blob_heap, counted}
 
 -- the entries: the keys of the map, in order

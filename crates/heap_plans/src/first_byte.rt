@@ -1,5 +1,5 @@
 ghost use Rattle.std.specs.Prelude.{◌≡◌, OnOk, OnErr, IsOk};
-ghost use Rattle.heap_pools.specs.FirstByte.{begun};
+ghost use Rattle.heap_plans.specs.FirstByte.{begun};
 
 use std::alloc::AllocError;
 

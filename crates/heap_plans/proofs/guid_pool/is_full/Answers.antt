@@ -1,7 +1,7 @@
 use Rattle.std.proofs.Common.{arith}
 use Rattle.std.proofs.lemmas.Bool.{eqb-true}
-use Rattle.heap_pools.proofs.GuidLemmas.{full_at_most, room_below}
-use Rattle.heap_pools.proofs.guid_pool.is_full.Goals as goal
+use Rattle.heap_plans.proofs.GuidLemmas.{full_at_most, room_below}
+use Rattle.heap_plans.proofs.guid_pool.is_full.Goals as goal
 
 pub returns-then-len-eq-MOST_GUIDS-clause-full : goal.returns-then-len-eq-MOST_GUIDS-clause-full
 returns-then-len-eq-MOST_GUIDS-clause-full c =

@@ -3,11 +3,11 @@ use Rattle.std.specs.Cmp.Lexicographic.{pointwise}
 use Rattle.std.specs.Map.{values_of, lookup}
 use Rattle.indexmap.proofs.CallerLemmas.{insert_entry-new}
 use Rattle.heap_pools.specs.BlobHeap.{blob_heap, counted}
-use Rattle.heap_pools.specs.BlobPoolView.{starts_from}
+use Rattle.heap_plans.specs.BlobPoolView.{starts_from}
 use Rattle.heap_pools.specs.Distinct.{is_among}
-use Rattle.heap_pools.specs.FirstByte.{begun}
-use Rattle.heap_pools.proofs.BlobLemmas.{names_of, lookup_new, blob_heap-push, names_of-push, starts-push}
-use Rattle.heap_pools.proofs.blob_pool.BlobPool.insert.Goals as goal
+use Rattle.heap_plans.specs.FirstByte.{begun}
+use Rattle.heap_plans.proofs.BlobLemmas.{names_of, lookup_new, blob_heap-push, names_of-push, starts-push}
+use Rattle.heap_plans.proofs.blob_pool.BlobPool.insert.Goals as goal
 
 of_ok : {X E : Type 0} (r : Result X E) (P : Type 0) → IsOk r → OnOk r P → P
 of_ok (Ok x) P is holds = holds

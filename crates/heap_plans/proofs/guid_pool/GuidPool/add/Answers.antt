@@ -1,8 +1,8 @@
 use Rattle.std.proofs.Common.{◌≡◌, ◌≤◌, ◌<◌, ◌^◌, All, length, sym, subst, ◌∙◌, ap, refl, true≢false}
 use Rattle.heap_pools.specs.Distinct.{pooled}
 use Rattle.heap_pools.specs.GuidHeap.{guid_heap, pooled_guid}
-use Rattle.heap_pools.proofs.GuidLemmas.{fits_itself, pooled_sixteen, pooled_fits, inserted_is}
-use Rattle.heap_pools.proofs.guid_pool.GuidPool.add.Goals as goal
+use Rattle.heap_plans.proofs.GuidLemmas.{fits_itself, pooled_sixteen, pooled_fits, inserted_is}
+use Rattle.heap_plans.proofs.guid_pool.GuidPool.add.Goals as goal
 
 pub returns-in_default-clause-full : goal.returns-in_default-clause-full
 returns-in_default-clause-full c = (

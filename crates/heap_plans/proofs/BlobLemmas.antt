@@ -9,10 +9,10 @@ use Rattle.std.specs.Map.{keys_of, values_of, lookup}
 use Rattle.std.specs.Str.{bytes_eq}
 use Rattle.packed.specs.Packed.{short_unsigned}
 use Rattle.heap_pools.specs.BlobHeap.{blob_from, blob_heap, blob_index, counted}
-use Rattle.heap_pools.specs.BlobPoolView.{starts_from}
+use Rattle.heap_plans.specs.BlobPoolView.{starts_from}
 use Rattle.heap_pools.specs.Distinct.{is_among, pooled}
-use Rattle.heap_pools.specs.FirstByte.{begun}
-use Rattle.heap_pools.proofs.FirstByteLemmas.{length-begun}
+use Rattle.heap_plans.specs.FirstByte.{begun}
+use Rattle.heap_plans.proofs.FirstByteLemmas.{length-begun}
 use Rattle.heap_pools.proofs.DistinctLemmas.{pooled_new}
 
 -- the heap with one more blob

@@ -1,6 +1,6 @@
 -- The value of a pool of GUIDs, and its invariant.
 use Rattle.std.specs.Prelude.{◌≡◌, ◌≤◌, ◌^◌, ℕ, List, length, All}
-use Rattle.heap_pools.specs.declared.guid_pool.GuidPool.TheInside.{Inside}
+use Rattle.heap_plans.specs.declared.guid_pool.GuidPool.TheInside.{Inside}
 
 abbrev pub guids_of : Inside → List (List ℕ)
 guids_of pool = pool.guids.keys

@@ -4,8 +4,8 @@ use Rattle.std.proofs.lemmas.Bool.Decides.{nat_tests}
 use Rattle.packed.specs.Packed.{short_unsigned}
 use Rattle.heap_pools.specs.BlobHeap.{blob_heap, blob_index, counted}
 use Rattle.heap_pools.specs.Distinct.{is_among, pooled}
-use Rattle.heap_pools.proofs.BlobLemmas.{length-counted, length-pooled, blob_index-push}
-use Rattle.heap_pools.proofs.blob_pool.BlobPool.add.Goals as goal
+use Rattle.heap_plans.proofs.BlobLemmas.{length-counted, length-pooled, blob_index-push}
+use Rattle.heap_plans.proofs.blob_pool.BlobPool.add.Goals as goal
 
 not_empty : (blob : List ℕ) → false ≡ (length blob == 0) → 0 < length blob
 not_empty blob e = grind (arith, nat_tests)
