@@ -40,6 +40,12 @@
 //! let root = prepare(alloc, &view, 1 << 30)?;          // of a view that is open: no model is made
 //! ```
 //!
+//! **Comparing** says whether two views have the same model, and what differs:
+//!
+//! ```text
+//! if !is_equal(alloc, &left, &right)? { differences(alloc, &left, &right, 20)? } // at most 20 cells
+//! ```
+//!
 //! **Names** of types and methods are written to any `fmt::Write`, of a view and of a model. Only the bytes of a
 //! model's signature are allocated:
 //!
@@ -107,6 +113,9 @@ pub use full_names::{
 
 // Rows of a model and of a view as records.
 pub use typed_rows::{ReadRows, Records, RefRow, cells_of, resolve, row, rows};
+
+// Whether two views have the same model, what differs, and the digest of a canonical root.
+pub use comparison::{Difference, differences, digest, is_equal};
 
 // The canonical root of a model or a view.
 pub use writer::{
