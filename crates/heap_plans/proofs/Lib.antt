@@ -3,3 +3,5 @@ pub mod BlobLemmas
 pub mod GuidLemmas
 pub mod BlobPlanLemmas
 pub mod GuidPlanLemmas
+pub mod BytesLemmas
+pub mod UserHeapLemmas

@@ -2,3 +2,5 @@ pub mod FirstByte
 pub mod BlobPoolView
 pub mod GuidPoolView
 pub mod HeapPlanView
+pub mod UserEntries
+pub mod UserHeap

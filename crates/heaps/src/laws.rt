@@ -5,4 +5,4 @@ pub use heap_pools::laws::{
     heaps_grow, indexes_stay, pooled_are_distinct, pooled_blob_is_found, pooled_guid_is_found,
     used_text_is_found,
 };
-pub use user_heap::laws::pushed_string_is_found;
+pub use heap_plans::laws::pushed_string_is_found;

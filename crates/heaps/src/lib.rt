@@ -19,7 +19,6 @@ pub mod laws;
 pub use heap_entries::{
     HeapFault, Strings, Units, UserString, blob, guid, guid_text, text, user_string,
 };
-pub use heap_plans::{BlobPool, GuidPool, HeapPlan, SortedBlobs, SortedGuids, begin};
+pub use heap_plans::{BlobPool, GuidPool, HeapPlan, SortedBlobs, SortedGuids, UserHeap, begin};
 pub use heap_pools::{HEAP_LIMIT, PoolError, SortedTexts, TextPool};
 pub use packed::{Fault, FaultCode};
-pub use user_heap::UserHeap;

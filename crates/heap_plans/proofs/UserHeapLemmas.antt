@@ -7,8 +7,8 @@ use Rattle.heap_entries.specs.Entries.{IsUserString}
 use Rattle.heap_entries.specs.Padding.{zero_padded}
 use Rattle.heap_plans.specs.FirstByte.{begun}
 use Rattle.heap_entries.specs.Units.{unit_bytes}
-use Rattle.user_heap.specs.UserEntries.{last_byte, user_length, user_entry}
-use Rattle.user_heap.proofs.BytesLemmas.{length-begun}
+use Rattle.heap_plans.specs.UserEntries.{last_byte, user_length, user_entry}
+use Rattle.heap_plans.proofs.BytesLemmas.{length-begun}
 
 pub length-units : (units : List ℕ) (last : ℕ) → length (flat_map unit_bytes units ++ last ∷ []) ≡ 2 * length units + 1
 length-units [] last = refl

@@ -1,7 +1,7 @@
 use Rattle.std.proofs.Common.{◌≡◌, ◌-◌, ◌++◌, List, ℕ, length, replicate, ap, ◌∙◌, arith}
 use Rattle.heap_entries.specs.Padding.{zero_padded}
-use Rattle.user_heap.proofs.UserHeapLemmas.{take_zeros, padded_is}
-use Rattle.user_heap.proofs.user_heap.UserHeap.padded.Goals as goal
+use Rattle.heap_plans.proofs.UserHeapLemmas.{take_zeros, padded_is}
+use Rattle.heap_plans.proofs.user_heap.UserHeap.padded.Goals as goal
 
 pub returns-in-Ok-clause-ok : goal.returns-in-Ok-clause-ok
 returns-in-Ok-clause-ok c =

@@ -1,8 +1,8 @@
 -- The heap of user strings that is written, `#US` (ECMA-335 II.24.2.4).
 use Rattle.std.specs.Prelude.{◌<◌, ◌≤◌, ◌^◌, ◌⊎◌, ℕ, List, ◌++◌, length}
-use Rattle.user_heap.specs.declared.user_heap.UserHeap.TheInside.{Inside}
+use Rattle.heap_plans.specs.declared.user_heap.UserHeap.TheInside.{Inside}
 use Rattle.heap_plans.specs.FirstByte.{begun}
-use Rattle.user_heap.specs.UserEntries.{user_length, user_entry}
+use Rattle.heap_plans.specs.UserEntries.{user_length, user_entry}
 
 -- the bytes of the heap: those that were written, or the first byte 0 if nothing was written
 abbrev pub user_heap_of : Inside → List ℕ

@@ -4,9 +4,9 @@ ghost use Rattle.heap_pools.specs.declared.pool_error.PoolError.TheVariants.{Ful
 ghost use Rattle.heap_entries.specs.Padding.{zero_padded};
 ghost use Rattle.heap_plans.specs.FirstByte.{begun};
 ghost use Rattle.heap_entries.specs.Units.{unit_bytes};
-ghost use Rattle.user_heap.specs.UserEntries.{is_special, last_byte, user_entry, user_length};
+ghost use Rattle.heap_plans.specs.UserEntries.{is_special, last_byte, user_entry, user_length};
 
-use heap_plans::begin;
+use crate::first_byte::begin;
 use heap_pools::{HEAP_LIMIT, PoolError};
 use packed::{BLOB_LIMIT, put_unsigned, unsigned_len};
 use std::alloc::{AllocError, Global};
@@ -25,7 +25,7 @@ impl Model for UserHeap {
 
     ghost Value = { List ℕ };
 
-    ghost use Rattle.user_heap.specs.UserHeap.{user_heap_of, IsUserHeap};
+    ghost use Rattle.heap_plans.specs.UserHeap.{user_heap_of, IsUserHeap};
 
     ghost view = { user_heap_of };
 
@@ -93,7 +93,7 @@ fn append_user_string(bytes: &mut Vec<u8>, units: &[u16]) -> Result<(), AllocErr
 }
 
 impl UserHeap {
-    ghost use Rattle.user_heap.specs.UserHeap.{IsPastLimit};
+    ghost use Rattle.heap_plans.specs.UserHeap.{IsPastLimit};
 
     /// A heap without user strings. The call does not allocate.
     pub fn new(alloc: Global) -> UserHeap

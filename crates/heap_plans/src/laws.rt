@@ -1,6 +1,6 @@
 ghost use Rattle.std.specs.Prelude.{◌<◌, ◌^◌, ◌++◌, ℕ, List, length, Some};
 ghost use Rattle.heap_entries.specs.Entries.{IsUserString};
-ghost use Rattle.user_heap.specs.UserEntries.{last_byte, user_entry, user_length};
+ghost use Rattle.heap_plans.specs.UserEntries.{last_byte, user_entry, user_length};
 
 /// The user string at the offset at which one was pushed is this one, whatever bytes follow.
 pub fn pushed_string_is_found()

@@ -1,9 +1,9 @@
 use Rattle.std.proofs.Common.{◌++◌, List, ℕ, length, inl, inr, refl, ap, ◌∙◌, arith}
 use Rattle.std.proofs.lemmas.Result.{err_from_is_err_and}
-use Rattle.user_heap.specs.UserEntries.{user_entry}
-use Rattle.user_heap.proofs.BytesLemmas.{length-begun}
-use Rattle.user_heap.proofs.UserHeapLemmas.{pushed_lengths}
-use Rattle.user_heap.proofs.user_heap.UserHeap.push.Goals as goal
+use Rattle.heap_plans.specs.UserEntries.{user_entry}
+use Rattle.heap_plans.proofs.BytesLemmas.{length-begun}
+use Rattle.heap_plans.proofs.UserHeapLemmas.{pushed_lengths}
+use Rattle.heap_plans.proofs.user_heap.UserHeap.push.Goals as goal
 
 pub returns-then-start-unsigned_len-clause-full : goal.returns-then-start-unsigned_len-clause-full
 returns-then-start-unsigned_len-clause-full c =

@@ -2,9 +2,9 @@ use Rattle.std.proofs.Common.{◌≡◌, ◌++◌, ◌∷◌, [], List, ℕ, len
 use Rattle.packed.specs.Packed.{short_unsigned}
 use Rattle.heap_plans.specs.FirstByte.{begun}
 use Rattle.heap_entries.specs.Units.{unit_bytes}
-use Rattle.user_heap.specs.UserEntries.{last_byte, user_length, user_entry}
-use Rattle.user_heap.proofs.BytesLemmas.{take_shorter, on_err}
-use Rattle.user_heap.proofs.user_heap.write_user_string.Goals as goal
+use Rattle.heap_plans.specs.UserEntries.{last_byte, user_length, user_entry}
+use Rattle.heap_plans.proofs.BytesLemmas.{take_shorter, on_err}
+use Rattle.heap_plans.proofs.user_heap.write_user_string.Goals as goal
 
 pub returns-in_err-put_units-clause-err : goal.returns-in_err-put_units-clause-err
 returns-in_err-put_units-clause-err c =

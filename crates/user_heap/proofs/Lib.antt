@@ -1,2 +1,0 @@
-pub mod BytesLemmas
-pub mod UserHeapLemmas

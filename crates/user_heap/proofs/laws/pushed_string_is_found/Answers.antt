@@ -1,5 +1,0 @@
-use Rattle.user_heap.proofs.UserHeapLemmas.{user_string_found}
-use Rattle.user_heap.proofs.laws.pushed_string_is_found.Goals as goal
-
-pub returns : goal.returns
-returns c = user_string_found

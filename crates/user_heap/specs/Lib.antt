@@ -1,2 +1,0 @@
-pub mod UserEntries
-pub mod UserHeap
