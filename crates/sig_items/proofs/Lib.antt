@@ -4,3 +4,4 @@ pub mod Counts
 pub mod Arms
 pub mod Heads
 pub mod Stacks
+pub mod ItemBytes

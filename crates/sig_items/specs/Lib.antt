@@ -1,3 +1,4 @@
+pub mod ItemParts
 pub mod ItemsOf
 pub mod Positions
 pub mod Steps

@@ -21,7 +21,7 @@ use Rattle.sig_grammar.specs.Syntax.{Core, simple, void_pointer, pointer, vector
 use Rattle.sig_grammar.specs.Parts.{Part, byte, number, signed, index, IsIndex, EncodesPart, EncodesParts, short_part, is_table, index_number, HasEncoding, part_tokens}
 use Rattle.sig_grammar.specs.Grammar.{list_parts, modifier_parts, modifiers_parts, numbers_parts, bounds_parts, shape_parts, named_code, flag, method_code, generic_parts, core_parts, typed_parts, types_parts, content_parts, slot_parts, slots_parts, ret_parts, method_parts, prefix_parts, prefixes_parts, local_parts, body_parts}
 use Rattle.sig_grammar.specs.Limits.{IsMethodKind, IsCore, IsTyped, AreTypes, IsContent, IsSlot, AreSlots, IsRet, IsMethod, IsTypedWithin, IsSlotWithin, IsLocalWithin, IsBodyWithin}
-use Rattle.sig_grammar.specs.Encodes.{Encodes, IsEncodable, tokens}
+use Rattle.sig_grammar.specs.Encodes.{Encodes, IsEncodable, short, tokens}
 use Rattle.sig_values.proofs.Methods.{kind_lt}
 
 -- ---- each byte part of the grammar is a byte
@@ -251,6 +251,9 @@ parts_least : (ps : List Part) (b : List ℕ) → EncodesParts ps b → length (
 parts_least [] b is = omega arith
 parts_least (p ∷ ps) b is =
     omega (arith, part_least p is.0 is.3, parts_least ps is.1 is.4, length-append (short_part p) (flat_map short_part ps), ap length is.2, length-append is.0 is.1)
+
+pub encoded_shorter : (kind : SigKind) (s : Body) (b : List ℕ) → Encodes kind s b → length (short s) ≤ length b
+encoded_shorter kind s b h = parts_least (body_parts s) b h.parts
 
 pub encoded_encodable : (kind : SigKind) (s : Body) (b : List ℕ) → Encodes kind s b → IsEncodable s
 encoded_encodable kind s b h = record {

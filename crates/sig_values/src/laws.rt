@@ -1,4 +1,4 @@
-ghost use Rattle.std.specs.Prelude.{◌≡◌, ◌^◌, ◌<◌, ◌⊎◌, ◌↔◌, ◌∷◌, ◌++◌, ℕ, List, [], length, get_or, Some, None};
+ghost use Rattle.std.specs.Prelude.{◌≡◌, ◌^◌, ◌<◌, ◌≤◌, ◌⊎◌, ◌↔◌, ◌∷◌, ◌++◌, ℕ, List, [], length, get_or, Some, None};
 ghost use Rattle.std.specs.List.{AllByRecursion};
 ghost use Rattle.table_schema.specs.declared.column.SigKind.{SigKind};
 ghost use Rattle.table_schema.specs.declared.table.TableId.TheVariants.{TypeDef, TypeRef, TypeSpec};
@@ -33,6 +33,12 @@ pub fn shortest_encodes()
 /// parts has an encoding, and the canonical encoding has fewer than 2^29 bytes.
 pub fn encoded_is_encodable()
     ensures { (kind : SigKind) (signature : Body) (bytes : List ℕ) → Encodes kind signature bytes → IsEncodable signature }
+{}
+
+/// No encoding of a signature is shorter than its canonical encoding, in a column of any kind.
+pub fn canonical_is_shortest()
+    ensures { (kind : SigKind) (signature : Body) (bytes : List ℕ) → Encodes kind signature bytes
+        → length (short signature) ≤ length bytes }
 {}
 
 /// Each type index of an encodable signature names TypeDef, TypeRef or TypeSpec (II.23.2.8).

@@ -1,1 +1,2 @@
 pub mod LongFormLemmas
+pub mod CopyLemmas

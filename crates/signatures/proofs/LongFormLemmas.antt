@@ -1,5 +1,5 @@
 -- Blobs without a byte that begins a number that is longer than necessary: each number in them has its shortest form.
-use Rattle.std.proofs.Common.{◌≡◌, ◌∙◌, ℕ, zero, suc, ◌+◌, ◌^◌, ◌<◌, ◌≤◌, ◌/◌, ◌%◌, Bool, false, true, List, [], ◌∷◌, ◌++◌, length, Some, inl, inr, refl, ap, sym, subst, arith, cond, ltb}
+use Rattle.std.proofs.Common.{◌≡◌, ◌∙◌, ℕ, zero, suc, ◌+◌, ◌^◌, ◌<◌, ◌≤◌, ◌/◌, ◌%◌, Bool, false, true, List, [], ◌∷◌, ◌++◌, Some, inl, inr, refl, ap, sym, subst, arith, cond, ltb}
 use Rattle.std.specs.Prelude.{ℤ, pos, negsuc, slice_get, slice_index, ◌↔◌, ◌⊎◌, EachIndex}
 use Rattle.std.specs.List.{flat_map, position_or_len}
 use Rattle.std.proofs.lemmas.Bool.{lt-ltb, ltb-true}

@@ -13,11 +13,13 @@
 //! ```
 #![tactic(auto)]
 
+mod canonical;
 mod columns;
 pub mod laws;
 mod long_forms;
 mod signature;
 
+pub use canonical::canonical_encoding;
 pub use long_forms::is_plainly_canonical;
 pub use sig_decoder::SigError;
 pub use sig_grammar::{
@@ -25,5 +27,5 @@ pub use sig_grammar::{
     PropertySig, Ret, Shape, SigBody, Slot, SlotKind, TypeSig,
 };
 pub use sig_recogniser::{index_of_first_bad, recognise, recognise_first_bad};
-pub use signature::{Signature, canonical_encoding, decode, encode};
+pub use signature::{Signature, decode, encode};
 pub use table_schema::{SigKind, Token};

@@ -1,4 +1,4 @@
-ghost use Rattle.std.specs.Prelude.{◌≡◌, ◌↔◌, ◌<◌, ◌^◌, IsTrue, IfOk, IsOk, IsErrOf, MatchResult, length};
+ghost use Rattle.std.specs.Prelude.{◌≡◌, ◌↔◌, IsTrue, IfOk, IsOk, IsErrOf, MatchResult};
 ghost use Rattle.std.specs.Cmp.{partial_equiv_from_equiv};
 ghost use Rattle.sig_grammar.specs.Syntax.{Body};
 ghost use Rattle.sig_grammar.specs.Views.{body_of};
@@ -142,23 +142,4 @@ pub fn decode(alloc: Global, bytes: &[u8], kind: SigKind) -> Result<Signature, S
     sig_values::laws::encoded_is_encodable();
     let body = decode_body(alloc, bytes, kind)?;
     Ok(Signature { body })
-}
-
-/// The canonical encoding of the signature that all the bytes together encode, in a column of this kind (II.23.2).
-///
-/// # Errors
-///
-/// `Bad` as for [`decode`]. `Memory` only if the bytes encode a signature, and its value or its encoding could not
-/// be allocated.
-pub fn canonical_encoding(alloc: Global, bytes: &[u8], kind: SigKind) -> Result<Vec<u8>, SigError>
-    ensures shortest { (signature : Body) → Encodes kind signature bytes.now → IfOk result (λ encoding. encoding.items ≡ short signature) }
-    ensures limit { IfOk result (λ encoding. length encoding.items < 2 ^ 29) }
-    // The result is `Bad` if and only if they encode nothing.
-    ensures bad { IsErrOf result Bad ↔ ¬ ((signature : Body) × Encodes kind signature bytes.now) }
-{
-    sig_values::laws::encoded_is_encodable();
-    let signature = decode(alloc, bytes, kind)?;
-    let encoding = encode(alloc, &signature);
-    drop(signature);
-    Ok(encoding?)
 }

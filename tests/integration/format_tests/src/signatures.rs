@@ -5,5 +5,6 @@
 
 pub mod blobs;
 mod bodies;
+mod canonical;
 mod encodings;
 pub mod values;

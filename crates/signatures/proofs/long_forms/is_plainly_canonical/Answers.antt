@@ -1,4 +1,3 @@
-use Rattle.std.specs.Prelude.{◌↔◌}
 use Rattle.sig_grammar.specs.Grammar.{body_parts}
 use Rattle.signatures.proofs.LongFormLemmas.{short_parts_of}
 use Rattle.signatures.proofs.long_forms.is_plainly_canonical.Goals as goal

@@ -1,4 +1,4 @@
-use crate::sig_items::collected::{OPTIONAL_FIRST, REQUIRED_FIRST, REQUIRED_SECOND, reported};
+use crate::sig_items::collected::{OPTIONAL_FIRST, REQUIRED_FIRST, REQUIRED_SECOND, reported, written};
 use sig_items::{CallingConvention, Item, MethodHead, SigKind};
 use sig_values::Element;
 use std::test::Fail;
@@ -181,6 +181,16 @@ fn each_kind_of_a_signature_is_reported(rt: HostRuntime) -> Result<(), Fail> {
     for (kind, bytes, items) in BODIES {
         let reported = reported(rt.alloc(), bytes, kind)?.ok_or("items")?;
         assert_eq!(rt; reported.as_slice(), items);
+    }
+    Ok(())
+}
+
+/// These encodings are the shortest.
+#[test]
+fn items_of_each_kind_are_written(rt: HostRuntime) -> Result<(), Fail> {
+    for (_, bytes, items) in BODIES {
+        let written = written(rt.alloc(), items)?;
+        assert_eq!(rt; written.as_slice(), bytes);
     }
     Ok(())
 }

@@ -1,5 +1,5 @@
 use schema::{TableId, Token};
-use sig_items::{Item, Items, SigKind};
+use sig_items::{Item, Items, SigKind, put_item};
 use sig_values::Modifier;
 use std::alloc::Global;
 use std::test::Fail;
@@ -10,6 +10,15 @@ pub fn reported(alloc: Global, bytes: &[u8], kind: SigKind) -> Result<Option<Vec
         Some(items) => Ok(Some(items.collect(alloc)?)),
         None => Ok(None),
     }
+}
+
+/// The bytes of items, one after another.
+pub fn written(alloc: Global, items: &[Item]) -> Result<Vec<u8>, Fail> {
+    let mut bytes = Vec::new(alloc);
+    for item in items {
+        put_item(&mut bytes, *item)?;
+    }
+    Ok(bytes)
 }
 
 /// The first row of TypeRef.

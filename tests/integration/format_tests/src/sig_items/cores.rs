@@ -1,4 +1,4 @@
-use crate::sig_items::collected::{FIRST, OPTIONAL_SECOND, REQUIRED_FIRST, SECOND, reported};
+use crate::sig_items::collected::{FIRST, OPTIONAL_SECOND, REQUIRED_FIRST, SECOND, reported, written};
 use schema::{TableId, Token};
 use sig_items::{CallingConvention, Item, MethodHead, SigKind};
 use sig_values::Element;
@@ -193,6 +193,19 @@ fn each_form_of_a_type_is_reported(rt: HostRuntime) -> Result<(), Fail> {
     for (bytes, items) in CORES {
         let reported = reported(rt.alloc(), bytes, SigKind::TypeSpec)?.ok_or("items")?;
         assert_eq!(rt; reported.as_slice(), items);
+    }
+    Ok(())
+}
+
+/// The one type of the table whose index is longer than necessary.
+const LONG: &[u8] = &[0x12, 0x80, 0x06];
+
+#[test]
+fn items_of_each_form_are_written(rt: HostRuntime) -> Result<(), Fail> {
+    for (bytes, items) in CORES {
+        let shortest = if bytes == LONG { &[0x12, 0x06] } else { bytes };
+        let written = written(rt.alloc(), items)?;
+        assert_eq!(rt; written.as_slice(), shortest);
     }
     Ok(())
 }
