@@ -2,12 +2,12 @@
 use Rattle.std.proofs.Common.{◌≡◌, ℕ, ◌+◌, ◌-◌, ◌*◌, ◌≤◌, ◌⊎◌, inl, inr, List, ◌∷◌, ◌++◌, length, refl, sym, ap, ◌∙◌, subst, arith}
 use Rattle.std.proofs.Common.{Result, Ok, Err}
 use Rattle.std.specs.List.{flat_map}
-use Rattle.std.specs.Result.{IfOk, IsOkAnd}
+use Rattle.std.specs.Result.{IfErr, IfOk, IsOkAnd}
 use Rattle.packed.specs.declared.fault.Fault.{Fault}
 use Rattle.packed.specs.Fields.{Field, literal, StandAt, AllSay, widths}
 use Rattle.packed.specs.Number.{little_endian}
 use Rattle.packed.specs.Offsets.{part}
-use Rattle.packed.specs.Rule.{AllHold, Reports}
+use Rattle.packed.specs.Rule.{AllHold, FirstBroken, Reports}
 use Rattle.packed.proofs.RuleLemmas.{none_fails}
 use Rattle.pe.specs.declared.section.SectionHeader.{SectionHeader}
 use Rattle.pe.specs.Image.{Image, Format, pe32, pe32_plus, magic_of, wider_by, dos_header, pe_signature, file_header, optional_header, section_header, IsImage}
@@ -208,3 +208,12 @@ pub reports_only : (file : List ℕ) (image : Image) (r : Result Image Fault) �
     → AllHold (rules_of_image file) → image ≡ image_of file → IsOkAnd r (λ found. found ≡ image)
 reports_only file image (Ok found) all is meets said = is ∙ sym said
 reports_only file image (Err found) fails is meets said = absurd (none_fails (rules_of_image file) found meets fails)
+
+pub reports_all : (file : List ℕ) (result : Result Image Fault) → Reports (rules_of_image file) result → IfOk result (λ image. image ≡ image_of file)
+    → IfOk result (λ image. AllHold (rules_of_image file) × (image ≡ image_of file))
+reports_all file (Ok image) reports is = (reports, is)
+reports_all file (Err fault) reports is = tt
+
+pub reports_first : (file : List ℕ) (result : Result Image Fault) → Reports (rules_of_image file) result → IfErr result (FirstBroken (rules_of_image file))
+reports_first file (Ok image) reports = tt
+reports_first file (Err fault) reports = reports
