@@ -1,5 +1,5 @@
 -- The numbers in one column of a table, row by row (ECMA-335 II.24.2.6).
-use Rattle.std.specs.Prelude.{ℕ, ◌+◌, ◌-◌, ◌*◌, ◌≤◌, List, length}
+use Rattle.std.specs.Prelude.{◌≡◌, ℕ, ◌+◌, ◌-◌, ◌*◌, ◌≤◌, ◌<◌, List, length}
 use Rattle.packed.specs.Number.{little_endian}
 use Rattle.packed.specs.Offsets.{part}
 use Rattle.schema.specs.Sizes.{IsWidth}
@@ -16,6 +16,17 @@ pub record ColumnBytes : Type 0 where
 -- the number in a row; rows are counted from 1
 abbrev pub number_in_row : ColumnBytes → ℕ → ℕ
 number_in_row column row = little_endian (part column.bytes ((row - 1) * column.step) column.width)
+
+-- the number is in a row before a limit
+pub record IsAmong (column : ColumnBytes) (limit number : ℕ) : Type 0 where
+  pub row : ℕ
+  pub first : 1 ≤ row
+  pub before : row < limit
+  pub equal : number ≡ number_in_row column row
+
+-- no number is less than that of the row before
+abbrev pub NeverFalls : ColumnBytes → Type 0
+NeverFalls column = (row : ℕ) → 2 ≤ row → row ≤ column.count → number_in_row column (row - 1) ≤ number_in_row column row
 
 abbrev pub column_seen : Inside → ColumnBytes
 column_seen column = record { bytes = column.bytes.now; step = column.step; width = column.width; count = column.count }
