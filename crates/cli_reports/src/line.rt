@@ -9,7 +9,7 @@ use itoa::Buffer;
 use std::alloc::AllocError;
 
 /// Appends a number in decimal.
-pub(crate) fn push_decimal(number: u64, line: &mut Vec<u8>) -> Result<(), AllocError>
+pub fn push_decimal(number: u64, line: &mut Vec<u8>) -> Result<(), AllocError>
     ensures { OnOk result (line.new.items ≡ line.old.items ++ decimal number) }
 {
     let mut buffer = Buffer::new();
@@ -57,7 +57,7 @@ fn digit(number: u8) -> u8
 }
 
 /// Appends two hexadecimal digits for each byte.
-pub(crate) fn push_hexadecimal(bytes: &[u8], line: &mut Vec<u8>) -> Result<(), AllocError>
+pub fn push_hexadecimal(bytes: &[u8], line: &mut Vec<u8>) -> Result<(), AllocError>
     ensures { OnOk result (line.new.items ≡ line.old.items ++ escaped_bytes bytes.now) }
 {
     line.reserve(bytes.len())?;
@@ -83,7 +83,7 @@ fn are_plain(text: &[u8]) -> bool
 }
 
 /// Appends a text: plain bytes as they are, and any other byte as `\x` and two hexadecimal digits.
-pub(crate) fn push_escaped(text: &[u8], line: &mut Vec<u8>) -> Result<(), AllocError>
+pub fn push_escaped(text: &[u8], line: &mut Vec<u8>) -> Result<(), AllocError>
     ensures { OnOk result (line.new.items ≡ line.old.items ++ escaped_text text.now) }
 {
     if are_plain(text) {

@@ -8,7 +8,7 @@ use std::io;
 use std::io::{ErrorKind, Write};
 
 /// The number of waiting bytes from which they are sent.
-pub(crate) const FULL: usize = 1 << 16;
+pub const FULL: usize = 1 << 16;
 
 /// One call of `write`. Returns the number of bytes that went out: 0 if the call was interrupted.
 fn send_some<W: Write>(bytes: &[u8], out: &mut W) -> io::Result<usize>
@@ -45,7 +45,7 @@ pub(crate) fn send<W: Write>(bytes: &[u8], out: &mut W) -> io::Result<()>
 }
 
 /// Sends the waiting lines if they are many.
-pub(crate) fn send_full<W: Write>(lines: &mut Vec<u8>, out: &mut W) -> io::Result<()>
+pub fn send_full<W: Write>(lines: &mut Vec<u8>, out: &mut W) -> io::Result<()>
     ensures { Moves (W.contents out.old) (W.contents out.new) result lines.old.items lines.new.items }
 {
     if lines.len() < FULL {

@@ -1,0 +1,5 @@
+pub mod TextLemmas
+pub mod SentLemmas
+pub mod LayoutLemmas
+pub mod OutlineLemmas
+pub mod PieceLemmas

@@ -1,0 +1,11 @@
+use Rattle.std.proofs.Common.{[], take}
+use Rattle.std.specs.List.{flat_map}
+use Rattle.metadata.specs.Metadata.{Metadata}
+use Rattle.metadata.specs.Model.{IsModel}
+use Rattle.cli_outline.specs.Outline.{IsLine, all_rows, first_tables}
+use Rattle.cli_outline.proofs.SentLemmas.{Sent}
+use Rattle.cli_outline.proofs.outline.print_outline.Given as goal
+
+abbrev pub invariant-loop-table : goal.invariant-loop-table
+invariant-loop-table g l = (model : Metadata) → IsModel l.view model
+    → Sent (IsLine model) (g.W.Write.contents l.initial.out) (g.W.Write.contents l.out) (flat_map (all_rows model) (take l.table-index first_tables)) [] l.lines.bytes.items

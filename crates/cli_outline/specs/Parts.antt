@@ -1,0 +1,97 @@
+-- The parts of a line, and their texts (ECMA-335 II.5, II.6, II.10).
+use Rattle.std.specs.Prelude.{◌≡◌, ℕ, List, [], ◌∷◌, ◌++◌, codes, Option, None, Some}
+use Rattle.std.specs.Prelude.{decimal as digits}
+use Rattle.table_schema.specs.declared.table.TableId.{TableId}
+use Rattle.table_schema.specs.declared.token.Token.{Token}
+use Rattle.table_schema.specs.Tokens.{token_text}
+use Rattle.metadata.specs.Cell.{Cell, Number, Text, Bytes, Ref}
+use Rattle.metadata.specs.Metadata.{Metadata, cell_in}
+use Rattle.full_names.specs.Texts.{IsFullName}
+use Rattle.cli_faults.specs.Escaped.{escaped_text}
+use Rattle.cli_reports.specs.Escaped.{escaped_bytes}
+use Rattle.cli_reports.specs.RowTexts.{line_feed}
+use Rattle.cli_outline.specs.Words.{words_of, words_text}
+use Rattle.cli_outline.specs.declared.flag_words.FlagTable.{FlagTable}
+use Rattle.cli_outline.specs.declared.flag_words.FlagTable.TheVariants as table_of
+
+-- a part of the line of a row; numbers are indexes of cells in the row
+pub data Part : Type 0 where
+  -- this text
+  word : List ℕ → Part
+  -- the words of the flags in a cell, a space before each
+  flags : FlagTable → ℕ → Part
+  -- the text in a cell, escaped
+  text : ℕ → Part
+  -- the number in a cell, in decimal
+  number : ℕ → Part
+  -- unless the text in a cell is empty: a word, and the text in quotes
+  quoted_after : List ℕ → ℕ → Part
+  -- unless the bytes in a cell are empty: a word, and the bytes in hexadecimal in parentheses
+  bytes_after : List ℕ → ℕ → Part
+  -- the public key, or the token of one, in the second cell, by the flags in the first (II.6.3)
+  key : ℕ → ℕ → Part
+  -- the full name of the type that the row is
+  own_name : Part
+  -- unless the reference in a cell is null: a word, and the full name of the type
+  name_after : List ℕ → ℕ → Part
+
+-- the values of cells
+abbrev pub number_of : Cell → ℕ
+number_of (Number n) = n
+number_of _ = 0
+
+abbrev pub text_of : Cell → List ℕ
+text_of (Text bytes) = bytes
+text_of _ = []
+
+abbrev pub bytes_of : Cell → List ℕ
+bytes_of (Bytes bytes) = bytes
+bytes_of _ = []
+
+abbrev pub reference_of : Cell → Option Token
+reference_of (Ref reference) = reference
+reference_of _ = None
+
+-- a word and a text in quotes, unless the text is empty
+abbrev pub quoted_text : List ℕ → List ℕ → List ℕ
+quoted_text before [] = []
+quoted_text before (first ∷ tail) = before ++ codes "\"" ++ escaped_text (first ∷ tail) ++ codes "\""
+
+-- a word and bytes in parentheses, unless there are none
+abbrev pub bytes_text : List ℕ → List ℕ → List ℕ
+bytes_text before [] = []
+bytes_text before (first ∷ tail) = before ++ codes "(" ++ escaped_bytes (first ∷ tail) ++ codes ")"
+
+-- the word for a public key or for the token of one, by the flags (II.23.1.2), and its bytes, unless there are none
+abbrev pub key_text : ℕ → List ℕ → List ℕ
+key_text bits [] = []
+key_text bits (first ∷ tail) = words_text bits (words_of table_of.Key) ++ bytes_text (codes " = ") (first ∷ tail)
+
+-- the full name of a type, escaped
+abbrev pub IsNameText : Metadata → Token → List ℕ → Type 0
+IsNameText model token out = (name : List ℕ) × IsFullName model token name × (out ≡ escaped_text name)
+
+-- a word and the full name of a type, unless the reference is null
+abbrev pub IsNameAfter : Metadata → List ℕ → Option Token → List ℕ → Type 0
+IsNameAfter model before None out = out ≡ []
+IsNameAfter model before (Some token) out = (name : List ℕ) × IsNameText model token name × (out ≡ before ++ name)
+
+-- the token of a row
+abbrev pub token_at : TableId → ℕ → Token
+token_at table row = record { table = table; row = row }
+
+-- the text of a part of the line of a row
+abbrev pub IsPartText : Metadata → TableId → ℕ → Part → List ℕ → Type 0
+IsPartText model table row (word of) out = out ≡ of
+IsPartText model table row (flags of cell) out = out ≡ words_text (number_of (cell_in model table row cell)) (words_of of)
+IsPartText model table row (text cell) out = out ≡ escaped_text (text_of (cell_in model table row cell))
+IsPartText model table row (number cell) out = out ≡ digits (number_of (cell_in model table row cell))
+IsPartText model table row (quoted_after before cell) out = out ≡ quoted_text before (text_of (cell_in model table row cell))
+IsPartText model table row (bytes_after before cell) out = out ≡ bytes_text before (bytes_of (cell_in model table row cell))
+IsPartText model table row (key of cell) out = out ≡ key_text (number_of (cell_in model table row of)) (bytes_of (cell_in model table row cell))
+IsPartText model table row own_name out = IsNameText model (token_at table row) out
+IsPartText model table row (name_after before cell) out = IsNameAfter model before (reference_of (cell_in model table row cell)) out
+
+-- the end of a line: the token of its row, in a comment
+abbrev pub ending : TableId → ℕ → List ℕ
+ending table row = codes "  // " ++ token_text (token_at table row) ++ line_feed

@@ -1,0 +1,60 @@
+-- The words that stand for bits of flags (ECMA-335 II.23.1).
+use Rattle.std.specs.Prelude.{ℕ, ◌==◌, if◌then◌else◌, bit_and, List, [], ◌∷◌, ◌++◌, codes}
+use Rattle.std.specs.List.{flat_map}
+use Rattle.cli_outline.specs.declared.flag_words.FlagTable.{FlagTable}
+use Rattle.cli_outline.specs.declared.flag_words.FlagTable.TheVariants as table
+
+-- a word: it is written if the bits of the flags under a mask have this value
+pub record Word : Type 0 where
+  pub mask : ℕ
+  pub value : ℕ
+  pub text : List ℕ
+
+abbrev pub word : ℕ → ℕ → List ℕ → Word
+word mask value text = record { mask = mask; value = value; text = text }
+
+-- a space and the word, or nothing
+abbrev pub word_text : ℕ → Word → List ℕ
+word_text flags of = if bit_and flags of.mask == of.value then codes " " ++ of.text else []
+
+-- the words of flags, in the order of a table
+abbrev pub words_text : ℕ → List Word → List ℕ
+words_text flags words = flat_map (word_text flags) words
+
+-- the words of each kind of flags, in the order of the standard
+abbrev pub words_of : FlagTable → List Word
+-- II.23.1.15: visibility, layout, semantics, implementation, string formatting, initialization, and the others
+words_of table.Type =
+    word 0x00000007 0x00000000 (codes "private") ∷
+    word 0x00000007 0x00000001 (codes "public") ∷
+    word 0x00000007 0x00000002 (codes "nested public") ∷
+    word 0x00000007 0x00000003 (codes "nested private") ∷
+    word 0x00000007 0x00000004 (codes "nested family") ∷
+    word 0x00000007 0x00000005 (codes "nested assembly") ∷
+    word 0x00000007 0x00000006 (codes "nested famandassem") ∷
+    word 0x00000007 0x00000007 (codes "nested famorassem") ∷
+    word 0x00000018 0x00000000 (codes "auto") ∷
+    word 0x00000018 0x00000008 (codes "sequential") ∷
+    word 0x00000018 0x00000010 (codes "explicit") ∷
+    word 0x00000020 0x00000020 (codes "interface") ∷
+    word 0x00000080 0x00000080 (codes "abstract") ∷
+    word 0x00000100 0x00000100 (codes "sealed") ∷
+    word 0x00000400 0x00000400 (codes "specialname") ∷
+    word 0x00001000 0x00001000 (codes "import") ∷
+    word 0x00002000 0x00002000 (codes "serializable") ∷
+    word 0x00030000 0x00000000 (codes "ansi") ∷
+    word 0x00030000 0x00010000 (codes "unicode") ∷
+    word 0x00030000 0x00020000 (codes "autochar") ∷
+    word 0x00100000 0x00100000 (codes "beforefieldinit") ∷
+    word 0x00000800 0x00000800 (codes "rtspecialname") ∷ []
+-- II.23.1.2
+words_of table.Assembly = word 0x0100 0x0100 (codes "retargetable") ∷ []
+words_of table.Key =
+    word 0x0001 0x0001 (codes ".publickey") ∷
+    word 0x0001 0x0000 (codes ".publickeytoken") ∷ []
+-- II.23.1.6
+words_of table.File = word 0x0001 0x0001 (codes "nometadata") ∷ []
+-- II.23.1.9
+words_of table.Resource =
+    word 0x0007 0x0001 (codes "public") ∷
+    word 0x0007 0x0002 (codes "private") ∷ []

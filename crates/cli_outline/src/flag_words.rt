@@ -1,0 +1,109 @@
+//! The words that stand for bits of flags (II.23.1).
+ghost use Rattle.std.specs.Prelude.{◌≡◌, ◌++◌, OnOk, map};
+ghost use Rattle.cli_outline.specs.Shown.{shown_word};
+ghost use Rattle.cli_outline.specs.Words.{word_text, words_of, words_text};
+
+use crate::lines::{Lines, push_plain};
+use std::alloc::AllocError;
+
+/// A word that is written if the bits of the flags under a mask have a value.
+#[derive(Clone, Copy)]
+pub struct FlagWord {
+    mask: u32,
+    value: u32,
+    text: &'static str,
+}
+
+macro_rules! words {
+    ($($mask:literal $value:literal $text:literal;)*) => {
+        &[$(FlagWord { mask: $mask, value: $value, text: $text }),*]
+    };
+}
+
+/// A kind of flags.
+#[derive(Clone, Copy)]
+pub enum FlagTable {
+    /// Of types (II.23.1.15).
+    Type,
+    /// Of assemblies (II.23.1.2).
+    Assembly,
+    /// Of assemblies: whether a key is whole or a token.
+    Key,
+    /// Of files (II.23.1.6).
+    File,
+    /// Of resources (II.23.1.9).
+    Resource,
+}
+
+const TYPE: &[FlagWord] = words![
+    0x0000_0007 0x0000_0000 "private";
+    0x0000_0007 0x0000_0001 "public";
+    0x0000_0007 0x0000_0002 "nested public";
+    0x0000_0007 0x0000_0003 "nested private";
+    0x0000_0007 0x0000_0004 "nested family";
+    0x0000_0007 0x0000_0005 "nested assembly";
+    0x0000_0007 0x0000_0006 "nested famandassem";
+    0x0000_0007 0x0000_0007 "nested famorassem";
+    0x0000_0018 0x0000_0000 "auto";
+    0x0000_0018 0x0000_0008 "sequential";
+    0x0000_0018 0x0000_0010 "explicit";
+    0x0000_0020 0x0000_0020 "interface";
+    0x0000_0080 0x0000_0080 "abstract";
+    0x0000_0100 0x0000_0100 "sealed";
+    0x0000_0400 0x0000_0400 "specialname";
+    0x0000_1000 0x0000_1000 "import";
+    0x0000_2000 0x0000_2000 "serializable";
+    0x0003_0000 0x0000_0000 "ansi";
+    0x0003_0000 0x0001_0000 "unicode";
+    0x0003_0000 0x0002_0000 "autochar";
+    0x0010_0000 0x0010_0000 "beforefieldinit";
+    0x0000_0800 0x0000_0800 "rtspecialname";
+];
+
+const ASSEMBLY: &[FlagWord] = words![0x0100 0x0100 "retargetable";];
+
+const KEY: &[FlagWord] = words![
+    0x0001 0x0001 ".publickey";
+    0x0001 0x0000 ".publickeytoken";
+];
+
+const FILE: &[FlagWord] = words![0x0001 0x0001 "nometadata";];
+
+const RESOURCE: &[FlagWord] = words![
+    0x0007 0x0001 "public";
+    0x0007 0x0002 "private";
+];
+
+/// The words of a kind of flags, in the order of the standard.
+fn words_of(of: FlagTable) -> &'static [FlagWord]
+    ensures { map shown_word result.now ≡ words_of of }
+{
+    match of {
+        FlagTable::Type => TYPE,
+        FlagTable::Assembly => ASSEMBLY,
+        FlagTable::Key => KEY,
+        FlagTable::File => FILE,
+        FlagTable::Resource => RESOURCE,
+    }
+}
+
+/// Appends a space and the word, if the flags have its value.
+fn push_word(flags: u32, word: FlagWord, lines: &mut Lines) -> Result<(), AllocError>
+    ensures { OnOk result (lines.new.bytes.items ≡ lines.old.bytes.items ++ word_text flags (shown_word word)) }
+{
+    if flags & word.mask != word.value {
+        return Ok(());
+    }
+    push_plain(" ", lines)?;
+    push_plain(word.text, lines)
+}
+
+/// Appends the words of flags, a space before each.
+pub(crate) fn push_words(flags: u32, of: FlagTable, lines: &mut Lines) -> Result<(), AllocError>
+    ensures { OnOk result (lines.new.bytes.items ≡ lines.old.bytes.items ++ words_text flags (words_of of)) }
+{
+    for word in words_of(of) {
+        push_word(flags, *word, lines)?;
+    }
+    Ok(())
+}

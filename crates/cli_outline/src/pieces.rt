@@ -1,0 +1,133 @@
+//! Appends the pieces of a line.
+ghost use Rattle.std.specs.Prelude.{◌≡◌, ◌≤◌, ◌<◌, ◌++◌, OnOk};
+ghost use Rattle.table_schema.specs.CellColumns.{cell_count};
+ghost use Rattle.metadata.specs.Metadata.{Metadata, cell_in};
+ghost use Rattle.metadata.specs.Model.{IsModel};
+ghost use Rattle.opening.specs.Views.{row_count};
+ghost use Rattle.cli_reports.specs.Escaped.{escaped_bytes};
+ghost use Rattle.cli_faults.specs.Escaped.{escaped_text};
+ghost use Rattle.cli_outline.specs.Parts.{IsNameAfter, IsNameText, IsPartText, bytes_text, key_text, quoted_text};
+ghost use Rattle.cli_outline.specs.Shown.{IsWithin, shown};
+ghost use Rattle.cli_outline.specs.Texts.{Gains};
+
+use crate::cell_values::{bytes, number, reference, text};
+use crate::flag_words::{FlagTable, push_words};
+use crate::layouts::Piece;
+use crate::lines::{Lines, push_plain};
+use cli_reports::{push_decimal, push_escaped, push_hexadecimal};
+use full_names::write_full_name;
+use opening::{TableId, Token, View};
+use std::alloc::{AllocError, Global};
+
+/// Appends a word and a text in quotes, unless the text is empty.
+fn push_quoted(word: &str, text: &str, lines: &mut Lines) -> Result<(), AllocError>
+    ensures { OnOk result (lines.new.bytes.items ≡ lines.old.bytes.items ++ quoted_text word.now text.now) }
+{
+    if text.is_empty() {
+        return Ok(());
+    }
+    push_plain(word, lines)?;
+    push_plain("\"", lines)?;
+    push_escaped(text.as_bytes(), &mut lines.bytes)?;
+    push_plain("\"", lines)
+}
+
+/// Appends a word and bytes in parentheses, unless there are none.
+fn push_bytes(word: &str, bytes: &[u8], lines: &mut Lines) -> Result<(), AllocError>
+    ensures { OnOk result (lines.new.bytes.items ≡ lines.old.bytes.items ++ bytes_text word.now bytes.now) }
+{
+    if bytes.is_empty() {
+        return Ok(());
+    }
+    push_plain(word, lines)?;
+    push_plain("(", lines)?;
+    push_hexadecimal(bytes, &mut lines.bytes)?;
+    push_plain(")", lines)
+}
+
+/// Appends the words for a public key or the token of one, and its bytes, unless there are none.
+fn push_key(flags: u32, bytes: &[u8], lines: &mut Lines) -> Result<(), AllocError>
+    ensures { OnOk result (lines.new.bytes.items ≡ lines.old.bytes.items ++ key_text flags bytes.now) }
+{
+    if bytes.is_empty() {
+        return Ok(());
+    }
+    push_words(flags, FlagTable::Key, lines)?;
+    push_bytes(" = ", bytes, lines)
+}
+
+/// Appends the full name of a type.
+fn push_name(
+    alloc: Global,
+    view: &View<'_>,
+    token: Token,
+    lines: &mut Lines,
+) -> Result<(), AllocError>
+    ensures { (model : Metadata) → IsModel view.now model
+        → OnOk result (Gains (IsNameText model token) lines.old.bytes.items lines.new.bytes.items) }
+{
+    match write_full_name(alloc, view, token, lines) {
+        Ok(()) => Ok(()),
+        // The lines refuse a text only if out of memory.
+        Err(_) => Err(AllocError),
+    }
+}
+
+/// Appends a word and the full name of a type, unless the reference is null.
+fn push_name_after(
+    alloc: Global,
+    view: &View<'_>,
+    word: &str,
+    reference: Option<Token>,
+    lines: &mut Lines,
+) -> Result<(), AllocError>
+    ensures { (model : Metadata) → IsModel view.now model
+        → OnOk result (Gains (IsNameAfter model word.now reference) lines.old.bytes.items lines.new.bytes.items) }
+{
+    match reference {
+        Some(token) => {
+            push_plain(word, lines)?;
+            push_name(alloc, view, token, lines)
+        }
+        None => Ok(()),
+    }
+}
+
+/// Appends a piece of the line of a row.
+pub(crate) fn push_piece(
+    alloc: Global,
+    view: &View<'_>,
+    table: TableId,
+    row: u32,
+    piece: Piece,
+    lines: &mut Lines,
+) -> Result<(), AllocError>
+    requires first { 1 ≤ row }
+    requires last { row ≤ row_count view.now table }
+    requires within { IsWithin table (shown piece) }
+    ensures { (model : Metadata) → IsModel view.now model
+        → OnOk result (Gains (IsPartText model table row (shown piece)) lines.old.bytes.items lines.new.bytes.items) }
+{
+    match piece {
+        Piece::Word(word) => push_plain(word, lines),
+        Piece::Flags(of, cell) => push_words(number(view, table, row, cell), of, lines),
+        Piece::Text(cell) => {
+            let text = text(view, table, row, cell);
+            push_escaped(text.as_bytes(), &mut lines.bytes)
+        }
+        Piece::Number(cell) => {
+            let number = number(view, table, row, cell);
+            push_decimal(u64::from(number), &mut lines.bytes)
+        }
+        Piece::QuotedAfter(word, cell) => push_quoted(word, text(view, table, row, cell), lines),
+        Piece::BytesAfter(word, cell) => push_bytes(word, bytes(view, table, row, cell), lines),
+        Piece::Key(flags, cell) => {
+            let flags = number(view, table, row, flags);
+            push_key(flags, bytes(view, table, row, cell), lines)
+        }
+        Piece::OwnName => push_name(alloc, view, Token { table, row }, lines),
+        Piece::NameAfter(word, cell) => {
+            push_name_after(alloc, view, word, reference(view, table, row, cell), lines)
+        }
+    }
+}
