@@ -29,6 +29,6 @@ mod user_string_line;
 pub use check_file::check_within;
 pub use compare_lines::print_comparison;
 pub use digest_line::print_digest;
-pub use opened::open;
+pub use opened::{open, open_within};
 pub use report::{Report, print_report};
 pub use sending::finish;
