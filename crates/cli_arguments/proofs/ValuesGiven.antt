@@ -16,7 +16,7 @@ use Rattle.std.proofs.lemmas.Slice.Eq.{bytes_eq-Decides}
 use Rattle.cli_arguments.specs.Asked.{name_of, subcommand_named}
 use Rattle.cli_arguments.specs.declared.asked.Subcommand.TheVariants.{Root, Check, Show, Types, Token, Rewrite, Digest, Compare, Explain}
 use Rattle.cli_arguments.specs.declared.asked.Subcommand.{Subcommand}
-use Rattle.cli_arguments.specs.CommandLine.{bare, budget, check, clim, code, explain, file, reader, second}
+use Rattle.cli_arguments.specs.CommandLine.{bare, budget, check, clim, code, explain, file, files, files_from, null, reader, second}
 use Rattle.cli_arguments.proofs.NoHelp.{StopsElsewhere, is_help, stops_elsewhere}
 use Rattle.cli_arguments.proofs.Supplied.{AllSupply, Supplies, IsSupplied, below_none, check_none, supplied_with, supplied_without, first_none, given_has_value, level_supplied}
 
@@ -42,7 +42,7 @@ built_bare = with_index 2 (filled bare)
 -- the values that a subcommand needs, by its name
 abbrev pub values_in : Text → List Text
 values_in name =
-    if bytes_eq name (name_of Explain) then []
+    if bytes_eq name (name_of Explain) || bytes_eq name (name_of Check) then []
     else codes "FILE" ∷ (if bytes_eq name (name_of Token) || bytes_eq name (name_of Rewrite) || bytes_eq name (name_of Compare) then codes "second" ∷ [] else [])
 
 abbrev AllGiven : List Text → List Row → Type 0
@@ -95,6 +95,14 @@ budget_value : (again : Bool) (values : List Text) (rows : List Row) → use_fau
 budget_value again [] rows none = cc
 budget_value again (v ∷ vs) rows none = omega arith
 
+files_from_value : (again : Bool) (values : List Text) (rows : List Row) → use_fault again (built_value 2 files_from) values rows ≡ [] → 0 < length (values_or_missing (built_value 2 files_from) values)
+files_from_value again [] rows none = cc
+files_from_value again (v ∷ vs) rows none = omega arith
+
+null_value : (values : List Text) → 0 < length (values_or_missing (built_value 2 null) values)
+null_value [] = omega arith
+null_value (v ∷ vs) = omega arith
+
 bare_value : (values : List Text) → 0 < length (values_or_missing built_bare values)
 bare_value [] = omega arith
 bare_value (v ∷ vs) = omega arith
@@ -114,6 +122,17 @@ code_supplies = set_supplies (built_value 1 code) (λ values rows. refl) code_va
 bare_supplies : Supplies built_bare
 bare_supplies = set_supplies built_bare (λ values rows. refl) (λ again values rows none. bare_value values)
 
+files_from_supplies : Supplies (built_value 2 files_from)
+files_from_supplies = set_supplies (built_value 2 files_from) (λ values rows. refl) files_from_value
+
+null_supplies : Supplies (built_value 2 null)
+null_supplies = set_supplies (built_value 2 null) (λ values rows. refl) (λ again values rows none. null_value values)
+
+-- a further use adds values to those of an earlier one
+files_supplies : Supplies (built_value 1 files)
+files_supplies again [] rows none f = cc
+files_supplies again (v ∷ vs) rows none f = supplied_with (codes "FILE") (reading_by (built_value 1 files)) CommandLine v vs rows f
+
 needed : (given others : Bool) → (not given || others) ≡ false → given ≡ true
 needed true others e = refl
 needed false others e = cc
@@ -127,7 +146,7 @@ root_takes : values_in (codes "root") ≡ codes "FILE" ∷ []
 unfolding clap_on_literals
 root_takes = refl
 
-check_takes : values_in (codes "check") ≡ codes "FILE" ∷ []
+check_takes : values_in (codes "check") ≡ []
 unfolding clap_on_literals
 check_takes = refl
 
@@ -210,11 +229,11 @@ reader_ready name takes known = record {
 
 check_ready : IsReady (built_leaf (inherited (built clim).top check.top))
 check_ready = record {
-  supplies = (file_supplies, (bare_supplies, (budget_supplies, ((λ again values rows none f. f), tt))));
-  values = codes "FILE" ∷ [];
+  supplies = (files_supplies, (bare_supplies, (budget_supplies, (files_from_supplies, (null_supplies, ((λ again values rows none f. f), tt))))));
+  values = [];
   takes = check_takes;
   known = check_known;
-  needs = λ rows all. (needed (is_given (codes "FILE") rows) _ all, tt);
+  needs = λ rows all. tt;
 }
 
 -- one with a second value besides the file
@@ -278,17 +297,17 @@ clim_ready word other = (
   ),
 )
 
--- the first value of a subcommand other than `explain` is its file
-pub file_first : (s : Subcommand) (rows : List Row) → s ≢ Explain → AllThere (values_in (name_of s)) rows → is_some (first_of (codes "FILE") rows) ≡ true
-file_first Root rows other there = (subst (λ (ids : List Text). AllThere ids rows) root_takes there).0
-file_first Check rows other there = (subst (λ (ids : List Text). AllThere ids rows) check_takes there).0
-file_first Show rows other there = (subst (λ (ids : List Text). AllThere ids rows) show_takes there).0
-file_first Types rows other there = (subst (λ (ids : List Text). AllThere ids rows) types_takes there).0
-file_first Token rows other there = (subst (λ (ids : List Text). AllThere ids rows) token_takes there).0
-file_first Rewrite rows other there = (subst (λ (ids : List Text). AllThere ids rows) rewrite_takes there).0
-file_first Digest rows other there = (subst (λ (ids : List Text). AllThere ids rows) digest_takes there).0
-file_first Compare rows other there = (subst (λ (ids : List Text). AllThere ids rows) compare_takes there).0
-file_first Explain rows other there = absurd (other refl)
+-- the first value of a subcommand other than `explain` and `check` is its file
+pub file_first : (s : Subcommand) (rows : List Row) → s ≢ Explain → s ≢ Check → AllThere (values_in (name_of s)) rows → is_some (first_of (codes "FILE") rows) ≡ true
+file_first Root rows other listed there = (subst (λ (ids : List Text). AllThere ids rows) root_takes there).0
+file_first Check rows other listed there = absurd (listed refl)
+file_first Show rows other listed there = (subst (λ (ids : List Text). AllThere ids rows) show_takes there).0
+file_first Types rows other listed there = (subst (λ (ids : List Text). AllThere ids rows) types_takes there).0
+file_first Token rows other listed there = (subst (λ (ids : List Text). AllThere ids rows) token_takes there).0
+file_first Rewrite rows other listed there = (subst (λ (ids : List Text). AllThere ids rows) rewrite_takes there).0
+file_first Digest rows other listed there = (subst (λ (ids : List Text). AllThere ids rows) digest_takes there).0
+file_first Compare rows other listed there = (subst (λ (ids : List Text). AllThere ids rows) compare_takes there).0
+file_first Explain rows other listed there = absurd (other refl)
 
 -- all required values are there
 none_wanted : (wants_help wants_subcommand negates any : Bool) → check_kinds wants_help wants_subcommand (not (negates && false) && any) ≡ [] → any ≡ false

@@ -1,9 +1,9 @@
 -- What the arguments of a command line ask for, by what `clap` gives for them.
-use Rattle.std.specs.Prelude.{◌≡◌, ◌≢◌, ◌↔◌, ℕ, ◌<◌, ◌^◌, IsTrue, IsSome, MatchOption, List, Option, Some, None, codes, if◌then◌else◌, option_map}
+use Rattle.std.specs.Prelude.{◌≡◌, ◌≢◌, ◌↔◌, ℕ, ◌<◌, ◌^◌, IsTrue, IsSome, MatchOption, List, [], map, slice_get, Option, Some, None, codes, if◌then◌else◌, option_map, unwrap_or}
 use Rattle.std.specs.Str.{bytes_eq}
 use Rattle.std.specs.Option.{SomeIff}
 use Rattle.std.specs.Str.Parse.{IsNumeral, digits_value, without_leading_plus}
-use Rattle.clap.specs.Words.{Row, Text, first_of, one_of, subcommand_of}
+use Rattle.clap.specs.Words.{Row, Text, all_of, first_of, one_of, subcommand_of}
 use Rattle.cli_arguments.specs.CommandLine.{clim}
 use Rattle.cli_arguments.specs.declared.asked.Ask.{Ask}
 use Rattle.cli_arguments.specs.declared.asked.Subcommand.{Subcommand}
@@ -53,10 +53,17 @@ pub record Gives (words : List Text) (ask : Ask) : Type 0 where
   pub second : option_map (λ word. word.now) ask.second ≡ first_of (codes "second") rows
   pub budget : IsCountOf (one_of (codes "budget") rows) ask.budget
   pub code : option_map (λ word. word.now) ask.code ≡ first_of (codes "CODE") rows
+  pub files : map (λ word. word.now) ask.files.items ≡ unwrap_or (all_of (codes "FILE") rows) []
+  pub files_from : option_map (λ word. word.now) ask.files_from ≡ first_of (codes "files-from") rows
+  pub null : IsTrue ask.null ↔ (one_of (codes "null") rows ≡ Some (codes "true"))
 
--- there is a file, if the subcommand reads one
+-- there is a file, if the subcommand needs one; `check` may have a list instead
 abbrev pub HasFile : Ask → Type 0
-HasFile ask = ask.subcommand ≢ Explain → IsSome ask.file
+HasFile ask = ask.subcommand ≢ Explain → ask.subcommand ≢ Check → IsSome ask.file
+
+-- the file is the first of the files
+abbrev pub HasFirst : Ask → Type 0
+HasFirst ask = option_map (λ word. word.now) ask.file ≡ slice_get (map (λ word. word.now) ask.files.items) 0
 
 -- there is a second value, if the subcommand has one
 abbrev pub HasSecond : Ask → Type 0

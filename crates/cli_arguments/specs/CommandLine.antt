@@ -2,12 +2,17 @@
 use Rattle.std.specs.Prelude.{Some, true, codes}
 use Rattle.clap.specs.Words.{App, Rule, Text, new_app, new_rule, with_rule, with_subcommand}
 use Rattle.clap.specs.Simple.{on_top}
-use Rattle.clap.specs.declared.builder.action.ArgAction.TheVariants.{Set, SetTrue}
+use Rattle.clap.specs.Lexer.{usize_max}
+use Rattle.clap.specs.declared.builder.action.ArgAction.TheVariants.{Append, Set, SetTrue}
 use Rattle.clap.specs.declared.builder.value_parser.ValueParser.TheVariants.{Unsigned}
 
 -- `FILE`, one value, required
 abbrev pub file : Rule
 file = record (new_rule (codes "FILE")) { action = Some Set; required = true }
+
+-- `FILE..`, any number of values
+abbrev pub files : Rule
+files = record (new_rule (codes "FILE")) { action = Some Append; range = Some (record { start_inclusive = 1; end_inclusive = usize_max }) }
 
 -- a second value, required; help shows it with this name
 abbrev pub second : Rule
@@ -21,6 +26,14 @@ bare = record (new_rule (codes "bare")) { long = Some (codes "bare"); action = S
 abbrev pub budget : Rule
 budget = record (new_rule (codes "budget")) { long = Some (codes "budget"); action = Some Set; value_names = 1; parser = Some (Unsigned 0 0xFFFF_FFFF_FFFF_FFFF) }
 
+-- `--files-from LIST`, one value
+abbrev pub files_from : Rule
+files_from = record (new_rule (codes "files-from")) { long = Some (codes "files-from"); action = Some Set; value_names = 1 }
+
+-- `-0`, a flag; the ASCII code of `0` is 48
+abbrev pub null : Rule
+null = record (new_rule (codes "null")) { short = Some 48; action = Some SetTrue }
+
 -- `CODE`, one value, optional
 abbrev pub code : Rule
 code = record (new_rule (codes "CODE")) { action = Some Set }
@@ -33,9 +46,9 @@ reader name = with_rule (with_rule (new_app name) file) bare
 abbrev pub root : App
 root = reader (codes "root")
 
--- `check [--bare] [--budget N] FILE`
+-- `check [--bare] [--budget N] [--files-from LIST] [-0] [FILE]..`
 abbrev pub check : App
-check = with_rule (reader (codes "check")) budget
+check = with_rule (with_rule (with_rule (with_rule (with_rule (new_app (codes "check")) files) bare) budget) files_from) null
 
 -- `show [--bare] FILE`
 abbrev pub show : App

@@ -1,7 +1,7 @@
 //! The command line, and what its arguments ask for.
 ghost use Rattle.std.specs.Prelude.{◌≡◌, IfOk, IsOkAnd, map};
 ghost use Rattle.clap.specs.Words.{AddsSubcommand, FailsBy, app_of, fault_of};
-ghost use Rattle.cli_arguments.specs.Asked.{Gives, HasFile, HasSecond};
+ghost use Rattle.cli_arguments.specs.Asked.{Gives, HasFile, HasFirst, HasSecond};
 ghost use Rattle.cli_arguments.specs.CommandLine.{clim};
 
 use crate::asked::{Ask, Subcommand};
@@ -22,11 +22,13 @@ use std::alloc::{AllocError, Global};
 pub fn ask<'a>(alloc: Global, words: &'a [&'a str]) -> Result<Ask<'a>, Error>
     ensures given { IfOk result (Gives (map (λ word. word.now) words.entry.now)) }
     ensures file { IfOk result HasFile }
+    ensures first { IfOk result HasFirst }
     ensures second { IfOk result HasSecond }
     ensures refused { FailsBy (fault_of clim (map (λ word. word.now) words.entry.now)) result }
 {
     let matches = command(alloc)?.try_get_matches_from(words)?;
     let (name, given) = matches.subcommand().unwrap();
+    let files = Vec::from_slice(alloc, given.get_raw("FILE").unwrap_or(&[]))?;
     Ok(Ask {
         subcommand: Subcommand::named(name).unwrap(),
         bare: given.get_one::<bool>("bare") == Some(true),
@@ -34,6 +36,9 @@ pub fn ask<'a>(alloc: Global, words: &'a [&'a str]) -> Result<Ask<'a>, Error>
         second: given.get_str("second"),
         budget: given.get_one::<u64>("budget"),
         code: given.get_str("CODE"),
+        files,
+        files_from: given.get_str("files-from"),
+        null: given.get_one::<bool>("null") == Some(true),
     })
 }
 
@@ -79,4 +84,6 @@ Exit status:
      or FILE has nothing that HEX names; or its canonical root has more than 2^30 bytes;
      or FILE and OTHER differ
   2  usage error; FILE was not read
-  3  I/O error, out of memory, or budget spent";
+  3  I/O error, out of memory, or budget spent
+The status of 'clim check' for several files is the greatest of theirs.
+FILE may be '-', the standard input.";

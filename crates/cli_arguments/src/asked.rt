@@ -2,13 +2,13 @@ ghost use Rattle.std.specs.Prelude.{◌≡◌, None, Some};
 ghost use Rattle.cli_arguments.specs.Asked.{subcommand_named};
 
 /// What the arguments of a command line ask for.
-#[derive(Clone, Copy, Debug, PartialEq, Eq)]
+#[derive(Debug, Drop)]
 pub struct Ask<'a> {
     /// What to do.
     pub subcommand: Subcommand,
     /// Whether the file is a metadata root instead of a PE file.
     pub bare: bool,
-    /// The path of the file to read. `explain` has none.
+    /// The path of the file to read, the first of `files`. `explain` has none, and `check` may have none.
     pub file: Option<&'a str>,
     /// The argument after the file: the token of `token`, the output path of `rewrite`, the other file of `compare`.
     pub second: Option<&'a str>,
@@ -16,6 +16,12 @@ pub struct Ask<'a> {
     pub budget: Option<u64>,
     /// The number of the fault to `explain`, as it was given.
     pub code: Option<&'a str>,
+    /// The paths of all files to read, in the order given: several only for `check`.
+    pub files: Vec<&'a str>,
+    /// What `check` was given as the source of a list of files.
+    pub files_from: Option<&'a str>,
+    /// Whether `check` was given `-0`: the standard input is a list of files.
+    pub null: bool,
 }
 
 /// The subcommands of the program.

@@ -14,10 +14,19 @@ impl fmt::Display for Escaped<'_> {
     ghost output = { λ text. Some (escaped_text text.0.now) };
 
     fn fmt<W: fmt::Write>(&self, f: &mut fmt::Formatter<W>) -> fmt::Result {
-        for byte in self.0.as_bytes() {
-            write_byte(*byte, f)?;
-        }
-        Ok(())
+        write_bytes(self.0.as_bytes(), f)
+    }
+}
+
+/// Bytes that may be no text, such as the name of a file, as the program prints them: like an [`Escaped`] text.
+#[derive(Clone, Copy, Debug, PartialEq, Eq)]
+pub struct EscapedBytes<'a>(pub &'a [u8]);
+
+impl fmt::Display for EscapedBytes<'_> {
+    ghost output = { λ bytes. Some (escaped_text bytes.0.now) };
+
+    fn fmt<W: fmt::Write>(&self, f: &mut fmt::Formatter<W>) -> fmt::Result {
+        write_bytes(self.0, f)
     }
 }
 
@@ -45,6 +54,16 @@ fn is_printable_unit(unit: u16) -> bool
     ensures ascii { IsTrue result → unit < 128 }
 {
     32 <= unit && unit <= 126 && unit != 92
+}
+
+/// Writes the bytes of a text, each escaped if needed.
+fn write_bytes<W: fmt::Write>(bytes: &[u8], f: &mut fmt::Formatter<W>) -> fmt::Result
+    ensures { WritesOnOk W.write_str_gives f.old result (escaped_text bytes.now) f.new }
+{
+    for byte in bytes {
+        write_byte(*byte, f)?;
+    }
+    Ok(())
 }
 
 /// Writes a byte of a text, escaped if needed.

@@ -5,7 +5,7 @@ ghost use Rattle.cli_faults.specs.Status.{IsOutput, ReportsKind};
 ghost use Rattle.cli_faults.specs.Texts.{failure_text};
 ghost use Rattle.cli_faults.specs.declared.failure.Failure.TheVariants.{Fault};
 
-use crate::escaped::Escaped;
+use crate::escaped::{Escaped, EscapedBytes};
 use crate::file_error::FileError;
 use packed::Fault;
 use std::io::ErrorKind;
@@ -24,6 +24,14 @@ pub enum Failure<'a> {
     NoToken(&'a str),
     /// The argument is not the number of a fault.
     NoCode(&'a str),
+    /// `check` got no file, and no list of files.
+    NoFile,
+    /// `check` got both files and a list of files.
+    FilesAndList,
+    /// The argument is not where a list of files can come from.
+    NoList(&'a str),
+    /// A name in a list of files is not UTF-8, so that no file can be opened by it.
+    NotUtf8(&'a [u8]),
     /// This file could not be opened or read to its end.
     CannotRead(FileError<'a>),
     /// The output could not be written, or not completely.
@@ -84,8 +92,13 @@ impl<'a> Failure<'a> {
     {
         match self {
             Failure::Fault(_) | Failure::NoSuchRow => 1,
-            Failure::NoToken(_) | Failure::NoCode(_) => 2,
-            Failure::CannotRead(_)
+            Failure::NoToken(_)
+            | Failure::NoCode(_)
+            | Failure::NoFile
+            | Failure::FilesAndList
+            | Failure::NoList(_) => 2,
+            Failure::NotUtf8(_)
+            | Failure::CannotRead(_)
             | Failure::CannotWriteOutput
             | Failure::CannotWriteFile(_)
             | Failure::OutOfMemory => 3,
@@ -138,6 +151,18 @@ impl fmt::Display for Failure<'_> {
                     Escaped(word)
                 )
             }
+            Failure::NoFile => write!(f, "error: FILE is missing, and so is '--files-from -'"),
+            Failure::FilesAndList => write!(f, "error: '--files-from' and FILE exclude each other"),
+            Failure::NoList(word) => write!(
+                f,
+                "error: '--files-from' takes '-', the standard input, not '{}'",
+                Escaped(word)
+            ),
+            Failure::NotUtf8(name) => write!(
+                f,
+                "error: cannot read {}\n  reason: its name is not UTF-8",
+                EscapedBytes(name)
+            ),
             Failure::CannotRead(error) => write!(f, "error: cannot read {error}"),
             Failure::CannotWriteOutput => write!(f, "error: cannot write output"),
             Failure::CannotWriteFile(error) => write!(f, "error: cannot write {error}"),

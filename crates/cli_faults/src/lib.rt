@@ -28,7 +28,7 @@ mod stop;
 mod stream_faults;
 mod table_faults;
 
-pub use escaped::{Escaped, EscapedUnit};
+pub use escaped::{Escaped, EscapedBytes, EscapedUnit};
 pub use explained::{Explanation, explain};
 pub use explanation_lines::{print_explanation, print_list};
 pub use failure::{Failure, printed};

@@ -8,7 +8,7 @@ use Rattle.table_schema.specs.Tokens.{IsToken}
 use Rattle.metadata.specs.Metadata.{Metadata, row_of}
 use Rattle.opening.specs.Views.{row_count, user_of}
 use Rattle.cli_faults.specs.declared.failure.Failure.{Failure}
-use Rattle.cli_faults.specs.declared.failure.Failure.TheVariants.{Fault, NoSuchRow, NoToken, NoCode, CannotRead, CannotWriteFile, CannotWriteOutput, OutOfMemory}
+use Rattle.cli_faults.specs.declared.failure.Failure.TheVariants.{Fault, NoSuchRow, NoToken, NoCode, NoFile, FilesAndList, NoList, NotUtf8, CannotRead, CannotWriteFile, CannotWriteOutput, OutOfMemory}
 use Rattle.cli_reports.specs.declared.report.Report.TheVariants as report
 use Rattle.cli_reports.specs.Checked.{IsOpened, IsWhole}
 use Rattle.cli_faults.specs.Status.{IsOutput}
@@ -25,6 +25,10 @@ module _ (root : List ℕ) (number : ℕ) where
   string_reported NoSuchRow is reported = λ named. elim named [ inl at ↦ reported at.1 | inr at ↦ at.0 is ]
   string_reported (NoToken word) is reported = reported
   string_reported (NoCode word) is reported = reported
+  string_reported NoFile is reported = reported
+  string_reported FilesAndList is reported = reported
+  string_reported (NoList word) is reported = reported
+  string_reported (NotUtf8 name) is reported = reported
   string_reported (CannotRead file) is reported = reported
   string_reported (CannotWriteFile file) is reported = reported
   string_reported CannotWriteOutput is reported = reported
@@ -35,6 +39,10 @@ module _ (root : List ℕ) (number : ℕ) where
   output_reported NoSuchRow reported = absurd reported
   output_reported (NoToken word) reported = reported
   output_reported (NoCode word) reported = reported
+  output_reported NoFile reported = reported
+  output_reported FilesAndList reported = reported
+  output_reported (NoList word) reported = reported
+  output_reported (NotUtf8 name) reported = reported
   output_reported (CannotRead file) reported = reported
   output_reported (CannotWriteFile file) reported = reported
   output_reported CannotWriteOutput reported = reported
@@ -66,6 +74,10 @@ module _ (root : List ℕ) (number : ℕ) where
   unnamed_in bare bytes opened whole NoSuchRow reported = (root, opened, reported)
   unnamed_in bare bytes opened whole (NoToken word) reported = (reported, whole)
   unnamed_in bare bytes opened whole (NoCode word) reported = (reported, whole)
+  unnamed_in bare bytes opened whole NoFile reported = (reported, whole)
+  unnamed_in bare bytes opened whole FilesAndList reported = (reported, whole)
+  unnamed_in bare bytes opened whole (NoList word) reported = (reported, whole)
+  unnamed_in bare bytes opened whole (NotUtf8 name) reported = (reported, whole)
   unnamed_in bare bytes opened whole (CannotRead file) reported = (reported, whole)
   unnamed_in bare bytes opened whole (CannotWriteFile file) reported = (reported, whole)
   unnamed_in bare bytes opened whole CannotWriteOutput reported = (reported, whole)

@@ -30,7 +30,7 @@ pub use check_file::check_within;
 pub use compare_lines::print_comparison;
 pub use digest_line::print_digest;
 pub use line::{push_decimal, push_escaped, push_hexadecimal};
-pub use opened::open;
+pub use opened::{open, open_within};
 pub use report::{Report, print_report};
 pub use row_lines::push_token;
 pub use sending::{FULL, finish, send_full};

@@ -32,8 +32,12 @@ pub fn open(bytes: &[u8], bare: bool) -> Result<View<'_>, Fault>
     Ok(view)
 }
 
-/// The same, but at most `budget` bytes of signature blobs are checked.
-pub(crate) fn open_within(bytes: &[u8], bare: bool, budget: u64) -> Result<View<'_>, BoundedError>
+/// The same, but at most `budget` bytes of signature blobs (II.23.2) are checked.
+///
+/// # Errors
+///
+/// The fault of the first rule that fails, or `BudgetSpent` if more bytes must be checked.
+pub fn open_within(bytes: &[u8], bare: bool, budget: u64) -> Result<View<'_>, BoundedError>
     ensures sound { IfOk result (λ _. IsWhole bare bytes.now) }
     ensures complete { IsWhole bare bytes.now → signature_bytes_of bare bytes.now ≤ budget → IsOk result }
     ensures first_error { IfErr result (ReportsFirst (rules_of bare bytes.now)) }

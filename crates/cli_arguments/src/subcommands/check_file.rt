@@ -1,10 +1,10 @@
-//! `clim check`: checks a file against the rules of the standard.
+//! `clim check`: checks files against the rules of the standard.
 ghost use Rattle.std.specs.Prelude.{◌≡◌, IfOk, false};
 ghost use Rattle.clap.specs.Words.{app_of, rule_of};
 ghost use Rattle.clap.specs.declared.Command.TheViews.{out-Command as fields_of};
 ghost use Rattle.cli_arguments.specs.CommandLine as line;
 
-use crate::subcommands::reader;
+use crate::subcommands::bare;
 use clap::{Arg, ArgAction, Command, value_parser};
 use std::alloc::{AllocError, Global};
 
@@ -13,13 +13,48 @@ pub(crate) fn command<'a>(alloc: Global) -> Result<Command<'a>, AllocError>
     ensures app { IfOk result (λ command. app_of command ≡ line.check) }
     ensures local { IfOk result (λ command. (fields_of command).has_globals ≡ false) }
 {
-    reader(
-        alloc,
-        "check",
-        "Check a file against the rules of the standard",
-        OUTPUT,
-    )?
-    .arg(budget(alloc))
+    Command::new(alloc, "check")
+        .about("Check files against the rules of the standard")
+        .after_help(OUTPUT)
+        .arg(files(alloc))?
+        .arg(bare(alloc))?
+        .arg(budget(alloc))?
+        .arg(files_from(alloc))?
+        .arg(null(alloc))
+}
+
+/// `FILE..`, the paths of the files to read; none if they are listed.
+fn files<'a>(alloc: Global) -> Arg<'a>
+    ensures rule { rule_of result ≡ line.files }
+    ensures local { result.global ≡ false }
+{
+    Arg::new(alloc, "FILE")
+        .num_args(1..)
+        .action(ArgAction::Append)
+        .help("The files to read")
+}
+
+/// `--files-from LIST`, the source of a list of files.
+fn files_from<'a>(alloc: Global) -> Arg<'a>
+    ensures rule { rule_of result ≡ line.files_from }
+    ensures local { result.global ≡ false }
+{
+    Arg::new(alloc, "files-from")
+        .long("files-from")
+        .value_name("-")
+        .action(ArgAction::Set)
+        .help("Read the names of the files from standard input, each ended by a NUL")
+}
+
+/// `-0`, the short form of `--files-from -`.
+fn null<'a>(alloc: Global) -> Arg<'a>
+    ensures rule { rule_of result ≡ line.null }
+    ensures local { result.global ≡ false }
+{
+    Arg::new(alloc, "null")
+        .short('0')
+        .action(ArgAction::SetTrue)
+        .help("The same as '--files-from -'")
 }
 
 /// `--budget N`, the largest number of signature blob bytes to check.
@@ -52,8 +87,16 @@ of these, with the sections whose rules it checks:
 Signature blobs may overlap, so the check of a FILE of a few kilobytes can take long. '--budget N' limits the
 number of signature bytes to check. A check that needs more ends with 'error: budget spent' and exit status 3.
 
+For several FILEs, or if their names are read from standard input, there is one line for each, in the order
+given: 'FILE: ok' or 'FILE: fault LAYER CODE at OFFSET: NAME'. Each has its own budget. A FILE that cannot be
+read or checked is reported to standard error, and the next one follows. The exit status is the greatest.
+'find . -name '*.dll' -print0 | clim check -0' checks all assemblies of a folder.
+
 Examples:
   $ clim check one_module.dll
   ok
   $ clim check --bare one_module.root
-  ok";
+  ok
+  $ clim check one_module.dll one_module.dll
+  one_module.dll: ok
+  one_module.dll: ok";

@@ -1,7 +1,8 @@
 use Rattle.std.proofs.Common.{◌≡◌, ◌∙◌, List, [], ◌∷◌, true, Some, ap, map, option_map, refl, subst, sym, codes}
 use Rattle.std.specs.Prelude.{IsSome}
+use Rattle.std.specs.Borrow.{Bor}
 use Rattle.clap.proofs.OnLiterals.{clap_on_literals}
-use Rattle.clap.proofs.WalkLemmas.{first_value-rows, one_text-rows}
+use Rattle.clap.proofs.WalkLemmas.{first_value-rows, one_text-rows, raw_values-rows}
 use Rattle.std.proofs.lemmas.Result.{err_from_is_err_and}
 use Rattle.std.specs.declared.num.ParseIntError.{ParseIntError}
 use Rattle.std.specs.Str.Parse.{ExplainsUnsignedError, HasUnsignedDigitsIfOk, ParsesUnsigned}
@@ -11,7 +12,7 @@ use Rattle.clap.specs.declared.ArgMatches.{ArgMatches}
 use Rattle.cli_arguments.specs.CommandLine.{clim}
 use Rattle.cli_arguments.specs.Asked.{name_of}
 use Rattle.cli_arguments.proofs.ValuesGiven.{AllThere, compare_takes, file_first, has_values, is_known, rewrite_takes, token_takes, values_in}
-use Rattle.cli_arguments.proofs.Readings.{count_is, named_back, rows_met, flag_is, some_mapped}
+use Rattle.cli_arguments.proofs.Readings.{count_is, files_read, first_read, named_back, rows_met, flag_is, some_mapped}
 use Rattle.cli_arguments.proofs.arguments.ask.Goals as goal
 
 clim_is_simple : is_simple clim ≡ true
@@ -43,7 +44,7 @@ entered_by a texts m name rows same has named given =
     let matched = (has (ap is_simple same ∙ clim_is_simple)).1 ∙ ap (λ (b : App). subcommand_of b texts) same in
     sym matched ∙ rows_met m name rows named given
 
-entered : (c : goal.Joined-matches) → subcommand_of clim (map (λ word. word.now) c.args.words.now)
+entered : (c : goal.Joined-matches-2) → subcommand_of clim (map (λ word. word.now) c.args.words.now)
     ≡ Some (c.unwrap.result.0.now, rows_of (found_of c.unwrap.result.1.now))
 entered c =
     entered_by _ _ c.in_ok-matches.matches _ _ c.in_ok-command.ensures c.in_ok-matches.ensures.matches
@@ -77,23 +78,28 @@ returns-clause-given c =
           (λ none. c.get_one-2.ensures.none (one_text-rows found (codes "budget") ∙ none))
           (λ t is. c.get_one-2.ensures.value t (one_text-rows found (codes "budget") ∙ is));
       code = c.get_str-3.ensures ∙ first_value-rows found (codes "CODE");
+      files = files_read _ _ _ refl (ap (λ (s : List (Bor Text)). map (λ word. word.now) s) c.in_ok-files.ensures.items) c.unwrap_or.ensures (c.get_raw.ensures ∙ raw_values-rows found (codes "FILE"));
+      files_from = c.get_str-4.ensures ∙ first_value-rows found (codes "files-from");
+      null = flag_is _ (one_of (codes "null") rows) c.get_one-3.result c.eq-2.result c.eq-2.ensures
+          (λ none. c.get_one-3.ensures.none (one_text-rows found (codes "null") ∙ none))
+          (λ t is. c.get_one-3.ensures.value t (one_text-rows found (codes "null") ∙ is));
     }
 
 -- each value that the subcommand needs is there
-values_there : (c : goal.Joined-matches) → fault_of clim (map (λ word. word.now) c.args.words.now) ≡ []
+values_there : (c : goal.Joined-matches-2) → fault_of clim (map (λ word. word.now) c.args.words.now) ≡ []
     → AllThere (values_in c.unwrap.result.0.now) (rows_of (found_of c.unwrap.result.1.now))
 values_there c none = has_values (map (λ word. word.now) c.args.words.now) _ (rows_of (found_of c.unwrap.result.1.now)) none (entered c)
 
 pub returns-clause-file : goal.returns-clause-file
-returns-clause-file c = λ other.
+returns-clause-file c = λ other listed.
     let found = found_of c.unwrap.result.1.now in
     let word = named_back c.unwrap.result.0.now c.unwrap-2.result (sym c.named.ensures ∙ c.unwrap-2.ensures) in
     let there = subst (λ (ids : List Text). AllThere ids (rows_of found)) (ap values_in word) (values_there c (returns-clause-refused c)) in
     some_mapped (λ s. s.now) c.get_str.result (first_of (codes "FILE") (rows_of found)) (c.get_str.ensures ∙ first_value-rows found (codes "FILE"))
-    (file_first c.unwrap-2.result (rows_of found) other there)
+    (file_first c.unwrap-2.result (rows_of found) other listed there)
 
 -- the second value is there if the arguments name a subcommand that needs one
-second_there : (c : goal.Joined-matches) (name : Text) → c.unwrap.result.0.now ≡ name → values_in name ≡ codes "FILE" ∷ codes "second" ∷ []
+second_there : (c : goal.Joined-matches-2) (name : Text) → c.unwrap.result.0.now ≡ name → values_in name ≡ codes "FILE" ∷ codes "second" ∷ []
     → fault_of clim (map (λ word. word.now) c.args.words.now) ≡ [] → IsSome c.get_str-2.result
 second_there c name is takes none =
     let found = found_of c.unwrap.result.1.now in
@@ -107,3 +113,9 @@ returns-clause-second c =
       (λ is. second_there c (codes "rewrite") (word ∙ ap name_of is) rewrite_takes (returns-clause-refused c)),
       (λ is. second_there c (codes "compare") (word ∙ ap name_of is) compare_takes (returns-clause-refused c)),
     )
+
+pub returns-clause-first : goal.returns-clause-first
+returns-clause-first c =
+    let found = found_of c.unwrap.result.1.now in
+    first_read (codes "FILE") (rows_of found) _ _ (c.get_str.ensures ∙ first_value-rows found (codes "FILE"))
+    (files_read _ _ _ refl (ap (λ (s : List (Bor Text)). map (λ word. word.now) s) c.in_ok-files.ensures.items) c.unwrap_or.ensures (c.get_raw.ensures ∙ raw_values-rows found (codes "FILE")))
