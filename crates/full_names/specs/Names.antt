@@ -5,7 +5,7 @@ use Rattle.table_schema.specs.declared.table.TableId.{TableId}
 use Rattle.table_schema.specs.declared.table.TableId.TheVariants.{TypeDef, TypeRef}
 use Rattle.metadata.specs.Cell.{Text}
 use Rattle.metadata.specs.Metadata.{Metadata, cell_in}
-use Rattle.type_records.specs.Names.{full_name}
+use Rattle.metadata.specs.Names.{full_name}
 use Rattle.navigation.specs.Nesting.{IsEnclosed, IsScope}
 
 -- the name of a row of TypeDef or TypeRef, after its namespace and a dot

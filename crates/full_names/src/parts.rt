@@ -1,6 +1,6 @@
 ghost use Rattle.std.specs.Prelude.{◌≡◌, OnOk, codes};
 ghost use Rattle.std.specs.Fmt.{WritesInCalls, decimal, signed_decimal};
-ghost use Rattle.type_records.specs.Names.{full_name};
+ghost use Rattle.metadata.specs.Names.{full_name};
 ghost use Rattle.full_names.specs.Texts.{spaced};
 
 use std::fmt;

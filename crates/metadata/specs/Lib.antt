@@ -1,6 +1,7 @@
 pub mod Cell
 pub mod Kinds
 pub mod Metadata
+pub mod Names
 pub mod Source
 pub mod Streams
 pub mod Starts

@@ -1,7 +1,7 @@
 ghost use Rattle.std.specs.Prelude.{◌≡◌, [], ◌∷◌, Some};
 ghost use Rattle.table_schema.specs.declared.table.TableId.TheVariants as table;
 ghost use Rattle.metadata.specs.Cell.{Number, Text, Bytes, Ref};
-ghost use Rattle.type_records.specs.Names.{full_name};
+ghost use Rattle.metadata.specs.Names.{full_name};
 
 use std::alloc::{AllocError, Global};
 use std::fmt;

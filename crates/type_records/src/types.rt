@@ -3,7 +3,7 @@ ghost use Rattle.table_schema.specs.declared.table.TableId.TheVariants as table;
 ghost use Rattle.table_schema.specs.declared.column.SigKind.TheVariants as column;
 ghost use Rattle.metadata.specs.Cell.{Number, Text, Guid, Ref, Start, Sig};
 ghost use Rattle.tables.specs.Said.{all_said};
-ghost use Rattle.type_records.specs.Names.{full_name};
+ghost use Rattle.metadata.specs.Names.{full_name};
 
 use crate::field_value::{FieldValue, owned_cells};
 use crate::record::{FromRow, Record};

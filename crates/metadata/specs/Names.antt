@@ -1,4 +1,4 @@
--- The full names of types.
+-- The full names of types (ECMA-335 II.5.3).
 use Rattle.std.specs.Prelude.{ℕ, List, [], ◌∷◌, ◌++◌, codes}
 
 -- the namespace and a dot, unless the namespace is empty, then the name
