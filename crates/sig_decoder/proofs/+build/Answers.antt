@@ -1,3 +1,4 @@
+use Rattle.std.proofs.lemmas.Grind.{common_steps}
 use Rattle.std.proofs.Common.{◌≡◌, ◌∙◌, ◌≢◌, ◌<◌, ◌&&◌, Bool, true, eqb, Some, map, length-append, Option, List, ℕ, refl, sym, ap, rules, subst, arith}
 use Rattle.std.proofs.lemmas.List.{map-append}
 use Rattle.sig_grammar.specs.Syntax as sig
@@ -327,3 +328,9 @@ methods::method-returns-in-Ok t c =
 pub types::core-returns-in-None : goal.types::core-returns-in-None
 types::core-returns-in-None t c =
     rw (core_other c.args.depth c.in_ok-code.code c.args.bytes.now c.in_ok-code.tail.now (omega arith) c.in_ok-code.ensures c.in-None.ensures) c.core_behind.ensures
+
+pub methods::params-loop-done-init : goal.methods::params-loop-done-init
+methods::params-loop-done-init t c = grind (arith, common_steps)
+
+pub types::types-loop-done-init : goal.types::types-loop-done-init
+types::types-loop-done-init t c = grind (arith, common_steps)
