@@ -2,7 +2,7 @@
 use Rattle.std.proofs.Common.{ℕ, zero, suc, ◌<◌, List, [], ◌∷◌, length, get_or, arith, rules}
 use Rattle.std.specs.Prelude.{⊤}
 use Rattle.table_schema.specs.declared.table.TableId.{TableId}
-use Rattle.table_schema.specs.declared.table.TableId.TheVariants.{Assembly, AssemblyRef, Module, ModuleRef, File, ManifestResource, TypeDef}
+use Rattle.table_schema.specs.declared.table.TableId.TheVariants.{Assembly, AssemblyRef, Module, ModuleRef, File, ManifestResource, TypeDef, InterfaceImpl, GenericParam, GenericParamConstraint, ExportedType, MethodImpl, MethodSemantics, ImplMap, CustomAttribute}
 use Rattle.table_schema.specs.CellColumns.{cell_columns}
 use Rattle.cli_outline.specs.Layouts.{parts_of}
 use Rattle.cli_outline.specs.Parts.{Part}
@@ -22,6 +22,14 @@ parts_within ModuleRef = search rules
 parts_within File = search rules
 parts_within ManifestResource = search rules
 parts_within TypeDef = search rules
+parts_within InterfaceImpl = search rules
+parts_within GenericParam = search rules
+parts_within GenericParamConstraint = search rules
+parts_within ExportedType = search rules
+parts_within MethodImpl = search rules
+parts_within MethodSemantics = search rules
+parts_within ImplMap = search rules
+parts_within CustomAttribute = search rules
 parts_within _ = tt
 
 pub at_index : (table : TableId) (parts : List Part) (i : ℕ) (d : Part) → AllWithin table parts → i < length parts → IsWithin table (get_or parts i d)

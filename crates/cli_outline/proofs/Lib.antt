@@ -3,3 +3,4 @@ pub mod SentLemmas
 pub mod LayoutLemmas
 pub mod OutlineLemmas
 pub mod PieceLemmas
+pub mod ReferenceLemmas

@@ -1,9 +1,9 @@
 -- The line of a row of each table, as a list of parts (ECMA-335 II.6 and II.10). A row of another table has no line.
 use Rattle.std.specs.Prelude.{List, [], ◌∷◌, codes}
 use Rattle.table_schema.specs.declared.table.TableId.{TableId}
-use Rattle.table_schema.specs.declared.table.TableId.TheVariants.{Assembly, AssemblyRef, Module, ModuleRef, File, ManifestResource, TypeDef}
+use Rattle.table_schema.specs.declared.table.TableId.TheVariants.{Assembly, AssemblyRef, Module, ModuleRef, File, ManifestResource, TypeDef, InterfaceImpl, GenericParam, GenericParamConstraint, ExportedType, MethodImpl, MethodSemantics, ImplMap, CustomAttribute}
 use Rattle.cli_outline.specs.declared.flag_words.FlagTable.TheVariants as table
-use Rattle.cli_outline.specs.Parts.{Part, word, flags, text, number, quoted_after, bytes_after, key, own_name, name_after}
+use Rattle.cli_outline.specs.Parts.{Part, word, flags, text, number, quoted_after, bytes_after, key, hex, dotted, token_after, own_name, name_after}
 
 abbrev pub parts_of : TableId → List Part
 -- II.6.2, II.22.2
@@ -26,4 +26,25 @@ parts_of File = word (codes ".file") ∷ flags table.File 0 ∷ word (codes " ")
 parts_of ManifestResource = word (codes ".mresource") ∷ flags table.Resource 1 ∷ word (codes " ") ∷ text 2 ∷ []
 -- II.10.1, II.22.37
 parts_of TypeDef = word (codes ".class") ∷ flags table.Type 0 ∷ word (codes " ") ∷ own_name ∷ name_after (codes " extends ") 3 ∷ []
+-- II.12.2, II.22.23
+parts_of InterfaceImpl = word (codes ".interfaceimpl type") ∷ name_after (codes " ") 0 ∷ name_after (codes " implements ") 1 ∷ []
+-- II.10.1.7, II.22.20
+parts_of GenericParam =
+    word (codes ".param type") ∷ flags table.Generic 1 ∷ word (codes " ") ∷ text 3 ∷ word (codes " [") ∷ number 0 ∷ word (codes "]") ∷ token_after (codes " of ") 2 ∷ []
+-- II.10.1.7, II.22.21
+parts_of GenericParamConstraint = word (codes ".param constraint") ∷ token_after (codes " ") 0 ∷ name_after (codes ", ") 1 ∷ []
+-- II.6.7, II.22.14
+parts_of ExportedType =
+    word (codes ".class extern") ∷ flags table.Type 0 ∷ word (codes " ") ∷ dotted 3 ∷ text 2 ∷ token_after (codes " in ") 4 ∷ []
+-- II.10.3.2, II.22.27
+parts_of MethodImpl = word (codes ".override") ∷ token_after (codes " ") 2 ∷ token_after (codes " with ") 1 ∷ token_after (codes " in ") 0 ∷ []
+-- II.17, II.18, II.22.28
+parts_of MethodSemantics = word (codes " ") ∷ flags table.Semantics 0 ∷ token_after (codes " ") 1 ∷ token_after (codes " of ") 2 ∷ []
+-- II.15.5.2, II.22.22
+parts_of ImplMap =
+    word (codes ".pinvokeimpl(") ∷ token_after [] 3 ∷ word (codes " as \"") ∷ text 2 ∷ word (codes "\"") ∷ flags table.Import 0 ∷ word (codes ")") ∷
+    token_after (codes " of ") 1 ∷ []
+-- II.21, II.22.10
+parts_of CustomAttribute =
+    word (codes ".custom") ∷ token_after (codes " ") 1 ∷ word (codes " = (") ∷ hex 2 ∷ word (codes ")") ∷ token_after (codes " of ") 0 ∷ []
 parts_of _ = []

@@ -2,7 +2,7 @@
 use Rattle.std.specs.Prelude.{◌≡◌, ℕ, List, [], ◌∷◌, ◌++◌, map}
 use Rattle.std.specs.List.{flat_map, range_with_len}
 use Rattle.table_schema.specs.declared.table.TableId.{TableId}
-use Rattle.table_schema.specs.declared.table.TableId.TheVariants.{Assembly, AssemblyRef, Module, ModuleRef, File, ManifestResource, TypeDef}
+use Rattle.table_schema.specs.declared.table.TableId.TheVariants.{Assembly, AssemblyRef, Module, ModuleRef, File, ManifestResource, ExportedType, TypeDef, InterfaceImpl, GenericParam, GenericParamConstraint, MethodImpl, MethodSemantics, ImplMap, CustomAttribute}
 use Rattle.table_schema.specs.declared.token.Token.{Token}
 use Rattle.metadata.specs.Metadata.{Metadata, count_in}
 use Rattle.cli_outline.specs.Layouts.{parts_of}
@@ -23,7 +23,7 @@ all_rows model table = rows_from table 1 (count_in model table)
 
 -- the tables whose rows have a line, in the order of the lines
 unfoldable pub first_tables : List TableId
-first_tables = Assembly ∷ AssemblyRef ∷ Module ∷ ModuleRef ∷ File ∷ ManifestResource ∷ TypeDef ∷ []
+first_tables = Assembly ∷ AssemblyRef ∷ Module ∷ ModuleRef ∷ File ∷ ManifestResource ∷ ExportedType ∷ TypeDef ∷ InterfaceImpl ∷ GenericParam ∷ GenericParamConstraint ∷ MethodImpl ∷ MethodSemantics ∷ ImplMap ∷ CustomAttribute ∷ []
 
 -- the rows that have a line, in the order of the lines
 unfoldable pub outline_rows : Metadata → List Token

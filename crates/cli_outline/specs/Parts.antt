@@ -30,6 +30,12 @@ pub data Part : Type 0 where
   bytes_after : List ℕ → ℕ → Part
   -- the public key, or the token of one, in the second cell, by the flags in the first (II.6.3)
   key : ℕ → ℕ → Part
+  -- the bytes in a cell, in hexadecimal
+  hex : ℕ → Part
+  -- unless the text in a cell is empty: the text, and a dot
+  dotted : ℕ → Part
+  -- unless the reference in a cell is null: a word, and the token
+  token_after : List ℕ → ℕ → Part
   -- the full name of the type that the row is
   own_name : Part
   -- unless the reference in a cell is null: a word, and the full name of the type
@@ -67,6 +73,16 @@ abbrev pub key_text : ℕ → List ℕ → List ℕ
 key_text bits [] = []
 key_text bits (first ∷ tail) = words_text bits (words_of table_of.Key) ++ bytes_text (codes " = ") (first ∷ tail)
 
+-- a text and a dot, unless the text is empty
+abbrev pub dotted_text : List ℕ → List ℕ
+dotted_text [] = []
+dotted_text (first ∷ tail) = escaped_text (first ∷ tail) ++ codes "."
+
+-- a word and a token, unless the reference is null
+abbrev pub token_text_after : List ℕ → Option Token → List ℕ
+token_text_after before None = []
+token_text_after before (Some token) = before ++ token_text token
+
 -- the full name of a type, escaped
 abbrev pub IsNameText : Metadata → Token → List ℕ → Type 0
 IsNameText model token out = (name : List ℕ) × IsFullName model token name × (out ≡ escaped_text name)
@@ -89,6 +105,9 @@ IsPartText model table row (number cell) out = out ≡ digits (number_of (cell_i
 IsPartText model table row (quoted_after before cell) out = out ≡ quoted_text before (text_of (cell_in model table row cell))
 IsPartText model table row (bytes_after before cell) out = out ≡ bytes_text before (bytes_of (cell_in model table row cell))
 IsPartText model table row (key of cell) out = out ≡ key_text (number_of (cell_in model table row of)) (bytes_of (cell_in model table row cell))
+IsPartText model table row (hex cell) out = out ≡ escaped_bytes (bytes_of (cell_in model table row cell))
+IsPartText model table row (dotted cell) out = out ≡ dotted_text (text_of (cell_in model table row cell))
+IsPartText model table row (token_after before cell) out = out ≡ token_text_after before (reference_of (cell_in model table row cell))
 IsPartText model table row own_name out = IsNameText model (token_at table row) out
 IsPartText model table row (name_after before cell) out = IsNameAfter model before (reference_of (cell_in model table row cell)) out
 

@@ -7,7 +7,7 @@ use Rattle.cli_outline.specs.Parts.{Part}
 use Rattle.cli_outline.specs.Words.{Word}
 use Rattle.cli_outline.specs.declared.flag_words.FlagWord.{FlagWord}
 use Rattle.cli_outline.specs.declared.layouts.Piece.{Piece}
-use Rattle.cli_outline.specs.declared.layouts.Piece.TheVariants.{Word as PlainWord, Flags, Text, Number, QuotedAfter, BytesAfter, Key, OwnName, NameAfter}
+use Rattle.cli_outline.specs.declared.layouts.Piece.TheVariants.{Word as PlainWord, Flags, Text, Number, QuotedAfter, BytesAfter, Key, Hex, Dotted, TokenAfter, OwnName, NameAfter}
 
 abbrev pub shown_word : FlagWord → Word
 shown_word of = record { mask = of.mask; value = of.value; text = of.text.now }
@@ -20,6 +20,9 @@ shown (Number cell) = part.number cell
 shown (QuotedAfter of cell) = part.quoted_after of.now cell
 shown (BytesAfter of cell) = part.bytes_after of.now cell
 shown (Key of cell) = part.key of cell
+shown (Hex cell) = part.hex cell
+shown (Dotted cell) = part.dotted cell
+shown (TokenAfter of cell) = part.token_after of.now cell
 shown OwnName = part.own_name
 shown (NameAfter of cell) = part.name_after of.now cell
 
@@ -32,5 +35,8 @@ IsWithin table (part.number cell) = cell < cell_count table
 IsWithin table (part.quoted_after of cell) = cell < cell_count table
 IsWithin table (part.bytes_after of cell) = cell < cell_count table
 IsWithin table (part.key of cell) = (of < cell_count table) × (cell < cell_count table)
+IsWithin table (part.hex cell) = cell < cell_count table
+IsWithin table (part.dotted cell) = cell < cell_count table
+IsWithin table (part.token_after of cell) = cell < cell_count table
 IsWithin table part.own_name = ⊤
 IsWithin table (part.name_after of cell) = cell < cell_count table

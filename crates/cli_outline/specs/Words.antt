@@ -58,3 +58,30 @@ words_of table.File = word 0x0001 0x0001 (codes "nometadata") ∷ []
 words_of table.Resource =
     word 0x0007 0x0001 (codes "public") ∷
     word 0x0007 0x0002 (codes "private") ∷ []
+-- II.23.1.7
+words_of table.Generic =
+    word 0x0003 0x0001 (codes "+") ∷
+    word 0x0003 0x0002 (codes "-") ∷
+    word 0x0004 0x0004 (codes "class") ∷
+    word 0x0008 0x0008 (codes "valuetype") ∷
+    word 0x0010 0x0010 (codes ".ctor") ∷ []
+-- II.23.1.12
+words_of table.Semantics =
+    word 0x0001 0x0001 (codes ".set") ∷
+    word 0x0002 0x0002 (codes ".get") ∷
+    word 0x0004 0x0004 (codes ".other") ∷
+    word 0x0008 0x0008 (codes ".addon") ∷
+    word 0x0010 0x0010 (codes ".removeon") ∷
+    word 0x0020 0x0020 (codes ".fire") ∷ []
+-- II.23.1.8: names, character set, errors, calling convention
+words_of table.Import =
+    word 0x0001 0x0001 (codes "nomangle") ∷
+    word 0x0006 0x0002 (codes "ansi") ∷
+    word 0x0006 0x0004 (codes "unicode") ∷
+    word 0x0006 0x0006 (codes "autochar") ∷
+    word 0x0040 0x0040 (codes "lasterr") ∷
+    word 0x0700 0x0100 (codes "platformapi") ∷
+    word 0x0700 0x0200 (codes "cdecl") ∷
+    word 0x0700 0x0300 (codes "stdcall") ∷
+    word 0x0700 0x0400 (codes "thiscall") ∷
+    word 0x0700 0x0500 (codes "fastcall") ∷ []

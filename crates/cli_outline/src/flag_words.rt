@@ -33,6 +33,12 @@ pub enum FlagTable {
     File,
     /// Of resources (II.23.1.9).
     Resource,
+    /// Of generic parameters (II.23.1.7).
+    Generic,
+    /// Of accessors of properties and events (II.23.1.12).
+    Semantics,
+    /// Of imported methods (II.23.1.8).
+    Import,
 }
 
 const TYPE: &[FlagWord] = words![
@@ -74,6 +80,36 @@ const RESOURCE: &[FlagWord] = words![
     0x0007 0x0002 "private";
 ];
 
+const GENERIC: &[FlagWord] = words![
+    0x0003 0x0001 "+";
+    0x0003 0x0002 "-";
+    0x0004 0x0004 "class";
+    0x0008 0x0008 "valuetype";
+    0x0010 0x0010 ".ctor";
+];
+
+const SEMANTICS: &[FlagWord] = words![
+    0x0001 0x0001 ".set";
+    0x0002 0x0002 ".get";
+    0x0004 0x0004 ".other";
+    0x0008 0x0008 ".addon";
+    0x0010 0x0010 ".removeon";
+    0x0020 0x0020 ".fire";
+];
+
+const IMPORT: &[FlagWord] = words![
+    0x0001 0x0001 "nomangle";
+    0x0006 0x0002 "ansi";
+    0x0006 0x0004 "unicode";
+    0x0006 0x0006 "autochar";
+    0x0040 0x0040 "lasterr";
+    0x0700 0x0100 "platformapi";
+    0x0700 0x0200 "cdecl";
+    0x0700 0x0300 "stdcall";
+    0x0700 0x0400 "thiscall";
+    0x0700 0x0500 "fastcall";
+];
+
 /// The words of a kind of flags, in the order of the standard.
 fn words_of(of: FlagTable) -> &'static [FlagWord]
     ensures { map shown_word result.now ≡ words_of of }
@@ -84,6 +120,9 @@ fn words_of(of: FlagTable) -> &'static [FlagWord]
         FlagTable::Key => KEY,
         FlagTable::File => FILE,
         FlagTable::Resource => RESOURCE,
+        FlagTable::Generic => GENERIC,
+        FlagTable::Semantics => SEMANTICS,
+        FlagTable::Import => IMPORT,
     }
 }
 

@@ -23,13 +23,22 @@ pub enum Piece {
     BytesAfter(&'static str, usize),
     /// The public key, or the token of one, in the second cell, by the flags in the first (II.6.3).
     Key(usize, usize),
+    /// The bytes in a cell, in hexadecimal.
+    Hex(usize),
+    /// Unless the text in a cell is empty: the text, escaped, and a dot.
+    Dotted(usize),
+    /// Unless the reference in a cell is null: this word, and the token.
+    TokenAfter(&'static str, usize),
     /// The full name of the type that the row is.
     OwnName,
     /// Unless the reference in a cell is null: this word, and the full name of the type.
     NameAfter(&'static str, usize),
 }
 
-use Piece::{BytesAfter, Flags, Key, NameAfter, Number, OwnName, QuotedAfter, Text, Word};
+use Piece::{
+    BytesAfter, Dotted, Flags, Hex, Key, NameAfter, Number, OwnName, QuotedAfter, Text, TokenAfter,
+    Word,
+};
 
 const ASSEMBLY: &[Piece] = &[
     Word(".assembly"),
@@ -88,6 +97,72 @@ const TYPE_DEF: &[Piece] = &[
     NameAfter(" extends ", 3),
 ];
 
+const INTERFACE_IMPL: &[Piece] = &[
+    Word(".interfaceimpl type"),
+    NameAfter(" ", 0),
+    NameAfter(" implements ", 1),
+];
+
+const GENERIC_PARAM: &[Piece] = &[
+    Word(".param type"),
+    Flags(FlagTable::Generic, 1),
+    Word(" "),
+    Text(3),
+    Word(" ["),
+    Number(0),
+    Word("]"),
+    TokenAfter(" of ", 2),
+];
+
+const CONSTRAINT: &[Piece] = &[
+    Word(".param constraint"),
+    TokenAfter(" ", 0),
+    NameAfter(", ", 1),
+];
+
+const EXPORTED_TYPE: &[Piece] = &[
+    Word(".class extern"),
+    Flags(FlagTable::Type, 0),
+    Word(" "),
+    Dotted(3),
+    Text(2),
+    TokenAfter(" in ", 4),
+];
+
+const METHOD_IMPL: &[Piece] = &[
+    Word(".override"),
+    TokenAfter(" ", 2),
+    TokenAfter(" with ", 1),
+    TokenAfter(" in ", 0),
+];
+
+const SEMANTICS: &[Piece] = &[
+    Word(" "),
+    Flags(FlagTable::Semantics, 0),
+    TokenAfter(" ", 1),
+    TokenAfter(" of ", 2),
+];
+
+const IMPL_MAP: &[Piece] = &[
+    Word(".pinvokeimpl("),
+    TokenAfter("", 3),
+    Word(" as \""),
+    Text(2),
+    Word("\""),
+    Flags(FlagTable::Import, 0),
+    Word(")"),
+    TokenAfter(" of ", 1),
+];
+
+const CUSTOM: &[Piece] = &[
+    Word(".custom"),
+    TokenAfter(" ", 1),
+    Word(" = ("),
+    Hex(2),
+    Word(")"),
+    TokenAfter(" of ", 0),
+];
+
 /// The pieces of the line of a row. A row of a table that is not named here has none.
 pub(crate) fn pieces_of(table: TableId) -> &'static [Piece]
     ensures { map shown result.now ≡ parts_of table }
@@ -100,6 +175,14 @@ pub(crate) fn pieces_of(table: TableId) -> &'static [Piece]
         TableId::File => FILE,
         TableId::ManifestResource => RESOURCE,
         TableId::TypeDef => TYPE_DEF,
+        TableId::InterfaceImpl => INTERFACE_IMPL,
+        TableId::GenericParam => GENERIC_PARAM,
+        TableId::GenericParamConstraint => CONSTRAINT,
+        TableId::ExportedType => EXPORTED_TYPE,
+        TableId::MethodImpl => METHOD_IMPL,
+        TableId::MethodSemantics => SEMANTICS,
+        TableId::ImplMap => IMPL_MAP,
+        TableId::CustomAttribute => CUSTOM,
         _ => &[],
     }
 }

@@ -61,7 +61,15 @@ const TABLES: &[TableId] = &[
     TableId::ModuleRef,
     TableId::File,
     TableId::ManifestResource,
+    TableId::ExportedType,
     TableId::TypeDef,
+    TableId::InterfaceImpl,
+    TableId::GenericParam,
+    TableId::GenericParamConstraint,
+    TableId::MethodImpl,
+    TableId::MethodSemantics,
+    TableId::ImplMap,
+    TableId::CustomAttribute,
 ];
 
 /// The tables whose rows come first.

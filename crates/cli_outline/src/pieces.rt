@@ -1,12 +1,12 @@
 //! Appends the pieces of a line.
-ghost use Rattle.std.specs.Prelude.{◌≡◌, ◌≤◌, ◌<◌, ◌++◌, OnOk};
+ghost use Rattle.std.specs.Prelude.{◌≡◌, ◌≤◌, ◌<◌, ◌++◌, OnOk, IfSome};
 ghost use Rattle.table_schema.specs.CellColumns.{cell_count};
 ghost use Rattle.metadata.specs.Metadata.{Metadata, cell_in};
 ghost use Rattle.metadata.specs.Model.{IsModel};
 ghost use Rattle.opening.specs.Views.{row_count};
 ghost use Rattle.cli_reports.specs.Escaped.{escaped_bytes};
 ghost use Rattle.cli_faults.specs.Escaped.{escaped_text};
-ghost use Rattle.cli_outline.specs.Parts.{IsNameAfter, IsNameText, IsPartText, bytes_text, key_text, quoted_text};
+ghost use Rattle.cli_outline.specs.Parts.{IsNameAfter, IsNameText, IsPartText, bytes_text, dotted_text, key_text, quoted_text, token_text_after};
 ghost use Rattle.cli_outline.specs.Shown.{IsWithin, shown};
 ghost use Rattle.cli_outline.specs.Texts.{Gains};
 
@@ -14,7 +14,7 @@ use crate::cell_values::{bytes, number, reference, text};
 use crate::flag_words::{FlagTable, push_words};
 use crate::layouts::Piece;
 use crate::lines::{Lines, push_plain};
-use cli_reports::{push_decimal, push_escaped, push_hexadecimal};
+use cli_reports::{push_decimal, push_escaped, push_hexadecimal, push_token};
 use full_names::write_full_name;
 use opening::{TableId, Token, View};
 use std::alloc::{AllocError, Global};
@@ -93,6 +93,35 @@ fn push_name_after(
     }
 }
 
+/// Appends a text and a dot, unless the text is empty.
+fn push_dotted(text: &str, lines: &mut Lines) -> Result<(), AllocError>
+    ensures { OnOk result (lines.new.bytes.items ≡ lines.old.bytes.items ++ dotted_text text.now) }
+{
+    if text.is_empty() {
+        return Ok(());
+    }
+    push_escaped(text.as_bytes(), &mut lines.bytes)?;
+    push_plain(".", lines)
+}
+
+/// Appends a word and a token, unless the reference is null.
+fn push_token_after(
+    word: &str,
+    reference: Option<Token>,
+    lines: &mut Lines,
+) -> Result<(), AllocError>
+    requires { IfSome reference (λ token. token.row ≤ 0xFFFFFF) }
+    ensures { OnOk result (lines.new.bytes.items ≡ lines.old.bytes.items ++ token_text_after word.now reference) }
+{
+    match reference {
+        Some(token) => {
+            push_plain(word, lines)?;
+            push_token(token, &mut lines.bytes)
+        }
+        None => Ok(()),
+    }
+}
+
 /// Appends a piece of the line of a row.
 pub(crate) fn push_piece(
     alloc: Global,
@@ -124,6 +153,11 @@ pub(crate) fn push_piece(
         Piece::Key(flags, cell) => {
             let flags = number(view, table, row, flags);
             push_key(flags, bytes(view, table, row, cell), lines)
+        }
+        Piece::Hex(cell) => push_hexadecimal(bytes(view, table, row, cell), &mut lines.bytes),
+        Piece::Dotted(cell) => push_dotted(text(view, table, row, cell), lines),
+        Piece::TokenAfter(word, cell) => {
+            push_token_after(word, reference(view, table, row, cell), lines)
         }
         Piece::OwnName => push_name(alloc, view, Token { table, row }, lines),
         Piece::NameAfter(word, cell) => {

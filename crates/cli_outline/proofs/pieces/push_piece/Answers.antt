@@ -3,8 +3,9 @@ use Rattle.std.specs.Prelude.{decimal}
 use Rattle.table_schema.specs.declared.token.Token.{Token}
 use Rattle.metadata.specs.Metadata.{cell_in}
 use Rattle.cli_faults.specs.Escaped.{escaped_text}
+use Rattle.cli_reports.specs.Escaped.{escaped_bytes}
 use Rattle.cli_outline.specs.Parts as part
-use Rattle.cli_outline.specs.Parts.{IsNameAfter, IsPartText, Part, bytes_text, key_text, number_of, quoted_text}
+use Rattle.cli_outline.specs.Parts.{IsNameAfter, IsPartText, Part, bytes_text, key_text, number_of, quoted_text, dotted_text, token_text_after}
 use Rattle.cli_outline.specs.Shown.{shown}
 use Rattle.cli_outline.specs.Texts.{Gains}
 use Rattle.cli_outline.specs.Words.{words_of, words_text}
@@ -75,4 +76,26 @@ returns-in-NameAfter c = λ model is.
     let word = c.in-NameAfter.word.now in
     on_ok c.push_name_after.result (c.push_name_after.ensures model is)
     (λ gains. subst (λ (p : Part). Gains (IsPartText model c.args.table c.args.row p) before after) (sym (ap shown c.in-NameAfter.is))
-    (subst (λ (r : Option Token). Gains (IsNameAfter model word r) before after) (c.reference.ensures model is) gains))
+    (subst (λ (r : Option Token). Gains (IsNameAfter model word r) before after) (c.reference-in-NameAfter.ensures.value model is) gains))
+
+pub returns-in-Hex : goal.returns-in-Hex
+returns-in-Hex c = λ model is.
+    let before = c.args.lines.now.bytes.items in
+    on_ok c.push_hexadecimal.result c.push_hexadecimal.ensures
+    (λ e. part_gains model c.args.table c.args.row c.args.piece (part.hex c.in-Hex.cell) _ _ _ (ap shown c.in-Hex.is) refl
+    (e ∙ ap (λ xs. before ++ escaped_bytes xs) (c.bytes-in-Hex.ensures model is)))
+
+pub returns-in-Dotted : goal.returns-in-Dotted
+returns-in-Dotted c = λ model is.
+    let before = c.args.lines.now.bytes.items in
+    on_ok c.push_dotted.result c.push_dotted.ensures
+    (λ e. part_gains model c.args.table c.args.row c.args.piece (part.dotted c.in-Dotted.cell) _ _ _ (ap shown c.in-Dotted.is) refl
+    (e ∙ ap (λ xs. before ++ dotted_text xs) (c.text-in-Dotted.ensures model is)))
+
+pub returns-in-TokenAfter : goal.returns-in-TokenAfter
+returns-in-TokenAfter c = λ model is.
+    let before = c.args.lines.now.bytes.items in
+    let word = c.in-TokenAfter.word.now in
+    on_ok c.push_token_after.result c.push_token_after.ensures
+    (λ e. part_gains model c.args.table c.args.row c.args.piece (part.token_after word c.in-TokenAfter.cell) _ _ _ (ap shown c.in-TokenAfter.is) refl
+    (e ∙ ap (λ r. before ++ token_text_after word r) (c.reference.ensures.value model is)))
