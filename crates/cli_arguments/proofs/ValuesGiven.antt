@@ -14,7 +14,7 @@ use Rattle.clap.specs.declared.parser.matches.ValueSource.TheVariants.{CommandLi
 use Rattle.clap.proofs.OnLiterals.{clap_on_literals}
 use Rattle.std.proofs.lemmas.Slice.Eq.{bytes_eq-Decides}
 use Rattle.cli_arguments.specs.Asked.{name_of, subcommand_named}
-use Rattle.cli_arguments.specs.declared.asked.Subcommand.TheVariants.{Root, Check, Show, Types, Token, Rewrite, Digest, Compare, Explain}
+use Rattle.cli_arguments.specs.declared.asked.Subcommand.TheVariants.{Root, Check, Show, Types, Outline, Token, Rewrite, Digest, Compare, Explain}
 use Rattle.cli_arguments.specs.declared.asked.Subcommand.{Subcommand}
 use Rattle.cli_arguments.specs.CommandLine.{bare, budget, check, clim, code, explain, file, files, files_from, null, reader, second}
 use Rattle.cli_arguments.proofs.NoHelp.{StopsElsewhere, is_help, stops_elsewhere}
@@ -158,6 +158,10 @@ types_takes : values_in (codes "types") ≡ codes "FILE" ∷ []
 unfolding clap_on_literals
 types_takes = refl
 
+outline_takes : values_in (codes "outline") ≡ codes "FILE" ∷ []
+unfolding clap_on_literals
+outline_takes = refl
+
 pub token_takes : values_in (codes "token") ≡ codes "FILE" ∷ codes "second" ∷ []
 unfolding clap_on_literals
 token_takes = refl
@@ -193,6 +197,10 @@ show_known = refl
 types_known : IsSome (subcommand_named (codes "types"))
 unfolding clap_on_literals
 types_known = refl
+
+outline_known : IsSome (subcommand_named (codes "outline"))
+unfolding clap_on_literals
+outline_known = refl
 
 token_known : IsSome (subcommand_named (codes "token"))
 unfolding clap_on_literals
@@ -280,14 +288,17 @@ clim_ready word other = (
       (
         (λ is. reader_ready (codes "types") types_takes types_known),
         (
-          (λ is. second_ready (codes "token") token_takes token_known),
+          (λ is. reader_ready (codes "outline") outline_takes outline_known),
           (
-            (λ is. second_ready (codes "rewrite") rewrite_takes rewrite_known),
+            (λ is. second_ready (codes "token") token_takes token_known),
             (
-              (λ is. reader_ready (codes "digest") digest_takes digest_known),
+              (λ is. second_ready (codes "rewrite") rewrite_takes rewrite_known),
               (
-                (λ is. second_ready (codes "compare") compare_takes compare_known),
-                ((λ is. explain_ready), ((λ is. let help = answers_help word is in cc), tt)),
+                (λ is. reader_ready (codes "digest") digest_takes digest_known),
+                (
+                  (λ is. second_ready (codes "compare") compare_takes compare_known),
+                  ((λ is. explain_ready), ((λ is. let help = answers_help word is in cc), tt)),
+                ),
               ),
             ),
           ),
@@ -303,6 +314,7 @@ file_first Root rows other listed there = (subst (λ (ids : List Text). AllThere
 file_first Check rows other listed there = absurd (listed refl)
 file_first Show rows other listed there = (subst (λ (ids : List Text). AllThere ids rows) show_takes there).0
 file_first Types rows other listed there = (subst (λ (ids : List Text). AllThere ids rows) types_takes there).0
+file_first Outline rows other listed there = (subst (λ (ids : List Text). AllThere ids rows) outline_takes there).0
 file_first Token rows other listed there = (subst (λ (ids : List Text). AllThere ids rows) token_takes there).0
 file_first Rewrite rows other listed there = (subst (λ (ids : List Text). AllThere ids rows) rewrite_takes there).0
 file_first Digest rows other listed there = (subst (λ (ids : List Text). AllThere ids rows) digest_takes there).0

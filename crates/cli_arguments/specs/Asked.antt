@@ -7,7 +7,7 @@ use Rattle.clap.specs.Words.{Row, Text, all_of, first_of, one_of, subcommand_of}
 use Rattle.cli_arguments.specs.CommandLine.{clim}
 use Rattle.cli_arguments.specs.declared.asked.Ask.{Ask}
 use Rattle.cli_arguments.specs.declared.asked.Subcommand.{Subcommand}
-use Rattle.cli_arguments.specs.declared.asked.Subcommand.TheVariants.{Root, Check, Show, Types, Token, Rewrite, Digest, Compare, Explain}
+use Rattle.cli_arguments.specs.declared.asked.Subcommand.TheVariants.{Root, Check, Show, Types, Outline, Token, Rewrite, Digest, Compare, Explain}
 
 -- the name of a subcommand
 abbrev pub name_of : Subcommand → Text
@@ -15,6 +15,7 @@ name_of Root = codes "root"
 name_of Check = codes "check"
 name_of Show = codes "show"
 name_of Types = codes "types"
+name_of Outline = codes "outline"
 name_of Token = codes "token"
 name_of Rewrite = codes "rewrite"
 name_of Digest = codes "digest"
@@ -28,6 +29,7 @@ subcommand_named word =
     else if bytes_eq word (name_of Check) then Some Check
     else if bytes_eq word (name_of Show) then Some Show
     else if bytes_eq word (name_of Types) then Some Types
+    else if bytes_eq word (name_of Outline) then Some Outline
     else if bytes_eq word (name_of Token) then Some Token
     else if bytes_eq word (name_of Rewrite) then Some Rewrite
     else if bytes_eq word (name_of Digest) then Some Digest

@@ -58,6 +58,10 @@ show = reader (codes "show")
 abbrev pub types : App
 types = reader (codes "types")
 
+-- `outline [--bare] FILE`
+abbrev pub outline : App
+outline = reader (codes "outline")
+
 -- `token [--bare] FILE HEX`
 abbrev pub token : App
 token = with_rule (reader (codes "token")) second
@@ -85,5 +89,5 @@ without_subcommands = on_top (λ s. record s { has_version = true; subcommand_re
 -- the subcommands that read a file, and `explain`; `clap` adds `help`
 abbrev pub clim : App
 clim =
-    with_subcommand (with_subcommand (with_subcommand (with_subcommand (with_subcommand (with_subcommand (with_subcommand (with_subcommand (with_subcommand
-    without_subcommands root.top) check.top) show.top) types.top) token.top) rewrite.top) digest.top) compare.top) explain.top
+    with_subcommand (with_subcommand (with_subcommand (with_subcommand (with_subcommand (with_subcommand (with_subcommand (with_subcommand (with_subcommand (with_subcommand
+    without_subcommands root.top) check.top) show.top) types.top) outline.top) token.top) rewrite.top) digest.top) compare.top) explain.top

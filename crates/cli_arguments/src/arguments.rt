@@ -6,8 +6,8 @@ ghost use Rattle.cli_arguments.specs.CommandLine.{clim};
 
 use crate::asked::{Ask, Subcommand};
 use crate::subcommands::{
-    check_file, compare_files, digest_file, explain_fault, print_root, print_token, print_types,
-    rewrite_file, show_tables,
+    check_file, compare_files, digest_file, explain_fault, print_outline, print_root, print_token,
+    print_types, rewrite_file, show_tables,
 };
 use clap::{Command, Error};
 use std::alloc::{AllocError, Global};
@@ -55,6 +55,7 @@ fn command<'a>(alloc: Global) -> Result<Command<'a>, AllocError>
     let program = with(program, check_file::command(alloc));
     let program = with(program, show_tables::command(alloc));
     let program = with(program, print_types::command(alloc));
+    let program = with(program, print_outline::command(alloc));
     let program = with(program, print_token::command(alloc));
     let program = with(program, rewrite_file::command(alloc));
     let program = with(program, digest_file::command(alloc));

@@ -35,6 +35,8 @@ pub enum Subcommand {
     Show,
     /// `types`: print the types, with the number of their fields and methods.
     Types,
+    /// `outline`: print the declarations of the assembly.
+    Outline,
     /// `token`: print the row or the user string that a token names.
     Token,
     /// `rewrite`: write the canonical metadata root of the file.
@@ -57,6 +59,7 @@ impl Subcommand {
             "check" => Some(Subcommand::Check),
             "show" => Some(Subcommand::Show),
             "types" => Some(Subcommand::Types),
+            "outline" => Some(Subcommand::Outline),
             "token" => Some(Subcommand::Token),
             "rewrite" => Some(Subcommand::Rewrite),
             "digest" => Some(Subcommand::Digest),

@@ -11,6 +11,7 @@ pub(crate) mod check_file;
 pub(crate) mod compare_files;
 pub(crate) mod digest_file;
 pub(crate) mod explain_fault;
+pub(crate) mod print_outline;
 pub(crate) mod print_root;
 pub(crate) mod print_token;
 pub(crate) mod print_types;

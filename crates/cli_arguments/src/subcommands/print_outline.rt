@@ -1,0 +1,33 @@
+//! `clim outline`: the declarations of an assembly.
+ghost use Rattle.std.specs.Prelude.{◌≡◌, IfOk, false};
+ghost use Rattle.clap.specs.Words.{app_of};
+ghost use Rattle.clap.specs.declared.Command.TheViews.{out-Command as fields_of};
+ghost use Rattle.cli_arguments.specs.CommandLine as line;
+
+use crate::subcommands::reader;
+use clap::Command;
+use std::alloc::{AllocError, Global};
+
+/// The arguments of the subcommand and its help.
+pub(crate) fn command<'a>(alloc: Global) -> Result<Command<'a>, AllocError>
+    ensures app { IfOk result (λ command. app_of command ≡ line.outline) }
+    ensures local { IfOk result (λ command. (fields_of command).has_globals ≡ false) }
+{
+    reader(
+        alloc,
+        "outline",
+        "Print the declarations of the assembly, as ILAsm writes them",
+        OUTPUT,
+    )
+}
+
+const OUTPUT: &str = "\
+There is a line for each declaration, in the notation of ILAsm (ECMA-335, II.5 to II.22). It ends with the token of its
+row in a comment. First come the assembly, what it refers to, the module, files, resources and exported types; then the
+types in the order of their rows, each with its fields and methods; then interfaces, generic parameters and their
+constraints, overrides, accessors, imports and custom attributes, table by table. Texts of FILE are escaped like the
+texts of 'clim show'. FILE is checked first, as by 'clim check'.
+
+Example:
+  $ clim outline --bare two_types.root
+";
