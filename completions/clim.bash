@@ -19,8 +19,9 @@ _clim() {
             ;;
         *)
             local flags='--bare --help'
-            if [ "${COMP_WORDS[1]}" = check ]; then flags="$flags --budget"; fi
-            # The budget is a number.
+            if [ "${COMP_WORDS[1]}" = check ]; then flags="$flags --budget --files-from -0"; fi
+            # A list of files comes from the standard input alone. The budget is a number.
+            if [ "${COMP_WORDS[COMP_CWORD-1]}" = --files-from ]; then COMPREPLY=(-); return; fi
             if [ "${COMP_WORDS[COMP_CWORD-1]}" = --budget ]; then return; fi
             if [[ $word == -* ]]; then
                 while read -r line; do COMPREPLY+=("$line"); done < <(compgen -W "$flags" -- "$word")

@@ -7,7 +7,7 @@ complete -c clim -f
 complete -c clim -s h -l help -d 'Print help'
 complete -c clim -n "not __fish_seen_subcommand_from $subcommands" -s V -l version -d 'Print version'
 complete -c clim -n "not __fish_seen_subcommand_from $subcommands" -a root -d 'Print the CLI header, and the version and the stream headers of the metadata root'
-complete -c clim -n "not __fish_seen_subcommand_from $subcommands" -a check -d 'Check a file against the rules of the standard'
+complete -c clim -n "not __fish_seen_subcommand_from $subcommands" -a check -d 'Check files against the rules of the standard'
 complete -c clim -n "not __fish_seen_subcommand_from $subcommands" -a show -d 'Print the rows of all tables'
 complete -c clim -n "not __fish_seen_subcommand_from $subcommands" -a types -d 'Print the types, with the number of their fields and methods'
 complete -c clim -n "not __fish_seen_subcommand_from $subcommands" -a token -d 'Print the row or the user string that a token names'
@@ -19,5 +19,7 @@ complete -c clim -n "not __fish_seen_subcommand_from $subcommands" -a help -d 'P
 complete -c clim -n "__fish_seen_subcommand_from $readers" -F
 complete -c clim -n "__fish_seen_subcommand_from $readers" -l bare -d 'FILE is a metadata root, not a PE file'
 complete -c clim -n "__fish_seen_subcommand_from check" -l budget -x -d 'Check at most N bytes of signatures, or stop with exit status 3'
+complete -c clim -n "__fish_seen_subcommand_from check" -l files-from -x -a - -d 'Read the names of the files from standard input, each ended by a NUL'
+complete -c clim -n "__fish_seen_subcommand_from check" -s 0 -d "The same as '--files-from -'"
 complete -c clim -n "__fish_seen_subcommand_from explain" -a "(clim explain | string replace -r '^(\d+)[ :]+' '\$1\t')"
 complete -c clim -n "__fish_seen_subcommand_from help" -a "$readers explain help"

@@ -13,7 +13,8 @@ use Rattle.comparison.specs.declared.difference.Difference.{Difference}
 use Rattle.comparison.specs.Differences.{first_differences}
 use Rattle.cli.specs.declared.stopped.Stopped.{Stopped}
 use Rattle.cli.specs.Compared.{AreWhole, IsComparing, IsRefusal, OfModels}
-use Rattle.cli.specs.Runs.{Outcome, StopsBy}
+use Rattle.cli.specs.Runs.{StopsBy}
+use Rattle.cli.specs.Stopped.{Outcome}
 
 pub compared : (left right : Metadata) (found : List Difference) → found ≡ first_differences left right 20 → compared_text left right found ≡ compare_text left right
 unfolding compare_text

@@ -3,4 +3,5 @@ pub mod NumbersRead
 pub mod Comparing
 pub mod Rewritings
 pub mod RunLemmas
+pub mod Checks
 pub mod Reading

@@ -3,7 +3,7 @@ use Rattle.std.proofs.Common.{◌≡◌, ℕ, Bool, List, [], append-nil, Option
 use Rattle.std.specs.Prelude.{IfErr, IfSome, IsErr, IsOk, OnOk, ◌↔◌, ◌⊎◌}
 use Rattle.std.specs.Io.KnownBytes.{Appends}
 use Rattle.cli_faults.specs.declared.failure.Failure.{Failure}
-use Rattle.cli_faults.specs.declared.failure.Failure.TheVariants.{Fault, NoSuchRow, NoToken, NoCode, CannotRead, CannotWriteOutput, CannotWriteFile, OutOfMemory}
+use Rattle.cli_faults.specs.declared.failure.Failure.TheVariants.{Fault, NoSuchRow, NoToken, NoCode, NoFile, FilesAndList, NoList, NotUtf8, CannotRead, CannotWriteOutput, CannotWriteFile, OutOfMemory}
 use Rattle.cli_faults.specs.Status.{IsOutput, IsUnwritten, status_of}
 use Rattle.cli_reports.specs.declared.report.Report.{Report}
 use Rattle.cli_faults.specs.declared.stop.Stop.{Stop}
@@ -18,8 +18,8 @@ use Rattle.cli_faults.specs.Stops.{status_of_stop}
 use Rattle.cli_reports.specs.Stops.{StopLeavesOutput, StopsWithin}
 use Rattle.cli.specs.Hints.{hint_for}
 use Rattle.cli.specs.Rewritten.{IsGiven, IsRewritten, ReportsUnwritten}
-use Rattle.cli.specs.Runs.{DigestsPart, IsChecked, IsDigesting, IsReported, IsRewriting, Outcome, PrintsPart, wrote_text}
-use Rattle.cli.specs.Stopped.{IsStopOf}
+use Rattle.cli.specs.Runs.{DigestsPart, IsChecked, IsDigesting, IsReported, IsRewriting, PrintsPart, wrote_text}
+use Rattle.cli.specs.Stopped.{IsStopOf, Outcome}
 
 -- a hint for a result that stopped
 abbrev pub Hinted : Bool → List ℕ → Result (Unit {0}) Stop → Outcome → Type 0
@@ -99,6 +99,10 @@ failure_never_zero (Fault found) is = cc
 failure_never_zero NoSuchRow is = cc
 failure_never_zero (NoToken word) is = cc
 failure_never_zero (NoCode word) is = cc
+failure_never_zero NoFile is = cc
+failure_never_zero FilesAndList is = cc
+failure_never_zero (NoList word) is = cc
+failure_never_zero (NotUtf8 name) is = cc
 failure_never_zero (CannotRead error) is = cc
 failure_never_zero CannotWriteOutput is = cc
 failure_never_zero (CannotWriteFile error) is = cc
@@ -119,7 +123,7 @@ line_sent before after text (Ok done) (Err failure) ok output printed = let no =
 line_sent before after text (Err error) (Ok end) ok output printed = let no = ok.0 refl in cc
 line_sent before after text (Err error) (Err failure) ok output printed = (tt, (output, printed))
 
-appends_nothing : (known : Option (List ℕ)) → Appends known known []
+pub appends_nothing : (known : Option (List ℕ)) → Appends known known []
 appends_nothing None = tt
 appends_nothing (Some xs) = sym (append-nil xs)
 

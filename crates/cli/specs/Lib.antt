@@ -4,5 +4,6 @@ pub mod Numbers
 pub mod Read
 pub mod Rewritten
 pub mod Runs
+pub mod Several
 pub mod Stopped
 pub mod Tasks

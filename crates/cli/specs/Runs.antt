@@ -1,5 +1,5 @@
 -- What a run of the program does with its arguments, and with what reading FILE gave.
-use Rattle.std.specs.Prelude.{◌≡◌, ◌≢◌, ℕ, Bool, List, ◌++◌, ◌⊎◌, codes, decimal, length, IfErr, IfSome, IsErrAnd, OnOk, Option, None, Result, Ok, Err, MatchResult}
+use Rattle.std.specs.Prelude.{◌≡◌, ◌≢◌, ℕ, Bool, List, ◌++◌, ◌⊎◌, codes, decimal, length, IfErr, IsErrAnd, IsSomeAnd, map, OnOk, Option, None, Result, MatchResult}
 use Rattle.std.specs.Borrow.{Bor}
 use Rattle.std.specs.Io.KnownBytes.{Appends}
 use Rattle.clap.specs.Words.{IsAmong, Text, fault_of}
@@ -9,7 +9,7 @@ use Rattle.cli_arguments.specs.declared.asked.Ask.{Ask}
 use Rattle.cli_arguments.specs.Asked.{Gives}
 use Rattle.cli_arguments.specs.CommandLine.{clim}
 use Rattle.cli_faults.specs.declared.failure.Failure.{Failure}
-use Rattle.cli_faults.specs.Status.{IsOutput, IsUnwritten}
+use Rattle.cli_faults.specs.Status.{IsOutput, IsUnwritten, status_of}
 use Rattle.cli_reports.specs.declared.report.Report.{Report}
 use Rattle.cli_faults.specs.declared.stop.Stop.TheVariants.{Failed}
 use Rattle.cli_reports.specs.Checked.{IsWhole, rules_of, signature_bytes_of}
@@ -19,7 +19,6 @@ use Rattle.cli_reports.specs.Printed.{IsReportText, check_text}
 use Rattle.cli_reports.specs.Reported.{IsMet, LeavesOutput, Reports}
 use Rattle.cli_reports.specs.RowTexts.{line_feed}
 use Rattle.cli_reports.specs.Sent.{Prints, SendsPrefix}
-use Rattle.cli_faults.specs.Stops.{status_of_stop}
 use Rattle.cli_reports.specs.Stops.{StopLeavesOutput, StopsWithin}
 use Rattle.cli.specs.declared.stopped.Stopped.{Stopped}
 use Rattle.cli.specs.declared.task.Task.{Task}
@@ -28,16 +27,9 @@ use Rattle.cli.specs.Compared.{IsComparing}
 use Rattle.cli.specs.Hints.{hint_for}
 use Rattle.cli.specs.Read.{IsRefused}
 use Rattle.cli.specs.Rewritten.{IsGiven, IsRewritten, ReportsUnwritten}
+use Rattle.cli.specs.Several.{IsRunOnEach, IsRunOnList}
+use Rattle.cli.specs.Stopped.{Outcome, status_of_outcome}
 use Rattle.cli.specs.Tasks.{IsTask}
-
--- how a run ends: it did its task, or it stopped early
-abbrev pub Outcome : Type 0
-Outcome = Result (Unit {0}) Stopped
-
--- the exit code
-abbrev pub status_of_outcome : Outcome → ℕ
-status_of_outcome (Ok done) = 0
-status_of_outcome (Err stopped) = status_of_stop stopped.stop
 
 -- the line of `clim rewrite`
 abbrev pub wrote_text : ℕ → List ℕ
@@ -104,21 +96,34 @@ module _ {W : Type 0} (contents : W → Option (List ℕ)) (before after : W) wh
   abbrev pub IsMixed : List ℕ → Outcome → Type 0
   IsMixed path outcome = IsErrAnd outcome (λ stopped. (failure : Failure) × StopsBy failure stopped × IsUnwritten path failure) × (after ≡ before)
 
-  -- the run of a task, over files of this kind
-  abbrev pub IsRunOf : {F : Type 0} → (F → Option (List ℕ)) → Task → Bool → Option (Bor (List ℕ)) → Outcome → Type 0
-  IsRunOf file_contents (task.Print report) bare file outcome = IfSome file (λ path. IsRunOn path.now (IsReported report bare) outcome)
-  IsRunOf file_contents (task.CheckWithin budget) bare file outcome = IfSome file (λ path. IsRunOn path.now (IsChecked budget bare) outcome)
-  IsRunOf file_contents (task.Rewrite out) bare file outcome = IfSome file (λ path. IsRunOn path.now (IsRewriting file_contents out.now bare) outcome ⊎ IsMixed out.now outcome)
-  IsRunOf file_contents task.Digest bare file outcome = IfSome file (λ path. IsRunOn path.now (IsDigesting path.now bare) outcome)
-  IsRunOf file_contents (task.Compare other) bare file outcome =
-      IfSome file (λ path. IsRunOn path.now (λ left. IsRunOn other.now (λ right. IsComparing contents before after bare left right path.now other.now)) outcome)
-  IsRunOf file_contents (task.Explain code) bare file outcome = IfErr outcome (λ stopped. (failure : Failure) × StopsBy failure stopped × IsOutput failure)
+  -- a run ends with this exit code
+  abbrev pub EndsWith : (Outcome → Type 0) → ℕ → Type 0
+  EndsWith run status = (outcome : Outcome) × run outcome × (status ≡ status_of_outcome outcome)
+
+  -- there is a file, and the run on it ends with this exit code
+  abbrev pub EndsOn : Option (Bor (List ℕ)) → ℕ → (List ℕ → Outcome → Type 0) → Type 0
+  EndsOn file status run = IsSomeAnd file (λ path. EndsWith (run path.now) status)
+
+  -- the run of a task, over files of this kind, ends with this exit code
+  abbrev pub IsRunOf : {F : Type 0} → (F → Option (List ℕ)) → Task → Ask → ℕ → Type 0
+  IsRunOf file_contents (task.Print report) ask status = EndsOn ask.file status (λ path. IsRunOn path (IsReported report ask.bare))
+  IsRunOf file_contents (task.CheckWithin budget) ask status = EndsOn ask.file status (λ path. IsRunOn path (IsChecked budget ask.bare))
+  IsRunOf file_contents (task.CheckEach budget) ask status =
+      IsRunOnEach contents before after budget ask.bare (map (λ file. file.now) ask.files.items) status
+  IsRunOf file_contents (task.CheckListed budget) ask status = IsRunOnList contents before after budget ask.bare status
+  IsRunOf file_contents (task.Rewrite out) ask status =
+      EndsOn ask.file status (λ path outcome. IsRunOn path (IsRewriting file_contents out.now ask.bare) outcome ⊎ IsMixed out.now outcome)
+  IsRunOf file_contents task.Digest ask status = EndsOn ask.file status (λ path. IsRunOn path (IsDigesting path ask.bare))
+  IsRunOf file_contents (task.Compare other) ask status =
+      EndsOn ask.file status (λ path. IsRunOn path (λ left. IsRunOn other.now (λ right. IsComparing contents before after ask.bare left right path other.now)))
+  IsRunOf file_contents (task.Explain code) ask status =
+      EndsWith (λ outcome. IfErr outcome (λ stopped. (failure : Failure) × StopsBy failure stopped × IsOutput failure)) status
 
   -- the run of what the arguments ask for: that of their task; or one of them is wrong, and nothing is read or printed
-  abbrev pub Does : {F : Type 0} → (F → Option (List ℕ)) → Ask → Outcome → Type 0
-  Does file_contents ask outcome =
+  abbrev pub Does : {F : Type 0} → (F → Option (List ℕ)) → Ask → ℕ → Type 0
+  Does file_contents ask status =
       (asked : Result Task Failure) × IsTask ask.subcommand ask asked
-      × MatchResult asked (λ made. IsRunOf file_contents made ask.bare ask.file outcome) (λ failure. IsErrAnd outcome (StopsBy failure) × (after ≡ before))
+      × MatchResult asked (λ made. IsRunOf file_contents made ask status) (λ failure. (status ≡ status_of failure) × (after ≡ before))
 
   -- why `clap` gives no matches: 3 if memory runs out; 0 for help and the version, if they can be printed; else 2, and
   -- nothing is read or printed
@@ -130,5 +135,5 @@ module _ {W : Type 0} (contents : W → Option (List ℕ)) (before after : W) wh
   -- a run of the program on these arguments ends with this exit code
   abbrev pub Ran : {F : Type 0} → (F → Option (List ℕ)) → List Text → ℕ → Type 0
   Ran file_contents words status =
-      ((ask : Ask) × Gives words ask × (outcome : Outcome) × Does file_contents ask outcome × (status ≡ status_of_outcome outcome))
+      ((ask : Ask) × Gives words ask × Does file_contents ask status)
       ⊎ ((why : ErrorKind) × ((why ≡ kind.OutOfMemory) ⊎ IsAmong why (fault_of clim words)) × IsUsage why status)

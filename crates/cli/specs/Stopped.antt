@@ -1,11 +1,11 @@
 -- The lines that report why a run stopped early.
-use Rattle.std.specs.Prelude.{◌≡◌, ℕ, List, ◌∷◌, [], ◌++◌, codes, IsErrAnd, IsOk, MatchResult, Option, Some, None, Result}
+use Rattle.std.specs.Prelude.{◌≡◌, ℕ, List, ◌∷◌, [], ◌++◌, codes, IsErrAnd, IsOk, MatchResult, Option, Some, None, Result, Ok, Err}
 use Rattle.std.specs.Borrow.{Bor}
 use Rattle.cli_faults.specs.Escaped.{escaped_text}
 use Rattle.cli_faults.specs.declared.failure.Failure.{Failure}
 use Rattle.cli_faults.specs.declared.stop.Stop.{Stop}
 use Rattle.cli_faults.specs.declared.stop.Stop.TheVariants.{Failed}
-use Rattle.cli_faults.specs.Stops.{stop_text}
+use Rattle.cli_faults.specs.Stops.{status_of_stop, stop_text}
 use Rattle.cli.specs.Hints.{hint_text}
 use Rattle.cli.specs.declared.hint.Hint.{Hint}
 use Rattle.cli.specs.declared.stopped.Stopped.{Stopped}
@@ -27,3 +27,12 @@ stopped_text stopped = stop_text stopped.stop ++ file_line stopped.file ++ hint_
 -- the same result, with its failure as why it stopped
 abbrev pub IsStopOf : {T : Type 0} → Result T Failure → Result T Stop → Type 0
 IsStopOf outcome stops = MatchResult outcome (λ _. IsOk stops) (λ failure. IsErrAnd stops (λ stop. stop ≡ Failed failure))
+
+-- how a run ends: it did its task, or it stopped early
+abbrev pub Outcome : Type 0
+Outcome = Result (Unit {0}) Stopped
+
+-- the exit code
+abbrev pub status_of_outcome : Outcome → ℕ
+status_of_outcome (Ok done) = 0
+status_of_outcome (Err stopped) = status_of_stop stopped.stop

@@ -1,6 +1,7 @@
 -- What the arguments ask the program to do.
-use Rattle.std.specs.Prelude.{◌≡◌, ℕ, List, Option, Some, None, Result, Ok, IfSome, MatchOption, MatchResult}
+use Rattle.std.specs.Prelude.{◌≡◌, ℕ, List, [], ◌∷◌, Option, Some, None, Result, Ok, Err, IfSome, MatchOption, MatchResult, codes, if◌then◌else◌}
 use Rattle.std.specs.Borrow.{Bor}
+use Rattle.std.specs.Str.{bytes_eq}
 use Rattle.std.specs.Str.Parse.{digits_value}
 use Rattle.packed.specs.declared.code.FaultCode.{FaultCode}
 use Rattle.cli_arguments.specs.declared.asked.Ask.{Ask}
@@ -39,10 +40,33 @@ IsCodeTask given result =
 abbrev pub IsExplainTask : Option (Bor (List ℕ)) → Result Task Failure → Type 0
 IsExplainTask code result = MatchOption code (result ≡ Ok (task.Explain None)) (λ given. IsCodeTask given.now result)
 
+-- the task of `check` for one file, with or without a budget
+abbrev pub task_on_one : Option ℕ → Task
+task_on_one None = task.Print report.Check
+task_on_one (Some bytes) = task.CheckWithin bytes
+
+-- the task of `check` for these files
+abbrev pub task_on_files : Option ℕ → List (Bor (List ℕ)) → Result Task Failure
+task_on_files budget [] = Err failed.NoFile
+task_on_files budget (file ∷ []) = Ok (task_on_one budget)
+task_on_files budget (file ∷ next ∷ more) = Ok (task.CheckEach budget)
+
+-- the task of `check` for a list of files, besides which no file may be given
+abbrev pub task_on_list : Option ℕ → List (Bor (List ℕ)) → Result Task Failure
+task_on_list budget [] = Ok (task.CheckListed budget)
+task_on_list budget (file ∷ more) = Err failed.FilesAndList
+
+-- the task of `check`; a list of files comes from the standard input alone
+abbrev pub IsCheckTask : Ask → Result Task Failure → Type 0
+IsCheckTask ask result =
+    MatchOption ask.files_from
+    (result ≡ (if ask.null then task_on_list ask.budget ask.files.items else task_on_files ask.budget ask.files.items))
+    (λ word. result ≡ (if bytes_eq word.now (codes "-") then task_on_list ask.budget ask.files.items else Err (failed.NoList word)))
+
 -- the task of a subcommand
 abbrev pub IsTask : Subcommand → Ask → Result Task Failure → Type 0
 IsTask word.Root ask result = result ≡ Ok (task.Print report.Root)
-IsTask word.Check ask result = MatchOption ask.budget (result ≡ Ok (task.Print report.Check)) (λ budget. result ≡ Ok (task.CheckWithin budget))
+IsTask word.Check ask result = IsCheckTask ask result
 IsTask word.Show ask result = result ≡ Ok (task.Print report.Show)
 IsTask word.Types ask result = result ≡ Ok (task.Print report.Types)
 IsTask word.Token ask result = IfSome ask.second (λ hex. IsTokenTask hex.now result)

@@ -11,6 +11,8 @@
 //! ```
 #![tactic(auto)]
 
+mod check_files;
+mod check_listed;
 mod compare_files;
 mod digest_file;
 mod explain_fault;

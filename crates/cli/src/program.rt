@@ -1,30 +1,29 @@
-ghost use Rattle.std.specs.Prelude.{◌≡◌, ◌≢◌, ◌≤◌, ◌⊎◌, ◌++◌, IfErr, IfOk, OnOk, map};
-ghost use Rattle.std.specs.Io.KnownBytes.{Appends};
+ghost use Rattle.std.specs.Prelude.{◌≡◌, ◌≢◌, ◌≤◌, ◌⊎◌, IfErr, map};
 ghost use Rattle.std.specs.IoError.{error_kind};
 ghost use Rattle.std.specs.declared.io.ErrorKind.TheVariants as cause;
 ghost use Rattle.clap.specs.Words.{kind_of};
-ghost use Rattle.cli_arguments.specs.Asked.{HasFile, HasSecond};
+ghost use Rattle.cli_arguments.specs.Asked.{HasFile, HasFirst, HasSecond};
 ghost use Rattle.cli_faults.specs.declared.failure.Failure.{Failure as Failed};
 ghost use Rattle.cli_faults.specs.Status.{IsOutput};
-ghost use Rattle.cli_reports.specs.RowTexts.{line_feed};
-ghost use Rattle.cli_faults.specs.Stops.{status_of_stop};
 ghost use Rattle.cli.specs.Compared.{IsComparing};
-ghost use Rattle.cli.specs.Runs.{Does, IsChecked, IsDigesting, IsMixed, IsReported, IsRewriting, IsRunOn, IsUsage, Ran, StopsBy, status_of_outcome};
-ghost use Rattle.cli.specs.Stopped.{stopped_text};
+ghost use Rattle.cli.specs.Runs.{Does, IsChecked, IsDigesting, IsMixed, IsReported, IsRewriting, IsRunOn, IsUsage, Ran, StopsBy};
 
+use crate::check_files::{CheckOptions, check_files};
+use crate::check_listed::check_listed;
 use crate::compare_files::compare;
 use crate::digest_file::digest_bytes_of;
 use crate::explain_fault::explain;
 use crate::input::read_file;
 use crate::output_file::is_standard_output;
 use crate::rewrite_file::rewrite;
-use crate::stopped::{Stopped, stopped_by, with_hint};
+use crate::stopped::{Stopped, status, stopped_by, with_hint};
 use crate::task::{Task, task_of};
 use crate::usage_text::usage_text;
 use clap::error::ErrorKind;
 use cli_arguments::{Ask, ask};
-use cli_faults::{Failure, FileError, Reason, Stop, printed};
+use cli_faults::{Failure, FileError, Reason, printed};
 use cli_reports::{Report, check_within, finish, print_report};
+use packed::FaultCode;
 use std::alloc::Global;
 use std::io;
 use std::io::Write;
@@ -38,23 +37,25 @@ use std::rt::Files;
 /// - 2: usage error; no file was read;
 /// - 3: I/O error, out of memory, or budget spent.
 ///
+/// If several files are checked, it is the greatest of theirs.
+///
 /// Results go to `out`, but only after the whole file was read. Errors go to `err`. If `err` cannot be written, nothing
 /// else changes.
-pub fn go<R: Files + AllocGlobal, W: Write, E: Write>(
+pub fn go<R: Files + Input + AllocGlobal, W: Write, E: Write>(
     rt: &R,
     words: &[&str],
     out: &mut W,
     err: &mut E,
 ) -> u8
     ensures limit { result ≤ 3 }
-    // It does what the arguments ask for, with what reading the file gave. The exit code and the output are those of
+    // It does what the arguments ask for, with what reading the files gave. The exit code and the output are those of
     // that run.
     ensures run { Ran W.contents out.old out.new R.File.contents (map (λ word. word.now) words.now) result }
     // If it succeeds, nothing goes to `err`.
     ensures quiet { result ≡ 0 → err.new ≡ err.old }
 {
     match ask(rt.alloc(), &*words) {
-        Ok(ask) => status(run(rt, ask, out), err),
+        Ok(ask) => run(rt, &ask, out, err),
         Err(usage_error) => report_usage_error(rt.alloc(), &usage_error, &*words, out, err),
     }
 }
@@ -70,31 +71,6 @@ pub fn refuse_words<E: Write>(error: &io::Error, err: &mut E) -> u8
     }
     let _ = writeln!(err, "error: an argument is not UTF-8");
     2
-}
-
-/// The exit code of a run. If the program stopped early, it reports that first, unless what differs was printed.
-fn status<E: Write>(outcome: Result<(), Stopped<'_>>, err: &mut E) -> u8
-    ensures done { IfOk outcome.entry (λ _. result ≡ 0) }
-    ensures stopped { IfErr outcome.entry (λ stopped. result ≡ status_of_stop stopped.stop) }
-    ensures status { result ≡ status_of_outcome outcome.entry }
-    ensures quiet { result ≡ 0 → err.new ≡ err.old }
-{
-    match outcome {
-        Ok(()) => 0,
-        Err(stopped) => {
-            if stopped.stop != Stop::Different {
-                let _ = report(&stopped, err);
-            }
-            stopped.stop.status()
-        }
-    }
-}
-
-/// Prints why a run stopped early.
-fn report<E: Write>(stopped: &Stopped<'_>, err: &mut E) -> io::Result<()>
-    ensures { OnOk result (Appends (E.contents err.old) (E.contents err.new) (stopped_text stopped.now ++ line_feed)) }
-{
-    writeln!(err, "{stopped}")
 }
 
 /// Reports what `clap` returned instead of matches: a usage error, or help or the version.
@@ -122,29 +98,61 @@ fn report_usage_error<W: Write, E: Write>(
     status(print_text(text.as_str(), out), err)
 }
 
-/// Runs the task of the arguments. All arguments are checked before the file is read.
-fn run<'a, R: Files + AllocGlobal, W: Write>(
+/// Runs the task of the arguments, reports why it stopped early, and returns the exit code. All arguments are checked
+/// before a file is read.
+fn run<R: Files + Input + AllocGlobal, W: Write, E: Write>(
     rt: &R,
-    ask: Ask<'a>,
+    ask: &Ask<'_>,
     out: &mut W,
-) -> Result<(), Stopped<'a>>
-    requires file { HasFile ask }
-    requires second { HasSecond ask }
-    ensures { Does W.contents out.old out.new R.File.contents ask.entry result }
+    err: &mut E,
+) -> u8
+    requires file { HasFile ask.now }
+    requires first { HasFirst ask.now }
+    requires second { HasSecond ask.now }
+    ensures limit { result ≤ 3 }
+    ensures does { Does W.contents out.old out.new R.File.contents ask.now result }
+    ensures quiet { result ≡ 0 → err.new ≡ err.old }
 {
-    let task = task_of(ask)?;
+    let task = match task_of(ask) {
+        Ok(task) => task,
+        Err(failure) => return status(Err(Stopped::from(failure)), err),
+    };
+    let bare = ask.bare;
     match task {
-        Task::Print(report) => print_file(rt, report, ask.file.unwrap(), ask.bare, out),
-        Task::CheckWithin(budget) => check_file(rt, budget, ask.file.unwrap(), ask.bare, out),
-        Task::Rewrite(path) => rewrite_file(rt, path, ask.file.unwrap(), ask.bare, out),
-        Task::Digest => digest_file(rt, ask.file.unwrap(), ask.bare, out),
-        Task::Compare(other) => compare_files(rt, other, ask.file.unwrap(), ask.bare, out),
-        Task::Explain(code) => Ok(explain(rt.alloc(), code, out)?),
+        Task::Print(report) => status(print_file(rt, report, ask.file.unwrap(), bare, out), err),
+        Task::CheckWithin(budget) => {
+            status(check_file(rt, budget, ask.file.unwrap(), bare, out), err)
+        }
+        Task::CheckEach(budget) => check_files(
+            rt,
+            ask.files.as_slice(),
+            CheckOptions { bare, budget },
+            out,
+            err,
+        ),
+        Task::CheckListed(budget) => check_listed(rt, CheckOptions { bare, budget }, out, err),
+        Task::Rewrite(path) => status(rewrite_file(rt, path, ask.file.unwrap(), bare, out), err),
+        Task::Digest => status(digest_file(rt, ask.file.unwrap(), bare, out), err),
+        Task::Compare(other) => {
+            status(compare_files(rt, other, ask.file.unwrap(), bare, out), err)
+        }
+        Task::Explain(code) => status(explain_code(rt.alloc(), code, out), err),
     }
 }
 
+/// Explains a fault, or lists all.
+fn explain_code<W: Write>(
+    alloc: Global,
+    code: Option<FaultCode>,
+    out: &mut W,
+) -> Result<(), Stopped<'static>>
+    ensures { IfErr result (λ stopped. (failure : Failed) × StopsBy failure stopped × IsOutput failure) }
+{
+    Ok(explain(alloc, code, out)?)
+}
+
 /// Prints a report on a file.
-fn print_file<'a, R: Files + AllocGlobal, W: Write>(
+fn print_file<'a, R: Files + Input + AllocGlobal, W: Write>(
     rt: &R,
     report: Report,
     file: &'a str,
@@ -172,7 +180,7 @@ fn print_bytes<W: Write>(
 }
 
 /// Checks a file against the rules, within a budget.
-fn check_file<'a, R: Files + AllocGlobal, W: Write>(
+fn check_file<'a, R: Files + Input + AllocGlobal, W: Write>(
     rt: &R,
     budget: u64,
     file: &'a str,
@@ -200,7 +208,7 @@ fn check_bytes<W: Write>(
 }
 
 /// Writes the canonical root of a file to a path, which must not be that of the standard output.
-fn rewrite_file<'a, R: Files + AllocGlobal, W: Write>(
+fn rewrite_file<'a, R: Files + Input + AllocGlobal, W: Write>(
     rt: &R,
     path: &'a str,
     file: &'a str,
@@ -221,7 +229,7 @@ fn rewrite_file<'a, R: Files + AllocGlobal, W: Write>(
 }
 
 /// Writes the canonical root of bytes that were read from a file.
-fn rewrite_bytes<'a, R: Files + AllocGlobal, W: Write>(
+fn rewrite_bytes<'a, R: Files + Input + AllocGlobal, W: Write>(
     rt: &R,
     path: &'a str,
     file: &str,
@@ -236,7 +244,7 @@ fn rewrite_bytes<'a, R: Files + AllocGlobal, W: Write>(
 }
 
 /// Prints the digest of the canonical root of a file.
-fn digest_file<'a, R: Files + AllocGlobal, W: Write>(
+fn digest_file<'a, R: Files + Input + AllocGlobal, W: Write>(
     rt: &R,
     file: &'a str,
     bare: bool,
@@ -263,7 +271,7 @@ fn digest_bytes<W: Write>(
 }
 
 /// Prints what differs between a file and another.
-fn compare_files<'a, R: Files + AllocGlobal, W: Write>(
+fn compare_files<'a, R: Files + Input + AllocGlobal, W: Write>(
     rt: &R,
     other: &'a str,
     file: &'a str,

@@ -1,12 +1,16 @@
 //! Why a run stopped early, and what the user may have meant.
-ghost use Rattle.std.specs.Prelude.{◌≡◌, ◌↔◌, IfErr, IsOk, None, Some};
+ghost use Rattle.std.specs.Prelude.{◌≡◌, ◌↔◌, ◌≤◌, ◌++◌, IfErr, IfOk, IsOk, None, OnOk, Some};
+ghost use Rattle.std.specs.Io.KnownBytes.{Appends};
 ghost use Rattle.cli.specs.Hints.{hint_for};
-ghost use Rattle.cli.specs.Stopped.{IsStopOf, stopped_text};
+ghost use Rattle.cli.specs.Stopped.{IsStopOf, status_of_outcome, stopped_text};
+ghost use Rattle.cli_faults.specs.Stops.{status_of_stop};
+ghost use Rattle.cli_reports.specs.RowTexts.{line_feed};
 ghost use Rattle.cli_faults.specs.declared.stop.Stop.TheVariants.{Failed};
 
 use crate::hint::{Hint, hint_of};
 use cli_faults::{Escaped, Failure, Stop};
-use std::fmt;
+use std::io::Write;
+use std::{fmt, io};
 
 /// Why a run stopped early, and what the user may have meant. `Display` gives the lines for standard error, without the
 /// last line feed: first that of the stop, then that of the file, then that of the hint.
@@ -14,7 +18,7 @@ use std::fmt;
 pub(crate) struct Stopped<'a> {
     /// Why it stopped.
     pub(crate) stop: Stop<'a>,
-    /// The file that the failure is about, if two are read.
+    /// The file that the failure is about, if several are read and the line of the stop does not name it.
     pub(crate) file: Option<&'a str>,
     /// What the user may have meant.
     pub(crate) hint: Option<Hint>,
@@ -44,6 +48,39 @@ pub(crate) fn stopped_by<'a>(outcome: Result<(), Failure<'a>>) -> Result<(), Sto
     ensures { IsStopOf outcome.entry result }
 {
     Ok(outcome?)
+}
+
+/// The exit code of a run. If the program stopped early, it reports that first, unless what differs was printed.
+pub(crate) fn status<E: Write>(outcome: Result<(), Stopped<'_>>, err: &mut E) -> u8
+    ensures done { IfOk outcome.entry (λ _. result ≡ 0) }
+    ensures stopped { IfErr outcome.entry (λ stopped. result ≡ status_of_stop stopped.stop) }
+    ensures status { result ≡ status_of_outcome outcome.entry }
+    ensures limit { result ≤ 3 }
+    ensures quiet { result ≡ 0 → err.new ≡ err.old }
+{
+    match outcome {
+        Ok(()) => 0,
+        Err(stopped) => {
+            if stopped.stop != Stop::Different {
+                let _ = report(&stopped, err);
+            }
+            stopped.stop.status()
+        }
+    }
+}
+
+/// Reports that memory ran out, and returns the exit code for that.
+pub(crate) fn out_of_memory<E: Write>(err: &mut E) -> u8
+    ensures { result ≡ 3 }
+{
+    status(Err(Stopped::from(Failure::OutOfMemory)), err)
+}
+
+/// Prints why a run stopped early.
+fn report<E: Write>(stopped: &Stopped<'_>, err: &mut E) -> io::Result<()>
+    ensures { OnOk result (Appends (E.contents err.old) (E.contents err.new) (stopped_text stopped.now ++ line_feed)) }
+{
+    writeln!(err, "{stopped}")
 }
 
 impl<'a> From<Stop<'a>> for Stopped<'a> {

@@ -1,7 +1,9 @@
 //! What the arguments ask the program to do.
+ghost use Rattle.std.specs.Prelude.{◌≡◌};
 ghost use Rattle.cli_arguments.specs.Asked.{HasSecond};
-ghost use Rattle.cli.specs.Tasks.{IsTask, IsExplainTask};
+ghost use Rattle.cli.specs.Tasks.{IsCheckTask, IsExplainTask, IsTask, task_on_files, task_on_list, task_on_one};
 
+use crate::input::STANDARD_INPUT;
 use crate::numbers::{code_of, token_of};
 use cli_arguments::{Ask, Subcommand};
 use cli_faults::Failure;
@@ -15,6 +17,10 @@ pub(crate) enum Task<'a> {
     Print(Report),
     /// Check a file against the rules. At most this number of signature blob bytes is checked.
     CheckWithin(u64),
+    /// Check each of several files against the rules, with at most this number of signature blob bytes for each.
+    CheckEach(Option<u64>),
+    /// The same for the files that the standard input lists.
+    CheckListed(Option<u64>),
     /// Write the canonical root of a file to this path.
     Rewrite(&'a str),
     /// Print the digest of the canonical root of a file.
@@ -26,16 +32,13 @@ pub(crate) enum Task<'a> {
 }
 
 /// The task of the arguments. It is known before the file is read.
-pub(crate) fn task_of<'a>(ask: Ask<'a>) -> Result<Task<'a>, Failure<'a>>
-    requires { HasSecond ask }
-    ensures { IsTask ask.entry.subcommand ask.entry result }
+pub(crate) fn task_of<'a>(ask: &Ask<'a>) -> Result<Task<'a>, Failure<'a>>
+    requires { HasSecond ask.now }
+    ensures { IsTask ask.now.subcommand ask.now result }
 {
     Ok(match ask.subcommand {
         Subcommand::Root => Task::Print(Report::Root),
-        Subcommand::Check => match ask.budget {
-            Some(budget) => Task::CheckWithin(budget),
-            None => Task::Print(Report::Check),
-        },
+        Subcommand::Check => return check_of(ask),
         Subcommand::Show => Task::Print(Report::Show),
         Subcommand::Types => Task::Print(Report::Types),
         Subcommand::Token => {
@@ -48,6 +51,50 @@ pub(crate) fn task_of<'a>(ask: Ask<'a>) -> Result<Task<'a>, Failure<'a>>
         Subcommand::Compare => Task::Compare(ask.second.unwrap()),
         Subcommand::Explain => return explanation_of(ask.code),
     })
+}
+
+/// The task of `check`: the names of the files are arguments, or the standard input lists them.
+fn check_of<'a>(ask: &Ask<'a>) -> Result<Task<'a>, Failure<'a>>
+    ensures { IsCheckTask ask.now result }
+{
+    match ask.files_from {
+        Some(source) if source == STANDARD_INPUT => check_of_list(ask.budget, ask.files.as_slice()),
+        Some(source) => Err(Failure::NoList(source)),
+        None if ask.null => check_of_list(ask.budget, ask.files.as_slice()),
+        None => check_of_files(ask.budget, ask.files.as_slice()),
+    }
+}
+
+/// The task of `check` for one file.
+fn check_of_one(budget: Option<u64>) -> Task<'static>
+    ensures { result ≡ task_on_one budget }
+{
+    match budget {
+        Some(budget) => Task::CheckWithin(budget),
+        None => Task::Print(Report::Check),
+    }
+}
+
+/// The task of `check` for these files.
+fn check_of_files<'a>(budget: Option<u64>, files: &[&'a str]) -> Result<Task<'a>, Failure<'a>>
+    ensures { result ≡ task_on_files budget files.now }
+{
+    match files {
+        [] => Err(Failure::NoFile),
+        [_] => Ok(check_of_one(budget)),
+        _ => Ok(Task::CheckEach(budget)),
+    }
+}
+
+/// The task of `check` for the files of a list, besides these files.
+fn check_of_list<'a>(budget: Option<u64>, files: &[&'a str]) -> Result<Task<'a>, Failure<'a>>
+    ensures { result ≡ task_on_list budget files.now }
+{
+    if files.is_empty() {
+        Ok(Task::CheckListed(budget))
+    } else {
+        Err(Failure::FilesAndList)
+    }
 }
 
 /// The task of `explain`: explain the fault with this number, or list all if there is no argument.

@@ -1,4 +1,5 @@
-//! Tests of `cli`: budgets, `rewrite`, `digest`, `compare`, hints, escaped arguments, and files and outputs that fail.
+//! Tests of `cli`: budgets, `rewrite`, `digest`, `compare`, `check` of several files, the standard input, hints, escaped
+//! arguments, and files and outputs that fail.
 
 mod budgets;
 mod comparing;
@@ -7,4 +8,5 @@ mod escaping;
 mod hints;
 mod replacing;
 mod rewriting;
+mod several;
 mod writers;

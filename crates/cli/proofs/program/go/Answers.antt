@@ -3,7 +3,7 @@ use Rattle.clap.specs.Words.{kind_of}
 use Rattle.cli.proofs.program.go.Goals as goal
 
 pub returns-in-Ok-clause-run : goal.returns-in-Ok-clause-run
-returns-in-Ok-clause-run g c = inl (c.in-Ok.ask, c.in-Ok.ensures.given, c.run.result, c.run.ensures, c.status.ensures.status)
+returns-in-Ok-clause-run g c = inl (c.in-Ok.ask, c.in-Ok.ensures.given, c.run.ensures.does)
 
 pub returns-in-Err-clause-run : goal.returns-in-Err-clause-run
 returns-in-Err-clause-run g c = inr (kind_of c.in-Err.usage_error, c.in-Err.ensures.refused, c.report_usage_error.ensures.usage)

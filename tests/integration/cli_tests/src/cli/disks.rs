@@ -1,14 +1,14 @@
 use cli::go;
 use std::alloc::{Allocator, Global};
 use std::fs::{File, Metadata, OpenFile, OpenOptions, Permissions};
-use std::io::{ErrorKind, Read, Seek, SeekFrom, Write};
+use std::io::{BufRead, ErrorKind, Lines, Read, Seek, SeekFrom, Write};
 use std::path::PathBuf;
 use std::rt::Files;
 use std::test::Fail;
 use std::{fs, io};
 
 /// The disk of the host, on which each open file takes a number of bytes and then no more, and on which a file can
-/// report another length than it has.
+/// report another length than it has; and a standard input of some bytes.
 #[derive(Clone, Copy)]
 pub struct Disk<'a> {
     pub host: &'a HostRuntime,
@@ -18,6 +18,24 @@ pub struct Disk<'a> {
     pub reported: Option<u64>,
     /// Whether files can be read.
     pub is_readable: bool,
+    /// What the standard input has.
+    pub input: &'a [u8],
+}
+
+impl<'a> Input for Disk<'a> {
+    type Reader = &'a [u8];
+
+    fn read_line<A: Allocator + Clone>(&self, buf: &mut String<A>) -> io::Result<usize> {
+        self.reader().read_line(buf)
+    }
+
+    fn lines<A: Allocator>(&self, alloc: A) -> Lines<&'a [u8], A> {
+        self.reader().lines(alloc)
+    }
+
+    fn reader(&self) -> &'a [u8] {
+        self.input
+    }
 }
 
 /// An open file of such a disk.

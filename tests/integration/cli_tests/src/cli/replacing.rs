@@ -13,6 +13,7 @@ fn disk(rt: &HostRuntime, room: usize) -> Disk<'_> {
         room,
         reported: None,
         is_readable: true,
+        input: &[],
     }
 }
 

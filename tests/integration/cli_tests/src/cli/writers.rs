@@ -76,9 +76,9 @@ fn stands_full_devices(rt: HostRuntime) -> Result<(), Fail> {
 
 /// A device that takes a number of bytes, a few at a time, and then no more.
 #[derive(Drop)]
-struct Narrow {
-    taken: Vec<u8>,
-    room: usize,
+pub struct Narrow {
+    pub taken: Vec<u8>,
+    pub room: usize,
 }
 
 impl Write for Narrow {

@@ -41,7 +41,7 @@ fn print_what_help_reports(rt: HostRuntime) -> Result<(), Fail> {
     fs::write(&rt, "two_types.root", TWO_TYPES.as_slice())?;
     for (name, count) in [
         ("root", 2),
-        ("check", 2),
+        ("check", 3),
         ("show", 1),
         ("types", 1),
         ("token", 2),

@@ -14,7 +14,7 @@ const LINES_IN_HELP: &str = "\
 ";
 
 /// Arguments that are a usage error, and what the program prints for them.
-const REFUSED: [(&[&str], &str); 34] = [
+const REFUSED: [(&[&str], &str); 41] = [
     (&[], "Usage: clim <COMMAND>"),
     (&["clim"], "Usage: clim <COMMAND>"),
     (&["clim", "lacks"], "unrecognized subcommand 'lacks'"),
@@ -22,11 +22,30 @@ const REFUSED: [(&[&str], &str); 34] = [
         &["clim", "checks", "--bare", "lacks"],
         "unrecognized subcommand 'checks'",
     ),
-    (&["clim", "check"], "Usage: clim check <FILE>"),
+    (&["clim", "check"], "error: FILE is missing, and so is '--files-from -'\n"),
+    (&["clim", "check", "--bare"], "error: FILE is missing"),
     (
-        &["clim", "check", "lacks", "more"],
-        "unexpected argument 'more'",
+        &["clim", "check", "-0", "lacks"],
+        "error: '--files-from' and FILE exclude each other\n",
     ),
+    (
+        &["clim", "check", "lacks", "--files-from", "-"],
+        "error: '--files-from' and FILE exclude each other\n",
+    ),
+    (
+        &["clim", "check", "--files-from", "lacks"],
+        "error: '--files-from' takes '-', the standard input, not 'lacks'\n",
+    ),
+    (
+        &["clim", "check", "--files-from", "lacks", "-0"],
+        "error: '--files-from' takes '-', the standard input, not 'lacks'\n",
+    ),
+    (
+        &["clim", "check", "--files-from"],
+        "a value is required for '--files-from <->'",
+    ),
+    (&["clim", "check", "-00"], "cannot be used multiple times"),
+    (&["clim", "show", "-0", "lacks"], "unexpected argument '-0'"),
     (
         &["clim", "check", "--budget", "few", "lacks"],
         "invalid value 'few' for '--budget <N>'",
@@ -171,7 +190,7 @@ fn helps_with_each_subcommand(rt: HostRuntime) -> Result<(), Fail> {
         ),
         (
             "check",
-            "Usage: clim check [OPTIONS] <FILE>",
+            "Usage: clim check [OPTIONS] [FILE]...",
             "\n  $ clim check --bare ",
         ),
         (
@@ -222,93 +241,120 @@ fn helps_with_each_subcommand(rt: HostRuntime) -> Result<(), Fail> {
     Ok(())
 }
 
+/// The values that arguments give, in the order of the fields of `Ask`.
+type Given<'a> = (
+    Subcommand,
+    bool,
+    Option<&'a str>,
+    Option<&'a str>,
+    Option<u64>,
+    Option<&'a str>,
+);
+
+/// What the arguments ask for, but for the list of files.
+fn given<'a>(asked: &Ask<'a>) -> Given<'a> {
+    (
+        asked.subcommand,
+        asked.bare,
+        asked.file,
+        asked.second,
+        asked.budget,
+        asked.code,
+    )
+}
+
 #[test]
 fn asks(rt: HostRuntime) -> Result<(), Fail> {
-    let want = Ask {
-        subcommand: Subcommand::Root,
-        bare: true,
-        file: Some("a.root"),
-        second: None,
-        budget: None,
-        code: None,
-    };
-    assert_eq!(rt;
-        ask(rt.alloc(), &["clim", "root", "a.root", "--bare"])?,
-        want
-    );
-    let want = Ask {
-        subcommand: Subcommand::Check,
-        bare: false,
-        file: Some("a.dll"),
-        second: None,
-        budget: None,
-        code: None,
-    };
-    assert_eq!(rt; ask(rt.alloc(), &["clim", "check", "a.dll"])?, want);
-    for (words, code) in [
-        (["clim", "explain"].as_slice(), None),
-        (&["clim", "explain", "501"], Some("501")),
-        (&["clim", "explain", "help"], Some("help")),
+    for (words, want) in [
+        (
+            ["clim", "root", "a.root", "--bare"].as_slice(),
+            (Subcommand::Root, true, Some("a.root"), None, None, None),
+        ),
+        (
+            &["clim", "check", "a.dll"],
+            (Subcommand::Check, false, Some("a.dll"), None, None, None),
+        ),
+        (
+            &["clim", "explain"],
+            (Subcommand::Explain, false, None, None, None, None),
+        ),
+        (
+            &["clim", "explain", "501"],
+            (Subcommand::Explain, false, None, None, None, Some("501")),
+        ),
+        (
+            &["clim", "explain", "help"],
+            (Subcommand::Explain, false, None, None, None, Some("help")),
+        ),
+        (
+            &["clim", "token", "a.root", "--bare", "6000001"],
+            (
+                Subcommand::Token,
+                true,
+                Some("a.root"),
+                Some("6000001"),
+                None,
+                None,
+            ),
+        ),
+        (
+            &["clim", "check", "--budget", "0", "a.dll"],
+            (Subcommand::Check, false, Some("a.dll"), None, Some(0), None),
+        ),
+        (
+            &["clim", "check", "--budget", "18446744073709551615", "a.dll"],
+            (
+                Subcommand::Check,
+                false,
+                Some("a.dll"),
+                None,
+                Some(u64::MAX),
+                None,
+            ),
+        ),
+        (
+            &["clim", "rewrite", "a.dll", "a.root"],
+            (
+                Subcommand::Rewrite,
+                false,
+                Some("a.dll"),
+                Some("a.root"),
+                None,
+                None,
+            ),
+        ),
     ] {
-        let want = Ask {
-            subcommand: Subcommand::Explain,
-            bare: false,
-            file: None,
-            second: None,
-            budget: None,
-            code,
-        };
-        assert_eq!(rt; ask(rt.alloc(), words)?, want);
-    }
-    let want = Ask {
-        subcommand: Subcommand::Token,
-        bare: true,
-        file: Some("a.root"),
-        second: Some("6000001"),
-        budget: None,
-        code: None,
-    };
-    assert_eq!(rt;
-        ask(
-            rt.alloc(),
-            &["clim", "token", "a.root", "--bare", "6000001"]
-        )?,
-        want
-    );
-    Ok(())
-}
-
-#[test]
-fn asks_within_a_budget(rt: HostRuntime) -> Result<(), Fail> {
-    for (word, budget) in [("0", 0), ("18446744073709551615", u64::MAX)] {
-        let words = ["clim", "check", "--budget", word, "a.dll"];
-        let want = Ask {
-            subcommand: Subcommand::Check,
-            bare: false,
-            file: Some("a.dll"),
-            second: None,
-            budget: Some(budget),
-            code: None,
-        };
-        assert_eq!(rt; ask(rt.alloc(), &words)?, want);
+        let asked = ask(rt.alloc(), words)?;
+        assert_eq!(rt; given(&asked), want);
+        assert!(rt; asked.files.as_slice().first().copied() == asked.file);
+        assert!(rt; asked.files_from.is_none() && !asked.null);
     }
     Ok(())
 }
 
+/// Options between the files change nothing, and after `--` each argument is a file.
 #[test]
-fn asks_for_an_output(rt: HostRuntime) -> Result<(), Fail> {
-    let want = Ask {
-        subcommand: Subcommand::Rewrite,
-        bare: false,
-        file: Some("a.dll"),
-        second: Some("a.root"),
-        budget: None,
-        code: None,
-    };
-    assert_eq!(rt;
-        ask(rt.alloc(), &["clim", "rewrite", "a.dll", "a.root"])?,
-        want
-    );
+fn asks_for_several_files(rt: HostRuntime) -> Result<(), Fail> {
+    let words = ["clim", "check", "a", "b", "--bare", "-", "--budget=7", "c", "--", "-0"];
+    let asked = ask(rt.alloc(), &words)?;
+    assert_eq!(rt; asked.files.as_slice(), ["a", "b", "-", "c", "-0"].as_slice());
+    assert_eq!(rt; given(&asked), (Subcommand::Check, true, Some("a"), None, Some(7), None));
+    assert!(rt; asked.files_from.is_none() && !asked.null);
+    Ok(())
+}
+
+#[test]
+fn asks_for_a_list(rt: HostRuntime) -> Result<(), Fail> {
+    for (words, source, null) in [
+        (["clim", "check", "-0"].as_slice(), None, true),
+        (&["clim", "check", "--files-from", "-"], Some("-"), false),
+        (&["clim", "check", "--files-from=-", "-0"], Some("-"), true),
+        (&["clim", "check", "--files-from=x"], Some("x"), false),
+    ] {
+        let asked = ask(rt.alloc(), words)?;
+        assert_eq!(rt; (asked.files_from, asked.null), (source, null));
+        assert!(rt; asked.files.is_empty() && asked.file.is_none());
+    }
     Ok(())
 }
 
