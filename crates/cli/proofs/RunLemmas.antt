@@ -11,14 +11,17 @@ use Rattle.cli_faults.specs.declared.stop.Stop.TheVariants.{BudgetSpent, Differe
 use Rattle.cli_reports.specs.Checked.{IsWhole, rules_of, signature_bytes_of}
 use Rattle.sha2.specs.Sha256.{sha256}
 use Rattle.cli_reports.specs.Digests.{digest_text}
-use Rattle.cli_reports.specs.Printed.{IsReportText, check_text}
-use Rattle.cli_reports.specs.Reported.{IsMet, LeavesOutput, Reports}
+use Rattle.cli_outline.specs.Outline.{IsLine, outline_rows}
+use Rattle.cli_outline.specs.Sent.{PrintsLines}
+use Rattle.metadata.specs.Metadata.{Metadata}
+use Rattle.cli_reports.specs.Printed.{IsModelOf, IsReportText, check_text}
+use Rattle.cli_reports.specs.Reported.{IsMet, LeavesOutput, Reports, ReportsFault}
 use Rattle.cli_reports.specs.Sent.{Prints, SendsPrefix}
 use Rattle.cli_faults.specs.Stops.{status_of_stop}
 use Rattle.cli_reports.specs.Stops.{StopLeavesOutput, StopsWithin}
 use Rattle.cli.specs.Hints.{hint_for}
 use Rattle.cli.specs.Rewritten.{IsGiven, IsRewritten, ReportsUnwritten}
-use Rattle.cli.specs.Runs.{DigestsPart, IsChecked, IsDigesting, IsReported, IsRewriting, PrintsPart, wrote_text}
+use Rattle.cli.specs.Runs.{DigestsPart, IsChecked, IsDigesting, IsOutlined, IsReported, IsRewriting, PrintsPart, wrote_text}
 use Rattle.cli.specs.Stopped.{IsStopOf, Outcome}
 
 -- a hint for a result that stopped
@@ -37,6 +40,23 @@ module _ {W : Type 0} (contents : W → Option (List ℕ)) (before after : W) (b
   reported report (Err failure) (Ok same) last met reports leaves printed stops ok hinted = absurd stops
   reported report (Err failure) (Err stop) (Ok end) met reports leaves printed stops ok hinted = let no = ok.0 refl in cc
   reported report (Err failure) (Err stop) (Err stopped) met reports leaves printed stops ok hinted = record {
+    met = tt;
+    printed = printed;
+    stopped = (failure, rw hinted.0 stops, reports, leaves);
+    hint = rw hinted.0 hinted.1;
+  }
+
+  pub outlined : (first : Result (Unit {0}) Failure) (second : Result (Unit {0}) Stop) (last : Outcome)
+      → OnOk first (IsWhole bare bytes) → IfErr first (ReportsFault (IsWhole bare bytes) (rules_of bare bytes)) → IfErr first (LeavesOutput before after)
+      → ((model : Metadata) → IsModelOf bare bytes model → PrintsLines (IsLine model) (contents before) (contents after) first (outline_rows model))
+      → IsStopOf first second → IsOk last ↔ IsOk second → Hinted bare bytes second last
+      → IsOutlined contents before after bare bytes last
+  outlined (Ok done) (Ok same) (Ok end) met reports leaves printed stops ok hinted = record { met = met; printed = printed; stopped = tt; hint = tt }
+  outlined (Ok done) (Ok same) (Err stopped) met reports leaves printed stops ok hinted = let no = ok.1 refl in cc
+  outlined (Ok done) (Err stop) last met reports leaves printed stops ok hinted = cc
+  outlined (Err failure) (Ok same) last met reports leaves printed stops ok hinted = absurd stops
+  outlined (Err failure) (Err stop) (Ok end) met reports leaves printed stops ok hinted = let no = ok.0 refl in cc
+  outlined (Err failure) (Err stop) (Err stopped) met reports leaves printed stops ok hinted = record {
     met = tt;
     printed = printed;
     stopped = (failure, rw hinted.0 stops, reports, leaves);

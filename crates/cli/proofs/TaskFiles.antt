@@ -35,6 +35,7 @@ never_both (task.CheckWithin budget) one explains = explains
 never_both (task.CheckEach budget) one explains = explains
 never_both (task.CheckListed budget) one explains = explains
 never_both (task.Rewrite path) one explains = explains
+never_both task.Outline one explains = explains
 never_both task.Digest one explains = explains
 never_both (task.Compare other) one explains = explains
 never_both (task.Explain code) one explains = one
@@ -90,6 +91,7 @@ file_there ask made one has first is = go ask.subcommand refl is
     go word.Types same is = has (λ no. let bad = sym same ∙ no in cc) (λ no. let bad = sym same ∙ no in cc)
     go word.Token same is = has (λ no. let bad = sym same ∙ no in cc) (λ no. let bad = sym same ∙ no in cc)
     go word.Rewrite same is = has (λ no. let bad = sym same ∙ no in cc) (λ no. let bad = sym same ∙ no in cc)
+    go word.Outline same is = has (λ no. let bad = sym same ∙ no in cc) (λ no. let bad = sym same ∙ no in cc)
     go word.Digest same is = has (λ no. let bad = sym same ∙ no in cc) (λ no. let bad = sym same ∙ no in cc)
     go word.Compare same is = has (λ no. let bad = sym same ∙ no in cc) (λ no. let bad = sym same ∙ no in cc)
     go word.Explain same is = absurd (never_both made one (explained ask made is))

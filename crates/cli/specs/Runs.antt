@@ -12,11 +12,14 @@ use Rattle.cli_faults.specs.declared.failure.Failure.{Failure}
 use Rattle.cli_faults.specs.Status.{IsOutput, IsUnwritten, status_of}
 use Rattle.cli_reports.specs.declared.report.Report.{Report}
 use Rattle.cli_faults.specs.declared.stop.Stop.TheVariants.{Failed}
+use Rattle.cli_outline.specs.Outline.{IsLine, outline_rows}
+use Rattle.cli_outline.specs.Sent.{PrintsLines}
 use Rattle.cli_reports.specs.Checked.{IsWhole, rules_of, signature_bytes_of}
+use Rattle.metadata.specs.Metadata.{Metadata}
 use Rattle.sha2.specs.Sha256.{sha256}
 use Rattle.cli_reports.specs.Digests.{digest_text}
-use Rattle.cli_reports.specs.Printed.{IsReportText, check_text}
-use Rattle.cli_reports.specs.Reported.{IsMet, LeavesOutput, Reports}
+use Rattle.cli_reports.specs.Printed.{IsModelOf, IsReportText, check_text}
+use Rattle.cli_reports.specs.Reported.{IsMet, LeavesOutput, Reports, ReportsFault}
 use Rattle.cli_reports.specs.RowTexts.{line_feed}
 use Rattle.cli_reports.specs.Sent.{Prints, SendsPrefix}
 use Rattle.cli_reports.specs.Stops.{StopLeavesOutput, StopsWithin}
@@ -57,6 +60,15 @@ module _ {W : Type 0} (contents : W → Option (List ℕ)) (before after : W) wh
     pub printed : (text : List ℕ) → IsReportText report bare bytes text → Prints (contents before) (contents after) outcome text
     pub stopped : IfErr outcome (λ stopped. (failure : Failure) × (stopped.stop ≡ Failed failure)
         × Reports report bare bytes failure × LeavesOutput before after failure)
+    pub hint : IfErr outcome (λ stopped. stopped.hint ≡ hint_for bare bytes stopped.stop)
+
+  -- The outline of the bytes' model was printed: the lines of its declarations, and nothing else. If it stopped, the
+  -- first broken rule is reported, or what else failed. Only a failure of the output or of memory comes after a prefix.
+  pub record IsOutlined (bare : Bool) (bytes : List ℕ) (outcome : Outcome) : Type 0 where
+    pub met : OnOk outcome (IsWhole bare bytes)
+    pub printed : (model : Metadata) → IsModelOf bare bytes model → PrintsLines (IsLine model) (contents before) (contents after) outcome (outline_rows model)
+    pub stopped : IfErr outcome (λ stopped. (failure : Failure) × (stopped.stop ≡ Failed failure)
+        × ReportsFault (IsWhole bare bytes) (rules_of bare bytes) failure × LeavesOutput before after failure)
     pub hint : IfErr outcome (λ stopped. stopped.hint ≡ hint_for bare bytes stopped.stop)
 
   -- the same for `check` with a budget
@@ -113,6 +125,7 @@ module _ {W : Type 0} (contents : W → Option (List ℕ)) (before after : W) wh
   IsRunOf file_contents (task.CheckListed budget) ask status = IsRunOnList contents before after budget ask.bare status
   IsRunOf file_contents (task.Rewrite out) ask status =
       EndsOn ask.file status (λ path outcome. IsRunOn path (IsRewriting file_contents out.now ask.bare) outcome ⊎ IsMixed out.now outcome)
+  IsRunOf file_contents task.Outline ask status = EndsOn ask.file status (λ path. IsRunOn path (IsOutlined ask.bare))
   IsRunOf file_contents task.Digest ask status = EndsOn ask.file status (λ path. IsRunOn path (IsDigesting path ask.bare))
   IsRunOf file_contents (task.Compare other) ask status =
       EndsOn ask.file status (λ path. IsRunOn path (λ left. IsRunOn other.now (λ right. IsComparing contents before after ask.bare left right path other.now)))

@@ -69,6 +69,7 @@ IsTask word.Root ask result = result ≡ Ok (task.Print report.Root)
 IsTask word.Check ask result = IsCheckTask ask result
 IsTask word.Show ask result = result ≡ Ok (task.Print report.Show)
 IsTask word.Types ask result = result ≡ Ok (task.Print report.Types)
+IsTask word.Outline ask result = result ≡ Ok task.Outline
 IsTask word.Token ask result = IfSome ask.second (λ hex. IsTokenTask hex.now result)
 IsTask word.Rewrite ask result = IfSome ask.second (λ out. result ≡ Ok (task.Rewrite out))
 IsTask word.Digest ask result = result ≡ Ok task.Digest

@@ -6,7 +6,7 @@ ghost use Rattle.cli_arguments.specs.Asked.{HasFile, HasFirst, HasSecond};
 ghost use Rattle.cli_faults.specs.declared.failure.Failure.{Failure as Failed};
 ghost use Rattle.cli_faults.specs.Status.{IsOutput};
 ghost use Rattle.cli.specs.Compared.{IsComparing};
-ghost use Rattle.cli.specs.Runs.{Does, IsChecked, IsDigesting, IsMixed, IsReported, IsRewriting, IsRunOn, IsUsage, Ran, StopsBy};
+ghost use Rattle.cli.specs.Runs.{Does, IsChecked, IsDigesting, IsMixed, IsOutlined, IsReported, IsRewriting, IsRunOn, IsUsage, Ran, StopsBy};
 
 use crate::check_files::{CheckOptions, check_files};
 use crate::check_listed::check_listed;
@@ -22,6 +22,7 @@ use crate::usage_text::usage_text;
 use clap::error::ErrorKind;
 use cli_arguments::{Ask, ask};
 use cli_faults::{Failure, FileError, Reason, printed};
+use cli_outline::report_outline;
 use cli_reports::{Report, check_within, finish, print_report};
 use packed::FaultCode;
 use std::alloc::Global;
@@ -132,6 +133,7 @@ fn run<R: Files + Input + AllocGlobal, W: Write, E: Write>(
         ),
         Task::CheckListed(budget) => check_listed(rt, CheckOptions { bare, budget }, out, err),
         Task::Rewrite(path) => status(rewrite_file(rt, path, ask.file.unwrap(), bare, out), err),
+        Task::Outline => status(outline_file(rt, ask.file.unwrap(), bare, out), err),
         Task::Digest => status(digest_file(rt, ask.file.unwrap(), bare, out), err),
         Task::Compare(other) => {
             status(compare_files(rt, other, ask.file.unwrap(), bare, out), err)
@@ -176,6 +178,32 @@ fn print_bytes<W: Write>(
     ensures { IsReported W.contents out.old out.new report bare bytes.now result }
 {
     let outcome = print_report(alloc, report, bare, bytes, out);
+    with_hint(stopped_by(outcome), bare, bytes)
+}
+
+/// Prints the declarations of a file.
+fn outline_file<'a, R: Files + Input + AllocGlobal, W: Write>(
+    rt: &R,
+    file: &'a str,
+    bare: bool,
+    out: &mut W,
+) -> Result<(), Stopped<'a>>
+    ensures { IsRunOn W.contents out.old out.new file.now (IsOutlined W.contents out.old out.new bare) result }
+{
+    let bytes = read_file(rt, file)?;
+    outline_bytes(rt.alloc(), &bytes, bare, out)
+}
+
+/// Prints the declarations in bytes that were read.
+fn outline_bytes<W: Write>(
+    alloc: Global,
+    bytes: &[u8],
+    bare: bool,
+    out: &mut W,
+) -> Result<(), Stopped<'static>>
+    ensures { IsOutlined W.contents out.old out.new bare bytes.now result }
+{
+    let outcome = report_outline(alloc, bare, bytes, out);
     with_hint(stopped_by(outcome), bare, bytes)
 }
 

@@ -23,6 +23,8 @@ pub(crate) enum Task<'a> {
     CheckListed(Option<u64>),
     /// Write the canonical root of a file to this path.
     Rewrite(&'a str),
+    /// Print the declarations of a file.
+    Outline,
     /// Print the digest of the canonical root of a file.
     Digest,
     /// Print what differs between a file and the one at this path.
@@ -41,6 +43,7 @@ pub(crate) fn task_of<'a>(ask: &Ask<'a>) -> Result<Task<'a>, Failure<'a>>
         Subcommand::Check => return check_of(ask),
         Subcommand::Show => Task::Print(Report::Show),
         Subcommand::Types => Task::Print(Report::Types),
+        Subcommand::Outline => Task::Outline,
         Subcommand::Token => {
             let word = ask.second.unwrap();
             let number = token_of(word).ok_or(Failure::NoToken(word))?;

@@ -14,6 +14,10 @@ pub unwrap-requires-in-Rewrite : goal.unwrap-requires-in-Rewrite
 unwrap-requires-in-Rewrite g c =
     file_there c.args.ask.now c.in-Ok.task (is_on_one c.in-Ok.task (task.Rewrite c.in-Rewrite.path) c.in-Rewrite.is tt) c.requires.file c.requires.first c.in-Ok.ensures
 
+pub unwrap-requires-in-Outline : goal.unwrap-requires-in-Outline
+unwrap-requires-in-Outline g c =
+    file_there c.args.ask.now c.in-Ok.task (is_on_one c.in-Ok.task task.Outline c.in-Outline.is tt) c.requires.file c.requires.first c.in-Ok.ensures
+
 pub unwrap-requires-in-Digest : goal.unwrap-requires-in-Digest
 unwrap-requires-in-Digest g c =
     file_there c.args.ask.now c.in-Ok.task (is_on_one c.in-Ok.task task.Digest c.in-Digest.is tt) c.requires.file c.requires.first c.in-Ok.ensures
