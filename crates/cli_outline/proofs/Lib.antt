@@ -4,3 +4,4 @@ pub mod LayoutLemmas
 pub mod OutlineLemmas
 pub mod PieceLemmas
 pub mod ReferenceLemmas
+pub mod Outcomes

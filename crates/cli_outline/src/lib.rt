@@ -15,6 +15,8 @@ mod layouts;
 mod lines;
 mod outline;
 mod pieces;
+mod report;
 mod row_line;
 
 pub use outline::print_outline;
+pub use report::report_outline;
