@@ -1,5 +1,6 @@
 -- The numbers in slots.
-use Rattle.std.proofs.Common.{◌≡◌, ◌≢◌, ℕ, ◌+◌, ◌<◌, ◌≤◌, ◌%◌, ◌/◌, List, length, replicate, slice_index, slice_set, sym, subst, ◌∙◌, inl, inr, arith}
+use Rattle.std.proofs.Common.{◌≡◌, ◌≢◌, ℕ, ◌+◌, ◌<◌, ◌≤◌, ◌%◌, ◌/◌, List, length, replicate, slice_index, slice_set, nat_eq, nat_lt, sym, subst, ◌∙◌, inl, inr, arith}
+use Rattle.std.specs.Prelude.{◌&&◌, ◌||◌, IsTrue}
 use Rattle.std.proofs.lemmas.Bool.{cases_eq, cases_lt}
 use Rattle.std.proofs.lemmas.Bool.Decides.{nat_tests}
 use Rattle.std.proofs.lemmas.Grind.{get_or-set_at}
@@ -26,12 +27,15 @@ slots_more P starts slot start within here before k some =
       | inr other ↦ rw (get_or-set_other starts slot k start 0 other) (before k (λ none. some (get_or-set_other starts slot k start 0 other ∙ none)))
     ]
 
+-- slots that hold 0 keep no number
+no_number : (number recent long : ℕ) → recent ≡ 0 → long ≡ 0 → ¬ IsTrue (nat_lt 0 number && (nat_eq recent number || nat_eq long number))
+no_number number recent long none nothing keeps = grind (arith, nat_tests)
+
 -- empty slots keep no number
 pub none_kept : (bytes number : ℕ) → ¬ Keeps (no_slots bytes) number
-none_kept bytes number keeps =
-    let recent = none_padded (number % 1024) in
-    let long = none_padded (number / (bytes / 1024 + 1) % 1024) in
-    grind (arith, nat_tests)
+none_kept bytes number =
+    no_number number (slice_index (replicate 4096 0) (number % 4096)) (slice_index (replicate 1024 0) (number / (bytes / 1024 + 1) % 1024))
+    (none_in 4096 (number % 4096)) (none_padded (number / (bytes / 1024 + 1) % 1024))
 
 -- a property of the numbers of the rows before one, and of that row's number
 pub one_more : (P : ℕ → Type 0) (value : ℕ → ℕ) (row number : ℕ) → ((r : ℕ) → 1 ≤ r → r < row → P (value r)) → number ≡ value row → P number

@@ -1,3 +1,4 @@
+pub mod Blobs
 pub mod Budgets
 pub mod CodedLimits
 pub mod Columns

@@ -1,6 +1,7 @@
-ghost use Rattle.std.specs.Prelude.{◌≡◌, ◌≤◌, ◌<◌, ◌+◌, ◌∷◌, [], ◌↔◌, ℕ, IsTrue, Ok, false, length};
+ghost use Rattle.std.specs.Prelude.{◌≡◌, ◌≤◌, ◌<◌, ◌+◌, ◌∷◌, [], ◌↔◌, ℕ, List, IsTrue, Ok, false, length};
 ghost use Rattle.packed.specs.declared.code.FaultCode.TheVariants.{BadIndex, BadList};
 ghost use Rattle.packed.specs.Rule.{Reports, HoldBefore, rule};
+ghost use Rattle.heap_entries.specs.Entries.{IsBlob};
 ghost use Rattle.table_schema.specs.declared.column.ColumnKind.TheVariants as kind;
 ghost use Rattle.table_schema.specs.Columns.{columns_of};
 ghost use Rattle.table_schema.specs.declared.table.TableId.{TableId as Table};
@@ -10,6 +11,7 @@ ghost use Rattle.checks.specs.CodedLimits.{AreLimits};
 ghost use Rattle.checks.specs.Columns.{AllPass, IsChecked, ColumnStands};
 ghost use Rattle.metadata.specs.Rules.{MayRefer, rules_of_number, rules_of_cell, rules_of_row, rules_of_table, rules_of_cells};
 
+use crate::blobs::Blobs;
 use crate::coded_limits::{is_below_limit, limits_by_tag};
 use crate::column::{first_failing, first_refused, greatest_number};
 use crate::texts::Texts;
@@ -100,25 +102,15 @@ fn first_in_column(
             first_refused(source, table, column, limit, check)
         }
         ColumnKind::Blob | ColumnKind::Signature(_) => {
+            let blobs = Blobs::new(source.blobs());
             let passes = |number|
-                ensures { IsTrue result → IsChecked source.entry.now.source kind.Blob false number (Ok tt) }
-            { has_blob(source, number) };
+                ensures { IsTrue result → (blob : List ℕ) × IsBlob blobs.entry number blob }
+            { blobs.has(number) };
             first_failing(source, table, column, limit, passes)
         }
         ColumnKind::Row(_) | ColumnKind::Coded(_) | ColumnKind::List(_) => first_index(
             source, table, column, limit,
         ),
-    }
-}
-
-/// Whether a blob is at an index.
-#[inline]
-fn has_blob(source: &Source, index: u32) -> bool
-    ensures { IsTrue result → IsChecked source.now.source kind.Blob false index (Ok tt) }
-{
-    match source.check_blob(index) {
-        Ok(()) => true,
-        Err(_) => false,
     }
 }
 

@@ -58,13 +58,7 @@ pub fn first_failing<F: Fn(u32) -> bool>(
     ensures last { result ≤ limit }
     ensures passed { AllPass (λ number. F.post passes number true) source.now.source table column result }
 {
-    let numbers = source.column(table, column);
-    for row in 1..limit {
-        if !passes(numbers.number(row)) {
-            return row;
-        }
-    }
-    limit
+    source.column(table, column).first_failing(limit, passes)
 }
 
 /// The greatest number in a column before row `limit`; 0 if there is no such row.
@@ -74,10 +68,5 @@ pub fn greatest_number(source: &Source, table: TableId, column: usize, limit: u3
     requires last { limit ≤ rows_in source.now.source table + 1 }
     ensures { AllPass (λ number. number ≤ result) source.now.source table column limit }
 {
-    let numbers = source.column(table, column);
-    let mut greatest = 0;
-    for row in 1..limit {
-        greatest = numbers.number(row).max(greatest);
-    }
-    greatest
+    source.column(table, column).greatest(limit)
 }

@@ -38,11 +38,5 @@ fn never_falls(source: &Source, table: TableId, column: usize) -> bool
     requires { column < length (columns_of table) }
     ensures { IsTrue result ↔ IsInOrder source.now.source table column }
 {
-    let numbers = source.column(table, column);
-    for row in 2..source.count(table) + 1 {
-        if numbers.number(row) < numbers.number(row - 1) {
-            return false;
-        }
-    }
-    true
+    source.column(table, column).never_falls()
 }

@@ -12,6 +12,7 @@
 //! ```
 #![tactic(auto)]
 
+mod blobs;
 mod budget;
 mod cell_checks;
 mod coded_limits;

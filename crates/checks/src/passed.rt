@@ -3,8 +3,11 @@ ghost use Rattle.checks.specs.Passed.{Keeps, no_slots, is_kept, keep};
 
 use std::marker::Model;
 
-/// The number of slots of a table, and of the parts of a heap.
-const SLOTS: usize = 1024;
+/// The number of slots for numbers by their low bits.
+const RECENT: usize = 4096;
+
+/// The number of the parts of a heap, each with a slot.
+const PARTS: usize = 1024;
 
 /// The numbers of blobs that a check accepted, so that it need not walk them again.
 ///
@@ -15,8 +18,8 @@ const SLOTS: usize = 1024;
 /// in any order, and a repeated walk of another one reads less than a part: the heap's bytes / 1024.
 #[derive(Drop)]
 pub struct Passed {
-    recent: [u32; SLOTS],
-    long: [u32; SLOTS],
+    recent: [u32; RECENT],
+    long: [u32; PARTS],
     /// The number of bytes of a part of the heap.
     part: usize,
 }
@@ -39,9 +42,9 @@ impl Passed {
         ensures none { (number : ℕ) → ¬ Keeps result number }
     {
         Passed {
-            recent: [0; SLOTS],
-            long: [0; SLOTS],
-            part: bytes / SLOTS + 1,
+            recent: [0; RECENT],
+            long: [0; PARTS],
+            part: bytes / PARTS + 1,
         }
     }
 
@@ -51,8 +54,8 @@ impl Passed {
     {
         let offset = number as usize;
         number != 0
-            && (self.recent[offset % SLOTS] == number
-                || self.long[offset / self.part % SLOTS] == number)
+            && (self.recent[offset % RECENT] == number
+                || self.long[offset / self.part % PARTS] == number)
     }
 
     /// Keeps the number of a blob of a number of bytes, in place of others with the same slots.
@@ -62,9 +65,9 @@ impl Passed {
         ensures nothing_else { (other : ℕ) → Keeps self.new other → (other ≡ number) ⊎ Keeps self.old other }
     {
         let offset = number as usize;
-        self.recent[offset % SLOTS] = number;
+        self.recent[offset % RECENT] = number;
         if bytes >= self.part - offset % self.part {
-            self.long[offset / self.part % SLOTS] = number;
+            self.long[offset / self.part % PARTS] = number;
         }
     }
 }

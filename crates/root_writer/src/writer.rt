@@ -60,7 +60,11 @@ impl Writer {
         ensures { Puts self.old self.new (number_bytes width number) }
     {
         let bytes = number.to_le_bytes();
-        self.put(&bytes[..width]);
+        match width {
+            1 => self.put(&bytes[..1]),
+            2 => self.put(&bytes[..2]),
+            _ => self.put(&bytes),
+        }
     }
 
     /// Writes a number in eight bytes, lowest first.

@@ -1,4 +1,5 @@
-use Rattle.std.proofs.Common.{inl, inr, refl}
+use Rattle.std.proofs.Common.{ℕ, List, inl, inr, refl, subst, ◌∙◌}
+use Rattle.heap_entries.specs.Entries.{IsBlob}
 use Rattle.table_schema.specs.declared.column.ColumnKind.TheVariants as kind
 use Rattle.checks.proofs.Columns.{passed_stands, plain_stands}
 use Rattle.checks.proofs.cell_checks.first_in_column.Goals as goal
@@ -19,11 +20,12 @@ returns-in-Guid-clause-stands c =
 
 pub returns-in-Blob-clause-stands : goal.returns-in-Blob-clause-stands
 returns-in-Blob-clause-stands c =
+    let same = c.new-blobs.ensures ∙ c.blobs.ensures in
     elim c.in-Blob.is [
       | inl of_kind ↦
           passed_stands c.args.source.now c.args.table c.args.column _ c.column_at.result c.column_at.ensures _ kind.Blob of_kind
-          c.first_failing.ensures.passed (λ number passed. passed refl)
+          c.first_failing.ensures.passed (λ number passed offset. (subst (λ heap. (blob : List ℕ) × IsBlob heap number blob) same (passed refl), tt))
       | inr of_kind ↦
           passed_stands c.args.source.now c.args.table c.args.column _ c.column_at.result c.column_at.ensures _ (kind.Signature of_kind.0) of_kind.1
-          c.first_failing.ensures.passed (λ number passed. passed refl)
+          c.first_failing.ensures.passed (λ number passed offset. (subst (λ heap. (blob : List ℕ) × IsBlob heap number blob) same (passed refl), tt))
     ]
