@@ -1,0 +1,4 @@
+pub mod CellLemmas
+pub mod CountLemmas
+pub mod FieldLemmas
+pub mod FoundLemmas

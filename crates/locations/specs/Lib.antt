@@ -1,0 +1,5 @@
+pub mod Cells
+pub mod Counts
+pub mod Fields
+pub mod HeaderFields
+pub mod InTables
