@@ -2,7 +2,7 @@
 
 _clim() {
     local word=${COMP_WORDS[COMP_CWORD]}
-    local subcommands='root check show types token rewrite digest compare explain help'
+    local subcommands='root check show types outline token rewrite digest compare explain help'
     local line
     COMPREPLY=()
     if [ "$COMP_CWORD" -eq 1 ]; then

@@ -1,6 +1,6 @@
 # Completions of clim for fish.
 
-set -l readers root check show types token rewrite digest compare
+set -l readers root check show types outline token rewrite digest compare
 set -l subcommands $readers explain help
 
 complete -c clim -f
@@ -10,6 +10,7 @@ complete -c clim -n "not __fish_seen_subcommand_from $subcommands" -a root -d 'P
 complete -c clim -n "not __fish_seen_subcommand_from $subcommands" -a check -d 'Check files against the rules of the standard'
 complete -c clim -n "not __fish_seen_subcommand_from $subcommands" -a show -d 'Print the rows of all tables'
 complete -c clim -n "not __fish_seen_subcommand_from $subcommands" -a types -d 'Print the types, with the number of their fields and methods'
+complete -c clim -n "not __fish_seen_subcommand_from $subcommands" -a outline -d 'Print the declarations of the assembly, as ILAsm writes them'
 complete -c clim -n "not __fish_seen_subcommand_from $subcommands" -a token -d 'Print the row or the user string that a token names'
 complete -c clim -n "not __fish_seen_subcommand_from $subcommands" -a rewrite -d 'Write the canonical metadata root of a file'
 complete -c clim -n "not __fish_seen_subcommand_from $subcommands" -a digest -d 'Print the SHA-256 digest of the canonical metadata root of a file'

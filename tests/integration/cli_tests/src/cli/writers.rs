@@ -36,6 +36,7 @@ fn stands_full_devices(rt: HostRuntime) -> Result<(), Fail> {
             &["clim", "check", "--bare", "b.root"],
             &["clim", "show", "--bare", "b.root"],
             &["clim", "types", "--bare", "b.root"],
+            &["clim", "outline", "--bare", "b.root"],
             &["clim", "token", "--bare", "b.root", "1"],
             &["clim", "token", "--bare", "b.root", "70000000"],
             &["clim", "explain"],

@@ -44,6 +44,7 @@ fn print_what_help_reports(rt: HostRuntime) -> Result<(), Fail> {
         ("check", 3),
         ("show", 1),
         ("types", 1),
+        ("outline", 1),
         ("token", 2),
         ("rewrite", 2),
         ("digest", 2),

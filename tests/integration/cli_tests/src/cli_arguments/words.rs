@@ -69,6 +69,7 @@ const REFUSED: [(&[&str], &str); 41] = [
     ),
     (&["clim", "show"], "Usage: clim show <FILE>"),
     (&["clim", "types"], "Usage: clim types <FILE>"),
+    (&["clim", "outline"], "Usage: clim outline <FILE>"),
     (&["clim", "token"], "Usage: clim token <FILE> <HEX>"),
     (&["clim", "token", "lacks"], "  <HEX>\n"),
     (
@@ -155,6 +156,7 @@ fn helps(rt: HostRuntime) -> Result<(), Fail> {
         "\n  check ",
         "\n  show ",
         "\n  types ",
+        "\n  outline ",
         "\n  token ",
         "\n  rewrite ",
         "\n  digest ",
@@ -202,6 +204,11 @@ fn helps_with_each_subcommand(rt: HostRuntime) -> Result<(), Fail> {
             "types",
             "Usage: clim types [OPTIONS] <FILE>",
             "\n  02000002 N.C 2 1\n",
+        ),
+        (
+            "outline",
+            "Usage: clim outline [OPTIONS] <FILE>",
+            "  // 02000002\n",
         ),
         (
             "token",
