@@ -1,7 +1,6 @@
 //! The program `clim`, without the collection of its arguments.
 //!
-//! [`ask`] parses the arguments. Its contract says that the subcommand, flags and values are those that `clap` gives
-//! for them. [`go`] is the whole run: it parses the arguments, reads the file, prints, and returns the exit code. Its
+//! [`go`] is the whole run: it parses the arguments by [`ask`], reads the file, prints, and returns the exit code. Its
 //! contract says what goes to the output and which exit code it returns, for what reading the file gave. The texts of
 //! help, of usage errors and of `explain` are tested, not proved.
 //!

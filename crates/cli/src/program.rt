@@ -26,8 +26,7 @@ use cli_outline::report_outline;
 use cli_reports::{Report, check_within, finish, print_report};
 use packed::FaultCode;
 use std::alloc::Global;
-use std::io;
-use std::io::Write;
+use std::io::{self, Write};
 use std::rt::Files;
 
 /// Runs the program on its arguments, the program name first, and returns the exit code:
@@ -191,20 +190,8 @@ fn outline_file<'a, R: Files + Input + AllocGlobal, W: Write>(
     ensures { IsRunOn W.contents out.old out.new file.now (IsOutlined W.contents out.old out.new bare) result }
 {
     let bytes = read_file(rt, file)?;
-    outline_bytes(rt.alloc(), &bytes, bare, out)
-}
-
-/// Prints the declarations in bytes that were read.
-fn outline_bytes<W: Write>(
-    alloc: Global,
-    bytes: &[u8],
-    bare: bool,
-    out: &mut W,
-) -> Result<(), Stopped<'static>>
-    ensures { IsOutlined W.contents out.old out.new bare bytes.now result }
-{
-    let outcome = report_outline(alloc, bare, bytes, out);
-    with_hint(stopped_by(outcome), bare, bytes)
+    let outcome = report_outline(rt.alloc(), bare, &bytes, out);
+    with_hint(stopped_by(outcome), bare, &bytes)
 }
 
 /// Checks a file against the rules, within a budget.

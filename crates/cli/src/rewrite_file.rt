@@ -12,8 +12,7 @@ use cli_reports::{finish, open};
 use packed::{Fault, FaultCode};
 use root_plan::{Prepared, WriteError};
 use std::alloc::Global;
-use std::io;
-use std::io::Write;
+use std::io::{self, Write};
 use std::rt::Files;
 use writer::prepare;
 
