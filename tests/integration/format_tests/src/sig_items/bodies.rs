@@ -1,4 +1,6 @@
-use crate::sig_items::collected::{OPTIONAL_FIRST, REQUIRED_FIRST, REQUIRED_SECOND, reported, written};
+use crate::sig_items::collected::{
+    OPTIONAL_FIRST, REQUIRED_FIRST, REQUIRED_SECOND, reported, written,
+};
 use sig_items::{CallingConvention, Item, MethodHead, SigKind};
 use sig_values::Element;
 use std::test::Fail;

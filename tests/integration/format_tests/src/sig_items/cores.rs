@@ -1,4 +1,6 @@
-use crate::sig_items::collected::{FIRST, OPTIONAL_SECOND, REQUIRED_FIRST, SECOND, reported, written};
+use crate::sig_items::collected::{
+    FIRST, OPTIONAL_SECOND, REQUIRED_FIRST, SECOND, reported, written,
+};
 use schema::{TableId, Token};
 use sig_items::{CallingConvention, Item, MethodHead, SigKind};
 use sig_values::Element;
