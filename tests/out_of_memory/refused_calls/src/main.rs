@@ -1,8 +1,10 @@
-//! Every call of `tables`, `owned_model`, `writer` and the crates of records that can run out of
-//! memory, once and, if it does, once more.
+//! Every call of `tables`, `owned_model`, `writer`, `full_names`, `comparison` and the crates of records that can run
+//! out of memory, once and, if it does, once more.
 
+mod compared;
 mod errors;
 mod loaded_models;
+mod names_written;
 mod record_cells;
 mod written;
 
@@ -40,6 +42,9 @@ fn calls_of(run: &Run, section: u32) -> Result<(), Stop> {
         14 => loaded_models::is_loaded(run, &NAMES_SHARED),
         15 => written::is_written(run, &NAMES_SHARED, &NAMES_SHARED),
         16 => written::is_prepared_in_place(run, &NAMES_SHARED, &NAMES_SHARED),
+        17 => written::is_written_within(run, &ONE_MODULE),
+        18 => names_written::are_named(run),
+        19 => compared::are_compared(run),
         _ => Err(Stop::Broken("there is such a section")),
     }
 }

@@ -4,7 +4,9 @@ use opening::open_root;
 use owned_model::{LoadError, Model, load_root};
 use std::io;
 use std::io::Write;
-use writer::{Counted, Prepared, Sink, WriteError, prepare, write_root, write_root_to};
+use writer::{
+    Counted, Prepared, Sink, WriteError, prepare, write_root, write_root_to, write_root_within,
+};
 
 /// Bytes in place, of which each call takes a few, so that no memory is needed.
 #[derive(Drop)]
@@ -139,5 +141,19 @@ pub fn is_prepared_in_place(run: &Run, from: &[u8], root: &[u8]) -> Result<(), S
     kept(
         made.bytes() == root,
         "the bytes of a root that is prepared of a view are those",
+    )
+}
+
+/// That the model of a canonical root is written within the length of that root.
+pub fn is_written_within(run: &Run, root: &[u8]) -> Result<(), Stop> {
+    let model = loaded(run, root)?;
+    let limit = root.len() as u32;
+    let made = match write_root_within(run.alloc, &model, limit) {
+        Err(WriteError::Memory) => run.again(write_root_within(run.alloc, &model, limit))?,
+        answer => answer.map_err(not_written)?,
+    };
+    kept(
+        made.as_slice() == root,
+        "the bytes of a root that is written within its length are those",
     )
 }
