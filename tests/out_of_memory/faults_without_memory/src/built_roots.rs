@@ -1,6 +1,6 @@
 use crate::built_root::BuiltRoot;
 use crate::reported::{Reported, both, counted, is_refused};
-use owned_model::load_root;
+use owned_model::{Model, Tables, load_root};
 use opening::{TableId, Token, open_image, open_root};
 use sample_roots::{NAMES_APART, NAMES_SHARED, OF_ASSEMBLY, OF_MODULE, ONE_MODULE, TWO_TYPES, image};
 use std::alloc::Global;
@@ -124,9 +124,18 @@ fn has_key_rows(table: TableId, rows: &[u32], reads: u64) -> bool {
     }
 }
 
-/// What is opened, and looked up by key.
-fn of_opened() -> Reported {
+/// Whether tables of the empty version and without rows are a model. Making them does not allocate.
+fn is_model_without_rows(alloc: Global) -> bool {
+    match Tables::new(alloc, "") {
+        Ok(tables) => Model::from_tables(tables).is_ok(),
+        Err(_) => false,
+    }
+}
+
+/// What is opened, looked up by key, or made a model.
+fn of_opened(alloc: Global) -> Reported {
     [
+        is_model_without_rows(alloc),
         has_key_rows(TableId::Assembly, &[2, 3], 6),
         has_key_rows(TableId::Module, &[1], 6),
         has_key_rows(TableId::File, &[], 6),
@@ -140,7 +149,7 @@ fn of_opened() -> Reported {
     .fold((0, 0), |reported, is_right| counted(reported, *is_right))
 }
 
-/// Opens and loads the built roots, and opens the samples.
+/// Opens and loads the built roots, opens the samples, and makes a model of tables without rows.
 pub fn count_built(alloc: Global) -> Reported {
-    both(both(of_rows(alloc), of_signatures(alloc)), of_opened())
+    both(both(of_rows(alloc), of_signatures(alloc)), of_opened(alloc))
 }
