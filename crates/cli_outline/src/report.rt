@@ -1,0 +1,36 @@
+//! Opens a file and prints its outline.
+ghost use Rattle.std.specs.Prelude.{OnOk, IfErr};
+ghost use Rattle.metadata.specs.Metadata.{Metadata};
+ghost use Rattle.cli_reports.specs.Checked.{IsWhole, rules_of};
+ghost use Rattle.cli_reports.specs.Printed.{IsModelOf};
+ghost use Rattle.cli_reports.specs.Reported.{LeavesOutput, ReportsFault};
+ghost use Rattle.cli_outline.specs.Outline.{IsLine, outline_rows};
+ghost use Rattle.cli_outline.specs.Sent.{PrintsLines};
+
+use crate::outline::print_outline;
+use cli_faults::{Failure, printed};
+use cli_reports::open;
+use std::alloc::Global;
+use std::io::Write;
+
+/// Prints the outline of a file, or of a metadata root if the bytes are `bare`, as [`print_outline`] does. Nothing is
+/// printed before all rules are checked.
+///
+/// # Errors
+///
+/// The fault of the first rule that fails; out of memory, or the output cannot be written.
+pub fn report_outline<W: Write>(
+    alloc: Global,
+    bare: bool,
+    bytes: &[u8],
+    out: &mut W,
+) -> Result<(), Failure<'static>>
+    ensures sound { OnOk result (IsWhole bare bytes.now) }
+    ensures first_error { IfErr result (ReportsFault (IsWhole bare bytes.now) (rules_of bare bytes.now)) }
+    ensures untouched { IfErr result (LeavesOutput out.old out.new) }
+    ensures printed { (model : Metadata) → IsModelOf bare bytes.now model
+        → PrintsLines (IsLine model) (W.contents out.old) (W.contents out.new) result (outline_rows model) }
+{
+    let view = open(bytes, bare)?;
+    printed(print_outline(alloc, &view, out))
+}
