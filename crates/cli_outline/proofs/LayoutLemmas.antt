@@ -2,7 +2,7 @@
 use Rattle.std.proofs.Common.{ℕ, zero, suc, ◌<◌, List, [], ◌∷◌, length, get_or, arith, rules}
 use Rattle.std.specs.Prelude.{⊤}
 use Rattle.table_schema.specs.declared.table.TableId.{TableId}
-use Rattle.table_schema.specs.declared.table.TableId.TheVariants.{Assembly, AssemblyRef, Module, ModuleRef, File, ManifestResource, TypeDef, InterfaceImpl, GenericParam, GenericParamConstraint, ExportedType, MethodImpl, MethodSemantics, ImplMap, CustomAttribute}
+use Rattle.table_schema.specs.declared.table.TableId.TheVariants.{Assembly, AssemblyRef, Module, ModuleRef, File, ManifestResource, TypeDef, Field, MethodDef, InterfaceImpl, GenericParam, GenericParamConstraint, ExportedType, MethodImpl, MethodSemantics, ImplMap, CustomAttribute}
 use Rattle.table_schema.specs.CellColumns.{cell_columns}
 use Rattle.cli_outline.specs.Layouts.{parts_of}
 use Rattle.cli_outline.specs.Parts.{Part}
@@ -22,6 +22,8 @@ parts_within ModuleRef = search rules
 parts_within File = search rules
 parts_within ManifestResource = search rules
 parts_within TypeDef = search rules
+parts_within Field = search rules
+parts_within MethodDef = search rules
 parts_within InterfaceImpl = search rules
 parts_within GenericParam = search rules
 parts_within GenericParamConstraint = search rules

@@ -4,4 +4,6 @@ pub mod LayoutLemmas
 pub mod OutlineLemmas
 pub mod PieceLemmas
 pub mod ReferenceLemmas
+pub mod RunLemmas
+pub mod WriterLemmas
 pub mod Outcomes

@@ -1,5 +1,5 @@
 -- The rows that have a line, one after another.
-use Rattle.std.proofs.Common.{◌≡◌, ◌∙◌, ℕ, ◌+◌, ◌<◌, ◌≤◌, List, [], ◌∷◌, ◌++◌, length, get_or, take, drop, map, refl, ap, sym, append-nil}
+use Rattle.std.proofs.Common.{◌≡◌, ◌∙◌, ℕ, ◌+◌, ◌<◌, ◌≤◌, List, [], ◌∷◌, ◌++◌, length, get_or, take, drop, map, refl, ap, sym, append-nil, zero, suc, ◌-◌, append_assoc, arith}
 use Rattle.std.specs.List.{flat_map, range_with_len}
 use Rattle.std.proofs.lemmas.Grind.{flat_map-append}
 use Rattle.std.proofs.lemmas.List.{take-append-drop}
@@ -32,3 +32,33 @@ module _ {X Y : Type 0} (f : X → List Y) (xs : List X) where
 
   pub groups_whole : (n : ℕ) → flat_map f xs ≡ flat_map f (take n xs) ++ flat_map f (drop n xs)
   groups_whole n = ap (λ ys. flat_map f ys) (sym (take-append-drop n xs)) ∙ flat_map-append f (take n xs) (drop n xs)
+
+range_last : (a n j : ℕ) → a + n ≡ j → range_with_len a (suc n) ≡ range_with_len a n ++ j ∷ []
+range_last a zero j e = let same : a ≡ j = omega arith in ap (λ (k : ℕ). k ∷ []) same
+range_last a (suc n) j e = ap (λ xs. a ∷ xs) (range_last (a + 1) n j (omega arith))
+
+-- one more type, and the types after the first ones
+module _ {Y : Type 0} (rows : ℕ → List Y) where
+  pub classes_more : (n : ℕ) → flat_map rows (range_with_len 1 n) ++ rows (n + 1) ≡ flat_map rows (range_with_len 1 (n + 1))
+  classes_more n =
+      let next : suc n ≡ n + 1 = omega arith in
+      ap (λ ys. flat_map rows (range_with_len 1 n) ++ ys) (sym (append-nil (rows (n + 1)))) ∙ sym (flat_map-append rows (range_with_len 1 n) ((n + 1) ∷ []))
+      ∙ ap (λ xs. flat_map rows xs) (sym (range_last 1 n (n + 1) (omega arith)))
+      ∙ ap (λ m. flat_map rows (range_with_len 1 m)) next
+
+  classes_after : (more n : ℕ) → (later : List Y) × (flat_map rows (range_with_len 1 (n + more)) ≡ flat_map rows (range_with_len 1 n) ++ later)
+  classes_after zero n =
+      let same : n + 0 ≡ n = omega arith in ([], ap (λ m. flat_map rows (range_with_len 1 m)) same ∙ sym (append-nil (flat_map rows (range_with_len 1 n))))
+  classes_after (suc more) n =
+      let before = classes_after more n in
+      let next : n + suc more ≡ n + more + 1 = omega arith in (
+        before.0 ++ rows (n + more + 1),
+        ap (λ m. flat_map rows (range_with_len 1 m)) next ∙ sym (classes_more (n + more)) ∙ ap (λ xs. xs ++ rows (n + more + 1)) before.1
+            ∙ append_assoc (flat_map rows (range_with_len 1 n)) before.0 (rows (n + more + 1)),
+      )
+
+  pub classes_whole : (n count : ℕ) → n ≤ count → (later : List Y) × (flat_map rows (range_with_len 1 count) ≡ flat_map rows (range_with_len 1 n) ++ later)
+  classes_whole n count le =
+      let same : n + (count - n) ≡ count = omega (arith, le) in
+      let after = classes_after (count - n) n in
+      (after.0, ap (λ m. flat_map rows (range_with_len 1 m)) (sym same) ∙ after.1)

@@ -101,3 +101,9 @@ module _ {X : Type 0} (is_line : X → List ℕ → Type 0) where
         ),
       ),
     )
+
+    -- more lines after those that went out or wait
+    pub moves_more : (result : Result T E) (before between after : Option (List ℕ)) (xs ys : List X) (waited left tail : List ℕ) → Sent before between xs waited left
+        → MovesLines is_line between after result ys left tail → MovesLines is_line before after result (xs ++ ys) waited tail
+    moves_more (Ok done) before between after xs ys waited left tail first moved = sent_more before between after xs ys waited left tail first moved
+    moves_more (Err error) before between after xs ys waited left tail first cut = cut_more before between after xs ys waited left first cut

@@ -1,9 +1,9 @@
 -- The line of a row of each table, as a list of parts (ECMA-335 II.6 and II.10). A row of another table has no line.
 use Rattle.std.specs.Prelude.{List, [], ◌∷◌, codes}
 use Rattle.table_schema.specs.declared.table.TableId.{TableId}
-use Rattle.table_schema.specs.declared.table.TableId.TheVariants.{Assembly, AssemblyRef, Module, ModuleRef, File, ManifestResource, TypeDef, InterfaceImpl, GenericParam, GenericParamConstraint, ExportedType, MethodImpl, MethodSemantics, ImplMap, CustomAttribute}
+use Rattle.table_schema.specs.declared.table.TableId.TheVariants.{Assembly, AssemblyRef, Module, ModuleRef, File, ManifestResource, TypeDef, Field, MethodDef, InterfaceImpl, GenericParam, GenericParamConstraint, ExportedType, MethodImpl, MethodSemantics, ImplMap, CustomAttribute}
 use Rattle.cli_outline.specs.declared.flag_words.FlagTable.TheVariants as table
-use Rattle.cli_outline.specs.Parts.{Part, word, flags, text, number, quoted_after, bytes_after, key, hex, dotted, token_after, own_name, name_after}
+use Rattle.cli_outline.specs.Parts.{Part, word, flags, text, number, quoted_after, bytes_after, key, hex, dotted, token_after, signature, declaration, own_name, name_after}
 
 abbrev pub parts_of : TableId → List Part
 -- II.6.2, II.22.2
@@ -26,6 +26,10 @@ parts_of File = word (codes ".file") ∷ flags table.File 0 ∷ word (codes " ")
 parts_of ManifestResource = word (codes ".mresource") ∷ flags table.Resource 1 ∷ word (codes " ") ∷ text 2 ∷ []
 -- II.10.1, II.22.37
 parts_of TypeDef = word (codes ".class") ∷ flags table.Type 0 ∷ word (codes " ") ∷ own_name ∷ name_after (codes " extends ") 3 ∷ []
+-- II.16.1, II.22.15
+parts_of Field = word (codes "  .field") ∷ flags table.Field 0 ∷ word (codes " ") ∷ signature 2 ∷ word (codes " ") ∷ text 1 ∷ []
+-- II.15.4, II.22.26
+parts_of MethodDef = word (codes "  .method") ∷ flags table.Method 2 ∷ word (codes " ") ∷ declaration ∷ flags table.Implementation 1 ∷ []
 -- II.12.2, II.22.23
 parts_of InterfaceImpl = word (codes ".interfaceimpl type") ∷ name_after (codes " ") 0 ∷ name_after (codes " implements ") 1 ∷ []
 -- II.10.1.7, II.22.20

@@ -2,11 +2,14 @@
 use Rattle.std.specs.Prelude.{◌≡◌, ℕ, List, [], ◌∷◌, ◌++◌, codes, Option, None, Some}
 use Rattle.std.specs.Prelude.{decimal as digits}
 use Rattle.table_schema.specs.declared.table.TableId.{TableId}
+use Rattle.table_schema.specs.declared.table.TableId.TheVariants.{MethodDef}
 use Rattle.table_schema.specs.declared.token.Token.{Token}
 use Rattle.table_schema.specs.Tokens.{token_text}
-use Rattle.metadata.specs.Cell.{Cell, Number, Text, Bytes, Ref}
+use Rattle.sig_grammar.specs.Syntax.{Body, Method, method_body}
+use Rattle.sig_text.specs.SignatureText.{text_of as pieces_of_signature}
+use Rattle.metadata.specs.Cell.{Cell, Number, Text, Bytes, Ref, Sig}
 use Rattle.metadata.specs.Metadata.{Metadata, cell_in}
-use Rattle.full_names.specs.Texts.{IsFullName}
+use Rattle.full_names.specs.Texts.{ArePiecesText, IsDeclaration, IsFullName, IsPieceText}
 use Rattle.cli_faults.specs.Escaped.{escaped_text}
 use Rattle.cli_reports.specs.Escaped.{escaped_bytes}
 use Rattle.cli_reports.specs.RowTexts.{line_feed}
@@ -36,6 +39,10 @@ pub data Part : Type 0 where
   dotted : ℕ → Part
   -- unless the reference in a cell is null: a word, and the token
   token_after : List ℕ → ℕ → Part
+  -- the signature in a cell, with the full names of types (II.23.2)
+  signature : ℕ → Part
+  -- the declaration of the method that the row is (II.15.3)
+  declaration : Part
   -- the full name of the type that the row is
   own_name : Part
   -- unless the reference in a cell is null: a word, and the full name of the type
@@ -87,6 +94,25 @@ token_text_after before (Some token) = before ++ token_text token
 abbrev pub IsNameText : Metadata → Token → List ℕ → Type 0
 IsNameText model token out = (name : List ℕ) × IsFullName model token name × (out ≡ escaped_text name)
 
+-- the text of a signature, with the full names of types, escaped (II.7.1, II.15.3)
+abbrev pub IsSignatureText : Metadata → Body → List ℕ → Type 0
+IsSignatureText model of out = (plain : List ℕ) × ArePiecesText (IsPieceText (IsFullName model)) (pieces_of_signature of) plain × (out ≡ escaped_text plain)
+
+-- the same of a cell, which has no text if it is no signature
+abbrev pub IsSignatureOf : Metadata → Cell → List ℕ → Type 0
+IsSignatureOf model (Sig of) out = IsSignatureText model of out
+IsSignatureOf model _ out = out ≡ []
+
+-- the declaration of a method, with its full name and the names of its parameters, escaped (II.15.3)
+abbrev pub IsMethodText : Metadata → ℕ → List ℕ → Type 0
+IsMethodText model row out =
+    (method : Method) × (cell_in model MethodDef row 4 ≡ Sig (method_body method)) × (plain : List ℕ) × IsDeclaration model row method plain × (out ≡ escaped_text plain)
+
+-- the same of a row, which has no text if it is no method
+abbrev pub IsDeclarationAt : Metadata → TableId → ℕ → List ℕ → Type 0
+IsDeclarationAt model MethodDef row out = IsMethodText model row out
+IsDeclarationAt model _ row out = out ≡ []
+
 -- a word and the full name of a type, unless the reference is null
 abbrev pub IsNameAfter : Metadata → List ℕ → Option Token → List ℕ → Type 0
 IsNameAfter model before None out = out ≡ []
@@ -108,6 +134,8 @@ IsPartText model table row (key of cell) out = out ≡ key_text (number_of (cell
 IsPartText model table row (hex cell) out = out ≡ escaped_bytes (bytes_of (cell_in model table row cell))
 IsPartText model table row (dotted cell) out = out ≡ dotted_text (text_of (cell_in model table row cell))
 IsPartText model table row (token_after before cell) out = out ≡ token_text_after before (reference_of (cell_in model table row cell))
+IsPartText model table row (signature cell) out = IsSignatureOf model (cell_in model table row cell) out
+IsPartText model table row declaration out = IsDeclarationAt model table row out
 IsPartText model table row own_name out = IsNameText model (token_at table row) out
 IsPartText model table row (name_after before cell) out = IsNameAfter model before (reference_of (cell_in model table row cell)) out
 

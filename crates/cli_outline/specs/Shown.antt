@@ -7,7 +7,7 @@ use Rattle.cli_outline.specs.Parts.{Part}
 use Rattle.cli_outline.specs.Words.{Word}
 use Rattle.cli_outline.specs.declared.flag_words.FlagWord.{FlagWord}
 use Rattle.cli_outline.specs.declared.layouts.Piece.{Piece}
-use Rattle.cli_outline.specs.declared.layouts.Piece.TheVariants.{Word as PlainWord, Flags, Text, Number, QuotedAfter, BytesAfter, Key, Hex, Dotted, TokenAfter, OwnName, NameAfter}
+use Rattle.cli_outline.specs.declared.layouts.Piece.TheVariants.{Word as PlainWord, Flags, Text, Number, QuotedAfter, BytesAfter, Key, Hex, Dotted, TokenAfter, Signature, Declaration, OwnName, NameAfter}
 
 abbrev pub shown_word : FlagWord → Word
 shown_word of = record { mask = of.mask; value = of.value; text = of.text.now }
@@ -23,6 +23,8 @@ shown (Key of cell) = part.key of cell
 shown (Hex cell) = part.hex cell
 shown (Dotted cell) = part.dotted cell
 shown (TokenAfter of cell) = part.token_after of.now cell
+shown (Signature cell) = part.signature cell
+shown Declaration = part.declaration
 shown OwnName = part.own_name
 shown (NameAfter of cell) = part.name_after of.now cell
 
@@ -38,5 +40,7 @@ IsWithin table (part.key of cell) = (of < cell_count table) × (cell < cell_coun
 IsWithin table (part.hex cell) = cell < cell_count table
 IsWithin table (part.dotted cell) = cell < cell_count table
 IsWithin table (part.token_after of cell) = cell < cell_count table
+IsWithin table (part.signature cell) = cell < cell_count table
+IsWithin table part.declaration = ⊤
 IsWithin table part.own_name = ⊤
 IsWithin table (part.name_after of cell) = cell < cell_count table

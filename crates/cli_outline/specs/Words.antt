@@ -85,3 +85,54 @@ words_of table.Import =
     word 0x0700 0x0300 (codes "stdcall") ∷
     word 0x0700 0x0400 (codes "thiscall") ∷
     word 0x0700 0x0500 (codes "fastcall") ∷ []
+-- II.23.1.5: access, contract, and the others
+words_of table.Field =
+    word 0x0007 0x0000 (codes "compilercontrolled") ∷
+    word 0x0007 0x0001 (codes "private") ∷
+    word 0x0007 0x0002 (codes "famandassem") ∷
+    word 0x0007 0x0003 (codes "assembly") ∷
+    word 0x0007 0x0004 (codes "family") ∷
+    word 0x0007 0x0005 (codes "famorassem") ∷
+    word 0x0007 0x0006 (codes "public") ∷
+    word 0x0010 0x0010 (codes "static") ∷
+    word 0x0020 0x0020 (codes "initonly") ∷
+    word 0x0040 0x0040 (codes "literal") ∷
+    word 0x0080 0x0080 (codes "notserialized") ∷
+    word 0x0200 0x0200 (codes "specialname") ∷
+    word 0x2000 0x2000 (codes "pinvokeimpl") ∷
+    word 0x0400 0x0400 (codes "rtspecialname") ∷ []
+-- II.23.1.10: access, contract, layout of the vtable, and the others
+words_of table.Method =
+    word 0x0007 0x0000 (codes "compilercontrolled") ∷
+    word 0x0007 0x0001 (codes "private") ∷
+    word 0x0007 0x0002 (codes "famandassem") ∷
+    word 0x0007 0x0003 (codes "assembly") ∷
+    word 0x0007 0x0004 (codes "family") ∷
+    word 0x0007 0x0005 (codes "famorassem") ∷
+    word 0x0007 0x0006 (codes "public") ∷
+    word 0x0010 0x0010 (codes "static") ∷
+    word 0x0020 0x0020 (codes "final") ∷
+    word 0x0040 0x0040 (codes "virtual") ∷
+    word 0x0080 0x0080 (codes "hidebysig") ∷
+    word 0x0100 0x0100 (codes "newslot") ∷
+    word 0x0200 0x0200 (codes "strict") ∷
+    word 0x0400 0x0400 (codes "abstract") ∷
+    word 0x0800 0x0800 (codes "specialname") ∷
+    word 0x2000 0x2000 (codes "pinvokeimpl") ∷
+    word 0x0008 0x0008 (codes "unmanagedexp") ∷
+    word 0x1000 0x1000 (codes "rtspecialname") ∷
+    word 0x8000 0x8000 (codes "reqsecobj") ∷ []
+-- II.23.1.11
+words_of table.Implementation =
+    word 0x0003 0x0000 (codes "cil") ∷
+    word 0x0003 0x0001 (codes "native") ∷
+    word 0x0003 0x0002 (codes "optil") ∷
+    word 0x0003 0x0003 (codes "runtime") ∷
+    word 0x0004 0x0004 (codes "unmanaged") ∷
+    word 0x0004 0x0000 (codes "managed") ∷
+    word 0x0010 0x0010 (codes "forwardref") ∷
+    word 0x0080 0x0080 (codes "preservesig") ∷
+    word 0x1000 0x1000 (codes "internalcall") ∷
+    word 0x0020 0x0020 (codes "synchronized") ∷
+    word 0x0008 0x0008 (codes "noinlining") ∷
+    word 0x0040 0x0040 (codes "nooptimization") ∷ []

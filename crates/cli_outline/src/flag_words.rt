@@ -33,6 +33,12 @@ pub enum FlagTable {
     File,
     /// Of resources (II.23.1.9).
     Resource,
+    /// Of fields (II.23.1.5).
+    Field,
+    /// Of methods (II.23.1.10).
+    Method,
+    /// Of the implementation of methods (II.23.1.11).
+    Implementation,
     /// Of generic parameters (II.23.1.7).
     Generic,
     /// Of accessors of properties and events (II.23.1.12).
@@ -110,6 +116,60 @@ const IMPORT: &[FlagWord] = words![
     0x0700 0x0500 "fastcall";
 ];
 
+const FIELD: &[FlagWord] = words![
+    0x0007 0x0000 "compilercontrolled";
+    0x0007 0x0001 "private";
+    0x0007 0x0002 "famandassem";
+    0x0007 0x0003 "assembly";
+    0x0007 0x0004 "family";
+    0x0007 0x0005 "famorassem";
+    0x0007 0x0006 "public";
+    0x0010 0x0010 "static";
+    0x0020 0x0020 "initonly";
+    0x0040 0x0040 "literal";
+    0x0080 0x0080 "notserialized";
+    0x0200 0x0200 "specialname";
+    0x2000 0x2000 "pinvokeimpl";
+    0x0400 0x0400 "rtspecialname";
+];
+
+const METHOD: &[FlagWord] = words![
+    0x0007 0x0000 "compilercontrolled";
+    0x0007 0x0001 "private";
+    0x0007 0x0002 "famandassem";
+    0x0007 0x0003 "assembly";
+    0x0007 0x0004 "family";
+    0x0007 0x0005 "famorassem";
+    0x0007 0x0006 "public";
+    0x0010 0x0010 "static";
+    0x0020 0x0020 "final";
+    0x0040 0x0040 "virtual";
+    0x0080 0x0080 "hidebysig";
+    0x0100 0x0100 "newslot";
+    0x0200 0x0200 "strict";
+    0x0400 0x0400 "abstract";
+    0x0800 0x0800 "specialname";
+    0x2000 0x2000 "pinvokeimpl";
+    0x0008 0x0008 "unmanagedexp";
+    0x1000 0x1000 "rtspecialname";
+    0x8000 0x8000 "reqsecobj";
+];
+
+const IMPLEMENTATION: &[FlagWord] = words![
+    0x0003 0x0000 "cil";
+    0x0003 0x0001 "native";
+    0x0003 0x0002 "optil";
+    0x0003 0x0003 "runtime";
+    0x0004 0x0004 "unmanaged";
+    0x0004 0x0000 "managed";
+    0x0010 0x0010 "forwardref";
+    0x0080 0x0080 "preservesig";
+    0x1000 0x1000 "internalcall";
+    0x0020 0x0020 "synchronized";
+    0x0008 0x0008 "noinlining";
+    0x0040 0x0040 "nooptimization";
+];
+
 /// The words of a kind of flags, in the order of the standard.
 fn words_of(of: FlagTable) -> &'static [FlagWord]
     ensures { map shown_word result.now ≡ words_of of }
@@ -120,6 +180,9 @@ fn words_of(of: FlagTable) -> &'static [FlagWord]
         FlagTable::Key => KEY,
         FlagTable::File => FILE,
         FlagTable::Resource => RESOURCE,
+        FlagTable::Field => FIELD,
+        FlagTable::Method => METHOD,
+        FlagTable::Implementation => IMPLEMENTATION,
         FlagTable::Generic => GENERIC,
         FlagTable::Semantics => SEMANTICS,
         FlagTable::Import => IMPORT,

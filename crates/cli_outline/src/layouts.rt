@@ -29,6 +29,10 @@ pub enum Piece {
     Dotted(usize),
     /// Unless the reference in a cell is null: this word, and the token.
     TokenAfter(&'static str, usize),
+    /// The signature in a cell, with the full names of types (II.23.2).
+    Signature(usize),
+    /// The declaration of the method that the row is (II.15.3).
+    Declaration,
     /// The full name of the type that the row is.
     OwnName,
     /// Unless the reference in a cell is null: this word, and the full name of the type.
@@ -36,8 +40,8 @@ pub enum Piece {
 }
 
 use Piece::{
-    BytesAfter, Dotted, Flags, Hex, Key, NameAfter, Number, OwnName, QuotedAfter, Text, TokenAfter,
-    Word,
+    BytesAfter, Declaration, Dotted, Flags, Hex, Key, NameAfter, Number, OwnName, QuotedAfter,
+    Signature, Text, TokenAfter, Word,
 };
 
 const ASSEMBLY: &[Piece] = &[
@@ -95,6 +99,23 @@ const TYPE_DEF: &[Piece] = &[
     Word(" "),
     OwnName,
     NameAfter(" extends ", 3),
+];
+
+const FIELD: &[Piece] = &[
+    Word("  .field"),
+    Flags(FlagTable::Field, 0),
+    Word(" "),
+    Signature(2),
+    Word(" "),
+    Text(1),
+];
+
+const METHOD_DEF: &[Piece] = &[
+    Word("  .method"),
+    Flags(FlagTable::Method, 2),
+    Word(" "),
+    Declaration,
+    Flags(FlagTable::Implementation, 1),
 ];
 
 const INTERFACE_IMPL: &[Piece] = &[
@@ -175,6 +196,8 @@ pub(crate) fn pieces_of(table: TableId) -> &'static [Piece]
         TableId::File => FILE,
         TableId::ManifestResource => RESOURCE,
         TableId::TypeDef => TYPE_DEF,
+        TableId::Field => FIELD,
+        TableId::MethodDef => METHOD_DEF,
         TableId::InterfaceImpl => INTERFACE_IMPL,
         TableId::GenericParam => GENERIC_PARAM,
         TableId::GenericParamConstraint => CONSTRAINT,

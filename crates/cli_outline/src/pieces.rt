@@ -14,6 +14,8 @@ use crate::cell_values::{bytes, number, reference, text};
 use crate::flag_words::{FlagTable, push_words};
 use crate::layouts::Piece;
 use crate::lines::{Lines, push_plain};
+use crate::methods::push_declaration;
+use crate::signature_sink::push_signature;
 use cli_reports::{push_decimal, push_escaped, push_hexadecimal, push_token};
 use full_names::write_full_name;
 use opening::{TableId, Token, View};
@@ -159,6 +161,8 @@ pub(crate) fn push_piece(
         Piece::TokenAfter(word, cell) => {
             push_token_after(word, reference(view, table, row, cell), lines)
         }
+        Piece::Signature(cell) => push_signature(alloc, view, table, row, cell, lines),
+        Piece::Declaration => push_declaration(alloc, view, table, row, lines),
         Piece::OwnName => push_name(alloc, view, Token { table, row }, lines),
         Piece::NameAfter(word, cell) => {
             push_name_after(alloc, view, word, reference(view, table, row, cell), lines)

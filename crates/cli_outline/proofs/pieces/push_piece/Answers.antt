@@ -99,3 +99,17 @@ returns-in-TokenAfter c = λ model is.
     on_ok c.push_token_after.result c.push_token_after.ensures
     (λ e. part_gains model c.args.table c.args.row c.args.piece (part.token_after word c.in-TokenAfter.cell) _ _ _ (ap shown c.in-TokenAfter.is) refl
     (e ∙ ap (λ r. before ++ token_text_after word r) (c.reference.ensures.value model is)))
+
+pub returns-in-Signature : goal.returns-in-Signature
+returns-in-Signature c = λ model is.
+    let before = c.args.lines.now.bytes.items in
+    let after = c.push_signature.new.lines.bytes.items in
+    on_ok c.push_signature.result (c.push_signature.ensures model is)
+    (λ gains. subst (λ (p : Part). Gains (IsPartText model c.args.table c.args.row p) before after) (sym (ap shown c.in-Signature.is)) gains)
+
+pub returns-in-Declaration : goal.returns-in-Declaration
+returns-in-Declaration c = λ model is.
+    let before = c.args.lines.now.bytes.items in
+    let after = c.push_declaration.new.lines.bytes.items in
+    on_ok c.push_declaration.result (c.push_declaration.ensures model is)
+    (λ gains. subst (λ (p : Part). Gains (IsPartText model c.args.table c.args.row p) before after) (sym (ap shown c.in-Declaration.is)) gains)

@@ -1,0 +1,24 @@
+use Rattle.std.proofs.Common.{refl, arith}
+use Rattle.table_schema.specs.declared.table.TableId.TheVariants.{MethodDef}
+use Rattle.table_schema.specs.CellColumns.{cell_columns}
+use Rattle.metadata.specs.Lookups.{HasRow}
+use Rattle.metadata.specs.Metadata.{cell_in}
+use Rattle.cli_faults.specs.Escaped.{escaped_text}
+use Rattle.opening.specs.Views.{row_count}
+use Rattle.cli_outline.specs.declared.lines.Lines.{Lines}
+use Rattle.cli_outline.proofs.TextLemmas.{calls_escaped}
+use Rattle.cli_outline.proofs.WriterLemmas.{signature_in, method_in}
+use Rattle.cli_outline.proofs.methods.push_method.Goals as goal
+
+pub returns-in-Ok : goal.returns-in-Ok
+unfolding row_count cell_columns
+returns-in-Ok c = λ model is.
+    let count = c.models_are_read.ensures.count c.args.view.now model is MethodDef in
+    let last = c.requires.last in
+    let there : HasRow model MethodDef c.args.row = (c.requires.first, omega (arith, count, last)) in
+    let cell = cell_in model MethodDef c.args.row 4 in
+    let valid = (c.models_of_roots_are_valid.ensures c.args.view.now model is).cells MethodDef c.args.row 4 there (omega arith) in
+    let of = signature_in cell valid.of_kind in
+    let method = method_in cell valid.held of.0 of.1 in
+    let wrote = c.in-Ok.ensures.text model is method.0 method.1 in
+    (escaped_text wrote.0, (method.0, method.1, wrote.0, wrote.1, refl), calls_escaped (λ (w : Lines). w.bytes.items) c.args.lines.now wrote.0 c.write_method.new.out wrote.2)
