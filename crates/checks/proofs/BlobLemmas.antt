@@ -5,7 +5,7 @@ use Rattle.std.proofs.lemmas.List.{length-take-le, drop_more, take-append-drop, 
 use Rattle.packed.specs.Packed.{IsPacked}
 use Rattle.heap_entries.specs.Entries.{IsCounted, IsBlob}
 
--- a byte below 128, with at least as many bytes after it, is the length of a blob
+-- a byte below 128 is the length of a blob, if that number of bytes follows
 counted : (heap : List ℕ) (index len : ℕ) → index + 1 + len ≤ length heap → get_or heap index 0 ≡ len → len < 128 → IsCounted heap index (take len (drop (index + 1) heap))
 counted heap index len within is short =
     let tail = drop (index + 1) heap in

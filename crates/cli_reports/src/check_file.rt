@@ -11,8 +11,7 @@ use crate::sending::finish;
 use cli_faults::{Failure, Stop, printed};
 use opening::BoundedError;
 use std::alloc::Global;
-use std::io;
-use std::io::Write;
+use std::io::{self, Write};
 
 /// Prints `ok` if the bytes break no rule.
 pub(crate) fn run<W: Write>(bytes: &[u8], bare: bool, out: &mut W) -> Result<(), Failure<'static>>

@@ -19,21 +19,17 @@ use comparison::Difference;
 use opening::{CellCursor, TableId, Token, View};
 use schema::column_names;
 use std::alloc::{AllocError, Global};
-use std::io;
-use std::io::Write;
+use std::io::{self, Write};
 use table_schema::column_of_cell;
 
-/// Prints what differs between two views, as [`differences`] found it: a line `WHAT: A | B` for each, and `equal` if there
+/// Prints what differs between two views, as `comparison::differences` found it: a line `WHAT: A | B` for each, and `equal` if there
 /// is none. WHAT is `version`, `user strings`, `rows NN NAME`, or the token of a row and the name of a column. A cell is
 /// printed as by `clim show`.
-///
 /// Its memory is that of the longest line, and of the lines that wait to be sent.
 ///
 /// # Errors
 ///
 /// Out of memory, or the output cannot be written. By then the writer has nothing or a prefix of the lines.
-///
-/// [`differences`]: comparison::differences
 pub fn print_comparison<W: Write>(
     alloc: Global,
     left: &View<'_>,
@@ -68,7 +64,6 @@ fn print<W: Write>(
 }
 
 /// Prints the lines of what differs between two views, each `WHAT: A | B`.
-///
 /// Its memory is that of the longest line, and of the lines that wait to be sent.
 ///
 /// # Errors

@@ -6,12 +6,10 @@ ghost use Rattle.cli_reports.specs.Sent.{Prints};
 use crate::line::{push_escaped, push_hexadecimal};
 use crate::sending::finish;
 use std::alloc::{AllocError, Global};
-use std::io;
-use std::io::Write;
+use std::io::{self, Write};
 
 /// Prints the line of a digest, as `sha256sum` prints it: its hexadecimal digits, two spaces and the path of the file.
 /// In the path, a quote, a backslash and a byte that is not printable ASCII are `\x` and two hexadecimal digits.
-///
 /// Its memory is that of the line.
 ///
 /// # Errors

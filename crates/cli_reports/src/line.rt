@@ -9,6 +9,10 @@ use itoa::Buffer;
 use std::alloc::AllocError;
 
 /// Appends a number in decimal.
+///
+/// # Errors
+///
+/// Out of memory.
 pub fn push_decimal(number: u64, line: &mut Vec<u8>) -> Result<(), AllocError>
     ensures { OnOk result (line.new.items ≡ line.old.items ++ decimal number) }
 {
@@ -57,6 +61,10 @@ fn digit(number: u8) -> u8
 }
 
 /// Appends two hexadecimal digits for each byte.
+///
+/// # Errors
+///
+/// Out of memory.
 pub fn push_hexadecimal(bytes: &[u8], line: &mut Vec<u8>) -> Result<(), AllocError>
     ensures { OnOk result (line.new.items ≡ line.old.items ++ escaped_bytes bytes.now) }
 {
@@ -83,6 +91,10 @@ fn are_plain(text: &[u8]) -> bool
 }
 
 /// Appends a text: plain bytes as they are, and any other byte as `\x` and two hexadecimal digits.
+///
+/// # Errors
+///
+/// Out of memory.
 pub fn push_escaped(text: &[u8], line: &mut Vec<u8>) -> Result<(), AllocError>
     ensures { OnOk result (line.new.items ≡ line.old.items ++ escaped_text text.now) }
 {

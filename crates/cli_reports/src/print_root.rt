@@ -17,8 +17,7 @@ use opening::read_heads;
 use packed::Fault;
 use root::{Headers, Root, StreamHeader, read_root};
 use std::alloc::{AllocError, Global};
-use std::io;
-use std::io::Write;
+use std::io::{self, Write};
 
 /// Prints the headers: the CLI header unless the bytes are a bare root, and the version and the stream headers of the
 /// metadata root.

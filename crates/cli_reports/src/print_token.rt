@@ -20,8 +20,7 @@ use cli_faults::{Failure, printed};
 use heap_entries::user_string;
 use opening::{CellCursor, Token, View};
 use std::alloc::{AllocError, Global};
-use std::io;
-use std::io::Write;
+use std::io::{self, Write};
 
 /// The high byte of a token that names an offset in `#US` (III.1.9).
 const USER_STRINGS: u32 = 0x70;

@@ -102,6 +102,10 @@ fn push_reference(token: Option<Token>, line: &mut Vec<u8>) -> Result<(), AllocE
 }
 
 /// Appends the eight hexadecimal digits of a token.
+///
+/// # Errors
+///
+/// Out of memory.
 pub fn push_token(token: Token, line: &mut Vec<u8>) -> Result<(), AllocError>
     requires { token.row ≤ 0xFFFFFF }
     ensures { OnOk result (line.new.items ≡ line.old.items ++ token_text token) }

@@ -16,8 +16,7 @@ use crate::sending::{FULL, finish, send_full};
 use cli_faults::{Failure, printed};
 use opening::{CellCursor, TableId, View};
 use std::alloc::{AllocError, Global};
-use std::io;
-use std::io::Write;
+use std::io::{self, Write};
 
 /// Prints each table that has rows.
 pub(crate) fn run<W: Write>(
@@ -38,7 +37,6 @@ pub(crate) fn run<W: Write>(
 
 /// Prints each table that has rows, lowest number first: the line `table NN NAME COUNT`, where NN is the table's number
 /// in two upper-case hexadecimal digits (II.22), and then the line of each row, as [`push_row`] makes it.
-///
 /// Its memory is that of the longest line, and of the lines that wait to be sent.
 ///
 /// # Errors

@@ -19,8 +19,7 @@ use crate::sending::{FULL, finish, send_full};
 use cli_faults::{Failure, printed};
 use opening::{CellCursor, CellRef, MemberList, TableId, Token, View};
 use std::alloc::{AllocError, Global};
-use std::io;
-use std::io::Write;
+use std::io::{self, Write};
 use std::ops::Range;
 
 /// The index of the cell with a type's name (II.22.37).
@@ -48,7 +47,6 @@ pub(crate) fn run<W: Write>(
 
 /// Prints a line for each row of TypeDef (II.22.37): its token in eight hexadecimal digits; its namespace and a dot, if
 /// it has one, and its name, both escaped as by [`push_escaped`]; and the number of its fields and of its methods.
-///
 /// Its memory is that of the longest line, and of the lines that wait to be sent.
 ///
 /// # Errors

@@ -8,13 +8,11 @@ use crate::line::{push_spaced, push_unit};
 use crate::sending::{finish, send_full};
 use heap_entries::{Units, UserString};
 use std::alloc::Global;
-use std::io;
-use std::io::Write;
+use std::io::{self, Write};
 
 /// Prints the line of a user string (II.24.2.4): `user TEXT FLAG`. TEXT has each unit from 0x20 to 0x7E except the
 /// backslash as it is, and any other as `\u` and four hexadecimal digits. FLAG is the last byte in decimal. The line of
 /// a string of no bytes is `user`.
-///
 /// Its memory is that of the bytes that wait to be sent.
 ///
 /// # Errors

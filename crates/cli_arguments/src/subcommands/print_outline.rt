@@ -28,6 +28,10 @@ types in the order of their rows, each with its fields and methods; then interfa
 constraints, overrides, accessors, imports and custom attributes, table by table. Texts of FILE are escaped like the
 texts of 'clim show'. FILE is checked first, as by 'clim check'.
 
-Example:
+Examples:
   $ clim outline --bare two_types.root
-";
+  .class private auto ansi <Module>  // 02000001
+  .class public auto ansi beforefieldinit N.C  // 02000002
+    .field private int32 a  // 04000001
+    .field private int32 b  // 04000002
+    .method public void N.C::M() cil managed  // 06000001";

@@ -22,9 +22,9 @@ returns-in_err-print_line-clause-lines g c = λ model is.
     let row = c.args.row in
     let waited = c.args.lines.now.bytes.items in
     let own = token_at TypeDef row ∷ [] in
-    let rest = members model 4 Field row ++ members model 5 MethodDef row in
-    cut_moved (IsLine model) c.from_residual.result before after (own ++ rest) waited c.print_line.new.lines.bytes.items c.from_residual.ensures.0
-    (cut_longer (IsLine model) before after own rest (own ++ rest) waited refl (c.in_err-print_line.ensures model here))
+    let tail = members model 4 Field row ++ members model 5 MethodDef row in
+    cut_moved (IsLine model) c.from_residual.result before after (own ++ tail) waited c.print_line.new.lines.bytes.items c.from_residual.ensures.0
+    (cut_longer (IsLine model) before after own tail (own ++ tail) waited refl (c.in_err-print_line.ensures model here))
 
 pub returns-in_err-print_members-clause-lines : goal.returns-in_err-print_members-clause-lines
 unfolding class_rows
