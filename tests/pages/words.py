@@ -72,7 +72,7 @@ FIXED_FORMS = [
     r"\b(?:stream|cli|rows?|header)\w*::place\b",
     r"\b(?:StreamHeader|CliHeader)\s*\{[^{}]*?\bplace\b",
     # A clause of the library's functions that split, and a fact of the toolchain about an argument.
-    r"\bensures\.front\b",
+    r"\bensures\.(?:front|rest)\b",
     r"\bc\.told(?=-)",
 ]
 # Words that a language itself has: the exceptions of Python.
