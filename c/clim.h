@@ -27,7 +27,7 @@
  * column, only the offset of what is wrong.
  *
  * Sizes: a clim_view has 5,208 bytes. No other call needs memory but its stack, which was measured and is not proved:
- * up to 256 kB in the calls that check or open (90 kB, and more for types that are nested in a signature, at most 128
+ * up to 256 kB in the calls that check or open (100 kB, and more for types that are nested in a signature, at most 128
  * deep), up to 384 kB in clim_canonical_root and clim_digest (64 kB, and more for nested types), up to 192 kB in
  * clim_signature_text, and up to 48 kB in any other call. So a thread needs CLIM_STACK bytes beside its own. Any file
  * overruns a stack of 64 kB, and a crafted file one of 128 kB.
