@@ -1,8 +1,7 @@
 //! The program `clim`, without the collection of its arguments.
 //!
-//! [`go`] is the whole run: it parses the arguments by [`ask`], reads the file, prints, and returns the exit code. Its
-//! contract says what goes to the output and which exit code it returns, for what reading the file gave. The texts of
-//! help, of usage errors and of `explain` are tested, not proved.
+//! [`go`] is the whole run, from the arguments, which [`ask`] parses, to the exit code. Its contract says what goes to the
+//! output, for what reading the file gave. The texts of help, usage errors and `explain` are tested, not proved.
 //!
 //! ```text
 //! let status = go(&rt, &["clim", "root", "--bare", "one_module.root"], &mut out, &mut err);

@@ -189,9 +189,10 @@ fn outline_file<'a, R: Files + Input + AllocGlobal, W: Write>(
 ) -> Result<(), Stopped<'a>>
     ensures { IsRunOn W.contents out.old out.new file.now (IsOutlined W.contents out.old out.new bare) result }
 {
-    let bytes = read_file(rt, file)?;
-    let outcome = report_outline(rt.alloc(), bare, &bytes, out);
-    with_hint(stopped_by(outcome), bare, &bytes)
+    let read = read_file(rt, file)?;
+    let bytes = read.as_slice();
+    let outcome = report_outline(rt.alloc(), bare, bytes, out);
+    with_hint(stopped_by(outcome), bare, bytes)
 }
 
 /// Checks a file against the rules, within a budget.
