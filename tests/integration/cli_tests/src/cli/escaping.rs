@@ -81,11 +81,11 @@ fn escapes_usage_errors(rt: HostRuntime) -> Result<(), Fail> {
             &["clim", "check", "--budget", text, "lacks"],
             &["clim", "check", budget.as_str(), "lacks"],
             &["clim", "check", bare.as_str(), "lacks"],
-            &["clim", "check", "lacks", text],
+            &["clim", "types", "lacks", text],
             &["clim", "token", "lacks", "1", text],
             &["clim", "rewrite", "lacks", "out", text],
             &["clim", "explain", "501", text],
-            &[text, "check"],
+            &[text, "types"],
             &[text, "check", "--lacks"],
         ] {
             assert!(rt; ends(&rt, words, 2, escaped)?, "{escaped}");
