@@ -26,7 +26,8 @@
  * that is not open, and for a number that names nothing, it returns false, 0 or no bytes. A fault has no table, row or
  * column, only the offset of what is wrong.
  *
- * Sizes: a clim_view has 5,208 bytes. No other call needs memory but its stack, which was measured and is not proved:
+ * Sizes: a clim_view has 5,208 bytes. No other call needs memory but its stack. These figures were measured, except
+ * the 100 kB, which are an estimate; none is proved:
  * up to 256 kB in the calls that check or open (100 kB, and more for types that are nested in a signature, at most 128
  * deep), up to 384 kB in clim_canonical_root and clim_digest (64 kB, and more for nested types), up to 192 kB in
  * clim_signature_text, and up to 48 kB in any other call. So a thread needs CLIM_STACK bytes beside its own. Any file
