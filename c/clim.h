@@ -26,12 +26,12 @@
  * that is not open, and for a number that names nothing, it returns false, 0 or no bytes. A fault has no table, row or
  * column, only the offset of what is wrong.
  *
- * Sizes: a clim_view has 5,208 bytes. No other call needs memory but its stack. These figures were measured, except
- * the 100 kB, which are an estimate; none is proved:
- * up to 256 kB in the calls that check or open (100 kB, and more for types that are nested in a signature, at most 128
- * deep), up to 384 kB in clim_canonical_root and clim_digest (64 kB, and more for nested types), up to 192 kB in
- * clim_signature_text, and up to 48 kB in any other call. So a thread needs CLIM_STACK bytes beside its own. Any file
- * overruns a stack of 64 kB, and a crafted file one of 128 kB.
+ * Sizes: a clim_view has 5,208 bytes. No other call needs memory but its stack. None of these figures is proved:
+ * up to 128 kB in the calls that check or open, up to 384 kB in clim_canonical_root and clim_digest (64 kB, and more for
+ * nested types), up to 192 kB in clim_signature_text, and up to 48 kB in any other call. So a thread needs CLIM_STACK
+ * bytes beside its own. The first was measured at calls that do the same as those of this library: to check took 46 kB
+ * for an assembly and 54 kB for a root whose types are nested 127 deep in a signature; to open took 73 kB and 82 kB.
+ * For a file with such types they add up to 61 kB and 89 kB.
  *
  * A caller must ensure the following. Nothing checks it:
  *   - No pointer is null, even if the length after it is 0. Use "" then.

@@ -34,8 +34,8 @@ no_number number recent long none nothing keeps = grind (arith, nat_tests)
 -- empty slots keep no number
 pub none_kept : (bytes number : ℕ) → ¬ Keeps (no_slots bytes) number
 none_kept bytes number =
-    no_number number (slice_index (replicate 4096 0) (number % 4096)) (slice_index (replicate 1024 0) (number / (bytes / 1024 + 1) % 1024))
-    (none_in 4096 (number % 4096)) (none_padded (number / (bytes / 1024 + 1) % 1024))
+    no_number number (slice_index (replicate 1024 0) (number % 1024)) (slice_index (replicate 1024 0) (number / (bytes / 1024 + 1) % 1024))
+    (none_in 1024 (number % 1024)) (none_padded (number / (bytes / 1024 + 1) % 1024))
 
 -- a property of the numbers of the rows before one, and of that row's number
 pub one_more : (P : ℕ → Type 0) (value : ℕ → ℕ) (row number : ℕ) → ((r : ℕ) → 1 ≤ r → r < row → P (value r)) → number ≡ value row → P number

@@ -9,11 +9,11 @@ pub record Slots : Type 0 where
 
 -- empty slots, for a heap of this number of bytes
 abbrev pub no_slots : ℕ → Slots
-no_slots bytes = record { recent = replicate 4096 0; long = replicate 1024 0; part = bytes / 1024 + 1 }
+no_slots bytes = record { recent = replicate 1024 0; long = replicate 1024 0; part = bytes / 1024 + 1 }
 
--- the slot of a number by its low twelve bits, and that of the part of the heap in which its blob begins
+-- the slot of a number by its low ten bits, and that of the part of the heap in which its blob begins
 abbrev pub recent_slot : ℕ → ℕ
-recent_slot number = number % 4096
+recent_slot number = number % 1024
 
 abbrev pub long_slot : Slots → ℕ → ℕ
 long_slot slots number = number / slots.part % 1024

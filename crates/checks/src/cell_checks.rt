@@ -20,6 +20,7 @@ use reading::{Source, column_at, named_by};
 use table_schema::{Coded, Column, ColumnKind, TableId, columns};
 
 /// Checks that each number of each table stands for a cell (II.22).
+#[inline(never)]
 pub fn check_cells(source: &Source) -> Result<(), Fault>
     ensures { Reports (rules_of_cells source.now) result }
 {

@@ -8,7 +8,7 @@
 //!
 //! ```text
 //! let source = Source::new(rows, Strings::new(texts), blobs, guids, offset);
-//! let checked = check_tables_within(&source, Budget::Unbounded)?;
+//! let in_order = check_tables_within(&source, Budget::Unbounded)?;
 //! ```
 #![tactic(auto)]
 
@@ -28,4 +28,4 @@ mod tables;
 mod texts;
 
 pub use budget::{BoundedError, Budget};
-pub use tables::{Checked, check_tables_within};
+pub use tables::check_tables_within;

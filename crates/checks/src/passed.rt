@@ -4,7 +4,7 @@ ghost use Rattle.checks.specs.Passed.{Keeps, no_slots, is_kept, keep};
 use std::marker::Model;
 
 /// The number of slots for numbers by their low bits.
-const RECENT: usize = 4096;
+const RECENT: usize = 1024;
 
 /// The number of the parts of a heap, each with a slot.
 const PARTS: usize = 1024;

@@ -1,62 +1,46 @@
-ghost use Rattle.std.specs.Prelude.{◌≡◌, ◌≤◌, ◌<◌, ◌-◌, ◌+◌, ◌&&◌, length, IfOk, IfSome, Some, ◌==◌, nat_lt, if◌then◌else◌};
+ghost use Rattle.std.specs.Prelude.{◌≡◌, ◌≤◌, ◌<◌, ◌-◌, ◌+◌, ◌&&◌, length, IfSome, Some, ◌==◌, nat_lt, if◌then◌else◌};
 ghost use Rattle.packed.specs.Rule.{Reports, rules_from};
 ghost use Rattle.table_schema.specs.Columns.{columns_of};
 ghost use Rattle.metadata.specs.Source.{rows_in};
 ghost use Rattle.metadata.specs.Starts.{start_of};
 ghost use Rattle.metadata.specs.Rules.{rules_of_start, rules_of_run, rules_of_runs};
-ghost use Rattle.reading.specs.KnownStarts.{IsKnownIn, AreKnown};
 ghost use Rattle.checks.specs.Runs.{IsVerdict, fault_in_row};
 
 use packed::{Fault, FaultCode};
-use reading::{KnownRuns, KnownStarts, Source};
+use reading::Source;
 use table_schema::TableId;
 
-/// The results of a pass over owners: the start of the first run, the first owner whose start is less than the
-/// start before, and the starts that are kept.
+/// The results of a pass over owners: the start of the first run, and the first owner whose start is less than the
+/// start before.
 #[derive(Clone, Copy)]
 struct Walk {
     first: u32,
     falls: Option<u32>,
-    known: KnownStarts,
 }
 
 /// Checks that each member of the five runs has one owner (II.22.37, II.22.26, II.22.12 and II.22.35).
-///
-/// If each has one, it returns the starts that were kept during the check.
-pub fn check_runs(source: &Source) -> Result<KnownRuns, Fault>
-    ensures reports { Reports (rules_of_runs source.now) result }
-    ensures known { IfOk result (AreKnown source.now.source) }
+#[tactic(auto, using(packed::proofs::RuleLemmas::fails_prefix, packed::proofs::RuleLemmas::fails_back, packed::proofs::RuleLemmas::all_append), unfolding(metadata::specs::Rules::rules_of_runs))]
+pub fn check_runs(source: &Source) -> Result<(), Fault>
+    ensures { Reports (rules_of_runs source.now) result }
 {
-    let fields = check_run(source, TableId::TypeDef, 4, TableId::Field)?;
-    let methods = check_run(source, TableId::TypeDef, 5, TableId::MethodDef)?;
-    let params = check_run(source, TableId::MethodDef, 5, TableId::Param)?;
-    let events = check_run(source, TableId::EventMap, 1, TableId::Event)?;
-    let properties = check_run(source, TableId::PropertyMap, 1, TableId::Property)?;
-    Ok(KnownRuns {
-        fields,
-        methods,
-        params,
-        events,
-        properties,
-    })
+    check_run(source, TableId::TypeDef, 4, TableId::Field)?;
+    check_run(source, TableId::TypeDef, 5, TableId::MethodDef)?;
+    check_run(source, TableId::MethodDef, 5, TableId::Param)?;
+    check_run(source, TableId::EventMap, 1, TableId::Event)?;
+    check_run(source, TableId::PropertyMap, 1, TableId::Property)?;
+    Ok(())
 }
 
 /// Checks that each member has one owner, by a list column of the owners.
 #[tactic(auto, using(packed::proofs::RuleLemmas::none_from), unfolding(metadata::specs::Rules::rules_of_run))]
-fn check_run(
-    source: &Source,
-    owner: TableId,
-    column: usize,
-    member: TableId,
-) -> Result<KnownStarts, Fault>
+fn check_run(source: &Source, owner: TableId, column: usize, member: TableId) -> Result<(), Fault>
     requires column { column < length (columns_of owner) }
     requires members { 0 < length (columns_of member) }
-    ensures reports { Reports (rules_of_run source.now owner column member) result }
-    ensures known { IfOk result (IsKnownIn source.now.source owner column member) }
+    ensures { Reports (rules_of_run source.now owner column member) result }
 {
     if source.count(owner) == 0 {
         if source.count(member) == 0 {
-            return Ok(KnownStarts::new(0));
+            return Ok(());
         }
         return Err(source.fault(FaultCode::NoOwner, member, 1, 0));
     }
@@ -66,7 +50,7 @@ fn check_run(
     }
     match walk.falls {
         Some(row) => Err(source.fault(FaultCode::BadRun, owner, row, column)),
-        None => Ok(walk.known),
+        None => Ok(()),
     }
 }
 
@@ -77,26 +61,19 @@ fn walk_owners(source: &Source, owner: TableId, column: usize, member: TableId) 
     ensures within { IfSome result.falls (λ row. (1 ≤ row) × (row ≤ rows_in source.now.source owner)) }
     ensures falls { IsVerdict (rules_from (rules_of_start source.now owner column member) 2 (rows_in source.now.source owner - 1))
         (fault_in_row source.now owner column result.falls) }
-    ensures known { IsKnownIn source.now.source owner column member result.known }
 {
     let count = source.count(owner);
     let numbers = source.column(owner, column);
     let mut first = source.count(member) + 1;
     let mut falls = None;
-    let mut known = KnownStarts::new(count);
     let mut row = count;
     while row > 0 {
         let start = start_by(numbers.number(row), first);
         falls = fallen(falls, row, count, first, start);
-        known.keep(row, start);
         first = start;
         row -= 1;
     }
-    Walk {
-        first,
-        falls,
-        known,
-    }
+    Walk { first, falls }
 }
 
 /// The start of an owner's run, from its list value and the start of the next owner.

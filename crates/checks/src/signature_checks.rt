@@ -52,6 +52,7 @@ fn check_signatures_of(
 }
 
 /// Checks the signatures of a table, row by row from `first` on.
+#[inline(never)]
 fn check_signature_rows(source: &Source, table: TableId, first: u32) -> Result<(), Fault>
     requires first { 1 ≤ first }
     requires last { first ≤ rows_in source.now.source table + 1 }
@@ -108,7 +109,8 @@ fn first_in_column(
 /// The first row before `limit` whose blob breaks a rule of a signature of this kind; `limit` if there is
 /// none. `None` if the budget is spent.
 ///
-/// A number that is remembered is not walked again.
+/// A number that is remembered is not walked again. The tables of these numbers are on the stack only here.
+#[inline(never)]
 fn first_not_encoded(
     source: &Source,
     table: TableId,
@@ -128,6 +130,9 @@ fn first_not_encoded(
     ensures spent { IfNone result (IsBelow budget.old (walked_bytes source.now.source table column (limit - 1))) }
 {
     packed::laws::numbers_are_read();
+    if limit == 1 {
+        return Some(limit);
+    }
     let heap = source.blobs();
     let numbers = source.column(table, column);
     let mut accepted = Passed::none(heap.len());

@@ -81,20 +81,10 @@ impl<'a> Texts<'a> {
         }
         let slot = start / self.part;
         let known = self.starts[slot];
-        if known != 0 && known <= index {
+        if covers(known, index) {
             return check_within(self.heap, index, known);
         }
-        let end = start - start % self.part + self.part;
-        if ends_before(self.heap, start, end) {
-            end_of_text(self.heap, index)?;
-            return Ok(());
-        }
-        let next = next_known(&self.starts, slot);
-        let reach = if next < PARTS {
-            end_through(self.heap, index, self.starts[next], (next + 1) * self.part)?
-        } else {
-            end_of_text(self.heap, index)?
-        };
+        let reach = reach_of(self.heap, &self.starts, self.part, index)?;
         keep_text(&mut self.starts, self.heap, self.part, index, reach);
         Ok(())
     }
@@ -140,6 +130,13 @@ fn next_known(starts: &[u32; PARTS], slot: usize) -> usize
     slot.max(PARTS)
 }
 
+/// Whether a start is known and is not after an index.
+fn covers(known: u32, index: u32) -> bool
+    ensures { IsTrue result ↔ (known ≢ 0) × (known ≤ index) }
+{
+    known != 0 && known <= index
+}
+
 /// Whether a text is at an index within a text: it begins with a character.
 fn check_within(heap: &[u8], index: u32, known: u32) -> Result<(), HeapFault>
     requires within { index < length heap.now }
@@ -153,6 +150,29 @@ fn check_within(heap: &[u8], index: u32, known: u32) -> Result<(), HeapFault>
     } else {
         Err(HeapFault::BadUtf8)
     }
+}
+
+/// An end that the text of an index reaches, where the start that is known of its part, if there is one, is after it.
+///
+/// A text that ends in its part is read. Of a longer one only the bytes before the next known text are.
+fn reach_of(heap: &[u8], starts: &[u32; PARTS], part: usize, index: u32) -> Result<usize, HeapFault>
+    requires first { 1 ≤ index }
+    requires within { index < length heap.now }
+    requires part { part ≡ length heap.now / 1024 + 1 }
+    requires starts { AreStarts heap.now part starts.now }
+    requires later { slice_index starts.now (index / part) ≢ 0 → index < slice_index starts.now (index / part) }
+    ensures reaches { IfOk result (Reaches heap.now index) }
+    ensures reports { (offset : ℕ) → Reports (rules_of_text heap.now index offset) (at_offset offset result) }
+{
+    let start = index as usize;
+    if ends_before(heap, start, start - start % part + part) {
+        return end_of_text(heap, index);
+    }
+    let next = next_known(starts, start / part);
+    if next < PARTS {
+        return end_through(heap, index, starts[next], (next + 1) * part);
+    }
+    end_of_text(heap, index)
 }
 
 /// Where the text of an index ends.
@@ -197,7 +217,8 @@ fn first_character(heap: &[u8], begin: usize, end: usize) -> Option<u32>
     None
 }
 
-/// Keeps the text of an index, which reaches an end, as the start of each part that it leaves, up to one with a start.
+/// Keeps the text of an index, which reaches an end, as the start of its part if it leaves that, and of each later part
+/// that it leaves, up to one with a start.
 fn keep_text(starts: &mut [u32; PARTS], heap: &[u8], part: usize, index: u32, reach: usize)
     requires first { 1 ≤ index }
     requires part { part ≡ length heap.now / 1024 + 1 }
@@ -212,9 +233,21 @@ fn keep_text(starts: &mut [u32; PARTS], heap: &[u8], part: usize, index: u32, re
     }
     let is_new = starts[slot] == 0;
     starts[slot] = index;
-    if !is_new {
-        return;
+    if is_new {
+        keep_endings(starts, heap, part, index, reach);
     }
+}
+
+/// Keeps the endings of the text of an index, which reaches an end, as the starts of the later parts that it leaves, up
+/// to one with a start.
+fn keep_endings(starts: &mut [u32; PARTS], heap: &[u8], part: usize, index: u32, reach: usize)
+    requires part { part ≡ length heap.now / 1024 + 1 }
+    requires reaches { Reaches heap.now index reach }
+    requires starts { AreStarts heap.now part starts.old }
+    ensures starts { AreStarts heap.now part starts.new }
+    ensures same { slice_index starts.new (index / part) ≡ slice_index starts.old (index / part) }
+{
+    let slot = index as usize / part;
     for later in slot + 1..PARTS.min(reach / part) {
         if starts[later] != 0 {
             return;

@@ -4,3 +4,4 @@ pub mod Parts
 pub mod SourceAt
 pub mod SignatureLemmas
 pub mod SharedLemmas
+pub mod ColumnLemmas

@@ -10,6 +10,7 @@ use crate::cell_cursor::cell_in_pass;
 use crate::view::View;
 use metadata_source::{MemberList, ReadCells, ReadMetadata, SignatureBytes};
 use reading::{CellRef, RunCursors, is_text_at, start_at};
+use rows::ColumnNumbers;
 use std::alloc::{AllocError, Global};
 use table_schema::{SigKind, TableId, column_of_cell};
 
@@ -80,6 +81,11 @@ impl ReadCells for View<'_> {
             self.source()
                 .number(table, row, column_of_cell(table, cell)),
         )
+    }
+
+    fn column_numbers(&self, table: TableId, cell: usize) -> Option<ColumnNumbers<'_>> {
+        metadata::laws::models_are_read();
+        Some(self.source().column(table, column_of_cell(table, cell)))
     }
 
     fn strings_heap(&self) -> Option<&[u8]> {

@@ -24,7 +24,6 @@ ghost use Rattle.checks.specs.Orders.{ReportsOrder};
 ghost use Rattle.opening.specs.Views.{HasModel, AreFound, row_count, user_of};
 
 use crate::found::Found;
-use checks::Checked;
 use metadata_source::KeysOf;
 use reading::{CellRef, KeyRows, KnownRuns, Source, Starts, cell_of, starts_of};
 use std::alloc::AllocError;
@@ -42,7 +41,10 @@ pub struct View<'a> {
     source: Source<'a>,
     version: &'a str,
     user: &'a [u8],
-    found: Checked,
+    /// Which tables with a key are in order of it, by table number.
+    in_order: [bool; 45],
+    /// The starts of runs that are known.
+    known: KnownRuns,
 }
 
 impl<'a> Model for View<'a> {
@@ -68,7 +70,8 @@ impl<'a> Clone for View<'a> {
             source: self.source.clone()?,
             version: self.version,
             user: self.user,
-            found: self.found,
+            in_order: self.in_order,
+            known: self.known,
         })
     }
 }
@@ -80,14 +83,15 @@ impl<'a> View<'a> {
         source: Source<'a>,
         version: &'a str,
         user: &'a [u8],
-        found: Checked,
+        in_order: [bool; 45],
+        known: KnownRuns,
     ) -> View<'a>
         requires model { HasModel root.now }
         requires source { source.source ≡ source_of root.now }
         requires version { version.now ≡ (root_read root.now).version }
         requires user { user.now ≡ user_of root.now }
-        requires order { ReportsOrder source.source found.in_order }
-        requires known { AreKnown source.source found.known }
+        requires order { ReportsOrder source.source in_order }
+        requires known { AreKnown source.source known }
         ensures { result ≡ root.now }
     {
         View {
@@ -95,7 +99,8 @@ impl<'a> View<'a> {
             source,
             version,
             user,
-            found,
+            in_order,
+            known,
         }
     }
 
@@ -114,7 +119,7 @@ impl<'a> View<'a> {
     pub(crate) fn known(&self) -> &KnownRuns
         ensures { (source : TheSource) → source ≡ source_of self.now → AreKnown source result.now }
     {
-        &self.found.known
+        &self.known
     }
 
     /// The bytes of the root, which has a model.
@@ -130,8 +135,8 @@ impl<'a> View<'a> {
         ensures { AreFound self.now result }
     {
         Found {
-            known: self.found.known,
-            in_order: self.found.in_order,
+            known: self.known,
+            in_order: self.in_order,
             utf8_texts: self.source.strings().is_utf8(),
         }
     }
@@ -258,7 +263,7 @@ impl<'a> View<'a> {
         ensures model { (model : Metadata) → IsModel self.now model → IsTrue result ↔ IsKeyOrdered model table }
     {
         metadata::laws::keys_are_in_order();
-        self.found.in_order[table.number() as usize]
+        self.in_order[table.number() as usize]
     }
 
     /// The rows of a table whose key is a token, in ascending order (II.22).

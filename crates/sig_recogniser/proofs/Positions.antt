@@ -82,6 +82,14 @@ number_two bytes here behind next a b h k same too low high =
     let two : ltb a 0xC0 ≡ true = grind (arith, nat_tests) in
     rw (h, k, long, two, too, same) refl
 
+pub number_four : (bytes : List ℕ) (here p q r next : Position) (a b c d : ℕ) → remains bytes here ≡ a ∷ remains bytes p → remains bytes p ≡ b ∷ remains bytes q → remains bytes q ≡ c ∷ remains bytes r → remains bytes r ≡ d ∷ remains bytes next → bad_token p ≡ bad_token here → bad_token q ≡ bad_token p → bad_token r ≡ bad_token q → bad_token next ≡ bad_token r → 0xC0 ≤ a → a < 0xE0 → number_left (left bytes here) ≡ Some ((a - 0xC0) * 2 ^ 24 + b * 2 ^ 16 + c * 2 ^ 8 + d, left bytes next)
+unfolding number_left number_at unsigned_at
+number_four bytes here p q r next a b c d ha hb hc hd sp sq sr sn low high =
+    let long : ltb a 0x80 ≡ false = grind (arith, nat_tests) in
+    let longer : ltb a 0xC0 ≡ false = grind (arith, nat_tests) in
+    let four : ltb a 0xE0 ≡ true = grind (arith, nat_tests) in
+    rw (ha, hb, hc, hd, long, longer, four, sn, sr, sq, sp) refl
+
 -- ---- another position with the same numbers
 
 pub same_bytes : (bytes : List ℕ) (here next : Position) → offset_of next ≡ offset_of here → remains bytes next ≡ remains bytes here

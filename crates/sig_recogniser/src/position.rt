@@ -1,4 +1,4 @@
-ghost use Rattle.std.specs.Prelude.{◌≡◌, ◌<◌, ◌≤◌, ◌^◌, ◌+◌, [], ◌∷◌, List, ℕ, length, drop, Some, option_map, MatchOption, IfSome};
+ghost use Rattle.std.specs.Prelude.{◌≡◌, ◌<◌, ◌≤◌, ◌^◌, ◌+◌, ◌-◌, ◌*◌, [], ◌∷◌, List, ℕ, length, drop, Some, option_map, MatchOption, IfSome};
 ghost use Rattle.sig_grammar.specs.Reading.{token_of, starts_modifier, starts_prefix};
 ghost use Rattle.sig_recogniser.specs.Skips.{offset_of, bad_of, remains, bad_token as noted_token, left, number_left, skip_number, is_marked, behind_mark, noted as noted_with};
 
@@ -15,6 +15,9 @@ const TWO_BYTES: u8 = 0x80;
 
 /// The least first byte of a number in four bytes (II.23.2).
 const FOUR_BYTES: u8 = 0xC0;
+
+/// The least first byte of no number (II.23.2).
+const NO_NUMBER: u8 = 0xE0;
 
 /// A position in the bytes of a signature: what a walk passed so far.
 ///
@@ -190,6 +193,35 @@ pub fn middle_number(bytes: &[u8], here: Position) -> Option<(u32, Position)>
     let high = u32::from(first - TWO_BYTES);
     let low = u32::from(second);
     Some((high * 0x100 + low, next))
+}
+
+/// The number that has a form of four bytes (II.23.2).
+#[inline(always)]
+fn number_of_four(first: u8, second: u8, third: u8, fourth: u8) -> u32
+    requires low { 0xC0 ≤ first }
+    requires high { first < 0xE0 }
+    ensures value { result ≡ (first - 0xC0) * 2 ^ 24 + second * 2 ^ 16 + third * 2 ^ 8 + fourth }
+    ensures limit { result < 2 ^ 29 }
+{
+    let high = u32::from(first - FOUR_BYTES) * 0x100_0000 + u32::from(second) * 0x1_0000;
+    high + u32::from(third) * 0x100 + u32::from(fourth)
+}
+
+/// The packed number of four bytes after a position, and the position after it; `None` if another form is there.
+#[inline(always)]
+pub fn wide_number(bytes: &[u8], here: Position) -> Option<(u32, Position)>
+    requires { length bytes.now < 2 ^ 29 }
+    ensures number { IfSome result (λ x. number_left (left bytes.now here) ≡ Some (x.0, left bytes.now x.1)) }
+    ensures limit { IfSome result (λ x. x.0 < 2 ^ 29) }
+{
+    let (first, after_first) = byte(bytes, here)?;
+    if first < FOUR_BYTES || first >= NO_NUMBER {
+        return None;
+    }
+    let (second, after_second) = byte(bytes, after_first)?;
+    let (third, after_third) = byte(bytes, after_second)?;
+    let (fourth, next) = byte(bytes, after_third)?;
+    Some((number_of_four(first, second, third, fourth), next))
 }
 
 /// The packed number after a position (II.23.2), and the position after it.

@@ -4,6 +4,7 @@ ghost use Rattle.sig_recogniser.specs.Skips.{left, number_left, skip_index, skip
 
 use crate::position::{
     Position, byte, has_modifier, has_prefix, long_number, middle_number, noted, short_number,
+    wide_number,
 };
 use sig_grammar::element_type::PINNED;
 use sig_grammar::token_of_index;
@@ -32,6 +33,9 @@ pub fn after_index(bytes: &[u8], here: Position, counts: &[u32; 45]) -> Option<P
         return after_index_number(number, behind, counts);
     }
     if let Some((number, behind)) = middle_number(bytes, here) {
+        return after_index_number(number, behind, counts);
+    }
+    if let Some((number, behind)) = wide_number(bytes, here) {
         return after_index_number(number, behind, counts);
     }
     let (number, behind) = long_number(bytes, here)?;

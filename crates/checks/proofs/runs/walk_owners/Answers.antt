@@ -3,7 +3,6 @@ use Rattle.packed.proofs.RuleLemmas.{none_from}
 use Rattle.metadata.specs.Source.{rows_in, number_of}
 use Rattle.metadata.specs.Starts.{start_of}
 use Rattle.metadata.specs.Rules.{rules_of_start}
-use Rattle.reading.specs.KnownStarts.{IsKnown}
 use Rattle.checks.proofs.Starts.{start_of_end, start_by, falls_step}
 use Rattle.checks.proofs.runs.walk_owners.Goals as goal
 
@@ -16,8 +15,6 @@ loop-row-init c =
       first = ap (λ n. n + 1) c.count-first.ensures.value
           ∙ sym (start_of_end here.source c.args.owner (count + 1) c.args.column c.args.member
           (omega (arith, c.count-count.ensures.value)));
-      room = c.new-known.ensures.room;
-      known = c.new-known.ensures.none (λ r. start_of here.source c.args.owner r c.args.column c.args.member);
       falls = none_from (rules_of_start here c.args.owner c.args.column c.args.member) (count + 2) (count - (count + 1)) (omega arith);
       within = tt;
     }
@@ -34,20 +31,11 @@ loop-row-preserved c =
     let start : c.start_by-start.result ≡ starts row =
     c.start_by-start.ensures ∙ start_by here.source c.args.owner row c.args.column c.args.member c.number.result c.loop-row.first within number before.first in
     let again : row - 1 + 1 ≡ row = omega arith in
-    let known : IsKnown c.keep.new.self starts row c.count-count.result =
-    c.keep.ensures.known starts c.count-count.result start before.known in
     record {
       row = omega (arith, before.row);
       first = start ∙ ap starts (sym again);
       falls = falls_step here c.args.owner c.args.column c.args.member
           row c.count-count.result c.loop-row.first c.start_by-start.result c.loop-row.falls c.fallen-falls.result
           (omega arith) before.row before.first start before.falls c.fallen-falls.ensures.value;
-      room = rw c.keep.ensures.step before.room;
-      known = rw again known;
       within = c.fallen-falls.ensures.within before.within;
     }
-
-pub returns-clause-known : goal.returns-clause-known
-returns-clause-known c =
-    let first : c.loop-row.row + 1 ≡ 1 = omega arith in
-    rw (c.count-count.ensures.value, first) at c.loop-row.invariant.known

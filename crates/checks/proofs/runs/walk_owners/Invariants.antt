@@ -1,9 +1,8 @@
-use Rattle.std.proofs.Common.{◌≡◌, ◌-◌, ◌+◌, ◌*◌, ◌≤◌, ◌<◌}
+use Rattle.std.proofs.Common.{◌≡◌, ◌-◌, ◌+◌, ◌≤◌}
 use Rattle.std.specs.Prelude.{IfSome}
 use Rattle.packed.specs.Rule.{rules_from}
 use Rattle.metadata.specs.Starts.{start_of}
 use Rattle.metadata.specs.Rules.{rules_of_start}
-use Rattle.reading.specs.KnownStarts.{IsKnown}
 use Rattle.checks.specs.Runs.{IsVerdict, fault_in_row}
 use Rattle.checks.proofs.runs.walk_owners.Given as goal
 
@@ -13,8 +12,6 @@ invariant-loop-row l = record {
   first : l.first ≡ start_of l.source.source l.fn.owner (l.row + 1) l.column l.fn.member;
   falls : IsVerdict (rules_from (rules_of_start l.source l.fn.owner l.column l.fn.member) (l.row + 2) (l.count - (l.row + 1)))
       (fault_in_row l.source l.fn.owner l.column l.falls);
-  room : l.count < 256 * l.known.step;
-  known : IsKnown l.known (λ row. start_of l.source.source l.fn.owner row l.column l.fn.member) (l.row + 1) l.count;
   within : IfSome l.falls (λ r. (1 ≤ r) × (r ≤ l.count));
 }
 

@@ -1,6 +1,7 @@
 use Rattle.std.proofs.Common.{◌≡◌, ℕ, ◌+◌, ◌-◌, List, length, Ok, sym, ap, ◌∙◌, subst, inl, inr, arith}
 use Rattle.table_schema.specs.declared.column.ColumnKind.TheVariants as kind
 use Rattle.metadata.specs.Source.{number_of}
+use Rattle.checks.specs.Budgets.{Takes}
 use Rattle.checks.specs.Columns.{IsEncoded}
 use Rattle.checks.specs.Passed.{no_slots}
 use Rattle.checks.specs.Signatures.{blob_length}
@@ -99,3 +100,12 @@ returns-clause-walked c = (c.loop-row.row - 1, omega arith, omega arith, omega a
 
 pub returns-clause-encoded : goal.returns-clause-encoded
 returns-clause-encoded c = record { each = λ row first before. c.loop-row.invariant.before row first (omega arith) }
+
+pub returns-then-limit-eq1-clause-encoded : goal.returns-then-limit-eq1-clause-encoded
+returns-then-limit-eq1-clause-encoded c = record { each = λ row first before. absurd (omega arith) }
+
+pub returns-then-limit-eq1-clause-walked : goal.returns-then-limit-eq1-clause-walked
+returns-then-limit-eq1-clause-walked c =
+    let source = c.args.source.now.source in
+    let none = walk_none (length source.blobs) (blob_length source.blobs) (number_after source c.args.table c.args.column) in
+    (0, omega arith, omega arith, omega arith, subst (λ (w : Walk). Takes c.args.budget.now c.args.budget.now w.bytes) (sym none) (takes_none c.args.budget.now))

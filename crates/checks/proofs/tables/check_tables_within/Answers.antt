@@ -11,7 +11,7 @@ unfolding rules_of_tables
 returns-in_err-check_signatures-clause-reports c =
     let p = err_from_is_err_and c.from_residual-in_err-check_signatures.result c.from_residual-in_err-check_signatures.ensures.1 in
     let here = c.args.source.now in
-    let met = c.in_ok-checked.ensures in
+    let met = c.in_ok-in_order.ensures in
     let bytes = signature_bytes here.source in
     let error = c.in_err-check_signatures.field-0.0 in
     rw (p.1, p.2) (tail_fails c.args.budget bytes (rules_of_cells here) (rules_of_order here ++ (rules_of_runs here ++ (rules_of_nesting here ++ rules_of_signatures here))) error met.cells
@@ -23,7 +23,7 @@ pub returns-clause-reports : goal.returns-clause-reports
 unfolding rules_of_tables
 returns-clause-reports c =
     let here = c.args.source.now in
-    let met = c.in_ok-checked.ensures in
+    let met = c.in_ok-in_order.ensures in
     all_append (rules_of_cells here) (rules_of_order here ++ (rules_of_runs here ++ (rules_of_nesting here ++ rules_of_signatures here))) met.cells
     (all_append (rules_of_order here) (rules_of_runs here ++ (rules_of_nesting here ++ rules_of_signatures here)) met.sorted
     (all_append (rules_of_runs here) (rules_of_nesting here ++ rules_of_signatures here) met.runs

@@ -1,9 +1,9 @@
 use Rattle.std.proofs.Common.{◌≡◌, ◌/◌, slice_index}
 use Rattle.checks.specs.Texts.{AreStarts}
-use Rattle.checks.proofs.texts.keep_text.Given as goal
+use Rattle.checks.proofs.texts.keep_endings.Given as goal
 
 abbrev pub invariant-loop-later : goal.invariant-loop-later
 invariant-loop-later l = record {
   are : AreStarts l.heap l.part l.starts;
-  kept : slice_index l.starts (l.index / l.part) ≡ l.index;
+  same : slice_index l.starts (l.index / l.part) ≡ slice_index l.initial.starts (l.index / l.part);
 }

@@ -1,0 +1,41 @@
+use Rattle.std.proofs.Common.{◌≡◌, ◌≤◌, ℕ, Some, sym, ap, subst, ◌∙◌, arith}
+use Rattle.table_schema.specs.CellColumns.{column_of}
+use Rattle.rows.specs.Columns.{number_in_row}
+use Rattle.metadata.specs.Metadata.{Metadata, cell_in}
+use Rattle.metadata.specs.Source.{Source, number_of, rows_in}
+use Rattle.metadata.specs.SourceAt.{source_of}
+use Rattle.metadata.specs.Starts.{start_of}
+use Rattle.metadata.specs.Valid.{kind_at, nullable_at}
+use Rattle.metadata_source.specs.ColumnNumbers.{IsNumberOf}
+use Rattle.opening.specs.Views.{row_count}
+use Rattle.opening.proofs.ColumnLemmas.{number_is}
+use Rattle.opening.proofs.metadata_held.ViewReadCells.column_numbers.Goals as goal
+
+pub returns-clause-count : goal.returns-clause-count
+returns-clause-count c = c.column.ensures.count ∙ c.source.ensures.rows c.args.table
+
+pub returns-clause-indexes : goal.returns-clause-indexes
+returns-clause-indexes c = λ row first last.
+    let table = c.args.table in
+    let root = c.args.self.now in
+    let within : row ≤ rows_in c.source.result.now.source table = omega (arith, c.source.ensures.rows table, last) in
+    ap Some (sym (c.column.ensures.numbers row first within
+    ∙ ap (λ (s : Source). number_of s table row c.column_of_cell.result) c.source.ensures.source
+    ∙ ap (λ (n : ℕ). number_of (source_of root) table row n) c.column_of_cell.ensures.value))
+
+pub returns-clause-numbers : goal.returns-clause-numbers
+unfolding row_count
+returns-clause-numbers c = λ model is row first last.
+    let table = c.args.table in
+    let cell = c.args.cell in
+    let root = c.args.self.now in
+    let source = source_of root in
+    let column = column_of table cell in
+    let within : row ≤ rows_in c.source.result.now.source table = omega (arith, c.source.ensures.rows table, last) in
+    let number : number_in_row c.column.result row ≡ number_of source table row column =
+    c.column.ensures.numbers row first within
+    ∙ ap (λ (s : Source). number_of s table row c.column_of_cell.result) c.source.ensures.source
+    ∙ ap (λ (n : ℕ). number_of source table row n) c.column_of_cell.ensures.value in
+    subst (λ (n : ℕ). IsNumberOf (kind_at table cell) n (cell_in model table row cell)) (sym number)
+    (number_is source (kind_at table cell) (nullable_at table cell) (start_of source table row column) (number_of source table row column) (cell_in model table row cell)
+    (c.models_are_read.ensures.cells root model is table row cell first last c.requires))

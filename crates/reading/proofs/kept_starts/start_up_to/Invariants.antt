@@ -1,0 +1,9 @@
+use Rattle.std.proofs.Common.{◌≡◌, ◌≤◌, ℕ}
+use Rattle.metadata.specs.Starts.{start_of}
+use Rattle.reading.proofs.kept_starts.start_up_to.Given as goal
+
+-- the owners up to this one have the same start
+abbrev pub invariant-loop-later : goal.invariant-loop-later
+invariant-loop-later l =
+    (r : ℕ) → l.row ≤ r → r ≤ l.later
+    → start_of l.source.source l.owner r l.column l.fn.member ≡ start_of l.source.source l.owner l.row l.column l.fn.member
