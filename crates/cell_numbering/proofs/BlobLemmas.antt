@@ -11,12 +11,12 @@ pub record AreLaws : Type 0 where
   pub more : (used : List (List ℕ)) (value : List ℕ) → distinct (used ++ value ∷ []) ≡ pooled (distinct used) value
   pub again : (used : List (List ℕ)) (value : List ℕ) → Contains used value → pooled (distinct used) value ≡ distinct used
 
-same_map : {X Y : Type 0} (P : X → Type 0) (f g : X → Y) → ((x : X) → P x → f x ≡ g x) → (xs : List X) → All P xs → map f xs ≡ map g xs
+pub same_map : {X Y : Type 0} (P : X → Type 0) (f g : X → Y) → ((x : X) → P x → f x ≡ g x) → (xs : List X) → All P xs → map f xs ≡ map g xs
 same_map P f g same [] all = refl
 same_map P f g same (x ∷ xs) all =
     ap (λ y. y ∷ map f xs) (same x (All-head P x xs all)) ∙ ap (λ ys. g x ∷ ys) (same_map P f g same xs (All-tail P x xs all))
 
-map_map : {X Y Z : Type 0} (f : Y → Z) (g : X → Y) (xs : List X) → map (λ x. f (g x)) xs ≡ map f (map g xs)
+pub map_map : {X Y Z : Type 0} (f : Y → Z) (g : X → Y) (xs : List X) → map (λ x. f (g x)) xs ≡ map f (map g xs)
 map_map f g [] = refl
 map_map f g (x ∷ xs) = ap (λ list. f (g x) ∷ list) (map_map f g xs)
 
@@ -39,12 +39,8 @@ module _ (laws : AreLaws) (groups : List (List ℕ)) (of_use : List ℕ) (blobs 
       }
 
   -- a group that is known
-  pub known : (k : ℕ) (blob : List ℕ) → k < length of_use → get_or blobs k [] ≡ blob → AreGroups groups (of_use ++ slice_index of_use k ∷ []) (blobs ++ blob ∷ [])
-  known k blob below same =
-      let group = slice_index of_use k in
-      let low : group < length groups = All-get_or (λ (g : ℕ). g < length groups) of_use k 0 below are.low in
-      let has : blob_of groups group ≡ blob =
-      sym (get_or-map (blob_of groups) of_use k 0 [] below) ∙ ap (λ list. get_or list k []) are.each ∙ same in
+  pub known_group : (group : ℕ) (blob : List ℕ) → group < length groups → blob_of groups group ≡ blob → AreGroups groups (of_use ++ group ∷ []) (blobs ++ blob ∷ [])
+  known_group group blob low has =
       let there : Contains groups blob = subst (Contains groups) has (Contains-get_or groups group [] low) in
       record {
         low = All-push (λ g. g < length groups) of_use group are.low low;
@@ -52,6 +48,13 @@ module _ (laws : AreLaws) (groups : List (List ℕ)) (of_use : List ℕ) (blobs 
         short = are.short;
         firsts = sym (laws.more blobs blob ∙ ap (λ list. pooled list blob) (sym are.firsts) ∙ laws.again groups blob there);
       }
+
+  -- the group of a use that is known
+  pub known : (k : ℕ) (blob : List ℕ) → k < length of_use → get_or blobs k [] ≡ blob → AreGroups groups (of_use ++ slice_index of_use k ∷ []) (blobs ++ blob ∷ [])
+  known k blob below same =
+      let group = slice_index of_use k in
+      let low : group < length groups = All-get_or (λ (g : ℕ). g < length groups) of_use k 0 below are.low in
+      known_group group blob low (sym (get_or-map (blob_of groups) of_use k 0 [] below) ∙ ap (λ list. get_or list k []) are.each ∙ same)
 
 -- the indexes of the uses, from those of the groups
 pub indexes_are : (index : List ℕ → ℕ) (groups : List (List ℕ)) (of_use : List ℕ) (blobs : List (List ℕ)) → AreGroups groups of_use blobs

@@ -4,3 +4,5 @@ pub mod KindLemmas
 pub mod NumberLemmas
 pub mod UseLemmas
 pub mod TextLemmas
+pub mod StartLemmas
+pub mod PlainLemmas

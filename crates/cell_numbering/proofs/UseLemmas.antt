@@ -19,10 +19,15 @@ use Rattle.metadata_source.specs.declared.signature_bytes.SignatureBytes.TheVari
 use Rattle.metadata_source.specs.SharedBlobs.{CellId, HasCell, IsBlobKind, ShareBlob, cell_by_id, kind_by_id}
 use Rattle.canonical.specs.Pools.{texts_of, blobs_of, guids_of, used}
 use Rattle.cell_numbering.specs.declared.blob_use.BlobUse.{BlobUse}
+use Rattle.cell_numbering.specs.declared.blob_uses.BlobUses.{BlobUses}
 use Rattle.cell_numbering.specs.declared.heap_uses.HeapUses.{HeapUses}
 use Rattle.cell_numbering.specs.declared.text_uses.TextUses.{TextUses}
-use Rattle.cell_numbering.specs.HeapUses.{AreUsesIn, AreUsesOf, GivesBlob, HaveOneIndex, IsUseIn, IsUseOf, all_cells, guid_of}
+use Rattle.cell_numbering.specs.BlobGroups.{AreGroups}
+use Rattle.cell_numbering.specs.BlobUses.{AreBlobUses, IsAtIndex}
+use Rattle.cell_numbering.specs.HeapUses.{AreUsesIn, AreUsesOf, AreUsesOfAll, GivesBlob, HaveOneIndex, IsUseIn, IsUseOf, all_cells, guid_of}
 use Rattle.cell_numbering.specs.TextUses.{AreTextUses}
+use Rattle.cell_numbering.proofs.BlobLemmas.{AreLaws, known_group, new_group, no_groups}
+use Rattle.cell_numbering.proofs.KindLemmas.{IsNoText}
 
 -- ---- related lists
 
@@ -58,11 +63,11 @@ flat_more f cells cell = flat_map-append f cells (cell ∷ []) ∙ ap (λ list. 
 
 module _ (index_of : CellId → Option ℕ) (model : Metadata) (before after : HeapUses) (cells : List Cell) (cell : Cell) (are : AreUsesIn index_of model before cells) where
   pub added : AreTextUses index_of model after.texts (flat_map texts_of cells ++ texts_of cell) → after.guids.items ≡ before.guids.items ++ guid_of cell
-      → AllZip (IsUseIn index_of model) after.blobs.items (flat_map blobs_of cells ++ blobs_of cell) → AreUsesIn index_of model after (cells ++ cell ∷ [])
+      → AreBlobUses (IsUseIn index_of model) after.blobs (flat_map blobs_of cells ++ blobs_of cell) → AreUsesIn index_of model after (cells ++ cell ∷ [])
   added texts guids blobs = record {
     texts = subst (AreTextUses index_of model after.texts) (sym (flat_more texts_of cells cell)) texts;
     guids = guids ∙ ap (λ list. list ++ guid_of cell) are.guids ∙ sym (flat_more guid_of cells cell);
-    blobs = subst (λ list. AllZip (IsUseIn index_of model) after.blobs.items list) (sym (flat_more blobs_of cells cell)) blobs;
+    blobs = subst (λ list. AreBlobUses (IsUseIn index_of model) after.blobs list) (sym (flat_more blobs_of cells cell)) blobs;
   }
 
   no_more_texts : after.texts ≡ before.texts → texts_of cell ≡ [] → AreTextUses index_of model after.texts (flat_map texts_of cells ++ texts_of cell)
@@ -70,29 +75,27 @@ module _ (index_of : CellId → Option ℕ) (model : Metadata) (before after : H
       subst (λ (uses : TextUses). AreTextUses index_of model uses (flat_map texts_of cells ++ texts_of cell)) (sym same)
       (subst (AreTextUses index_of model before.texts) (sym (ap (λ list. flat_map texts_of cells ++ list) none ∙ append-nil (flat_map texts_of cells))) are.texts)
 
+  no_more_guids : after.guids.items ≡ before.guids.items → guid_of cell ≡ [] → after.guids.items ≡ before.guids.items ++ guid_of cell
+  no_more_guids same none = same ∙ sym (ap (λ list. before.guids.items ++ list) none ∙ append-nil before.guids.items)
+
+  no_more_blobs : after.blobs ≡ before.blobs → blobs_of cell ≡ [] → AreBlobUses (IsUseIn index_of model) after.blobs (flat_map blobs_of cells ++ blobs_of cell)
+  no_more_blobs same none =
+      subst (λ (uses : BlobUses). AreBlobUses (IsUseIn index_of model) uses (flat_map blobs_of cells ++ blobs_of cell)) (sym same)
+      (subst (AreBlobUses (IsUseIn index_of model) before.blobs) (sym (ap (λ list. flat_map blobs_of cells ++ list) none ∙ append-nil (flat_map blobs_of cells))) are.blobs)
+
   pub added_text : AreTextUses index_of model after.texts (flat_map texts_of cells ++ texts_of cell) → guid_of cell ≡ [] → blobs_of cell ≡ []
-      → after.guids.items ≡ before.guids.items → after.blobs.items ≡ before.blobs.items → AreUsesIn index_of model after (cells ++ cell ∷ [])
-  added_text texts no_guid no_blob guids blobs =
-      added texts
-      (guids ∙ sym (ap (λ list. before.guids.items ++ list) no_guid ∙ append-nil before.guids.items))
-      (subst (λ list. AllZip (IsUseIn index_of model) after.blobs.items list) (sym (ap (λ list. flat_map blobs_of cells ++ list) no_blob ∙ append-nil (flat_map blobs_of cells)))
-      (subst (λ (list : List BlobUse). AllZip (IsUseIn index_of model) list (flat_map blobs_of cells)) (sym blobs) are.blobs))
+      → after.guids.items ≡ before.guids.items → after.blobs ≡ before.blobs → AreUsesIn index_of model after (cells ++ cell ∷ [])
+  added_text texts no_guid no_blob guids blobs = added texts (no_more_guids guids no_guid) (no_more_blobs blobs no_blob)
 
   pub added_guid : (guid : Option (List ℕ)) → cell ≡ Guid guid → after.texts ≡ before.texts → after.guids.items ≡ before.guids.items ++ guid ∷ []
-      → after.blobs.items ≡ before.blobs.items → AreUsesIn index_of model after (cells ++ cell ∷ [])
+      → after.blobs ≡ before.blobs → AreUsesIn index_of model after (cells ++ cell ∷ [])
   added_guid guid is texts guids blobs =
-      added (no_more_texts texts (ap texts_of is))
-      (guids ∙ sym (ap (λ c. before.guids.items ++ guid_of c) is))
-      (subst (λ list. AllZip (IsUseIn index_of model) after.blobs.items list) (sym (ap (λ c. flat_map blobs_of cells ++ blobs_of c) is ∙ append-nil (flat_map blobs_of cells)))
-      (subst (λ (list : List BlobUse). AllZip (IsUseIn index_of model) list (flat_map blobs_of cells)) (sym blobs) are.blobs))
+      added (no_more_texts texts (ap texts_of is)) (guids ∙ sym (ap (λ c. before.guids.items ++ guid_of c) is)) (no_more_blobs blobs (ap blobs_of is))
 
-  pub added_blob : (used : BlobUse) → AllZip (IsUseIn index_of model) (used ∷ []) (blobs_of cell) → texts_of cell ≡ [] → guid_of cell ≡ [] → after.texts ≡ before.texts
-      → after.guids.items ≡ before.guids.items → after.blobs.items ≡ before.blobs.items ++ used ∷ [] → AreUsesIn index_of model after (cells ++ cell ∷ [])
-  added_blob used is no_text no_guid texts guids blobs =
-      added (no_more_texts texts no_text)
-      (guids ∙ sym (ap (λ list. before.guids.items ++ list) no_guid ∙ append-nil before.guids.items))
-      (subst (λ (list : List BlobUse). AllZip (IsUseIn index_of model) list (flat_map blobs_of cells ++ blobs_of cell)) (sym blobs)
-      (zip_append (IsUseIn index_of model) before.blobs.items (flat_map blobs_of cells) (used ∷ []) (blobs_of cell) are.blobs is))
+  -- a blob, whose use is kept or refers to one that is
+  pub added_blob : AreBlobUses (IsUseIn index_of model) after.blobs (flat_map blobs_of cells ++ blobs_of cell) → texts_of cell ≡ [] → guid_of cell ≡ [] → after.texts ≡ before.texts
+      → after.guids.items ≡ before.guids.items → AreUsesIn index_of model after (cells ++ cell ∷ [])
+  added_blob blobs no_text no_guid texts guids = added (no_more_texts texts no_text) (no_more_guids guids no_guid) blobs
 
 -- the same uses, after a cell without a value
 pub unchanged : (index_of : CellId → Option ℕ) (model : Metadata) (uses : HeapUses) (cells : List Cell) (cell : Cell) → AreUsesIn index_of model uses cells
@@ -100,32 +103,40 @@ pub unchanged : (index_of : CellId → Option ℕ) (model : Metadata) (uses : He
 unchanged index_of model uses cells cell are texts guids blobs =
     added index_of model uses uses cells cell are
     (no_more_texts index_of model uses uses cells cell are refl texts)
-    (sym (ap (λ list. uses.guids.items ++ list) guids ∙ append-nil uses.guids.items))
-    (subst (λ list. AllZip (IsUseIn index_of model) uses.blobs.items list) (sym (ap (λ list. flat_map blobs_of cells ++ list) blobs ∙ append-nil (flat_map blobs_of cells))) are.blobs)
+    (no_more_guids index_of model uses uses cells cell are refl guids)
+    (no_more_blobs index_of model uses uses cells cell are refl blobs)
 
 -- ---- the use of a blob
+
+module _ (index_of : CellId → Option ℕ) (model : Metadata) (id : CellId) where
+  -- the use is the one of the blob in the cell
+  pub record IsOneUse (found : BlobUse) : Type 0 where
+    pub blob : List ℕ
+    pub has : blobs_of (cell_by_id model id) ≡ blob ∷ []
+    pub is : IsUseIn index_of model found blob
 
 module _ (index_of : CellId → Option ℕ) (model : Metadata) (id : CellId) (index : Option ℕ) (there : HasCell model id) (can : CanBeNumbered (cell_by_id model id)) (same : index ≡ index_of id) where
   one_use : (column : ColumnKind) (bytes : SignatureBytes) (blob : List ℕ) → blobs_of (cell_by_id model id) ≡ blob ∷ [] → kind_by_id id ≡ column → IsBlobKind column
       → GivesBlob column bytes blob → length blob < 2 ^ 29
-      → AllZip (IsUseIn index_of model) (record { kind = column; index = index; bytes = bytes } ∷ []) (blobs_of (cell_by_id model id))
-  one_use column bytes blob has kind blobs gives short =
-      let used : BlobUse = record { kind = column; index = index; bytes = bytes } in
-      let is : IsUseIn index_of model used blob = record {
-        of = record { gives = gives; short = short };
-        indexed = λ i e. record { id = id; there = there; blobs = subst IsBlobKind (sym kind) blobs; kind = kind; at = sym same ∙ e; has = has };
-      } in
-      subst (λ list. AllZip (IsUseIn index_of model) (used ∷ []) list) (sym has) (is, tt)
+      → IsOneUse index_of model id (record { kind = column; index = index; bytes = bytes })
+  one_use column bytes blob has kind blobs gives short = record {
+    blob = blob;
+    has = has;
+    is = record {
+      of = record { gives = gives; short = short };
+      indexed = λ i e. record { id = id; there = there; blobs = subst IsBlobKind (sym kind) blobs; kind = kind; at = sym same ∙ e; has = has };
+    };
+  }
 
   pub signature_use : (encoded : SigKind) (bytes : SignatureBytes) → kind_by_id id ≡ kind.Signature encoded → AreBytesOf encoded bytes (cell_by_id model id)
-      → AllZip (IsUseIn index_of model) (record { kind = kind.Signature encoded; index = index; bytes = bytes } ∷ []) (blobs_of (cell_by_id model id))
+      → IsOneUse index_of model id (record { kind = kind.Signature encoded; index = index; bytes = bytes })
   signature_use encoded (Stored blob) column are =
       one_use (kind.Signature encoded) (Stored blob) (short are.0) (ap blobs_of are.2) column tt (are.0, are.1, refl) (subst CanBeNumbered are.2 can)
   signature_use encoded (Canonical bytes) column are =
       one_use (kind.Signature encoded) (Canonical bytes) (short are.0) (ap blobs_of are.2) column tt (sym are.1) (subst CanBeNumbered are.2 can)
 
   pub blob_use : (column : ColumnKind) (blob : Bor (List ℕ)) → kind_by_id id ≡ column → column ≡ kind.Blob → cell_by_id model id ≡ Bytes blob.now
-      → AllZip (IsUseIn index_of model) (record { kind = column; index = index; bytes = Stored blob } ∷ []) (blobs_of (cell_by_id model id))
+      → IsOneUse index_of model id (record { kind = column; index = index; bytes = Stored blob })
   blob_use column blob kind is has =
       one_use column (Stored blob) blob.now (ap blobs_of has) kind (subst IsBlobKind (sym is) tt)
       (subst (λ (k : ColumnKind). GivesBlob k (Stored blob) blob.now) (sym is) refl) (subst CanBeNumbered has can)
@@ -221,21 +232,101 @@ uses_of_blobs index_of model shared uses blobs all = record {
       (zip_at (IsUseIn index_of model) uses blobs j d [] all below) (zip_at (IsUseIn index_of model) uses blobs k e [] all within) one;
 }
 
+pub uses_of_all : (index_of : CellId → Option ℕ) (model : Metadata) → AreShared index_of model → (uses : BlobUses) (blobs : List (List ℕ))
+    → AreBlobUses (IsUseIn index_of model) uses blobs → AreUsesOfAll uses blobs
+uses_of_all index_of model shared uses blobs are = record {
+  kept = are.kept;
+  uses_of = uses_of_blobs index_of model shared uses.kept.items are.kept are.each;
+  groups = are.groups;
+}
+
+-- ---- one more use of a blob
+
+-- some use of a list that has one
+pub some_use : (uses : List BlobUse) (i : ℕ) → i < length uses → BlobUse
+some_use [] i below = absurd (omega (arith, below))
+some_use (first ∷ uses) i below = first
+
+no_text_beside : (cell : Cell) (blob : List ℕ) → blobs_of cell ≡ blob ∷ [] → IsNoText cell
+no_text_beside (Number number) blob has = absurd (cc)
+no_text_beside (Text text) blob has = absurd (cc)
+no_text_beside (Bytes bytes) blob has = record { texts = refl; guids = refl }
+no_text_beside (Guid guid) blob has = absurd (cc)
+no_text_beside (Ref reference) blob has = absurd (cc)
+no_text_beside (Start start) blob has = absurd (cc)
+no_text_beside (Sig signature) blob has = record { texts = refl; guids = refl }
+
+module _ (index_of : CellId → Option ℕ) (model : Metadata) (laws : AreLaws) (before after : HeapUses) (cells : List Cell) (id : CellId) (are : AreUsesIn index_of model before cells) where
+  abbrev cell : Cell
+  cell = cell_by_id model id
+
+  abbrev blobs : List (List ℕ)
+  blobs = flat_map blobs_of cells
+
+  -- a use that is kept
+  pub added_use : (found : BlobUse) → IsOneUse index_of model id found → after.texts ≡ before.texts → after.guids.items ≡ before.guids.items
+      → after.blobs.kept.items ≡ before.blobs.kept.items ++ found ∷ []
+      → after.blobs.of_use.items ≡ before.blobs.of_use.items ++ length before.blobs.kept.items ∷ [] → AreUsesIn index_of model after (cells ++ cell ∷ [])
+  added_use found one texts guids kept of_use =
+      let known = are.blobs.kept in
+      let long : length before.blobs.kept.items ≡ length known = zip_length (IsUseIn index_of model) before.blobs.kept.items known are.blobs.each in
+      let none = no_text_beside cell one.blob one.has in
+      let more : AreBlobUses (IsUseIn index_of model) after.blobs (blobs ++ one.blob ∷ []) = record {
+        kept = known ++ one.blob ∷ [];
+        each = subst (λ (list : List BlobUse). AllZip (IsUseIn index_of model) list (known ++ one.blob ∷ [])) (sym kept)
+            (zip_append (IsUseIn index_of model) before.blobs.kept.items known (found ∷ []) (one.blob ∷ []) are.blobs.each (one.is, tt));
+        groups = subst (λ (list : List ℕ). AreGroups (known ++ one.blob ∷ []) list (blobs ++ one.blob ∷ []))
+            (sym (of_use ∙ ap (λ (n : ℕ). before.blobs.of_use.items ++ n ∷ []) long))
+            (new_group laws known before.blobs.of_use.items blobs are.blobs.groups one.blob one.is.of.short);
+      } in
+      added_blob index_of model before after cells cell are
+      (subst (λ list. AreBlobUses (IsUseIn index_of model) after.blobs (blobs ++ list)) (sym one.has) more) none.texts none.guids texts guids
+
+  -- a use at the index of one that is kept
+  pub added_known : AreShared index_of model → (known : ℕ) (column : ColumnKind) (given : Option ℕ) → HasCell model id → kind_by_id id ≡ column → given ≡ index_of id
+      → known < length before.blobs.kept.items → ((d : BlobUse) → IsAtIndex (get_or before.blobs.kept.items known d) column given)
+      → after.texts ≡ before.texts → after.guids.items ≡ before.guids.items → after.blobs.kept.items ≡ before.blobs.kept.items
+      → after.blobs.of_use.items ≡ before.blobs.of_use.items ++ known ∷ [] → AreUsesIn index_of model after (cells ++ cell ∷ [])
+  added_known shared known column given there kind same below at texts guids kept of_use =
+      let list = are.blobs.kept in
+      let long : length before.blobs.kept.items ≡ length list = zip_length (IsUseIn index_of model) before.blobs.kept.items list are.blobs.each in
+      let d = some_use before.blobs.kept.items known below in
+      let here = at d in
+      let blob = get_or list known [] in
+      let is : IsUseIn index_of model (get_or before.blobs.kept.items known d) blob = zip_at (IsUseIn index_of model) before.blobs.kept.items list known d [] are.blobs.each below in
+      let other = is.indexed here.index here.index_is in
+      let share : ShareBlob index_of other.id id = record {
+        blobs = other.blobs;
+        kind = other.kind ∙ here.kind ∙ sym kind;
+        index = here.index;
+        first_index = other.at;
+        second_index = sym same ∙ here.given_is;
+      } in
+      let has : blobs_of cell ≡ blob ∷ [] = sym (ap blobs_of (shared other.id id other.there there share)) ∙ other.has in
+      let none = no_text_beside cell blob has in
+      let more : AreBlobUses (IsUseIn index_of model) after.blobs (blobs ++ blob ∷ []) = record {
+        kept = list;
+        each = subst (λ (uses : List BlobUse). AllZip (IsUseIn index_of model) uses list) (sym kept) are.blobs.each;
+        groups = subst (λ (uses : List ℕ). AreGroups list uses (blobs ++ blob ∷ [])) (sym of_use)
+            (known_group laws list before.blobs.of_use.items blobs are.blobs.groups known blob (omega (arith, below, long)) refl);
+      } in
+      added_blob index_of model before after cells cell are
+      (subst (λ uses. AreBlobUses (IsUseIn index_of model) after.blobs (blobs ++ uses)) (sym has) more) none.texts none.guids texts guids
+
 -- ---- before the first cell
 
 pub no_cells_yet : (index_of : CellId → Option ℕ) (model : Metadata) (uses : HeapUses) (cells : List Cell) → AreUsesIn index_of model uses cells
     → AreUsesIn index_of model uses (cells ++ [])
 no_cells_yet index_of model uses cells are = subst (AreUsesIn index_of model uses) (sym (append-nil cells)) are
 
-pub no_uses : (index_of : CellId → Option ℕ) (model : Metadata) (uses : HeapUses) → AreTextUses index_of model uses.texts [] → uses.guids.items ≡ [] → uses.blobs.items ≡ []
-    → AreUsesIn index_of model uses []
-no_uses index_of model uses texts guids blobs = record {
+pub no_uses : (index_of : CellId → Option ℕ) (model : Metadata) (uses : HeapUses) → AreTextUses index_of model uses.texts [] → uses.guids.items ≡ [] → uses.blobs.kept.items ≡ []
+    → uses.blobs.of_use.items ≡ [] → AreUsesIn index_of model uses []
+no_uses index_of model uses texts guids kept of_use = record {
   texts = texts;
   guids = guids;
-  blobs = subst (λ (list : List BlobUse). AllZip (IsUseIn index_of model) list []) (sym blobs) tt;
+  blobs = record {
+    kept = [];
+    each = subst (λ (list : List BlobUse). AllZip (IsUseIn index_of model) list []) (sym kept) tt;
+    groups = no_groups [] uses.blobs.of_use.items [] refl of_use refl;
+  };
 }
-
--- some use of a list that has one
-pub first_use : (uses : List BlobUse) (i : ℕ) → i < length uses → BlobUse
-first_use [] i below = absurd (omega (arith, below))
-first_use (first ∷ uses) i below = first

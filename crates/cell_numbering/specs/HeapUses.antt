@@ -18,6 +18,9 @@ use Rattle.canonical.specs.Pools.{texts_of, blobs_of, pools_of}
 use Rattle.cell_numbering.specs.declared.blob_use.BlobUse.{BlobUse}
 use Rattle.cell_numbering.specs.declared.heap_uses.HeapUses.{HeapUses}
 use Rattle.cell_numbering.specs.declared.numbers_so_far.Indexes.{Indexes}
+use Rattle.cell_numbering.specs.declared.blob_uses.BlobUses.{BlobUses}
+use Rattle.cell_numbering.specs.BlobGroups.{AreGroups}
+use Rattle.cell_numbering.specs.BlobUses.{AreBlobUses}
 use Rattle.cell_numbering.specs.TextUses.{AreTextUses}
 
 -- the cells of all tables, by table, row and column
@@ -61,6 +64,12 @@ pub record AreUsesOf (uses : List BlobUse) (blobs : List (List ℕ)) : Type 0 wh
   pub shared : (j k : ℕ) (d e : BlobUse) → j < length uses → k < length uses → HaveOneIndex (slice_index_or uses j d) (slice_index_or uses k e)
       → slice_index_or blobs j [] ≡ slice_index_or blobs k []
 
+-- the kept uses are those of some blobs that are written, and each use refers to one with its blob
+pub record AreUsesOfAll (uses : BlobUses) (blobs : List (List ℕ)) : Type 0 where
+  pub kept : List (List ℕ)
+  pub uses_of : AreUsesOf uses.kept.items kept
+  pub groups : AreGroups kept uses.of_use.items blobs
+
 -- the index of the use is that of some cell with this blob, in a column of this kind
 pub record IsIndexed (index_of : CellId → Option ℕ) (model : Metadata) (column : ColumnKind) (index : ℕ) (blob : List ℕ) : Type 0 where
   pub id : CellId
@@ -79,7 +88,7 @@ pub record IsUseIn (index_of : CellId → Option ℕ) (model : Metadata) (found 
 pub record AreUsesIn (index_of : CellId → Option ℕ) (model : Metadata) (uses : HeapUses) (cells : List Cell) : Type 0 where
   pub texts : AreTextUses index_of model uses.texts (flat_map texts_of cells)
   pub guids : uses.guids.items ≡ flat_map guid_of cells
-  pub blobs : AllZip (IsUseIn index_of model) uses.blobs.items (flat_map blobs_of cells)
+  pub blobs : AreBlobUses (IsUseIn index_of model) uses.blobs (flat_map blobs_of cells)
 
 -- the indexes of the values that all cells use, into the heaps of the model's pools
 pub record AreIndexes (model : Metadata) (indexes : Indexes) : Type 0 where

@@ -1,5 +1,9 @@
 pub mod BlobGroups
+pub mod BlobUses
 pub mod CellIndexes
 pub mod HeapUses
+pub mod IndexColumns
 pub mod NumbersSoFar
+pub mod PlainColumns
+pub mod StartGroups
 pub mod TextUses

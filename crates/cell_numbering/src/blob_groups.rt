@@ -1,4 +1,4 @@
-ghost use Rattle.std.specs.Prelude.{◌≡◌, ◌+◌, ◌<◌, ℕ, List, [], ◌∷◌, ◌++◌, OnOk, IfOk, IfSome, All, length, map, slice_index, slice_index_or, take};
+ghost use Rattle.std.specs.Prelude.{◌≡◌, ◌+◌, ◌<◌, ℕ, List, [], ◌∷◌, ◌++◌, OnOk, IfOk, IfSome, All, length, slice_index, slice_index_or, take};
 ghost use Rattle.heap_pools.specs.Uses.{bytes_of};
 ghost use Rattle.cell_numbering.specs.HeapUses.{AreUsesOf, HaveOneIndex};
 ghost use Rattle.cell_numbering.specs.BlobGroups.{AreGroups, group_blobs};
@@ -93,16 +93,5 @@ impl<'u> BlobGroups<'u> {
             slices.push(bytes.as_slice())?;
         }
         Ok(slices)
-    }
-
-    /// The index of each use's blob, by the indexes of the groups; 0 if there are too few.
-    pub fn indexes(&self, alloc: Global, of_groups: &[u32]) -> Result<Vec<u32>, AllocError>
-        ensures { IfOk result (λ indexes. indexes.items ≡ map (slice_index of_groups.now) self.now.of_use.items) }
-    {
-        let mut indexes = Vec::with_capacity(alloc, self.of_use.len())?;
-        for group in &self.of_use {
-            indexes.push(of_groups.get(*group).copied().unwrap_or(0))?;
-        }
-        Ok(indexes)
     }
 }

@@ -6,11 +6,15 @@ ghost use Rattle.metadata.specs.Cell.{Cell as Says};
 ghost use Rattle.metadata.specs.Metadata.{Metadata, rows_of, row_of, cell_in};
 ghost use Rattle.metadata.specs.Valid.{kind_at};
 ghost use Rattle.cell_numbering.specs.HeapUses.{AreUsesIn, all_cells};
+ghost use Rattle.cell_numbering.specs.IndexColumns.{AreIndexColumns};
 
 use crate::blob_use::BlobUse;
+use crate::blob_uses::BlobUses;
+use crate::index_columns::{index_at, index_columns};
 use crate::text_uses::TextUses;
 use metadata_source::{ReadCells, SignatureBytes, kind_of};
 use reading::CellRef;
+use rows::ColumnNumbers;
 use std::alloc::{AllocError, Global};
 use table_schema::{ColumnKind, SigKind, TableId, cell_count};
 
@@ -22,7 +26,7 @@ pub struct HeapUses<'a> {
     /// The GUIDs; `None` is null.
     pub guids: Vec<Option<[u8; 16]>>,
     /// The blobs, with those of signatures.
-    pub blobs: Vec<BlobUse<'a>>,
+    pub blobs: BlobUses<'a>,
 }
 
 /// Adds the value of a cell that is neither a text nor a signature, if it is a GUID or a blob.
@@ -33,10 +37,12 @@ fn add_value<'a, S: ReadCells>(
     table: TableId,
     row: u32,
     cell_index: usize,
+    index: Option<u32>,
 ) -> Result<(), AllocError>
     requires first { 1 ≤ row }
     requires last { row ≤ S.row_count source.now table }
     requires cell_index { cell_index < cell_count table }
+    requires index { index ≡ S.heap_index source.now (record { table = table; row = row; cell_index = cell_index }) }
     requires kind { kind ≡ kind_at table cell_index }
     requires other { (encoded : TheKind) → kind ≢ Signature encoded }
     requires no_text { kind ≢ Text }
@@ -44,13 +50,17 @@ fn add_value<'a, S: ReadCells>(
         → OnOk result (AreUsesIn (S.heap_index source.now) model uses.new (cells ++ cell_in model table row cell_index ∷ [])) }
 {
     root_writer::laws::cells_can_be_numbered();
+    heap_pools::laws::pooled_are_distinct();
     source.holds_one();
+    source.shared_blobs_are_one();
+    if let Some(known) = uses.blobs.known(kind, index) {
+        return Ok(uses.blobs.add_known(known)?);
+    }
     match source.cell(table, row, cell_index) {
         CellRef::Guid(guid) => Ok(uses.guids.push(guid)?),
         CellRef::Bytes(blob) => {
-            let index = source.index_in_heap(table, row, cell_index);
             let bytes = SignatureBytes::Stored(blob);
-            Ok(uses.blobs.push(BlobUse { kind, index, bytes })?)
+            Ok(uses.blobs.add(BlobUse { kind, index, bytes })?)
         }
         _ => Ok(()),
     }
@@ -65,20 +75,26 @@ fn add_signature<'a, S: ReadCells>(
     table: TableId,
     row: u32,
     cell_index: usize,
+    index: Option<u32>,
 ) -> Result<(), AllocError>
     requires first { 1 ≤ row }
     requires last { row ≤ S.row_count source.now table }
     requires cell_index { cell_index < cell_count table }
+    requires index { index ≡ S.heap_index source.now (record { table = table; row = row; cell_index = cell_index }) }
     requires kind { kind_at table cell_index ≡ Signature encoded }
     ensures { (model : Metadata) → S.shows source.now model → (cells : List Says) → AreUsesIn (S.heap_index source.now) model uses.old cells
         → OnOk result (AreUsesIn (S.heap_index source.now) model uses.new (cells ++ cell_in model table row cell_index ∷ [])) }
 {
     root_writer::laws::cells_can_be_numbered();
+    heap_pools::laws::pooled_are_distinct();
     source.holds_one();
-    let bytes = source.signature(alloc, encoded, table, row, cell_index)?;
-    let index = source.index_in_heap(table, row, cell_index);
+    source.shared_blobs_are_one();
     let kind = ColumnKind::Signature(encoded);
-    Ok(uses.blobs.push(BlobUse { kind, index, bytes })?)
+    if let Some(known) = uses.blobs.known(kind, index) {
+        return Ok(uses.blobs.add_known(known)?);
+    }
+    let bytes = source.signature(alloc, encoded, table, row, cell_index)?;
+    Ok(uses.blobs.add(BlobUse { kind, index, bytes })?)
 }
 
 /// Adds the value of a cell, if it is in a heap. No other column is read.
@@ -86,10 +102,12 @@ fn add_cell<'a, S: ReadCells>(
     alloc: Global,
     uses: &mut HeapUses<'a>,
     source: &'a S,
+    columns: &[Option<ColumnNumbers<'_>>],
     table: TableId,
     row: u32,
     cell_index: usize,
 ) -> Result<(), AllocError>
+    requires columns { AreIndexColumns (S.heap_index source.now) (S.row_count source.now table) table columns.now }
     requires first { 1 ≤ row }
     requires last { row ≤ S.row_count source.now table }
     requires cell_index { cell_index < cell_count table }
@@ -99,12 +117,17 @@ fn add_cell<'a, S: ReadCells>(
     source.holds_one();
     let kind = kind_of(table, cell_index);
     match kind {
-        ColumnKind::Text => uses.texts.add(source, table, row, cell_index),
+        ColumnKind::Text => {
+            let index = index_at(source, columns, table, row, cell_index);
+            uses.texts.add(source, table, row, cell_index, index)
+        }
         ColumnKind::Guid | ColumnKind::Blob => {
-            add_value(uses, source, kind, table, row, cell_index)
+            let index = index_at(source, columns, table, row, cell_index);
+            add_value(uses, source, kind, table, row, cell_index, index)
         }
         ColumnKind::Signature(encoded) => {
-            add_signature(alloc, uses, source, encoded, table, row, cell_index)
+            let index = index_at(source, columns, table, row, cell_index);
+            add_signature(alloc, uses, source, encoded, table, row, cell_index, index)
         }
         _ => Ok(()),
     }
@@ -115,9 +138,11 @@ fn add_row<'a, S: ReadCells>(
     alloc: Global,
     uses: &mut HeapUses<'a>,
     source: &'a S,
+    columns: &[Option<ColumnNumbers<'_>>],
     table: TableId,
     row: u32,
 ) -> Result<(), AllocError>
+    requires columns { AreIndexColumns (S.heap_index source.now) (S.row_count source.now table) table columns.now }
     requires first { 1 ≤ row }
     requires last { row ≤ S.row_count source.now table }
     ensures { (model : Metadata) → S.shows source.now model → (cells : List Says) → AreUsesIn (S.heap_index source.now) model uses.old cells
@@ -125,7 +150,7 @@ fn add_row<'a, S: ReadCells>(
 {
     source.holds_one();
     for cell_index in 0..cell_count(table) {
-        add_cell(alloc, uses, source, table, row, cell_index)?;
+        add_cell(alloc, uses, source, columns, table, row, cell_index)?;
     }
     Ok(())
 }
@@ -142,8 +167,9 @@ fn add_rows<'a, S: ReadCells>(
 {
     source.holds_one();
     let count = source.count(table);
+    let columns = index_columns(alloc, source, table)?;
     for row in 0..count {
-        add_row(alloc, uses, source, table, row + 1)?;
+        add_row(alloc, uses, source, &columns, table, row + 1)?;
     }
     Ok(())
 }
@@ -158,7 +184,7 @@ pub fn heap_uses<'a, S: ReadCells>(alloc: Global, source: &'a S) -> Result<HeapU
     let mut uses = HeapUses {
         texts: TextUses::new(alloc, source),
         guids: Vec::new(alloc),
-        blobs: Vec::new(alloc),
+        blobs: BlobUses::new(alloc)?,
     };
     for table in TableId::all() {
         add_rows(alloc, &mut uses, source, *table)?;

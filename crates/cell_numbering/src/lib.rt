@@ -19,11 +19,16 @@
 mod blob_bytes;
 mod blob_groups;
 mod blob_use;
+mod blob_uses;
 mod earlier_uses;
+mod group_indexes;
 mod heap_uses;
+mod index_columns;
 mod numbers;
 mod numbers_so_far;
+mod plain_columns;
 mod pools;
+mod start_groups;
 mod text_uses;
 
 pub use pools::pools_of;

@@ -10,12 +10,15 @@ ghost use Rattle.root_writer.specs.Numbered.{CanBeNumbered, flat};
 ghost use Rattle.table_schema.specs.Tables.{tables as all_tables};
 ghost use Rattle.cell_numbering.specs.CellIndexes.{IsCellIndexOf};
 ghost use Rattle.cell_numbering.specs.HeapUses.{AreIndexes, IsInNoHeap};
+ghost use Rattle.cell_numbering.specs.PlainColumns.{ArePlain};
 ghost use Rattle.cell_numbering.specs.NumbersSoFar.{SoFar, no_pools, none_numbered, with_cell, with_next_cell, with_row, with_rows, with_tables};
 
 use crate::numbers_so_far::{Indexes, NumbersSoFar};
+use crate::plain_columns::plain_columns;
 use metadata_source::{ReadCells, kind_of};
 use reading::{CellRef, RunCursors};
 use root_writer::row_number;
+use rows::ColumnNumbers;
 use std::alloc::{AllocError, Global};
 use table_schema::{ColumnKind, TableId, columns};
 
@@ -42,11 +45,13 @@ fn put_cell<S: ReadCells>(
     indexes: Indexes,
     source: &S,
     cursors: &mut RunCursors,
+    plain: &[Option<ColumnNumbers<'_>>],
     table: TableId,
     row: u32,
     cell_index: usize,
 ) -> Result<(), AllocError>
     requires cursors { S.follow source.now cursors.old }
+    requires plain { ArePlain (S.row_count source.now table) (S.shows source.now) table plain.now }
     requires first { 1 ≤ row }
     requires last { row ≤ S.row_count source.now table }
     requires cell_index { cell_index < cell_count table }
@@ -56,6 +61,9 @@ fn put_cell<S: ReadCells>(
 {
     root_writer::laws::cells_can_be_numbered();
     source.holds_one();
+    if let Some(numbers) = &plain[cell_index] {
+        return so_far.put_number(numbers.number(row));
+    }
     let kind = kind_of(table, cell_index);
     match kind {
         ColumnKind::Text => so_far.put_text(indexes.texts),
@@ -75,12 +83,14 @@ fn put_next<S: ReadCells>(
     indexes: Indexes,
     source: &S,
     cursors: &mut RunCursors,
+    plain: &[Option<ColumnNumbers<'_>>],
     table: TableId,
     row: u32,
     index: usize,
     cell_index: usize,
 ) -> Result<usize, AllocError>
     requires cursors { S.follow source.now cursors.old }
+    requires plain { ArePlain (S.row_count source.now table) (S.shows source.now) table plain.now }
     requires first { 1 ≤ row }
     requires last { row ≤ S.row_count source.now table }
     requires column { index < length (columns_of table) }
@@ -99,7 +109,9 @@ fn put_next<S: ReadCells>(
             Ok(cell_index)
         }
         _ => {
-            put_cell(so_far, indexes, source, cursors, table, row, cell_index)?;
+            put_cell(
+                so_far, indexes, source, cursors, plain, table, row, cell_index,
+            )?;
             Ok(cell_index + 1)
         }
     }
@@ -111,10 +123,12 @@ fn put_row<S: ReadCells>(
     indexes: Indexes,
     source: &S,
     cursors: &mut RunCursors,
+    plain: &[Option<ColumnNumbers<'_>>],
     table: TableId,
     row: u32,
 ) -> Result<(), AllocError>
     requires cursors { S.follow source.now cursors.old }
+    requires plain { ArePlain (S.row_count source.now table) (S.shows source.now) table plain.now }
     requires first { 1 ≤ row }
     requires last { row ≤ S.row_count source.now table }
     ensures cursors { S.follow source.now cursors.new }
@@ -124,7 +138,7 @@ fn put_row<S: ReadCells>(
     let mut cell_index = 0;
     for index in 0..columns(table).len() {
         cell_index = put_next(
-            so_far, indexes, source, cursors, table, row, index, cell_index,
+            so_far, indexes, source, cursors, plain, table, row, index, cell_index,
         )?;
     }
     Ok(())
@@ -132,6 +146,7 @@ fn put_row<S: ReadCells>(
 
 /// Adds the numbers of the rows of a table.
 fn put_rows<S: ReadCells>(
+    alloc: Global,
     so_far: &mut NumbersSoFar,
     indexes: Indexes,
     source: &S,
@@ -142,9 +157,18 @@ fn put_rows<S: ReadCells>(
 {
     source.holds_one();
     let count = source.count(table);
+    let plain = plain_columns(alloc, source, table)?;
     let mut cursors = source.run_cursors();
     for row in 0..count {
-        put_row(so_far, indexes, source, &mut cursors, table, row + 1)?;
+        put_row(
+            so_far,
+            indexes,
+            source,
+            &mut cursors,
+            &plain,
+            table,
+            row + 1,
+        )?;
     }
     Ok(())
 }
@@ -161,6 +185,7 @@ fn count_numbers<S: ReadCells>(source: &S) -> usize {
 
 /// Adds the numbers of the rows of all tables.
 fn put_tables<S: ReadCells>(
+    alloc: Global,
     so_far: &mut NumbersSoFar,
     indexes: Indexes,
     source: &S,
@@ -170,7 +195,7 @@ fn put_tables<S: ReadCells>(
 {
     table_schema::laws::tables_stand();
     for table in TableId::all() {
-        put_rows(so_far, indexes, source, *table)?;
+        put_rows(alloc, so_far, indexes, source, *table)?;
     }
     Ok(())
 }
@@ -187,6 +212,6 @@ pub fn numbers_of<S: ReadCells>(
     source.holds_one();
     table_schema::laws::tables_stand();
     let mut so_far = NumbersSoFar::new(alloc, count_numbers(source))?;
-    put_tables(&mut so_far, indexes, source)?;
+    put_tables(alloc, &mut so_far, indexes, source)?;
     Ok(so_far.into_numbers())
 }

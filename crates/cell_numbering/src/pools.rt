@@ -7,10 +7,11 @@ ghost use Rattle.heap_pools.specs.TextHeap.{text_heap};
 ghost use Rattle.metadata.specs.Metadata.{Metadata};
 ghost use Rattle.canonical.specs.Pools.{pools_of as pools_in};
 ghost use Rattle.root_writer.specs.Numbered.{IsNumbering, IsTooLong};
-ghost use Rattle.cell_numbering.specs.HeapUses.{AreUsesOf};
+ghost use Rattle.cell_numbering.specs.HeapUses.{AreUsesOfAll};
 
 use crate::blob_groups::BlobGroups;
-use crate::blob_use::BlobUse;
+use crate::blob_uses::BlobUses;
+use crate::group_indexes::indexes_of_uses;
 use crate::heap_uses::heap_uses;
 use crate::numbers::numbers_of;
 use crate::numbers_so_far::Indexes;
@@ -30,18 +31,19 @@ fn guid_plan(alloc: Global, guids: &[Option<[u8; 16]>]) -> Result<HeapPlan, Pool
 }
 
 /// The blob heap of the canonical root, planned from all blobs, and the index of each use (II.24.2.4).
-fn blob_plan(alloc: Global, uses: &[BlobUse<'_>]) -> Result<(HeapPlan, Vec<u32>), PoolError>
-    requires { ¬ (¬ ((blobs : List (List ℕ)) × AreUsesOf uses.now blobs)) }
-    ensures heap { (blobs : List (List ℕ)) → AreUsesOf uses.now blobs → IfOk result (λ plan. plan.0.heap ≡ blob_heap (distinct blobs)) }
-    ensures indexes { (blobs : List (List ℕ)) → AreUsesOf uses.now blobs
+fn blob_plan(alloc: Global, uses: &BlobUses<'_>) -> Result<(HeapPlan, Vec<u32>), PoolError>
+    requires { ¬ (¬ ((blobs : List (List ℕ)) × AreUsesOfAll uses.now blobs)) }
+    ensures heap { (blobs : List (List ℕ)) → AreUsesOfAll uses.now blobs → IfOk result (λ plan. plan.0.heap ≡ blob_heap (distinct blobs)) }
+    ensures indexes { (blobs : List (List ℕ)) → AreUsesOfAll uses.now blobs
         → IfOk result (λ plan. plan.1.items ≡ map (blob_index (distinct blobs)) blobs) }
-    ensures full { (blobs : List (List ℕ)) → AreUsesOf uses.now blobs → result ≡ Err PoolError.Full
+    ensures full { (blobs : List (List ℕ)) → AreUsesOfAll uses.now blobs → result ≡ Err PoolError.Full
         → 2 ^ 30 < length (blob_heap (distinct blobs)) }
 {
-    let groups = BlobGroups::of(alloc, uses)?;
+    let groups = BlobGroups::of(alloc, &uses.kept)?;
     let blobs = groups.slices(alloc)?;
     let plan = SortedBlobs::sort(alloc, &blobs)?.lay_out(alloc)?;
-    let indexes = groups.indexes(alloc, plan.indexes())?;
+    let of_kept = indexes_of_uses(alloc, &groups.of_use, plan.indexes())?;
+    let indexes = indexes_of_uses(alloc, &uses.of_use, &of_kept)?;
     Ok((plan, indexes))
 }
 
@@ -64,12 +66,12 @@ pub fn pools_of<S: ReadCells>(alloc: Global, source: &S) -> Result<(TextPool, Nu
     source.holds_one();
     source.shared_blobs_are_one();
     let uses = heap_uses(alloc, source)?;
-    let texts = uses.texts.plan(alloc)?;
+    let (texts, text_indexes) = uses.texts.plan(alloc)?;
     let guids = guid_plan(alloc, &uses.guids)?;
     let (blobs, blob_indexes) = blob_plan(alloc, &uses.blobs)?;
     drop(uses);
     let indexes = Indexes {
-        texts: texts.indexes(),
+        texts: &text_indexes,
         guids: guids.indexes(),
         blobs: &blob_indexes,
     };

@@ -1,6 +1,7 @@
 use crate::signature_bytes::SignatureBytes;
 use crate::source::ReadMetadata;
 use reading::{CellRef, RunCursors};
+use rows::ColumnNumbers;
 use std::alloc::{AllocError, Global};
 use table_schema::{SigKind, TableId};
 
@@ -14,6 +15,7 @@ pub trait ReadCells: ReadMetadata {
     ghost use Rattle.metadata.specs.Valid.{kind_at};
     ghost use Rattle.reading.specs.Shown.{Shows};
     ghost use Rattle.reading.specs.declared.run_cursors.RunCursors.{RunCursors as Cursors};
+    ghost use Rattle.metadata_source.specs.ColumnNumbers.{AreIndexesIn, AreNumbersIn};
     ghost use Rattle.metadata_source.specs.SharedBlobs.{CellId, HasCell, ShareBlob, cell_by_id};
     ghost use Rattle.metadata_source.specs.SignatureBytes.{AreBytesOf};
     ghost use Rattle.metadata_source.specs.TextsIn.{AreTextsIn};
@@ -86,6 +88,16 @@ pub trait ReadCells: ReadMetadata {
         requires last { row ≤ Self.row_count self.now table }
         requires cell { cell < cell_count table }
         ensures { result ≡ Self.heap_index self.now (record { table = table; row = row; cell_index = cell }) };
+
+    /// The numbers in the column of a cell, if the cells are read from a root (II.24.2.6). Each is the index of its cell's
+    /// value. In a column of numbers, or of rows of one table, it is also that of its cell. `None` if the cells are not
+    /// read from a root.
+    fn column_numbers(&self, table: TableId, cell: usize) -> Option<ColumnNumbers<'_>>
+        requires { cell < cell_count table }
+        ensures count { IfSome result (λ numbers. numbers.count ≡ Self.row_count self.now table) }
+        ensures indexes { IfSome result (λ numbers. AreIndexesIn (Self.heap_index self.now) table cell (Self.row_count self.now table) numbers) }
+        ensures numbers { (model : Metadata) → Self.shows self.now model
+            → IfSome result (λ numbers. AreNumbersIn model table cell (Self.row_count self.now table) numbers) };
 
     /// The bytes of the strings heap that has the text of each cell, at the cell's index (II.24.2.3). `None` if the cells
     /// are not read from heaps.

@@ -8,6 +8,7 @@ use crate::valid_model::Model;
 use metadata::row_number;
 use metadata_source::{MemberList, ReadCells, ReadMetadata, SignatureBytes};
 use reading::{CellRef, RunCursors};
+use rows::ColumnNumbers;
 use signatures::encode;
 use std::alloc::{AllocError, Global};
 use table_schema::{ColumnKind, SigKind, TableId, column_of_cell, columns};
@@ -76,6 +77,10 @@ impl ReadCells for Model {
     fn shared_blobs_are_one(&self) {}
 
     fn index_in_heap(&self, _table: TableId, _row: u32, _cell: usize) -> Option<u32> {
+        None
+    }
+
+    fn column_numbers(&self, _table: TableId, _cell: usize) -> Option<ColumnNumbers<'_>> {
         None
     }
 

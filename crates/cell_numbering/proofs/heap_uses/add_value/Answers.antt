@@ -1,4 +1,4 @@
-use Rattle.std.proofs.Common.{◌≡◌, ℕ, List, refl, sym, ap, subst, ◌∙◌, arith}
+use Rattle.std.proofs.Common.{◌≡◌, ℕ, List, refl, sym, subst, ◌∙◌, arith}
 use Rattle.std.specs.Borrow.{Bor}
 use Rattle.table_schema.specs.declared.column.ColumnKind.{ColumnKind}
 use Rattle.metadata.specs.Cell.{Cell}
@@ -10,10 +10,9 @@ use Rattle.reading.specs.Shown.{Shows}
 use Rattle.reading.specs.declared.cell_ref.CellRef.{CellRef}
 use Rattle.reading.specs.declared.cell_ref.CellRef.TheVariants as seen
 use Rattle.metadata_source.specs.SharedBlobs.{CellId}
-use Rattle.canonical.specs.Pools.{texts_of}
-use Rattle.cell_numbering.specs.HeapUses.{guid_of}
 use Rattle.cell_numbering.proofs.KindLemmas.{has_none, no_value, only_blob, only_text}
-use Rattle.cell_numbering.proofs.UseLemmas.{added_blob, added_guid, blob_use, unchanged}
+use Rattle.cell_numbering.proofs.BlobLemmas.{AreLaws}
+use Rattle.cell_numbering.proofs.UseLemmas.{added_guid, added_known, added_use, blob_use, unchanged}
 use Rattle.cell_numbering.proofs.heap_uses.add_value.Goals as goal
 
 pub returns-in_ok-push-in-Guid : goal.returns-in_ok-push-in-Guid
@@ -23,16 +22,31 @@ returns-in_ok-push-in-Guid g c = λ model is cells are.
     added_guid (g.S.ReadCells.heap_index c.args.source.now) model c.args.uses.now _ cells cell are c.in-Guid.guid (subst P c.in-Guid.is (c.cell.ensures model is))
     refl c.in_ok-push-in-Guid.ensures.items refl
 
-pub returns-in_ok-push-in-Bytes : goal.returns-in_ok-push-in-Bytes
-returns-in_ok-push-in-Bytes g c = λ model is cells are.
+pub returns-in-Some : goal.returns-in-Some
+returns-in-Some g c = λ model is cells are.
     let table = c.args.table in
     let row = c.args.row in
     let cell_index = c.args.cell_index in
-    let cell = cell_in model table row cell_index in
     let index_of = g.S.ReadCells.heap_index c.args.source.now in
     let id : CellId = record { table = table; row = row; cell_index = cell_index } in
     let rows = c.holds_one.ensures.rows model is table in
     let there : HasRow model table row = (c.requires.first, omega (arith, rows, c.requires.last)) in
+    let laws : AreLaws = record { more = c.pooled_are_distinct.ensures.more; again = c.pooled_are_distinct.ensures.again } in
+    added_known index_of model laws c.args.uses.now _ cells id are (c.shared_blobs_are_one.ensures model is) c.in-Some.known c.args.kind c.args.index
+    (there, c.requires.cell_index) (sym c.requires.kind) c.requires.index c.in-Some.ensures.0 c.in-Some.ensures.1
+    refl refl c.in_ok-add_known.ensures.kept c.in_ok-add_known.ensures.of_use
+
+pub returns-in_ok-add-in-Bytes : goal.returns-in_ok-add-in-Bytes
+returns-in_ok-add-in-Bytes g c = λ model is cells are.
+    let table = c.args.table in
+    let row = c.args.row in
+    let cell_index = c.args.cell_index in
+    let index_of = g.S.ReadCells.heap_index c.args.source.now in
+    let id : CellId = record { table = table; row = row; cell_index = cell_index } in
+    let rows = c.holds_one.ensures.rows model is table in
+    let there : HasRow model table row = (c.requires.first, omega (arith, rows, c.requires.last)) in
+    let laws : AreLaws = record { more = c.pooled_are_distinct.ensures.more; again = c.pooled_are_distinct.ensures.again } in
+    let cell = cell_in model table row cell_index in
     let valid = c.holds_one.ensures.valid model is in
     let can = c.cells_can_be_numbered.ensures.cell model valid table row cell_index there c.requires.cell_index in
     let good = valid.cells table row cell_index there c.requires.cell_index in
@@ -40,12 +54,12 @@ returns-in_ok-push-in-Bytes g c = λ model is cells are.
     let has = subst P c.in-Bytes.is (c.cell.ensures model is) in
     let Q : Cell → Type 0 = λ it. IsOfKind (kind_at table cell_index) it in
     let blob = only_blob (kind_at table cell_index) c.in-Bytes.blob.now (subst Q has good.of_kind) in
-    added_blob index_of model c.args.uses.now _ cells cell are _
-    (blob_use index_of model id c.index_in_heap-index.result (there, c.requires.cell_index) can c.index_in_heap-index.ensures c.args.kind c.in-Bytes.blob (sym c.requires.kind) (c.requires.kind ∙ blob) has)
-    (ap texts_of has) (ap guid_of has) refl refl c.in_ok-push-in-Bytes.ensures.items
+    added_use index_of model laws c.args.uses.now _ cells id are _
+    (blob_use index_of model id c.args.index (there, c.requires.cell_index) can c.requires.index c.args.kind c.in-Bytes.blob (sym c.requires.kind) (c.requires.kind ∙ blob) has)
+    refl refl c.in_ok-add-in-Bytes.ensures.kept c.in_ok-add-in-Bytes.ensures.of_use
 
-pub returns-in_default : goal.returns-in_default
-returns-in_default g c = λ model is cells are.
+pub returns-in_default-cell : goal.returns-in_default-cell
+returns-in_default-cell g c = λ model is cells are.
     let table = c.args.table in
     let row = c.args.row in
     let cell_index = c.args.cell_index in
@@ -59,6 +73,6 @@ returns-in_default g c = λ model is cells are.
     let no_text : (text : Bor (List ℕ)) → c.cell.result ≡ seen.Text text → ⊥ = λ text e.
     c.requires.no_text (c.requires.kind ∙ only_text (kind_at table cell_index) text.now (subst Q (subst P e shown) good.of_kind)) in
     let R : ColumnKind → Type 0 = λ k. Shows k c.cell.result cell in
-    let none = has_none cell (no_value c.args.kind c.cell.result cell c.requires.other (record { text = no_text; guid = c.in_default.not-Guid; blob = c.in_default.not-Bytes })
+    let none = has_none cell (no_value c.args.kind c.cell.result cell c.requires.other (record { text = no_text; guid = c.in_default-cell.not-Guid; blob = c.in_default-cell.not-Bytes })
     (subst R (sym c.requires.kind) shown)) in
     unchanged (g.S.ReadCells.heap_index c.args.source.now) model c.args.uses.now cells cell are none.texts none.guids none.blobs

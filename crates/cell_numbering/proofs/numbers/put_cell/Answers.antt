@@ -1,13 +1,17 @@
-use Rattle.std.proofs.Common.{sym, ap, subst, ◌∙◌, arith}
+use Rattle.std.proofs.Common.{◌≡◌, ◌<◌, Option, None, length, sym, ap, subst, ◌∙◌, arith}
+use Rattle.std.specs.Prelude.{IfSome}
+use Rattle.std.proofs.lemmas.List.{get_or_read}
 use Rattle.std.proofs.lemmas.Grind.{not_there}
 use Rattle.std.proofs.lemmas.Result.{on_ok_weaker}
 use Rattle.table_schema.specs.declared.column.ColumnKind.{ColumnKind}
+use Rattle.rows.specs.Columns.{ColumnBytes, number_in_row}
 use Rattle.metadata.specs.Metadata.{cell_in}
 use Rattle.metadata.specs.Lookups.{HasRow}
 use Rattle.metadata.specs.Valid.{kind_at}
 use Rattle.reading.specs.Shown.{Shows}
 use Rattle.canonical.specs.Numbers.{cell_number}
 use Rattle.cell_numbering.specs.NumbersSoFar.{no_pools, with_number}
+use Rattle.cell_numbering.specs.PlainColumns.{IsPlainIn, IsPlainNumber}
 use Rattle.cell_numbering.proofs.KindLemmas.{IsPlainKind, next_text, next_guid, next_blob, next_signature, next_plain, plain_cell}
 use Rattle.cell_numbering.proofs.numbers.put_cell.Goals as goal
 
@@ -63,10 +67,10 @@ plain_number-requires g c = λ none. not_there c.holds_one.ensures.shown (λ som
     let good = valid.cells table row cell_index there c.requires.cell_index in
     let kind = c.kind_of-kind.ensures in
     let plain : IsPlainKind (kind_at table cell_index) = record {
-      text = λ e. c.in_default.not-Text (kind ∙ e);
-      guid = λ e. c.in_default.not-Guid (kind ∙ e);
-      blob = λ e. c.in_default.not-Blob (kind ∙ e);
-      signature = λ column e. c.in_default.not-Signature column (kind ∙ e);
+      text = λ e. c.in_default-kind.not-Text (kind ∙ e);
+      guid = λ e. c.in_default-kind.not-Guid (kind ∙ e);
+      blob = λ e. c.in_default-kind.not-Blob (kind ∙ e);
+      signature = λ column e. c.in_default-kind.not-Signature column (kind ∙ e);
     } in
     let P : ColumnKind → Type 0 = λ k. Shows k c.cell_onward-seen.result cell in
     none (
@@ -76,8 +80,8 @@ plain_number-requires g c = λ none. not_there c.holds_one.ensures.shown (λ som
       plain_cell (kind_at table cell_index) cell plain good.of_kind,
     ))
 
-pub returns-in_default-clause-ok : goal.returns-in_default-clause-ok
-returns-in_default-clause-ok g c = λ model is.
+pub returns-in_default-kind-clause-ok : goal.returns-in_default-kind-clause-ok
+returns-in_default-kind-clause-ok g c = λ model is.
     let table = c.args.table in
     let cell_index = c.args.cell_index in
     let cell = cell_in model table c.args.row cell_index in
@@ -86,11 +90,38 @@ returns-in_default-clause-ok g c = λ model is.
     let good = (c.holds_one.ensures.valid model is).cells table c.args.row cell_index there c.requires.cell_index in
     let kind = c.kind_of-kind.ensures in
     let plain : IsPlainKind (kind_at table cell_index) = record {
-      text = λ e. c.in_default.not-Text (kind ∙ e);
-      guid = λ e. c.in_default.not-Guid (kind ∙ e);
-      blob = λ e. c.in_default.not-Blob (kind ∙ e);
-      signature = λ column e. c.in_default.not-Signature column (kind ∙ e);
+      text = λ e. c.in_default-kind.not-Text (kind ∙ e);
+      guid = λ e. c.in_default-kind.not-Guid (kind ∙ e);
+      blob = λ e. c.in_default-kind.not-Blob (kind ∙ e);
+      signature = λ column e. c.in_default-kind.not-Signature column (kind ∙ e);
     } in
     let P : ColumnKind → Type 0 = λ k. Shows k c.cell_onward-seen.result cell in
     let number = c.plain_number.ensures cell (subst P (sym kind) (c.cell_onward-seen.ensures.cell model is)) ∙ ap (λ (k : ColumnKind). cell_number no_pools k cell) kind in
-    on_ok_weaker c.put_number.result (λ e. e ∙ ap (with_number c.args.so_far.now) number ∙ sym (next_plain c.args.indexes (kind_at table cell_index) cell c.args.so_far.now (plain_cell (kind_at table cell_index) cell plain good.of_kind))) c.put_number.ensures
+    on_ok_weaker c.put_number-in_default-kind.result (λ e. e ∙ ap (with_number c.args.so_far.now) number ∙ sym (next_plain c.args.indexes (kind_at table cell_index) cell c.args.so_far.now (plain_cell (kind_at table cell_index) cell plain good.of_kind))) c.put_number-in_default-kind.ensures
+
+pub number-requires : goal.number-requires
+number-requires g c =
+    let table = c.args.table in
+    let i = c.args.cell_index in
+    let plain = c.args.plain.now in
+    let within : i < length plain = omega (arith, c.requires.plain.len, c.requires.cell_index) in
+    let is = sym (get_or_read plain i c.index-plain-cell_index.result within c.index-plain-cell_index.is None) ∙ c.in-Some.is in
+    let P : Option ColumnBytes → Type 0 = λ o. IfSome o (λ numbers. numbers.count ≡ g.S.ReadMetadata.row_count c.args.source.now table) in
+    let count : c.in-Some.numbers.count ≡ g.S.ReadMetadata.row_count c.args.source.now table = subst P is (c.requires.plain.counts i c.requires.cell_index) in
+    record { first = c.requires.first; last = omega (arith, c.requires.last, count) }
+
+pub returns-in-Some-clause-ok : goal.returns-in-Some-clause-ok
+returns-in-Some-clause-ok g c = λ model shown.
+    let table = c.args.table in
+    let i = c.args.cell_index in
+    let plain = c.args.plain.now in
+    let within : i < length plain = omega (arith, c.requires.plain.len, c.requires.cell_index) in
+    let is = sym (get_or_read plain i c.index-plain-cell_index.result within c.index-plain-cell_index.is None) ∙ c.in-Some.is in
+    let cell = cell_in model table c.args.row i in
+    let rows = c.holds_one.ensures.rows model shown table in
+    let P : Option ColumnBytes → Type 0 = λ o. IfSome o (IsPlainIn model table i) in
+    let here : IsPlainNumber (kind_at table i) (number_in_row c.in-Some.numbers c.args.row) cell =
+    subst P is (c.requires.plain.plain model shown i c.requires.cell_index) c.args.row c.requires.first (omega (arith, rows, c.requires.last)) in
+    on_ok_weaker c.put_number.result
+    (λ e. e ∙ ap (with_number c.args.so_far.now) (c.number.ensures ∙ here.number_is) ∙ sym (next_plain c.args.indexes (kind_at table i) cell c.args.so_far.now here.none))
+    c.put_number.ensures

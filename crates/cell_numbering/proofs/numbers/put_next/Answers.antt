@@ -16,6 +16,7 @@ no_padding table index columns same other = unpadded (column_at table index).kin
 pub put_cell-requires : goal.put_cell-requires
 put_cell-requires g c = record {
   cursors = c.requires.cursors;
+  plain = c.requires.plain;
   first = c.requires.first;
   last = c.requires.last;
   cell_index = (cell_index_is c.args.table c.args.index c.args.cell_index c.requires.column c.requires.cell_index (no_padding c.args.table c.args.index c.columns.result.now c.columns.ensures c.in_default.not-Padding)).0;

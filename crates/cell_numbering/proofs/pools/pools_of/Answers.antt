@@ -9,11 +9,10 @@ use Rattle.heap_pools.specs.GuidHeap.{given, guid_heap, guid_index}
 use Rattle.heap_pools.specs.TextHeap.{holders, text_heap, text_index}
 use Rattle.heap_pools.specs.declared.pool_error.PoolError.TheVariants.{Full}
 use Rattle.canonical.specs.Pools.{blobs_of, guids_of, texts_of, used}
-use Rattle.cell_numbering.specs.declared.blob_use.BlobUse.{BlobUse}
 use Rattle.cell_numbering.specs.declared.numbers_so_far.Indexes.{Indexes}
-use Rattle.cell_numbering.specs.HeapUses.{AreIndexes, AreUsesOf, all_cells, guid_of}
+use Rattle.cell_numbering.specs.HeapUses.{AreIndexes, all_cells, guid_of}
 use Rattle.cell_numbering.specs.TextUses.{used_texts}
-use Rattle.cell_numbering.proofs.UseLemmas.{guids_are, used_is, uses_of_blobs}
+use Rattle.cell_numbering.proofs.UseLemmas.{guids_are, used_is, uses_of_all}
 use Rattle.cell_numbering.proofs.pools.pools_of.Goals as goal
 
 pub plan-requires : goal.plan-requires
@@ -44,16 +43,14 @@ blob_plan-requires g c = λ none. not_there c.holds_one.ensures.shown (λ some.
     let blobs = flat_map blobs_of (all_cells some.0) in
     none (
       blobs,
-      subst (λ (uses : List BlobUse). AreUsesOf uses blobs) (sym c.deref-2.ensures.value)
-          (uses_of_blobs (g.S.ReadCells.heap_index c.args.source.now) some.0 (c.shared_blobs_are_one.ensures some.0 some.1) c.in_ok-uses.uses.blobs.items blobs (c.in_ok-uses.ensures some.0 some.1).blobs),
+      uses_of_all (g.S.ReadCells.heap_index c.args.source.now) some.0 (c.shared_blobs_are_one.ensures some.0 some.1) c.in_ok-uses.uses.blobs blobs (c.in_ok-uses.ensures some.0 some.1).blobs,
     ))
 
 pub returns-in_err-blobs-clause-full : goal.returns-in_err-blobs-clause-full
 returns-in_err-blobs-clause-full g c = λ model is e.
     let full : c.blob_plan.result ≡ Err Full = search rules in
     let blobs = flat_map blobs_of (all_cells model) in
-    let uses = subst (λ (uses : List BlobUse). AreUsesOf uses blobs) (sym c.deref-2.ensures.value)
-    (uses_of_blobs (g.S.ReadCells.heap_index c.args.source.now) model (c.shared_blobs_are_one.ensures model is) c.in_ok-uses.uses.blobs.items blobs (c.in_ok-uses.ensures model is).blobs) in
+    let uses = uses_of_all (g.S.ReadCells.heap_index c.args.source.now) model (c.shared_blobs_are_one.ensures model is) c.in_ok-uses.uses.blobs blobs (c.in_ok-uses.ensures model is).blobs in
     inr (inl (subst (λ (l : List (List ℕ)). 2 ^ 30 < length (blob_heap (distinct l))) (sym (used_is blobs_of model)) (c.blob_plan.ensures.full blobs uses full)))
 
 pub returns-clause-pools : goal.returns-clause-pools
@@ -62,16 +59,15 @@ returns-clause-pools g c = λ model is.
     let guids = flat_map guid_of (all_cells model) in
     let blobs = flat_map blobs_of (all_cells model) in
     let in_uses = c.in_ok-uses.ensures model is in
-    let uses = subst (λ (uses : List BlobUse). AreUsesOf uses blobs) (sym c.deref-2.ensures.value)
-    (uses_of_blobs (g.S.ReadCells.heap_index c.args.source.now) model (c.shared_blobs_are_one.ensures model is) c.in_ok-uses.uses.blobs.items blobs in_uses.blobs) in
+    let uses = uses_of_all (g.S.ReadCells.heap_index c.args.source.now) model (c.shared_blobs_are_one.ensures model is) c.in_ok-uses.uses.blobs blobs in_uses.blobs in
     let texts_are : used_texts c.in_ok-uses.uses.texts ≡ texts = in_uses.texts.texts in
     let guids_given : flat_map given guids ≡ used guids_of model = guids_are (all_cells model) ∙ sym (used_is guids_of model) in
     let guids_is = c.deref.ensures.value ∙ in_uses.guids in
-    let indexes : Indexes = record { texts = c.indexes.result; guids = c.indexes-2.result; blobs = c.deref-3.result } in
+    let indexes : Indexes = record { texts = c.deref-2.result; guids = c.indexes.result; blobs = c.deref-3.result } in
     let are : AreIndexes model indexes = record {
-      texts = c.indexes.ensures ∙ c.in_ok-texts.ensures.indexes ∙ ap (λ (l : List (List ℕ)). map (text_index (holders l)) l) texts_are
+      texts = c.deref-2.ensures.value ∙ c.in_ok-texts.ensures.indexes ∙ ap (λ (l : List (List ℕ)). map (text_index (holders l)) l) texts_are
           ∙ ap (λ (l : List (List ℕ)). map (text_index (holders l)) texts) (sym (used_is texts_of model));
-      guids = c.indexes-2.ensures ∙ c.in_ok-guids.ensures.indexes ∙ ap (λ l. map (guid_index (distinct (flat_map given l))) l) guids_is
+      guids = c.indexes.ensures ∙ c.in_ok-guids.ensures.indexes ∙ ap (λ l. map (guid_index (distinct (flat_map given l))) l) guids_is
           ∙ ap (λ (l : List (List ℕ)). map (guid_index (distinct l)) guids) guids_given;
       blobs = c.deref-3.ensures.value ∙ c.in_ok-blobs.ensures.indexes blobs uses ∙ ap (λ (l : List (List ℕ)). map (blob_index (distinct l)) blobs) (sym (used_is blobs_of model));
     } in (

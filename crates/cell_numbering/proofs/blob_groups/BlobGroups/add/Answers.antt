@@ -5,7 +5,7 @@ use Rattle.cell_numbering.specs.declared.blob_use.BlobUse.{BlobUse}
 use Rattle.cell_numbering.specs.BlobGroups.{AreGroups, bytes_in, group_blobs}
 use Rattle.cell_numbering.specs.HeapUses.{IsUseOf}
 use Rattle.cell_numbering.proofs.BlobLemmas.{AreLaws, known, new_group}
-use Rattle.cell_numbering.proofs.UseLemmas.{first_use, zip_at, zip_length}
+use Rattle.cell_numbering.proofs.UseLemmas.{some_use, zip_at, zip_length}
 use Rattle.cell_numbering.proofs.blob_groups.BlobGroups.add.Goals as goal
 
 pub written_bytes-requires : goal.written_bytes-requires
@@ -24,7 +24,7 @@ returns-in_ok-push-in-Some-clause-groups c = λ blobs uses are.
     let found = c.in-Some.ensures in
     let k = found.0 in
     let blob = get_or blobs i [] in
-    let d = first_use c.args.uses.now i c.requires.use_index_in in
+    let d = some_use c.args.uses.now i c.requires.use_index_in in
     let within : i < length blobs = omega (arith, zip_length IsUseOf c.args.uses.now blobs uses.each, c.requires.use_index_in) in
     let below : k < length of_use = omega (arith, found.1, c.requires.len) in
     let in_uses : k < length c.args.uses.now = omega (arith, found.1, c.requires.use_index_in) in

@@ -28,8 +28,8 @@ returns-in_ok-push-in-Indexed g c = λ model is texts are.
     subst (λ (uses : TextUses). AreTextUses index_of model uses texts) c.in-Indexed.is are in
     record {
       heap = before.heap;
-      texts = one_more c.texts_are_at.ensures.text index_of model c.in-Indexed.field-0.now indexes c.push.new.self.items texts id c.index_in_heap-index.result before.heap before.texts
-          (there, c.requires.cell_index) c.requires.kind c.index_in_heap-index.ensures
+      texts = one_more c.texts_are_at.ensures.text index_of model c.in-Indexed.field-0.now indexes c.push.new.self.items texts id c.args.index before.heap before.texts
+          (there, c.requires.cell_index) c.requires.kind c.requires.index
           (c.in_ok-push-in-Indexed.ensures.items ∙ ap (λ n. indexes ++ n ∷ []) c.unwrap_or.ensures);
     }
 

@@ -1,0 +1,88 @@
+ghost use Rattle.std.specs.Prelude.{◌≡◌, ◌<◌, ◌++◌, ◌∷◌, [], IsTrue, OnOk, IfOk, IfSome, length, slice_index_or};
+ghost use Rattle.cell_numbering.specs.declared.blob_use.BlobUse.{BlobUse as Use};
+ghost use Rattle.cell_numbering.specs.BlobUses.{IsAtIndex};
+
+use crate::blob_use::BlobUse;
+use std::alloc::{AllocError, Global};
+use table_schema::ColumnKind;
+
+/// The number of indexes that are remembered.
+const RECENT_COUNT: usize = 1 << 15;
+
+/// The uses of blobs. A use at an index that is remembered is not kept: it refers to one that is.
+#[derive(Drop)]
+pub struct BlobUses<'a> {
+    /// Uses of all blobs, in order of use. Two of them may have the same blob, too.
+    pub kept: Vec<BlobUse<'a>>,
+    /// For each use the kept one that has its blob.
+    pub of_use: Vec<usize>,
+    /// The kept uses at some indexes. Only the time depends on it.
+    recent: Vec<usize>,
+}
+
+/// Whether a use is in a column of a kind, and at an index of a heap.
+fn is_at(found: &BlobUse<'_>, kind: &ColumnKind, index: Option<u32>) -> bool
+    ensures { IsTrue result → IsAtIndex found.now kind.now index }
+{
+    match index {
+        Some(index) => found.index == Some(index) && found.kind == *kind,
+        None => false,
+    }
+}
+
+impl<'a> BlobUses<'a> {
+    /// No uses yet.
+    pub fn new(alloc: Global) -> Result<BlobUses<'a>, AllocError>
+        ensures kept { IfOk result (λ uses. uses.kept.items ≡ []) }
+        ensures of_use { IfOk result (λ uses. uses.of_use.items ≡ []) }
+    {
+        Ok(BlobUses {
+            kept: Vec::new(alloc),
+            of_use: Vec::new(alloc),
+            recent: vec![in alloc; 0usize; RECENT_COUNT]?,
+        })
+    }
+
+    /// The kept use that is remembered for an index, if it is in a column of this kind.
+    pub fn known(&self, kind: ColumnKind, index: Option<u32>) -> Option<usize>
+        ensures { IfSome result (λ known. (known < length self.now.kept.items) × ((d : Use) → IsAtIndex (slice_index_or self.now.kept.items known d) kind index)) }
+    {
+        let known = *self.recent.get(index? as usize % RECENT_COUNT)?;
+        if is_at(self.kept.get(known)?, &kind, index) {
+            Some(known)
+        } else {
+            None
+        }
+    }
+
+    /// Adds a use of the blob of a kept one.
+    pub fn add_known(&mut self, known: usize) -> Result<(), AllocError>
+        ensures kept { self.new.kept.items ≡ self.old.kept.items }
+        ensures of_use { OnOk result (self.new.of_use.items ≡ self.old.of_use.items ++ known ∷ []) }
+    {
+        Ok(self.of_use.push(known)?)
+    }
+
+    /// Adds a use that is kept, and remembers it.
+    pub fn add(&mut self, found: BlobUse<'a>) -> Result<(), AllocError>
+        ensures kept { OnOk result (self.new.kept.items ≡ self.old.kept.items ++ found.entry ∷ []) }
+        ensures of_use { OnOk result (self.new.of_use.items ≡ self.old.of_use.items ++ length self.old.kept.items ∷ []) }
+    {
+        let kept = self.kept.len();
+        self.remember(found.index, kept);
+        self.of_use.push(kept)?;
+        Ok(self.kept.push(found)?)
+    }
+
+    /// Remembers a kept use for its index.
+    fn remember(&mut self, index: Option<u32>, kept: usize)
+        ensures kept { self.new.kept.items ≡ self.old.kept.items }
+        ensures of_use { self.new.of_use.items ≡ self.old.of_use.items }
+    {
+        if let Some(index) = index {
+            if let Some(slot) = self.recent.get_mut(index as usize % RECENT_COUNT) {
+                *slot = kept;
+            }
+        }
+    }
+}
