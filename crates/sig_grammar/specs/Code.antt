@@ -2,7 +2,8 @@
 -- Any map to trees serves that maps different values to different trees. This is proved below; no clause uses more.
 use Rattle.std.specs.Prelude.{◌≡◌, ℕ, ℤ, List, refl}
 use Rattle.std.specs.Coded.{Coded, code_by, coded×, coded_ℕ, coded_ℤ, coded_bool, coded_list, coded_option}
-use Rattle.std.proofs.Common.{ap}
+use Rattle.std.proofs.Common.{ap, eqb, false}
+use Rattle.std.proofs.lemmas.Bool.{eqb-false}
 use base.Stored.{Gv, gnil, gnum, gcons, num, code_l, inj_l}
 use Rattle.table_schema.specs.contracts.token.Token as token
 use Rattle.sig_grammar.specs.contracts.element.Element as element
@@ -95,6 +96,10 @@ second g = head (tail g)
 abbrev after : Gv → Gv
 after g = tail (tail g)
 
+-- trees of different constructors differ in their first number
+apart : {A : Type 0} {a b : Gv} → a ≡ b → eqb (num (head a)) (num (head b)) ≡ false → A
+apart {a = a} {b = b} p differ = absurd (eqb-false (num (head a)) (num (head b)) differ (ap (λ (g : Gv). num (head g)) p))
+
 mutual
   core_one : (x y : Core) → core_tree x ≡ core_tree y → x ≡ y
   core_one (simple e) (simple f) p = ap simple (element.the_row.coded.inj e f (ap tail p))
@@ -110,7 +115,7 @@ mutual
       instance (coded_bool.inj v w (ap second p) i) (token.the_row.coded.inj t u (ap (λ g. head (after g)) p) i)
       (types_one args others (ap (λ g. tail (after g)) p) i)
   core_one (function m) (function n) p = ap function (method_one m n (ap tail p))
-  core_one _ _ p = absurd cc
+  core_one _ _ p = apart p refl
 
   typed_one : (x y : Typed) → typed_tree x ≡ typed_tree y → x ≡ y
   typed_one (typed ms c) (typed ns d) p = λ i. typed (modifiers_code.inj ms ns (ap head p) i) (core_one c d (ap tail p) i)
@@ -137,7 +142,7 @@ mutual
   ret_one : (x y : Ret) → ret_tree x ≡ ret_tree y → x ≡ y
   ret_one (some_ret s) (some_ret t) p = ap some_ret (slot_one s t (ap tail p))
   ret_one (void_ret ms) (void_ret ns) p = ap void_ret (modifiers_code.inj ms ns (ap tail p))
-  ret_one _ _ p = absurd cc
+  ret_one _ _ p = apart p refl
 
   method_one : (x y : Method) → method_tree x ≡ method_tree y → x ≡ y
   method_one (method k t e g r ps s) (method l u f h q qs v) p = λ i.
@@ -157,7 +162,7 @@ body_one (property t s ss) (property u r rs) p = λ i.
 body_one (locals ls) (locals ks) p = ap locals (inj_l (record { code = local_tree; inj = local_one }) ls ks (ap tail p))
 body_one (instance_body ts) (instance_body us) p = ap instance_body (inj_l (record { code = typed_tree; inj = typed_one }) ts us (ap tail p))
 body_one (type_spec r) (type_spec q) p = ap type_spec (ret_one r q (ap tail p))
-body_one _ _ p = absurd cc
+body_one _ _ p = apart p refl
 
 -- the code of a whole signature of any kind
 abbrev pub body_code : Coded Body

@@ -1,0 +1,6 @@
+-- Search finds these too. They are written so that a check that refuses an edit of this function ends sooner.
+use Rattle.std.proofs.Common.{rules}
+use Rattle.records.proofs.files.ExportedTypeRecord.cells.Goals as goal
+
+pub returns : goal.returns
+returns c = search rules

@@ -1,0 +1,6 @@
+-- Search finds these too. They are written so that a check that refuses an edit of this function ends sooner.
+use Rattle.std.proofs.Common.{rules}
+use Rattle.sig_text.proofs.shape.upper_bound.Goals as goal
+
+pub returns : goal.returns
+returns c = search rules
