@@ -1,3 +1,4 @@
 mod ParamLemmas
+mod RowNameLemmas
 mod PieceLemmas
 mod TextLemmas

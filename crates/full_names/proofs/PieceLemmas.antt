@@ -1,5 +1,5 @@
 -- What a writer took, from the pieces that a sink received; and the bytes of a signature.
-use Rattle.std.proofs.Common.{◌≡◌, ℕ, Bool, true, List, [], ◌++◌, Option, Some, None, Result, Ok, Err, OnOk, OnSome, refl, sym, ap, subst, ◌∙◌}
+use Rattle.std.proofs.Common.{◌≡◌, ℕ, Bool, true, List, [], ◌++◌, Option, Some, None, Result, Ok, Err, OnOk, OnSome, IfSome, IfNone, refl, sym, ap, subst, ◌∙◌}
 use Rattle.std.specs.Prelude.{is_some, is_ok}
 use Rattle.std.specs.Option.{ok_or}
 use Rattle.table_schema.specs.declared.table.TableId.TheVariants.{TypeDef, TypeRef, TypeSpec}
@@ -17,6 +17,7 @@ use Rattle.metadata.specs.Metadata.{Metadata, cell_in}
 use Rattle.metadata_source.specs.declared.signature_bytes.SignatureBytes.{SignatureBytes}
 use Rattle.metadata_source.specs.declared.signature_bytes.SignatureBytes.TheVariants.{Stored, Canonical}
 use Rattle.metadata_source.specs.SignatureBytes.{AreBytesOf}
+use Rattle.std.specs.Fmt.{WritesInCalls}
 use Rattle.full_names.specs.Names.{Wrote}
 use Rattle.full_names.specs.SignatureBytes.{bytes_in}
 use Rattle.full_names.specs.Texts.{ArePiecesText, IsFullName, IsTypeSpecText}
@@ -94,3 +95,24 @@ spec_name took model token signature w v (Ok u) table there is wrote = (
   },
   wrote.2,
 )
+
+-- a text with one property has another
+pub on_wrote : {W T E : Type 0} (took : W → List ℕ → W → Type 0) (P Q : List ℕ → Type 0) (w v : W) (result : Result T E) → OnOk result (Wrote took w P v)
+    → ((text : List ℕ) → P text → Q text) → OnOk result (Wrote took w Q v)
+on_wrote took P Q w v (Ok done) wrote change = (wrote.0, change wrote.0 wrote.1, wrote.2)
+on_wrote took P Q w v (Err e) wrote change = tt
+
+-- a text that was written has a property
+pub wrote_plain : {W T E : Type 0} (took : W → List ℕ → W → Type 0) (P : List ℕ → Type 0) (w v : W) (result : Result T E) (text : List ℕ) → P text → OnOk result (WritesInCalls took w text v)
+    → OnOk result (Wrote took w P v)
+wrote_plain took P w v (Ok done) text is wrote = (text, is, wrote)
+wrote_plain took P w v (Err e) text is wrote = tt
+
+-- what follows from what holds of a value, and of none
+pub on_some : {X : Type 0} (P Q : X → Type 0) (o : Option X) → IfSome o P → ((x : X) → P x → Q x) → IfSome o Q
+on_some P Q None is f = tt
+on_some P Q (Some x) is f = f x is
+
+pub on_none : {X P Q : Type 0} (o : Option X) → IfNone o P → (P → Q) → IfNone o Q
+on_none None is f = f is
+on_none (Some x) is f = tt

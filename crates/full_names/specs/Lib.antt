@@ -1,3 +1,4 @@
 pub mod Names
+pub mod RowNames
 pub mod SignatureBytes
 pub mod Texts

@@ -2,8 +2,9 @@
 use Rattle.std.specs.Prelude.{◌≡◌, ℕ, zero, suc, List, ◌++◌, ◌⊎◌, codes}
 use Rattle.std.specs.Fmt.{WritesInCalls}
 use Rattle.table_schema.specs.declared.table.TableId.{TableId}
-use Rattle.table_schema.specs.declared.table.TableId.TheVariants.{TypeDef, TypeRef}
+use Rattle.table_schema.specs.declared.table.TableId.TheVariants.{TypeDef, TypeRef, NestedClass}
 use Rattle.metadata.specs.Cell.{Text}
+use Rattle.metadata.specs.KeyOrder.{IsKeyOrdered}
 use Rattle.metadata.specs.Metadata.{Metadata, cell_in}
 use Rattle.metadata.specs.Names.{full_name}
 use Rattle.navigation.specs.Nesting.{IsEnclosed, IsScope}
@@ -22,9 +23,13 @@ IsChainText is_outside is_own (suc depth) row text =
     ⊎ ((outer : ℕ) × is_outside row outer × (before : List ℕ) × IsChainText is_outside is_own depth outer before × (own : List ℕ) × is_own row own
     × (text ≡ before ++ (codes "/" ++ own)))
 
+-- a type encloses another, by a NestedClass that is in the order of its key (II.22); one that is not in order encloses none
+abbrev pub IsOuter : Metadata → ℕ → ℕ → Type 0
+IsOuter model class outer = IsKeyOrdered model NestedClass × IsEnclosed model class outer
+
 -- the text of a type of this module
 abbrev pub IsTypeDefText : Metadata → ℕ → ℕ → List ℕ → Type 0
-IsTypeDefText model = IsChainText (IsEnclosed model) (IsOwnText model TypeDef)
+IsTypeDefText model = IsChainText (IsOuter model) (IsOwnText model TypeDef)
 
 -- the text of a type of another module
 abbrev pub IsTypeRefText : Metadata → ℕ → ℕ → List ℕ → Type 0

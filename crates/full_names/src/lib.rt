@@ -3,7 +3,8 @@
 //! value are allocated, so nothing of a root in place.
 //!
 //! Every call returns on every root: a TypeSpec may name itself, and the scopes of TypeRefs may go in a circle. A chain
-//! of enclosing types is written up to [`DEPTH`] types, and `..` marks what is left out.
+//! of enclosing types is written up to [`DEPTH`] types, and `..` marks what is left out. Enclosing types are written only if
+//! NestedClass is in the order of its key (II.22), so that each is found by binary search.
 //!
 //! ```text
 //! write_full_name(alloc, &view, token, &mut out)?; // Hello.Greeter/Settings
@@ -17,13 +18,17 @@ mod methods;
 mod names;
 mod params;
 mod parts;
+mod row_names;
 mod signature_bytes;
+mod signature_text;
 mod specs_named;
 mod text_error;
 
 pub use methods::write_method;
 pub use names::{DEPTH, write_type_def, write_type_ref};
 pub use navigation::{ReadCells, ReadMetadata};
+pub use row_names::write_row_name;
+pub use signature_text::write_signature_text;
 pub use specs_named::{FullNames, write_full_name};
 pub use table_schema::{TableId, Token};
 pub use text_error::TextError;

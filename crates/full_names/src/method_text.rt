@@ -73,7 +73,7 @@ impl<'s, 'w, S: ReadCells, W: fmt::Write> MethodText<'s, 'w, S, W> {
 }
 
 /// The result of a sink's call from the result of its writer. It keeps the reason of a refusal.
-fn keep(error: &mut Option<TextError>, written: Result<(), TextError>) -> Option<()>
+pub fn keep(error: &mut Option<TextError>, written: Result<(), TextError>) -> Option<()>
     ensures words { is_some error.new ≡ refused_after result (is_some error.old) }
     ensures taken { is_some result ≡ is_ok written }
 {
@@ -87,7 +87,7 @@ fn keep(error: &mut Option<TextError>, written: Result<(), TextError>) -> Option
 }
 
 /// The same of a writer that gives no reason.
-fn keep_refusal(error: &mut Option<TextError>, written: fmt::Result) -> Option<()>
+pub fn keep_refusal(error: &mut Option<TextError>, written: fmt::Result) -> Option<()>
     ensures words { is_some error.new ≡ refused_after result (is_some error.old) }
     ensures taken { is_some result ≡ is_ok written }
 {
@@ -98,7 +98,7 @@ fn keep_refusal(error: &mut Option<TextError>, written: fmt::Result) -> Option<(
 }
 
 /// Writes the name of a method after that of its type.
-fn write_method_name<S: ReadCells, W: fmt::Write>(
+pub fn write_method_name<S: ReadCells, W: fmt::Write>(
     alloc: Global,
     source: &S,
     class: Token,

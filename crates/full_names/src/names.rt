@@ -1,7 +1,7 @@
-ghost use Rattle.std.specs.Prelude.{◌≤◌, OnOk};
+ghost use Rattle.std.specs.Prelude.{◌≤◌, ℕ, IfNone, IfSome, OnOk};
 ghost use Rattle.table_schema.specs.declared.table.TableId.TheVariants.{TypeDef, TypeRef};
 ghost use Rattle.metadata.specs.Metadata.{Metadata};
-ghost use Rattle.full_names.specs.Names.{IsOwnText, IsTypeDefText, IsTypeRefText, Wrote};
+ghost use Rattle.full_names.specs.Names.{IsOuter, IsOwnText, IsTypeDefText, IsTypeRefText, Wrote};
 
 use crate::parts::{write_left_out, write_own_name, write_slash};
 use navigation::{ReadCells, cells, enclosing_type, enclosing_type_ref};
@@ -30,7 +30,22 @@ fn write_own_def<S: ReadCells, W: fmt::Write>(source: &S, row: u32, out: &mut W)
     write_own_name(out, namespace, name)
 }
 
-/// Writes the name of a type of this module, after those of the types that enclose it, up to `depth` types.
+/// The type that encloses a type of this module, by binary search; `None` if NestedClass is not in the order of its key
+/// (II.22), because then each look-up would pass over the table.
+fn outer_type<S: ReadCells>(source: &S, row: u32) -> Option<u32>
+    ensures sound { (model : Metadata) → S.shows source.now model → IfSome result (IsOuter model row) }
+    ensures none { (model : Metadata) → S.shows source.now model → IfNone result ((outer : ℕ) → ¬ IsOuter model row outer) }
+    ensures first { IfSome result (λ outer. 1 ≤ outer) }
+    ensures last { IfSome result (λ outer. outer ≤ S.row_count source.now TypeDef) }
+{
+    if !source.in_order(TableId::NestedClass) {
+        return None;
+    }
+    enclosing_type(source, row)
+}
+
+/// Writes the name of a type of this module, after those of the types that enclose it, up to `depth` types. If NestedClass
+/// is not in the order of its key (II.22), none encloses it.
 pub fn write_type_def<S: ReadCells, W: fmt::Write>(
     source: &S,
     row: u32,
@@ -45,7 +60,7 @@ pub fn write_type_def<S: ReadCells, W: fmt::Write>(
     if depth == 0 {
         return write_left_out(out);
     }
-    let Some(outer) = enclosing_type(source, row) else {
+    let Some(outer) = outer_type(source, row) else {
         return write_own_def(source, row, out);
     };
     write_type_def(source, outer, out, depth - 1)?;

@@ -50,8 +50,9 @@ impl<S: ReadCells> TokenNames for FullNames<'_, S> {
 /// written, and `..` before them if there are more. `..` stands for a TypeSpec in the text of a TypeSpec, too, and for a
 /// token that names no type. A TypeRef is written without its assembly.
 ///
-/// Of a TypeDef it looks up at most [`DEPTH`] enclosing types, each by binary search if NestedClass is in order. It
-/// allocates only the bytes of a TypeSpec that is held as a value, so nothing of a view.
+/// Of a TypeDef it looks up at most [`DEPTH`] enclosing types, each by binary search. If NestedClass is not in the order of
+/// its key (II.22), a type is written without those that enclose it. It allocates only the bytes of a TypeSpec that is held
+/// as a value, so nothing of a view.
 ///
 /// # Errors
 ///

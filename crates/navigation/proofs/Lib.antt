@@ -1,3 +1,6 @@
 mod CellLemmas
-mod OwnerLemmas
+mod LinkLemmas
+mod LinkModelLemmas
 mod NestingLemmas
+mod OwnerLemmas
+mod StartLemmas

@@ -54,7 +54,7 @@ module _ (model : Metadata) (valid : IsValid model) where
   owned list_of.Properties = valid.properties
 
   module _ (list : MemberList) where
-    is_start : (row : ℕ) → HasRow model (owner_of list) row → cell_in model (owner_of list) row (cell_of list) ≡ Start (start_of model list row)
+    pub is_start : (row : ℕ) → HasRow model (owner_of list) row → cell_in model (owner_of list) row (cell_of list) ≡ Start (start_of model list row)
     is_start row there =
         let held = valid.cells (owner_of list) row (cell_of list) there (cell_of_list list) in
         let cell = cell_in model (owner_of list) row (cell_of list) in

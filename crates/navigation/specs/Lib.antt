@@ -1,3 +1,5 @@
+pub mod Linked
 pub mod Maps
 pub mod Nesting
 pub mod Owners
+pub mod Starts

@@ -2,7 +2,8 @@
 //! and the properties and events of a type.
 //!
 //! The look-ups are written and proved once, for a root that was opened in place and for tables in memory. They do not
-//! allocate, and they return on every valid metadata.
+//! allocate, and they return on every valid metadata. [`Neighbours`] is a view that finds owners, and the rows that refer
+//! to a row, in any order by binary search.
 //!
 //! ```text
 //! let class = type_of_method(&source, method);
@@ -12,12 +13,18 @@
 #![tactic(auto)]
 
 pub mod cells;
+mod links;
 mod maps;
+mod neighbours;
+mod neighbours_held;
 mod nesting;
 mod owners;
+mod starts;
 
+pub use links::Link;
 pub use maps::{events_of_type, properties_of_type, type_of_event, type_of_property};
 pub use metadata_source::{MemberList, ReadCells, ReadMetadata};
+pub use neighbours::Neighbours;
 pub use nesting::{enclosing_type, enclosing_type_ref};
 pub use owners::{
     event_map_of_event, method_of_param, property_map_of_property, type_of_field, type_of_method,

@@ -115,7 +115,8 @@ pub fn properties_of_type<S: ReadCells>(source: &S, row: u32) -> Range<u32>
 pub fn type_of_event<S: ReadCells>(source: &S, row: u32) -> u32
     requires first { 1 ≤ row }
     requires last { row ≤ S.row_count source.now Event }
-    ensures { (model : Metadata) → S.shows source.now model → (map : ℕ) → Owns model list_of.Events map row → IsMapOf model EventMap result map }
+    ensures sound { (model : Metadata) → S.shows source.now model → (map : ℕ) × Owns model list_of.Events map row × IsMapOf model EventMap result map }
+    ensures one { (model : Metadata) → S.shows source.now model → (map : ℕ) → Owns model list_of.Events map row → IsMapOf model EventMap result map }
 {
     parent_in_event_map(source, event_map_of_event(source, row))
 }
@@ -126,7 +127,8 @@ pub fn type_of_event<S: ReadCells>(source: &S, row: u32) -> u32
 pub fn type_of_property<S: ReadCells>(source: &S, row: u32) -> u32
     requires first { 1 ≤ row }
     requires last { row ≤ S.row_count source.now Property }
-    ensures { (model : Metadata) → S.shows source.now model → (map : ℕ) → Owns model list_of.Properties map row → IsMapOf model PropertyMap result map }
+    ensures sound { (model : Metadata) → S.shows source.now model → (map : ℕ) × Owns model list_of.Properties map row × IsMapOf model PropertyMap result map }
+    ensures one { (model : Metadata) → S.shows source.now model → (map : ℕ) → Owns model list_of.Properties map row → IsMapOf model PropertyMap result map }
 {
     parent_in_property_map(source, property_map_of_property(source, row))
 }

@@ -1,0 +1,230 @@
+ghost use Rattle.std.specs.Prelude.{◌≡◌, ◌≤◌, OnOk};
+ghost use Rattle.table_schema.specs.declared.table.TableId.TheVariants.{Event, Field, MemberRef, MethodDef, Property};
+ghost use Rattle.metadata.specs.Metadata.{Metadata};
+ghost use Rattle.navigation.specs.Nesting.{type_token};
+ghost use Rattle.full_names.specs.Names.{Wrote};
+ghost use Rattle.full_names.specs.RowNames.{IsNameIn, IsParent, IsPlainName, IsRowName, IsTypeOfEvent, IsTypeOfField, IsTypeOfMethod, IsTypeOfProperty};
+
+use crate::method_text::write_method_name;
+use crate::parts::{write_left_out, write_text};
+use crate::specs_named::write_full_name;
+use crate::text_error::TextError;
+use navigation::{
+    ReadCells, cells, type_of_event, type_of_field, type_of_method, type_of_property,
+};
+use std::alloc::Global;
+use std::fmt;
+use table_schema::{TableId, Token};
+
+/// The cell of a field's name (II.22.15).
+const FIELD_NAME: usize = 1;
+
+/// The cell of a method's name (II.22.26).
+const METHOD_NAME: usize = 3;
+
+/// The cell of the name of an event (II.22.13), of a property (II.22.34) or of a MemberRef (II.22.25).
+const MEMBER_NAME: usize = 1;
+
+/// The cell of the parent of a MemberRef (II.22.25).
+const MEMBER_PARENT: usize = 0;
+
+/// The cell of a module's name (II.22.31).
+const MODULE_NAME: usize = 0;
+
+/// The cell of the name of an assembly (II.22.5).
+const ASSEMBLY_NAME: usize = 6;
+
+/// The cell of a file's name (II.22.19).
+const FILE_NAME: usize = 1;
+
+/// The cell of the name of an exported type (II.22.14).
+const EXPORTED_NAME: usize = 2;
+
+/// The cell of the name of a generic parameter (II.22.20).
+const GENERIC_NAME: usize = 3;
+
+/// The token of a type of this module.
+fn type_token(row: u32) -> Token
+    ensures { result ≡ type_token row }
+{
+    Token {
+        table: TableId::TypeDef,
+        row,
+    }
+}
+
+/// The parent of a MemberRef (II.22.25).
+#[tactic(auto, unfolding(table_schema::specs::CellColumns::cell_columns))]
+fn parent<S: ReadCells>(source: &S, row: u32) -> Token
+    requires first { 1 ≤ row }
+    requires last { row ≤ S.row_count source.now MemberRef }
+    ensures { (model : Metadata) → S.shows source.now model → IsParent model row result }
+{
+    source.holds_one();
+    match cells::reference(source, TableId::MemberRef, row, MEMBER_PARENT) {
+        Some(class) => class,
+        None => unreachable!(),
+    }
+}
+
+/// Writes the name of a field after that of its type.
+#[tactic(auto, unfolding(table_schema::specs::CellColumns::cell_columns))]
+fn write_field<S: ReadCells, W: fmt::Write>(
+    alloc: Global,
+    source: &S,
+    row: u32,
+    out: &mut W,
+) -> Result<(), TextError>
+    requires first { 1 ≤ row }
+    requires last { row ≤ S.row_count source.now Field }
+    ensures { (model : Metadata) → S.shows source.now model → OnOk result (Wrote W.write_str_gives out.old (IsNameIn model Field row) out.new) }
+{
+    let class = type_token(type_of_field(source, row));
+    let name = cells::text(source, TableId::Field, row, FIELD_NAME);
+    write_method_name(alloc, source, class, name, out)
+}
+
+/// Writes the name of a method after that of its type.
+#[tactic(auto, unfolding(table_schema::specs::CellColumns::cell_columns))]
+fn write_method_row<S: ReadCells, W: fmt::Write>(
+    alloc: Global,
+    source: &S,
+    row: u32,
+    out: &mut W,
+) -> Result<(), TextError>
+    requires first { 1 ≤ row }
+    requires last { row ≤ S.row_count source.now MethodDef }
+    ensures { (model : Metadata) → S.shows source.now model → OnOk result (Wrote W.write_str_gives out.old (IsNameIn model MethodDef row) out.new) }
+{
+    let class = type_token(type_of_method(source, row));
+    let name = cells::text(source, TableId::MethodDef, row, METHOD_NAME);
+    write_method_name(alloc, source, class, name, out)
+}
+
+/// Writes the name of an event after that of its type.
+#[tactic(auto, unfolding(table_schema::specs::CellColumns::cell_columns))]
+fn write_event<S: ReadCells, W: fmt::Write>(
+    alloc: Global,
+    source: &S,
+    row: u32,
+    out: &mut W,
+) -> Result<(), TextError>
+    requires first { 1 ≤ row }
+    requires last { row ≤ S.row_count source.now Event }
+    ensures { (model : Metadata) → S.shows source.now model → OnOk result (Wrote W.write_str_gives out.old (IsNameIn model Event row) out.new) }
+{
+    let class = type_token(type_of_event(source, row));
+    let name = cells::text(source, TableId::Event, row, MEMBER_NAME);
+    write_method_name(alloc, source, class, name, out)
+}
+
+/// Writes the name of a property after that of its type.
+#[tactic(auto, unfolding(table_schema::specs::CellColumns::cell_columns))]
+fn write_property<S: ReadCells, W: fmt::Write>(
+    alloc: Global,
+    source: &S,
+    row: u32,
+    out: &mut W,
+) -> Result<(), TextError>
+    requires first { 1 ≤ row }
+    requires last { row ≤ S.row_count source.now Property }
+    ensures { (model : Metadata) → S.shows source.now model → OnOk result (Wrote W.write_str_gives out.old (IsNameIn model Property row) out.new) }
+{
+    let class = type_token(type_of_property(source, row));
+    let name = cells::text(source, TableId::Property, row, MEMBER_NAME);
+    write_method_name(alloc, source, class, name, out)
+}
+
+/// Writes the name of a MemberRef after that of its parent.
+#[tactic(auto, unfolding(table_schema::specs::CellColumns::cell_columns))]
+fn write_member_ref<S: ReadCells, W: fmt::Write>(
+    alloc: Global,
+    source: &S,
+    row: u32,
+    out: &mut W,
+) -> Result<(), TextError>
+    requires first { 1 ≤ row }
+    requires last { row ≤ S.row_count source.now MemberRef }
+    ensures { (model : Metadata) → S.shows source.now model → OnOk result (Wrote W.write_str_gives out.old (IsNameIn model MemberRef row) out.new) }
+{
+    let class = parent(source, row);
+    let name = cells::text(source, TableId::MemberRef, row, MEMBER_NAME);
+    write_method_name(alloc, source, class, name, out)
+}
+
+/// Writes the name of a row of ModuleRef, AssemblyRef, File, ExportedType or GenericParam, and `..` for any other.
+#[tactic(auto, unfolding(table_schema::specs::CellColumns::cell_columns))]
+fn write_plain<S: ReadCells, W: fmt::Write>(source: &S, token: Token, out: &mut W) -> fmt::Result
+    requires first { 1 ≤ token.row }
+    requires last { token.row ≤ S.row_count source.now token.table }
+    ensures { (model : Metadata) → S.shows source.now model
+        → OnOk result (Wrote W.write_str_gives out.old (IsPlainName model token.table token.row) out.new) }
+{
+    let row = token.row;
+    match token.table {
+        TableId::ModuleRef => write_text(
+            out,
+            cells::text(source, TableId::ModuleRef, row, MODULE_NAME),
+        ),
+        TableId::AssemblyRef => {
+            write_text(
+                out,
+                cells::text(source, TableId::AssemblyRef, row, ASSEMBLY_NAME),
+            )
+        }
+        TableId::File => write_text(out, cells::text(source, TableId::File, row, FILE_NAME)),
+        TableId::ExportedType => {
+            write_text(
+                out,
+                cells::text(source, TableId::ExportedType, row, EXPORTED_NAME),
+            )
+        }
+        TableId::GenericParam => {
+            write_text(
+                out,
+                cells::text(source, TableId::GenericParam, row, GENERIC_NAME),
+            )
+        }
+        _ => write_left_out(out),
+    }
+}
+
+/// Writes the name of a row of any table in the notation of ILAsm (II.5.3, II.15.3).
+///
+/// | row | name |
+/// |---|---|
+/// | a type | as [`write_full_name`] writes it |
+/// | a field, a method, an event or a property | that of its type, two colons, and its own |
+/// | a MemberRef | that of its parent if it is a type, else `..`; two colons, and its own |
+/// | a module, an assembly or a file that is referred to; an exported type; a generic parameter | its own |
+/// | any other row, and one that does not exist | `..` |
+///
+/// Names are written unchanged: they may have control characters. The type of a member is found by binary search.
+///
+/// # Errors
+///
+/// `Writer` if the writer refused a part of the name. `Memory` if out of memory.
+pub fn write_row_name<S: ReadCells, W: fmt::Write>(
+    alloc: Global,
+    source: &S,
+    token: Token,
+    out: &mut W,
+) -> Result<(), TextError>
+    ensures { (model : Metadata) → S.shows source.now model → OnOk result (Wrote W.write_str_gives out.old (IsRowName model token) out.new) }
+{
+    source.holds_one();
+    if token.row == 0 || token.row > source.count(token.table) {
+        return Ok(write_left_out(out)?);
+    }
+    match token.table {
+        TableId::TypeDef | TableId::TypeRef | TableId::TypeSpec => {
+            write_full_name(alloc, source, token, out)
+        }
+        TableId::Field => write_field(alloc, source, token.row, out),
+        TableId::MethodDef => write_method_row(alloc, source, token.row, out),
+        TableId::Event => write_event(alloc, source, token.row, out),
+        TableId::Property => write_property(alloc, source, token.row, out),
+        TableId::MemberRef => write_member_ref(alloc, source, token.row, out),
+        _ => Ok(write_plain(source, token, out)?),
+    }
+}

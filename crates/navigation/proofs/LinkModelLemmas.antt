@@ -1,0 +1,69 @@
+-- The references of a root and of its model have the same numbers.
+use Rattle.std.proofs.Common.{◌≡◌, ◌∙◌, ℕ, ◌<◌, ◌≤◌, ◌==◌, inl, inr, true, false, cond, List, [], refl, sym, ap, arith}
+use Rattle.table_schema.specs.declared.table.TableId.{TableId}
+use Rattle.table_schema.specs.declared.table.TableId.TheVariants.{TypeDef, EventMap, PropertyMap, MethodSemantics}
+use Rattle.table_schema.specs.declared.token.Token.{Token}
+use Rattle.table_schema.specs.declared.column.ColumnKind.TheVariants as kind
+use Rattle.table_schema.specs.CellColumns.{cell_columns, cell_count, column_of}
+use Rattle.metadata.specs.Cell.{Cell}
+use Rattle.metadata.specs.KeyOrder.{key_in, key_number}
+use Rattle.metadata.specs.Lookups.{IsKeyCell}
+use Rattle.metadata.specs.Metadata.{Metadata, cell_in, count_in}
+use Rattle.metadata.specs.Rows.{IsCell}
+use Rattle.metadata.specs.Source.{Source, number_of, rows_in}
+use Rattle.metadata.specs.SourceAt.{source_of}
+use Rattle.metadata.specs.Stands.{Refers}
+use Rattle.reading.specs.KeyRows.{rows_that}
+use Rattle.navigation.specs.declared.links.Link.{Link}
+use Rattle.navigation.specs.declared.links.Link.TheVariants as link_of
+use Rattle.navigation.specs.Linked.{in_order, link_in, linked, number_in, number_to, rises, table_of}
+use Rattle.navigation.proofs.LinkLemmas.{rises_same, rows_same}
+
+-- a number in a column of types is that of the reference
+of_type : (source : Source) (number : ℕ) (cell : Cell) → Refers source false (record { table = TypeDef; row = number }) cell → number ≡ key_number (kind.Row TypeDef) cell
+of_type source number cell (inl (zero, null, is)) = absurd cc
+of_type source number cell (inr (there, is)) = rw is refl
+
+accessor_key : IsKeyCell MethodSemantics 2
+unfolding cell_columns
+accessor_key = record {
+  within = omega arith;
+  key = refl;
+}
+
+module _ (root : List ℕ) (model : Metadata)
+    (cells : (table : TableId) (row cell_index : ℕ) → 1 ≤ row → row ≤ rows_in (source_of root) table → cell_index < cell_count table
+    → IsCell (source_of root) table row cell_index (cell_in model table row cell_index))
+    (keys : (table : TableId) (cell row : ℕ) → IsKeyCell table cell → 1 ≤ row → row ≤ rows_in (source_of root) table
+    → number_of (source_of root) table row (column_of table cell) ≡ key_in model table cell row)
+    (counted : (table : TableId) → count_in model table ≡ rows_in (source_of root) table) where
+  numbers_are_one : (of : Link) (row : ℕ) → 1 ≤ row → row ≤ rows_in (source_of root) (table_of of) → number_in root of row ≡ link_in model of row
+  unfolding cell_columns
+  numbers_are_one link_of.Events row first last = of_type (source_of root) (number_in root link_of.Events row) (cell_in model EventMap row 0) (cells EventMap row 0 first last (omega arith))
+  numbers_are_one link_of.Properties row first last =
+      of_type (source_of root) (number_in root link_of.Properties row) (cell_in model PropertyMap row 0) (cells PropertyMap row 0 first last (omega arith))
+  numbers_are_one link_of.Accessors row first last = keys MethodSemantics 2 row accessor_key first last
+
+  -- so they are in order in both or in neither
+  pub orders_are_one : (of : Link) → rises (number_in root of) (rows_in (source_of root) (table_of of)) ≡ in_order model of
+  orders_are_one of =
+      rises_same (number_in root of) (link_in model of) (rows_in (source_of root) (table_of of)) (λ row first last. numbers_are_one of row first last)
+      ∙ ap (λ n. rises (link_in model of) n) (sym (counted (table_of of)))
+
+  module _ (of : Link) (number : ℕ) (token : Token) where
+    pub none_linked : rises (number_in root of) (rows_in (source_of root) (table_of of)) ≡ false → [] ≡ linked model of token
+    unfolding linked
+    none_linked is =
+        let rows = rows_that (λ row. link_in model of row == number_to of token) 1 (count_in model (table_of of)) in
+        sym (ap (λ t. cond t rows []) (sym (orders_are_one of) ∙ is))
+
+    pub rows_linked : rises (number_in root of) (rows_in (source_of root) (table_of of)) ≡ true → number ≡ number_to of token
+        → rows_that (λ row. number_in root of row == number) 1 (rows_in (source_of root) (table_of of)) ≡ linked model of token
+    unfolding linked
+    rows_linked is same =
+        let count = rows_in (source_of root) (table_of of) in
+        let rows = rows_that (λ row. link_in model of row == number_to of token) 1 (count_in model (table_of of)) in
+        rows_same (λ row. number_in root of row == number) (λ row. link_in model of row == number_to of token) 1 count
+        (λ row first past. ap (λ n. n == number) (numbers_are_one of row first (omega arith)) ∙ ap (λ n. link_in model of row == n) same)
+        ∙ ap (λ n. rows_that (λ row. link_in model of row == number_to of token) 1 n) (sym (counted (table_of of)))
+        ∙ sym (ap (λ t. cond t rows []) (sym (orders_are_one of) ∙ is))

@@ -1,0 +1,10 @@
+use Rattle.std.proofs.Common.{◌≡◌, length}
+use Rattle.navigation.specs.Starts.{AreStarts}
+use Rattle.navigation.proofs.starts.all_starts.Given as goal
+
+abbrev pub invariant-loop-earlier : goal.invariant-loop-earlier
+invariant-loop-earlier l = record {
+  same : l.cells ≡ l.view;
+  long : length l.starts.items ≡ l.earlier;
+  are : AreStarts l.view l.list l.starts.items;
+}
