@@ -2,7 +2,7 @@
 use Rattle.std.proofs.Common.{ℕ, zero, suc, ◌<◌, List, [], ◌∷◌, length, get_or, arith, rules}
 use Rattle.std.specs.Prelude.{⊤}
 use Rattle.table_schema.specs.declared.table.TableId.{TableId}
-use Rattle.table_schema.specs.declared.table.TableId.TheVariants.{Assembly, AssemblyRef, Module, ModuleRef, File, ManifestResource, TypeDef, Field, MethodDef, InterfaceImpl, GenericParam, GenericParamConstraint, ExportedType, MethodImpl, MethodSemantics, ImplMap, CustomAttribute}
+use Rattle.table_schema.specs.declared.table.TableId.TheVariants.{Assembly, AssemblyRef, Module, ModuleRef, File, ManifestResource, TypeDef, Field, MethodDef, InterfaceImpl, GenericParam, GenericParamConstraint, ExportedType, MethodImpl, MethodSemantics, Event, Property, ImplMap, CustomAttribute}
 use Rattle.table_schema.specs.CellColumns.{cell_columns}
 use Rattle.cli_outline.specs.Layouts.{parts_of}
 use Rattle.cli_outline.specs.Parts.{Part}
@@ -30,6 +30,8 @@ parts_within GenericParamConstraint = search rules
 parts_within ExportedType = search rules
 parts_within MethodImpl = search rules
 parts_within MethodSemantics = search rules
+parts_within Event = search rules
+parts_within Property = search rules
 parts_within ImplMap = search rules
 parts_within CustomAttribute = search rules
 parts_within _ = tt

@@ -5,5 +5,6 @@ pub mod OutlineLemmas
 pub mod PieceLemmas
 pub mod ReferenceLemmas
 pub mod RunLemmas
+pub mod SubjectLemmas
 pub mod WriterLemmas
 pub mod Outcomes

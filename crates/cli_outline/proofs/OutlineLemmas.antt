@@ -37,28 +37,36 @@ range_last : (a n j : ℕ) → a + n ≡ j → range_with_len a (suc n) ≡ rang
 range_last a zero j e = let same : a ≡ j = omega arith in ap (λ (k : ℕ). k ∷ []) same
 range_last a (suc n) j e = ap (λ xs. a ∷ xs) (range_last (a + 1) n j (omega arith))
 
--- one more type, and the types after the first ones
-module _ {Y : Type 0} (rows : ℕ → List Y) where
-  pub classes_more : (n : ℕ) → flat_map rows (range_with_len 1 n) ++ rows (n + 1) ≡ flat_map rows (range_with_len 1 (n + 1))
-  classes_more n =
+-- one more row of a range, and the rows after the first ones
+module _ {Y : Type 0} (rows : ℕ → List Y) (first : ℕ) where
+  pub ranges_more : (n j : ℕ) → first + n ≡ j → flat_map rows (range_with_len first n) ++ rows j ≡ flat_map rows (range_with_len first (n + 1))
+  ranges_more n j is =
       let next : suc n ≡ n + 1 = omega arith in
-      ap (λ ys. flat_map rows (range_with_len 1 n) ++ ys) (sym (append-nil (rows (n + 1)))) ∙ sym (flat_map-append rows (range_with_len 1 n) ((n + 1) ∷ []))
-      ∙ ap (λ xs. flat_map rows xs) (sym (range_last 1 n (n + 1) (omega arith)))
-      ∙ ap (λ m. flat_map rows (range_with_len 1 m)) next
+      ap (λ ys. flat_map rows (range_with_len first n) ++ ys) (sym (append-nil (rows j))) ∙ sym (flat_map-append rows (range_with_len first n) (j ∷ []))
+      ∙ ap (λ xs. flat_map rows xs) (sym (range_last first n j is))
+      ∙ ap (λ m. flat_map rows (range_with_len first m)) next
 
-  classes_after : (more n : ℕ) → (later : List Y) × (flat_map rows (range_with_len 1 (n + more)) ≡ flat_map rows (range_with_len 1 n) ++ later)
-  classes_after zero n =
-      let same : n + 0 ≡ n = omega arith in ([], ap (λ m. flat_map rows (range_with_len 1 m)) same ∙ sym (append-nil (flat_map rows (range_with_len 1 n))))
-  classes_after (suc more) n =
-      let before = classes_after more n in
+  ranges_after : (more n : ℕ) → (later : List Y) × (flat_map rows (range_with_len first (n + more)) ≡ flat_map rows (range_with_len first n) ++ later)
+  ranges_after zero n =
+      let same : n + 0 ≡ n = omega arith in ([], ap (λ m. flat_map rows (range_with_len first m)) same ∙ sym (append-nil (flat_map rows (range_with_len first n))))
+  ranges_after (suc more) n =
+      let before = ranges_after more n in
       let next : n + suc more ≡ n + more + 1 = omega arith in (
-        before.0 ++ rows (n + more + 1),
-        ap (λ m. flat_map rows (range_with_len 1 m)) next ∙ sym (classes_more (n + more)) ∙ ap (λ xs. xs ++ rows (n + more + 1)) before.1
-            ∙ append_assoc (flat_map rows (range_with_len 1 n)) before.0 (rows (n + more + 1)),
+        before.0 ++ rows (first + (n + more)),
+        ap (λ m. flat_map rows (range_with_len first m)) next ∙ sym (ranges_more (n + more) (first + (n + more)) refl) ∙ ap (λ xs. xs ++ rows (first + (n + more))) before.1
+            ∙ append_assoc (flat_map rows (range_with_len first n)) before.0 (rows (first + (n + more))),
       )
 
-  pub classes_whole : (n count : ℕ) → n ≤ count → (later : List Y) × (flat_map rows (range_with_len 1 count) ≡ flat_map rows (range_with_len 1 n) ++ later)
-  classes_whole n count le =
+  pub ranges_whole : (n count : ℕ) → n ≤ count → (later : List Y) × (flat_map rows (range_with_len first count) ≡ flat_map rows (range_with_len first n) ++ later)
+  ranges_whole n count le =
       let same : n + (count - n) ≡ count = omega (arith, le) in
-      let after = classes_after (count - n) n in
-      (after.0, ap (λ m. flat_map rows (range_with_len 1 m)) (sym same) ∙ after.1)
+      let after = ranges_after (count - n) n in
+      (after.0, ap (λ m. flat_map rows (range_with_len first m)) (sym same) ∙ after.1)
+
+-- the same from row 1 on
+module _ {Y : Type 0} (rows : ℕ → List Y) where
+  pub classes_more : (n : ℕ) → flat_map rows (range_with_len 1 n) ++ rows (n + 1) ≡ flat_map rows (range_with_len 1 (n + 1))
+  classes_more n = ranges_more rows 1 n (n + 1) (omega arith)
+
+  pub classes_whole : (n count : ℕ) → n ≤ count → (later : List Y) × (flat_map rows (range_with_len 1 count) ≡ flat_map rows (range_with_len 1 n) ++ later)
+  classes_whole n count le = ranges_whole rows 1 n count le

@@ -1,7 +1,7 @@
 -- The line of a row of each table, as a list of parts (ECMA-335 II.6 and II.10). A row of another table has no line.
 use Rattle.std.specs.Prelude.{List, [], ◌∷◌, codes}
 use Rattle.table_schema.specs.declared.table.TableId.{TableId}
-use Rattle.table_schema.specs.declared.table.TableId.TheVariants.{Assembly, AssemblyRef, Module, ModuleRef, File, ManifestResource, TypeDef, Field, MethodDef, InterfaceImpl, GenericParam, GenericParamConstraint, ExportedType, MethodImpl, MethodSemantics, ImplMap, CustomAttribute}
+use Rattle.table_schema.specs.declared.table.TableId.TheVariants.{Assembly, AssemblyRef, Module, ModuleRef, File, ManifestResource, TypeDef, Field, MethodDef, InterfaceImpl, GenericParam, GenericParamConstraint, ExportedType, MethodImpl, MethodSemantics, Event, Property, ImplMap, CustomAttribute}
 use Rattle.cli_outline.specs.declared.flag_words.FlagTable.TheVariants as table
 use Rattle.cli_outline.specs.Parts.{Part, word, flags, text, number, quoted_after, bytes_after, key, hex, dotted, token_after, signature, declaration, own_name, name_after}
 
@@ -34,21 +34,25 @@ parts_of MethodDef = word (codes "  .method") ∷ flags table.Method 2 ∷ word 
 parts_of InterfaceImpl = word (codes ".interfaceimpl type") ∷ name_after (codes " ") 0 ∷ name_after (codes " implements ") 1 ∷ []
 -- II.10.1.7, II.22.20
 parts_of GenericParam =
-    word (codes ".param type") ∷ flags table.Generic 1 ∷ word (codes " ") ∷ text 3 ∷ word (codes " [") ∷ number 0 ∷ word (codes "]") ∷ token_after (codes " of ") 2 ∷ []
+    word (codes ".param type") ∷ flags table.Generic 1 ∷ word (codes " ") ∷ text 3 ∷ word (codes " [") ∷ number 0 ∷ word (codes "]") ∷ name_after (codes " of ") 2 ∷ []
 -- II.10.1.7, II.22.21
-parts_of GenericParamConstraint = word (codes ".param constraint") ∷ token_after (codes " ") 0 ∷ name_after (codes ", ") 1 ∷ []
+parts_of GenericParamConstraint = word (codes ".param constraint") ∷ name_after (codes " ") 0 ∷ token_after (codes " ") 0 ∷ name_after (codes ", ") 1 ∷ []
 -- II.6.7, II.22.14
 parts_of ExportedType =
-    word (codes ".class extern") ∷ flags table.Type 0 ∷ word (codes " ") ∷ dotted 3 ∷ text 2 ∷ token_after (codes " in ") 4 ∷ []
+    word (codes ".class extern") ∷ flags table.Type 0 ∷ word (codes " ") ∷ dotted 3 ∷ text 2 ∷ token_after (codes " in ") 4 ∷ name_after (codes " ") 4 ∷ []
 -- II.10.3.2, II.22.27
-parts_of MethodImpl = word (codes ".override") ∷ token_after (codes " ") 2 ∷ token_after (codes " with ") 1 ∷ token_after (codes " in ") 0 ∷ []
+parts_of MethodImpl = word (codes ".override") ∷ name_after (codes " ") 2 ∷ name_after (codes " with ") 1 ∷ name_after (codes " in ") 0 ∷ []
+-- II.18, II.22.13
+parts_of Event = word (codes "  .event") ∷ flags table.Mapped 0 ∷ name_after (codes " ") 2 ∷ word (codes " ") ∷ own_name ∷ []
+-- II.17, II.22.34
+parts_of Property = word (codes "  .property") ∷ flags table.Mapped 0 ∷ word (codes " ") ∷ signature 2 ∷ word (codes " ") ∷ own_name ∷ []
 -- II.17, II.18, II.22.28
-parts_of MethodSemantics = word (codes " ") ∷ flags table.Semantics 0 ∷ token_after (codes " ") 1 ∷ token_after (codes " of ") 2 ∷ []
+parts_of MethodSemantics = word (codes "   ") ∷ flags table.Semantics 0 ∷ name_after (codes " ") 1 ∷ name_after (codes " of ") 2 ∷ []
 -- II.15.5.2, II.22.22
 parts_of ImplMap =
-    word (codes ".pinvokeimpl(") ∷ token_after [] 3 ∷ word (codes " as \"") ∷ text 2 ∷ word (codes "\"") ∷ flags table.Import 0 ∷ word (codes ")") ∷
-    token_after (codes " of ") 1 ∷ []
+    word (codes ".pinvokeimpl(") ∷ name_after (codes "\"") 3 ∷ word (codes "\" as \"") ∷ text 2 ∷ word (codes "\"") ∷ flags table.Import 0 ∷ word (codes ")") ∷
+    name_after (codes " of ") 1 ∷ []
 -- II.21, II.22.10
 parts_of CustomAttribute =
-    word (codes ".custom") ∷ token_after (codes " ") 1 ∷ word (codes " = (") ∷ hex 2 ∷ word (codes ")") ∷ token_after (codes " of ") 0 ∷ []
+    word (codes ".custom") ∷ name_after (codes " ") 1 ∷ word (codes " = (") ∷ hex 2 ∷ word (codes ")") ∷ token_after (codes " of ") 0 ∷ []
 parts_of _ = []

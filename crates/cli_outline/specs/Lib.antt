@@ -5,3 +5,4 @@ pub mod Layouts
 pub mod Outline
 pub mod Sent
 pub mod Shown
+pub mod Subjects

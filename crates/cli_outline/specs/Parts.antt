@@ -9,6 +9,7 @@ use Rattle.sig_grammar.specs.Syntax.{Body, Method, method_body}
 use Rattle.sig_text.specs.SignatureText.{text_of as pieces_of_signature}
 use Rattle.metadata.specs.Cell.{Cell, Number, Text, Bytes, Ref, Sig}
 use Rattle.metadata.specs.Metadata.{Metadata, cell_in}
+use Rattle.full_names.specs.RowNames.{IsRowName}
 use Rattle.full_names.specs.Texts.{ArePiecesText, IsDeclaration, IsFullName, IsPieceText}
 use Rattle.cli_faults.specs.Escaped.{escaped_text}
 use Rattle.cli_reports.specs.Escaped.{escaped_bytes}
@@ -43,9 +44,9 @@ pub data Part : Type 0 where
   signature : ℕ → Part
   -- the declaration of the method that the row is (II.15.3)
   declaration : Part
-  -- the full name of the type that the row is
+  -- the name of the row
   own_name : Part
-  -- unless the reference in a cell is null: a word, and the full name of the type
+  -- unless the reference in a cell is null: a word, and the name of the row
   name_after : List ℕ → ℕ → Part
 
 -- the values of cells
@@ -90,9 +91,9 @@ abbrev pub token_text_after : List ℕ → Option Token → List ℕ
 token_text_after before None = []
 token_text_after before (Some token) = before ++ token_text token
 
--- the full name of a type, escaped
+-- the name of a row (II.5.3), escaped
 abbrev pub IsNameText : Metadata → Token → List ℕ → Type 0
-IsNameText model token out = (name : List ℕ) × IsFullName model token name × (out ≡ escaped_text name)
+IsNameText model token out = (name : List ℕ) × IsRowName model token name × (out ≡ escaped_text name)
 
 -- the text of a signature, with the full names of types, escaped (II.7.1, II.15.3)
 abbrev pub IsSignatureText : Metadata → Body → List ℕ → Type 0
@@ -113,7 +114,7 @@ abbrev pub IsDeclarationAt : Metadata → TableId → ℕ → List ℕ → Type 
 IsDeclarationAt model MethodDef row out = IsMethodText model row out
 IsDeclarationAt model _ row out = out ≡ []
 
--- a word and the full name of a type, unless the reference is null
+-- a word and the name of a row, unless the reference is null
 abbrev pub IsNameAfter : Metadata → List ℕ → Option Token → List ℕ → Type 0
 IsNameAfter model before None out = out ≡ []
 IsNameAfter model before (Some token) out = (name : List ℕ) × IsNameText model token name × (out ≡ before ++ name)

@@ -65,6 +65,10 @@ words_of table.Generic =
     word 0x0004 0x0004 (codes "class") ∷
     word 0x0008 0x0008 (codes "valuetype") ∷
     word 0x0010 0x0010 (codes ".ctor") ∷ []
+-- II.23.1.4 and II.23.1.14
+words_of table.Mapped =
+    word 0x0200 0x0200 (codes "specialname") ∷
+    word 0x0400 0x0400 (codes "rtspecialname") ∷ []
 -- II.23.1.12
 words_of table.Semantics =
     word 0x0001 0x0001 (codes ".set") ∷

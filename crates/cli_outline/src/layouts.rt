@@ -33,9 +33,9 @@ pub enum Piece {
     Signature(usize),
     /// The declaration of the method that the row is (II.15.3).
     Declaration,
-    /// The full name of the type that the row is.
+    /// The name of the row (II.5.3).
     OwnName,
-    /// Unless the reference in a cell is null: this word, and the full name of the type.
+    /// Unless the reference in a cell is null: this word, and the name of the row.
     NameAfter(&'static str, usize),
 }
 
@@ -44,54 +44,32 @@ use Piece::{
     Signature, Text, TokenAfter, Word,
 };
 
-const ASSEMBLY: &[Piece] = &[
-    Word(".assembly"),
-    Flags(FlagTable::Assembly, 5),
-    Word(" "),
-    Text(7),
-    Word(" { .ver "),
-    Number(1),
-    Word(":"),
-    Number(2),
-    Word(":"),
-    Number(3),
-    Word(":"),
-    Number(4),
-    QuotedAfter(" .culture ", 8),
-    BytesAfter(" .publickey = ", 6),
-    Word(" }"),
+macro_rules! pieces {
+    ($($piece:expr;)*) => {
+        &[$($piece),*]
+    };
+}
+
+const ASSEMBLY: &[Piece] = pieces![
+    Word(".assembly"); Flags(FlagTable::Assembly, 5); Word(" "); Text(7); Word(" { .ver ");
+    Number(1); Word(":"); Number(2); Word(":"); Number(3); Word(":"); Number(4);
+    QuotedAfter(" .culture ", 8); BytesAfter(" .publickey = ", 6); Word(" }");
 ];
 
-const ASSEMBLY_REF: &[Piece] = &[
-    Word(".assembly extern"),
-    Flags(FlagTable::Assembly, 4),
-    Word(" "),
-    Text(6),
-    Word(" { .ver "),
-    Number(0),
-    Word(":"),
-    Number(1),
-    Word(":"),
-    Number(2),
-    Word(":"),
-    Number(3),
-    QuotedAfter(" .culture ", 7),
-    Key(4, 5),
-    Word(" }"),
+const ASSEMBLY_REF: &[Piece] = pieces![
+    Word(".assembly extern"); Flags(FlagTable::Assembly, 4); Word(" "); Text(6); Word(" { .ver ");
+    Number(0); Word(":"); Number(1); Word(":"); Number(2); Word(":"); Number(3);
+    QuotedAfter(" .culture ", 7); Key(4, 5); Word(" }");
 ];
 
-const MODULE: &[Piece] = &[Word(".module "), Text(1)];
+const MODULE: &[Piece] = pieces![Word(".module "); Text(1);];
 
-const MODULE_REF: &[Piece] = &[Word(".module extern "), Text(0)];
+const MODULE_REF: &[Piece] = pieces![Word(".module extern "); Text(0);];
 
-const FILE: &[Piece] = &[Word(".file"), Flags(FlagTable::File, 0), Word(" "), Text(1)];
+const FILE: &[Piece] = pieces![Word(".file"); Flags(FlagTable::File, 0); Word(" "); Text(1);];
 
-const RESOURCE: &[Piece] = &[
-    Word(".mresource"),
-    Flags(FlagTable::Resource, 1),
-    Word(" "),
-    Text(2),
-];
+const RESOURCE: &[Piece] =
+    pieces![Word(".mresource"); Flags(FlagTable::Resource, 1); Word(" "); Text(2);];
 
 const TYPE_DEF: &[Piece] = &[
     Word(".class"),
@@ -101,87 +79,56 @@ const TYPE_DEF: &[Piece] = &[
     NameAfter(" extends ", 3),
 ];
 
-const FIELD: &[Piece] = &[
-    Word("  .field"),
-    Flags(FlagTable::Field, 0),
-    Word(" "),
-    Signature(2),
-    Word(" "),
-    Text(1),
+const FIELD: &[Piece] = pieces![
+    Word("  .field"); Flags(FlagTable::Field, 0); Word(" "); Signature(2); Word(" "); Text(1);
 ];
 
-const METHOD_DEF: &[Piece] = &[
-    Word("  .method"),
-    Flags(FlagTable::Method, 2),
-    Word(" "),
-    Declaration,
-    Flags(FlagTable::Implementation, 1),
+const METHOD_DEF: &[Piece] = pieces![
+    Word("  .method"); Flags(FlagTable::Method, 2); Word(" "); Declaration;
+    Flags(FlagTable::Implementation, 1);
 ];
 
-const INTERFACE_IMPL: &[Piece] = &[
-    Word(".interfaceimpl type"),
-    NameAfter(" ", 0),
-    NameAfter(" implements ", 1),
+const INTERFACE_IMPL: &[Piece] = pieces![
+    Word(".interfaceimpl type"); NameAfter(" ", 0); NameAfter(" implements ", 1);
 ];
 
-const GENERIC_PARAM: &[Piece] = &[
-    Word(".param type"),
-    Flags(FlagTable::Generic, 1),
-    Word(" "),
-    Text(3),
-    Word(" ["),
-    Number(0),
-    Word("]"),
-    TokenAfter(" of ", 2),
+const GENERIC_PARAM: &[Piece] = pieces![
+    Word(".param type"); Flags(FlagTable::Generic, 1); Word(" "); Text(3); Word(" ["); Number(0);
+    Word("]"); NameAfter(" of ", 2);
 ];
 
-const CONSTRAINT: &[Piece] = &[
-    Word(".param constraint"),
-    TokenAfter(" ", 0),
-    NameAfter(", ", 1),
+const CONSTRAINT: &[Piece] = pieces![
+    Word(".param constraint"); NameAfter(" ", 0); TokenAfter(" ", 0); NameAfter(", ", 1);
 ];
 
-const EXPORTED_TYPE: &[Piece] = &[
-    Word(".class extern"),
-    Flags(FlagTable::Type, 0),
-    Word(" "),
-    Dotted(3),
-    Text(2),
-    TokenAfter(" in ", 4),
+const EXPORTED_TYPE: &[Piece] = pieces![
+    Word(".class extern"); Flags(FlagTable::Type, 0); Word(" "); Dotted(3); Text(2);
+    TokenAfter(" in ", 4); NameAfter(" ", 4);
 ];
 
-const METHOD_IMPL: &[Piece] = &[
-    Word(".override"),
-    TokenAfter(" ", 2),
-    TokenAfter(" with ", 1),
-    TokenAfter(" in ", 0),
+const METHOD_IMPL: &[Piece] = pieces![
+    Word(".override"); NameAfter(" ", 2); NameAfter(" with ", 1); NameAfter(" in ", 0);
 ];
 
-const SEMANTICS: &[Piece] = &[
-    Word(" "),
-    Flags(FlagTable::Semantics, 0),
-    TokenAfter(" ", 1),
-    TokenAfter(" of ", 2),
+const EVENT: &[Piece] = pieces![
+    Word("  .event"); Flags(FlagTable::Mapped, 0); NameAfter(" ", 2); Word(" "); OwnName;
 ];
 
-const IMPL_MAP: &[Piece] = &[
-    Word(".pinvokeimpl("),
-    TokenAfter("", 3),
-    Word(" as \""),
-    Text(2),
-    Word("\""),
-    Flags(FlagTable::Import, 0),
-    Word(")"),
-    TokenAfter(" of ", 1),
+const PROPERTY: &[Piece] = pieces![
+    Word("  .property"); Flags(FlagTable::Mapped, 0); Word(" "); Signature(2); Word(" "); OwnName;
 ];
 
-const CUSTOM: &[Piece] = &[
-    Word(".custom"),
-    TokenAfter(" ", 1),
-    Word(" = ("),
-    Hex(2),
-    Word(")"),
-    TokenAfter(" of ", 0),
+const SEMANTICS: &[Piece] = pieces![
+    Word("   "); Flags(FlagTable::Semantics, 0); NameAfter(" ", 1); NameAfter(" of ", 2);
+];
+
+const IMPL_MAP: &[Piece] = pieces![
+    Word(".pinvokeimpl("); NameAfter("\"", 3); Word("\" as \""); Text(2); Word("\"");
+    Flags(FlagTable::Import, 0); Word(")"); NameAfter(" of ", 1);
+];
+
+const CUSTOM: &[Piece] = pieces![
+    Word(".custom"); NameAfter(" ", 1); Word(" = ("); Hex(2); Word(")"); TokenAfter(" of ", 0);
 ];
 
 /// The pieces of the line of a row. A row of a table that is not named here has none.
@@ -203,6 +150,8 @@ pub(crate) fn pieces_of(table: TableId) -> &'static [Piece]
         TableId::GenericParamConstraint => CONSTRAINT,
         TableId::ExportedType => EXPORTED_TYPE,
         TableId::MethodImpl => METHOD_IMPL,
+        TableId::Event => EVENT,
+        TableId::Property => PROPERTY,
         TableId::MethodSemantics => SEMANTICS,
         TableId::ImplMap => IMPL_MAP,
         TableId::CustomAttribute => CUSTOM,

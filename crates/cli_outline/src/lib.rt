@@ -1,6 +1,7 @@
 //! The outline of an assembly: its declarations in the notation of ILAsm (ECMA-335 II.5 to II.22), one per line.
 //!
-//! [`print_outline`] prints the outline of a view, and [`report_outline`] that of a file. `specs/Outline.antt` says which
+//! [`print_outline`] prints the outline of a view, [`report_outline`] that of a file, and [`report_outline_of`] that of one
+//! type. `specs/Outline.antt` says which
 //! rows have a line, and in which order. `specs/Layouts.antt` says what the line of a row is, as a list of parts, and
 //! `specs/Parts.antt` what the text of a part is. It is proved that these lines go out and nothing else.
 //!
@@ -16,13 +17,16 @@ mod cell_values;
 mod flag_words;
 mod layouts;
 mod lines;
+mod mapped;
 mod methods;
 mod outline;
 mod pieces;
 mod report;
 mod row_line;
 mod signature_sink;
+mod subject;
 mod type_members;
 
 pub use outline::print_outline;
-pub use report::report_outline;
+pub use report::{report_outline, report_outline_of};
+pub use subject::{Outcome, Subject};

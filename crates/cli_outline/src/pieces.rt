@@ -17,8 +17,9 @@ use crate::lines::{Lines, push_plain};
 use crate::methods::push_declaration;
 use crate::signature_sink::push_signature;
 use cli_reports::{push_decimal, push_escaped, push_hexadecimal, push_token};
-use full_names::write_full_name;
-use opening::{TableId, Token, View};
+use full_names::write_row_name;
+use navigation::Neighbours;
+use opening::{TableId, Token};
 use std::alloc::{AllocError, Global};
 
 /// Appends a word and a text in quotes, unless the text is empty.
@@ -58,38 +59,38 @@ fn push_key(flags: u32, bytes: &[u8], lines: &mut Lines) -> Result<(), AllocErro
     push_bytes(" = ", bytes, lines)
 }
 
-/// Appends the full name of a type.
+/// Appends the name of a row.
 fn push_name(
     alloc: Global,
-    view: &View<'_>,
+    source: &Neighbours<'_, '_>,
     token: Token,
     lines: &mut Lines,
 ) -> Result<(), AllocError>
-    ensures { (model : Metadata) → IsModel view.now model
+    ensures { (model : Metadata) → IsModel source.now.view.now model
         → OnOk result (Gains (IsNameText model token) lines.old.bytes.items lines.new.bytes.items) }
 {
-    match write_full_name(alloc, view, token, lines) {
+    match write_row_name(alloc, source, token, lines) {
         Ok(()) => Ok(()),
         // The lines refuse a text only if out of memory.
         Err(_) => Err(AllocError),
     }
 }
 
-/// Appends a word and the full name of a type, unless the reference is null.
+/// Appends a word and the name of a row, unless the reference is null.
 fn push_name_after(
     alloc: Global,
-    view: &View<'_>,
+    source: &Neighbours<'_, '_>,
     word: &str,
     reference: Option<Token>,
     lines: &mut Lines,
 ) -> Result<(), AllocError>
-    ensures { (model : Metadata) → IsModel view.now model
+    ensures { (model : Metadata) → IsModel source.now.view.now model
         → OnOk result (Gains (IsNameAfter model word.now reference) lines.old.bytes.items lines.new.bytes.items) }
 {
     match reference {
         Some(token) => {
             push_plain(word, lines)?;
-            push_name(alloc, view, token, lines)
+            push_name(alloc, source, token, lines)
         }
         None => Ok(()),
     }
@@ -127,45 +128,62 @@ fn push_token_after(
 /// Appends a piece of the line of a row.
 pub(crate) fn push_piece(
     alloc: Global,
-    view: &View<'_>,
+    source: &Neighbours<'_, '_>,
     table: TableId,
     row: u32,
     piece: Piece,
     lines: &mut Lines,
 ) -> Result<(), AllocError>
     requires first { 1 ≤ row }
-    requires last { row ≤ row_count view.now table }
+    requires last { row ≤ row_count source.now.view.now table }
     requires within { IsWithin table (shown piece) }
-    ensures { (model : Metadata) → IsModel view.now model
+    ensures { (model : Metadata) → IsModel source.now.view.now model
         → OnOk result (Gains (IsPartText model table row (shown piece)) lines.old.bytes.items lines.new.bytes.items) }
 {
     match piece {
         Piece::Word(word) => push_plain(word, lines),
-        Piece::Flags(of, cell) => push_words(number(view, table, row, cell), of, lines),
+        Piece::Flags(of, cell) => push_words(number(source.view, table, row, cell), of, lines),
         Piece::Text(cell) => {
-            let text = text(view, table, row, cell);
+            let text = text(source.view, table, row, cell);
             push_escaped(text.as_bytes(), &mut lines.bytes)
         }
         Piece::Number(cell) => {
-            let number = number(view, table, row, cell);
+            let number = number(source.view, table, row, cell);
             push_decimal(u64::from(number), &mut lines.bytes)
         }
-        Piece::QuotedAfter(word, cell) => push_quoted(word, text(view, table, row, cell), lines),
-        Piece::BytesAfter(word, cell) => push_bytes(word, bytes(view, table, row, cell), lines),
+        Piece::QuotedAfter(word, cell) => push_quoted(
+            word,
+            text(source.view, table, row, cell),
+            lines,
+        ),
+        Piece::BytesAfter(word, cell) => push_bytes(
+            word,
+            bytes(source.view, table, row, cell),
+            lines,
+        ),
         Piece::Key(flags, cell) => {
-            let flags = number(view, table, row, flags);
-            push_key(flags, bytes(view, table, row, cell), lines)
+            let flags = number(source.view, table, row, flags);
+            push_key(flags, bytes(source.view, table, row, cell), lines)
         }
-        Piece::Hex(cell) => push_hexadecimal(bytes(view, table, row, cell), &mut lines.bytes),
-        Piece::Dotted(cell) => push_dotted(text(view, table, row, cell), lines),
+        Piece::Hex(cell) => push_hexadecimal(
+            bytes(source.view, table, row, cell),
+            &mut lines.bytes,
+        ),
+        Piece::Dotted(cell) => push_dotted(text(source.view, table, row, cell), lines),
         Piece::TokenAfter(word, cell) => {
-            push_token_after(word, reference(view, table, row, cell), lines)
+            push_token_after(word, reference(source.view, table, row, cell), lines)
         }
-        Piece::Signature(cell) => push_signature(alloc, view, table, row, cell, lines),
-        Piece::Declaration => push_declaration(alloc, view, table, row, lines),
-        Piece::OwnName => push_name(alloc, view, Token { table, row }, lines),
+        Piece::Signature(cell) => push_signature(alloc, source.view, table, row, cell, lines),
+        Piece::Declaration => push_declaration(alloc, source, table, row, lines),
+        Piece::OwnName => push_name(alloc, source, Token { table, row }, lines),
         Piece::NameAfter(word, cell) => {
-            push_name_after(alloc, view, word, reference(view, table, row, cell), lines)
+            push_name_after(
+                alloc,
+                source,
+                word,
+                reference(source.view, table, row, cell),
+                lines,
+            )
         }
     }
 }

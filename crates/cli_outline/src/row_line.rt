@@ -12,23 +12,24 @@ use crate::layouts::pieces_of;
 use crate::lines::{Lines, push_plain};
 use crate::pieces::push_piece;
 use cli_reports::push_token;
-use opening::{Token, View};
+use navigation::Neighbours;
+use opening::Token;
 use std::alloc::{AllocError, Global};
 
 /// Appends the pieces of the line of a row.
 fn push_pieces(
     alloc: Global,
-    view: &View<'_>,
+    source: &Neighbours<'_, '_>,
     token: Token,
     lines: &mut Lines,
 ) -> Result<(), AllocError>
     requires first { 1 ≤ token.row }
-    requires last { token.row ≤ row_count view.now token.table }
-    ensures { (model : Metadata) → IsModel view.now model
+    requires last { token.row ≤ row_count source.now.view.now token.table }
+    ensures { (model : Metadata) → IsModel source.now.view.now model
         → OnOk result (Gains (AreTexts (IsPartText model token.table token.row) (parts_of token.table)) lines.old.bytes.items lines.new.bytes.items) }
 {
     for piece in pieces_of(token.table) {
-        push_piece(alloc, view, token.table, token.row, *piece, lines)?;
+        push_piece(alloc, source, token.table, token.row, *piece, lines)?;
     }
     Ok(())
 }
@@ -46,16 +47,16 @@ fn push_ending(token: Token, lines: &mut Lines) -> Result<(), AllocError>
 /// Appends the line of a row.
 pub(crate) fn push_line(
     alloc: Global,
-    view: &View<'_>,
+    source: &Neighbours<'_, '_>,
     token: Token,
     lines: &mut Lines,
 ) -> Result<(), AllocError>
     requires first { 1 ≤ token.row }
-    requires last { token.row ≤ row_count view.now token.table }
+    requires last { token.row ≤ row_count source.now.view.now token.table }
     requires limit { token.row ≤ 0xFFFFFF }
-    ensures { (model : Metadata) → IsModel view.now model
+    ensures { (model : Metadata) → IsModel source.now.view.now model
         → OnOk result (Gains (IsLine model token) lines.old.bytes.items lines.new.bytes.items) }
 {
-    push_pieces(alloc, view, token, lines)?;
+    push_pieces(alloc, source, token, lines)?;
     push_ending(token, lines)
 }

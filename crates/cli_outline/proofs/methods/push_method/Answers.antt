@@ -13,11 +13,11 @@ use Rattle.cli_outline.proofs.methods.push_method.Goals as goal
 pub returns-in-Ok : goal.returns-in-Ok
 unfolding row_count cell_columns
 returns-in-Ok c = λ model is.
-    let count = c.models_are_read.ensures.count c.args.view.now model is MethodDef in
+    let count = c.models_are_read.ensures.count c.args.source.now.view.now model is MethodDef in
     let last = c.requires.last in
     let there : HasRow model MethodDef c.args.row = (c.requires.first, omega (arith, count, last)) in
     let cell = cell_in model MethodDef c.args.row 4 in
-    let valid = (c.models_of_roots_are_valid.ensures c.args.view.now model is).cells MethodDef c.args.row 4 there (omega arith) in
+    let valid = (c.models_of_roots_are_valid.ensures c.args.source.now.view.now model is).cells MethodDef c.args.row 4 there (omega arith) in
     let of = signature_in cell valid.of_kind in
     let method = method_in cell valid.held of.0 of.1 in
     let wrote = c.in-Ok.ensures.text model is method.0 method.1 in

@@ -3,7 +3,6 @@ use Rattle.std.specs.List.{flat_map, range_with_len}
 use Rattle.table_schema.specs.declared.table.TableId.TheVariants.{TypeDef}
 use Rattle.table_schema.specs.declared.token.Token.{Token}
 use Rattle.metadata.specs.Metadata.{count_in}
-use Rattle.metadata.specs.Model.{IsModel}
 use Rattle.opening.specs.Views.{row_count}
 use Rattle.cli_outline.specs.Outline.{IsLine, class_rows}
 use Rattle.cli_outline.proofs.OutlineLemmas.{classes_more, classes_whole}
@@ -22,11 +21,11 @@ print_class-requires g c = record {
   last = subst (λ (root : List ℕ). c.loop-earlier.earlier + 1 ≤ row_count root TypeDef) (sym c.loop-earlier.invariant.same)
       (omega (arith, c.count-earlier-end.ensures.rows, c.loop-earlier-test.true));
   limit = omega (arith, c.count-earlier-end.ensures.limit, c.loop-earlier-test.true);
+  at = c.loop-earlier.invariant.same;
 }
 
 pub returns-in_err-print_class : goal.returns-in_err-print_class
 returns-in_err-print_class g c = λ model is.
-    let here : IsModel c.loop-earlier.cells model = subst (λ (root : List ℕ). IsModel root model) (sym c.loop-earlier.invariant.same) is in
     let before = g.W.Write.contents c.args.out.now in
     let between = g.W.Write.contents c.loop-earlier.out in
     let after = g.W.Write.contents c.print_class.new.out in
@@ -43,13 +42,12 @@ returns-in_err-print_class g c = λ model is.
     cut_moved (IsLine model) c.from_residual.result before after all waited c.print_class.new.lines.bytes.items c.from_residual.ensures.0
     (cut_longer (IsLine model) before after (first ++ rows (earlier + 1)) later.0 all waited whole
     (cut_more (IsLine model) before between after first (rows (earlier + 1)) waited c.loop-earlier.lines.bytes.items (c.loop-earlier.invariant.sent model is)
-    (c.in_err-print_class.ensures.lines model here)))
+    (c.in_err-print_class.ensures.lines model is)))
 
 pub loop-earlier-preserved : goal.loop-earlier-preserved
 loop-earlier-preserved g c = record {
   same = c.print_class.ensures.same ∙ c.loop-earlier.invariant.same;
   sent = λ model is.
-      let here : IsModel c.loop-earlier.cells model = subst (λ (root : List ℕ). IsModel root model) (sym c.loop-earlier.invariant.same) is in
       let before = g.W.Write.contents c.args.out.now in
       let between = g.W.Write.contents c.loop-earlier.out in
       let after = g.W.Write.contents c.print_class.new.out in
@@ -59,7 +57,7 @@ loop-earlier-preserved g c = record {
       let rows = class_rows model in
       subst (λ (xs : List Token). Sent (IsLine model) before after xs waited left) (classes_more rows earlier)
       (sent_more (IsLine model) before between after (flat_map rows (range_with_len 1 earlier)) (rows (earlier + 1)) waited c.loop-earlier.lines.bytes.items left
-      (c.loop-earlier.invariant.sent model is) (c.in_ok-print_class.ensures.lines model here));
+      (c.loop-earlier.invariant.sent model is) (c.in_ok-print_class.ensures.lines model is));
 }
 
 pub returns : goal.returns

@@ -8,8 +8,8 @@ use Rattle.cli_outline.proofs.outline.print_classes.Given as goal
 
 abbrev pub invariant-loop-earlier : goal.invariant-loop-earlier
 invariant-loop-earlier g l = record {
-  same : l.cells ≡ l.view;
-  sent : (model : Metadata) → IsModel l.view model
+  same : l.cells ≡ l.source.view.now;
+  sent : (model : Metadata) → IsModel l.source.view.now model
       → Sent (IsLine model) (g.W.Write.contents l.initial.out) (g.W.Write.contents l.out) (flat_map (class_rows model) (range_with_len 1 l.earlier)) l.initial.lines.bytes.items
       l.lines.bytes.items;
 }

@@ -15,16 +15,16 @@ run_of-rows-requires-clause-last g c = subst (λ (t : TableId). c.args.row ≤ r
 pub print_rows-requires-clause-last : goal.print_rows-requires-clause-last
 print_rows-requires-clause-last g c =
     let P : List ℕ → Type 0 = λ root. c.run_of-rows.result.«end» ≤ row_count root (member_of c.args.list) + 1 in
-    let Q : TableId → Type 0 = λ t. c.run_of-rows.result.«end» ≤ row_count c.view-view.result.now t + 1 in
-    subst Q (sym c.member.ensures) (subst P (sym c.view-view.ensures.view) c.run_of-rows.ensures.last)
+    let Q : TableId → Type 0 = λ t. c.run_of-rows.result.«end» ≤ row_count c.args.source.now.view.now t + 1 in
+    subst Q (sym c.member.ensures) (subst P c.requires.at c.run_of-rows.ensures.last)
 
 pub returns-clause-lines : goal.returns-clause-lines
 returns-clause-lines g c = λ model is.
-    let here : IsModel c.view-view.result.now model = subst (λ (root : List ℕ). IsModel root model) (sym c.view-view.ensures.view) is in
+    let there : IsModel c.args.cells.now model = subst (λ (root : List ℕ). IsModel root model) (sym c.requires.at) is in
     let list = c.args.list in
     let rows = c.run_of-rows.result in
     let same = ap (λ t. rows_from t rows.start (rows.«end» - rows.start)) c.member.ensures
-    ∙ ap (λ n. rows_from (member_of list) n (rows.«end» - rows.start)) (c.run_of-rows.ensures.begin model is)
-    ∙ ap (λ n. rows_from (member_of list) (first_member model (cell_of list) (member_of list) c.args.row) n) (c.run_of-rows.ensures.count model is) in
+    ∙ ap (λ n. rows_from (member_of list) n (rows.«end» - rows.start)) (c.run_of-rows.ensures.begin model there)
+    ∙ ap (λ n. rows_from (member_of list) (first_member model (cell_of list) (member_of list) c.args.row) n) (c.run_of-rows.ensures.count model there) in
     subst (λ (xs : List Token). MovesLines (IsLine model) (g.W.Write.contents c.args.out.now) (g.W.Write.contents c.print_rows.new.out) c.print_rows.result xs
-    c.args.lines.now.bytes.items c.print_rows.new.lines.bytes.items) same (c.print_rows.ensures model here)
+    c.args.lines.now.bytes.items c.print_rows.new.lines.bytes.items) same (c.print_rows.ensures model is)

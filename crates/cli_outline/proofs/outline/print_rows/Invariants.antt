@@ -8,7 +8,7 @@ use Rattle.cli_outline.proofs.outline.print_rows.Given as goal
 abbrev pub invariant-loop-row : goal.invariant-loop-row
 invariant-loop-row g l = record {
   bound : l.row - l.fn.rows.start ≤ l.fn.rows.«end» - l.fn.rows.start;
-  sent : (model : Metadata) → IsModel l.view model
+  sent : (model : Metadata) → IsModel l.source.view.now model
       → Sent (IsLine model) (g.W.Write.contents l.initial.out) (g.W.Write.contents l.out) (rows_from l.table l.fn.rows.start (l.row - l.fn.rows.start)) l.initial.lines.bytes.items
       l.lines.bytes.items;
 }

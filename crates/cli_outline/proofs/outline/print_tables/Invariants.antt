@@ -7,6 +7,6 @@ use Rattle.cli_outline.proofs.SentLemmas.{Sent}
 use Rattle.cli_outline.proofs.outline.print_tables.Given as goal
 
 abbrev pub invariant-loop-table : goal.invariant-loop-table
-invariant-loop-table g l = (model : Metadata) → IsModel l.view model
+invariant-loop-table g l = (model : Metadata) → IsModel l.source.view.now model
     → Sent (IsLine model) (g.W.Write.contents l.initial.out) (g.W.Write.contents l.out) (flat_map (all_rows model) (take l.table-index l.tables)) l.initial.lines.bytes.items
     l.lines.bytes.items

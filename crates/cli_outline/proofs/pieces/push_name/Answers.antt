@@ -6,5 +6,5 @@ use Rattle.cli_outline.proofs.pieces.push_name.Goals as goal
 
 pub returns-in-Ok : goal.returns-in-Ok
 returns-in-Ok c = λ model is.
-    let wrote = c.in-Ok.ensures.name model is in
-    (escaped_text wrote.0, (wrote.0, wrote.1, refl), calls_escaped (λ (w : Lines). w.bytes.items) c.args.lines.now wrote.0 c.write_full_name.new.out wrote.2)
+    let wrote = c.in-Ok.ensures model is in
+    (escaped_text wrote.0, (wrote.0, wrote.1, refl), calls_escaped (λ (w : Lines). w.bytes.items) c.args.lines.now wrote.0 c.write_row_name.new.out wrote.2)

@@ -7,5 +7,5 @@ use Rattle.cli_outline.specs.Texts.{AreTexts, Gains}
 use Rattle.cli_outline.proofs.row_line.push_pieces.Given as goal
 
 abbrev pub invariant-loop-piece : goal.invariant-loop-piece
-invariant-loop-piece l = (model : Metadata) → IsModel l.view model
+invariant-loop-piece l = (model : Metadata) → IsModel l.source.view.now model
     → Gains (AreTexts (IsPartText model l.token.table l.token.row) (take l.piece-index (parts_of l.token.table))) l.initial.lines.bytes.items l.lines.bytes.items

@@ -7,4 +7,4 @@ use Rattle.cli_outline.proofs.signature_sink.push_blob.Goals as goal
 pub returns-in-Ok : goal.returns-in-Ok
 returns-in-Ok c = λ model is signature encodes.
     let wrote = c.in-Ok.ensures model is signature encodes in
-    (escaped_text wrote.0, (wrote.0, wrote.1, refl), calls_escaped (λ (w : Lines). w.bytes.items) c.args.lines.now wrote.0 c.write_blob.new.out wrote.2)
+    (escaped_text wrote.0, (wrote.0, wrote.1, refl), calls_escaped (λ (w : Lines). w.bytes.items) c.args.lines.now wrote.0 c.write_signature_text.new.out wrote.2)

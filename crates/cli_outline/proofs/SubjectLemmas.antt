@@ -1,0 +1,56 @@
+-- The row of a subject.
+use Rattle.std.proofs.Common.{◌≡◌, ℕ, ◌<◌, ◌≤◌, inl, inr, List, [], Option, None, Some, Result, Ok, Err, IfSome, IfNone, arith, sym, ◌∙◌}
+use Rattle.std.specs.Prelude.{IsErr}
+use Rattle.std.proofs.lemmas.Bool.{cases_lt}
+use Rattle.std.proofs.lemmas.Grind.{not_there}
+use Rattle.table_schema.specs.declared.table.TableId.TheVariants.{TypeDef}
+use Rattle.metadata.specs.Lookups.{HasRow, IsFirstType}
+use Rattle.metadata.specs.Metadata.{Metadata, count_in}
+use Rattle.metadata.specs.Model.{IsModel}
+use Rattle.opening.specs.Views.{HasModel, row_count}
+use Rattle.cli_outline.specs.declared.subject.Subject.{Subject}
+use Rattle.cli_outline.specs.declared.subject.Subject.TheVariants.{Named, Row}
+use Rattle.cli_outline.specs.declared.subject.Outcome.{Outcome}
+use Rattle.cli_outline.specs.Outline.{IsLine, class_rows}
+use Rattle.cli_outline.specs.Sent.{SendsFirst}
+use Rattle.cli_outline.specs.Subjects.{IsSubject, PrintsSubject}
+use Rattle.cli_outline.proofs.ReferenceLemmas.{at_most}
+
+pub on_some : {X : Type 0} (P Q : X → Type 0) (o : Option X) → IfSome o P → ((x : X) → P x → Q x) → IfSome o Q
+on_some P Q None is f = tt
+on_some P Q (Some x) is f = f x is
+
+pub on_none : {X P Q : Type 0} (o : Option X) → IfNone o P → (P → Q) → IfNone o Q
+on_none None is f = f is
+on_none (Some x) is f = tt
+
+-- a row that exists in the model of a root
+module _ (root : List ℕ) (has : HasModel root) (counted : (model : Metadata) → IsModel root model → count_in model TypeDef ≡ row_count root TypeDef) where
+  pub first_there : (o : Option ℕ) → ((model : Metadata) → IsModel root model → IfSome o (HasRow model TypeDef)) → IfSome o (λ row. 1 ≤ row)
+  first_there None is = tt
+  first_there (Some row) is = at_most 1 row (λ not. not_there has (λ some. not (is some.0 some.1).0))
+
+  pub last_there : (o : Option ℕ) → ((model : Metadata) → IsModel root model → IfSome o (HasRow model TypeDef)) → IfSome o (λ row. row ≤ row_count root TypeDef)
+  last_there None is = tt
+  last_there (Some row) is = at_most row (row_count root TypeDef) (λ not. not_there has (λ some. let count = counted some.0 some.1 in let last = (is some.0 some.1).1 in not (omega (arith, count, last))))
+
+-- a subject exists, and is one row
+pub subject_there : (model : Metadata) (subject : Subject) (row : ℕ) → IsSubject model subject row → HasRow model TypeDef row
+subject_there model (Named namespace name) row is = is.there
+subject_there model (Row of) row is = is.1
+
+pub subject_one : (model : Metadata) (subject : Subject) (row other : ℕ) → IsSubject model subject row → IsSubject model subject other → row ≡ other
+subject_one model (Row of) row other is more = is.0 ∙ sym more.0
+subject_one model (Named namespace name) row other is more = elim (cases_lt row other) [
+  | inl before ↦ absurd (more.first row is.there.0 before is.names)
+  | inr not ↦ elim (cases_lt other row) [
+    | inl after ↦ absurd (is.first other more.there.0 after more.names)
+    | inr same ↦ omega arith
+  ]
+]
+
+-- nothing or a prefix of the first lines went out, if it fails
+pub subject_cut : {E : Type 0} (model : Metadata) (subject : Subject) (before after : Option (List ℕ)) (result : Result Outcome E) → IsErr result
+    → ((row : ℕ) → IsSubject model subject row → SendsFirst (IsLine model) before after (class_rows model row) []) → PrintsSubject model subject before after result
+subject_cut model subject before after (Ok outcome) is cut = cc
+subject_cut model subject before after (Err error) is cut = cut

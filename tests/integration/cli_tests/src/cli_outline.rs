@@ -1,0 +1,126 @@
+//! Tests of `cli_outline`: the lines that `clim outline` prints.
+
+use crate::runs::answer;
+use sample_roots::RootBuilder;
+use std::alloc::Global;
+use std::fs;
+use std::test::Fail;
+
+/// Texts: `<M>` at 1, `N` at 5, `C` at 7, `M` at 9, `P` at 11, `get_P` at 13, `E` at 19, `k.dll` at 21, `.ctor` at 27, and at
+/// 33 a control character before `D`.
+const TEXTS: &[u8] = b"\0<M>\0N\0C\0M\0P\0get_P\0E\0k.dll\0.ctor\0\x1BD\0";
+
+/// Blobs: `instance int32 ()` of a method at 1 and of a property at 5, `void ()` at 9, and two bytes at 13.
+const BLOBS: &[u8] = b"\0\x03\x20\0\x08\x03\x28\0\x08\x03\0\0\x01\x02\x01\0";
+
+/// A type `N.C` with these rows of PropertyMap, and two properties.
+fn root_of_properties(alloc: Global, maps: [[u8; 4]; 2]) -> Result<Vec<u8>, Fail> {
+    let mut root = RootBuilder::new(alloc);
+    // `<M>`, `N.C` and one whose name has a control character (II.22.37).
+    root.row(0x02, b"\0\0\0\0\x01\0\0\0\0\0\x01\0\x01\0")?;
+    root.row(0x02, b"\x01\0\x10\0\x07\0\x05\0\0\0\x01\0\x01\0")?;
+    root.row(0x02, b"\0\0\0\0\x21\0\0\0\x08\0\x01\0\x03\0")?;
+    // `get_P`, and an imported method `M` (II.22.26).
+    root.row(0x06, b"\0\0\0\0\0\0\x86\x08\x0D\0\x01\0\x01\0")?;
+    root.row(0x06, b"\0\0\0\0\0\0\x16\x20\x09\0\x09\0\x01\0")?;
+    // The constructor of `N.C` as a MemberRef, and an attribute of that type (II.22.10, II.22.25).
+    root.row(0x0A, b"\x10\0\x1B\0\x09\0")?;
+    root.row(0x0C, b"\x43\0\x0B\0\x0D\0")?;
+    // An event of `N.C` (II.22.12, II.22.13).
+    root.row(0x12, b"\x02\0\x01\0")?;
+    root.row(0x14, b"\0\0\x13\0\x08\0")?;
+    // Properties, and the accessor of the first (II.22.28, II.22.34, II.22.35).
+    for map in &maps {
+        root.row(0x15, map)?;
+    }
+    root.row(0x17, b"\0\x02\x0B\0\x05\0")?;
+    root.row(0x17, b"\0\0\x09\0\x05\0")?;
+    root.row(0x18, b"\x02\0\x01\0\x03\0")?;
+    // The library of the imported method (II.22.22, II.22.31).
+    root.row(0x1A, b"\x15\0")?;
+    root.row(0x1C, b"\0\x01\x05\0\x09\0\x01\0")?;
+    root.heap("#Strings", TEXTS)?;
+    root.heap("#Blob", BLOBS)?;
+    Ok(root.finish()?)
+}
+
+/// What `clim outline` prints of a root.
+fn outline_of(rt: &HostRuntime, root: &[u8]) -> Result<String, Fail> {
+    fs::write(rt, "o.root", root)?;
+    let (status, out, err) = answer(rt, &["clim", "outline", "--bare", "o.root"])?;
+    fs::remove_file(rt, "o.root")?;
+    if status != 0 || !err.is_empty() {
+        return Err("no outline".into());
+    }
+    Ok(out)
+}
+
+#[test]
+fn prints_events_and_properties_below_their_type(rt: HostRuntime) -> Result<(), Fail> {
+    let root = root_of_properties(rt.alloc(), [[2, 0, 1, 0], [3, 0, 2, 0]])?;
+    let lines = "\
+.module extern k.dll  // 1a000001
+.class private auto ansi <M>  // 02000001
+.class public auto ansi beforefieldinit N.C  // 02000002
+  .method public hidebysig specialname instance int32 N.C::get_P() cil managed  // 06000001
+  .method public static pinvokeimpl void N.C::M() cil managed  // 06000002
+  .event N.C N.C::E  // 14000001
+  .property specialname instance int32 () N.C::P  // 17000001
+    .get N.C::get_P of N.C::P  // 18000001
+.class private auto ansi \\x1bD extends N.C  // 02000003
+  .property instance int32 () \\x1bD::M  // 17000002
+.pinvokeimpl(\"k.dll\" as \"M\" platformapi) of N.C::M  // 1c000001
+.custom N.C::.ctor = (0100) of 02000002  // 0c000001
+";
+    assert_eq!(rt; outline_of(&rt, root.as_slice())?.as_str(), lines);
+    Ok(())
+}
+
+/// Maps that are not in the order of types: their properties come after the types, in the order of their rows.
+#[test]
+fn prints_properties_apart_if_their_map_is_not_in_order(rt: HostRuntime) -> Result<(), Fail> {
+    let root = root_of_properties(rt.alloc(), [[3, 0, 1, 0], [2, 0, 2, 0]])?;
+    let out = outline_of(&rt, root.as_slice())?;
+    let lines = "\
+.class private auto ansi \\x1bD extends N.C  // 02000003
+  .property specialname instance int32 () \\x1bD::P  // 17000001
+    .get N.C::get_P of \\x1bD::P  // 18000001
+  .property instance int32 () N.C::M  // 17000002
+.pinvokeimpl";
+    assert!(rt; out.as_str().contains(lines));
+    Ok(())
+}
+
+/// NestedClass with these rows, over three types. The table need not be sorted.
+fn root_of_nested(alloc: Global, rows: [[u8; 4]; 2]) -> Result<Vec<u8>, Fail> {
+    let mut root = RootBuilder::new(alloc);
+    root.sorted = 0;
+    for name in [5, 7, 9] {
+        root.row(0x02, &[0, 0, 0, 0, name, 0, 0, 0, 0, 0, 1, 0, 1, 0])?;
+    }
+    for row in &rows {
+        root.row(0x29, row)?;
+    }
+    root.heap("#Strings", TEXTS)?;
+    Ok(root.finish()?)
+}
+
+#[test]
+fn names_enclosing_types_if_they_are_in_order(rt: HostRuntime) -> Result<(), Fail> {
+    let named = "\
+.class private auto ansi N  // 02000001
+.class private auto ansi N/C  // 02000002
+.class private auto ansi N/C/M  // 02000003
+";
+    let alone = "\
+.class private auto ansi N  // 02000001
+.class private auto ansi C  // 02000002
+.class private auto ansi M  // 02000003
+";
+    let (second, third) = ([2, 0, 1, 0], [3, 0, 2, 0]);
+    for (rows, lines) in [([second, third], named), ([third, second], alone)] {
+        let root = root_of_nested(rt.alloc(), rows)?;
+        assert_eq!(rt; outline_of(&rt, root.as_slice())?.as_str(), lines);
+    }
+    Ok(())
+}
