@@ -1,4 +1,2 @@
 pub mod CellLemmas
-pub mod CountLemmas
-pub mod FieldLemmas
-pub mod FoundLemmas
+pub mod ApartLemmas

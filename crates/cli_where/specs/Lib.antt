@@ -1,0 +1,5 @@
+pub mod Regions
+pub mod Fields
+pub mod Headers
+pub mod Cells
+pub mod Where

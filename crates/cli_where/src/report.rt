@@ -1,0 +1,172 @@
+//! Opens a file and prints what a byte of it belongs to.
+ghost use Rattle.std.specs.Prelude.{◌≡◌, ◌++◌, ℕ, List, IfErr, IfOk, OnOk, Option};
+ghost use Rattle.cli_header.specs.declared.header.CliHeader.{CliHeader as Header};
+ghost use Rattle.packed.specs.Rule.{FirstBroken};
+ghost use Rattle.opening.specs.Views.{HasModel};
+ghost use Rattle.cli_faults.specs.Status.{IsOutput};
+ghost use Rattle.cli_reports.specs.Checked.{IsWhole, rules_of};
+ghost use Rattle.cli_reports.specs.Reported.{LeavesOutput, ReportsFault};
+ghost use Rattle.cli_reports.specs.Sent.{Prints};
+ghost use Rattle.cli_where.specs.Headers.{file_regions, root_start};
+ghost use Rattle.cli_where.specs.Regions.{lines_at};
+ghost use Rattle.cli_where.specs.Where.{AreLines, AreParts, IsLow, IsWhere, found_of, text_of};
+ghost use Rattle.cli_where.specs.declared.report.Found.{Found as TheFound};
+
+use crate::headers::push_cli_header;
+use crate::root_lines::push_root;
+use cli_faults::{Failure, printed};
+use cli_header::CliHeader;
+use cli_reports::finish;
+use opening::{View, open_image, open_root};
+use packed::Fault;
+use std::alloc::{AllocError, Global};
+use std::io::{self, Write};
+
+/// Whether some structure has the byte.
+#[derive(Clone, Copy, Debug, PartialEq, Eq)]
+pub enum Found {
+    /// A structure has it. Its line was printed.
+    Something,
+    /// No structure has it. `nothing` was printed.
+    Nothing,
+}
+
+/// The CLI header, which a bare root does not have, and the view of the metadata root.
+fn open_parts(bytes: &[u8], bare: bool) -> Result<(Option<CliHeader>, View<'_>), Fault>
+    ensures sound { IfOk result (λ _. IsWhole bare bytes.now) }
+    ensures parts { IfOk result (λ parts. (header : Option Header) (root : List ℕ) → AreParts bare bytes.now header root
+        → (parts.0 ≡ header) × (parts.1 ≡ root)) }
+    ensures low { IfOk result (λ parts. IsLow parts.0) }
+    ensures first_error { IfErr result (FirstBroken (rules_of bare bytes.now)) }
+{
+    if bare {
+        let view = open_root(bytes)?;
+        return Ok((None, view));
+    }
+    let (header, view) = open_image(bytes)?;
+    Ok((Some(header), view))
+}
+
+/// Appends the lines of the CLI header that have the byte, if there is one.
+fn push_file(header: &Option<CliHeader>, offset: u64, line: &mut Vec<u8>) -> Result<(), AllocError>
+    requires { IsLow header.now }
+    ensures { OnOk result (line.new.items ≡ line.old.items ++ lines_at offset (file_regions header.now)) }
+{
+    match header {
+        Some(header) => push_cli_header(header, offset, line),
+        None => Ok(()),
+    }
+}
+
+/// The offset of the metadata root in the file.
+fn start_of(header: &Option<CliHeader>) -> u64
+    requires { IsLow header.now }
+    ensures { result ≡ root_start header.now }
+{
+    match header {
+        Some(header) => header.root.start as u64,
+        None => 0,
+    }
+}
+
+/// The lines of the structures that have the byte.
+fn lines_of(
+    alloc: Global,
+    header: &Option<CliHeader>,
+    root: &[u8],
+    offset: u64,
+) -> Result<Vec<u8>, AllocError>
+    requires model { HasModel root.now }
+    requires low { IsLow header.now }
+    ensures { IfOk result (λ lines. (text : List ℕ) → AreLines header.now root.now offset text → lines.items ≡ text) }
+{
+    let mut lines = Vec::new(alloc);
+    push_file(header, offset, &mut lines)?;
+    push_root(root, start_of(header), offset, &mut lines)?;
+    Ok(lines)
+}
+
+/// Prints lines, or `nothing` if there is none.
+fn print<W: Write>(lines: &[u8], out: &mut W) -> io::Result<()>
+    ensures { Prints (W.contents out.old) (W.contents out.new) result (text_of lines.now) }
+{
+    if lines.is_empty() {
+        return finish(b"nothing\n", out);
+    }
+    finish(lines, out)
+}
+
+/// Whether there is a line.
+fn found_in(lines: &[u8]) -> Found
+    ensures { result ≡ found_of lines.now }
+{
+    if lines.is_empty() {
+        Found::Nothing
+    } else {
+        Found::Something
+    }
+}
+
+/// Prints the lines of the structures that have the byte, or `nothing`.
+fn print_where<W: Write>(
+    alloc: Global,
+    header: &Option<CliHeader>,
+    root: &[u8],
+    offset: u64,
+    out: &mut W,
+) -> Result<Found, Failure<'static>>
+    requires model { HasModel root.now }
+    requires low { IsLow header.now }
+    ensures failed { IfErr result IsOutput }
+    ensures outcome { (lines : List ℕ) → AreLines header.now root.now offset lines → IfOk result (λ it. it ≡ found_of lines) }
+    ensures printed { (lines : List ℕ) → AreLines header.now root.now offset lines
+        → Prints (W.contents out.old) (W.contents out.new) result (text_of lines) }
+{
+    let lines = match lines_of(alloc, header, root, offset) {
+        Ok(lines) => lines,
+        Err(_) => return Err(Failure::OutOfMemory),
+    };
+    printed(print(&lines, out))?;
+    Ok(found_in(&lines))
+}
+
+/// Prints what the byte at an offset of a file belongs to, or of a metadata root if the bytes are `bare`. The offset
+/// counts from the first byte. Nothing is printed before all rules are checked.
+///
+/// Each structure that has the byte gets a line, the outermost first: its offset in the file and its size in bytes, both
+/// in decimal, and what it is. Lines are those of
+///
+/// - the CLI header and its field (II.25.3.3);
+/// - the metadata root and its field, or a stream header and its field (II.24.2.1, II.24.2.2);
+/// - the streams of the standard, which may overlap;
+/// - the field or row count of the table stream (II.24.2.6), or the cell: its table, its row from 1, and its column from
+///   0 and by name (II.22).
+///
+/// If no structure has the byte, or the offset is not before the end, it prints `nothing`. A name in a stream header is
+/// escaped. Its memory is that of the lines, which are at most a dozen. Its time is that of opening.
+///
+/// # Errors
+///
+/// The fault of the first rule that fails; out of memory, or the output cannot be written.
+pub fn report_where<W: Write>(
+    alloc: Global,
+    bare: bool,
+    bytes: &[u8],
+    offset: u64,
+    out: &mut W,
+) -> Result<Found, Failure<'static>>
+    // If it prints, the bytes have a model.
+    ensures sound { OnOk result (IsWhole bare bytes.now) }
+    // Otherwise it reports the first rule that fails.
+    ensures first_error { IfErr result (ReportsFault (IsWhole bare bytes.now) (rules_of bare bytes.now)) }
+    // In these cases nothing is printed.
+    ensures untouched { IfErr result (LeavesOutput out.old out.new) }
+    // It returns whether a structure has the byte.
+    ensures outcome { (found : TheFound) (text : List ℕ) → IsWhere bare bytes.now offset found text → IfOk result (λ it. it ≡ found) }
+    // If the writer's bytes are known, they grow by exactly the lines if it prints, else by a prefix of them.
+    ensures printed { (found : TheFound) (text : List ℕ) → IsWhere bare bytes.now offset found text
+        → Prints (W.contents out.old) (W.contents out.new) result text }
+{
+    let (header, view) = open_parts(bytes, bare)?;
+    print_where(alloc, &header, view.root(), offset, out)
+}
