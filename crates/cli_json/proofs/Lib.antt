@@ -1,0 +1,16 @@
+pub mod PrintLemmas
+pub mod PlainLemmas
+pub mod SentLemmas
+pub mod LineLemmas
+pub mod SinkLemmas
+pub mod RowLemmas
+pub mod ValueLemmas
+pub mod Outcomes
+pub mod TypeLemmas
+pub mod FixedLemmas
+pub mod Tokens
+pub mod StringLemmas
+pub mod ItemLemmas
+pub mod HeadLemmas
+pub mod ReportLemmas
+pub mod LawLemmas

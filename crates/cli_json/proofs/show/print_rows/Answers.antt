@@ -1,0 +1,65 @@
+use Rattle.std.proofs.Common.{◌++◌, ◌-◌, ◌+◌, ◌∙◌, ◌≡◌, ◌≤◌, List, ℕ, ap, sym, subst, append-nil, arith}
+use Rattle.opening.specs.Views.{row_count}
+use Rattle.metadata.specs.Metadata.{count_in}
+use Rattle.metadata.specs.Model.{IsModel}
+use Rattle.cli_json.specs.Texts.{first_lines, row_line}
+use Rattle.cli_reports.specs.Sent.{Sends, SendsPrefix}
+use Rattle.cli_json.proofs.SentLemmas.{cut_moved, prefix_more, sends_more, sends_nothing}
+use Rattle.cli_json.proofs.LineLemmas.{no_lines, lines_cut, lines_more}
+use Rattle.cli_json.proofs.show.print_rows.Goals as goal
+
+pub loop-earlier-init : goal.loop-earlier-init
+loop-earlier-init g c = record {
+  same = c.new-cells.ensures;
+  rows = λ model is.
+      let known = g.W.Write.contents c.args.out.now in
+      let lines = c.args.lines.now.items in
+      subst (λ (bytes : List ℕ). Sends known known bytes lines) (sym (append-nil lines) ∙ ap (λ xs. lines ++ xs) (sym (no_lines (row_line model c.args.table)))) (sends_nothing known lines);
+}
+
+pub print_row-requires : goal.print_row-requires
+print_row-requires g c = record {
+  first = omega arith;
+  last = subst (λ (root : List ℕ). c.loop-earlier.earlier + 1 ≤ row_count root c.args.table) (sym c.loop-earlier.invariant.same)
+      (omega (arith, c.count-earlier-end.ensures.rows, c.loop-earlier-test.true));
+  limit = omega (arith, c.count-earlier-end.ensures.limit, c.loop-earlier-test.true);
+}
+
+pub returns-in_err-print_row : goal.returns-in_err-print_row
+returns-in_err-print_row g c = λ model is.
+    let here : IsModel c.loop-earlier.cells model = subst (λ (root : List ℕ). IsModel root model) (sym c.loop-earlier.invariant.same) is in
+    let before = g.W.Write.contents c.args.out.now in
+    let between = g.W.Write.contents c.loop-earlier.out in
+    let after = g.W.Write.contents c.print_row.new.out in
+    let lines = c.args.lines.now.items in
+    let earlier = c.loop-earlier.earlier in
+    let count = count_in model c.args.table in
+    let counted = c.count-earlier-end.ensures.model model is in
+    let whole : earlier + 1 + (count - (earlier + 1)) ≡ count = omega (arith, counted, c.loop-earlier-test.true) in
+    cut_moved c.from_residual.result before after (lines ++ first_lines (row_line model c.args.table) count) c.print_row.new.lines.items c.from_residual.ensures.0
+    (lines_cut (row_line model c.args.table) before after lines (earlier + 1) (count - (earlier + 1)) count whole
+    (subst (λ (bytes : List ℕ). SendsPrefix before after bytes) (lines_more (row_line model c.args.table) lines earlier)
+    (prefix_more before between after (lines ++ first_lines (row_line model c.args.table) earlier) c.loop-earlier.lines.items
+    (row_line model c.args.table (earlier + 1)) (c.loop-earlier.invariant.rows model is) (c.in_err-print_row.ensures.row model here))))
+
+pub loop-earlier-preserved : goal.loop-earlier-preserved
+loop-earlier-preserved g c = record {
+  same = c.print_row.ensures.same ∙ c.loop-earlier.invariant.same;
+  rows = λ model is.
+      let here : IsModel c.loop-earlier.cells model = subst (λ (root : List ℕ). IsModel root model) (sym c.loop-earlier.invariant.same) is in
+      let before = g.W.Write.contents c.args.out.now in
+      let between = g.W.Write.contents c.loop-earlier.out in
+      let after = g.W.Write.contents c.print_row.new.out in
+      let lines = c.args.lines.now.items in
+      let earlier = c.loop-earlier.earlier in
+      subst (λ (bytes : List ℕ). Sends before after bytes c.print_row.new.lines.items) (lines_more (row_line model c.args.table) lines earlier)
+      (sends_more before between after (lines ++ first_lines (row_line model c.args.table) earlier) c.loop-earlier.lines.items
+      (row_line model c.args.table (earlier + 1)) c.print_row.new.lines.items (c.loop-earlier.invariant.rows model is) (c.in_ok-print_row.ensures.row model here));
+}
+
+pub returns : goal.returns
+returns g c = λ model is.
+    let counted = c.count-earlier-end.ensures.model model is in
+    let all : c.loop-earlier.earlier ≡ count_in model c.args.table = omega (arith, counted, c.loop-earlier-test.false, c.loop-earlier.auto.earlier-end) in
+    subst (λ (n : ℕ). Sends (g.W.Write.contents c.args.out.now) (g.W.Write.contents c.loop-earlier.out) (c.args.lines.now.items ++ first_lines (row_line model c.args.table) n) c.loop-earlier.lines.items)
+    all (c.loop-earlier.invariant.rows model is)

@@ -1,0 +1,13 @@
+use Rattle.std.proofs.Common.{◌≡◌, ◌++◌}
+use Rattle.metadata.specs.Metadata.{Metadata}
+use Rattle.metadata.specs.Model.{IsModel}
+use Rattle.cli_json.specs.Texts.{first_lines, row_line}
+use Rattle.cli_reports.specs.Sent.{Sends}
+use Rattle.cli_json.proofs.show.print_rows.Given as goal
+
+abbrev pub invariant-loop-earlier : goal.invariant-loop-earlier
+invariant-loop-earlier g l = record {
+  same : l.cells ≡ l.view;
+  rows : (model : Metadata) → IsModel l.view model
+      → Sends (g.W.Write.contents l.initial.out) (g.W.Write.contents l.out) (l.initial.lines.items ++ first_lines (row_line model l.table) l.earlier) l.lines.items;
+}

@@ -1,0 +1,32 @@
+//! Prints what `clim` reports about a file as JSON Lines: one value on each line (RFC 8259).
+//!
+//! [`print_json`] opens the bytes in place and prints a report on them. Its contract is that of
+//! `cli_reports::print_report`, but the text is the lines of the values in `specs/Values.antt`: a line is the text of a
+//! value without a space, and a line feed. It is UTF-8. In a string only a quote, a backslash and control characters
+//! below U+0020 are escaped.
+//!
+//! ```text
+//! {"table":"TypeDef","row":2,"token":"02000002","Flags":1048577,"TypeName":"C","TypeNamespace":"N",..} // show, token
+//! {"token":"70000001","text":"hello","flag":0} // token of a user string
+//! {"token":"02000002","namespace":"N","name":"C","fields":2,"methods":1} // types
+//! {"ok":true} // check
+//! {"layer":5,"code":501,"name":"BadString","offset":2170594} // a fault
+//! {"version":"v4.0.30319"} // root
+//! ```
+#![tactic(auto)]
+
+mod cells;
+mod check;
+pub mod laws;
+mod report;
+mod root_lines;
+mod row_line;
+mod show;
+mod signature_object;
+mod texts;
+mod token;
+mod types;
+mod user_string;
+
+pub use check::print_json_fault;
+pub use report::print_json;
