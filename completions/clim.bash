@@ -2,7 +2,7 @@
 
 _clim() {
     local word=${COMP_WORDS[COMP_CWORD]}
-    local subcommands='root check show types outline token rewrite digest compare explain help'
+    local subcommands='root check show types outline strings token where rewrite digest compare explain help'
     local line
     COMPREPLY=()
     if [ "$COMP_CWORD" -eq 1 ]; then
@@ -14,12 +14,12 @@ _clim() {
             while read -r line; do COMPREPLY+=("$line"); done < <(compgen -W "$subcommands" -- "$word")
             ;;
         explain)
-            # The first word of each line is the number of a fault.
-            while read -r line; do COMPREPLY+=("$line"); done < <(compgen -W "$(clim explain 2>/dev/null | cut -c 1-3) --help" -- "$word")
+            # Each line begins with the number of a fault and its name.
+            while read -r line; do COMPREPLY+=("$line"); done < <(compgen -W "$(clim explain 2>/dev/null | cut -d : -f 1) --help" -- "$word")
             ;;
         *)
             local flags='--bare --help'
-            if [ "${COMP_WORDS[1]}" = check ]; then flags="$flags --budget --files-from -0"; fi
+            if [ "${COMP_WORDS[1]}" = check ]; then flags="$flags --budget --files-from -0 --quiet"; fi
             # A list of files comes from the standard input alone. The budget is a number.
             if [ "${COMP_WORDS[COMP_CWORD-1]}" = --files-from ]; then COMPREPLY=(-); return; fi
             if [ "${COMP_WORDS[COMP_CWORD-1]}" = --budget ]; then return; fi

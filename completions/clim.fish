@@ -1,6 +1,6 @@
 # Completions of clim for fish.
 
-set -l readers root check show types outline token rewrite digest compare
+set -l readers root check show types outline strings token where rewrite digest compare
 set -l subcommands $readers explain help
 
 complete -c clim -f
@@ -8,19 +8,22 @@ complete -c clim -s h -l help -d 'Print help'
 complete -c clim -n "not __fish_seen_subcommand_from $subcommands" -s V -l version -d 'Print version'
 complete -c clim -n "not __fish_seen_subcommand_from $subcommands" -a root -d 'Print the CLI header, and the version and the stream headers of the metadata root'
 complete -c clim -n "not __fish_seen_subcommand_from $subcommands" -a check -d 'Check files against the rules of the standard'
-complete -c clim -n "not __fish_seen_subcommand_from $subcommands" -a show -d 'Print the rows of all tables'
+complete -c clim -n "not __fish_seen_subcommand_from $subcommands" -a show -d 'Print the rows of all tables, or of one'
 complete -c clim -n "not __fish_seen_subcommand_from $subcommands" -a types -d 'Print the types, with the number of their fields and methods'
 complete -c clim -n "not __fish_seen_subcommand_from $subcommands" -a outline -d 'Print the declarations of the assembly, as ILAsm writes them'
+complete -c clim -n "not __fish_seen_subcommand_from $subcommands" -a strings -d 'Print the user strings, with their tokens'
 complete -c clim -n "not __fish_seen_subcommand_from $subcommands" -a token -d 'Print the row or the user string that a token names'
+complete -c clim -n "not __fish_seen_subcommand_from $subcommands" -a where -d 'Print what has the byte at an offset: a header, a stream or a cell'
 complete -c clim -n "not __fish_seen_subcommand_from $subcommands" -a rewrite -d 'Write the canonical metadata root of a file'
-complete -c clim -n "not __fish_seen_subcommand_from $subcommands" -a digest -d 'Print the SHA-256 digest of the canonical metadata root of a file'
+complete -c clim -n "not __fish_seen_subcommand_from $subcommands" -a digest -d 'Print the SHA-256 digest of the canonical metadata root of each file'
 complete -c clim -n "not __fish_seen_subcommand_from $subcommands" -a compare -d 'Compare the metadata of two files'
-complete -c clim -n "not __fish_seen_subcommand_from $subcommands" -a explain -d 'Explain a fault, or list all faults'
+complete -c clim -n "not __fish_seen_subcommand_from $subcommands" -a explain -d 'Explain faults, or list all'
 complete -c clim -n "not __fish_seen_subcommand_from $subcommands" -a help -d 'Print this message or the help of the given subcommand(s)'
 complete -c clim -n "__fish_seen_subcommand_from $readers" -F
 complete -c clim -n "__fish_seen_subcommand_from $readers" -l bare -d 'FILE is a metadata root, not a PE file'
 complete -c clim -n "__fish_seen_subcommand_from check" -l budget -x -d 'Check at most N bytes of signatures, or stop with exit status 3'
 complete -c clim -n "__fish_seen_subcommand_from check" -l files-from -x -a - -d 'Read the names of the files from standard input, each ended by a NUL'
 complete -c clim -n "__fish_seen_subcommand_from check" -s 0 -d "The same as '--files-from -'"
+complete -c clim -n "__fish_seen_subcommand_from check" -s q -l quiet -d 'Print nothing about faults; only the exit status reports them'
 complete -c clim -n "__fish_seen_subcommand_from explain" -a "(clim explain | string replace -r '^(\d+)[ :]+' '\$1\t')"
 complete -c clim -n "__fish_seen_subcommand_from help" -a "$readers explain help"

@@ -11,10 +11,10 @@ use Rattle.cli_reports.specs.Comparisons.{compare_text, compared_text}
 use Rattle.cli_reports.specs.Sent.{SendsPrefix}
 use Rattle.comparison.specs.declared.difference.Difference.{Difference}
 use Rattle.comparison.specs.Differences.{first_differences}
-use Rattle.cli.specs.declared.stopped.Stopped.{Stopped}
+use Rattle.cli_files.specs.declared.stopped.Stopped.{Stopped}
 use Rattle.cli.specs.Compared.{AreWhole, IsComparing, IsRefusal, OfModels}
 use Rattle.cli.specs.Runs.{StopsBy}
-use Rattle.cli.specs.Stopped.{Outcome}
+use Rattle.cli_files.specs.Stopped.{Outcome}
 
 pub compared : (left right : Metadata) (found : List Difference) → found ≡ first_differences left right 20 → compared_text left right found ≡ compare_text left right
 unfolding compare_text

@@ -1,7 +1,9 @@
 pub mod TaskFiles
-pub mod NumbersRead
 pub mod Comparing
 pub mod Rewritings
 pub mod RunLemmas
+pub mod SeveralLemmas
 pub mod Checks
-pub mod Reading
+pub mod Digesting
+pub mod Explaining
+pub mod Locating

@@ -1,28 +1,28 @@
 -- The runs of tasks on what reading a file gave, case by case.
-use Rattle.std.proofs.Common.{◌≡◌, ℕ, Bool, List, [], append-nil, Option, None, Some, Result, Ok, Err, refl, subst, sym, length}
+use Rattle.std.proofs.Common.{◌≡◌, ◌∙◌, ◌++◌, ℕ, Bool, List, [], append-nil, append_assoc, Option, None, Some, Result, Ok, Err, refl, ap, subst, sym, length}
 use Rattle.std.specs.Prelude.{IfErr, IfSome, IsErr, IsOk, OnOk, ◌↔◌, ◌⊎◌}
 use Rattle.std.specs.Io.KnownBytes.{Appends}
 use Rattle.cli_faults.specs.declared.failure.Failure.{Failure}
-use Rattle.cli_faults.specs.declared.failure.Failure.TheVariants.{Fault, NoSuchRow, NoToken, NoCode, NoFile, FilesAndList, NoList, NotUtf8, CannotRead, CannotWriteOutput, CannotWriteFile, OutOfMemory}
-use Rattle.cli_faults.specs.Status.{IsOutput, IsUnwritten, status_of}
+use Rattle.cli_faults.specs.Status.{IsOutput, IsUnwritten}
 use Rattle.cli_reports.specs.declared.report.Report.{Report}
 use Rattle.cli_faults.specs.declared.stop.Stop.{Stop}
-use Rattle.cli_faults.specs.declared.stop.Stop.TheVariants.{BudgetSpent, Different, Failed}
+use Rattle.cli_faults.specs.declared.stop.Stop.TheVariants.{Failed}
 use Rattle.cli_reports.specs.Checked.{IsWhole, rules_of, signature_bytes_of}
 use Rattle.sha2.specs.Sha256.{sha256}
-use Rattle.cli_reports.specs.Digests.{digest_text}
+use Rattle.cli.specs.Digests.{digest_text}
+use Rattle.cli_strings.specs.Strings.{IsStringsText}
 use Rattle.cli_outline.specs.Outline.{IsLine, outline_rows}
 use Rattle.cli_outline.specs.Sent.{PrintsLines}
 use Rattle.metadata.specs.Metadata.{Metadata}
 use Rattle.cli_reports.specs.Printed.{IsModelOf, IsReportText, check_text}
 use Rattle.cli_reports.specs.Reported.{IsMet, LeavesOutput, Reports, ReportsFault}
 use Rattle.cli_reports.specs.Sent.{Prints, SendsPrefix}
-use Rattle.cli_faults.specs.Stops.{status_of_stop}
 use Rattle.cli_reports.specs.Stops.{StopLeavesOutput, StopsWithin}
-use Rattle.cli.specs.Hints.{hint_for}
-use Rattle.cli.specs.Rewritten.{IsGiven, IsRewritten, ReportsUnwritten}
-use Rattle.cli.specs.Runs.{DigestsPart, IsChecked, IsDigesting, IsOutlined, IsReported, IsRewriting, PrintsPart, wrote_text}
-use Rattle.cli.specs.Stopped.{IsStopOf, Outcome}
+use Rattle.cli_files.specs.Hints.{hint_for}
+use Rattle.cli_files.specs.Written.{IsGiven}
+use Rattle.cli.specs.Rewritten.{IsRewritten, ReportsUnwritten}
+use Rattle.cli.specs.Runs.{DigestsPart, IsChecked, IsDigesting, IsListed, IsOutlined, IsReported, IsRewriting, PrintsPart, wrote_text}
+use Rattle.cli_files.specs.Stopped.{IsStopOf, Outcome}
 
 -- a hint for a result that stopped
 abbrev pub Hinted : Bool → List ℕ → Result (Unit {0}) Stop → Outcome → Type 0
@@ -57,6 +57,23 @@ module _ {W : Type 0} (contents : W → Option (List ℕ)) (before after : W) (b
   outlined (Err failure) (Ok same) last met reports leaves printed stops ok hinted = absurd stops
   outlined (Err failure) (Err stop) (Ok end) met reports leaves printed stops ok hinted = let no = ok.0 refl in cc
   outlined (Err failure) (Err stop) (Err stopped) met reports leaves printed stops ok hinted = record {
+    met = tt;
+    printed = printed;
+    stopped = (failure, rw hinted.0 stops, reports, leaves);
+    hint = rw hinted.0 hinted.1;
+  }
+
+  pub listed : (first : Result (Unit {0}) Failure) (second : Result (Unit {0}) Stop) (last : Outcome)
+      → OnOk first (IsWhole bare bytes) → IfErr first (ReportsFault (IsWhole bare bytes) (rules_of bare bytes)) → IfErr first (LeavesOutput before after)
+      → ((model : Metadata) → IsModelOf bare bytes model → (text : List ℕ) → IsStringsText model text → Prints (contents before) (contents after) first text)
+      → IsStopOf first second → IsOk last ↔ IsOk second → Hinted bare bytes second last
+      → IsListed contents before after bare bytes last
+  listed (Ok done) (Ok same) (Ok end) met reports leaves printed stops ok hinted = record { met = met; printed = printed; stopped = tt; hint = tt }
+  listed (Ok done) (Ok same) (Err stopped) met reports leaves printed stops ok hinted = let no = ok.1 refl in cc
+  listed (Ok done) (Err stop) last met reports leaves printed stops ok hinted = cc
+  listed (Err failure) (Ok same) last met reports leaves printed stops ok hinted = absurd stops
+  listed (Err failure) (Err stop) (Ok end) met reports leaves printed stops ok hinted = let no = ok.0 refl in cc
+  listed (Err failure) (Err stop) (Err stopped) met reports leaves printed stops ok hinted = record {
     met = tt;
     printed = printed;
     stopped = (failure, rw hinted.0 stops, reports, leaves);
@@ -114,26 +131,6 @@ module _ {W : Type 0} (contents : W → Option (List ℕ)) (before after : W) (b
 pub if_some : {T : Type 0} (P : T → Type 0) (option : Option T) (value : T) → option ≡ Some value → P value → IfSome option P
 if_some P option value is has = subst (λ (o : Option _). IfSome o P) (sym is) has
 
-failure_never_zero : (failure : Failure) → status_of failure ≡ 0 → ⊥
-failure_never_zero (Fault found) is = cc
-failure_never_zero NoSuchRow is = cc
-failure_never_zero (NoToken word) is = cc
-failure_never_zero (NoCode word) is = cc
-failure_never_zero NoFile is = cc
-failure_never_zero FilesAndList is = cc
-failure_never_zero (NoList word) is = cc
-failure_never_zero (NotUtf8 name) is = cc
-failure_never_zero (CannotRead error) is = cc
-failure_never_zero CannotWriteOutput is = cc
-failure_never_zero (CannotWriteFile error) is = cc
-failure_never_zero OutOfMemory is = cc
-
--- a run that stopped has another exit code than 0
-pub never_zero : (stop : Stop) → status_of_stop stop ≡ 0 → ⊥
-never_zero (Failed failure) is = failure_never_zero failure is
-never_zero BudgetSpent is = cc
-never_zero Different is = cc
-
 -- the line went out if it succeeds, else a prefix of it
 pub line_sent : {E : Type 0} (before after : Option (List ℕ)) (text : List ℕ) (first : Result (Unit {0}) E) (last : Result (Unit {0}) Failure)
     → IsOk last ↔ IsOk first → IfErr last IsOutput → Prints before after first text
@@ -151,3 +148,9 @@ appends_nothing (Some xs) = sym (append-nil xs)
 pub none_sent : {T E : Type 0} (result : Result T E) (known : Option (List ℕ)) (text : List ℕ) → IsErr result → Prints known known result text
 none_sent (Ok done) known text is = cc
 none_sent (Err error) known text is = (text, ([], refl, appends_nothing known))
+
+-- four parts of a line, one after another
+pub four_joined : (line a b c d : List ℕ) → (((line ++ a) ++ b) ++ c) ++ d ≡ line ++ (a ++ b ++ c ++ d)
+four_joined line a b c d =
+    ap (λ (xs : List ℕ). (xs ++ c) ++ d) (append_assoc line a b) ∙ ap (λ (xs : List ℕ). xs ++ d) (append_assoc line (a ++ b) c)
+    ∙ append_assoc line (a ++ b ++ c) d

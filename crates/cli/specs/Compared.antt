@@ -12,8 +12,8 @@ use Rattle.cli_reports.specs.Checked.{IsWhole, rules_of}
 use Rattle.cli_reports.specs.Comparisons.{compare_text}
 use Rattle.cli_reports.specs.Printed.{IsModelOf}
 use Rattle.cli_reports.specs.Sent.{SendsPrefix}
-use Rattle.cli.specs.declared.stopped.Stopped.{Stopped}
-use Rattle.cli.specs.Hints.{hint_for}
+use Rattle.cli_files.specs.declared.stopped.Stopped.{Stopped}
+use Rattle.cli_files.specs.Hints.{hint_for}
 
 -- the first broken rule of the bytes is reported, with the path of their file and a hint if there is one
 pub record IsRefusal (path : List ℕ) (bare : Bool) (bytes : List ℕ) (stopped : Stopped) : Type 0 where

@@ -1,9 +1,9 @@
+pub mod Checks
 pub mod Compared
-pub mod Hints
-pub mod Numbers
-pub mod Read
+pub mod Digested
+pub mod Digests
+pub mod Located
 pub mod Rewritten
 pub mod Runs
 pub mod Several
-pub mod Stopped
 pub mod Tasks

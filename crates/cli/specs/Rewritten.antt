@@ -1,6 +1,5 @@
 -- The canonical root that is written for a file (ECMA-335 II.24.2).
-use Rattle.std.specs.Prelude.{◌≡◌, ◌<◌, ◌^◌, ◌⊎◌, ℕ, Bool, List, Option, length}
-use Rattle.std.specs.Io.KnownBytes.{Appends}
+use Rattle.std.specs.Prelude.{◌≡◌, ◌<◌, ◌^◌, ◌⊎◌, ℕ, Bool, List, length}
 use Rattle.packed.specs.declared.code.FaultCode.TheVariants.{TooLarge}
 use Rattle.packed.specs.Rule.{FirstBroken, fault}
 use Rattle.metadata.specs.Metadata.{Metadata}
@@ -17,14 +16,6 @@ HasModelWith bare bytes P = ∥ ((root : List ℕ) × (model : Metadata) × IsOp
 -- this is the canonical root of the bytes' model
 abbrev pub IsRewritten : Bool → List ℕ → List ℕ → Type 0
 IsRewritten bare bytes written = HasModelWith bare bytes (λ model. written ≡ canonical model)
-
--- this file was given all of these bytes: if what it holds is known, they follow what it held when it was opened
-abbrev pub WasGiven : {F : Type 0} → (F → Option (List ℕ)) → List ℕ → F → Type 0
-WasGiven {F} file_contents given file = (opened : F) × Appends (file_contents opened) (file_contents file) given
-
--- a file of the file system was given all of these bytes
-abbrev pub IsGiven : {F : Type 0} → (F → Option (List ℕ)) → List ℕ → Type 0
-IsGiven {F} file_contents given = (file : F) × WasGiven file_contents given file
 
 -- the canonical root of the bytes' model exceeds 2^30 bytes
 abbrev pub IsTooLong : Bool → List ℕ → Type 0

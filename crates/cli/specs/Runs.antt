@@ -11,27 +11,34 @@ use Rattle.cli_arguments.specs.CommandLine.{clim}
 use Rattle.cli_faults.specs.declared.failure.Failure.{Failure}
 use Rattle.cli_faults.specs.Status.{IsOutput, IsUnwritten, status_of}
 use Rattle.cli_reports.specs.declared.report.Report.{Report}
-use Rattle.cli_faults.specs.declared.stop.Stop.TheVariants.{Failed}
+use Rattle.cli_faults.specs.declared.stop.Stop.TheVariants.{Failed, Nothing}
 use Rattle.cli_outline.specs.Outline.{IsLine, outline_rows}
 use Rattle.cli_outline.specs.Sent.{PrintsLines}
 use Rattle.cli_reports.specs.Checked.{IsWhole, rules_of, signature_bytes_of}
+use Rattle.cli_strings.specs.Strings.{IsStringsText}
+use Rattle.cli_where.specs.Where.{IsWhere}
+use Rattle.cli_where.specs.declared.report.Found.{Found}
+use Rattle.cli_where.specs.declared.report.Found.TheVariants as found
 use Rattle.metadata.specs.Metadata.{Metadata}
 use Rattle.sha2.specs.Sha256.{sha256}
-use Rattle.cli_reports.specs.Digests.{digest_text}
+use Rattle.cli.specs.Digests.{digest_text}
 use Rattle.cli_reports.specs.Printed.{IsModelOf, IsReportText, check_text}
 use Rattle.cli_reports.specs.Reported.{IsMet, LeavesOutput, Reports, ReportsFault}
 use Rattle.cli_reports.specs.RowTexts.{line_feed}
 use Rattle.cli_reports.specs.Sent.{Prints, SendsPrefix}
 use Rattle.cli_reports.specs.Stops.{StopLeavesOutput, StopsWithin}
-use Rattle.cli.specs.declared.stopped.Stopped.{Stopped}
+use Rattle.cli_files.specs.declared.stopped.Stopped.{Stopped}
 use Rattle.cli.specs.declared.task.Task.{Task}
 use Rattle.cli.specs.declared.task.Task.TheVariants as task
+use Rattle.cli.specs.Checks.{EndsCheck}
 use Rattle.cli.specs.Compared.{IsComparing}
-use Rattle.cli.specs.Hints.{hint_for}
-use Rattle.cli.specs.Read.{IsRefused}
-use Rattle.cli.specs.Rewritten.{IsGiven, IsRewritten, ReportsUnwritten}
+use Rattle.cli.specs.Digested.{EndsDigest}
+use Rattle.cli_files.specs.Hints.{hint_for}
+use Rattle.cli_files.specs.Read.{IsRefused}
+use Rattle.cli_files.specs.Written.{IsGiven}
+use Rattle.cli.specs.Rewritten.{IsRewritten, ReportsUnwritten}
 use Rattle.cli.specs.Several.{IsRunOnEach, IsRunOnList}
-use Rattle.cli.specs.Stopped.{Outcome, status_of_outcome}
+use Rattle.cli_files.specs.Stopped.{Outcome, status_of_outcome}
 use Rattle.cli.specs.Tasks.{IsTask}
 
 -- the line of `clim rewrite`
@@ -71,7 +78,37 @@ module _ {W : Type 0} (contents : W → Option (List ℕ)) (before after : W) wh
         × ReportsFault (IsWhole bare bytes) (rules_of bare bytes) failure × LeavesOutput before after failure)
     pub hint : IfErr outcome (λ stopped. stopped.hint ≡ hint_for bare bytes stopped.stop)
 
-  -- the same for `check` with a budget
+  -- The user strings of the bytes' model were printed, and nothing else. If it stopped, the first broken rule is reported,
+  -- or what else failed. Only a failure of the output or of memory comes after a prefix.
+  pub record IsListed (bare : Bool) (bytes : List ℕ) (outcome : Outcome) : Type 0 where
+    pub met : OnOk outcome (IsWhole bare bytes)
+    pub printed : (model : Metadata) → IsModelOf bare bytes model → (text : List ℕ) → IsStringsText model text → Prints (contents before) (contents after) outcome text
+    pub stopped : IfErr outcome (λ stopped. (failure : Failure) × (stopped.stop ≡ Failed failure)
+        × ReportsFault (IsWhole bare bytes) (rules_of bare bytes) failure × LeavesOutput before after failure)
+    pub hint : IfErr outcome (λ stopped. stopped.hint ≡ hint_for bare bytes stopped.stop)
+
+  -- what has the byte at the offset was printed, and this says whether something has it
+  abbrev pub IsFound : ℕ → Bool → List ℕ → Found → Type 0
+  IsFound offset bare bytes said =
+      (it : Found) (text : List ℕ) → IsWhere bare bytes offset it text → (it ≡ said) × Appends (contents before) (contents after) text
+
+  -- the first broken rule is reported, or what else failed; only a failure of the output or of memory comes after a prefix
+  -- of the text
+  abbrev pub IsUnfound : ℕ → Bool → List ℕ → Failure → Type 0
+  IsUnfound offset bare bytes failure =
+      ReportsFault (IsWhole bare bytes) (rules_of bare bytes) failure × LeavesOutput before after failure
+      × ((it : Found) (text : List ℕ) → IsWhere bare bytes offset it text → SendsPrefix (contents before) (contents after) text)
+
+  -- What has the byte at the offset was printed, and nothing else. It stopped because nothing has it, which was printed, or
+  -- because of a failure.
+  pub record IsLocated (offset : ℕ) (bare : Bool) (bytes : List ℕ) (outcome : Outcome) : Type 0 where
+    pub met : OnOk outcome (IsWhole bare bytes)
+    pub printed : OnOk outcome (IsFound offset bare bytes found.Something)
+    pub stopped : IfErr outcome (λ stopped. ((stopped.stop ≡ Nothing) × IsWhole bare bytes × IsFound offset bare bytes found.Nothing)
+        ⊎ ((failure : Failure) × (stopped.stop ≡ Failed failure) × IsUnfound offset bare bytes failure))
+    pub hint : IfErr outcome (λ stopped. stopped.hint ≡ hint_for bare bytes stopped.stop)
+
+  -- `check` with a budget printed `ok`; or it stopped, as without a budget or because the budget is spent
   pub record IsChecked (budget : ℕ) (bare : Bool) (bytes : List ℕ) (outcome : Outcome) : Type 0 where
     pub met : OnOk outcome (IsWhole bare bytes)
     pub printed : Prints (contents before) (contents after) outcome check_text
@@ -121,15 +158,19 @@ module _ {W : Type 0} (contents : W → Option (List ℕ)) (before after : W) wh
   IsRunOf file_contents (task.Print report) ask status = EndsOn ask.file status (λ path. IsRunOn path (IsReported report ask.bare))
   IsRunOf file_contents (task.CheckWithin budget) ask status = EndsOn ask.file status (λ path. IsRunOn path (IsChecked budget ask.bare))
   IsRunOf file_contents (task.CheckEach budget) ask status =
-      IsRunOnEach contents before after budget ask.bare (map (λ file. file.now) ask.files.items) status
-  IsRunOf file_contents (task.CheckListed budget) ask status = IsRunOnList contents before after budget ask.bare status
+      IsRunOnEach (EndsCheck budget ask.bare ask.quiet) contents before after (map (λ file. file.now) ask.files.items) status
+  IsRunOf file_contents (task.CheckListed budget) ask status = IsRunOnList (EndsCheck budget ask.bare ask.quiet) contents before after status
   IsRunOf file_contents (task.Rewrite out) ask status =
       EndsOn ask.file status (λ path outcome. IsRunOn path (IsRewriting file_contents out.now ask.bare) outcome ⊎ IsMixed out.now outcome)
   IsRunOf file_contents task.Outline ask status = EndsOn ask.file status (λ path. IsRunOn path (IsOutlined ask.bare))
+  IsRunOf file_contents task.Strings ask status = EndsOn ask.file status (λ path. IsRunOn path (IsListed ask.bare))
+  IsRunOf file_contents (task.Where offset) ask status = EndsOn ask.file status (λ path. IsRunOn path (IsLocated offset ask.bare))
   IsRunOf file_contents task.Digest ask status = EndsOn ask.file status (λ path. IsRunOn path (IsDigesting path ask.bare))
+  IsRunOf file_contents task.DigestEach ask status =
+      IsRunOnEach (EndsDigest ask.bare) contents before after (map (λ file. file.now) ask.files.items) status
   IsRunOf file_contents (task.Compare other) ask status =
       EndsOn ask.file status (λ path. IsRunOn path (λ left. IsRunOn other.now (λ right. IsComparing contents before after ask.bare left right path other.now)))
-  IsRunOf file_contents (task.Explain code) ask status =
+  IsRunOf file_contents (task.Explain words) ask status =
       EndsWith (λ outcome. IfErr outcome (λ stopped. (failure : Failure) × StopsBy failure stopped × IsOutput failure)) status
 
   -- the run of what the arguments ask for: that of their task; or one of them is wrong, and nothing is read or printed

@@ -1,5 +1,6 @@
 -- What the arguments ask the program to do.
-use Rattle.std.specs.Prelude.{◌≡◌, ℕ, List, [], ◌∷◌, Option, Some, None, Result, Ok, Err, IfSome, MatchOption, MatchResult, codes, if◌then◌else◌}
+use Rattle.std.specs.Prelude.{◌≡◌, ℕ, Bool, List, [], ◌∷◌, ◌++◌, Option, Some, None, Result, Ok, Err, IfSome, MatchOption, MatchResult, codes, if◌then◌else◌}
+use Rattle.std.specs.List.{All}
 use Rattle.std.specs.Borrow.{Bor}
 use Rattle.std.specs.Str.{bytes_eq}
 use Rattle.std.specs.Str.Parse.{digits_value}
@@ -9,20 +10,33 @@ use Rattle.cli_arguments.specs.declared.asked.Subcommand.{Subcommand}
 use Rattle.cli_arguments.specs.declared.asked.Subcommand.TheVariants as word
 use Rattle.cli_faults.specs.declared.failure.Failure.{Failure}
 use Rattle.cli_faults.specs.declared.failure.Failure.TheVariants as failed
+use Rattle.cli_faults.specs.declared.usage_error.UsageError.TheVariants as wrong
+use Rattle.table_schema.specs.declared.table.TableId.{TableId}
 use Rattle.cli_reports.specs.declared.report.Report.TheVariants as report
 use Rattle.cli.specs.declared.task.Task.{Task}
 use Rattle.cli.specs.declared.task.Task.TheVariants as task
-use Rattle.cli.specs.Numbers.{IsHexNumber, NamesCode}
+use Rattle.cli_files.specs.Names.{NamesCode, NamesTable}
+use Rattle.cli_files.specs.Numbers.{IsHexNumber, IsOffset}
 
 -- the failure says that this argument is not a token
 abbrev pub IsNoToken : List ℕ → Failure → Type 0
-IsNoToken hex (failed.NoToken word) = word.now ≡ hex
+IsNoToken hex (failed.Usage (wrong.NoToken word)) = word.now ≡ hex
 IsNoToken hex _ = ⊥
 
--- the failure says that this argument is not the number of a fault
+-- the failure says that this argument names no fault
 abbrev pub IsNoCode : List ℕ → Failure → Type 0
-IsNoCode given (failed.NoCode word) = word.now ≡ given
+IsNoCode given (failed.Usage (wrong.NoCode word)) = word.now ≡ given
 IsNoCode given _ = ⊥
+
+-- the failure says that this argument names no table
+abbrev pub IsNoTable : List ℕ → Failure → Type 0
+IsNoTable given (failed.Usage (wrong.NoTable word)) = word.now ≡ given
+IsNoTable given _ = ⊥
+
+-- the failure says that this argument is not an offset
+abbrev pub IsNoOffset : List ℕ → Failure → Type 0
+IsNoOffset given (failed.Usage (wrong.NoOffset word)) = word.now ≡ given
+IsNoOffset given _ = ⊥
 
 -- the task is to print what the token names if the argument is a token; else the failure says that it is not
 abbrev pub IsTokenTask : List ℕ → Result Task Failure → Type 0
@@ -30,48 +44,81 @@ IsTokenTask hex result =
     MatchResult result (λ made. IsHexNumber hex × (made ≡ task.Print (report.Token (digits_value 16 hex))))
     (λ failure. IsNoToken hex failure × (¬ IsHexNumber hex))
 
--- the task is to explain the fault if the argument is its number; else the failure says that it is not
-abbrev pub IsCodeTask : List ℕ → Result Task Failure → Type 0
-IsCodeTask given result =
-    MatchResult result (λ made. (code : FaultCode) × NamesCode given code × (made ≡ task.Explain (Some code)))
-    (λ failure. IsNoCode given failure × ((code : FaultCode) → ¬ NamesCode given code))
+-- the task is to print what has the byte if the argument is an offset; else the failure says that it is not
+abbrev pub IsWhereTask : List ℕ → Result Task Failure → Type 0
+IsWhereTask given result =
+    MatchResult result (λ made. (offset : ℕ) × IsOffset given offset × (made ≡ task.Where offset))
+    (λ failure. IsNoOffset given failure × ((offset : ℕ) → ¬ IsOffset given offset))
 
--- the task is to explain a fault, or to list all if there is no argument
-abbrev pub IsExplainTask : Option (Bor (List ℕ)) → Result Task Failure → Type 0
-IsExplainTask code result = MatchOption code (result ≡ Ok (task.Explain None)) (λ given. IsCodeTask given.now result)
+-- the task is to print the table if the argument names one; else the failure says that it does not
+abbrev pub IsTableTask : List ℕ → Result Task Failure → Type 0
+IsTableTask given result =
+    MatchResult result (λ made. (table : TableId) × NamesTable given table × (made ≡ task.Print (report.Table table)))
+    (λ failure. IsNoTable given failure × ((table : TableId) → ¬ NamesTable given table))
+
+-- the task is to print a table, or all if there is no argument
+abbrev pub IsShowTask : Option (Bor (List ℕ)) → Result Task Failure → Type 0
+IsShowTask part result = MatchOption part (result ≡ Ok (task.Print report.Show)) (λ given. IsTableTask given.now result)
+
+-- the argument names a fault
+abbrev pub NamesFault : Bor (List ℕ) → Type 0
+NamesFault word = (code : FaultCode) × NamesCode word.now code
+
+-- the task is to explain the faults that these arguments name; all if there is none
+abbrev pub IsExplanation : List (Bor (List ℕ)) → Task → Type 0
+IsExplanation words (task.Explain given) = given.now ≡ words
+IsExplanation words _ = ⊥
+
+-- this is the first of the arguments that names no fault
+abbrev pub IsFirstUnknown : List (Bor (List ℕ)) → Bor (List ℕ) → Type 0
+IsFirstUnknown words word =
+    (before later : List (Bor (List ℕ))) × (words ≡ before ++ word ∷ later) × All NamesFault before × (¬ NamesFault word)
+
+-- the task is to explain the faults if all arguments name some; else the failure reports the first one that does not
+abbrev pub IsExplainTask : List (Bor (List ℕ)) → Result Task Failure → Type 0
+IsExplainTask words result =
+    MatchResult result (λ made. All NamesFault words × IsExplanation words made)
+    (λ failure. (word : Bor (List ℕ)) × IsFirstUnknown words word × IsNoCode word.now failure)
 
 -- the task of `check` for one file, with or without a budget
 abbrev pub task_on_one : Option ℕ → Task
 task_on_one None = task.Print report.Check
 task_on_one (Some bytes) = task.CheckWithin bytes
 
--- the task of `check` for these files
-abbrev pub task_on_files : Option ℕ → List (Bor (List ℕ)) → Result Task Failure
-task_on_files budget [] = Err failed.NoFile
-task_on_files budget (file ∷ []) = Ok (task_on_one budget)
-task_on_files budget (file ∷ next ∷ more) = Ok (task.CheckEach budget)
+-- the task of `check` for these files, which for one file prints what a quiet check does not
+abbrev pub task_on_files : Option ℕ → Bool → List (Bor (List ℕ)) → Result Task Failure
+task_on_files budget quiet [] = Err (failed.Usage wrong.NoFile)
+task_on_files budget quiet (file ∷ []) = Ok (if quiet then task.CheckEach budget else task_on_one budget)
+task_on_files budget quiet (file ∷ next ∷ more) = Ok (task.CheckEach budget)
 
 -- the task of `check` for a list of files, besides which no file may be given
 abbrev pub task_on_list : Option ℕ → List (Bor (List ℕ)) → Result Task Failure
 task_on_list budget [] = Ok (task.CheckListed budget)
-task_on_list budget (file ∷ more) = Err failed.FilesAndList
+task_on_list budget (file ∷ more) = Err (failed.Usage wrong.FilesAndList)
 
 -- the task of `check`; a list of files comes from the standard input alone
 abbrev pub IsCheckTask : Ask → Result Task Failure → Type 0
 IsCheckTask ask result =
     MatchOption ask.files_from
-    (result ≡ (if ask.null then task_on_list ask.budget ask.files.items else task_on_files ask.budget ask.files.items))
-    (λ word. result ≡ (if bytes_eq word.now (codes "-") then task_on_list ask.budget ask.files.items else Err (failed.NoList word)))
+    (result ≡ (if ask.null then task_on_list ask.budget ask.files.items else task_on_files ask.budget ask.quiet ask.files.items))
+    (λ word. result ≡ (if bytes_eq word.now (codes "-") then task_on_list ask.budget ask.files.items else Err (failed.Usage (wrong.NoList word))))
+
+-- the task of `digest` for these files, of which there is at least one
+abbrev pub digest_task : List (Bor (List ℕ)) → Task
+digest_task (file ∷ next ∷ more) = task.DigestEach
+digest_task _ = task.Digest
 
 -- the task of a subcommand
 abbrev pub IsTask : Subcommand → Ask → Result Task Failure → Type 0
 IsTask word.Root ask result = result ≡ Ok (task.Print report.Root)
 IsTask word.Check ask result = IsCheckTask ask result
-IsTask word.Show ask result = result ≡ Ok (task.Print report.Show)
+IsTask word.Show ask result = IsShowTask ask.part result
 IsTask word.Types ask result = result ≡ Ok (task.Print report.Types)
 IsTask word.Outline ask result = result ≡ Ok task.Outline
+IsTask word.Strings ask result = result ≡ Ok task.Strings
 IsTask word.Token ask result = IfSome ask.second (λ hex. IsTokenTask hex.now result)
+IsTask word.Where ask result = IfSome ask.second (λ word. IsWhereTask word.now result)
 IsTask word.Rewrite ask result = IfSome ask.second (λ out. result ≡ Ok (task.Rewrite out))
-IsTask word.Digest ask result = result ≡ Ok task.Digest
+IsTask word.Digest ask result = result ≡ Ok (digest_task ask.files.items)
 IsTask word.Compare ask result = IfSome ask.second (λ other. result ≡ Ok (task.Compare other))
-IsTask word.Explain ask result = IsExplainTask ask.code result
+IsTask word.Explain ask result = IsExplainTask ask.codes.items result

@@ -5,11 +5,11 @@ ghost use Rattle.std.specs.String.{string_bytes};
 ghost use Rattle.cli_faults.specs.Status.{IsOutput};
 ghost use Rattle.cli_reports.specs.Checked.{IsWhole};
 ghost use Rattle.cli_reports.specs.Sent.{SendsPrefix};
-ghost use Rattle.cli.specs.Several.{IsChecked, IsCheckAt, IsCut, IsRunOnEach, StopsCheck, broken_at, line_text, verdict_status};
+ghost use Rattle.cli.specs.Checks.{EndsCheck, IsCheckAt, StopsCheck, broken_at, line_text, verdict_line, verdict_status};
+ghost use Rattle.cli.specs.Several.{HasEnded, IsCut, IsRunOnEach};
 
-use crate::input::read_into;
-use crate::stopped::{Stopped, out_of_memory, status};
 use cli_faults::{EscapedBytes, Failure, Stop, printed};
+use cli_files::{Stopped, out_of_memory, read_into, status};
 use cli_reports::{finish, open, open_within};
 use opening::BoundedError;
 use packed::Fault;
@@ -25,6 +25,8 @@ pub(crate) struct CheckOptions {
     pub(crate) bare: bool,
     /// The largest number of signature blob bytes that is checked of each file, if there is a limit.
     pub(crate) budget: Option<u64>,
+    /// Whether nothing is printed about the files.
+    pub(crate) quiet: bool,
 }
 
 /// The line of a file that was checked. `Display` gives `FILE: ok`, or `FILE: ` and the first broken rule, with a line
@@ -57,7 +59,7 @@ pub(crate) fn check_files<R: Files + Input + AllocGlobal, W: Write, E: Write>(
     err: &mut E,
 ) -> u8
     ensures limit { result ≤ 3 }
-    ensures run { IsRunOnEach W.contents out.old out.new options.budget options.bare (map (λ file. file.now) files.now) result }
+    ensures run { IsRunOnEach (EndsCheck options.budget options.bare options.quiet) W.contents out.old out.new (map (λ file. file.now) files.now) result }
     ensures quiet { result ≡ 0 → err.new ≡ err.old }
 {
     match names_of(rt.alloc(), files) {
@@ -90,7 +92,7 @@ pub(crate) fn check_each<R: Files + Input + AllocGlobal, W: Write, E: Write>(
     err: &mut E,
 ) -> u8
     ensures limit { result ≤ 3 }
-    ensures run { IsRunOnEach W.contents out.old out.new options.budget options.bare (map (λ name. name.now) names.now) result }
+    ensures run { IsRunOnEach (EndsCheck options.budget options.bare options.quiet) W.contents out.old out.new (map (λ name. name.now) names.now) result }
     ensures quiet { result ≡ 0 → err.new ≡ err.old }
 {
     let mut bytes = Vec::new(rt.alloc());
@@ -105,13 +107,14 @@ pub(crate) fn check_each<R: Files + Input + AllocGlobal, W: Write, E: Write>(
 }
 
 /// The greater of two exit codes.
-fn greater(left: u8, right: u8) -> u8
+pub(crate) fn greater(left: u8, right: u8) -> u8
     ensures { result ≡ max left right }
 {
     if left < right { right } else { left }
 }
 
-/// Checks the file with this name, prints its line or reports why it has none, and returns its exit code.
+/// Checks the file with this name, prints its line or reports why it has none, and returns its exit code. If the check is
+/// quiet, there is no line.
 ///
 /// # Errors
 ///
@@ -125,14 +128,14 @@ fn check_next<R: Files + Input + AllocGlobal, W: Write, E: Write>(
     err: &mut E,
 ) -> Result<u8, Failure<'static>>
     ensures limit { IfOk result (λ next. next ≤ 3) }
-    ensures done { IfOk result (IsChecked W.contents out.old out.new options.budget options.bare name.now) }
-    ensures cut { IfErr result (λ failure. IsOutput failure × IsCut W.contents out.old out.new options.budget options.bare name.now) }
+    ensures done { IfOk result (HasEnded (EndsCheck options.budget options.bare options.quiet) W.contents out.old out.new name.now) }
+    ensures cut { IfErr result (λ failure. IsOutput failure × IsCut (EndsCheck options.budget options.bare options.quiet) W.contents out.old out.new name.now) }
     ensures quiet { IfOk result (λ next. next ≡ 0 → err.new ≡ err.old) }
 {
     match check_at(rt, name, options, bytes) {
-        Ok(()) => print_line(rt.alloc(), name, None, out, err),
+        Ok(()) => print_verdict(rt.alloc(), name, None, options.quiet, out, err),
         Err(stopped) => match fault_of(&stopped.stop) {
-            Some(fault) => print_line(rt.alloc(), name, Some(fault), out, err),
+            Some(fault) => print_verdict(rt.alloc(), name, Some(fault), options.quiet, out, err),
             None => Ok(status(Err(stopped), err)),
         },
     }
@@ -209,6 +212,43 @@ fn line_of(alloc: Global, name: &[u8], fault: Option<Fault>) -> Result<String, A
     format!(in alloc; "{}", FileLine { name, fault })
 }
 
+/// Prints the line of a file unless the check is quiet, and returns the file's exit code, as [`print_line`] does.
+///
+/// # Errors
+///
+/// The same.
+fn print_verdict<W: Write, E: Write>(
+    alloc: Global,
+    name: &[u8],
+    fault: Option<Fault>,
+    quiet: bool,
+    out: &mut W,
+    err: &mut E,
+) -> Result<u8, Failure<'static>>
+    ensures limit { IfOk result (λ next. next ≤ 3) }
+    ensures done { IfOk result (λ next.
+        ((next ≡ verdict_status fault) × Appends (W.contents out.old) (W.contents out.new) (verdict_line quiet name.now fault))
+        ⊎ ((next ≡ 3) × (out.new ≡ out.old))) }
+    ensures cut { IfErr result (λ failure. IsOutput failure × SendsPrefix (W.contents out.old) (W.contents out.new) (verdict_line quiet name.now fault)) }
+    ensures quiet { IfOk result (λ next. next ≡ 0 → err.new ≡ err.old) }
+{
+    if quiet {
+        return Ok(exit_code(fault));
+    }
+    print_line(alloc, name, fault, out, err)
+}
+
+/// The exit code of a file with this verdict.
+fn exit_code(fault: Option<Fault>) -> u8
+    ensures value { result ≡ verdict_status fault }
+    ensures limit { result ≤ 3 }
+{
+    match fault {
+        None => 0,
+        Some(_) => 1,
+    }
+}
+
 /// Prints the line of a file, and returns the file's exit code. If there is no memory for the line, that is reported
 /// instead.
 ///
@@ -233,8 +273,5 @@ fn print_line<W: Write, E: Write>(
         return Ok(out_of_memory(err));
     };
     printed(finish(line.as_bytes(), out))?;
-    match fault {
-        None => Ok(0),
-        Some(_) => Ok(1),
-    }
+    Ok(exit_code(fault))
 }

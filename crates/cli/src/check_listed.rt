@@ -1,13 +1,13 @@
 //! `clim check` of the files that the standard input lists.
 ghost use Rattle.std.specs.Prelude.{◌≡◌, ◌≤◌, ◌==◌, IfErr, IfOk, codes, map};
 ghost use Rattle.std.specs.List.{slice_split};
-ghost use Rattle.cli.specs.Read.{IsRefused};
+ghost use Rattle.cli_files.specs.Read.{IsRefused};
+ghost use Rattle.cli.specs.Checks.{EndsCheck};
 ghost use Rattle.cli.specs.Several.{AreListed, IsRunOnList};
 
 use crate::check_files::{CheckOptions, check_each};
-use crate::input::{LIMIT, STANDARD_INPUT, read_file};
-use crate::stopped::{Stopped, out_of_memory, status};
 use cli_faults::{Failure, FileError, Reason};
+use cli_files::{LIMIT, STANDARD_INPUT, Stopped, out_of_memory, read_file, status};
 use std::alloc::{AllocError, Global};
 use std::io::Write;
 use std::rt::Files;
@@ -20,7 +20,7 @@ pub(crate) fn check_listed<R: Files + Input + AllocGlobal, W: Write, E: Write>(
     err: &mut E,
 ) -> u8
     ensures limit { result ≤ 3 }
-    ensures run { IsRunOnList W.contents out.old out.new options.budget options.bare result }
+    ensures run { IsRunOnList (EndsCheck options.budget options.bare options.quiet) W.contents out.old out.new result }
     ensures quiet { result ≡ 0 → err.new ≡ err.old }
 {
     let list = match read_list(rt) {

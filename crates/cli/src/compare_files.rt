@@ -6,9 +6,8 @@ ghost use Rattle.cli_reports.specs.Checked.{IsWhole};
 ghost use Rattle.cli_reports.specs.Printed.{IsModelOf};
 ghost use Rattle.cli.specs.Compared.{IsComparing, IsRefusal};
 
-use crate::hint::hint_of;
-use crate::stopped::Stopped;
 use cli_faults::{Failure, Stop};
+use cli_files::{Stopped, hint_of};
 use cli_reports::{open, print_comparison};
 use comparison::differences;
 use opening::View;

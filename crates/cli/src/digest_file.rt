@@ -3,13 +3,13 @@ ghost use Rattle.std.specs.Prelude.{◌≡◌, ◌⊎◌, ℕ, List, IfErr, OnOk
 ghost use Rattle.std.specs.Io.KnownBytes.{Appends};
 ghost use Rattle.sha2.specs.Sha256.{sha256};
 ghost use Rattle.cli_faults.specs.Status.{IsOutput};
-ghost use Rattle.cli_reports.specs.Digests.{digest_text};
+ghost use Rattle.cli.specs.Digests.{digest_text};
 ghost use Rattle.cli.specs.Rewritten.{IsRewritten, ReportsUnwritten};
 ghost use Rattle.cli.specs.Runs.{DigestsPart};
 
+use crate::digest_line::print_digest;
 use crate::rewrite_file::canonical_root;
 use cli_faults::{Failure, printed};
-use cli_reports::print_digest;
 use comparison::digest;
 use std::alloc::Global;
 use std::io::Write;

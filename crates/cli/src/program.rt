@@ -6,25 +6,25 @@ ghost use Rattle.cli_arguments.specs.Asked.{HasFile, HasFirst, HasSecond};
 ghost use Rattle.cli_faults.specs.declared.failure.Failure.{Failure as Failed};
 ghost use Rattle.cli_faults.specs.Status.{IsOutput};
 ghost use Rattle.cli.specs.Compared.{IsComparing};
-ghost use Rattle.cli.specs.Runs.{Does, IsChecked, IsDigesting, IsMixed, IsOutlined, IsReported, IsRewriting, IsRunOn, IsUsage, Ran, StopsBy};
+ghost use Rattle.cli.specs.Runs.{Does, IsChecked, IsDigesting, IsListed, IsLocated, IsMixed, IsOutlined, IsReported, IsRewriting, IsRunOn, IsUsage, Ran, StopsBy};
 
 use crate::check_files::{CheckOptions, check_files};
 use crate::check_listed::check_listed;
 use crate::compare_files::compare;
 use crate::digest_file::digest_bytes_of;
+use crate::digest_files::digest_files;
 use crate::explain_fault::explain;
-use crate::input::read_file;
-use crate::output_file::is_standard_output;
 use crate::rewrite_file::rewrite;
-use crate::stopped::{Stopped, status, stopped_by, with_hint};
 use crate::task::{Task, task_of};
 use crate::usage_text::usage_text;
+use crate::where_file::locate;
 use clap::error::ErrorKind;
 use cli_arguments::{Ask, ask};
 use cli_faults::{Failure, FileError, Reason, printed};
+use cli_files::{Stopped, is_standard_output, read_file, status, stopped_by, with_hint};
 use cli_outline::report_outline;
 use cli_reports::{Report, check_within, finish, print_report};
-use packed::FaultCode;
+use cli_strings::report_strings;
 use std::alloc::Global;
 use std::io::{self, Write};
 use std::rt::Files;
@@ -33,7 +33,7 @@ use std::rt::Files;
 ///
 /// - 0: success, or help or the version was printed;
 /// - 1: the file breaks a rule of the standard, reported as `fault LAYER CODE at OFFSET: NAME`; or it has nothing that
-///   the token names; or its canonical root is too long; or two files that are compared differ;
+///   the token names, or nothing at the offset; or its canonical root is too long; or two files that are compared differ;
 /// - 2: usage error; no file was read;
 /// - 3: I/O error, out of memory, or budget spent.
 ///
@@ -118,6 +118,7 @@ fn run<R: Files + Input + AllocGlobal, W: Write, E: Write>(
         Err(failure) => return status(Err(Stopped::from(failure)), err),
     };
     let bare = ask.bare;
+    let quiet = ask.quiet;
     match task {
         Task::Print(report) => status(print_file(rt, report, ask.file.unwrap(), bare, out), err),
         Task::CheckWithin(budget) => {
@@ -126,30 +127,46 @@ fn run<R: Files + Input + AllocGlobal, W: Write, E: Write>(
         Task::CheckEach(budget) => check_files(
             rt,
             ask.files.as_slice(),
-            CheckOptions { bare, budget },
+            CheckOptions {
+                bare,
+                budget,
+                quiet,
+            },
             out,
             err,
         ),
-        Task::CheckListed(budget) => check_listed(rt, CheckOptions { bare, budget }, out, err),
+        Task::CheckListed(budget) => check_listed(
+            rt,
+            CheckOptions {
+                bare,
+                budget,
+                quiet,
+            },
+            out,
+            err,
+        ),
         Task::Rewrite(path) => status(rewrite_file(rt, path, ask.file.unwrap(), bare, out), err),
         Task::Outline => status(outline_file(rt, ask.file.unwrap(), bare, out), err),
+        Task::Strings => status(list_strings(rt, ask.file.unwrap(), bare, out), err),
+        Task::Where(offset) => status(locate_in(rt, offset, ask.file.unwrap(), bare, out), err),
         Task::Digest => status(digest_file(rt, ask.file.unwrap(), bare, out), err),
+        Task::DigestEach => digest_files(rt, ask.files.as_slice(), bare, out, err),
         Task::Compare(other) => {
             status(compare_files(rt, other, ask.file.unwrap(), bare, out), err)
         }
-        Task::Explain(code) => status(explain_code(rt.alloc(), code, out), err),
+        Task::Explain(words) => status(explain_words(rt.alloc(), words, out), err),
     }
 }
 
-/// Explains a fault, or lists all.
-fn explain_code<W: Write>(
+/// Explains faults, or lists all.
+fn explain_words<W: Write>(
     alloc: Global,
-    code: Option<FaultCode>,
+    words: &[&str],
     out: &mut W,
 ) -> Result<(), Stopped<'static>>
     ensures { IfErr result (λ stopped. (failure : Failed) × StopsBy failure stopped × IsOutput failure) }
 {
-    Ok(explain(alloc, code, out)?)
+    Ok(explain(alloc, words, out)?)
 }
 
 /// Prints a report on a file.
@@ -193,6 +210,35 @@ fn outline_file<'a, R: Files + Input + AllocGlobal, W: Write>(
     let bytes = read.as_slice();
     let outcome = report_outline(rt.alloc(), bare, bytes, out);
     with_hint(stopped_by(outcome), bare, bytes)
+}
+
+/// Prints the user strings of a file.
+fn list_strings<'a, R: Files + Input + AllocGlobal, W: Write>(
+    rt: &R,
+    file: &'a str,
+    bare: bool,
+    out: &mut W,
+) -> Result<(), Stopped<'a>>
+    ensures { IsRunOn W.contents out.old out.new file.now (IsListed W.contents out.old out.new bare) result }
+{
+    let read = read_file(rt, file)?;
+    let bytes = read.as_slice();
+    let outcome = report_strings(rt.alloc(), bare, bytes, out);
+    with_hint(stopped_by(outcome), bare, bytes)
+}
+
+/// Prints what has the byte at an offset of a file.
+fn locate_in<'a, R: Files + Input + AllocGlobal, W: Write>(
+    rt: &R,
+    offset: u64,
+    file: &'a str,
+    bare: bool,
+    out: &mut W,
+) -> Result<(), Stopped<'a>>
+    ensures { IsRunOn W.contents out.old out.new file.now (IsLocated W.contents out.old out.new offset bare) result }
+{
+    let bytes = read_file(rt, file)?;
+    locate(rt.alloc(), offset, &bytes, bare, out)
 }
 
 /// Checks a file against the rules, within a budget.

@@ -4,10 +4,11 @@ ghost use Rattle.std.specs.Io.KnownBytes.{Appends};
 ghost use Rattle.cli_faults.specs.Status.{IsOutput, IsUnwritten};
 ghost use Rattle.cli_reports.specs.Sent.{Prints};
 ghost use Rattle.cli.specs.Runs.{PrintsPart, wrote_text};
-ghost use Rattle.cli.specs.Rewritten.{IsGiven, IsRewritten, ReportsUnwritten};
+ghost use Rattle.cli_files.specs.Written.{IsGiven};
+ghost use Rattle.cli.specs.Rewritten.{IsRewritten, ReportsUnwritten};
 
-use crate::output_file::write_root;
 use cli_faults::{Failure, printed};
+use cli_files::write_root;
 use cli_reports::{finish, open};
 use packed::{Fault, FaultCode};
 use root_plan::{Prepared, WriteError};

@@ -1,17 +1,15 @@
 //! What the arguments ask the program to do.
 ghost use Rattle.std.specs.Prelude.{◌≡◌};
 ghost use Rattle.cli_arguments.specs.Asked.{HasSecond};
-ghost use Rattle.cli.specs.Tasks.{IsCheckTask, IsExplainTask, IsTask, task_on_files, task_on_list, task_on_one};
+ghost use Rattle.cli.specs.Tasks.{IsCheckTask, IsExplainTask, IsShowTask, IsTask, IsWhereTask, digest_task, task_on_files, task_on_list, task_on_one};
 
-use crate::input::STANDARD_INPUT;
-use crate::numbers::{code_of, token_of};
 use cli_arguments::{Ask, Subcommand};
-use cli_faults::Failure;
+use cli_faults::{Failure, UsageError};
+use cli_files::{STANDARD_INPUT, code_of, offset_of, table_of, token_of};
 use cli_reports::Report;
-use packed::FaultCode;
 
 /// What to do.
-#[derive(Clone, Copy, Debug, PartialEq, Eq)]
+#[derive(Clone, Copy, Debug)]
 pub(crate) enum Task<'a> {
     /// Print something of a file.
     Print(Report),
@@ -25,46 +23,54 @@ pub(crate) enum Task<'a> {
     Rewrite(&'a str),
     /// Print the declarations of a file.
     Outline,
+    /// Print the user strings of a file.
+    Strings,
+    /// Print what has the byte at this offset of a file.
+    Where(u64),
     /// Print the digest of the canonical root of a file.
     Digest,
+    /// Print those of several files.
+    DigestEach,
     /// Print what differs between a file and the one at this path.
     Compare(&'a str),
-    /// Explain a fault, or list all.
-    Explain(Option<FaultCode>),
+    /// Explain the faults that these arguments name, or list all if there is none.
+    Explain(&'a [&'a str]),
 }
 
 /// The task of the arguments. It is known before the file is read.
-pub(crate) fn task_of<'a>(ask: &Ask<'a>) -> Result<Task<'a>, Failure<'a>>
+pub(crate) fn task_of<'a>(ask: &'a Ask<'a>) -> Result<Task<'a>, Failure<'a>>
     requires { HasSecond ask.now }
     ensures { IsTask ask.now.subcommand ask.now result }
 {
     Ok(match ask.subcommand {
         Subcommand::Root => Task::Print(Report::Root),
         Subcommand::Check => return check_of(ask),
-        Subcommand::Show => Task::Print(Report::Show),
+        Subcommand::Show => return show_of(ask.part),
         Subcommand::Types => Task::Print(Report::Types),
         Subcommand::Outline => Task::Outline,
+        Subcommand::Strings => Task::Strings,
         Subcommand::Token => {
             let word = ask.second.unwrap();
-            let number = token_of(word).ok_or(Failure::NoToken(word))?;
+            let number = token_of(word).ok_or(UsageError::NoToken(word))?;
             Task::Print(Report::Token(number))
         }
+        Subcommand::Where => return where_of(ask.second.unwrap()),
         Subcommand::Rewrite => Task::Rewrite(ask.second.unwrap()),
-        Subcommand::Digest => Task::Digest,
+        Subcommand::Digest => digest_of(ask.files.as_slice()),
         Subcommand::Compare => Task::Compare(ask.second.unwrap()),
-        Subcommand::Explain => return explanation_of(ask.code),
+        Subcommand::Explain => return explanation_of(ask.codes.as_slice()),
     })
 }
 
 /// The task of `check`: the names of the files are arguments, or the standard input lists them.
-fn check_of<'a>(ask: &Ask<'a>) -> Result<Task<'a>, Failure<'a>>
+fn check_of<'a>(ask: &'a Ask<'a>) -> Result<Task<'a>, Failure<'a>>
     ensures { IsCheckTask ask.now result }
 {
     match ask.files_from {
         Some(source) if source == STANDARD_INPUT => check_of_list(ask.budget, ask.files.as_slice()),
-        Some(source) => Err(Failure::NoList(source)),
+        Some(source) => Err(Failure::Usage(UsageError::NoList(source))),
         None if ask.null => check_of_list(ask.budget, ask.files.as_slice()),
-        None => check_of_files(ask.budget, ask.files.as_slice()),
+        None => check_of_files(ask.budget, ask.quiet, ask.files.as_slice()),
     }
 }
 
@@ -78,13 +84,17 @@ fn check_of_one(budget: Option<u64>) -> Task<'static>
     }
 }
 
-/// The task of `check` for these files.
-fn check_of_files<'a>(budget: Option<u64>, files: &[&'a str]) -> Result<Task<'a>, Failure<'a>>
-    ensures { result ≡ task_on_files budget files.now }
+/// The task of `check` for these files. A quiet check prints no line for any number of files.
+fn check_of_files<'a>(
+    budget: Option<u64>,
+    quiet: bool,
+    files: &[&'a str],
+) -> Result<Task<'a>, Failure<'a>>
+    ensures { result ≡ task_on_files budget quiet files.now }
 {
     match files {
-        [] => Err(Failure::NoFile),
-        [_] => Ok(check_of_one(budget)),
+        [] => Err(Failure::Usage(UsageError::NoFile)),
+        [_] if !quiet => Ok(check_of_one(budget)),
         _ => Ok(Task::CheckEach(budget)),
     }
 }
@@ -96,17 +106,51 @@ fn check_of_list<'a>(budget: Option<u64>, files: &[&'a str]) -> Result<Task<'a>,
     if files.is_empty() {
         Ok(Task::CheckListed(budget))
     } else {
-        Err(Failure::FilesAndList)
+        Err(Failure::Usage(UsageError::FilesAndList))
     }
 }
 
-/// The task of `explain`: explain the fault with this number, or list all if there is no argument.
-fn explanation_of<'a>(code: Option<&'a str>) -> Result<Task<'a>, Failure<'a>>
-    ensures { IsExplainTask code.entry result }
+/// The task of `show`: print the table with this name or number, or all if there is no argument.
+fn show_of<'a>(part: Option<&'a str>) -> Result<Task<'a>, Failure<'a>>
+    ensures { IsShowTask part.entry result }
 {
-    let Some(word) = code else {
-        return Ok(Task::Explain(None));
+    let Some(word) = part else {
+        return Ok(Task::Print(Report::Show));
     };
-    let code = code_of(word).ok_or(Failure::NoCode(word))?;
-    Ok(Task::Explain(Some(code)))
+    match table_of(word) {
+        Some(table) => Ok(Task::Print(Report::Table(table))),
+        None => Err(Failure::Usage(UsageError::NoTable(word))),
+    }
+}
+
+/// The task of `where` for this argument.
+fn where_of<'a>(word: &'a str) -> Result<Task<'a>, Failure<'a>>
+    ensures { IsWhereTask word.now result }
+{
+    match offset_of(word) {
+        Some(offset) => Ok(Task::Where(offset)),
+        None => Err(Failure::Usage(UsageError::NoOffset(word))),
+    }
+}
+
+/// The task of `digest` for these files, of which there is at least one.
+fn digest_of(files: &[&str]) -> Task<'static>
+    ensures { result ≡ digest_task files.now }
+{
+    match files {
+        [_, _, ..] => Task::DigestEach,
+        _ => Task::Digest,
+    }
+}
+
+/// The task of `explain`: explain the faults that these arguments name, or list all if there is none.
+fn explanation_of<'a>(words: &'a [&'a str]) -> Result<Task<'a>, Failure<'a>>
+    ensures { IsExplainTask words.now result }
+{
+    for word in words {
+        let Some(_code) = code_of(word) else {
+            return Err(Failure::Usage(UsageError::NoCode(word)));
+        };
+    }
+    Ok(Task::Explain(words))
 }

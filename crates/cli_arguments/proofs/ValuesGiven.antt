@@ -14,9 +14,9 @@ use Rattle.clap.specs.declared.parser.matches.ValueSource.TheVariants.{CommandLi
 use Rattle.clap.proofs.OnLiterals.{clap_on_literals}
 use Rattle.std.proofs.lemmas.Slice.Eq.{bytes_eq-Decides}
 use Rattle.cli_arguments.specs.Asked.{name_of, subcommand_named}
-use Rattle.cli_arguments.specs.declared.asked.Subcommand.TheVariants.{Root, Check, Show, Types, Outline, Token, Rewrite, Digest, Compare, Explain}
+use Rattle.cli_arguments.specs.declared.asked.Subcommand.TheVariants.{Root, Check, Show, Types, Outline, Strings, Token, Where, Rewrite, Digest, Compare, Explain}
 use Rattle.cli_arguments.specs.declared.asked.Subcommand.{Subcommand}
-use Rattle.cli_arguments.specs.CommandLine.{bare, budget, check, clim, code, explain, file, files, files_from, null, reader, second}
+use Rattle.cli_arguments.specs.CommandLine.{bare, budget, check, clim, digest, explain, fault_codes, file, files, files_from, null, part, quiet, reader, second, several, show}
 use Rattle.cli_arguments.proofs.NoHelp.{StopsElsewhere, is_help, stops_elsewhere}
 use Rattle.cli_arguments.proofs.Supplied.{AllSupply, Supplies, IsSupplied, below_none, check_none, supplied_with, supplied_without, first_none, given_has_value, level_supplied}
 
@@ -43,7 +43,7 @@ built_bare = with_index 2 (filled bare)
 abbrev pub values_in : Text → List Text
 values_in name =
     if bytes_eq name (name_of Explain) || bytes_eq name (name_of Check) then []
-    else codes "FILE" ∷ (if bytes_eq name (name_of Token) || bytes_eq name (name_of Rewrite) || bytes_eq name (name_of Compare) then codes "second" ∷ [] else [])
+    else codes "FILE" ∷ (if bytes_eq name (name_of Token) || bytes_eq name (name_of Where) || bytes_eq name (name_of Rewrite) || bytes_eq name (name_of Compare) then codes "second" ∷ [] else [])
 
 abbrev AllGiven : List Text → List Row → Type 0
 AllGiven [] rows = Unit {0}
@@ -87,9 +87,9 @@ second_value : (again : Bool) (values : List Text) (rows : List Row) → use_fau
 second_value again [] rows none = cc
 second_value again (v ∷ vs) rows none = omega arith
 
-code_value : (again : Bool) (values : List Text) (rows : List Row) → use_fault again (built_value 1 code) values rows ≡ [] → 0 < length (values_or_missing (built_value 1 code) values)
-code_value again [] rows none = cc
-code_value again (v ∷ vs) rows none = omega arith
+part_value : (again : Bool) (values : List Text) (rows : List Row) → use_fault again (built_value 2 part) values rows ≡ [] → 0 < length (values_or_missing (built_value 2 part) values)
+part_value again [] rows none = cc
+part_value again (v ∷ vs) rows none = omega arith
 
 budget_value : (again : Bool) (values : List Text) (rows : List Row) → use_fault again (built_value 2 budget) values rows ≡ [] → 0 < length (values_or_missing (built_value 2 budget) values)
 budget_value again [] rows none = cc
@@ -102,6 +102,10 @@ files_from_value again (v ∷ vs) rows none = omega arith
 null_value : (values : List Text) → 0 < length (values_or_missing (built_value 2 null) values)
 null_value [] = omega arith
 null_value (v ∷ vs) = omega arith
+
+quiet_value : (values : List Text) → 0 < length (values_or_missing (built_value 2 quiet) values)
+quiet_value [] = omega arith
+quiet_value (v ∷ vs) = omega arith
 
 bare_value : (values : List Text) → 0 < length (values_or_missing built_bare values)
 bare_value [] = omega arith
@@ -116,8 +120,8 @@ second_supplies = set_supplies (built_value 2 second) (λ values rows. refl) sec
 budget_supplies : Supplies (built_value 2 budget)
 budget_supplies = set_supplies (built_value 2 budget) (λ values rows. refl) budget_value
 
-code_supplies : Supplies (built_value 1 code)
-code_supplies = set_supplies (built_value 1 code) (λ values rows. refl) code_value
+part_supplies : Supplies (built_value 2 part)
+part_supplies = set_supplies (built_value 2 part) (λ values rows. refl) part_value
 
 bare_supplies : Supplies built_bare
 bare_supplies = set_supplies built_bare (λ values rows. refl) (λ again values rows none. bare_value values)
@@ -128,10 +132,21 @@ files_from_supplies = set_supplies (built_value 2 files_from) (λ values rows. r
 null_supplies : Supplies (built_value 2 null)
 null_supplies = set_supplies (built_value 2 null) (λ values rows. refl) (λ again values rows none. null_value values)
 
+quiet_supplies : Supplies (built_value 2 quiet)
+quiet_supplies = set_supplies (built_value 2 quiet) (λ values rows. refl) (λ again values rows none. quiet_value values)
+
 -- a further use adds values to those of an earlier one
 files_supplies : Supplies (built_value 1 files)
 files_supplies again [] rows none f = cc
 files_supplies again (v ∷ vs) rows none f = supplied_with (codes "FILE") (reading_by (built_value 1 files)) CommandLine v vs rows f
+
+several_supplies : Supplies (built_value 1 several)
+several_supplies again [] rows none f = cc
+several_supplies again (v ∷ vs) rows none f = supplied_with (codes "FILE") (reading_by (built_value 1 several)) CommandLine v vs rows f
+
+codes_supplies : Supplies (built_value 1 fault_codes)
+codes_supplies again [] rows none f = cc
+codes_supplies again (v ∷ vs) rows none f = supplied_with (codes "CODE") (reading_by (built_value 1 fault_codes)) CommandLine v vs rows f
 
 needed : (given others : Bool) → (not given || others) ≡ false → given ≡ true
 needed true others e = refl
@@ -162,9 +177,17 @@ outline_takes : values_in (codes "outline") ≡ codes "FILE" ∷ []
 unfolding clap_on_literals
 outline_takes = refl
 
+strings_takes : values_in (codes "strings") ≡ codes "FILE" ∷ []
+unfolding clap_on_literals
+strings_takes = refl
+
 pub token_takes : values_in (codes "token") ≡ codes "FILE" ∷ codes "second" ∷ []
 unfolding clap_on_literals
 token_takes = refl
+
+pub where_takes : values_in (codes "where") ≡ codes "FILE" ∷ codes "second" ∷ []
+unfolding clap_on_literals
+where_takes = refl
 
 pub rewrite_takes : values_in (codes "rewrite") ≡ codes "FILE" ∷ codes "second" ∷ []
 unfolding clap_on_literals
@@ -202,9 +225,17 @@ outline_known : IsSome (subcommand_named (codes "outline"))
 unfolding clap_on_literals
 outline_known = refl
 
+strings_known : IsSome (subcommand_named (codes "strings"))
+unfolding clap_on_literals
+strings_known = refl
+
 token_known : IsSome (subcommand_named (codes "token"))
 unfolding clap_on_literals
 token_known = refl
+
+where_known : IsSome (subcommand_named (codes "where"))
+unfolding clap_on_literals
+where_known = refl
 
 rewrite_known : IsSome (subcommand_named (codes "rewrite"))
 unfolding clap_on_literals
@@ -237,11 +268,29 @@ reader_ready name takes known = record {
 
 check_ready : IsReady (built_leaf (inherited (built clim).top check.top))
 check_ready = record {
-  supplies = (files_supplies, (bare_supplies, (budget_supplies, (files_from_supplies, (null_supplies, ((λ again values rows none f. f), tt))))));
+  supplies = (files_supplies, (bare_supplies, (budget_supplies, (files_from_supplies, (null_supplies, (quiet_supplies, ((λ again values rows none f. f), tt)))))));
   values = [];
   takes = check_takes;
   known = check_known;
   needs = λ rows all. tt;
+}
+
+show_ready : IsReady (built_leaf (inherited (built clim).top show.top))
+show_ready = record {
+  supplies = (file_supplies, (bare_supplies, (part_supplies, ((λ again values rows none f. f), tt))));
+  values = codes "FILE" ∷ [];
+  takes = show_takes;
+  known = show_known;
+  needs = λ rows all. (needed (is_given (codes "FILE") rows) _ all, tt);
+}
+
+digest_ready : IsReady (built_leaf (inherited (built clim).top digest.top))
+digest_ready = record {
+  supplies = (several_supplies, (bare_supplies, ((λ again values rows none f. f), tt)));
+  values = codes "FILE" ∷ [];
+  takes = digest_takes;
+  known = digest_known;
+  needs = λ rows all. (needed (is_given (codes "FILE") rows) _ all, tt);
 }
 
 -- one with a second value besides the file
@@ -262,7 +311,7 @@ second_ready name takes known = record {
 
 explain_ready : IsReady (built_leaf (inherited (built clim).top explain.top))
 explain_ready = record {
-  supplies = (code_supplies, ((λ again values rows none f. f), tt));
+  supplies = (codes_supplies, ((λ again values rows none f. f), tt));
   values = [];
   takes = explain_takes;
   known = explain_known;
@@ -284,20 +333,29 @@ clim_ready word other = (
   (
     (λ is. check_ready),
     (
-      (λ is. reader_ready (codes "show") show_takes show_known),
+      (λ is. show_ready),
       (
         (λ is. reader_ready (codes "types") types_takes types_known),
         (
           (λ is. reader_ready (codes "outline") outline_takes outline_known),
           (
-            (λ is. second_ready (codes "token") token_takes token_known),
+            (λ is. reader_ready (codes "strings") strings_takes strings_known),
             (
-              (λ is. second_ready (codes "rewrite") rewrite_takes rewrite_known),
+              (λ is. second_ready (codes "token") token_takes token_known),
               (
-                (λ is. reader_ready (codes "digest") digest_takes digest_known),
+                (λ is. second_ready (codes "where") where_takes where_known),
                 (
-                  (λ is. second_ready (codes "compare") compare_takes compare_known),
-                  ((λ is. explain_ready), ((λ is. let help = answers_help word is in cc), tt)),
+                  (λ is. second_ready (codes "rewrite") rewrite_takes rewrite_known),
+                  (
+                    (λ is. digest_ready),
+                    (
+                      (λ is. second_ready (codes "compare") compare_takes compare_known),
+                      (
+                        (λ is. explain_ready),
+                        ((λ is. let help = answers_help word is in cc), tt),
+                      ),
+                    ),
+                  ),
                 ),
               ),
             ),
@@ -315,7 +373,9 @@ file_first Check rows other listed there = absurd (listed refl)
 file_first Show rows other listed there = (subst (λ (ids : List Text). AllThere ids rows) show_takes there).0
 file_first Types rows other listed there = (subst (λ (ids : List Text). AllThere ids rows) types_takes there).0
 file_first Outline rows other listed there = (subst (λ (ids : List Text). AllThere ids rows) outline_takes there).0
+file_first Strings rows other listed there = (subst (λ (ids : List Text). AllThere ids rows) strings_takes there).0
 file_first Token rows other listed there = (subst (λ (ids : List Text). AllThere ids rows) token_takes there).0
+file_first Where rows other listed there = (subst (λ (ids : List Text). AllThere ids rows) where_takes there).0
 file_first Rewrite rows other listed there = (subst (λ (ids : List Text). AllThere ids rows) rewrite_takes there).0
 file_first Digest rows other listed there = (subst (λ (ids : List Text). AllThere ids rows) digest_takes there).0
 file_first Compare rows other listed there = (subst (λ (ids : List Text). AllThere ids rows) compare_takes there).0

@@ -7,7 +7,7 @@ use Rattle.clap.specs.Words.{Row, Text, all_of, first_of, one_of, subcommand_of}
 use Rattle.cli_arguments.specs.CommandLine.{clim}
 use Rattle.cli_arguments.specs.declared.asked.Ask.{Ask}
 use Rattle.cli_arguments.specs.declared.asked.Subcommand.{Subcommand}
-use Rattle.cli_arguments.specs.declared.asked.Subcommand.TheVariants.{Root, Check, Show, Types, Outline, Token, Rewrite, Digest, Compare, Explain}
+use Rattle.cli_arguments.specs.declared.asked.Subcommand.TheVariants.{Root, Check, Show, Types, Outline, Strings, Token, Where, Rewrite, Digest, Compare, Explain}
 
 -- the name of a subcommand
 abbrev pub name_of : Subcommand → Text
@@ -16,7 +16,9 @@ name_of Check = codes "check"
 name_of Show = codes "show"
 name_of Types = codes "types"
 name_of Outline = codes "outline"
+name_of Strings = codes "strings"
 name_of Token = codes "token"
+name_of Where = codes "where"
 name_of Rewrite = codes "rewrite"
 name_of Digest = codes "digest"
 name_of Compare = codes "compare"
@@ -30,7 +32,9 @@ subcommand_named word =
     else if bytes_eq word (name_of Show) then Some Show
     else if bytes_eq word (name_of Types) then Some Types
     else if bytes_eq word (name_of Outline) then Some Outline
+    else if bytes_eq word (name_of Strings) then Some Strings
     else if bytes_eq word (name_of Token) then Some Token
+    else if bytes_eq word (name_of Where) then Some Where
     else if bytes_eq word (name_of Rewrite) then Some Rewrite
     else if bytes_eq word (name_of Digest) then Some Digest
     else if bytes_eq word (name_of Compare) then Some Compare
@@ -54,10 +58,12 @@ pub record Gives (words : List Text) (ask : Ask) : Type 0 where
   pub file : option_map (λ word. word.now) ask.file ≡ first_of (codes "FILE") rows
   pub second : option_map (λ word. word.now) ask.second ≡ first_of (codes "second") rows
   pub budget : IsCountOf (one_of (codes "budget") rows) ask.budget
-  pub code : option_map (λ word. word.now) ask.code ≡ first_of (codes "CODE") rows
+  pub part : option_map (λ word. word.now) ask.part ≡ first_of (codes "part") rows
+  pub faults : map (λ word. word.now) ask.codes.items ≡ unwrap_or (all_of (codes "CODE") rows) []
   pub files : map (λ word. word.now) ask.files.items ≡ unwrap_or (all_of (codes "FILE") rows) []
   pub files_from : option_map (λ word. word.now) ask.files_from ≡ first_of (codes "files-from") rows
   pub null : IsTrue ask.null ↔ (one_of (codes "null") rows ≡ Some (codes "true"))
+  pub quiet : IsTrue ask.quiet ↔ (one_of (codes "quiet") rows ≡ Some (codes "true"))
 
 -- there is a file, if the subcommand needs one; `check` may have a list instead
 abbrev pub HasFile : Ask → Type 0
@@ -70,4 +76,5 @@ HasFirst ask = option_map (λ word. word.now) ask.file ≡ slice_get (map (λ wo
 -- there is a second value, if the subcommand has one
 abbrev pub HasSecond : Ask → Type 0
 HasSecond ask =
-    (ask.subcommand ≡ Token → IsSome ask.second) × (ask.subcommand ≡ Rewrite → IsSome ask.second) × (ask.subcommand ≡ Compare → IsSome ask.second)
+    (ask.subcommand ≡ Token → IsSome ask.second) × (ask.subcommand ≡ Where → IsSome ask.second) × (ask.subcommand ≡ Rewrite → IsSome ask.second)
+    × (ask.subcommand ≡ Compare → IsSome ask.second)

@@ -14,9 +14,17 @@ file = record (new_rule (codes "FILE")) { action = Some Set; required = true }
 abbrev pub files : Rule
 files = record (new_rule (codes "FILE")) { action = Some Append; range = Some (record { start_inclusive = 1; end_inclusive = usize_max }) }
 
+-- `FILE..`, at least one value
+abbrev pub several : Rule
+several = record (new_rule (codes "FILE")) { action = Some Append; range = Some (record { start_inclusive = 1; end_inclusive = usize_max }); required = true }
+
 -- a second value, required; help shows it with this name
 abbrev pub second : Rule
 second = record (new_rule (codes "second")) { action = Some Set; value_names = 1; required = true }
+
+-- a second value, optional; help shows it with this name
+abbrev pub part : Rule
+part = record (new_rule (codes "part")) { action = Some Set; value_names = 1 }
 
 -- `--bare`, a flag
 abbrev pub bare : Rule
@@ -34,9 +42,13 @@ files_from = record (new_rule (codes "files-from")) { long = Some (codes "files-
 abbrev pub null : Rule
 null = record (new_rule (codes "null")) { short = Some 48; action = Some SetTrue }
 
--- `CODE`, one value, optional
-abbrev pub code : Rule
-code = record (new_rule (codes "CODE")) { action = Some Set }
+-- `-q` or `--quiet`, a flag; the ASCII code of `q` is 113
+abbrev pub quiet : Rule
+quiet = record (new_rule (codes "quiet")) { short = Some 113; long = Some (codes "quiet"); action = Some SetTrue }
+
+-- `CODE..`, any number of values
+abbrev pub fault_codes : Rule
+fault_codes = record (new_rule (codes "CODE")) { action = Some Append; range = Some (record { start_inclusive = 1; end_inclusive = usize_max }) }
 
 -- a subcommand that reads a file: `NAME [--bare] FILE`
 abbrev pub reader : Text → App
@@ -46,13 +58,13 @@ reader name = with_rule (with_rule (new_app name) file) bare
 abbrev pub root : App
 root = reader (codes "root")
 
--- `check [--bare] [--budget N] [--files-from LIST] [-0] [FILE]..`
+-- `check [--bare] [--budget N] [--files-from LIST] [-0] [-q] [FILE]..`
 abbrev pub check : App
-check = with_rule (with_rule (with_rule (with_rule (with_rule (new_app (codes "check")) files) bare) budget) files_from) null
+check = with_rule (with_rule (with_rule (with_rule (with_rule (with_rule (new_app (codes "check")) files) bare) budget) files_from) null) quiet
 
--- `show [--bare] FILE`
+-- `show [--bare] FILE [TABLE]`
 abbrev pub show : App
-show = reader (codes "show")
+show = with_rule (reader (codes "show")) part
 
 -- `types [--bare] FILE`
 abbrev pub types : App
@@ -62,32 +74,51 @@ types = reader (codes "types")
 abbrev pub outline : App
 outline = reader (codes "outline")
 
+-- `strings [--bare] FILE`
+abbrev pub strings : App
+strings = reader (codes "strings")
+
 -- `token [--bare] FILE HEX`
 abbrev pub token : App
 token = with_rule (reader (codes "token")) second
+
+-- `where [--bare] FILE OFFSET`
+abbrev pub where_is : App
+where_is = with_rule (reader (codes "where")) second
 
 -- `rewrite [--bare] FILE OUT`
 abbrev pub rewrite : App
 rewrite = with_rule (reader (codes "rewrite")) second
 
--- `digest [--bare] FILE`
+-- `digest [--bare] FILE..`
 abbrev pub digest : App
-digest = reader (codes "digest")
+digest = with_rule (with_rule (new_app (codes "digest")) several) bare
 
 -- `compare [--bare] FILE OTHER`
 abbrev pub compare : App
 compare = with_rule (reader (codes "compare")) second
 
--- `explain [CODE]`
+-- `explain [CODE]..`
 abbrev pub explain : App
-explain = with_rule (new_app (codes "explain")) code
+explain = with_rule (new_app (codes "explain")) fault_codes
 
 -- `clim SUBCOMMAND ..`; the subcommand is required
 abbrev pub without_subcommands : App
 without_subcommands = on_top (λ s. record s { has_version = true; subcommand_required = true }) (new_app (codes "clim"))
 
--- the subcommands that read a file, and `explain`; `clap` adds `help`
+-- a command with the subcommands that report on a whole file
+abbrev pub with_reports : App → App
+with_reports base =
+    with_subcommand (with_subcommand (with_subcommand (with_subcommand (with_subcommand base root.top) check.top) show.top) types.top) outline.top
+
+-- with those that look something up in a file
+abbrev pub with_lookups : App → App
+with_lookups base = with_subcommand (with_subcommand (with_subcommand base strings.top) token.top) where_is.top
+
+-- and with those that write, compare and explain
+abbrev pub with_others : App → App
+with_others base = with_subcommand (with_subcommand (with_subcommand (with_subcommand base rewrite.top) digest.top) compare.top) explain.top
+
+-- all subcommands; `clap` adds `help`
 abbrev pub clim : App
-clim =
-    with_subcommand (with_subcommand (with_subcommand (with_subcommand (with_subcommand (with_subcommand (with_subcommand (with_subcommand (with_subcommand (with_subcommand
-    without_subcommands root.top) check.top) show.top) types.top) outline.top) token.top) rewrite.top) digest.top) compare.top) explain.top
+clim = with_others (with_lookups (with_reports without_subcommands))

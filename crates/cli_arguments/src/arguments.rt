@@ -2,12 +2,13 @@
 ghost use Rattle.std.specs.Prelude.{◌≡◌, IfOk, IsOkAnd, map};
 ghost use Rattle.clap.specs.Words.{AddsSubcommand, FailsBy, app_of, fault_of};
 ghost use Rattle.cli_arguments.specs.Asked.{Gives, HasFile, HasFirst, HasSecond};
+ghost use Rattle.cli_arguments.specs.CommandLine as line;
 ghost use Rattle.cli_arguments.specs.CommandLine.{clim};
 
 use crate::asked::{Ask, Subcommand};
 use crate::subcommands::{
-    check_file, compare_files, digest_file, explain_fault, print_outline, print_root, print_token,
-    print_types, rewrite_file, show_tables,
+    check_file, compare_files, digest_file, explain_fault, print_outline, print_root,
+    print_strings, print_token, print_types, print_where, rewrite_file, show_tables,
 };
 use clap::{Command, Error};
 use std::alloc::{AllocError, Global};
@@ -29,16 +30,19 @@ pub fn ask<'a>(alloc: Global, words: &'a [&'a str]) -> Result<Ask<'a>, Error>
     let matches = command(alloc)?.try_get_matches_from(words)?;
     let (name, given) = matches.subcommand().unwrap();
     let files = Vec::from_slice(alloc, given.get_raw("FILE").unwrap_or(&[]))?;
+    let codes = Vec::from_slice(alloc, given.get_raw("CODE").unwrap_or(&[]))?;
     Ok(Ask {
         subcommand: Subcommand::named(name).unwrap(),
         bare: given.get_one::<bool>("bare") == Some(true),
         file: given.get_str("FILE"),
         second: given.get_str("second"),
         budget: given.get_one::<u64>("budget"),
-        code: given.get_str("CODE"),
+        part: given.get_str("part"),
+        codes,
         files,
         files_from: given.get_str("files-from"),
         null: given.get_one::<bool>("null") == Some(true),
+        quiet: given.get_one::<bool>("quiet") == Some(true),
     })
 }
 
@@ -51,13 +55,36 @@ fn command<'a>(alloc: Global) -> Result<Command<'a>, AllocError>
         .version("0.1.0")
         .after_help(STATUSES)
         .subcommand_required(true);
+    let program = with_reports(alloc, program)?;
+    let program = with_lookups(alloc, program)?;
+    with_others(alloc, program)
+}
+
+/// The command with the subcommands that report on a whole file.
+fn with_reports<'a>(alloc: Global, program: Command<'a>) -> Result<Command<'a>, AllocError>
+    ensures { IfOk result (λ made. app_of made ≡ line.with_reports (app_of program.entry)) }
+{
     let program = with(Ok(program), print_root::command(alloc));
     let program = with(program, check_file::command(alloc));
     let program = with(program, show_tables::command(alloc));
     let program = with(program, print_types::command(alloc));
-    let program = with(program, print_outline::command(alloc));
+    with(program, print_outline::command(alloc))
+}
+
+/// The command with those that look something up in a file.
+fn with_lookups<'a>(alloc: Global, program: Command<'a>) -> Result<Command<'a>, AllocError>
+    ensures { IfOk result (λ made. app_of made ≡ line.with_lookups (app_of program.entry)) }
+{
+    let program = with(Ok(program), print_strings::command(alloc));
     let program = with(program, print_token::command(alloc));
-    let program = with(program, rewrite_file::command(alloc));
+    with(program, print_where::command(alloc))
+}
+
+/// The command with those that write, compare and explain.
+fn with_others<'a>(alloc: Global, program: Command<'a>) -> Result<Command<'a>, AllocError>
+    ensures { IfOk result (λ made. app_of made ≡ line.with_others (app_of program.entry)) }
+{
+    let program = with(Ok(program), rewrite_file::command(alloc));
     let program = with(program, digest_file::command(alloc));
     let program = with(program, compare_files::command(alloc));
     with(program, explain_fault::command(alloc))
@@ -82,9 +109,9 @@ const STATUSES: &str = "\
 Exit status:
   0  success
   1  FILE breaks a rule of the standard, printed as 'fault LAYER CODE at OFFSET: NAME';
-     or FILE has nothing that HEX names; or its canonical root has more than 2^30 bytes;
-     or FILE and OTHER differ
+     or FILE has nothing that HEX names, or nothing at OFFSET; or its canonical root has
+     more than 2^30 bytes; or FILE and OTHER differ
   2  usage error; FILE was not read
   3  I/O error, out of memory, or budget spent
-The status of 'clim check' for several files is the greatest of theirs.
+The status of 'clim check' and 'clim digest' for several files is the greatest of theirs.
 FILE may be '-', the standard input.";

@@ -10,18 +10,23 @@ pub struct Ask<'a> {
     pub bare: bool,
     /// The path of the file to read, the first of `files`. `explain` has none, and `check` may have none.
     pub file: Option<&'a str>,
-    /// The argument after the file: the token of `token`, the output path of `rewrite`, the other file of `compare`.
+    /// The argument after the file: the token of `token`, the offset of `where`, the output path of `rewrite`, the other
+    /// file of `compare`.
     pub second: Option<&'a str>,
     /// The largest number of signature blob bytes that `check` may check, if given.
     pub budget: Option<u64>,
-    /// The number of the fault to `explain`, as it was given.
-    pub code: Option<&'a str>,
-    /// The paths of all files to read, in the order given: several only for `check`.
+    /// What alone to print of the file: the table of `show`, as it was given.
+    pub part: Option<&'a str>,
+    /// The faults to `explain`, as they were given; all if there is none.
+    pub codes: Vec<&'a str>,
+    /// The paths of all files to read, in the order given: several only for `check` and `digest`.
     pub files: Vec<&'a str>,
     /// What `check` was given as the source of a list of files.
     pub files_from: Option<&'a str>,
     /// Whether `check` was given `-0`: the standard input is a list of files.
     pub null: bool,
+    /// Whether `check` was given `-q`: only the exit code says whether files break a rule.
+    pub quiet: bool,
 }
 
 /// The subcommands of the program.
@@ -31,21 +36,25 @@ pub enum Subcommand {
     Root,
     /// `check`: check the file against the rules of the standard.
     Check,
-    /// `show`: print each row of each table.
+    /// `show`: print each row of each table, or of one table.
     Show,
     /// `types`: print the types, with the number of their fields and methods.
     Types,
     /// `outline`: print the declarations of the assembly.
     Outline,
+    /// `strings`: print the user strings.
+    Strings,
     /// `token`: print the row or the user string that a token names.
     Token,
+    /// `where`: print what has the byte at an offset.
+    Where,
     /// `rewrite`: write the canonical metadata root of the file.
     Rewrite,
-    /// `digest`: print the SHA-256 digest of the canonical metadata root of the file.
+    /// `digest`: print the SHA-256 digest of the canonical metadata root of each file.
     Digest,
     /// `compare`: print what differs between the metadata of two files.
     Compare,
-    /// `explain`: explain a fault, or list all.
+    /// `explain`: explain faults, or list all.
     Explain,
 }
 
@@ -60,7 +69,9 @@ impl Subcommand {
             "show" => Some(Subcommand::Show),
             "types" => Some(Subcommand::Types),
             "outline" => Some(Subcommand::Outline),
+            "strings" => Some(Subcommand::Strings),
             "token" => Some(Subcommand::Token),
+            "where" => Some(Subcommand::Where),
             "rewrite" => Some(Subcommand::Rewrite),
             "digest" => Some(Subcommand::Digest),
             "compare" => Some(Subcommand::Compare),

@@ -13,8 +13,10 @@ pub(crate) mod digest_file;
 pub(crate) mod explain_fault;
 pub(crate) mod print_outline;
 pub(crate) mod print_root;
+pub(crate) mod print_strings;
 pub(crate) mod print_token;
 pub(crate) mod print_types;
+pub(crate) mod print_where;
 pub(crate) mod rewrite_file;
 pub(crate) mod show_tables;
 
@@ -67,4 +69,15 @@ fn second<'a>(alloc: Global, name: &'a str, help: &'a str) -> Arg<'a>
         .required(true)
         .action(ArgAction::Set)
         .help(help)
+}
+
+/// What alone to print of the file; help shows it with this name.
+fn part<'a>(alloc: Global, name: &'a str, about: &'a str) -> Arg<'a>
+    ensures rule { rule_of result ≡ line.part }
+    ensures local { result.global ≡ false }
+{
+    Arg::new(alloc, "part")
+        .value_name(name)
+        .action(ArgAction::Set)
+        .help(about)
 }

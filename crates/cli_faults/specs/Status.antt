@@ -3,18 +3,14 @@ use Rattle.std.specs.Prelude.{◌≡◌, ◌↔◌, ℕ, List}
 use Rattle.std.specs.declared.io.ErrorKind.{ErrorKind}
 use Rattle.std.specs.declared.io.ErrorKind.TheVariants as cause
 use Rattle.cli_faults.specs.declared.failure.Failure.{Failure}
-use Rattle.cli_faults.specs.declared.failure.Failure.TheVariants.{Fault, NoSuchRow, NoToken, NoCode, NoFile, FilesAndList, NoList, NotUtf8, CannotRead, CannotWriteOutput, CannotWriteFile, OutOfMemory}
+use Rattle.cli_faults.specs.declared.failure.Failure.TheVariants.{Fault, NoSuchRow, Usage, NotUtf8, CannotRead, CannotWriteOutput, CannotWriteFile, OutOfMemory}
 use Rattle.cli_faults.specs.FileErrors.{reason_of}
 
 -- the exit code of a failure
 abbrev pub status_of : Failure → ℕ
 status_of (Fault found) = 1
 status_of NoSuchRow = 1
-status_of (NoToken word) = 2
-status_of (NoCode word) = 2
-status_of NoFile = 2
-status_of FilesAndList = 2
-status_of (NoList word) = 2
+status_of (Usage usage_error) = 2
 status_of (NotUtf8 name) = 3
 status_of (CannotRead error) = 3
 status_of CannotWriteOutput = 3

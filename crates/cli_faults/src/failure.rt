@@ -3,10 +3,11 @@ ghost use Rattle.std.specs.Prelude.{◌≡◌, ◌↔◌, IfErr, IsOk, Some};
 ghost use Rattle.std.specs.IoError.{error_kind};
 ghost use Rattle.cli_faults.specs.Status.{IsOutput, ReportsKind};
 ghost use Rattle.cli_faults.specs.Texts.{failure_text};
-ghost use Rattle.cli_faults.specs.declared.failure.Failure.TheVariants.{Fault};
+ghost use Rattle.cli_faults.specs.declared.failure.Failure.TheVariants.{Fault, Usage};
 
 use crate::escaped::{Escaped, EscapedBytes};
 use crate::file_error::FileError;
+use crate::usage_error::UsageError;
 use packed::Fault;
 use std::io::ErrorKind;
 use std::{fmt, io};
@@ -20,16 +21,8 @@ pub enum Failure<'a> {
     Fault(Fault),
     /// The token names no row and no user string in the file.
     NoSuchRow,
-    /// The argument is not a token.
-    NoToken(&'a str),
-    /// The argument is not the number of a fault.
-    NoCode(&'a str),
-    /// `check` got no file, and no list of files.
-    NoFile,
-    /// `check` got both files and a list of files.
-    FilesAndList,
-    /// The argument is not where a list of files can come from.
-    NoList(&'a str),
+    /// An argument is wrong.
+    Usage(UsageError<'a>),
     /// A name in a list of files is not UTF-8, so that no file can be opened by it.
     NotUtf8(&'a [u8]),
     /// This file could not be opened or read to its end.
@@ -92,11 +85,7 @@ impl<'a> Failure<'a> {
     {
         match self {
             Failure::Fault(_) | Failure::NoSuchRow => 1,
-            Failure::NoToken(_)
-            | Failure::NoCode(_)
-            | Failure::NoFile
-            | Failure::FilesAndList
-            | Failure::NoList(_) => 2,
+            Failure::Usage(_) => 2,
             Failure::NotUtf8(_)
             | Failure::CannotRead(_)
             | Failure::CannotWriteOutput
@@ -130,6 +119,14 @@ impl From<Fault> for Failure<'_> {
     }
 }
 
+impl<'a> From<UsageError<'a>> for Failure<'a> {
+    ghost from_gives = { λ usage_error failure. failure ≡ Usage usage_error };
+
+    fn from(usage_error: UsageError<'a>) -> Self {
+        Failure::Usage(usage_error)
+    }
+}
+
 impl fmt::Display for Failure<'_> {
     ghost output = { λ failure. Some (failure_text failure) };
 
@@ -137,27 +134,7 @@ impl fmt::Display for Failure<'_> {
         match self {
             Failure::Fault(fault) => write!(f, "{fault}"),
             Failure::NoSuchRow => write!(f, "no such row"),
-            Failure::NoToken(word) => {
-                write!(
-                    f,
-                    "error: HEX is one to eight hexadecimal digits, not '{}'",
-                    Escaped(word)
-                )
-            }
-            Failure::NoCode(word) => {
-                write!(
-                    f,
-                    "error: CODE is the number of a fault, which 'clim explain' lists, not '{}'",
-                    Escaped(word)
-                )
-            }
-            Failure::NoFile => write!(f, "error: FILE is missing, and so is '--files-from -'"),
-            Failure::FilesAndList => write!(f, "error: '--files-from' and FILE exclude each other"),
-            Failure::NoList(word) => write!(
-                f,
-                "error: '--files-from' takes '-', the standard input, not '{}'",
-                Escaped(word)
-            ),
+            Failure::Usage(usage_error) => write!(f, "{usage_error}"),
             Failure::NotUtf8(name) => write!(
                 f,
                 "error: cannot read {}\n  reason: its name is not UTF-8",

@@ -27,6 +27,7 @@ mod other_faults;
 mod stop;
 mod stream_faults;
 mod table_faults;
+mod usage_error;
 
 pub use escaped::{Escaped, EscapedBytes, EscapedUnit};
 pub use explained::{Explanation, explain};
@@ -36,3 +37,4 @@ pub use file_error::{FileError, Reason};
 pub use numbered::{all_codes, code_of_number};
 pub use packed::FaultCode;
 pub use stop::Stop;
+pub use usage_error::UsageError;

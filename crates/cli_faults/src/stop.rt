@@ -15,20 +15,23 @@ pub enum Stop<'a> {
     BudgetSpent,
     /// Two files that were compared differ. What differs was printed.
     Different,
+    /// The file has nothing at an offset. That was printed.
+    Nothing,
 }
 
 impl Stop<'_> {
     ghost use Rattle.std.specs.Prelude.{◌≡◌};
     ghost use Rattle.cli_faults.specs.Stops.{status_of_stop};
 
-    /// The exit code of the process: that of the failure, 3 if the budget was spent, or 1 if the files differ.
+    /// The exit code of the process: that of the failure; 3 if the budget was spent; 1 if the files differ, or if nothing
+    /// is at the offset.
     pub fn status(&self) -> u8
         ensures { result ≡ status_of_stop self.now }
     {
         match self {
             Stop::Failed(failure) => failure.status(),
             Stop::BudgetSpent => 3,
-            Stop::Different => 1,
+            Stop::Different | Stop::Nothing => 1,
         }
     }
 }
@@ -49,6 +52,7 @@ impl fmt::Display for Stop<'_> {
             Stop::Failed(failure) => write!(f, "{failure}"),
             Stop::BudgetSpent => f.write_str("error: budget spent"),
             Stop::Different => f.write_str("the files differ"),
+            Stop::Nothing => f.write_str("nothing is at the offset"),
         }
     }
 }

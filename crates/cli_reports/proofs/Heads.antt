@@ -18,7 +18,7 @@ use Rattle.root.specs.Root.{IsRoot}
 use Rattle.root.specs.Streams.{Header, RootRead}
 use Rattle.metadata.specs.Streams.{root_in}
 use Rattle.opening.specs.Heads.{rules_of_heads as rules_of_file_heads}
-use Rattle.cli_reports.specs.Heads.{AreHeads, rules_of_heads}
+use Rattle.cli_reports.specs.Heads.{AreHeads, SameHeads, rules_of_heads}
 use Rattle.cli_reports.specs.HeadTexts.{header_text, heads_text, stream_text, version_text}
 
 pub bare_fails : (bare : Bool) (file : List ℕ) (found : Fault) → bare ≡ true → FirstBroken (rules_of_root file) found → FirstBroken (rules_of_heads bare file) found
@@ -74,30 +74,30 @@ heads_stand false file header root is all header_is root_is images headers roots
     let Q : CliHeader → Type 0 = λ h. IsCliHeader (image_of file) h in
     (image_of file, header, images (image_holds file all), subst Q (sym header_is) (headers (header_holds file all)), refl, subst P (sym root_is) stands)
 
-same_texts : (header other : Option CliHeader) (root more : RootRead) → header ≡ other → root.version ≡ more.version → root.headers ≡ more.headers
+pub same_texts : (header other : Option CliHeader) (root more : RootRead) → header ≡ other → root.version ≡ more.version → root.headers ≡ more.headers
     → heads_text header root ≡ heads_text other more
 same_texts header other root more same version headers = λ i. header_text (same i) ++ version_text (version i) ++ flat_map stream_text (headers i)
 
--- a bare root has one text
-pub bare_text : (bare : Bool) (bytes : List ℕ) (root : RootRead) → bare ≡ true
+-- a bare root has no CLI header, and one version and one list of stream headers
+pub bare_one : (bare : Bool) (bytes : List ℕ) (root : RootRead) → bare ≡ true
     → ((version : List ℕ) (headers : List Header) → IsRoot bytes version headers → (root.version ≡ version) × (root.headers ≡ headers))
-    → (header : Option CliHeader) (more : RootRead) → AreHeads bare bytes header more → heads_text None root ≡ heads_text header more
-bare_text true bytes root is one header more are =
+    → (header : Option CliHeader) (more : RootRead) → AreHeads bare bytes header more → SameHeads None root header more
+bare_one true bytes root is one header more are =
     let same = one more.version more.headers are.1 in
-    same_texts None header root more (sym are.0) same.0 same.1
-bare_text false bytes root is one header more are = cc
+    (sym are.0, same.0, same.1)
+bare_one false bytes root is one header more are = cc
 
--- a file has one text
-pub file_text : (bare : Bool) (file : List ℕ) (header : CliHeader) (root : RootRead) → bare ≡ false → header ≡ header_of (image_of file)
+-- a file has one CLI header, one version and one list of stream headers
+pub file_one : (bare : Bool) (file : List ℕ) (header : CliHeader) (root : RootRead) → bare ≡ false → header ≡ header_of (image_of file)
     → root ≡ root_read (root_in file header) → length (root_in file header) ≤ byte_limit
     → ((image : Image) → IsImage file image → image ≡ image_of file)
     → ((image : Image) (found : CliHeader) → IsCliHeader image found → found ≡ header_of image)
     → ((version : List ℕ) (headers : List Header) → length (root_in file header) ≤ byte_limit → IsRoot (root_in file header) version headers
     → root_read (root_in file header) ≡ record { bytes = root_in file header; version = version; headers = headers })
-    → (other : Option CliHeader) (more : RootRead) → AreHeads bare file other more → heads_text (Some header) root ≡ heads_text other more
-file_text true file header root is header_is root_is small images headers roots other more are = cc
-file_text false file header root is header_is root_is small images headers roots other more are =
+    → (other : Option CliHeader) (more : RootRead) → AreHeads bare file other more → SameHeads (Some header) root other more
+file_one true file header root is header_is root_is small images headers roots other more are = cc
+file_one false file header root is header_is root_is small images headers roots other more are =
     let P : CliHeader → Type 0 = λ h. IsRoot (root_in file h) more.version more.headers in
     let same : are.1 ≡ header = headers are.0 are.1 are.3 ∙ ap header_of (images are.0 are.2) ∙ sym header_is in
     let read = root_is ∙ roots more.version more.headers small (subst P same are.5) in
-    same_texts (Some header) other root more (ap (λ h. Some h) (sym same) ∙ sym are.4) (ap (λ r. r.version) read) (ap (λ r. r.headers) read)
+    (ap (λ h. Some h) (sym same) ∙ sym are.4, ap (λ r. r.version) read, ap (λ r. r.headers) read)

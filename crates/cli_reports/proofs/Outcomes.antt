@@ -3,7 +3,7 @@ use Rattle.std.proofs.Common.{List, Result, Ok, Err, IsOk, refl}
 use Rattle.packed.specs.declared.fault.Fault.{Fault as First}
 use Rattle.packed.specs.Rule.{Rule}
 use Rattle.cli_faults.specs.declared.failure.Failure.{Failure}
-use Rattle.cli_faults.specs.declared.failure.Failure.TheVariants.{Fault, NoSuchRow, NoToken, NoCode, NoFile, FilesAndList, NoList, NotUtf8, CannotRead, CannotWriteFile, CannotWriteOutput, OutOfMemory}
+use Rattle.cli_faults.specs.declared.failure.Failure.TheVariants.{Fault, NoSuchRow, Usage, NotUtf8, CannotRead, CannotWriteFile, CannotWriteOutput, OutOfMemory}
 use Rattle.cli_faults.specs.Status.{IsOutput}
 use Rattle.cli_reports.specs.Reported.{ReportsFault}
 
@@ -15,11 +15,7 @@ ok_unless_not (Err e) h = absurd (h (λ is. cc))
 pub reports_output : {met : Type 0} (rules : List (Rule First)) (failure : Failure) → IsOutput failure → met → ReportsFault met rules failure
 reports_output rules (Fault found) is met = absurd is
 reports_output rules NoSuchRow is met = (is, met)
-reports_output rules (NoToken word) is met = (is, met)
-reports_output rules (NoCode word) is met = (is, met)
-reports_output rules NoFile is met = (is, met)
-reports_output rules FilesAndList is met = (is, met)
-reports_output rules (NoList word) is met = (is, met)
+reports_output rules (Usage usage_error) is met = (is, met)
 reports_output rules (NotUtf8 name) is met = (is, met)
 reports_output rules (CannotRead file) is met = (is, met)
 reports_output rules (CannotWriteFile file) is met = (is, met)

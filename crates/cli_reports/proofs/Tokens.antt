@@ -8,7 +8,7 @@ use Rattle.table_schema.specs.Tokens.{IsToken}
 use Rattle.metadata.specs.Metadata.{Metadata, row_of}
 use Rattle.opening.specs.Views.{row_count, user_of}
 use Rattle.cli_faults.specs.declared.failure.Failure.{Failure}
-use Rattle.cli_faults.specs.declared.failure.Failure.TheVariants.{Fault, NoSuchRow, NoToken, NoCode, NoFile, FilesAndList, NoList, NotUtf8, CannotRead, CannotWriteFile, CannotWriteOutput, OutOfMemory}
+use Rattle.cli_faults.specs.declared.failure.Failure.TheVariants.{Fault, NoSuchRow, Usage, NotUtf8, CannotRead, CannotWriteFile, CannotWriteOutput, OutOfMemory}
 use Rattle.cli_reports.specs.declared.report.Report.TheVariants as report
 use Rattle.cli_reports.specs.Checked.{IsOpened, IsWhole}
 use Rattle.cli_faults.specs.Status.{IsOutput}
@@ -23,11 +23,7 @@ module _ (root : List ℕ) (number : ℕ) where
   string_reported : (failure : Failure) → number / 16777216 ≡ 112 → ReportsNoString root (number % 16777216) failure → ReportsUnnamed root number failure
   string_reported (Fault found) is reported = reported
   string_reported NoSuchRow is reported = λ named. elim named [ inl at ↦ reported at.1 | inr at ↦ at.0 is ]
-  string_reported (NoToken word) is reported = reported
-  string_reported (NoCode word) is reported = reported
-  string_reported NoFile is reported = reported
-  string_reported FilesAndList is reported = reported
-  string_reported (NoList word) is reported = reported
+  string_reported (Usage usage_error) is reported = reported
   string_reported (NotUtf8 name) is reported = reported
   string_reported (CannotRead file) is reported = reported
   string_reported (CannotWriteFile file) is reported = reported
@@ -37,11 +33,7 @@ module _ (root : List ℕ) (number : ℕ) where
   output_reported : (failure : Failure) → IsOutput failure → ReportsUnnamed root number failure
   output_reported (Fault found) reported = reported
   output_reported NoSuchRow reported = absurd reported
-  output_reported (NoToken word) reported = reported
-  output_reported (NoCode word) reported = reported
-  output_reported NoFile reported = reported
-  output_reported FilesAndList reported = reported
-  output_reported (NoList word) reported = reported
+  output_reported (Usage usage_error) reported = reported
   output_reported (NotUtf8 name) reported = reported
   output_reported (CannotRead file) reported = reported
   output_reported (CannotWriteFile file) reported = reported
@@ -72,11 +64,7 @@ module _ (root : List ℕ) (number : ℕ) where
       → ReportsNone bare bytes number failure
   unnamed_in bare bytes opened whole (Fault found) reported = absurd reported
   unnamed_in bare bytes opened whole NoSuchRow reported = (root, opened, reported)
-  unnamed_in bare bytes opened whole (NoToken word) reported = (reported, whole)
-  unnamed_in bare bytes opened whole (NoCode word) reported = (reported, whole)
-  unnamed_in bare bytes opened whole NoFile reported = (reported, whole)
-  unnamed_in bare bytes opened whole FilesAndList reported = (reported, whole)
-  unnamed_in bare bytes opened whole (NoList word) reported = (reported, whole)
+  unnamed_in bare bytes opened whole (Usage usage_error) reported = (reported, whole)
   unnamed_in bare bytes opened whole (NotUtf8 name) reported = (reported, whole)
   unnamed_in bare bytes opened whole (CannotRead file) reported = (reported, whole)
   unnamed_in bare bytes opened whole (CannotWriteFile file) reported = (reported, whole)

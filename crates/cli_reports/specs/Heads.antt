@@ -20,6 +20,10 @@ AreHeads false bytes header root =
     (image : Image) × (found : CliHeader) × IsImage bytes image × IsCliHeader image found × (header ≡ Some found)
     × IsRoot (root_in bytes found) root.version root.headers
 
+-- the same CLI header, version and stream headers
+abbrev pub SameHeads : Option CliHeader → RootRead → Option CliHeader → RootRead → Type 0
+SameHeads header root other more = (header ≡ other) × (root.version ≡ more.version) × (root.headers ≡ more.headers)
+
 abbrev pub HasHeads : Bool → List ℕ → Type 0
 HasHeads bare bytes = (header : Option CliHeader) × (root : RootRead) × AreHeads bare bytes header root
 

@@ -11,5 +11,4 @@ pub mod Values
 pub mod Reported
 pub mod Printed
 pub mod Stops
-pub mod Digests
 pub mod Comparisons

@@ -8,7 +8,7 @@ use Rattle.cli_reports.specs.declared.report.Report.{Report}
 use Rattle.cli_reports.specs.declared.report.Report.TheVariants as report
 use Rattle.cli_reports.specs.Heads.{AreHeads}
 use Rattle.cli_reports.specs.HeadTexts.{heads_text}
-use Rattle.cli_reports.specs.RowTexts.{line_feed, show_text}
+use Rattle.cli_reports.specs.RowTexts.{line_feed, show_text, table_text}
 use Rattle.cli_reports.specs.TokenTexts.{IsTokenText}
 use Rattle.cli_reports.specs.TypeTexts.{types_text}
 
@@ -26,5 +26,6 @@ abbrev pub IsReportText : Report → Bool → List ℕ → List ℕ → Type 0
 IsReportText report.Root bare bytes text = (header : Option CliHeader) × (root : RootRead) × AreHeads bare bytes header root × (text ≡ heads_text header root)
 IsReportText report.Check bare bytes text = text ≡ check_text
 IsReportText report.Show bare bytes text = (model : Metadata) × IsModelOf bare bytes model × (text ≡ show_text model)
+IsReportText (report.Table table) bare bytes text = (model : Metadata) × IsModelOf bare bytes model × (text ≡ table_text model table)
 IsReportText report.Types bare bytes text = (model : Metadata) × IsModelOf bare bytes model × (text ≡ types_text model)
 IsReportText (report.Token number) bare bytes text = (model : Metadata) × IsModelOf bare bytes model × IsTokenText model number text

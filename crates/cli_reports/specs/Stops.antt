@@ -4,7 +4,7 @@ use Rattle.packed.specs.declared.fault.Fault.{Fault}
 use Rattle.packed.specs.Rule.{Rule}
 use Rattle.opening.specs.Within.{HoldBeforeSignatures}
 use Rattle.cli_faults.specs.declared.stop.Stop.{Stop}
-use Rattle.cli_faults.specs.declared.stop.Stop.TheVariants.{Failed, BudgetSpent, Different}
+use Rattle.cli_faults.specs.declared.stop.Stop.TheVariants.{Failed, BudgetSpent, Different, Nothing}
 use Rattle.cli_reports.specs.Reported.{ReportsFault, LeavesOutput}
 
 -- a failure is as without a budget; if the budget is spent, it is less than the number of signature bytes, and all
@@ -13,9 +13,11 @@ abbrev pub StopsWithin : ℕ → ℕ → Type 0 → List (Rule Fault) → Stop �
 StopsWithin budget bytes met rules (Failed failure) = ReportsFault met rules failure
 StopsWithin budget bytes met rules BudgetSpent = (budget < bytes) × HoldBeforeSignatures rules
 StopsWithin budget bytes met rules Different = ⊥
+StopsWithin budget bytes met rules Nothing = ⊥
 
 -- nothing was printed, unless writing the output failed or memory ran out
 abbrev pub StopLeavesOutput : {W : Type 0} → W → W → Stop → Type 0
 StopLeavesOutput before behind (Failed failure) = LeavesOutput before behind failure
 StopLeavesOutput before behind BudgetSpent = behind ≡ before
 StopLeavesOutput before behind Different = ⊥
+StopLeavesOutput before behind Nothing = ⊥

@@ -172,7 +172,7 @@ fn push_table(table: TableId, line: &mut Vec<u8>) -> Result<(), AllocError>
 }
 
 /// The name of a cell's column (II.22).
-fn column_name(table: TableId, cell_index: usize) -> &'static str
+pub fn column_name(table: TableId, cell_index: usize) -> &'static str
     requires { cell_index < cell_count table }
     ensures { result.now ≡ column_name table cell_index }
 {

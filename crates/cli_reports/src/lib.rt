@@ -1,5 +1,5 @@
 //! Prints what `clim` reports about a file: its headers, whether it breaks a rule, its rows, its types, and what a
-//! token names. It also prints what differs between two files, and a digest.
+//! token names. It also prints what differs between two files.
 //!
 //! [`print_report`] opens the bytes in place and prints a [`Report`] on them. Its contract says what is true of the
 //! bytes if it prints, and what it reports otherwise. It also says each byte that is printed. Rows, types and user strings
@@ -13,7 +13,6 @@
 
 mod check_file;
 mod compare_lines;
-mod digest_line;
 mod existing;
 mod line;
 mod opened;
@@ -23,14 +22,17 @@ mod report;
 mod row_lines;
 mod sending;
 mod table_lines;
-mod type_lines;
+pub mod type_lines;
 mod user_string_line;
 
 pub use check_file::check_within;
-pub use compare_lines::print_comparison;
-pub use digest_line::print_digest;
-pub use line::{push_decimal, push_escaped, push_hexadecimal};
+pub use compare_lines::{column_name, print_comparison};
+pub use existing::existing_row;
+pub use line::{push_decimal, push_escaped, push_hexadecimal, push_upper_hexadecimal, push_word};
 pub use opened::{open, open_within};
+pub use print_root::heads_of;
+pub use print_token::padded_copy;
 pub use report::{Report, print_report};
-pub use row_lines::push_token;
+pub use row_lines::{push_token, shortest};
 pub use sending::{FULL, finish, send_full};
+pub use user_string_line::print_units;

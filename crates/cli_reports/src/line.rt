@@ -9,9 +9,7 @@ use itoa::Buffer;
 use std::alloc::AllocError;
 
 /// Appends a number in decimal.
-///
 /// # Errors
-///
 /// Out of memory.
 pub fn push_decimal(number: u64, line: &mut Vec<u8>) -> Result<(), AllocError>
     ensures { OnOk result (line.new.items ≡ line.old.items ++ decimal number) }
@@ -29,7 +27,9 @@ pub(crate) fn push_spaced(number: u64, line: &mut Vec<u8>) -> Result<(), AllocEr
 }
 
 /// Appends a number in two hexadecimal digits, in upper case.
-pub(crate) fn push_upper_hexadecimal(number: u8, line: &mut Vec<u8>) -> Result<(), AllocError>
+/// # Errors
+/// Out of memory.
+pub fn push_upper_hexadecimal(number: u8, line: &mut Vec<u8>) -> Result<(), AllocError>
     ensures { OnOk result (line.new.items ≡ line.old.items ++ upper_hexadecimal number) }
 {
     line.push(upper_digit(number / 16))?;
@@ -61,9 +61,7 @@ fn digit(number: u8) -> u8
 }
 
 /// Appends two hexadecimal digits for each byte.
-///
 /// # Errors
-///
 /// Out of memory.
 pub fn push_hexadecimal(bytes: &[u8], line: &mut Vec<u8>) -> Result<(), AllocError>
     ensures { OnOk result (line.new.items ≡ line.old.items ++ escaped_bytes bytes.now) }
@@ -91,9 +89,7 @@ fn are_plain(text: &[u8]) -> bool
 }
 
 /// Appends a text: plain bytes as they are, and any other byte as `\x` and two hexadecimal digits.
-///
 /// # Errors
-///
 /// Out of memory.
 pub fn push_escaped(text: &[u8], line: &mut Vec<u8>) -> Result<(), AllocError>
     ensures { OnOk result (line.new.items ≡ line.old.items ++ escaped_text text.now) }
@@ -119,7 +115,9 @@ fn push_byte(byte: u8, line: &mut Vec<u8>) -> Result<(), AllocError>
 }
 
 /// Appends the eight hexadecimal digits of a number.
-pub(crate) fn push_word(number: u32, line: &mut Vec<u8>) -> Result<(), AllocError>
+/// # Errors
+/// Out of memory.
+pub fn push_word(number: u32, line: &mut Vec<u8>) -> Result<(), AllocError>
     ensures { OnOk result (line.new.items ≡ line.old.items ++ hexadecimal 8 number) }
 {
     let bytes = [

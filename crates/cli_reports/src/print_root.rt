@@ -1,7 +1,7 @@
 //! `clim root`: the CLI header of a PE file, and the version and the stream headers of its metadata root.
 ghost use Rattle.std.specs.Prelude.{◌≡◌, ◌++◌, IfOk, IfErr, OnOk, Option, flat_map};
 ghost use Rattle.cli_header.specs.declared.header.CliHeader.{CliHeader as Header};
-ghost use Rattle.cli_reports.specs.Heads.{AreHeads, HasHeads, rules_of_heads};
+ghost use Rattle.cli_reports.specs.Heads.{AreHeads, HasHeads, SameHeads, rules_of_heads};
 ghost use Rattle.cli_reports.specs.HeadTexts.{cli_text, header_text, heads_text, stream_text, version_text};
 ghost use Rattle.cli_reports.specs.Reported.{LeavesOutput, ReportsFault};
 ghost use Rattle.cli_reports.specs.Sent.{Moves, Prints};
@@ -38,10 +38,12 @@ pub(crate) fn run<W: Write>(
 }
 
 /// The CLI header, which a bare root does not have, and the metadata root.
-fn heads_of(bytes: &[u8], bare: bool) -> Result<(Option<CliHeader>, Root<'_>), Fault>
+/// # Errors
+/// The fault of the first rule that fails.
+pub fn heads_of(bytes: &[u8], bare: bool) -> Result<(Option<CliHeader>, Root<'_>), Fault>
     ensures sound { IfOk result (λ heads. AreHeads bare bytes.now heads.0 heads.1) }
-    ensures text { IfOk result (λ heads. (header : Option Header) (root : RootRead) → AreHeads bare bytes.now header root
-        → heads_text heads.0 heads.1 ≡ heads_text header root) }
+    ensures one { IfOk result (λ heads. (header : Option Header) (root : RootRead) → AreHeads bare bytes.now header root
+        → SameHeads heads.0 heads.1 header root) }
     ensures first_error { IfErr result (FirstBroken (rules_of_heads bare bytes.now)) }
 {
     if bare {

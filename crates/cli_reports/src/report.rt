@@ -6,6 +6,7 @@ ghost use Rattle.cli_reports.specs.Sent.{Prints};
 
 use crate::{check_file, print_root, print_token, table_lines, type_lines};
 use cli_faults::Failure;
+use opening::TableId;
 use std::alloc::Global;
 use std::io::Write;
 
@@ -18,6 +19,8 @@ pub enum Report {
     Check,
     /// The rows of all tables (II.22).
     Show,
+    /// The rows of a table.
+    Table(TableId),
     /// The types, one per line (II.22.37).
     Types,
     /// The row or the user string that this token names.
@@ -51,6 +54,7 @@ pub fn print_report<W: Write>(
         Report::Root => print_root::run(alloc, bytes, bare, out),
         Report::Check => check_file::run(bytes, bare, out),
         Report::Show => table_lines::run(alloc, bytes, bare, out),
+        Report::Table(table) => table_lines::run_table(alloc, bytes, bare, table, out),
         Report::Types => type_lines::run(alloc, bytes, bare, out),
         Report::Token(number) => print_token::run(alloc, bytes, bare, number, out),
     }

@@ -28,8 +28,10 @@ fn kind_of(table: TableId, cell_index: usize) -> ColumnKind
     columns(table)[column_of_cell(table, cell_index)].kind
 }
 
-/// The canonical encoding of the signature in a blob (II.23.2). Fails only if out of memory.
-fn shortest(alloc: Global, kind: SigKind, blob: &[u8]) -> Result<Vec<u8>, AllocError>
+/// The canonical encoding of the signature in a blob (II.23.2).
+/// # Errors
+/// Out of memory.
+pub fn shortest(alloc: Global, kind: SigKind, blob: &[u8]) -> Result<Vec<u8>, AllocError>
     requires { ¬ (¬ ((signature : Body) × Encodes kind signature blob.now)) }
     ensures { IfOk result (λ bytes. (signature : Body) → Encodes kind signature blob.now → bytes.items ≡ short signature) }
 {
@@ -102,9 +104,7 @@ fn push_reference(token: Option<Token>, line: &mut Vec<u8>) -> Result<(), AllocE
 }
 
 /// Appends the eight hexadecimal digits of a token.
-///
 /// # Errors
-///
 /// Out of memory.
 pub fn push_token(token: Token, line: &mut Vec<u8>) -> Result<(), AllocError>
     requires { token.row ≤ 0xFFFFFF }

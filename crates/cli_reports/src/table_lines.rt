@@ -35,6 +35,38 @@ pub(crate) fn run<W: Write>(
     printed(print_tables(alloc, &view, out))
 }
 
+/// Prints a table, unless it has no rows.
+pub(crate) fn run_table<W: Write>(
+    alloc: Global,
+    bytes: &[u8],
+    bare: bool,
+    table: TableId,
+    out: &mut W,
+) -> Result<(), Failure<'static>>
+    ensures sound { OnOk result (IsWhole bare bytes.now) }
+    ensures first_error { IfErr result (ReportsFault (IsWhole bare bytes.now) (rules_of bare bytes.now)) }
+    ensures untouched { IfErr result (LeavesOutput out.old out.new) }
+    ensures printed { (model : Metadata) → IsModelOf bare bytes.now model
+        → Prints (W.contents out.old) (W.contents out.new) result (table_text model table) }
+{
+    let view = open(bytes, bare)?;
+    printed(print_one(alloc, &view, table, out))
+}
+
+/// Prints the lines of a table.
+fn print_one<W: Write>(
+    alloc: Global,
+    view: &View<'_>,
+    table: TableId,
+    out: &mut W,
+) -> io::Result<()>
+    ensures { (model : Metadata) → IsModel view.now model → Prints (W.contents out.old) (W.contents out.new) result (table_text model table) }
+{
+    let mut lines = Vec::with_capacity(alloc, FULL)?;
+    print_table(alloc, view, table, &mut lines, out)?;
+    finish(&lines, out)
+}
+
 /// Prints each table that has rows, lowest number first: the line `table NN NAME COUNT`, where NN is the table's number
 /// in two upper-case hexadecimal digits (II.22), and then the line of each row, as [`push_row`] makes it.
 /// Its memory is that of the longest line, and of the lines that wait to be sent.

@@ -23,10 +23,10 @@ use std::io::{self, Write};
 use std::ops::Range;
 
 /// The index of the cell with a type's name (II.22.37).
-const NAME: usize = 1;
+pub const NAME: usize = 1;
 
 /// The index of the cell with its namespace.
-const NAMESPACE: usize = 2;
+pub const NAMESPACE: usize = 2;
 
 /// Prints a line for each type.
 pub(crate) fn run<W: Write>(
@@ -124,7 +124,7 @@ fn push_count(rows: Range<u32>, line: &mut Vec<u8>) -> Result<(), AllocError>
 
 /// The name of a type, which is its cell 1, or its namespace, which is its cell 2 (II.22.37).
 #[tactic(auto, unfolding(table_schema::specs::CellColumns::cell_columns))]
-fn text_of<'a>(view: &View<'a>, row: u32, cell_index: usize) -> &'a str
+pub fn text_of<'a>(view: &View<'a>, row: u32, cell_index: usize) -> &'a str
     requires model { HasModel view.now }
     requires first { 1 ≤ row }
     requires last { row ≤ row_count view.now TypeDef }

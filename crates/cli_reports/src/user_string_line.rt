@@ -49,8 +49,8 @@ fn print_flagged<W: Write>(
     Ok(())
 }
 
-/// Prints units, each escaped if needed.
-fn print_units<W: Write>(units: Units<'_>, line: &mut Vec<u8>, out: &mut W) -> io::Result<()>
+/// Prints units, each escaped if needed. An error is out of memory or that of the writer.
+pub fn print_units<W: Write>(units: Units<'_>, line: &mut Vec<u8>, out: &mut W) -> io::Result<()>
     ensures { Moves (W.contents out.old) (W.contents out.new) result (line.old.items ++ flat_map escaped_unit units.entry) line.new.items }
 {
     for unit in units {

@@ -20,7 +20,8 @@ pub(crate) fn command<'a>(alloc: Global) -> Result<Command<'a>, AllocError>
         .arg(bare(alloc))?
         .arg(budget(alloc))?
         .arg(files_from(alloc))?
-        .arg(null(alloc))
+        .arg(null(alloc))?
+        .arg(quiet(alloc))
 }
 
 /// `FILE..`, the paths of the files to read; none if they are listed.
@@ -70,6 +71,18 @@ fn budget<'a>(alloc: Global) -> Arg<'a>
         .help("Check at most N bytes of signatures, or stop with exit status 3")
 }
 
+/// `-q` or `--quiet`, the flag to print nothing about faults.
+fn quiet<'a>(alloc: Global) -> Arg<'a>
+    ensures rule { rule_of result ≡ line.quiet }
+    ensures local { result.global ≡ false }
+{
+    Arg::new(alloc, "quiet")
+        .short('q')
+        .long("quiet")
+        .action(ArgAction::SetTrue)
+        .help("Print nothing about faults; only the exit status reports them")
+}
+
 const OUTPUT: &str = "\
 Prints 'ok' if FILE breaks no rule. Otherwise prints only the first fault, to standard error. The rules are
 those that 'clim explain' lists from 101 to 801, except 508 to 510. OFFSET is an offset in FILE. LAYER is one
@@ -91,6 +104,9 @@ For several FILEs, or if their names are read from standard input, there is one 
 given: 'FILE: ok' or 'FILE: fault LAYER CODE at OFFSET: NAME'. Each has its own budget. A FILE that cannot be
 read or checked is reported to standard error, and the next one follows. The exit status is the greatest.
 'find . -name '*.dll' -print0 | clim check -0' checks all assemblies of a folder.
+
+With '--quiet' there are no such lines and no faults. The exit status is the same. A FILE that cannot be read or
+checked is still reported to standard error.
 
 Examples:
   $ clim check one_module.dll

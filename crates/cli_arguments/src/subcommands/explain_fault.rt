@@ -13,28 +13,29 @@ pub(crate) fn command<'a>(alloc: Global) -> Result<Command<'a>, AllocError>
     ensures local { IfOk result (λ command. (fields_of command).has_globals ≡ false) }
 {
     Command::new(alloc, "explain")
-        .about("Explain a fault, or list all faults")
+        .about("Explain faults, or list all")
         .after_help(OUTPUT)
-        .arg(code(alloc))
+        .arg(codes(alloc))
 }
 
-/// `CODE`, the number of the fault; optional.
-fn code<'a>(alloc: Global) -> Arg<'a>
-    ensures rule { rule_of result ≡ line.code }
+/// `CODE..`, the numbers or names of the faults; optional.
+fn codes<'a>(alloc: Global) -> Arg<'a>
+    ensures rule { rule_of result ≡ line.fault_codes }
     ensures local { result.global ≡ false }
 {
     Arg::new(alloc, "CODE")
-        .action(ArgAction::Set)
-        .help("The number of the fault; without it, list all faults")
+        .num_args(1..)
+        .action(ArgAction::Append)
+        .help("The number or the name of a fault; without it, list all faults")
 }
 
 const OUTPUT: &str = "\
 The first line has the number of the fault, its name and what is wrong. The items after it are the rule,
-the section of ECMA-335, what OFFSET points to, and the usual cause if it is known. Without CODE there is
-one line for each fault.
+the section of ECMA-335, what OFFSET points to, and the usual cause if it is known. An empty line is between two
+faults. Without CODE there is one line for each fault.
 
 Examples:
-  $ clim explain 504
+  $ clim explain BadGuid
   504 BadGuid: no GUID at an index into '#GUID'
 
   - Rule: An index into '#GUID' is 0 for null, or the number of a 16-byte entry within the heap,

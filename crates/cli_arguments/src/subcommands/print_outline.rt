@@ -24,9 +24,10 @@ pub(crate) fn command<'a>(alloc: Global) -> Result<Command<'a>, AllocError>
 const OUTPUT: &str = "\
 There is a line for each declaration, in the notation of ILAsm (ECMA-335, II.5 to II.22). It ends with the token of its
 row in a comment. First come the assembly, what it refers to, the module, files, resources and exported types; then the
-types in the order of their rows, each with its fields and methods; then interfaces, generic parameters and their
-constraints, overrides, accessors, imports and custom attributes, table by table. Texts of FILE are escaped like the
-texts of 'clim show'. FILE is checked first, as by 'clim check'.
+types in the order of their rows, each with its fields, methods, events and properties, and accessors below these; then
+interfaces, generic parameters and their constraints, overrides, imports and custom attributes, table by table. Events,
+properties or accessors that are not in the order of what they belong to come after the types. Texts of FILE are
+escaped like the texts of 'clim show'. FILE is checked first, as by 'clim check'.
 
 Examples:
   $ clim outline --bare two_types.root

@@ -1,10 +1,10 @@
-//! `clim show`: the rows of all tables.
+//! `clim show`: the rows of all tables, or of one.
 ghost use Rattle.std.specs.Prelude.{◌≡◌, IfOk, false};
 ghost use Rattle.clap.specs.Words.{app_of};
 ghost use Rattle.clap.specs.declared.Command.TheViews.{out-Command as fields_of};
 ghost use Rattle.cli_arguments.specs.CommandLine as line;
 
-use crate::subcommands::reader;
+use crate::subcommands::{part, reader};
 use clap::Command;
 use std::alloc::{AllocError, Global};
 
@@ -13,7 +13,17 @@ pub(crate) fn command<'a>(alloc: Global) -> Result<Command<'a>, AllocError>
     ensures app { IfOk result (λ command. app_of command ≡ line.show) }
     ensures local { IfOk result (λ command. (fields_of command).has_globals ≡ false) }
 {
-    reader(alloc, "show", "Print the rows of all tables", OUTPUT)
+    reader(
+        alloc,
+        "show",
+        "Print the rows of all tables, or of one",
+        OUTPUT,
+    )?
+    .arg(part(
+        alloc,
+        "TABLE",
+        "The table to print alone, by its name or number",
+    ))
 }
 
 const OUTPUT: &str = "\
@@ -28,7 +38,22 @@ table in hexadecimal. Then there is a line for each row: its number and its cell
   a decimal number, or the token of a row in eight hexadecimal digits
 FILE is checked first, as by 'clim check'.
 
+TABLE is the name or the number of a table. Then there is nothing if it has no rows. The tables are:
+  00 Module          01 TypeRef         02 TypeDef         04 Field           06 MethodDef
+  08 Param           09 InterfaceImpl   0A MemberRef       0B Constant        0C CustomAttribute
+  0D FieldMarshal    0E DeclSecurity    0F ClassLayout     10 FieldLayout     11 StandAloneSig
+  12 EventMap        14 Event           15 PropertyMap     17 Property        18 MethodSemantics
+  19 MethodImpl      1A ModuleRef       1B TypeSpec        1C ImplMap         1D FieldRVA
+  20 Assembly        21 AssemblyProcessor                  22 AssemblyOS      23 AssemblyRef
+  24 AssemblyRefProcessor               25 AssemblyRefOS   26 File            27 ExportedType
+  28 ManifestResource                   29 NestedClass     2A GenericParam    2B MethodSpec
+  2C GenericParamConstraint
+
 Examples:
   $ clim show --bare one_module.root
   table 00 Module 1
-  1: 0 \"a.dll\" {03020100-0504-0706-0809-0a0b0c0d0e0f} null null";
+  1: 0 \"a.dll\" {03020100-0504-0706-0809-0a0b0c0d0e0f} null null
+  $ clim show --bare two_types.root Field
+  table 04 Field 2
+  1: 1 \"a\" <0608>
+  2: 1 \"b\" <0608>";

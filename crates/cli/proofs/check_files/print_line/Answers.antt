@@ -1,7 +1,7 @@
 use Rattle.std.proofs.Common.{◌∙◌, ℕ, List, subst}
 use Rattle.cli_reports.specs.Sent.{Prints}
-use Rattle.cli.specs.Several.{line_text}
-use Rattle.cli.proofs.Checks.{cut_sent}
+use Rattle.cli.specs.Checks.{line_text}
+use Rattle.cli.proofs.SeveralLemmas.{cut_sent}
 use Rattle.cli.proofs.check_files.print_line.Goals as goal
 
 pub returns-in_err-printed-clause-cut : goal.returns-in_err-printed-clause-cut

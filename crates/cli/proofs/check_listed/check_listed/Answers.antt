@@ -3,6 +3,7 @@ use Rattle.std.specs.Borrow.{Bor}
 use Rattle.std.proofs.Common.{ℕ}
 use Rattle.cli_faults.specs.Stops.{status_of_stop}
 use Rattle.cli_faults.specs.declared.failure.Failure.TheVariants.{OutOfMemory}
+use Rattle.cli.specs.Checks.{EndsCheck}
 use Rattle.cli.specs.Several.{IsRunOnEach}
 use Rattle.cli.proofs.check_listed.check_listed.Goals as goal
 
@@ -15,7 +16,7 @@ returns-in-Ok-names_in-clause-run g c = (
   (
     map (λ name. name.now) c.in-Ok-names_in.names.items,
     c.in-Ok-names_in.ensures,
-    subst (λ (items : List (Bor (List ℕ))). IsRunOnEach g.W.Write.contents c.args.out.now c.check_each.new.out c.args.options.budget c.args.options.bare (map (λ name. name.now) items) c.check_each.result)
+    subst (λ (items : List (Bor (List ℕ))). IsRunOnEach (EndsCheck c.args.options.budget c.args.options.bare c.args.options.quiet) g.W.Write.contents c.args.out.now c.check_each.new.out (map (λ name. name.now) items) c.check_each.result)
         c.deref.ensures.value c.check_each.ensures.run,
   ),
 )

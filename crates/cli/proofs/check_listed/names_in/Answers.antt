@@ -1,7 +1,7 @@
 use Rattle.std.proofs.Common.{◌∙◌, sym}
 use Rattle.std.proofs.lemmas.Bool.Decides.{Decides-eqb}
 use Rattle.std.proofs.Common.{length}
-use Rattle.cli.proofs.Checks.{all_listed, ended_listed, none_listed}
+use Rattle.cli.proofs.SeveralLemmas.{all_listed, ended_listed, none_listed}
 use Rattle.cli.proofs.check_listed.names_in.Goals as goal
 
 pub returns-in_default : goal.returns-in_default

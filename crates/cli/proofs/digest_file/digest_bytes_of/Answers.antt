@@ -1,7 +1,7 @@
 use Rattle.std.proofs.Common.{ℕ, List, inr, subst}
 use Rattle.std.proofs.lemmas.Result.{IfErr-weaker, on_ok_weaker}
 use Rattle.sha2.specs.Sha256.{sha256}
-use Rattle.cli_reports.specs.Digests.{digest_text}
+use Rattle.cli.specs.Digests.{digest_text}
 use Rattle.cli_reports.specs.Sent.{Prints}
 use Rattle.cli.proofs.RunLemmas.{line_sent}
 use Rattle.cli.proofs.digest_file.digest_bytes_of.Goals as goal

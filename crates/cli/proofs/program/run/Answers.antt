@@ -18,6 +18,14 @@ pub unwrap-requires-in-Outline : goal.unwrap-requires-in-Outline
 unwrap-requires-in-Outline g c =
     file_there c.args.ask.now c.in-Ok.task (is_on_one c.in-Ok.task task.Outline c.in-Outline.is tt) c.requires.file c.requires.first c.in-Ok.ensures
 
+pub unwrap-requires-in-Strings : goal.unwrap-requires-in-Strings
+unwrap-requires-in-Strings g c =
+    file_there c.args.ask.now c.in-Ok.task (is_on_one c.in-Ok.task task.Strings c.in-Strings.is tt) c.requires.file c.requires.first c.in-Ok.ensures
+
+pub unwrap-requires-in-Where : goal.unwrap-requires-in-Where
+unwrap-requires-in-Where g c =
+    file_there c.args.ask.now c.in-Ok.task (is_on_one c.in-Ok.task (task.Where c.in-Where.offset) c.in-Where.is tt) c.requires.file c.requires.first c.in-Ok.ensures
+
 pub unwrap-requires-in-Digest : goal.unwrap-requires-in-Digest
 unwrap-requires-in-Digest g c =
     file_there c.args.ask.now c.in-Ok.task (is_on_one c.in-Ok.task task.Digest c.in-Digest.is tt) c.requires.file c.requires.first c.in-Ok.ensures

@@ -1,5 +1,5 @@
 use Rattle.std.proofs.lemmas.Result.{err_from_is_err_and}
-use Rattle.cli_reports.proofs.Heads.{bare_fails, bare_text, file_fails, file_text, heads_stand}
+use Rattle.cli_reports.proofs.Heads.{bare_fails, bare_one, file_fails, file_one, heads_stand}
 use Rattle.cli_reports.proofs.print_root.heads_of.Goals as goal
 
 pub returns-in_err-read_root-clause-first_error : goal.returns-in_err-read_root-clause-first_error
@@ -17,13 +17,13 @@ returns-clause-sound c =
     heads_stand c.args.bare c.args.bytes.now c.in_ok-heads.heads.header c.in_ok-heads.heads.root c.if-bare.false c.in_ok-heads.ensures.reports
     c.in_ok-heads.ensures.header c.in_ok-heads.ensures.root (c.images_are_read.ensures.sound _) (c.headers_are_read.ensures.sound _) (c.roots_are_read.ensures.sound _)
 
-pub returns-clause-text : goal.returns-clause-text
-returns-clause-text c =
-    file_text c.args.bare c.args.bytes.now c.in_ok-heads.heads.header c.in_ok-heads.heads.root c.if-bare.false c.in_ok-heads.ensures.header
+pub returns-clause-one : goal.returns-clause-one
+returns-clause-one c =
+    file_one c.args.bare c.args.bytes.now c.in_ok-heads.heads.header c.in_ok-heads.heads.root c.if-bare.false c.in_ok-heads.ensures.header
     c.in_ok-heads.ensures.root c.in_ok-heads.ensures.small.1 (c.images_are_read.ensures.said c.args.bytes.now) c.headers_are_read.ensures.said
     (c.roots_are_read.ensures.said _)
 
-pub returns-then-bare-clause-text : goal.returns-then-bare-clause-text
-returns-then-bare-clause-text c =
-    bare_text c.args.bare c.args.bytes.now c.in_ok-read_root.field-0 c.if-bare.true
+pub returns-then-bare-clause-one : goal.returns-then-bare-clause-one
+returns-then-bare-clause-one c =
+    bare_one c.args.bare c.args.bytes.now c.in_ok-read_root.field-0 c.if-bare.true
     (λ version headers is. c.in_ok-read_root.ensures.complete version headers c.in_ok-read_root.ensures.sound.0 is)

@@ -14,7 +14,8 @@ returns-clause-app c =
     let with_bare = c.in_ok-arg-2.ensures.shape c.bare.ensures.local ∙ ap₂ with_rule with_files c.bare.ensures.rule in
     let with_budget = c.in_ok-arg-3.ensures.shape c.budget.ensures.local ∙ ap₂ with_rule with_bare c.budget.ensures.rule in
     let with_list = c.in_ok-arg-4.ensures.shape c.files_from.ensures.local ∙ ap₂ with_rule with_budget c.files_from.ensures.rule in
-    adds_rule _ _ c.null.result _ c.arg-5.result with_list c.null.ensures.rule c.null.ensures.local c.arg-5.ensures
+    let with_null = c.in_ok-arg-5.ensures.shape c.null.ensures.local ∙ ap₂ with_rule with_list c.null.ensures.rule in
+    adds_rule _ _ c.quiet.result _ c.arg-6.result with_null c.quiet.ensures.rule c.quiet.ensures.local c.arg-6.ensures
 
 pub returns-clause-local : goal.returns-clause-local
 returns-clause-local c =
@@ -23,4 +24,5 @@ returns-clause-local c =
     let with_bare : (out-Command c.in_ok-arg-2.field-0).has_globals ≡ false = c.in_ok-arg-2.ensures.globals ∙ ap₂ ◌||◌ with_files c.bare.ensures.local in
     let with_budget : (out-Command c.in_ok-arg-3.field-0).has_globals ≡ false = c.in_ok-arg-3.ensures.globals ∙ ap₂ ◌||◌ with_bare c.budget.ensures.local in
     let with_list : (out-Command c.in_ok-arg-4.field-0).has_globals ≡ false = c.in_ok-arg-4.ensures.globals ∙ ap₂ ◌||◌ with_budget c.files_from.ensures.local in
-    stays_local _ c.null.result c.arg-5.result with_list c.null.ensures.local c.arg-5.ensures
+    let with_null : (out-Command c.in_ok-arg-5.field-0).has_globals ≡ false = c.in_ok-arg-5.ensures.globals ∙ ap₂ ◌||◌ with_list c.null.ensures.local in
+    stays_local _ c.quiet.result c.arg-6.result with_null c.quiet.ensures.local c.arg-6.ensures

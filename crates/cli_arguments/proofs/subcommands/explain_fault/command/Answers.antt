@@ -10,9 +10,9 @@ pub returns-clause-app : goal.returns-clause-app
 returns-clause-app c =
     let named : app_of c.after_help.result ≡ new_app (codes "explain") =
     ap app_of_fields c.after_help.ensures ∙ ap app_of_fields c.about.ensures ∙ c.new.ensures.app in
-    adds_rule _ _ c.code.result _ c.arg.result named c.code.ensures.rule c.code.ensures.local c.arg.ensures
+    adds_rule _ _ c.codes.result _ c.arg.result named c.codes.ensures.rule c.codes.ensures.local c.arg.ensures
 
 pub returns-clause-local : goal.returns-clause-local
 returns-clause-local c =
     let named : (out-Command c.after_help.result).has_globals ≡ false = rw (c.after_help.ensures, c.about.ensures) c.new.ensures.local in
-    stays_local _ c.code.result c.arg.result named c.code.ensures.local c.arg.ensures
+    stays_local _ c.codes.result c.arg.result named c.codes.ensures.local c.arg.ensures

@@ -1,0 +1,44 @@
+//! `clim where`: what has the byte at an offset of a file.
+ghost use Rattle.std.specs.Prelude.{◌≡◌, IfOk, false};
+ghost use Rattle.clap.specs.Words.{app_of};
+ghost use Rattle.clap.specs.declared.Command.TheViews.{out-Command as fields_of};
+ghost use Rattle.cli_arguments.specs.CommandLine as line;
+
+use crate::subcommands::{reader, second};
+use clap::Command;
+use std::alloc::{AllocError, Global};
+
+/// The arguments of the subcommand and its help.
+pub(crate) fn command<'a>(alloc: Global) -> Result<Command<'a>, AllocError>
+    ensures app { IfOk result (λ command. app_of command ≡ line.where_is) }
+    ensures local { IfOk result (λ command. (fields_of command).has_globals ≡ false) }
+{
+    reader(
+        alloc,
+        "where",
+        "Print what has the byte at an offset: a header, a stream or a cell",
+        OUTPUT,
+    )?
+    .arg(second(
+        alloc,
+        "OFFSET",
+        "The offset: decimal, or hexadecimal after '0x'",
+    ))
+}
+
+const OUTPUT: &str = "\
+There is a line 'START SIZE WHAT' for each structure that has the byte, the outermost first. START is its offset
+in FILE. OFFSET counts from the first byte of FILE, like the OFFSET of a fault. The structures are the CLI header
+and its fields (ECMA-335, II.25.3.3), the metadata root and its fields, the stream headers (II.24.2.1, II.24.2.2),
+the streams, and the fields, row counts and cells of the table stream (II.24.2.6). A cell has its table, its row
+from 1, and its column from 0 and by name (II.22). The name in a stream header is escaped like the texts of
+'clim show'. If no structure has the byte, the output is 'nothing', and the exit status is 1. FILE is checked
+first, as by 'clim check'.
+
+Examples:
+  $ clim where one_module.dll 0x208
+  520 72 cli header
+  520 4 cli header Cb
+  $ clim where --bare one_module.root 128
+  0 144 root
+  128 16 stream #GUID";

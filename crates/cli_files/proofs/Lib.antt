@@ -1,0 +1,4 @@
+pub mod Finding
+pub mod NumbersRead
+pub mod Reading
+pub mod Statuses

@@ -1,0 +1,30 @@
+-- What the user may have meant, by the first bytes of the file and its fault.
+use Rattle.std.specs.Prelude.{◌==◌, ◌&&◌, ℕ, Bool, List, Option, Some, None, codes, length, take, if◌then◌else◌}
+use Rattle.std.specs.Str.{bytes_eq}
+use Rattle.packed.specs.Codes.{number_of_code}
+use Rattle.packed.specs.declared.code.FaultCode.TheVariants.{DosHeader, RootSignature}
+use Rattle.cli_faults.specs.declared.failure.Failure.TheVariants.{Fault}
+use Rattle.cli_faults.specs.declared.stop.Stop.{Stop}
+use Rattle.cli_faults.specs.declared.stop.Stop.TheVariants.{Failed}
+use Rattle.cli_files.specs.declared.hint.Hint.{Hint}
+use Rattle.cli_files.specs.declared.hint.Hint.TheVariants.{AddBare, DropBare}
+
+-- the bytes begin with these
+abbrev pub begin_with : List ℕ → List ℕ → Bool
+begin_with prefix bytes = bytes_eq prefix (take (length prefix) bytes)
+
+-- a PE file was expected, and the bytes begin like a metadata root (II.24.2.1); or the other way round (II.25.2.1)
+abbrev pub hint_for_fault : Bool → List ℕ → ℕ → Option Hint
+hint_for_fault bare bytes code =
+    if bare then (if (code == number_of_code RootSignature) && begin_with (codes "MZ") bytes then Some DropBare else None)
+    else (if (code == number_of_code DosHeader) && begin_with (codes "BSJB") bytes then Some AddBare else None)
+
+-- only a fault has a hint
+abbrev pub hint_for : Bool → List ℕ → Stop → Option Hint
+hint_for bare bytes (Failed (Fault found)) = hint_for_fault bare bytes found.code
+hint_for bare bytes _ = None
+
+-- the line of a hint, without its line feed
+abbrev pub hint_text : Hint → List ℕ
+hint_text AddBare = codes "  hint: FILE begins like a metadata root; try it with '--bare'"
+hint_text DropBare = codes "  hint: FILE begins like a PE file; try it without '--bare'"

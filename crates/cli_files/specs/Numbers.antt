@@ -1,0 +1,23 @@
+-- The arguments that are numbers.
+use Rattle.std.specs.Prelude.{◌≡◌, ◌⊎◌, ℕ, ◌<◌, ◌≤◌, ◌^◌, List, ◌++◌, codes, length}
+use Rattle.std.specs.Str.Parse.{IsNumeral, digits_value}
+
+-- one to eight hexadecimal digits, in either case
+abbrev pub IsHexNumber : List ℕ → Type 0
+IsHexNumber word = IsNumeral 16 word × (length word ≤ 8)
+
+-- three decimal digits
+abbrev pub IsCodeNumber : List ℕ → Type 0
+IsCodeNumber word = IsNumeral 10 word × (length word ≡ 3)
+
+-- two hexadecimal digits, in either case
+abbrev pub IsTableNumber : List ℕ → Type 0
+IsTableNumber word = IsNumeral 16 word × (length word ≡ 2)
+
+-- the number of 64 bits that these digits denote
+abbrev pub DenotesOffset : ℕ → List ℕ → ℕ → Type 0
+DenotesOffset radix digits number = IsNumeral radix digits × (digits_value radix digits < 2 ^ 64) × (number ≡ digits_value radix digits)
+
+-- the number of 64 bits that is denoted by decimal digits, or by hexadecimal digits, in either case, after `0x`
+abbrev pub IsOffset : List ℕ → ℕ → Type 0
+IsOffset word number = DenotesOffset 10 word number ⊎ ((digits : List ℕ) × (word ≡ codes "0x" ++ digits) × DenotesOffset 16 digits number)

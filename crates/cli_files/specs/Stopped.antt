@@ -1,0 +1,38 @@
+-- The lines that report why a run stopped early.
+use Rattle.std.specs.Prelude.{◌≡◌, ℕ, List, ◌∷◌, [], ◌++◌, codes, IsErrAnd, IsOk, MatchResult, Option, Some, None, Result, Ok, Err}
+use Rattle.std.specs.Borrow.{Bor}
+use Rattle.cli_faults.specs.Escaped.{escaped_text}
+use Rattle.cli_faults.specs.declared.failure.Failure.{Failure}
+use Rattle.cli_faults.specs.declared.stop.Stop.{Stop}
+use Rattle.cli_faults.specs.declared.stop.Stop.TheVariants.{Failed}
+use Rattle.cli_faults.specs.Stops.{status_of_stop, stop_text}
+use Rattle.cli_files.specs.Hints.{hint_text}
+use Rattle.cli_files.specs.declared.hint.Hint.{Hint}
+use Rattle.cli_files.specs.declared.stopped.Stopped.{Stopped}
+
+-- a line feed and the line of a hint, if there is one
+abbrev hint_line : Option Hint → List ℕ
+hint_line (Some hint) = 10 ∷ hint_text hint
+hint_line None = []
+
+-- a line feed and the line that names the file, if two are read
+abbrev file_line : Option (Bor (List ℕ)) → List ℕ
+file_line (Some path) = 10 ∷ codes "  file: " ++ escaped_text path.now
+file_line None = []
+
+-- the line of the stop, and then those of the file and the hint if there are, without the last line feed
+abbrev pub stopped_text : Stopped → List ℕ
+stopped_text stopped = stop_text stopped.stop ++ file_line stopped.file ++ hint_line stopped.hint
+
+-- the same result, with its failure as why it stopped
+abbrev pub IsStopOf : {T : Type 0} → Result T Failure → Result T Stop → Type 0
+IsStopOf outcome stops = MatchResult outcome (λ _. IsOk stops) (λ failure. IsErrAnd stops (λ stop. stop ≡ Failed failure))
+
+-- how a run ends: it did its task, or it stopped early
+abbrev pub Outcome : Type 0
+Outcome = Result (Unit {0}) Stopped
+
+-- the exit code
+abbrev pub status_of_outcome : Outcome → ℕ
+status_of_outcome (Ok done) = 0
+status_of_outcome (Err stopped) = status_of_stop stopped.stop

@@ -1,0 +1,57 @@
+//! What the user may have meant.
+ghost use Rattle.std.specs.Prelude.{◌≡◌, Some};
+ghost use Rattle.cli_files.specs.Hints.{hint_for, hint_for_fault, hint_text};
+
+use cli_faults::{Failure, Stop};
+use packed::{Fault, FaultCode};
+use std::fmt;
+
+/// What a metadata root begins with (II.24.2.1).
+const ROOT_SIGNATURE: &[u8] = b"BSJB";
+
+/// What a PE file begins with (II.25.2.1).
+const DOS_SIGNATURE: &[u8] = b"MZ";
+
+/// What the user may have meant. `Display` gives a line for standard error, without the line feed.
+#[derive(Clone, Copy, Debug, PartialEq, Eq)]
+pub enum Hint {
+    /// The file looks like a metadata root, so `--bare` is missing.
+    AddBare,
+    /// The file looks like a PE file, so `--bare` is wrong.
+    DropBare,
+}
+
+impl fmt::Display for Hint {
+    ghost output = { λ hint. Some (hint_text hint) };
+
+    fn fmt<W: fmt::Write>(&self, f: &mut fmt::Formatter<W>) -> fmt::Result {
+        f.write_str(match self {
+            Hint::AddBare => "  hint: FILE begins like a metadata root; try it with '--bare'",
+            Hint::DropBare => "  hint: FILE begins like a PE file; try it without '--bare'",
+        })
+    }
+}
+
+/// The hint for a stop on some bytes, if there is one.
+pub fn hint_of(stop: &Stop<'_>, bare: bool, bytes: &[u8]) -> Option<Hint>
+    ensures { result ≡ hint_for bare bytes.now stop.now }
+{
+    match stop {
+        Stop::Failed(Failure::Fault(fault)) => hint_of_fault(fault, bare, bytes),
+        _ => None,
+    }
+}
+
+/// The hint for a fault in some bytes, if there is one.
+fn hint_of_fault(fault: &Fault, bare: bool, bytes: &[u8]) -> Option<Hint>
+    ensures { result ≡ hint_for_fault bare bytes.now fault.now.code }
+{
+    if bare {
+        if fault.code == FaultCode::RootSignature.number() && bytes.starts_with(DOS_SIGNATURE) {
+            return Some(Hint::DropBare);
+        }
+    } else if fault.code == FaultCode::DosHeader.number() && bytes.starts_with(ROOT_SIGNATURE) {
+        return Some(Hint::AddBare);
+    }
+    None
+}

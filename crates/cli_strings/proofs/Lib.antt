@@ -1,0 +1,3 @@
+pub mod SentLemmas
+pub mod EntryLemmas
+pub mod Outcomes
