@@ -74,6 +74,8 @@ FIXED_FORMS = [
     # A clause of the library's functions that split, and a fact of the toolchain about an argument.
     r"\bensures\.(?:front|rest)\b",
     r"\bc\.told(?=-)",
+    # A lemma of the toolchain's library.
+    r"\bAll-rest\b",
 ]
 # Words that a language itself has: the exceptions of Python.
 WORDS_OF = {PYTHON: {"raise", "raises", "raised"}}

@@ -59,16 +59,61 @@ fn lists_all_faults(rt: HostRuntime) -> Result<(), Fail> {
 #[test]
 fn refuses_what_is_no_fault(rt: HostRuntime) -> Result<(), Fail> {
     for code in [
-        "", "50", "5010", "+50", "0501", "500", "999", "0x1", "BadGuid", "\u{e9}1",
+        "", "50", "5010", "+50", "0501", "500", "999", "0x1", "badguid", "BadCell", "BadGuid ", "\u{e9}1",
     ] {
         let (status, out, err) = answer(&rt, &["clim", "explain", code])?;
         assert_eq!(rt; status, 2, "{code}");
         assert!(rt; out.is_empty());
         assert!(rt;
             err.starts_with(
-                "error: CODE is the number of a fault, which 'clim explain' lists, not '"
+                "error: CODE is the number or the name of a fault, which 'clim explain' lists, not '"
             )
         );
     }
+    Ok(())
+}
+
+/// A fault is named by its number or its name; several have an empty line between them.
+#[test]
+fn explains_several_faults(rt: HostRuntime) -> Result<(), Fail> {
+    let (_, guid, _) = answer(&rt, &["clim", "explain", "504"])?;
+    let (_, limit, _) = answer(&rt, &["clim", "explain", "101"])?;
+    for (words, reported) in [
+        (["clim", "explain", "BadGuid"].as_slice(), format!(in rt.alloc(); "{guid}")?),
+        (
+            &["clim", "explain", "BadGuid", "101"],
+            format!(in rt.alloc(); "{guid}\n{limit}")?,
+        ),
+        (
+            &["clim", "explain", "101", "TooLong", "504"],
+            format!(in rt.alloc(); "{limit}\n{limit}\n{guid}")?,
+        ),
+    ] {
+        let (status, out, err) = answer(&rt, words)?;
+        assert_eq!(rt; (status, out, err.as_str()), (0, reported, ""));
+    }
+    // One argument that names no fault refuses all.
+    let (status, out, err) = answer(&rt, &["clim", "explain", "504", "no", "also"])?;
+    assert!(rt; status == 2 && out.is_empty());
+    assert!(rt; err.ends_with("lists, not 'no'\n"), "{err}");
+    Ok(())
+}
+
+/// Each name that is listed explains the same as its number.
+#[test]
+fn explains_by_name(rt: HostRuntime) -> Result<(), Fail> {
+    let (_, list, _) = answer(&rt, &["clim", "explain"])?;
+    let mut named = 0u32;
+    for line in list.lines() {
+        let (heading, _) = line.split_once(':').ok_or("no heading")?;
+        let Some((number, name)) = heading.split_once(' ') else {
+            continue;
+        };
+        let by_number = answer(&rt, &["clim", "explain", number])?;
+        let by_name = answer(&rt, &["clim", "explain", name])?;
+        assert!(rt; by_name.0 == 0 && by_name.1 == by_number.1, "{name}");
+        named = named.saturating_add(1);
+    }
+    assert_eq!(rt; named, 43);
     Ok(())
 }

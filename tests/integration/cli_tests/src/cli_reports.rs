@@ -1,5 +1,6 @@
 //! Tests of `cli_reports`: what `clim root` and `clim check` print of a root and of a file.
 
+mod one_table;
 mod printed_rows;
 
 use crate::runs::{Case, answer, other_answer};

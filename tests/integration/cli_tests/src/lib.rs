@@ -13,8 +13,16 @@ mod cli_arguments;
 #[cfg(test)]
 mod cli_faults;
 #[cfg(test)]
+mod cli_outline;
+#[cfg(test)]
 mod cli_reports;
+#[cfg(test)]
+mod cli_strings;
+#[cfg(test)]
+mod json_lines;
 #[cfg(test)]
 mod runs;
 #[cfg(test)]
 mod samples;
+#[cfg(test)]
+mod where_lines;

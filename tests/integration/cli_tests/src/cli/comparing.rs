@@ -44,6 +44,43 @@ fn digests_what_rewrite_writes(rt: HostRuntime) -> Result<(), Fail> {
     Ok(())
 }
 
+/// Each file has its line, in the order given. One without a digest is reported with its name, and the next one follows.
+#[test]
+fn digests_several_files(rt: HostRuntime) -> Result<(), Fail> {
+    fs::write(&rt, "one.dll", image().as_slice())?;
+    fs::write(&rt, "two.dll", image().as_slice())?;
+    fs::write(&rt, "bare.dll", ONE_MODULE.as_slice())?;
+    let (one, two) = (
+        format!(in rt.alloc(); "{DIGEST}  one.dll\n")?,
+        format!(in rt.alloc(); "{DIGEST}  two.dll\n")?,
+    );
+    let both = format!(in rt.alloc(); "{one}{two}")?;
+    let refused = "\
+fault 1 102 at 0: DosHeader
+  file: bare.dll
+  hint: FILE begins like a metadata root; try it with '--bare'
+";
+    let lacks = "error: cannot read lacks\n  reason: no such file\n";
+    for (files, status, printed, reported) in [
+        (["one.dll", "two.dll"].as_slice(), 0, both.as_str(), ""),
+        (&["one.dll", "bare.dll", "two.dll"], 1, both.as_str(), refused),
+        (&["lacks", "two.dll"], 3, two.as_str(), lacks),
+        (&["two.dll", "lacks"], 3, two.as_str(), lacks),
+    ] {
+        let mut words: Vec<&str> = ["clim", "digest"].to_vec(rt.alloc())?;
+        words.extend_from_slice(files)?;
+        assert!(rt; ends(&rt, &words, status, printed, reported)?, "{printed}{reported}");
+    }
+    let mut err = Vec::new(rt.alloc());
+    let words = ["clim", "digest", "one.dll", "lacks"];
+    assert_eq!(rt; go(&rt, &words, &mut Full { late: true }, &mut err), 3);
+    assert_eq!(rt; err.as_slice(), b"error: cannot write output\n".as_slice());
+    for file in ["one.dll", "two.dll", "bare.dll"] {
+        fs::remove_file(&rt, file)?;
+    }
+    Ok(())
+}
+
 #[test]
 fn digests_of_one_model_are_equal(rt: HostRuntime) -> Result<(), Fail> {
     fs::write(&rt, "names.root", NAMES_APART.as_slice())?;

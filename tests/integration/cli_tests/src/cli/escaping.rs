@@ -47,6 +47,7 @@ fn escapes_values(rt: HostRuntime) -> Result<(), Fail> {
         }
         for words in [
             ["clim", "token", text, "1"],
+            ["clim", "where", text, "1"],
             ["clim", "rewrite", text, "out.root"],
         ] {
             assert!(rt; ends(&rt, &words, 3, escaped)?, "{escaped}");
@@ -59,6 +60,7 @@ fn escapes_values(rt: HostRuntime) -> Result<(), Fail> {
         assert!(rt; ends(&rt, &words, 3, escaped)?, "{escaped}");
         assert_eq!(rt; answer(&rt, &words)?.2, unwritten);
         assert!(rt; ends(&rt, &["clim", "token", "plain.root", text], 2, escaped)?, "{escaped}");
+        assert!(rt; ends(&rt, &["clim", "where", "plain.root", text], 2, escaped)?, "{escaped}");
         assert!(rt; ends(&rt, &["clim", "explain", text], 2, escaped)?, "{escaped}");
     }
     fs::remove_file(&rt, "plain.root")?;

@@ -24,13 +24,15 @@ fn is_refused(rt: &HostRuntime, words: &[&str], reported: &str) -> Result<bool, 
 fn hints_at_bare(rt: HostRuntime) -> Result<(), Fail> {
     fs::write(&rt, "hint.root", ONE_MODULE.as_slice())?;
     fs::write(&rt, "hint.dll", image().as_slice())?;
-    for name in ["root", "check", "show", "types"] {
+    for name in ["root", "check", "show", "types", "outline", "strings", "digest"] {
         assert!(rt; is_refused(&rt, &["clim", name, "hint.root"], ADD_BARE)?);
         assert!(rt; is_refused(&rt, &["clim", name, "--bare", "hint.dll"], DROP_BARE)?);
     }
     for (words, reported) in [
         (["clim", "token", "hint.root", "1"].as_slice(), ADD_BARE),
         (&["clim", "token", "--bare", "hint.dll", "1"], DROP_BARE),
+        (&["clim", "where", "hint.root", "1"], ADD_BARE),
+        (&["clim", "where", "--bare", "hint.dll", "1"], DROP_BARE),
         (&["clim", "rewrite", "hint.root", "no.root"], ADD_BARE),
         (&["clim", "rewrite", "--bare", "hint.dll", "no.root"], DROP_BARE),
         (&["clim", "check", "--budget", "9", "hint.root"], ADD_BARE),

@@ -72,6 +72,40 @@ fn checks_several_files(rt: HostRuntime) -> Result<(), Fail> {
     remove_files(&rt)
 }
 
+/// A quiet check prints nothing about faults. The status is the same.
+const QUIET: [(&[&str], u8, &str); 8] = [
+    (&["good.dll"], 0, ""),
+    (&["other.dll"], 1, ""),
+    (&["bare.root"], 1, ""),
+    (&["good.dll", "other.dll", "also.dll"], 1, ""),
+    (&["lacks"], 3, LACKS),
+    (&["other.dll", "lacks", "good.dll"], 3, LACKS),
+    (&["--bare", "--budget", "5", "types.root"], 0, ""),
+    (&["--bare", "--budget", "4", "types.root"], 3, "error: budget spent\n  file: types.root\n"),
+];
+
+#[test]
+fn checks_quietly(rt: HostRuntime) -> Result<(), Fail> {
+    write_files(&rt)?;
+    for (files, status, reported) in QUIET {
+        for flag in ["-q", "--quiet"] {
+            let mut words: Vec<&str> = ["clim", "check", flag].to_vec(rt.alloc())?;
+            words.extend_from_slice(files)?;
+            let (ended, out, err) = answer(&rt, &words)?;
+            assert_eq!(rt; (ended, out.as_str(), err.as_str()), (status, "", reported));
+        }
+    }
+    for (list, status) in [(b"good.dll\0also.dll".as_slice(), 0), (b"other.dll\0good.dll\0", 1), (b"", 0)] {
+        let (ended, out, err) = answer_on(with_input(&rt, list), &["clim", "check", "-0q"])?;
+        assert_eq!(rt; (ended, out.as_str(), err.as_str()), (status, "", ""));
+    }
+    // An output that takes nothing changes nothing.
+    let mut err = Vec::new(rt.alloc());
+    assert_eq!(rt; go(&rt, &["clim", "check", "-q", "good.dll", "other.dll"], &mut Full { late: false }, &mut err), 1);
+    assert!(rt; err.is_empty());
+    remove_files(&rt)
+}
+
 /// A name with control characters begins no line.
 #[test]
 fn escapes_the_names_of_files(rt: HostRuntime) -> Result<(), Fail> {

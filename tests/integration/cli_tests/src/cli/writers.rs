@@ -36,11 +36,16 @@ fn stands_full_devices(rt: HostRuntime) -> Result<(), Fail> {
             &["clim", "check", "--bare", "b.root"],
             &["clim", "show", "--bare", "b.root"],
             &["clim", "types", "--bare", "b.root"],
+            &["clim", "show", "--bare", "b.root", "Module"],
             &["clim", "outline", "--bare", "b.root"],
+            &["clim", "strings", "--bare", "b.root"],
             &["clim", "token", "--bare", "b.root", "1"],
             &["clim", "token", "--bare", "b.root", "70000000"],
+            &["clim", "where", "--bare", "b.root", "0"],
+            &["clim", "where", "--bare", "b.root", "1000"],
             &["clim", "explain"],
             &["clim", "explain", "501"],
+            &["clim", "explain", "501", "BadGuid"],
             &["clim", "help"],
         ] {
             let mut err = Vec::new(rt.alloc());

@@ -1,4 +1,5 @@
 use crate::runs::answer;
+use crate::samples::TWO_STRINGS;
 use sample_roots::{ONE_MODULE, TWO_TYPES, image};
 use std::fs;
 use std::test::Fail;
@@ -39,13 +40,16 @@ fn print_what_help_reports(rt: HostRuntime) -> Result<(), Fail> {
     fs::write(&rt, "one_module.dll", image().as_slice())?;
     fs::write(&rt, "one_module.root", ONE_MODULE.as_slice())?;
     fs::write(&rt, "two_types.root", TWO_TYPES.as_slice())?;
+    fs::write(&rt, "two_strings.root", TWO_STRINGS.as_slice())?;
     for (name, count) in [
         ("root", 2),
         ("check", 3),
-        ("show", 1),
+        ("show", 2),
         ("types", 1),
         ("outline", 1),
+        ("strings", 1),
         ("token", 2),
+        ("where", 2),
         ("rewrite", 2),
         ("digest", 2),
         ("compare", 1),
@@ -57,6 +61,7 @@ fn print_what_help_reports(rt: HostRuntime) -> Result<(), Fail> {
         "one_module.dll",
         "one_module.root",
         "two_types.root",
+        "two_strings.root",
         "out.root",
     ] {
         fs::remove_file(&rt, file)?;

@@ -14,7 +14,7 @@ const LINES_IN_HELP: &str = "\
 ";
 
 /// Arguments that are a usage error, and what the program prints for them.
-const REFUSED: [(&[&str], &str); 42] = [
+const REFUSED: [(&[&str], &str); 59] = [
     (&[], "Usage: clim <COMMAND>"),
     (&["clim"], "Usage: clim <COMMAND>"),
     (&["clim", "lacks"], "unrecognized subcommand 'lacks'"),
@@ -68,12 +68,44 @@ const REFUSED: [(&[&str], &str); 42] = [
         "unexpected argument '--budget'",
     ),
     (&["clim", "show"], "Usage: clim show <FILE>"),
+    (
+        &["clim", "show", "lacks", "02", "04"],
+        "unexpected argument '04'",
+    ),
+    (
+        &["clim", "show", "lacks", "typedef"],
+        "error: TABLE is a table, which 'clim show --help' lists, not 'typedef'\n",
+    ),
+    (&["clim", "show", "lacks", "2"], "error: TABLE is a table"),
+    (&["clim", "show", "lacks", "03"], "error: TABLE is a table"),
+    (&["clim", "show", "lacks", "002"], "error: TABLE is a table"),
+    (&["clim", "show", "lacks", "+2"], "error: TABLE is a table"),
+    (&["clim", "show", "lacks", ""], "error: TABLE is a table"),
+    (
+        &["clim", "show", "lacks", "\u{1b}[2J"],
+        "which 'clim show --help' lists, not '\\x1b[2J'\n",
+    ),
+    (&["clim", "check", "-q"], "error: FILE is missing"),
+    (&["clim", "check", "-qq", "lacks"], "cannot be used multiple times"),
+    (&["clim", "check", "--quiet=1", "lacks"], "unexpected value '1' for '--quiet'"),
+    (&["clim", "show", "-q", "lacks"], "unexpected argument '-q'"),
+    (&["clim", "strings"], "Usage: clim strings <FILE>"),
+    (
+        &["clim", "strings", "lacks", "70000001"],
+        "unexpected argument '70000001'",
+    ),
     (&["clim", "types"], "Usage: clim types <FILE>"),
     (&["clim", "outline"], "Usage: clim outline <FILE>"),
     (&["clim", "token"], "Usage: clim token <FILE> <HEX>"),
     (&["clim", "token", "lacks"], "  <HEX>\n"),
     (
         &["clim", "token", "lacks", "1", "2"],
+        "unexpected argument '2'",
+    ),
+    (&["clim", "where"], "Usage: clim where <FILE> <OFFSET>"),
+    (&["clim", "where", "lacks"], "  <OFFSET>\n"),
+    (
+        &["clim", "where", "lacks", "1", "2"],
         "unexpected argument '2'",
     ),
     (
@@ -87,14 +119,11 @@ const REFUSED: [(&[&str], &str); 42] = [
         "unexpected argument 'more'",
     ),
     (&["clim", "digest"], "Usage: clim digest <FILE>"),
-    (
-        &["clim", "digest", "lacks", "more"],
-        "unexpected argument 'more'",
-    ),
+    (&["clim", "digest", "--bare"], "  <FILE>...\n"),
     (&["clim", "compare", "lacks"], "  <OTHER>\n"),
     (
-        &["clim", "explain", "501", "502"],
-        "unexpected argument '502'",
+        &["clim", "explain", "501", "BadText"],
+        "error: CODE is the number or the name of a fault, which 'clim explain' lists, not 'BadText'\n",
     ),
     (
         &["clim", "explain", "--bare"],
@@ -157,7 +186,9 @@ fn helps(rt: HostRuntime) -> Result<(), Fail> {
         "\n  show ",
         "\n  types ",
         "\n  outline ",
+        "\n  strings ",
         "\n  token ",
+        "\n  where ",
         "\n  rewrite ",
         "\n  digest ",
         "\n  compare ",
@@ -197,7 +228,7 @@ fn helps_with_each_subcommand(rt: HostRuntime) -> Result<(), Fail> {
         ),
         (
             "show",
-            "Usage: clim show [OPTIONS] <FILE>",
+            "Usage: clim show [OPTIONS] <FILE> [TABLE]",
             "\n  1: 0 \"a.dll\" {03020100-0504-0706-0809-0a0b0c0d0e0f} null null",
         ),
         (
@@ -211,9 +242,19 @@ fn helps_with_each_subcommand(rt: HostRuntime) -> Result<(), Fail> {
             "  // 02000002\n",
         ),
         (
+            "strings",
+            "Usage: clim strings [OPTIONS] <FILE>",
+            "\n  70000001 Hello\n",
+        ),
+        (
             "token",
             "Usage: clim token [OPTIONS] <FILE> <HEX>",
             "\n  user\n",
+        ),
+        (
+            "where",
+            "Usage: clim where [OPTIONS] <FILE> <OFFSET>",
+            "\n  520 4 cli header Cb\n",
         ),
         (
             "rewrite",
@@ -222,7 +263,7 @@ fn helps_with_each_subcommand(rt: HostRuntime) -> Result<(), Fail> {
         ),
         (
             "digest",
-            "Usage: clim digest [OPTIONS] <FILE>",
+            "Usage: clim digest [OPTIONS] <FILE>...",
             "  one_module.dll\n",
         ),
         (
@@ -232,7 +273,7 @@ fn helps_with_each_subcommand(rt: HostRuntime) -> Result<(), Fail> {
         ),
         (
             "explain",
-            "Usage: clim explain [CODE]",
+            "Usage: clim explain [CODE]...",
             "\n  504 BadGuid: no GUID at an index into '#GUID'\n",
         ),
     ];
@@ -266,7 +307,7 @@ fn given<'a>(asked: &Ask<'a>) -> Given<'a> {
         asked.file,
         asked.second,
         asked.budget,
-        asked.code,
+        asked.part,
     )
 }
 
@@ -286,12 +327,16 @@ fn asks(rt: HostRuntime) -> Result<(), Fail> {
             (Subcommand::Explain, false, None, None, None, None),
         ),
         (
-            &["clim", "explain", "501"],
-            (Subcommand::Explain, false, None, None, None, Some("501")),
+            &["clim", "show", "a.root", "--bare", "TypeDef"],
+            (Subcommand::Show, true, Some("a.root"), None, None, Some("TypeDef")),
         ),
         (
-            &["clim", "explain", "help"],
-            (Subcommand::Explain, false, None, None, None, Some("help")),
+            &["clim", "show", "a.root"],
+            (Subcommand::Show, false, Some("a.root"), None, None, None),
+        ),
+        (
+            &["clim", "strings", "a.root"],
+            (Subcommand::Strings, false, Some("a.root"), None, None, None),
         ),
         (
             &["clim", "token", "a.root", "--bare", "6000001"],
@@ -300,6 +345,17 @@ fn asks(rt: HostRuntime) -> Result<(), Fail> {
                 true,
                 Some("a.root"),
                 Some("6000001"),
+                None,
+                None,
+            ),
+        ),
+        (
+            &["clim", "where", "a.root", "0x20"],
+            (
+                Subcommand::Where,
+                false,
+                Some("a.root"),
+                Some("0x20"),
                 None,
                 None,
             ),
@@ -334,7 +390,36 @@ fn asks(rt: HostRuntime) -> Result<(), Fail> {
         let asked = ask(rt.alloc(), words)?;
         assert_eq!(rt; given(&asked), want);
         assert!(rt; asked.files.as_slice().first().copied() == asked.file);
-        assert!(rt; asked.files_from.is_none() && !asked.null);
+        assert!(rt; asked.files_from.is_none() && !asked.null && !asked.quiet);
+        assert!(rt; asked.codes.is_empty());
+    }
+    Ok(())
+}
+
+#[test]
+fn asks_for_faults(rt: HostRuntime) -> Result<(), Fail> {
+    for words in [
+        ["clim", "explain"].as_slice(),
+        &["clim", "explain", "501"],
+        &["clim", "explain", "help", "BadGuid", "501", "501"],
+    ] {
+        let asked = ask(rt.alloc(), words)?;
+        assert_eq!(rt; asked.codes.as_slice(), &words[2..]);
+        assert!(rt; asked.subcommand == Subcommand::Explain && asked.file.is_none());
+    }
+    Ok(())
+}
+
+#[test]
+fn asks_for_a_quiet_check(rt: HostRuntime) -> Result<(), Fail> {
+    for (words, quiet) in [
+        (["clim", "check", "-q", "a"].as_slice(), true),
+        (&["clim", "check", "a", "b", "--quiet"], true),
+        (&["clim", "check", "-q0"], true),
+        (&["clim", "check", "a"], false),
+        (&["clim", "check", "--", "-q"], false),
+    ] {
+        assert_eq!(rt; ask(rt.alloc(), words)?.quiet, quiet);
     }
     Ok(())
 }
@@ -346,6 +431,10 @@ fn asks_for_several_files(rt: HostRuntime) -> Result<(), Fail> {
     let asked = ask(rt.alloc(), &words)?;
     assert_eq!(rt; asked.files.as_slice(), ["a", "b", "-", "c", "-0"].as_slice());
     assert_eq!(rt; given(&asked), (Subcommand::Check, true, Some("a"), None, Some(7), None));
+    let words = ["clim", "digest", "a", "b", "--bare", "-"];
+    let asked_too = ask(rt.alloc(), &words)?;
+    assert_eq!(rt; asked_too.files.as_slice(), ["a", "b", "-"].as_slice());
+    assert_eq!(rt; given(&asked_too), (Subcommand::Digest, true, Some("a"), None, None, None));
     assert!(rt; asked.files_from.is_none() && !asked.null);
     Ok(())
 }

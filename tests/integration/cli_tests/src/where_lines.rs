@@ -1,0 +1,247 @@
+//! Tests of `cli_where`: what `clim where` prints of each byte of the samples.
+
+use crate::runs::answer;
+use cli_where::{Found, report_where};
+use sample_roots::{ONE_MODULE, TWO_TYPES, image};
+use std::alloc::Global;
+use std::fs;
+use std::test::Fail;
+
+/// A structure: the offset of its first byte, its number of bytes, and what it is.
+type Structure = (usize, usize, &'static str);
+
+/// The CLI header of the file of `ONE_MODULE` (II.25.3.3).
+const CLI_HEADER: &[Structure] = &[
+    (520, 72, "cli header"),
+    (520, 4, "cli header Cb"),
+    (524, 2, "cli header MajorRuntimeVersion"),
+    (526, 2, "cli header MinorRuntimeVersion"),
+    (528, 8, "cli header MetaData"),
+    (536, 4, "cli header Flags"),
+    (540, 4, "cli header EntryPointToken"),
+    (544, 8, "cli header Resources"),
+    (552, 8, "cli header StrongNameSignature"),
+    (560, 8, "cli header CodeManagerTable"),
+    (568, 8, "cli header VTableFixups"),
+    (576, 8, "cli header ExportAddressTableJumps"),
+    (584, 8, "cli header ManagedNativeHeader"),
+];
+
+/// The structures of `ONE_MODULE` (II.24.2).
+const ONE_MODULE_STRUCTURES: &[Structure] = &[
+    (0, 144, "root"),
+    (0, 4, "root header Signature"),
+    (4, 2, "root header MajorVersion"),
+    (6, 2, "root header MinorVersion"),
+    (8, 4, "root header Reserved"),
+    (12, 4, "root header Length"),
+    (16, 12, "root header Version"),
+    (28, 2, "root header Flags"),
+    (30, 2, "root header Streams"),
+    (32, 12, "stream header #~"),
+    (32, 4, "stream header Offset"),
+    (36, 4, "stream header Size"),
+    (40, 4, "stream header Name"),
+    (44, 20, "stream header #Strings"),
+    (44, 4, "stream header Offset"),
+    (48, 4, "stream header Size"),
+    (52, 12, "stream header Name"),
+    (64, 16, "stream header #GUID"),
+    (64, 4, "stream header Offset"),
+    (68, 4, "stream header Size"),
+    (72, 8, "stream header Name"),
+    (120, 8, "stream #Strings"),
+    (128, 16, "stream #GUID"),
+    (80, 40, "stream #~"),
+    (80, 4, "table stream Reserved"),
+    (84, 1, "table stream MajorVersion"),
+    (85, 1, "table stream MinorVersion"),
+    (86, 1, "table stream HeapSizes"),
+    (87, 1, "table stream Reserved"),
+    (88, 8, "table stream Valid"),
+    (96, 8, "table stream Sorted"),
+    (104, 4, "row count 00 Module"),
+    (108, 2, "table 00 Module row 1 column 0 Generation"),
+    (110, 2, "table 00 Module row 1 column 1 Name"),
+    (112, 2, "table 00 Module row 1 column 2 Mvid"),
+    (114, 2, "table 00 Module row 1 column 3 EncId"),
+    (116, 2, "table 00 Module row 1 column 4 EncBaseId"),
+];
+
+/// Appends the lines of the structures that have a byte. They are at `base` in the file.
+fn push_lines(alloc: Global, structures: &[Structure], base: usize, offset: usize, lines: &mut String) -> Result<(), Fail> {
+    for (start, size, what) in structures {
+        let start = base + *start;
+        if start <= offset && offset < start + *size {
+            lines.push_str(&format!(in alloc; "{start} {size} {what}\n")?)?;
+        }
+    }
+    Ok(())
+}
+
+/// What is printed of a byte, and whether a structure has it.
+fn printed(rt: &HostRuntime, bare: bool, file: &[u8], offset: u64) -> Result<(Found, String), Fail> {
+    let mut out = Vec::new(rt.alloc());
+    let Ok(found) = report_where(rt.alloc(), bare, file, offset, &mut out) else {
+        return Err(Fail::from("a failure"));
+    };
+    Ok((found, String::from_utf8(out).ok().ok_or("no text")?))
+}
+
+/// Whether the lines of a byte are these.
+fn is_printed(rt: &HostRuntime, bare: bool, file: &[u8], offset: usize, lines: &str) -> Result<bool, Fail> {
+    let (found, text) = printed(rt, bare, file, offset as u64)?;
+    if lines.is_empty() {
+        return Ok(found == Found::Nothing && text.as_str() == "nothing\n");
+    }
+    Ok(found == Found::Something && text.as_str() == lines)
+}
+
+#[test]
+fn prints_the_structures_of_each_byte_of_a_root(rt: HostRuntime) -> Result<(), Fail> {
+    for offset in 0..ONE_MODULE.len() + 2 {
+        let mut lines = String::new(rt.alloc());
+        push_lines(rt.alloc(), ONE_MODULE_STRUCTURES, 0, offset, &mut lines)?;
+        assert!(rt; is_printed(&rt, true, &ONE_MODULE, offset, &lines)?);
+    }
+    Ok(())
+}
+
+#[test]
+fn prints_the_structures_of_each_byte_of_a_file(rt: HostRuntime) -> Result<(), Fail> {
+    let file = image();
+    for offset in 0..file.len() + 2 {
+        let mut lines = String::new(rt.alloc());
+        push_lines(rt.alloc(), CLI_HEADER, 0, offset, &mut lines)?;
+        push_lines(rt.alloc(), ONE_MODULE_STRUCTURES, 592, offset, &mut lines)?;
+        assert!(rt; is_printed(&rt, false, &file, offset, &lines)?);
+    }
+    Ok(())
+}
+
+#[test]
+fn prints_the_cells_of_each_table(rt: HostRuntime) -> Result<(), Fail> {
+    let cases = [
+        (104, "104 4 row count 02 TypeDef\n"),
+        (111, "108 4 row count 04 Field\n"),
+        (112, "112 4 row count 06 MethodDef\n"),
+        (116, "116 4 table 02 TypeDef row 1 column 0 Flags\n"),
+        (129, "128 2 table 02 TypeDef row 1 column 5 MethodList\n"),
+        (130, "130 4 table 02 TypeDef row 2 column 0 Flags\n"),
+        (144, "144 2 table 04 Field row 1 column 0 Flags\n"),
+        (155, "154 2 table 04 Field row 2 column 2 Signature\n"),
+        (156, "156 4 table 06 MethodDef row 1 column 0 RVA\n"),
+        (169, "168 2 table 06 MethodDef row 1 column 5 ParamList\n"),
+        (170, ""),
+    ];
+    for (offset, line) in cases {
+        let lines = format!(in rt.alloc(); "0 200 root\n80 92 stream #~\n{line}")?;
+        assert!(rt; is_printed(&rt, true, &TWO_TYPES, offset, &lines)?);
+    }
+    Ok(())
+}
+
+#[test]
+fn prints_each_stream_that_has_the_byte(rt: HostRuntime) -> Result<(), Fail> {
+    // The heap of texts begins where the tables begin, and has 48 bytes. Its first byte is no NUL, but no cell names it.
+    let mut root = ONE_MODULE;
+    root[44] = 80;
+    root[48] = 48;
+    root[110] = 40;
+    let lines = "0 144 root\n80 48 stream #Strings\n80 40 stream #~\n86 1 table stream HeapSizes\n";
+    assert!(rt; is_printed(&rt, true, &root, 86, lines)?);
+    Ok(())
+}
+
+#[test]
+fn escapes_the_name_of_a_stream(rt: HostRuntime) -> Result<(), Fail> {
+    let mut root = ONE_MODULE;
+    root[72] = 1;
+    root[73] = b'\\';
+    root[112] = 0;
+    let lines = "0 144 root\n64 16 stream header \\x01\\x5cUID\n68 4 stream header Size\n";
+    assert!(rt; is_printed(&rt, true, &root, 70, lines)?);
+    Ok(())
+}
+
+#[test]
+fn prints_nothing_past_the_end(rt: HostRuntime) -> Result<(), Fail> {
+    let file = image();
+    for offset in [1024, 1 << 31, 1 << 40, u64::MAX] {
+        let (found, text) = printed(&rt, false, &file, offset)?;
+        assert_eq!(rt; found, Found::Nothing);
+        assert_eq!(rt; text.as_str(), "nothing\n");
+    }
+    Ok(())
+}
+
+/// The exit code is 0 if a structure has the byte. It is 1 if none has it, which only the output says.
+#[test]
+fn ends_with_1_if_nothing_has_the_byte(rt: HostRuntime) -> Result<(), Fail> {
+    fs::write(&rt, "where.dll", image().as_slice())?;
+    for (offset, status, lines) in [
+        ("520", 0, "520 72 cli header\n520 4 cli header Cb\n"),
+        ("00520", 0, "520 72 cli header\n520 4 cli header Cb\n"),
+        ("0x208", 0, "520 72 cli header\n520 4 cli header Cb\n"),
+        ("0x000000000000000000208", 0, "520 72 cli header\n520 4 cli header Cb\n"),
+        ("0", 1, "nothing\n"),
+        ("1024", 1, "nothing\n"),
+        ("0xfFfFfFfFfFfFfFfF", 1, "nothing\n"),
+        ("18446744073709551615", 1, "nothing\n"),
+    ] {
+        let (code, out, err) = answer(&rt, &["clim", "where", "where.dll", offset])?;
+        assert_eq!(rt; code, status, "{offset}");
+        assert_eq!(rt; out.as_str(), lines, "{offset}");
+        assert_eq!(rt; err.as_str(), "", "{offset}");
+    }
+    fs::remove_file(&rt, "where.dll")?;
+    Ok(())
+}
+
+/// The file named lacks: a status of 2 shows that it was not looked for.
+#[test]
+fn refuses_what_is_no_offset(rt: HostRuntime) -> Result<(), Fail> {
+    for word in [
+        "",
+        "0x",
+        "x1",
+        "0X1",
+        "+1",
+        "0x+1",
+        "1a",
+        "0xg",
+        " 1",
+        "1 ",
+        "00x1",
+        "0x0x1",
+        "18446744073709551616",
+        "0x10000000000000000",
+        "\u{e9}",
+    ] {
+        let (status, out, err) = answer(&rt, &["clim", "where", "lacks", word])?;
+        assert_eq!(rt; status, 2, "{word}");
+        assert!(rt; out.is_empty());
+        assert!(rt;
+            err.starts_with("error: OFFSET is a number, decimal or hexadecimal after '0x', not '"),
+            "{err}"
+        );
+    }
+    let (status, _, err) = answer(&rt, &["clim", "where", "lacks", "1"])?;
+    assert_eq!(rt; status, 3);
+    assert_eq!(rt; err.as_str(), "error: cannot read lacks\n  reason: no such file\n");
+    Ok(())
+}
+
+/// A file that breaks a rule has its fault, and no line.
+#[test]
+fn prints_no_line_of_a_broken_file(rt: HostRuntime) -> Result<(), Fail> {
+    let mut root = ONE_MODULE;
+    root[112] = 2;
+    fs::write(&rt, "broken.root", root.as_slice())?;
+    let (status, out, err) = answer(&rt, &["clim", "where", "--bare", "broken.root", "112"])?;
+    assert_eq!(rt; status, 1);
+    assert_eq!(rt; out.as_str(), "");
+    assert_eq!(rt; err.as_str(), "fault 5 504 at 112: BadGuid\n");
+    fs::remove_file(&rt, "broken.root")?;
+    Ok(())
+}
