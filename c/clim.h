@@ -12,8 +12,8 @@
  * result is what its contract in crates/clim_c says. No function keeps state between calls, so threads may call them at
  * the same time. Rows count from 1. Columns, which are the cells of a row, count from 0.
  *
- * Memory: only clim_canonical_root and clim_digest allocate. They call malloc, realloc and free, and free all of it
- * before they return. So neither is called in a signal handler, or after fork in a process with threads.
+ * Memory: only clim_canonical_root, clim_digest and clim_compare allocate. They call malloc, realloc and free, and free
+ * all of it before they return. So none of them is called in a signal handler, or after fork in a process with threads.
  *
  * A call on a view reads the directory of the root and the row counts again, but no heap. It takes about 3
  * microseconds, for a small file and for one of 5 MB alike; a crafted root of 200 kB with 16,000 stream headers makes
@@ -22,14 +22,14 @@
  * take some 50 milliseconds for a file of 5 MB, and allocate some 12 MB then.
  *
  * Errors: clim_check, clim_open, clim_read_header and their variants return false and write a clim_fault, or say that a
- * budget is spent. clim_canonical_root and clim_digest say if memory runs out. Any other call has no error: for a view
- * that is not open, and for a number that names nothing, it returns false, 0 or no bytes. A fault has no table, row or
- * column, only the offset of what is wrong.
+ * budget is spent. clim_canonical_root, clim_digest and clim_compare say if memory runs out. Any other call has no
+ * error: for a view that is not open, and for a number that names nothing, it returns false, 0 or no bytes. A fault has
+ * no table, row or column, only the offset of what is wrong.
  *
  * Sizes: a clim_view has 5,208 bytes. No other call needs memory but its stack. None of these figures is proved:
- * up to 128 kB in the calls that check or open, up to 384 kB in clim_canonical_root and clim_digest (64 kB, and more for
- * nested types), up to 192 kB in clim_signature_text, and up to 48 kB in any other call. So a thread needs CLIM_STACK
- * bytes beside its own. The first was measured at calls that do the same as those of this library: to check took 46 kB
+ * up to 128 kB in the calls that check or open, up to 384 kB in clim_canonical_root, clim_digest and clim_compare (64
+ * kB, and more for nested types), up to 192 kB in clim_signature_text, and up to 48 kB in any other call. So a thread
+ * needs CLIM_STACK bytes beside its own. The first was measured at calls that do the same as those of this library: to check took 46 kB
  * for an assembly and 54 kB for a root whose types are nested 127 deep in a signature; to open took 73 kB and 82 kB.
  * For a file with such types they add up to 61 kB and 89 kB.
  *
@@ -37,8 +37,9 @@
  *   - No pointer is null, even if the length after it is 0. Use "" then.
  *   - A pointer and a length describe that number of bytes or items. Nobody writes them during the call.
  *   - What a call writes through a pointer does not overlap its other arguments. It has a value before the call:
- *     initialise a clim_view, a clim_cell, a clim_bytes, a clim_fault, a clim_header and a clim_stream_header with
- *     CLIM_CLOSED, CLIM_NO_CELL, CLIM_NO_BYTES, CLIM_NO_FAULT, CLIM_NO_HEADER and CLIM_NO_STREAM.
+ *     initialise a clim_view, a clim_cell, a clim_bytes, a clim_fault, a clim_header, a clim_stream_header, a
+ *     clim_location and a clim_difference with CLIM_CLOSED, CLIM_NO_CELL, CLIM_NO_BYTES, CLIM_NO_FAULT, CLIM_NO_HEADER,
+ *     CLIM_NO_STREAM, CLIM_NO_LOCATION and CLIM_NO_DIFFERENCE.
  *   - A clim_view is copied as a whole. Only calls write its fields.
  *   - The bytes that were opened do not change and do not move, while a view of them, or a text or a blob from
  *     that view, is in use.
@@ -148,6 +149,34 @@ typedef struct clim_stream_header {
     uint32_t offset;
     uint32_t size;
 } clim_stream_header;
+
+/* The cell of a table that has a byte: its offset in bytes from the start of the root, its size in bytes, which is 1, 2
+ * or 4, its column and row, and its table. */
+typedef struct clim_location {
+    size_t offset;
+    size_t size;
+    size_t column;
+    uint32_t row;
+    uint8_t table;
+} clim_location;
+
+/* What differs between two roots, and the fields of clim_difference that belong to it. The other fields are 0. */
+enum clim_difference_kind {
+    CLIM_NO_DIFFERENCE_KIND = 0, /* nothing: the kind in CLIM_NO_DIFFERENCE */
+    CLIM_VERSION_DIFFERS = 1,    /* the version string (II.24.2.1) */
+    CLIM_USER_DIFFERS = 2,       /* the bytes of #US, padded with zeros to a multiple of four (II.24.2.4) */
+    CLIM_COUNT_DIFFERS = 3,      /* the number of rows of a table: table, left_count and right_count */
+    CLIM_CELL_DIFFERS = 4        /* a cell of a row that both roots have: table, row and column */
+};
+
+typedef struct clim_difference {
+    size_t column;
+    uint32_t row;
+    uint32_t left_count;
+    uint32_t right_count;
+    uint8_t kind;
+    uint8_t table;
+} clim_difference;
 
 /* The tables, by their numbers (II.22). */
 enum clim_table {
@@ -402,6 +431,8 @@ enum clim_generic_param_constraint_column {
 #define CLIM_NO_FAULT {0, 0, 0}
 #define CLIM_NO_CELL {CLIM_NO_BYTES, 0, CLIM_NO_KIND, 0, {0}}
 #define CLIM_NO_STREAM {CLIM_NO_BYTES, 0, 0, 0}
+#define CLIM_NO_LOCATION {0, 0, 0, 0, 0}
+#define CLIM_NO_DIFFERENCE {0, 0, 0, 0, CLIM_NO_DIFFERENCE_KIND, 0}
 #define CLIM_NO_STARTS {1, {0}}
 #define CLIM_NOT_FOUND {CLIM_NO_STARTS, CLIM_NO_STARTS, CLIM_NO_STARTS, CLIM_NO_STARTS, CLIM_NO_STARTS, {false}, false}
 #define CLIM_CLOSED {CLIM_NO_BYTES, CLIM_NOT_FOUND, false}
@@ -558,7 +589,7 @@ uint32_t clim_find_type(const clim_view *view, const uint8_t *name_space, size_t
 size_t clim_rows_by_key(const clim_view *view, uint8_t table, uint8_t key_table, uint32_t key_row, uint32_t *rows,
                         size_t room);
 
-/* What clim_canonical_root and clim_digest return if memory runs out. */
+/* What clim_canonical_root, clim_digest and clim_compare return if memory runs out. */
 #define CLIM_NO_MEMORY (SIZE_MAX - 1)
 
 /* Writes the canonical root of the view (II.24.2) into buffer[0] to buffer[room - 1], if there is room for all of it;
@@ -575,6 +606,26 @@ size_t clim_canonical_root(const clim_view *view, uint8_t *buffer, size_t room);
  * with the same metadata have the same digest. Returns 0, CLIM_TOO_LONG or CLIM_NO_MEMORY as clim_canonical_root does;
  * the digest is then unchanged. Reads *view and the root. Allocates. */
 size_t clim_digest(const clim_view *view, uint8_t *digest);
+
+/* Writes *location, the cell that has the byte at an offset (II.24.2.6). The offset is in bytes from the start of the
+ * root: of a file that was opened, its root_start in clim_header counts less. At most one cell has a byte. False if the
+ * view is not open, or no cell has the byte: it is outside the tables, or is the padding byte of Constant (II.22.9); then
+ * *location is unchanged. Reads *view and the headers in the root. */
+bool clim_where(const clim_view *view, size_t offset, clim_location *location);
+
+/* What clim_compare returns if both views have the same metadata, and if they do not. */
+#define CLIM_EQUAL 1
+#define CLIM_DIFFERENT 2
+
+/* Returns CLIM_EQUAL if two views have the same metadata, and so the same canonical root. Otherwise returns
+ * CLIM_DIFFERENT and writes *difference, the first that differs: the version string, the user strings, the number of rows
+ * of a table, in the order of the tables, or a cell, in the order of tables, rows and columns. Texts, blobs and signatures
+ * are compared by what they are, and not by where they are in the root.
+ *
+ * Returns 0 if one of the views is not open, and CLIM_NO_MEMORY if memory runs out; then, and if nothing differs,
+ * *difference is unchanged. Reads both views and their roots, the cells up to the first that differs. Allocates only to
+ * decode signatures whose blobs have other bytes, and for that one cell. */
+size_t clim_compare(const clim_view *left, const clim_view *right, clim_difference *difference);
 
 #ifdef __cplusplus
 }

@@ -6,6 +6,7 @@
  *     test write FILE FOLDER     writes these inputs into files of a folder, in the same order
  *     test calls FILE [bare]     compares calls with one another, and makes calls that must be rejected; the last line
  *                                is 'N passed, M failed'
+ *     test compare FILE OTHER [bare]   prints the first difference of two files
  *     test explain FILE          prints what each rule means
  *     test times FILE [bare]     prints how long calls take
  *
@@ -31,6 +32,8 @@ _Static_assert(offsetof(clim_found, in_order) == 5140 && offsetof(clim_found, ut
 _Static_assert(sizeof(clim_view) == 5208 && offsetof(clim_view, is_open) == 5204, "clim_view");
 _Static_assert(sizeof(clim_stream_header) == 32 && offsetof(clim_stream_header, size) == 28, "clim_stream_header");
 _Static_assert(sizeof(clim_cell) == 40 && offsetof(clim_cell, guid) == 22, "clim_cell");
+_Static_assert(sizeof(clim_location) == 32 && offsetof(clim_location, table) == 28, "clim_location");
+_Static_assert(sizeof(clim_difference) == 24 && offsetof(clim_difference, table) == 21, "clim_difference");
 
 static const clim_cell NO_CELL = CLIM_NO_CELL;
 static const clim_view CLOSED = CLIM_CLOSED;
@@ -611,7 +614,7 @@ static void ask_signatures(const clim_view *view, uint8_t table) {
 #endif
 
 static ucontext_t caller, callee;
-static guarded deep;
+static guarded deep, other_deep;
 static bool deep_same;
 
 /* Opens a root with one signature that is as deep as it may be, and writes the signature. */
@@ -627,6 +630,11 @@ static void open_deep(void) {
     uint8_t digest[32] = {0};
     len = clim_canonical_root(&view, text, sizeof text);
     deep_same &= len > 0 && len <= sizeof text && clim_digest(&view, digest) == len;
+    clim_difference found = CLIM_NO_DIFFERENCE;
+    clim_view other = CLOSED;
+    deep_same &= clim_open_root(other_deep.at, other_deep.len, &other, &fault) &&
+                 clim_compare(&view, &other, &found) == CLIM_DIFFERENT && found.kind == CLIM_CELL_DIFFERS &&
+                 found.table == CLIM_TYPE_SPEC && found.row == 1 && found.column == CLIM_TYPE_SPEC_SIGNATURE;
 }
 
 /* A call on a stack of this many bytes; the page before them may not be written. */
@@ -667,10 +675,13 @@ static void ask_deep(void) {
         for (size_t k = 0; k < len; k++) signature[k] = kinds[i].bytes[k % kinds[i].len];
         signature[len] = 0x08;
         deep = root_of(signature, len + 1);
+        signature[len] = 0x09;
+        other_deep = root_of(signature, len + 1);
         if (HAS_OWN_STACK) call_on_stack(CLIM_STACK, open_deep);
         else open_deep();
         CHECK(deep_same);
         munmap(deep.pages, deep.room);
+        munmap(other_deep.pages, other_deep.room);
     }
 }
 
@@ -764,6 +775,95 @@ static void ask_canonical(const clim_view *view) {
     if (len < 1 << 14) ask_no_memory(view, len);
 }
 
+static bool same_location(const clim_location *a, const clim_location *b) {
+    return a->offset == b->offset && a->size == b->size && a->column == b->column && a->row == b->row &&
+           a->table == b->table;
+}
+
+/* Each byte of the root has at most one cell, which has the byte. Each cell is found by all its bytes. */
+static void ask_where(const clim_view *view) {
+    clim_view closed = CLOSED;
+    clim_location none = {7, 7, 7, 7, 7}, location = none, last = CLIM_NO_LOCATION;
+    size_t bytes = 0, cells = 0, wanted = 0, few = 1 << 16;
+    bool has = true, follow = true, all = view->root.len <= few;
+    for (size_t at = 0; at < (all ? view->root.len : few); at++) {
+        location = none;
+        if (!clim_where(view, at, &location)) {
+            has &= same_location(&location, &none);
+            continue;
+        }
+        has &= location.offset <= at && at - location.offset < location.size;
+        has &= location.row >= 1 && location.row <= clim_count(view, location.table) &&
+               location.column < clim_cell_count(location.table);
+        if (!same_location(&location, &last)) {
+            /* The next cell begins where the last ends, or at most one byte of padding follows it. */
+            follow &= location.offset == at && (cells == 0 || at <= last.offset + last.size + 1);
+            bytes += location.size;
+            cells++;
+        }
+        last = location;
+    }
+    for (unsigned table = 0; table < 256; table++)
+        wanted += clim_count(view, (uint8_t)table) * clim_cell_count((uint8_t)table);
+    CHECK(has);
+    CHECK(follow);
+    CHECK(!all || (cells == wanted && bytes <= view->root.len));
+    location = none;
+    CHECK(!clim_where(view, view->root.len, &location) && !clim_where(view, SIZE_MAX, &location));
+    CHECK(!clim_where(&closed, last.offset, &location) && same_location(&location, &none));
+}
+
+static bool same_difference(const clim_difference *a, const clim_difference *b) {
+    return a->column == b->column && a->row == b->row && a->left_count == b->left_count &&
+           a->right_count == b->right_count && a->kind == b->kind && a->table == b->table;
+}
+
+/* The first difference of two views: CLIM_EQUAL if there is none. Memory runs out at each block in turn before. */
+static size_t compare_views(const clim_view *left, const clim_view *right, clim_difference *difference) {
+    clim_difference none = {7, 7, 7, 7, 7, 7};
+    bool same = true, few = left->root.len < 1 << 14;
+    size_t result = CLIM_NO_MEMORY;
+    for (long blocks = 1; result == CLIM_NO_MEMORY; blocks++) {
+        *difference = none;
+        blocks_left = few ? blocks : -1;
+        result = clim_compare(left, right, difference);
+        blocks_left = -1;
+        same &= result == CLIM_DIFFERENT || same_difference(difference, &none);
+    }
+    CHECK(same);
+    return result;
+}
+
+/* A view equals itself and its canonical root. With one byte changed, what has the byte differs. */
+static void ask_compare(const clim_view *view) {
+    clim_difference found = CLIM_NO_DIFFERENCE, none = {7, 7, 7, 7, 7, 7};
+    clim_view closed = CLOSED, other = CLOSED;
+    clim_fault fault = CLIM_NO_FAULT;
+    CHECK(compare_views(view, view, &found) == CLIM_EQUAL && same_difference(&found, &none));
+    CHECK(clim_compare(&closed, view, &found) == 0 && clim_compare(view, &closed, &found) == 0);
+    CHECK(clim_compare(&closed, &closed, &found) == 0 && same_difference(&found, &none));
+    size_t len = clim_canonical_root(view, NULL_BUFFER, 0);
+    guarded root = guard(len);
+    CHECK(clim_canonical_root(view, root.at, len) == len && clim_open_root(root.at, len, &other, &fault));
+    CHECK(compare_views(view, &other, &found) == CLIM_EQUAL && same_difference(&found, &none));
+    if (clim_count(view, CLIM_MODULE) > 0) {
+        /* Generation of Module is a number that no rule is about. It is the first cell. */
+        clim_location location = CLIM_NO_LOCATION;
+        for (size_t at = 0; at < len && !clim_where(&other, at, &location); at++) continue;
+        CHECK(location.table == CLIM_MODULE && location.row == 1 && location.column == CLIM_MODULE_GENERATION);
+        root.at[location.offset] ^= 1;
+        CHECK(clim_open_root(root.at, len, &other, &fault));
+        CHECK(compare_views(view, &other, &found) == CLIM_DIFFERENT);
+        CHECK(same_difference(&found, &(clim_difference){CLIM_MODULE_GENERATION, 1, 0, 0, CLIM_CELL_DIFFERS, CLIM_MODULE}));
+    }
+    /* The version comes before the cells. */
+    root.at[16] ^= 1;
+    CHECK(clim_open_root(root.at, len, &other, &fault));
+    CHECK(compare_views(&other, view, &found) == CLIM_DIFFERENT);
+    CHECK(same_difference(&found, &(clim_difference){0, 0, 0, 0, CLIM_VERSION_DIFFERS, 0}));
+    munmap(root.pages, root.room);
+}
+
 /* Writes the canonical root to a file, as clim rewrite does, and prints its digest. */
 static void rewrite(const clim_view *view, const char *path) {
     uint8_t digest[32] = {0};
@@ -848,6 +948,24 @@ static void calls(guarded file, clim_view *view, bool bare) {
     ask_streams(view);
     ask_user_strings(view);
     ask_canonical(view);
+    ask_where(view);
+    ask_compare(view);
+}
+
+/* Prints the first difference of two views, as clim compare does. */
+static void print_comparison(const clim_view *left, const clim_view *right) {
+    clim_difference it = CLIM_NO_DIFFERENCE;
+    if (compare_views(left, right, &it) == CLIM_EQUAL) {
+        puts("equal");
+        return;
+    }
+    switch (it.kind) {
+    case CLIM_VERSION_DIFFERS: puts("version"); break;
+    case CLIM_USER_DIFFERS: puts("user strings"); break;
+    case CLIM_COUNT_DIFFERS: printf("count %02X %u %u\n", it.table, it.left_count, it.right_count); break;
+    case CLIM_CELL_DIFFERS: printf("cell %02X %u %zu\n", it.table, it.row, it.column); break;
+    default: puts("?");
+    }
 }
 
 /* ---- what rules mean */
@@ -936,6 +1054,14 @@ int main(int count, char **words) {
             show(&view);
         } else if (strcmp(words[1], "rewrite") == 0 && count > 3) {
             rewrite(&view, words[3]);
+        } else if (strcmp(words[1], "compare") == 0 && count > 3) {
+            guarded second = read_file(words[3]);
+            clim_view right = CLOSED;
+            if (!(bare ? clim_open_root(second.at, second.len, &right, &fault)
+                       : clim_open(second.at, second.len, &right, &fault)))
+                stop("the second file is not open");
+            print_comparison(&view, &right);
+            munmap(second.pages, second.room);
         } else {
             calls(file, &view, bare);
             printf("%u passed, %u failed\n", passed, failed);

@@ -10,7 +10,7 @@ complete -c clim -n "not __fish_seen_subcommand_from $subcommands" -a root -d 'P
 complete -c clim -n "not __fish_seen_subcommand_from $subcommands" -a check -d 'Check files against the rules of the standard'
 complete -c clim -n "not __fish_seen_subcommand_from $subcommands" -a show -d 'Print the rows of all tables, or of one'
 complete -c clim -n "not __fish_seen_subcommand_from $subcommands" -a types -d 'Print the types, with the number of their fields and methods'
-complete -c clim -n "not __fish_seen_subcommand_from $subcommands" -a outline -d 'Print the declarations of the assembly, as ILAsm writes them'
+complete -c clim -n "not __fish_seen_subcommand_from $subcommands" -a outline -d 'Print the declarations of the assembly, or of one type, as ILAsm writes them'
 complete -c clim -n "not __fish_seen_subcommand_from $subcommands" -a strings -d 'Print the user strings, with their tokens'
 complete -c clim -n "not __fish_seen_subcommand_from $subcommands" -a token -d 'Print the row or the user string that a token names'
 complete -c clim -n "not __fish_seen_subcommand_from $subcommands" -a where -d 'Print what has the byte at an offset: a header, a stream or a cell'
@@ -21,6 +21,7 @@ complete -c clim -n "not __fish_seen_subcommand_from $subcommands" -a explain -d
 complete -c clim -n "not __fish_seen_subcommand_from $subcommands" -a help -d 'Print this message or the help of the given subcommand(s)'
 complete -c clim -n "__fish_seen_subcommand_from $readers" -F
 complete -c clim -n "__fish_seen_subcommand_from $readers" -l bare -d 'FILE is a metadata root, not a PE file'
+complete -c clim -n "__fish_seen_subcommand_from root check show types token" -l json -d 'Print a JSON value on each line'
 complete -c clim -n "__fish_seen_subcommand_from check" -l budget -x -d 'Check at most N bytes of signatures, or stop with exit status 3'
 complete -c clim -n "__fish_seen_subcommand_from check" -l files-from -x -a - -d 'Read the names of the files from standard input, each ended by a NUL'
 complete -c clim -n "__fish_seen_subcommand_from check" -s 0 -d "The same as '--files-from -'"

@@ -165,6 +165,73 @@ namespace Clim
         public override string ToString() { return Value.ToString("x8"); }
     }
 
+    /// <summary>The cell of a table that has a byte (II.24.2.6).</summary>
+    public struct Location
+    {
+        /// <summary>The row.</summary>
+        public Token Row { get; }
+
+        /// <summary>The column, counted from 0.</summary>
+        public int Column { get; }
+
+        /// <summary>The offset of the cell, in bytes from the start of the metadata root.</summary>
+        public int Offset { get; }
+
+        /// <summary>The size of the cell in bytes: 1, 2 or 4.</summary>
+        public int Size { get; }
+
+        internal Location(NativeLocation it)
+        {
+            Row = new Token(it.Table, (int)it.Row);
+            Column = (int)it.Column;
+            Offset = (int)it.Offset;
+            Size = (int)it.Size;
+        }
+    }
+
+    /// <summary>What differs between two assemblies.</summary>
+    public enum DifferenceKind : byte
+    {
+        /// <summary>Nothing.</summary>
+        None,
+        /// <summary>The version string (II.24.2.1).</summary>
+        Version,
+        /// <summary>The bytes of <c>#US</c>, padded with zeros to a multiple of four (II.24.2.4).</summary>
+        UserStrings,
+        /// <summary>The number of rows of a table.</summary>
+        RowCount,
+        /// <summary>A cell of a row that both have.</summary>
+        Cell,
+    }
+
+    /// <summary>The first that differs between two assemblies. What does not belong to its kind is 0.</summary>
+    public struct Difference
+    {
+        /// <summary>What differs.</summary>
+        public DifferenceKind Kind { get; }
+
+        /// <summary>The table, and the row of a cell.</summary>
+        public Token Row { get; }
+
+        /// <summary>The column of a cell, counted from 0.</summary>
+        public int Column { get; }
+
+        /// <summary>The number of rows of the table in the first assembly.</summary>
+        public int LeftCount { get; }
+
+        /// <summary>The number of rows of the table in the second assembly.</summary>
+        public int RightCount { get; }
+
+        internal Difference(NativeDifference it)
+        {
+            Kind = it.Kind;
+            Row = new Token(it.Table, (int)it.Row);
+            Column = (int)it.Column;
+            LeftCount = (int)it.LeftCount;
+            RightCount = (int)it.RightCount;
+        }
+    }
+
     /// <summary>The rows of one table that a row of another owns, from <c>First</c> to before <c>Past</c>.</summary>
     public struct RowRange
     {
@@ -237,6 +304,27 @@ namespace Clim
         [FieldOffset(20)] public CellKind Kind;
         [FieldOffset(21)] public TableId Table;
         [FieldOffset(22)] public Guid Guid;
+    }
+
+    [StructLayout(LayoutKind.Sequential)]
+    struct NativeLocation
+    {
+        public UIntPtr Offset;
+        public UIntPtr Size;
+        public UIntPtr Column;
+        public uint Row;
+        public TableId Table;
+    }
+
+    [StructLayout(LayoutKind.Sequential)]
+    struct NativeDifference
+    {
+        public UIntPtr Column;
+        public uint Row;
+        public uint LeftCount;
+        public uint RightCount;
+        public DifferenceKind Kind;
+        public TableId Table;
     }
 
     /// <summary>A view, followed by a copy of the bytes that were opened.</summary>
@@ -375,12 +463,21 @@ namespace Clim
         public static extern UIntPtr clim_digest(Memory view, [In, Out] byte[] digest);
 
         [DllImport(Library)]
+        [return: MarshalAs(UnmanagedType.I1)]
+        public static extern bool clim_where(Memory view, UIntPtr offset, ref NativeLocation location);
+
+        [DllImport(Library)]
+        public static extern UIntPtr clim_compare(Memory left, Memory right, ref NativeDifference difference);
+
+        [DllImport(Library)]
         static extern uint clim_abi_version();
 
         // The interface that this file calls, CLIM_ABI_VERSION of clim.h.
         const uint Version = 1;
         // The length that most texts have at most.
         public const int Usual = 256;
+        // CLIM_EQUAL: nothing differs.
+        public const int Equal = 1;
         // The number of bytes of a digest.
         public const int DigestLength = 32;
 
@@ -426,7 +523,7 @@ namespace Clim
             }
         }
 
-        /// <summary>The length of a canonical root, as a call returned it.</summary>
+        /// <summary>The length of a canonical root, or the result of a comparison, as a call returned it.</summary>
         public static int RootLength(Func<UIntPtr> call)
         {
             ulong length = (ulong)Newer(call);
@@ -886,6 +983,33 @@ namespace Clim
             var digest = new byte[Native.DigestLength];
             Native.RootLength(() => Native.clim_digest(memory, digest));
             return digest;
+        }
+
+        /// <summary>
+        /// The cell of a table that has the byte at an offset; null if no cell has it (II.24.2.6). The offset counts from
+        /// the start of the metadata root: of a file, subtract <c>RootStart</c> of its header first.
+        /// </summary>
+        /// <exception cref="NotSupportedException">The library is older than this file.</exception>
+        public Location? Where(long offset)
+        {
+            var location = new NativeLocation();
+            if (offset < 0)
+                return null;
+            bool found = Native.Newer(() => Native.clim_where(memory, (UIntPtr)(ulong)offset, ref location));
+            return found ? new Location(location) : (Location?)null;
+        }
+
+        /// <summary>
+        /// The first that differs between two assemblies; null if both have the same metadata, and so the same canonical
+        /// root: the version, the user strings, the number of rows of a table, or a cell.
+        /// </summary>
+        /// <exception cref="OutOfMemoryException">Memory ran out.</exception>
+        /// <exception cref="NotSupportedException">The library is older than this file.</exception>
+        public static Difference? Compare(Assembly left, Assembly right)
+        {
+            var difference = new NativeDifference();
+            int result = Native.RootLength(() => Native.clim_compare(left.memory, right.memory, ref difference));
+            return result == Native.Equal ? (Difference?)null : new Difference(difference);
         }
 
         /// <summary>

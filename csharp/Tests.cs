@@ -143,11 +143,47 @@ static class Tests
                 using (var again = Assembly.OpenRoot(canonical))
                     Check(again.CanonicalRoot().SequenceEqual(canonical), "a canonical root is its own");
             });
+            Newer("clim_where", () => Where(assembly));
+            Newer("clim_compare", () => Differences(assembly));
             Newer("clim_digest", () =>
             {
                 using (var hash = System.Security.Cryptography.SHA256.Create())
                     Check(assembly.Digest().SequenceEqual(hash.ComputeHash(assembly.CanonicalRoot())), "a digest");
             });
+        }
+    }
+
+    // Each cell is found by its bytes.
+    static void Where(Assembly assembly)
+    {
+        Check(assembly.Where(0) == null, "no cell has the first byte");
+        var root = assembly.CanonicalRoot();
+        using (var again = Assembly.OpenRoot(root))
+        {
+            var found = Enumerable.Range(0, root.Length).Select(it => again.Where(it)).Where(it => it.HasValue)
+                .GroupBy(it => it.Value.Offset).ToArray();
+            int cells = ((TableId[])Enum.GetValues(typeof(TableId))).Sum(it => again.Count(it) * Assembly.ColumnNames(it).Length);
+            Check(found.Length == cells && found.All(it => it.Count() == it.First().Value.Size), "each cell has its bytes");
+            Check(found.All(it => it.First().Value.Row.Row >= 1 && it.First().Value.Row.Row <= again.Count(it.First().Value.Row.Table)),
+                "a cell is in a row");
+            Check(again.Where(-1) == null && again.Where(0) == null && again.Where(root.Length) == null, "no cell has other bytes");
+        }
+    }
+
+    // With one byte changed, the cell or the version that has it differs.
+    static void Differences(Assembly assembly)
+    {
+        Check(Assembly.Compare(assembly, assembly) == null, "an assembly equals itself");
+        var root = assembly.CanonicalRoot();
+        using (var again = Assembly.OpenRoot(root))
+        {
+            Check(Assembly.Compare(assembly, again) == null, "an assembly equals its canonical root");
+            root[16] ^= 1;
+            using (var other = Assembly.OpenRoot(root))
+            {
+                var it = Assembly.Compare(again, other);
+                Check(it.HasValue && it.Value.Kind == DifferenceKind.Version && it.Value.Row.Value == 0, "the version differs");
+            }
         }
     }
 

@@ -24,16 +24,18 @@ from . import rows
 from ._library import FaultStruct, Unsupported, library, supports
 from .assembly import Assembly, Source, Table, address_of, fault_of, header_of, read_source
 from .rows import Row
-from .values import BudgetSpent, Directory, Fault, Header, Signature, Start, Token
+from .values import BudgetSpent, Difference, Directory, Fault, Header, Location, Signature, Start, Token
 
 __version__ = "0.1.0"
 
 __all__ = [
     "Assembly",
     "BudgetSpent",
+    "Difference",
     "Directory",
     "Fault",
     "Header",
+    "Location",
     "Row",
     "Signature",
     "Start",
@@ -41,6 +43,7 @@ __all__ = [
     "Token",
     "Unsupported",
     "check",
+    "compare",
     "open",
     "read_header",
     "rows",
@@ -89,6 +92,19 @@ def check(source: Source, bare: bool = False, *, budget: Optional[int] = None) -
     if spent.value:
         raise BudgetSpent("the budget is spent")
     return None if is_whole else fault_of(fault)
+
+
+def compare(left: Assembly, right: Assembly) -> Optional[Difference]:
+    """The first that differs between two assemblies; `None` if they have the same metadata (II.22, II.24.2).
+
+    Assemblies with the same metadata have the same canonical root. If not, the version string comes first, then the user
+    strings, the numbers of rows in the order of the tables, and the cells in the order of tables, rows and columns.
+
+    Raises:
+        MemoryError: Memory ran out.
+        Unsupported: The library is older than this package.
+    """
+    return left.difference(right)
 
 
 def read_header(source: Source) -> Header:

@@ -78,6 +78,25 @@ class StreamStruct(ctypes.Structure):
     _fields_ = [("name", Bytes), ("header_offset", c_size_t), ("offset", c_uint32), ("size", c_uint32)]
 
 
+class LocationStruct(ctypes.Structure):
+    """A `clim_location`."""
+
+    _fields_ = [("offset", c_size_t), ("size", c_size_t), ("column", c_size_t), ("row", c_uint32), ("table", c_uint8)]
+
+
+class DifferenceStruct(ctypes.Structure):
+    """A `clim_difference`."""
+
+    _fields_ = [
+        ("column", c_size_t),
+        ("row", c_uint32),
+        ("left_count", c_uint32),
+        ("right_count", c_uint32),
+        ("kind", c_uint8),
+        ("table", c_uint8),
+    ]
+
+
 class _Starts(ctypes.Structure):
     _fields_ = [("step", c_uint32), ("starts", c_uint32 * 256)]
 
@@ -108,6 +127,10 @@ EMPTY_AT = ctypes.addressof(_EMPTY)
 TOO_LONG = c_size_t(-1).value
 #: `CLIM_NO_MEMORY`.
 NO_MEMORY = TOO_LONG - 1
+#: What `clim_compare` returns if nothing differs.
+EQUAL = 1
+#: The kinds of a difference, `enum clim_difference_kind`.
+VERSION_DIFFERS, USER_DIFFERS, COUNT_DIFFERS, CELL_DIFFERS = range(1, 5)
 # The length that the texts of most signatures and user strings have at most.
 _USUAL = 256
 #: `CLIM_NO_CELL`.
@@ -151,6 +174,8 @@ _NEWER: dict[str, tuple[Any, ...]] = {
     "clim_canonical_root": (c_size_t, _VIEW, c_void_p, c_size_t),
     "clim_digest": (c_size_t, _VIEW, c_void_p),
     "clim_user_string": (c_bool, _VIEW, c_uint32, c_void_p, c_size_t, POINTER(c_size_t), POINTER(c_uint16)),
+    "clim_where": (c_bool, _VIEW, c_size_t, POINTER(LocationStruct)),
+    "clim_compare": (c_size_t, _VIEW, _VIEW, POINTER(DifferenceStruct)),
 }
 
 

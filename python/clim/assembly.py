@@ -28,7 +28,7 @@ from .rows import (
     TypeDef,
     TypeRef,
 )
-from .values import BudgetSpent, Directory, Fault, Header, Start, Token
+from .values import BudgetSpent, Difference, Directory, Fault, Header, Location, Start, Token
 
 #: What can be opened: a path, or the bytes themselves.
 Source = Union[str, "os.PathLike[str]", bytes, bytearray, memoryview, _mmap.mmap]
@@ -91,6 +91,18 @@ def header_of(data: Union[bytes, _mmap.mmap]) -> Header:
         raise fault_of(fault)
     fields = [getattr(header, name) for name in Header._fields]
     return Header(*(Directory(it.rva, it.size) if isinstance(it, _c.DirectoryStruct) else it for it in fields))
+
+
+def _difference_of(it: _c.DifferenceStruct) -> Difference:
+    """A difference that the library wrote."""
+    if it.kind == _c.VERSION_DIFFERS:
+        return Difference("version")
+    if it.kind == _c.USER_DIFFERS:
+        return Difference("user strings")
+    table = _c.TABLE_NAMES[it.table]
+    if it.kind == _c.COUNT_DIFFERS:
+        return Difference("row count", table, counts=(it.left_count, it.right_count))
+    return Difference("cell", table, it.row, _c.COLUMN_NAMES[it.table][it.column])
 
 
 class Assembly:
@@ -342,6 +354,27 @@ class Assembly:
         digest = ctypes.create_string_buffer(32)
         _c.canonical_length(library.clim_digest(self._view(), digest))
         return digest.raw
+
+    def where(self, offset: int) -> Optional[Location]:
+        """The cell of a table that has the byte at an offset, or `None` if no cell has it (II.24.2.6).
+
+        The offset counts from the start of the metadata root. Of a file, subtract `header.root_start` first.
+
+        Raises:
+            Unsupported: The library is older than this package.
+        """
+        it, view = _c.LocationStruct(), self._view()
+        if not 0 <= offset < self._struct.root.len:
+            offset = self._struct.root.len
+        if not library.clim_where(view, offset, ctypes.byref(it)):
+            return None
+        return Location(_c.TABLE_NAMES[it.table], it.row, _c.COLUMN_NAMES[it.table][it.column], it.offset, it.size)
+
+    def difference(self, other: Assembly) -> Optional[Difference]:
+        """The first that differs from another assembly; `None` if both have the same metadata. See `clim.compare`."""
+        it = _c.DifferenceStruct()
+        result = _c.canonical_length(library.clim_compare(self._view(), other._view(), ctypes.byref(it)))
+        return None if result == _c.EQUAL else _difference_of(it)
 
     def to_dict(self) -> Dict[str, Any]:
         """The version and the rows of all tables, as values that `json.dumps` takes."""

@@ -2,7 +2,7 @@
 
 from __future__ import annotations
 
-from typing import TYPE_CHECKING, NamedTuple, Optional, cast
+from typing import TYPE_CHECKING, NamedTuple, Optional, Tuple, cast
 
 from ._library import library, written_text
 
@@ -39,6 +39,36 @@ class Fault(Exception):
 
 class BudgetSpent(Exception):
     """The signatures of a file have more bytes than the budget of `clim.open` allows."""
+
+
+class Location(NamedTuple):
+    """The cell of a table that has a byte, as `Assembly.where` returns it."""
+
+    #: The name of the table, for example `"TypeDef"`.
+    table: str
+    #: The row, counted from 1.
+    row: int
+    #: The name of the column, for example `"TypeName"`.
+    column: str
+    #: The offset of the cell, in bytes from the start of the metadata root.
+    offset: int
+    #: The size of the cell in bytes: 1, 2 or 4.
+    size: int
+
+
+class Difference(NamedTuple):
+    """The first that differs between two assemblies, as `clim.compare` returns it. What does not belong to it is `None`."""
+
+    #: What differs: `"version"`, `"user strings"`, `"row count"` or `"cell"`.
+    kind: str
+    #: The name of the table, for a row count or a cell.
+    table: Optional[str] = None
+    #: The row of the cell, counted from 1.
+    row: Optional[int] = None
+    #: The name of the column of the cell.
+    column: Optional[str] = None
+    #: The numbers of rows of the table in both.
+    counts: Optional[Tuple[int, int]] = None
 
 
 class Token(int):

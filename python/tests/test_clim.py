@@ -482,6 +482,52 @@ class Features(unittest.TestCase):
         self.assertRaises(OverflowError, _library.canonical_length, _library.TOO_LONG)
         self.assertRaises(MemoryError, _library.canonical_length, _library.NO_MEMORY)
 
+    def test_where(self):
+        for path, assembly in opened():
+            if self.lacks("clim_where", lambda: assembly.where(0)):
+                continue
+            start = 0 if assembly.header is None else assembly.header.root_start
+            with open(path, "rb") as file:
+                root = file.read()[start : start + (1 << 15)]
+            found = [it for it in map(assembly.where, range(len(root))) if it]
+            cells = set(found)
+            self.assertEqual(len(found), sum(it.size for it in cells), path)
+            if len(root) < 1 << 15:
+                self.assertEqual(len(cells), sum(len(table) * len(table.columns) for table in assembly), path)
+            for it in cells:
+                row, number = assembly[it.table].row(it.row), root[it.offset : it.offset + it.size]
+                cell = getattr(row, it.column)
+                if isinstance(cell, int) and not isinstance(cell, (clim.Start, clim.Token)):
+                    self.assertEqual(int.from_bytes(number, "little"), cell, (path, it))
+            for offset in (-1, 0, 1 << 31, 1 << 64):
+                self.assertIsNone(assembly.where(offset), path)
+        self.assertRaises(ValueError, assembly.where, 0)
+
+    def test_compare(self):
+        names = ["one_module.root", "two_types.root", "greeter.root", "empty.root"]
+        every = [clim.open(SAMPLES / name, bare=True) for name in names]
+        if not self.lacks("clim_compare", lambda: clim.compare(every[0], every[1])):
+            for left in every:
+                for right in every:
+                    it = clim.compare(left, right)
+                    self.assertEqual(it is None, left.canonical_root() == right.canonical_root())
+                    if it and it.counts:
+                        self.assertEqual(it.counts, (len(left[it.table]), len(right[it.table])))
+            changed = bytearray(every[0].canonical_root())
+            with clim.open(bytes(changed), bare=True) as same:
+                self.assertIsNone(clim.compare(every[0], same))
+                changed[same.where(next(i for i in range(len(changed)) if same.where(i))).offset] ^= 1
+            with clim.open(bytes(changed), bare=True) as other:
+                self.assertEqual(clim.compare(every[0], other), clim.Difference("cell", "Module", 1, "Generation"))
+                changed[16] ^= 1
+                with clim.open(bytes(changed), bare=True) as another:
+                    self.assertEqual(clim.compare(other, another), clim.Difference("version"))
+            with clim.open(self.with_user_strings(), bare=True) as strings:
+                self.assertEqual(clim.compare(strings, every[3]).kind in ("version", "user strings"), True)
+            self.assertRaises(ValueError, clim.compare, every[0], other)
+        for assembly in every:
+            assembly.close()
+
     def test_user_string(self):
         with clim.open(self.with_user_strings(), bare=True) as assembly:
             if not self.lacks("clim_user_string", lambda: assembly.user_string(0x70000001)):

@@ -21,6 +21,8 @@ const NEWER: &[&str] = &[
     "clim_user_string",
     "clim_canonical_root",
     "clim_digest",
+    "clim_where",
+    "clim_compare",
 ];
 
 /// The folder of the library by pkg-config, or why there is none.

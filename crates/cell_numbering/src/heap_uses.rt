@@ -167,6 +167,9 @@ fn add_rows<'a, S: ReadCells>(
 {
     source.holds_one();
     let count = source.count(table);
+    if count == 0 {
+        return Ok(());
+    }
     let columns = index_columns(alloc, source, table)?;
     for row in 0..count {
         add_row(alloc, uses, source, &columns, table, row + 1)?;

@@ -14,11 +14,10 @@ ghost use Rattle.cell_numbering.specs.PlainColumns.{ArePlain};
 ghost use Rattle.cell_numbering.specs.NumbersSoFar.{SoFar, no_pools, none_numbered, with_cell, with_next_cell, with_row, with_rows, with_tables};
 
 use crate::numbers_so_far::{Indexes, NumbersSoFar};
-use crate::plain_columns::plain_columns;
+use crate::plain_columns::{PlainColumn, plain_columns};
 use metadata_source::{ReadCells, kind_of};
 use reading::{CellRef, RunCursors};
 use root_writer::row_number;
-use rows::ColumnNumbers;
 use std::alloc::{AllocError, Global};
 use table_schema::{ColumnKind, TableId, columns};
 
@@ -45,7 +44,7 @@ fn put_cell<S: ReadCells>(
     indexes: Indexes,
     source: &S,
     cursors: &mut RunCursors,
-    plain: &[Option<ColumnNumbers<'_>>],
+    plain: &[Option<PlainColumn<'_>>],
     table: TableId,
     row: u32,
     cell_index: usize,
@@ -61,8 +60,8 @@ fn put_cell<S: ReadCells>(
 {
     root_writer::laws::cells_can_be_numbered();
     source.holds_one();
-    if let Some(numbers) = &plain[cell_index] {
-        return so_far.put_number(numbers.number(row));
+    if let Some(column) = &plain[cell_index] {
+        return so_far.put_number(column.number(row));
     }
     let kind = kind_of(table, cell_index);
     match kind {
@@ -83,7 +82,7 @@ fn put_next<S: ReadCells>(
     indexes: Indexes,
     source: &S,
     cursors: &mut RunCursors,
-    plain: &[Option<ColumnNumbers<'_>>],
+    plain: &[Option<PlainColumn<'_>>],
     table: TableId,
     row: u32,
     index: usize,
@@ -123,7 +122,7 @@ fn put_row<S: ReadCells>(
     indexes: Indexes,
     source: &S,
     cursors: &mut RunCursors,
-    plain: &[Option<ColumnNumbers<'_>>],
+    plain: &[Option<PlainColumn<'_>>],
     table: TableId,
     row: u32,
 ) -> Result<(), AllocError>
@@ -157,6 +156,9 @@ fn put_rows<S: ReadCells>(
 {
     source.holds_one();
     let count = source.count(table);
+    if count == 0 {
+        return Ok(());
+    }
     let plain = plain_columns(alloc, source, table)?;
     let mut cursors = source.run_cursors();
     for row in 0..count {

@@ -1,5 +1,6 @@
 -- The numbers of blobs that are remembered.
-use Rattle.std.specs.Prelude.{ℕ, ◌+◌, ◌/◌, ◌%◌, Bool, ◌&&◌, ◌||◌, nat_eq, nat_le, nat_lt, List, replicate, slice_index, slice_set, IsTrue, if◌then◌else◌}
+use Rattle.std.specs.Prelude.{◌≡◌, ℕ, ◌+◌, ◌/◌, ◌%◌, Bool, ◌&&◌, ◌||◌, nat_eq, nat_le, nat_lt, List, replicate, slice_index, slice_set, IsTrue, if◌then◌else◌}
+use Rattle.checks.specs.declared.passed.Beginning.{Beginning}
 
 -- two tables of slots, and how many bytes a part of the heap has
 pub record Slots : Type 0 where
@@ -37,3 +38,8 @@ keep slots number bytes = record {
   long = if leaves_part slots number bytes then slice_set slots.long (long_slot slots number) number else slots.long;
   part = slots.part;
 }
+
+-- the blob of a number begins in this part of the heap, after this number of the part's bytes
+pub record BeginsIn (slots : Slots) (number : ℕ) (beginning : Beginning) : Type 0 where
+  pub part : beginning.part ≡ number / slots.part
+  pub before : beginning.before ≡ number % slots.part

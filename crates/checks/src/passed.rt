@@ -1,5 +1,5 @@
-ghost use Rattle.std.specs.Prelude.{◌≡◌, ◌≢◌, ◌⊎◌, ℕ};
-ghost use Rattle.checks.specs.Passed.{Keeps, no_slots, is_kept, keep};
+ghost use Rattle.std.specs.Prelude.{◌≡◌, ◌≢◌, ◌⊎◌, ℕ, IfNone, IfSome, false, true};
+ghost use Rattle.checks.specs.Passed.{BeginsIn, Keeps, no_slots, is_kept, keep};
 
 use std::marker::Model;
 
@@ -22,6 +22,15 @@ pub struct Passed {
     long: [u32; PARTS],
     /// The number of bytes of a part of the heap.
     part: usize,
+}
+
+/// Where a blob begins in its heap.
+#[derive(Clone, Copy)]
+pub struct Beginning {
+    /// The part of the heap.
+    part: usize,
+    /// The number of bytes before it in this part.
+    before: usize,
 }
 
 impl Model for Passed {
@@ -48,26 +57,34 @@ impl Passed {
         }
     }
 
-    /// Whether a number is kept.
-    pub fn has(&self, number: u32) -> bool
-        ensures { result ≡ is_kept self.now number }
+    /// Where the blob of a number begins; `None` if the number is kept.
+    pub fn beginning_of_new(&self, number: u32) -> Option<Beginning>
+        ensures kept { IfNone result (is_kept self.now number ≡ true) }
+        ensures new { IfSome result (λ _. is_kept self.now number ≡ false) }
+        ensures begins { IfSome result (BeginsIn self.now number) }
     {
         let offset = number as usize;
-        number != 0
-            && (self.recent[offset % RECENT] == number
-                || self.long[offset / self.part % PARTS] == number)
+        if number != 0 && self.recent[offset % RECENT] == number {
+            return None;
+        }
+        let part = offset / self.part;
+        if number != 0 && self.long[part % PARTS] == number {
+            return None;
+        }
+        let before = offset - part * self.part;
+        Some(Beginning { part, before })
     }
 
-    /// Keeps the number of a blob of a number of bytes, in place of others with the same slots.
-    pub fn keep(&mut self, number: u32, bytes: usize)
+    /// Keeps the number of a blob of a number of bytes, which begins there, in place of others with the same slots.
+    pub fn keep(&mut self, number: u32, beginning: Beginning, bytes: usize)
+        requires { BeginsIn self.old number beginning }
         ensures value { self.new ≡ keep self.old number bytes }
         ensures kept { number ≢ 0 → Keeps self.new number }
         ensures nothing_else { (other : ℕ) → Keeps self.new other → (other ≡ number) ⊎ Keeps self.old other }
     {
-        let offset = number as usize;
-        self.recent[offset % RECENT] = number;
-        if bytes >= self.part - offset % self.part {
-            self.long[offset / self.part % PARTS] = number;
+        self.recent[number as usize % RECENT] = number;
+        if bytes >= self.part - beginning.before {
+            self.long[beginning.part % PARTS] = number;
         }
     }
 }

@@ -138,15 +138,15 @@ fn first_not_encoded(
     let mut accepted = Passed::none(heap.len());
     for row in 1..limit {
         let number = numbers.number(row);
-        if accepted.has(number) {
+        let Some(beginning) = accepted.beginning_of_new(number) else {
             continue;
-        }
+        };
         let Ok(blob) = blob(heap, number) else {
             return Some(row);
         };
         budget.spend(blob.len())?;
         match check_blob(source, encoded, blob) {
-            Ok(()) => accepted.keep(number, blob.len()),
+            Ok(()) => accepted.keep(number, beginning, blob.len()),
             Err(_) => return Some(row),
         }
     }

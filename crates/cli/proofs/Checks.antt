@@ -14,7 +14,8 @@ use Rattle.cli_files.specs.Stopped.{Outcome, status_of_outcome}
 use Rattle.cli_faults.specs.declared.failure.Failure.{Failure}
 use Rattle.cli_faults.specs.declared.failure.Failure.TheVariants.{Fault, NoSuchRow, Usage, NotUtf8, CannotRead, CannotWriteOutput, CannotWriteFile, OutOfMemory}
 use Rattle.cli_faults.specs.declared.stop.Stop.{Stop}
-use Rattle.cli_faults.specs.declared.stop.Stop.TheVariants.{BudgetSpent, Different, Failed, Nothing}
+use Rattle.cli_faults.specs.declared.stop.Stop.TheVariants.{BudgetSpent, Different, Failed, NoSuchType, Nothing}
+use Rattle.cli_faults.specs.declared.stop.Stop.TheVariants as stop
 use Rattle.cli_faults.specs.Status.{IsOutput}
 use Rattle.cli_faults.specs.Stops.{status_of_stop}
 use Rattle.cli.specs.Checks.{EndsCheck, IsCheckAt, StopsCheck, broken_at, line_text, outcome_line, verdict_line, verdict_status}
@@ -39,6 +40,8 @@ broken_code (Failed OutOfMemory) found is = cc
 broken_code BudgetSpent found is = cc
 broken_code Different found is = cc
 broken_code Nothing found is = cc
+broken_code stop.Broken found is = cc
+broken_code NoSuchType found is = cc
 
 module _ (budget : Option ℕ) (bare : Bool) (name : List ℕ) where
   -- a name that is not UTF-8

@@ -1,17 +1,14 @@
 -- How the digest of one of several files ends, case by case.
-use Rattle.std.proofs.Common.{◌≡◌, ℕ, Bool, List, [], None, Option, Result, Ok, Err, refl, subst, sym}
+use Rattle.std.proofs.Common.{◌≡◌, ℕ, Bool, List, [], None, Option, Result, Ok, Err, refl}
 use Rattle.std.specs.Prelude.{IsErrAnd}
 use Rattle.std.specs.Io.KnownBytes.{Appends}
 use Rattle.cli_faults.specs.declared.failure.Failure.{Failure}
-use Rattle.cli_faults.specs.declared.stop.Stop.{Stop}
 use Rattle.cli_faults.specs.declared.stop.Stop.TheVariants.{Failed}
 use Rattle.cli_faults.specs.Stops.{status_of_stop}
-use Rattle.cli_files.specs.Read.{IsRefused}
 use Rattle.cli_files.specs.declared.stopped.Stopped.{Stopped}
 use Rattle.cli_reports.specs.Sent.{SendsPrefix}
 use Rattle.cli.specs.Digested.{EndsDigest, IsDigestAt}
 use Rattle.cli.specs.Digests.{digest_text}
-use Rattle.cli.specs.Rewritten.{ReportsUnwritten}
 use Rattle.cli.specs.Several.{HasEnded, IsCut}
 use Rattle.cli.proofs.RunLemmas.{appends_nothing}
 

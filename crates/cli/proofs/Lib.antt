@@ -7,3 +7,5 @@ pub mod Checks
 pub mod Digesting
 pub mod Explaining
 pub mod Locating
+pub mod Outlining
+pub mod JsonChecking

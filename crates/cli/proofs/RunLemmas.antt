@@ -6,7 +6,6 @@ use Rattle.cli_faults.specs.declared.failure.Failure.{Failure}
 use Rattle.cli_faults.specs.Status.{IsOutput, IsUnwritten}
 use Rattle.cli_reports.specs.declared.report.Report.{Report}
 use Rattle.cli_faults.specs.declared.stop.Stop.{Stop}
-use Rattle.cli_faults.specs.declared.stop.Stop.TheVariants.{Failed}
 use Rattle.cli_reports.specs.Checked.{IsWhole, rules_of, signature_bytes_of}
 use Rattle.sha2.specs.Sha256.{sha256}
 use Rattle.cli.specs.Digests.{digest_text}
@@ -14,13 +13,15 @@ use Rattle.cli_strings.specs.Strings.{IsStringsText}
 use Rattle.cli_outline.specs.Outline.{IsLine, outline_rows}
 use Rattle.cli_outline.specs.Sent.{PrintsLines}
 use Rattle.metadata.specs.Metadata.{Metadata}
-use Rattle.cli_reports.specs.Printed.{IsModelOf, IsReportText, check_text}
+use Rattle.cli_reports.specs.Printed.{IsModelOf, check_text}
 use Rattle.cli_reports.specs.Reported.{IsMet, LeavesOutput, Reports, ReportsFault}
 use Rattle.cli_reports.specs.Sent.{Prints, SendsPrefix}
 use Rattle.cli_reports.specs.Stops.{StopLeavesOutput, StopsWithin}
 use Rattle.cli_files.specs.Hints.{hint_for}
 use Rattle.cli_files.specs.Written.{IsGiven}
+use Rattle.cli.specs.Forms.{IsTextIn}
 use Rattle.cli.specs.Rewritten.{IsRewritten, ReportsUnwritten}
+use Rattle.cli.specs.declared.report_form.Form.{Form}
 use Rattle.cli.specs.Runs.{DigestsPart, IsChecked, IsDigesting, IsListed, IsOutlined, IsReported, IsRewriting, PrintsPart, wrote_text}
 use Rattle.cli_files.specs.Stopped.{IsStopOf, Outcome}
 
@@ -29,17 +30,17 @@ abbrev pub Hinted : Bool → List ℕ → Result (Unit {0}) Stop → Outcome →
 Hinted bare bytes stops outcome = IfErr stops (λ stop. IfErr outcome (λ stopped. (stopped.stop ≡ stop) × (stopped.hint ≡ hint_for bare bytes stop)))
 
 module _ {W : Type 0} (contents : W → Option (List ℕ)) (before after : W) (bare : Bool) (bytes : List ℕ) where
-  pub reported : (report : Report) (first : Result (Unit {0}) Failure) (second : Result (Unit {0}) Stop) (last : Outcome)
+  pub reported : (report : Report) (form : Form) (first : Result (Unit {0}) Failure) (second : Result (Unit {0}) Stop) (last : Outcome)
       → OnOk first (IsMet report bare bytes) → IfErr first (Reports report bare bytes) → IfErr first (LeavesOutput before after)
-      → ((text : List ℕ) → IsReportText report bare bytes text → Prints (contents before) (contents after) first text)
+      → ((text : List ℕ) → IsTextIn form report bare bytes text → Prints (contents before) (contents after) first text)
       → IsStopOf first second → IsOk last ↔ IsOk second → Hinted bare bytes second last
-      → IsReported contents before after report bare bytes last
-  reported report (Ok done) (Ok same) (Ok end) met reports leaves printed stops ok hinted = record { met = met; printed = printed; stopped = tt; hint = tt }
-  reported report (Ok done) (Ok same) (Err stopped) met reports leaves printed stops ok hinted = let no = ok.1 refl in cc
-  reported report (Ok done) (Err stop) last met reports leaves printed stops ok hinted = cc
-  reported report (Err failure) (Ok same) last met reports leaves printed stops ok hinted = absurd stops
-  reported report (Err failure) (Err stop) (Ok end) met reports leaves printed stops ok hinted = let no = ok.0 refl in cc
-  reported report (Err failure) (Err stop) (Err stopped) met reports leaves printed stops ok hinted = record {
+      → IsReported contents before after report form bare bytes last
+  reported report form (Ok done) (Ok same) (Ok end) met reports leaves printed stops ok hinted = record { met = met; printed = printed; stopped = tt; hint = tt }
+  reported report form (Ok done) (Ok same) (Err stopped) met reports leaves printed stops ok hinted = let no = ok.1 refl in cc
+  reported report form (Ok done) (Err stop) last met reports leaves printed stops ok hinted = cc
+  reported report form (Err failure) (Ok same) last met reports leaves printed stops ok hinted = absurd stops
+  reported report form (Err failure) (Err stop) (Ok end) met reports leaves printed stops ok hinted = let no = ok.0 refl in cc
+  reported report form (Err failure) (Err stop) (Err stopped) met reports leaves printed stops ok hinted = record {
     met = tt;
     printed = printed;
     stopped = (failure, rw hinted.0 stops, reports, leaves);

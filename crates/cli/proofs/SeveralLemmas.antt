@@ -1,8 +1,8 @@
 -- Runs on several files, one after another.
-use Rattle.std.proofs.Common.{◌≡◌, ◌∙◌, ℕ, List, [], ◌∷◌, ◌++◌, ◌+◌, ◌<◌, All, map, take, drop, get_or, length, max, fold, Option, None, Some, Result, Ok, Err, refl, ap, sym, subst, append_assoc, append-nil, arith, inl, inr}
-use Rattle.std.specs.Prelude.{IfErr, IfOk, IsErrAnd, IsOk, ◌↔◌, ◌⊎◌, ◌==◌}
+use Rattle.std.proofs.Common.{◌≡◌, ◌∙◌, ℕ, List, [], ◌∷◌, ◌++◌, ◌+◌, ◌<◌, map, take, drop, get_or, length, max, fold, Option, None, Some, Result, Ok, Err, refl, ap, sym, subst, append_assoc, append-nil, arith, inl, inr}
+use Rattle.std.specs.Prelude.{IfErr, IsErrAnd, IsOk, ◌↔◌, ◌==◌}
 use Rattle.std.specs.Io.KnownBytes.{Appends}
-use Rattle.std.specs.List.{flat_map, slice_split}
+use Rattle.std.specs.List.{slice_split}
 use Rattle.std.proofs.lemmas.Grind.{flat_map-append}
 use Rattle.std.proofs.lemmas.List.{map-append, take-append-drop}
 use Rattle.std.proofs.Math.Numerals.{add-one}

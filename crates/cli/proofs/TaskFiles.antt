@@ -1,19 +1,20 @@
 -- Each task on one file has a file, which the arguments name.
-use Rattle.std.proofs.Common.{◌≡◌, ◌≢◌, ◌∙◌, ℕ, Bool, true, false, List, [], ◌∷◌, map, Result, Ok, Err, Option, Some, None, ap, refl, sym, subst, codes}
+use Rattle.std.proofs.Common.{◌≡◌, ◌∙◌, ℕ, Bool, true, false, List, [], ◌∷◌, map, Result, Ok, Err, Option, Some, None, ap, refl, sym, subst, codes}
 use Rattle.std.specs.Prelude.{IsSome, IsSomeAnd, MatchOption, if◌then◌else◌, option_map, slice_get}
 use Rattle.std.specs.Str.{bytes_eq}
 use Rattle.std.specs.Borrow.{Bor}
 use Rattle.cli_arguments.specs.declared.asked.Ask.{Ask}
 use Rattle.cli_arguments.specs.declared.asked.Subcommand.{Subcommand}
 use Rattle.cli_arguments.specs.declared.asked.Subcommand.TheVariants as word
-use Rattle.cli_faults.specs.declared.failure.Failure.{Failure}
 use Rattle.cli_faults.specs.declared.failure.Failure.TheVariants.{Usage}
-use Rattle.cli_faults.specs.declared.usage_error.UsageError.TheVariants.{NoList}
+use Rattle.cli_faults.specs.declared.usage_error.UsageError.TheVariants.{JsonOfOneFile, NoList}
 use Rattle.cli.specs.declared.task.Task.{Task}
 use Rattle.cli.specs.declared.task.Task.TheVariants as task
-use Rattle.cli_reports.specs.declared.report.Report.{Report}
 use Rattle.cli_arguments.specs.Asked.{HasFile, HasFirst}
-use Rattle.cli.specs.Tasks.{IsCheckTask, IsExplanation, IsTask, task_on_files, task_on_list}
+use Rattle.cli.specs.Forms.{form_of}
+use Rattle.cli.specs.declared.report_form.Form.{Form}
+use Rattle.cli.specs.declared.report_form.Form.TheVariants.{JsonLines, Text}
+use Rattle.cli.specs.Tasks.{IsCheckTask, IsExplanation, IsTask, json_task_on_files, task_on_files, task_on_list}
 
 abbrev result_or : {T E : Type 0} → Result T E → T → T
 result_or (Ok x) y = x
@@ -29,7 +30,9 @@ IsOnOne _ = Unit {0}
 
 -- `explain` has no such task
 never_both : (words : List (Bor (List ℕ))) (made : Task) → IsOnOne made → IsExplanation words made → ⊥
-never_both words (task.Print report) one explains = explains
+never_both words (task.Print report form) one explains = explains
+never_both words task.CheckJson one explains = explains
+never_both words (task.OutlineOf subject) one explains = explains
 never_both words (task.CheckWithin budget) one explains = explains
 never_both words (task.CheckEach budget) one explains = explains
 never_both words (task.CheckListed budget) one explains = explains
@@ -74,13 +77,28 @@ module _ (file : Option (Bor (List ℕ))) (made : Task) (one : IsOnOne made) whe
       go true is = on_list budget files is
       go false is = cc
 
+module _ (ask : Ask) (made : Task) (one : IsOnOne made) (first : HasFirst ask) where
+  -- so has `check --json`
+  of_json : (refused : Bool) → Ok made ≡ (if refused then Err (Usage JsonOfOneFile) else json_task_on_files ask.files.items) → IsSome ask.file
+  of_json true is = cc
+  of_json false is = go ask.files.items first is
+    where
+      go : (files : List (Bor (List ℕ))) → option_map (λ s. s.now) ask.file ≡ slice_get (map (λ s. s.now) files) 0 → Ok made ≡ json_task_on_files files → IsSome ask.file
+      go [] first is = cc
+      go (x ∷ []) first is = there ask.file made one x.now first
+      go (x ∷ y ∷ more) first is = cc
+
+  on_check : (form : Form) → IsCheckTask form ask (Ok made) → IsSome ask.file
+  on_check Text is = by_source ask.file made one ask.files_from ask.null ask.quiet ask.budget ask.files.items first is
+  on_check JsonLines is = of_json _ is
+
 -- there is a file for a task on one file
 pub file_there : (ask : Ask) (made : Task) → IsOnOne made → HasFile ask → HasFirst ask → IsTask ask.subcommand ask (Ok made) → IsSome ask.file
 file_there ask made one has first is = go ask.subcommand refl is
   where
     go : (s : Subcommand) → ask.subcommand ≡ s → IsTask s ask (Ok made) → IsSome ask.file
     go word.Root same is = has (λ no. let bad = sym same ∙ no in cc) (λ no. let bad = sym same ∙ no in cc)
-    go word.Check same is = by_source ask.file made one ask.files_from ask.null ask.quiet ask.budget ask.files.items first is
+    go word.Check same is = on_check ask made one first (form_of ask.json) is
     go word.Show same is = has (λ no. let bad = sym same ∙ no in cc) (λ no. let bad = sym same ∙ no in cc)
     go word.Types same is = has (λ no. let bad = sym same ∙ no in cc) (λ no. let bad = sym same ∙ no in cc)
     go word.Strings same is = has (λ no. let bad = sym same ∙ no in cc) (λ no. let bad = sym same ∙ no in cc)

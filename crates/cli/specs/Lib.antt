@@ -7,3 +7,6 @@ pub mod Rewritten
 pub mod Runs
 pub mod Several
 pub mod Tasks
+pub mod Forms
+pub mod JsonChecks
+pub mod Outlined

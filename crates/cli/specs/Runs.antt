@@ -1,5 +1,5 @@
 -- What a run of the program does with its arguments, and with what reading FILE gave.
-use Rattle.std.specs.Prelude.{◌≡◌, ◌≢◌, ℕ, Bool, List, ◌++◌, ◌⊎◌, codes, decimal, length, IfErr, IsErrAnd, IsSomeAnd, map, OnOk, Option, None, Result, MatchResult}
+use Rattle.std.specs.Prelude.{◌≡◌, ◌≢◌, ℕ, Bool, List, [], ◌++◌, ◌⊎◌, codes, decimal, length, IfErr, IsErrAnd, IsSomeAnd, map, OnOk, Option, None, Result, MatchResult}
 use Rattle.std.specs.Borrow.{Bor}
 use Rattle.std.specs.Io.KnownBytes.{Appends}
 use Rattle.clap.specs.Words.{IsAmong, Text, fault_of}
@@ -11,9 +11,13 @@ use Rattle.cli_arguments.specs.CommandLine.{clim}
 use Rattle.cli_faults.specs.declared.failure.Failure.{Failure}
 use Rattle.cli_faults.specs.Status.{IsOutput, IsUnwritten, status_of}
 use Rattle.cli_reports.specs.declared.report.Report.{Report}
-use Rattle.cli_faults.specs.declared.stop.Stop.TheVariants.{Failed, Nothing}
-use Rattle.cli_outline.specs.Outline.{IsLine, outline_rows}
-use Rattle.cli_outline.specs.Sent.{PrintsLines}
+use Rattle.cli_faults.specs.declared.stop.Stop.TheVariants.{Failed, NoSuchType, Nothing}
+use Rattle.cli_outline.specs.Outline.{IsLine, class_rows, outline_rows}
+use Rattle.cli_outline.specs.Sent.{PrintsLines, SendsFirst}
+use Rattle.cli_outline.specs.Subjects.{IsSubject, PrintsFound}
+use Rattle.cli_outline.specs.declared.subject.Outcome.{Outcome as Outlined}
+use Rattle.cli_outline.specs.declared.subject.Outcome.TheVariants as outlined
+use Rattle.cli_outline.specs.declared.subject.Subject.{Subject}
 use Rattle.cli_reports.specs.Checked.{IsWhole, rules_of, signature_bytes_of}
 use Rattle.cli_strings.specs.Strings.{IsStringsText}
 use Rattle.cli_where.specs.Where.{IsWhere}
@@ -22,7 +26,7 @@ use Rattle.cli_where.specs.declared.report.Found.TheVariants as found
 use Rattle.metadata.specs.Metadata.{Metadata}
 use Rattle.sha2.specs.Sha256.{sha256}
 use Rattle.cli.specs.Digests.{digest_text}
-use Rattle.cli_reports.specs.Printed.{IsModelOf, IsReportText, check_text}
+use Rattle.cli_reports.specs.Printed.{IsModelOf, check_text}
 use Rattle.cli_reports.specs.Reported.{IsMet, LeavesOutput, Reports, ReportsFault}
 use Rattle.cli_reports.specs.RowTexts.{line_feed}
 use Rattle.cli_reports.specs.Sent.{Prints, SendsPrefix}
@@ -33,6 +37,9 @@ use Rattle.cli.specs.declared.task.Task.TheVariants as task
 use Rattle.cli.specs.Checks.{EndsCheck}
 use Rattle.cli.specs.Compared.{IsComparing}
 use Rattle.cli.specs.Digested.{EndsDigest}
+use Rattle.cli.specs.Forms.{IsTextIn}
+use Rattle.cli.specs.JsonChecks.{IsCheckedAsJson}
+use Rattle.cli.specs.declared.report_form.Form.{Form}
 use Rattle.cli_files.specs.Hints.{hint_for}
 use Rattle.cli_files.specs.Read.{IsRefused}
 use Rattle.cli_files.specs.Written.{IsGiven}
@@ -59,12 +66,12 @@ abbrev pub StopsBy : Failure → Stopped → Type 0
 StopsBy failure stopped = (stopped.stop ≡ Failed failure) × (stopped.hint ≡ None)
 
 module _ {W : Type 0} (contents : W → Option (List ℕ)) (before after : W) where
-  -- A report on bytes: all of its text was printed, and the bytes meet the rules that it needs. If it stopped, the
+  -- A report on bytes: all of its text in this form was printed, and the bytes meet the rules that it needs. If it stopped, the
   -- first broken rule is reported, or what else failed. Only a failure of the output or of memory comes after a prefix
   -- of the text; any other comes before it.
-  pub record IsReported (report : Report) (bare : Bool) (bytes : List ℕ) (outcome : Outcome) : Type 0 where
+  pub record IsReported (report : Report) (form : Form) (bare : Bool) (bytes : List ℕ) (outcome : Outcome) : Type 0 where
     pub met : OnOk outcome (IsMet report bare bytes)
-    pub printed : (text : List ℕ) → IsReportText report bare bytes text → Prints (contents before) (contents after) outcome text
+    pub printed : (text : List ℕ) → IsTextIn form report bare bytes text → Prints (contents before) (contents after) outcome text
     pub stopped : IfErr outcome (λ stopped. (failure : Failure) × (stopped.stop ≡ Failed failure)
         × Reports report bare bytes failure × LeavesOutput before after failure)
     pub hint : IfErr outcome (λ stopped. stopped.hint ≡ hint_for bare bytes stopped.stop)
@@ -76,6 +83,27 @@ module _ {W : Type 0} (contents : W → Option (List ℕ)) (before after : W) wh
     pub printed : (model : Metadata) → IsModelOf bare bytes model → PrintsLines (IsLine model) (contents before) (contents after) outcome (outline_rows model)
     pub stopped : IfErr outcome (λ stopped. (failure : Failure) × (stopped.stop ≡ Failed failure)
         × ReportsFault (IsWhole bare bytes) (rules_of bare bytes) failure × LeavesOutput before after failure)
+    pub hint : IfErr outcome (λ stopped. stopped.hint ≡ hint_for bare bytes stopped.stop)
+
+  -- what was printed of the type: its lines, or nothing, and there is no such type
+  abbrev pub IsTypePrinted : Subject → Bool → List ℕ → Outlined → Type 0
+  IsTypePrinted subject bare bytes said = (model : Metadata) → IsModelOf bare bytes model → PrintsFound model subject (contents before) (contents after) said
+
+  -- the first broken rule is reported, or what else failed; only a failure of the output or of memory comes after a prefix
+  -- of the lines
+  abbrev pub IsTypeUnprinted : Subject → Bool → List ℕ → Failure → Type 0
+  IsTypeUnprinted subject bare bytes failure =
+      ReportsFault (IsWhole bare bytes) (rules_of bare bytes) failure × LeavesOutput before after failure
+      × ((model : Metadata) → IsModelOf bare bytes model → (row : ℕ) → IsSubject model subject row
+      → SendsFirst (IsLine model) (contents before) (contents after) (class_rows model row) [])
+
+  -- The outline of one type of the bytes' model was printed, and nothing else. It stopped because there is no such type,
+  -- and nothing was printed, or because of a failure.
+  pub record IsTypeOutlined (subject : Subject) (bare : Bool) (bytes : List ℕ) (outcome : Outcome) : Type 0 where
+    pub met : OnOk outcome (IsWhole bare bytes)
+    pub printed : OnOk outcome (IsTypePrinted subject bare bytes outlined.Printed)
+    pub stopped : IfErr outcome (λ stopped. ((stopped.stop ≡ NoSuchType) × IsWhole bare bytes × IsTypePrinted subject bare bytes outlined.NoSuchType)
+        ⊎ ((failure : Failure) × (stopped.stop ≡ Failed failure) × IsTypeUnprinted subject bare bytes failure))
     pub hint : IfErr outcome (λ stopped. stopped.hint ≡ hint_for bare bytes stopped.stop)
 
   -- The user strings of the bytes' model were printed, and nothing else. If it stopped, the first broken rule is reported,
@@ -155,7 +183,8 @@ module _ {W : Type 0} (contents : W → Option (List ℕ)) (before after : W) wh
 
   -- the run of a task, over files of this kind, ends with this exit code
   abbrev pub IsRunOf : {F : Type 0} → (F → Option (List ℕ)) → Task → Ask → ℕ → Type 0
-  IsRunOf file_contents (task.Print report) ask status = EndsOn ask.file status (λ path. IsRunOn path (IsReported report ask.bare))
+  IsRunOf file_contents (task.Print report form) ask status = EndsOn ask.file status (λ path. IsRunOn path (IsReported report form ask.bare))
+  IsRunOf file_contents task.CheckJson ask status = EndsOn ask.file status (λ path. IsCheckedAsJson contents before after ask.bare path)
   IsRunOf file_contents (task.CheckWithin budget) ask status = EndsOn ask.file status (λ path. IsRunOn path (IsChecked budget ask.bare))
   IsRunOf file_contents (task.CheckEach budget) ask status =
       IsRunOnEach (EndsCheck budget ask.bare ask.quiet) contents before after (map (λ file. file.now) ask.files.items) status
@@ -163,6 +192,7 @@ module _ {W : Type 0} (contents : W → Option (List ℕ)) (before after : W) wh
   IsRunOf file_contents (task.Rewrite out) ask status =
       EndsOn ask.file status (λ path outcome. IsRunOn path (IsRewriting file_contents out.now ask.bare) outcome ⊎ IsMixed out.now outcome)
   IsRunOf file_contents task.Outline ask status = EndsOn ask.file status (λ path. IsRunOn path (IsOutlined ask.bare))
+  IsRunOf file_contents (task.OutlineOf subject) ask status = EndsOn ask.file status (λ path. IsRunOn path (IsTypeOutlined subject ask.bare))
   IsRunOf file_contents task.Strings ask status = EndsOn ask.file status (λ path. IsRunOn path (IsListed ask.bare))
   IsRunOf file_contents (task.Where offset) ask status = EndsOn ask.file status (λ path. IsRunOn path (IsLocated offset ask.bare))
   IsRunOf file_contents task.Digest ask status = EndsOn ask.file status (λ path. IsRunOn path (IsDigesting path ask.bare))

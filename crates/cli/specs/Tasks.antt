@@ -1,5 +1,5 @@
 -- What the arguments ask the program to do.
-use Rattle.std.specs.Prelude.{◌≡◌, ℕ, Bool, List, [], ◌∷◌, ◌++◌, Option, Some, None, Result, Ok, Err, IfSome, MatchOption, MatchResult, codes, if◌then◌else◌}
+use Rattle.std.specs.Prelude.{◌≡◌, ℕ, ◌%◌, ◌^◌, ◌||◌, Bool, List, [], ◌∷◌, ◌++◌, Option, Some, None, Result, Ok, Err, IfSome, IsOkAnd, MatchOption, MatchResult, codes, if◌then◌else◌, is_some}
 use Rattle.std.specs.List.{All}
 use Rattle.std.specs.Borrow.{Bor}
 use Rattle.std.specs.Str.{bytes_eq}
@@ -15,8 +15,13 @@ use Rattle.table_schema.specs.declared.table.TableId.{TableId}
 use Rattle.cli_reports.specs.declared.report.Report.TheVariants as report
 use Rattle.cli.specs.declared.task.Task.{Task}
 use Rattle.cli.specs.declared.task.Task.TheVariants as task
-use Rattle.cli_files.specs.Names.{NamesCode, NamesTable}
-use Rattle.cli_files.specs.Numbers.{IsHexNumber, IsOffset}
+use Rattle.cli_files.specs.Names.{IsFullName, NamesCode, NamesTable}
+use Rattle.cli_files.specs.Numbers.{IsHexNumber, IsOffset, IsTypeToken}
+use Rattle.cli_outline.specs.declared.subject.Subject.{Subject}
+use Rattle.cli_outline.specs.declared.subject.Subject.TheVariants as subject
+use Rattle.cli.specs.Forms.{form_of}
+use Rattle.cli.specs.declared.report_form.Form.{Form}
+use Rattle.cli.specs.declared.report_form.Form.TheVariants.{JsonLines, Text}
 
 -- the failure says that this argument is not a token
 abbrev pub IsNoToken : List ℕ → Failure → Type 0
@@ -38,10 +43,10 @@ abbrev pub IsNoOffset : List ℕ → Failure → Type 0
 IsNoOffset given (failed.Usage (wrong.NoOffset word)) = word.now ≡ given
 IsNoOffset given _ = ⊥
 
--- the task is to print what the token names if the argument is a token; else the failure says that it is not
-abbrev pub IsTokenTask : List ℕ → Result Task Failure → Type 0
-IsTokenTask hex result =
-    MatchResult result (λ made. IsHexNumber hex × (made ≡ task.Print (report.Token (digits_value 16 hex))))
+-- the task is to print what the token names, in this form, if the argument is a token; else the failure says that it is not
+abbrev pub IsTokenTask : Form → List ℕ → Result Task Failure → Type 0
+IsTokenTask form hex result =
+    MatchResult result (λ made. IsHexNumber hex × (made ≡ task.Print (report.Token (digits_value 16 hex)) form))
     (λ failure. IsNoToken hex failure × (¬ IsHexNumber hex))
 
 -- the task is to print what has the byte if the argument is an offset; else the failure says that it is not
@@ -50,15 +55,25 @@ IsWhereTask given result =
     MatchResult result (λ made. (offset : ℕ) × IsOffset given offset × (made ≡ task.Where offset))
     (λ failure. IsNoOffset given failure × ((offset : ℕ) → ¬ IsOffset given offset))
 
--- the task is to print the table if the argument names one; else the failure says that it does not
-abbrev pub IsTableTask : List ℕ → Result Task Failure → Type 0
-IsTableTask given result =
-    MatchResult result (λ made. (table : TableId) × NamesTable given table × (made ≡ task.Print (report.Table table)))
+-- the task is to print the table, in this form, if the argument names one; else the failure says that it does not
+abbrev pub IsTableTask : Form → List ℕ → Result Task Failure → Type 0
+IsTableTask form given result =
+    MatchResult result (λ made. (table : TableId) × NamesTable given table × (made ≡ task.Print (report.Table table) form))
     (λ failure. IsNoTable given failure × ((table : TableId) → ¬ NamesTable given table))
 
 -- the task is to print a table, or all if there is no argument
-abbrev pub IsShowTask : Option (Bor (List ℕ)) → Result Task Failure → Type 0
-IsShowTask part result = MatchOption part (result ≡ Ok (task.Print report.Show)) (λ given. IsTableTask given.now result)
+abbrev pub IsShowTask : Form → Option (Bor (List ℕ)) → Result Task Failure → Type 0
+IsShowTask form part result = MatchOption part (result ≡ Ok (task.Print report.Show form)) (λ given. IsTableTask form given.now result)
+
+-- the argument names this type: by its token, or else by its full name
+abbrev pub NamesType : List ℕ → Subject → Type 0
+NamesType word (subject.Row row) = IsTypeToken word × (row ≡ digits_value 16 word % 2 ^ 24)
+NamesType word (subject.Named namespace name) = (¬ IsTypeToken word) × IsFullName word namespace.now name.now
+
+-- the task is to print the outline of the type that the argument names, or of all if there is none
+abbrev pub IsOutlineTask : Option (Bor (List ℕ)) → Task → Type 0
+IsOutlineTask part made =
+    MatchOption part (made ≡ task.Outline) (λ given. (named : Subject) × NamesType given.now named × (made ≡ task.OutlineOf named))
 
 -- the argument names a fault
 abbrev pub NamesFault : Bor (List ℕ) → Type 0
@@ -82,7 +97,7 @@ IsExplainTask words result =
 
 -- the task of `check` for one file, with or without a budget
 abbrev pub task_on_one : Option ℕ → Task
-task_on_one None = task.Print report.Check
+task_on_one None = task.Print report.Check Text
 task_on_one (Some bytes) = task.CheckWithin bytes
 
 -- the task of `check` for these files, which for one file prints what a quiet check does not
@@ -96,12 +111,29 @@ abbrev pub task_on_list : Option ℕ → List (Bor (List ℕ)) → Result Task F
 task_on_list budget [] = Ok (task.CheckListed budget)
 task_on_list budget (file ∷ more) = Err (failed.Usage wrong.FilesAndList)
 
--- the task of `check`; a list of files comes from the standard input alone
-abbrev pub IsCheckTask : Ask → Result Task Failure → Type 0
-IsCheckTask ask result =
+-- the task of `check --json` for these files, of which there may be one
+abbrev pub json_task_on_files : List (Bor (List ℕ)) → Result Task Failure
+json_task_on_files [] = Err (failed.Usage wrong.NoFile)
+json_task_on_files (file ∷ []) = Ok task.CheckJson
+json_task_on_files (file ∷ next ∷ more) = Err (failed.Usage wrong.JsonOfOneFile)
+
+-- the task of `check --json`, beside which there may be no list of files, no budget and no `-q`
+abbrev pub json_task : Ask → Result Task Failure
+json_task ask =
+    if is_some ask.files_from || ask.null || is_some ask.budget || ask.quiet then Err (failed.Usage wrong.JsonOfOneFile)
+    else json_task_on_files ask.files.items
+
+-- the task of `check` without `--json`; a list of files comes from the standard input alone
+abbrev pub IsTextCheckTask : Ask → Result Task Failure → Type 0
+IsTextCheckTask ask result =
     MatchOption ask.files_from
     (result ≡ (if ask.null then task_on_list ask.budget ask.files.items else task_on_files ask.budget ask.quiet ask.files.items))
     (λ word. result ≡ (if bytes_eq word.now (codes "-") then task_on_list ask.budget ask.files.items else Err (failed.Usage (wrong.NoList word))))
+
+-- the task of `check`
+abbrev pub IsCheckTask : Form → Ask → Result Task Failure → Type 0
+IsCheckTask JsonLines ask result = result ≡ json_task ask
+IsCheckTask Text ask result = IsTextCheckTask ask result
 
 -- the task of `digest` for these files, of which there is at least one
 abbrev pub digest_task : List (Bor (List ℕ)) → Task
@@ -110,13 +142,13 @@ digest_task _ = task.Digest
 
 -- the task of a subcommand
 abbrev pub IsTask : Subcommand → Ask → Result Task Failure → Type 0
-IsTask word.Root ask result = result ≡ Ok (task.Print report.Root)
-IsTask word.Check ask result = IsCheckTask ask result
-IsTask word.Show ask result = IsShowTask ask.part result
-IsTask word.Types ask result = result ≡ Ok (task.Print report.Types)
-IsTask word.Outline ask result = result ≡ Ok task.Outline
+IsTask word.Root ask result = result ≡ Ok (task.Print report.Root (form_of ask.json))
+IsTask word.Check ask result = IsCheckTask (form_of ask.json) ask result
+IsTask word.Show ask result = IsShowTask (form_of ask.json) ask.part result
+IsTask word.Types ask result = result ≡ Ok (task.Print report.Types (form_of ask.json))
+IsTask word.Outline ask result = IsOkAnd result (IsOutlineTask ask.part)
 IsTask word.Strings ask result = result ≡ Ok task.Strings
-IsTask word.Token ask result = IfSome ask.second (λ hex. IsTokenTask hex.now result)
+IsTask word.Token ask result = IfSome ask.second (λ hex. IsTokenTask (form_of ask.json) hex.now result)
 IsTask word.Where ask result = IfSome ask.second (λ word. IsWhereTask word.now result)
 IsTask word.Rewrite ask result = IfSome ask.second (λ out. result ≡ Ok (task.Rewrite out))
 IsTask word.Digest ask result = result ≡ Ok (digest_task ask.files.items)

@@ -10,13 +10,16 @@
 #![tactic(auto)]
 
 mod check_files;
+mod check_json;
 mod check_listed;
 mod compare_files;
 mod digest_file;
 mod digest_files;
 mod digest_line;
 mod explain_fault;
+mod outline_type;
 mod program;
+mod report_form;
 mod rewrite_file;
 mod task;
 mod usage_text;

@@ -5,15 +5,20 @@ ghost use Rattle.clap.specs.Words.{kind_of};
 ghost use Rattle.cli_arguments.specs.Asked.{HasFile, HasFirst, HasSecond};
 ghost use Rattle.cli_faults.specs.declared.failure.Failure.{Failure as Failed};
 ghost use Rattle.cli_faults.specs.Status.{IsOutput};
+ghost use Rattle.cli.specs.Checks.{EndsCheck};
 ghost use Rattle.cli.specs.Compared.{IsComparing};
+ghost use Rattle.cli.specs.Several.{IsRunOnEach};
 ghost use Rattle.cli.specs.Runs.{Does, IsChecked, IsDigesting, IsListed, IsLocated, IsMixed, IsOutlined, IsReported, IsRewriting, IsRunOn, IsUsage, Ran, StopsBy};
 
 use crate::check_files::{CheckOptions, check_files};
+use crate::check_json::check_json;
 use crate::check_listed::check_listed;
 use crate::compare_files::compare;
 use crate::digest_file::digest_bytes_of;
 use crate::digest_files::digest_files;
 use crate::explain_fault::explain;
+use crate::outline_type::outline_type;
+use crate::report_form::{Form, print_in};
 use crate::rewrite_file::rewrite;
 use crate::task::{Task, task_of};
 use crate::usage_text::usage_text;
@@ -23,7 +28,7 @@ use cli_arguments::{Ask, ask};
 use cli_faults::{Failure, FileError, Reason, printed};
 use cli_files::{Stopped, is_standard_output, read_file, status, stopped_by, with_hint};
 use cli_outline::report_outline;
-use cli_reports::{Report, check_within, finish, print_report};
+use cli_reports::{Report, check_within, finish};
 use cli_strings::report_strings;
 use std::alloc::Global;
 use std::io::{self, Write};
@@ -33,7 +38,7 @@ use std::rt::Files;
 ///
 /// - 0: success, or help or the version was printed;
 /// - 1: the file breaks a rule of the standard, reported as `fault LAYER CODE at OFFSET: NAME`; or it has nothing that
-///   the token names, or nothing at the offset; or its canonical root is too long; or two files that are compared differ;
+///   the token names, no such type, or nothing at the offset; or its canonical root is too long; or two files that are compared differ;
 /// - 2: usage error; no file was read;
 /// - 3: I/O error, out of memory, or budget spent.
 ///
@@ -118,35 +123,33 @@ fn run<R: Files + Input + AllocGlobal, W: Write, E: Write>(
         Err(failure) => return status(Err(Stopped::from(failure)), err),
     };
     let bare = ask.bare;
-    let quiet = ask.quiet;
     match task {
-        Task::Print(report) => status(print_file(rt, report, ask.file.unwrap(), bare, out), err),
+        Task::Print(report, form) => {
+            status(
+                print_file(rt, report, form, ask.file.unwrap(), bare, out),
+                err,
+            )
+        }
+        Task::CheckJson => status(check_json(rt, ask.file.unwrap(), bare, out), err),
         Task::CheckWithin(budget) => {
             status(check_file(rt, budget, ask.file.unwrap(), bare, out), err)
         }
-        Task::CheckEach(budget) => check_files(
-            rt,
-            ask.files.as_slice(),
-            CheckOptions {
-                bare,
-                budget,
-                quiet,
-            },
-            out,
-            err,
-        ),
+        Task::CheckEach(budget) => check_named(rt, ask, budget, out, err),
         Task::CheckListed(budget) => check_listed(
             rt,
             CheckOptions {
                 bare,
                 budget,
-                quiet,
+                quiet: ask.quiet,
             },
             out,
             err,
         ),
         Task::Rewrite(path) => status(rewrite_file(rt, path, ask.file.unwrap(), bare, out), err),
         Task::Outline => status(outline_file(rt, ask.file.unwrap(), bare, out), err),
+        Task::OutlineOf(subject) => {
+            status(outline_type(rt, subject, ask.file.unwrap(), bare, out), err)
+        }
         Task::Strings => status(list_strings(rt, ask.file.unwrap(), bare, out), err),
         Task::Where(offset) => status(locate_in(rt, offset, ask.file.unwrap(), bare, out), err),
         Task::Digest => status(digest_file(rt, ask.file.unwrap(), bare, out), err),
@@ -156,6 +159,26 @@ fn run<R: Files + Input + AllocGlobal, W: Write, E: Write>(
         }
         Task::Explain(words) => status(explain_words(rt.alloc(), words, out), err),
     }
+}
+
+/// Checks each of the files that the arguments name, and returns the exit code.
+fn check_named<R: Files + Input + AllocGlobal, W: Write, E: Write>(
+    rt: &R,
+    ask: &Ask<'_>,
+    budget: Option<u64>,
+    out: &mut W,
+    err: &mut E,
+) -> u8
+    ensures limit { result ≤ 3 }
+    ensures run { IsRunOnEach (EndsCheck budget ask.now.bare ask.now.quiet) W.contents out.old out.new (map (λ file. file.now) ask.now.files.items) result }
+    ensures quiet { result ≡ 0 → err.new ≡ err.old }
+{
+    let options = CheckOptions {
+        bare: ask.bare,
+        budget,
+        quiet: ask.quiet,
+    };
+    check_files(rt, ask.files.as_slice(), options, out, err)
 }
 
 /// Explains faults, or lists all.
@@ -173,27 +196,16 @@ fn explain_words<W: Write>(
 fn print_file<'a, R: Files + Input + AllocGlobal, W: Write>(
     rt: &R,
     report: Report,
+    form: Form,
     file: &'a str,
     bare: bool,
     out: &mut W,
 ) -> Result<(), Stopped<'a>>
-    ensures { IsRunOn W.contents out.old out.new file.now (IsReported W.contents out.old out.new report bare) result }
+    ensures { IsRunOn W.contents out.old out.new file.now (IsReported W.contents out.old out.new report form bare) result }
 {
-    let bytes = read_file(rt, file)?;
-    print_bytes(rt.alloc(), report, &bytes, bare, out)
-}
-
-/// Prints a report on bytes that were read.
-fn print_bytes<W: Write>(
-    alloc: Global,
-    report: Report,
-    bytes: &[u8],
-    bare: bool,
-    out: &mut W,
-) -> Result<(), Stopped<'static>>
-    ensures { IsReported W.contents out.old out.new report bare bytes.now result }
-{
-    let outcome = print_report(alloc, report, bare, bytes, out);
+    let read = read_file(rt, file)?;
+    let bytes = read.as_slice();
+    let outcome = print_in(rt.alloc(), form, report, bare, bytes, out);
     with_hint(stopped_by(outcome), bare, bytes)
 }
 
@@ -251,21 +263,9 @@ fn check_file<'a, R: Files + Input + AllocGlobal, W: Write>(
 ) -> Result<(), Stopped<'a>>
     ensures { IsRunOn W.contents out.old out.new file.now (IsChecked W.contents out.old out.new budget bare) result }
 {
-    let bytes = read_file(rt, file)?;
-    check_bytes(rt.alloc(), budget, &bytes, bare, out)
-}
-
-/// Checks bytes that were read against the rules, within a budget.
-fn check_bytes<W: Write>(
-    alloc: Global,
-    budget: u64,
-    bytes: &[u8],
-    bare: bool,
-    out: &mut W,
-) -> Result<(), Stopped<'static>>
-    ensures { IsChecked W.contents out.old out.new budget bare bytes.now result }
-{
-    let outcome = check_within(alloc, bytes, bare, budget, out);
+    let read = read_file(rt, file)?;
+    let bytes = read.as_slice();
+    let outcome = check_within(rt.alloc(), bytes, bare, budget, out);
     with_hint(outcome, bare, bytes)
 }
 

@@ -1,18 +1,24 @@
 //! What the arguments ask the program to do.
 ghost use Rattle.std.specs.Prelude.{◌≡◌};
 ghost use Rattle.cli_arguments.specs.Asked.{HasSecond};
-ghost use Rattle.cli.specs.Tasks.{IsCheckTask, IsExplainTask, IsShowTask, IsTask, IsWhereTask, digest_task, task_on_files, task_on_list, task_on_one};
+ghost use Rattle.cli.specs.Tasks.{IsCheckTask, IsExplainTask, IsOutlineTask, IsShowTask, IsTask, IsTextCheckTask, IsWhereTask, NamesType, digest_task, json_task, task_on_files, task_on_list, task_on_one};
 
+use crate::report_form::{Form, form_of};
 use cli_arguments::{Ask, Subcommand};
 use cli_faults::{Failure, UsageError};
-use cli_files::{STANDARD_INPUT, code_of, offset_of, table_of, token_of};
+use cli_files::{
+    STANDARD_INPUT, code_of, names_of_type, offset_of, table_of, token_of, type_row_of,
+};
+use cli_outline::Subject;
 use cli_reports::Report;
 
 /// What to do.
 #[derive(Clone, Copy, Debug)]
 pub(crate) enum Task<'a> {
-    /// Print something of a file.
-    Print(Report),
+    /// Print something of a file, in this form.
+    Print(Report, Form),
+    /// Check a file against the rules, and print a JSON value.
+    CheckJson,
     /// Check a file against the rules. At most this number of signature blob bytes is checked.
     CheckWithin(u64),
     /// Check each of several files against the rules, with at most this number of signature blob bytes for each.
@@ -23,6 +29,8 @@ pub(crate) enum Task<'a> {
     Rewrite(&'a str),
     /// Print the declarations of a file.
     Outline,
+    /// Print those of one type.
+    OutlineOf(Subject<'a>),
     /// Print the user strings of a file.
     Strings,
     /// Print what has the byte at this offset of a file.
@@ -42,17 +50,18 @@ pub(crate) fn task_of<'a>(ask: &'a Ask<'a>) -> Result<Task<'a>, Failure<'a>>
     requires { HasSecond ask.now }
     ensures { IsTask ask.now.subcommand ask.now result }
 {
+    let form = form_of(ask.json);
     Ok(match ask.subcommand {
-        Subcommand::Root => Task::Print(Report::Root),
-        Subcommand::Check => return check_of(ask),
-        Subcommand::Show => return show_of(ask.part),
-        Subcommand::Types => Task::Print(Report::Types),
-        Subcommand::Outline => Task::Outline,
+        Subcommand::Root => Task::Print(Report::Root, form),
+        Subcommand::Check => return check_of(ask, form),
+        Subcommand::Show => return show_of(ask.part, form),
+        Subcommand::Types => Task::Print(Report::Types, form),
+        Subcommand::Outline => outline_of(ask.part),
         Subcommand::Strings => Task::Strings,
         Subcommand::Token => {
             let word = ask.second.unwrap();
             let number = token_of(word).ok_or(UsageError::NoToken(word))?;
-            Task::Print(Report::Token(number))
+            Task::Print(Report::Token(number), form)
         }
         Subcommand::Where => return where_of(ask.second.unwrap()),
         Subcommand::Rewrite => Task::Rewrite(ask.second.unwrap()),
@@ -62,9 +71,33 @@ pub(crate) fn task_of<'a>(ask: &'a Ask<'a>) -> Result<Task<'a>, Failure<'a>>
     })
 }
 
-/// The task of `check`: the names of the files are arguments, or the standard input lists them.
-fn check_of<'a>(ask: &'a Ask<'a>) -> Result<Task<'a>, Failure<'a>>
-    ensures { IsCheckTask ask.now result }
+/// The task of `check`.
+fn check_of<'a>(ask: &'a Ask<'a>, form: Form) -> Result<Task<'a>, Failure<'a>>
+    ensures { IsCheckTask form ask.now result }
+{
+    match form {
+        Form::Text => text_check_of(ask),
+        Form::JsonLines => json_check_of(ask),
+    }
+}
+
+/// The task of `check --json`: it takes one file, and no list, no budget and no `-q`.
+fn json_check_of<'a>(ask: &'a Ask<'a>) -> Result<Task<'a>, Failure<'a>>
+    ensures { result ≡ json_task ask.now }
+{
+    if ask.files_from.is_some() || ask.null || ask.budget.is_some() || ask.quiet {
+        return Err(Failure::Usage(UsageError::JsonOfOneFile));
+    }
+    match ask.files.as_slice() {
+        [] => Err(Failure::Usage(UsageError::NoFile)),
+        [_] => Ok(Task::CheckJson),
+        _ => Err(Failure::Usage(UsageError::JsonOfOneFile)),
+    }
+}
+
+/// The task of `check` without `--json`: the names of the files are arguments, or the standard input lists them.
+fn text_check_of<'a>(ask: &'a Ask<'a>) -> Result<Task<'a>, Failure<'a>>
+    ensures { IsTextCheckTask ask.now result }
 {
     match ask.files_from {
         Some(source) if source == STANDARD_INPUT => check_of_list(ask.budget, ask.files.as_slice()),
@@ -80,7 +113,7 @@ fn check_of_one(budget: Option<u64>) -> Task<'static>
 {
     match budget {
         Some(budget) => Task::CheckWithin(budget),
-        None => Task::Print(Report::Check),
+        None => Task::Print(Report::Check, Form::Text),
     }
 }
 
@@ -111,16 +144,37 @@ fn check_of_list<'a>(budget: Option<u64>, files: &[&'a str]) -> Result<Task<'a>,
 }
 
 /// The task of `show`: print the table with this name or number, or all if there is no argument.
-fn show_of<'a>(part: Option<&'a str>) -> Result<Task<'a>, Failure<'a>>
-    ensures { IsShowTask part.entry result }
+fn show_of<'a>(part: Option<&'a str>, form: Form) -> Result<Task<'a>, Failure<'a>>
+    ensures { IsShowTask form part.entry result }
 {
     let Some(word) = part else {
-        return Ok(Task::Print(Report::Show));
+        return Ok(Task::Print(Report::Show, form));
     };
     match table_of(word) {
-        Some(table) => Ok(Task::Print(Report::Table(table))),
+        Some(table) => Ok(Task::Print(Report::Table(table), form)),
         None => Err(Failure::Usage(UsageError::NoTable(word))),
     }
+}
+
+/// The task of `outline`: print the type that the argument names, or all if there is no argument.
+fn outline_of<'a>(part: Option<&'a str>) -> Task<'a>
+    ensures { IsOutlineTask part.entry result }
+{
+    match part {
+        Some(word) => Task::OutlineOf(type_named(word)),
+        None => Task::Outline,
+    }
+}
+
+/// The type that an argument names: by its token, or else by its full name.
+fn type_named<'a>(word: &'a str) -> Subject<'a>
+    ensures { NamesType word.now result }
+{
+    if let Some(row) = type_row_of(word) {
+        return Subject::Row(row);
+    }
+    let (namespace, name) = names_of_type(word);
+    Subject::Named { namespace, name }
 }
 
 /// The task of `where` for this argument.

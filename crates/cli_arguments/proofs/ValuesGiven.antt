@@ -16,7 +16,7 @@ use Rattle.std.proofs.lemmas.Slice.Eq.{bytes_eq-Decides}
 use Rattle.cli_arguments.specs.Asked.{name_of, subcommand_named}
 use Rattle.cli_arguments.specs.declared.asked.Subcommand.TheVariants.{Root, Check, Show, Types, Outline, Strings, Token, Where, Rewrite, Digest, Compare, Explain}
 use Rattle.cli_arguments.specs.declared.asked.Subcommand.{Subcommand}
-use Rattle.cli_arguments.specs.CommandLine.{bare, budget, check, clim, digest, explain, fault_codes, file, files, files_from, null, part, quiet, reader, second, several, show}
+use Rattle.cli_arguments.specs.CommandLine.{bare, budget, check, clim, digest, explain, fault_codes, file, files, files_from, json, null, outline, part, quiet, reader, reporter, second, several, show, token}
 use Rattle.cli_arguments.proofs.NoHelp.{StopsElsewhere, is_help, stops_elsewhere}
 use Rattle.cli_arguments.proofs.Supplied.{AllSupply, Supplies, IsSupplied, below_none, check_none, supplied_with, supplied_without, first_none, given_has_value, level_supplied}
 
@@ -107,6 +107,10 @@ quiet_value : (values : List Text) → 0 < length (values_or_missing (built_valu
 quiet_value [] = omega arith
 quiet_value (v ∷ vs) = omega arith
 
+json_value : (values : List Text) → 0 < length (values_or_missing (built_value 2 json) values)
+json_value [] = omega arith
+json_value (v ∷ vs) = omega arith
+
 bare_value : (values : List Text) → 0 < length (values_or_missing built_bare values)
 bare_value [] = omega arith
 bare_value (v ∷ vs) = omega arith
@@ -134,6 +138,9 @@ null_supplies = set_supplies (built_value 2 null) (λ values rows. refl) (λ aga
 
 quiet_supplies : Supplies (built_value 2 quiet)
 quiet_supplies = set_supplies (built_value 2 quiet) (λ values rows. refl) (λ again values rows none. quiet_value values)
+
+json_supplies : Supplies (built_value 2 json)
+json_supplies = set_supplies (built_value 2 json) (λ values rows. refl) (λ again values rows none. json_value values)
 
 -- a further use adds values to those of an earlier one
 files_supplies : Supplies (built_value 1 files)
@@ -266,9 +273,22 @@ reader_ready name takes known = record {
   needs = λ rows all. (needed (is_given (codes "FILE") rows) _ all, tt);
 }
 
+-- one that prints a report
+abbrev built_reporter : Text → Shape
+built_reporter name = built_leaf (inherited (built clim).top (reporter name).top)
+
+reporter_ready : (name : Text) → values_in name ≡ codes "FILE" ∷ [] → IsSome (subcommand_named name) → IsReady (built_reporter name)
+reporter_ready name takes known = record {
+  supplies = (file_supplies, (bare_supplies, (json_supplies, ((λ again values rows none f. f), tt))));
+  values = codes "FILE" ∷ [];
+  takes = takes;
+  known = known;
+  needs = λ rows all. (needed (is_given (codes "FILE") rows) _ all, tt);
+}
+
 check_ready : IsReady (built_leaf (inherited (built clim).top check.top))
 check_ready = record {
-  supplies = (files_supplies, (bare_supplies, (budget_supplies, (files_from_supplies, (null_supplies, (quiet_supplies, ((λ again values rows none f. f), tt)))))));
+  supplies = (files_supplies, (bare_supplies, (budget_supplies, (files_from_supplies, (null_supplies, (quiet_supplies, (json_supplies, ((λ again values rows none f. f), tt))))))));
   values = [];
   takes = check_takes;
   known = check_known;
@@ -277,10 +297,19 @@ check_ready = record {
 
 show_ready : IsReady (built_leaf (inherited (built clim).top show.top))
 show_ready = record {
-  supplies = (file_supplies, (bare_supplies, (part_supplies, ((λ again values rows none f. f), tt))));
+  supplies = (file_supplies, (bare_supplies, (json_supplies, (part_supplies, ((λ again values rows none f. f), tt)))));
   values = codes "FILE" ∷ [];
   takes = show_takes;
   known = show_known;
+  needs = λ rows all. (needed (is_given (codes "FILE") rows) _ all, tt);
+}
+
+outline_ready : IsReady (built_leaf (inherited (built clim).top outline.top))
+outline_ready = record {
+  supplies = (file_supplies, (bare_supplies, (part_supplies, ((λ again values rows none f. f), tt))));
+  values = codes "FILE" ∷ [];
+  takes = outline_takes;
+  known = outline_known;
   needs = λ rows all. (needed (is_given (codes "FILE") rows) _ all, tt);
 }
 
@@ -309,6 +338,18 @@ second_ready name takes known = record {
   );
 }
 
+token_ready : IsReady (built_leaf (inherited (built clim).top token.top))
+token_ready = record {
+  supplies = (file_supplies, (bare_supplies, (json_supplies, (second_supplies, ((λ again values rows none f. f), tt)))));
+  values = codes "FILE" ∷ codes "second" ∷ [];
+  takes = token_takes;
+  known = token_known;
+  needs = λ rows all. (
+    needed (is_given (codes "FILE") rows) _ all,
+    (needed (is_given (codes "second") rows) _ (not_needed (is_given (codes "FILE") rows) _ all), tt),
+  );
+}
+
 explain_ready : IsReady (built_leaf (inherited (built clim).top explain.top))
 explain_ready = record {
   supplies = (codes_supplies, ((λ again values rows none f. f), tt));
@@ -329,19 +370,19 @@ answers_help word is = go (bytes_eq (codes "help") word) (bytes_eq-Decides (code
 -- each subcommand that an argument other than `help` selects is ready
 clim_ready : (word : Text) → is_help word ≡ false → AllReady (λ s. answers_to word (label_of s)) (built clim).subs
 clim_ready word other = (
-  (λ is. reader_ready (codes "root") root_takes root_known),
+  (λ is. reporter_ready (codes "root") root_takes root_known),
   (
     (λ is. check_ready),
     (
       (λ is. show_ready),
       (
-        (λ is. reader_ready (codes "types") types_takes types_known),
+        (λ is. reporter_ready (codes "types") types_takes types_known),
         (
-          (λ is. reader_ready (codes "outline") outline_takes outline_known),
+          (λ is. outline_ready),
           (
             (λ is. reader_ready (codes "strings") strings_takes strings_known),
             (
-              (λ is. second_ready (codes "token") token_takes token_known),
+              (λ is. token_ready),
               (
                 (λ is. second_ready (codes "where") where_takes where_known),
                 (

@@ -59,6 +59,7 @@ pub record Gives (words : List Text) (ask : Ask) : Type 0 where
   pub second : option_map (λ word. word.now) ask.second ≡ first_of (codes "second") rows
   pub budget : IsCountOf (one_of (codes "budget") rows) ask.budget
   pub part : option_map (λ word. word.now) ask.part ≡ first_of (codes "part") rows
+  pub json : IsTrue ask.json ↔ (one_of (codes "json") rows ≡ Some (codes "true"))
   pub faults : map (λ word. word.now) ask.codes.items ≡ unwrap_or (all_of (codes "CODE") rows) []
   pub files : map (λ word. word.now) ask.files.items ≡ unwrap_or (all_of (codes "FILE") rows) []
   pub files_from : option_map (λ word. word.now) ask.files_from ≡ first_of (codes "files-from") rows

@@ -46,6 +46,10 @@ null = record (new_rule (codes "null")) { short = Some 48; action = Some SetTrue
 abbrev pub quiet : Rule
 quiet = record (new_rule (codes "quiet")) { short = Some 113; long = Some (codes "quiet"); action = Some SetTrue }
 
+-- `--json`, a flag
+abbrev pub json : Rule
+json = record (new_rule (codes "json")) { long = Some (codes "json"); action = Some SetTrue }
+
 -- `CODE..`, any number of values
 abbrev pub fault_codes : Rule
 fault_codes = record (new_rule (codes "CODE")) { action = Some Append; range = Some (record { start_inclusive = 1; end_inclusive = usize_max }) }
@@ -54,33 +58,37 @@ fault_codes = record (new_rule (codes "CODE")) { action = Some Append; range = S
 abbrev pub reader : Text → App
 reader name = with_rule (with_rule (new_app name) file) bare
 
--- `root [--bare] FILE`
+-- one that prints a report: `NAME [--bare] [--json] FILE`
+abbrev pub reporter : Text → App
+reporter name = with_rule (reader name) json
+
+-- `root [--bare] [--json] FILE`
 abbrev pub root : App
-root = reader (codes "root")
+root = reporter (codes "root")
 
--- `check [--bare] [--budget N] [--files-from LIST] [-0] [-q] [FILE]..`
+-- `check [--bare] [--budget N] [--files-from LIST] [-0] [-q] [--json] [FILE]..`
 abbrev pub check : App
-check = with_rule (with_rule (with_rule (with_rule (with_rule (with_rule (new_app (codes "check")) files) bare) budget) files_from) null) quiet
+check = with_rule (with_rule (with_rule (with_rule (with_rule (with_rule (with_rule (new_app (codes "check")) files) bare) budget) files_from) null) quiet) json
 
--- `show [--bare] FILE [TABLE]`
+-- `show [--bare] [--json] FILE [TABLE]`
 abbrev pub show : App
-show = with_rule (reader (codes "show")) part
+show = with_rule (reporter (codes "show")) part
 
--- `types [--bare] FILE`
+-- `types [--bare] [--json] FILE`
 abbrev pub types : App
-types = reader (codes "types")
+types = reporter (codes "types")
 
--- `outline [--bare] FILE`
+-- `outline [--bare] FILE [NAME]`
 abbrev pub outline : App
-outline = reader (codes "outline")
+outline = with_rule (reader (codes "outline")) part
 
 -- `strings [--bare] FILE`
 abbrev pub strings : App
 strings = reader (codes "strings")
 
--- `token [--bare] FILE HEX`
+-- `token [--bare] [--json] FILE HEX`
 abbrev pub token : App
-token = with_rule (reader (codes "token")) second
+token = with_rule (reporter (codes "token")) second
 
 -- `where [--bare] FILE OFFSET`
 abbrev pub where_is : App

@@ -38,6 +38,7 @@ pub fn ask<'a>(alloc: Global, words: &'a [&'a str]) -> Result<Ask<'a>, Error>
         second: given.get_str("second"),
         budget: given.get_one::<u64>("budget"),
         part: given.get_str("part"),
+        json: given.get_one::<bool>("json") == Some(true),
         codes,
         files,
         files_from: given.get_str("files-from"),
@@ -109,8 +110,8 @@ const STATUSES: &str = "\
 Exit status:
   0  success
   1  FILE breaks a rule of the standard, printed as 'fault LAYER CODE at OFFSET: NAME';
-     or FILE has nothing that HEX names, or nothing at OFFSET; or its canonical root has
-     more than 2^30 bytes; or FILE and OTHER differ
+     or FILE has nothing that HEX names, no type NAME, or nothing at OFFSET; or its canonical
+     root has more than 2^30 bytes; or FILE and OTHER differ
   2  usage error; FILE was not read
   3  I/O error, out of memory, or budget spent
 The status of 'clim check' and 'clim digest' for several files is the greatest of theirs.

@@ -15,8 +15,10 @@ pub struct Ask<'a> {
     pub second: Option<&'a str>,
     /// The largest number of signature blob bytes that `check` may check, if given.
     pub budget: Option<u64>,
-    /// What alone to print of the file: the table of `show`, as it was given.
+    /// What alone to print of the file, as it was given: the table of `show`, the type of `outline`.
     pub part: Option<&'a str>,
+    /// Whether to print JSON Lines instead of text.
+    pub json: bool,
     /// The faults to `explain`, as they were given; all if there is none.
     pub codes: Vec<&'a str>,
     /// The paths of all files to read, in the order given: several only for `check` and `digest`.
@@ -40,7 +42,7 @@ pub enum Subcommand {
     Show,
     /// `types`: print the types, with the number of their fields and methods.
     Types,
-    /// `outline`: print the declarations of the assembly.
+    /// `outline`: print the declarations of the assembly, or of one type.
     Outline,
     /// `strings`: print the user strings.
     Strings,

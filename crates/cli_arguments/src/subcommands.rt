@@ -37,6 +37,19 @@ fn reader<'a>(
         .arg(bare(alloc))
 }
 
+/// The arguments of a subcommand that prints a report on a file, as text or as JSON Lines, and its help.
+fn reporter<'a>(
+    alloc: Global,
+    name: &'a str,
+    about: &'a str,
+    output: &'a str,
+) -> Result<Command<'a>, AllocError>
+    ensures app { IfOk result (λ command. app_of command ≡ line.reporter name.now) }
+    ensures local { IfOk result (λ command. (fields_of command).has_globals ≡ false) }
+{
+    reader(alloc, name, about, output)?.arg(json(alloc))
+}
+
 /// `FILE`, the path of the file to read.
 fn file<'a>(alloc: Global) -> Arg<'a>
     ensures rule { rule_of result ≡ line.file }
@@ -57,6 +70,17 @@ fn bare<'a>(alloc: Global) -> Arg<'a>
         .long("bare")
         .action(ArgAction::SetTrue)
         .help("FILE is a metadata root, not a PE file")
+}
+
+/// `--json`, the flag for JSON Lines.
+fn json<'a>(alloc: Global) -> Arg<'a>
+    ensures rule { rule_of result ≡ line.json }
+    ensures local { result.global ≡ false }
+{
+    Arg::new(alloc, "json")
+        .long("json")
+        .action(ArgAction::SetTrue)
+        .help("Print a JSON value on each line")
 }
 
 /// The value after the file; help shows it with this name.

@@ -17,21 +17,25 @@ pub enum Stop<'a> {
     Different,
     /// The file has nothing at an offset. That was printed.
     Nothing,
+    /// The file breaks a rule. The fault was printed.
+    Broken,
+    /// No type of the file is the one that was asked for.
+    NoSuchType,
 }
 
 impl Stop<'_> {
     ghost use Rattle.std.specs.Prelude.{◌≡◌};
     ghost use Rattle.cli_faults.specs.Stops.{status_of_stop};
 
-    /// The exit code of the process: that of the failure; 3 if the budget was spent; 1 if the files differ, or if nothing
-    /// is at the offset.
+    /// The exit code of the process: that of the failure; 3 if the budget was spent; 1 if the files differ, if nothing is
+    /// at the offset, if the file breaks a rule, or if it does not have the type.
     pub fn status(&self) -> u8
         ensures { result ≡ status_of_stop self.now }
     {
         match self {
             Stop::Failed(failure) => failure.status(),
             Stop::BudgetSpent => 3,
-            Stop::Different | Stop::Nothing => 1,
+            Stop::Different | Stop::Nothing | Stop::Broken | Stop::NoSuchType => 1,
         }
     }
 }
@@ -53,6 +57,8 @@ impl fmt::Display for Stop<'_> {
             Stop::BudgetSpent => f.write_str("error: budget spent"),
             Stop::Different => f.write_str("the files differ"),
             Stop::Nothing => f.write_str("nothing is at the offset"),
+            Stop::Broken => f.write_str("the file breaks a rule"),
+            Stop::NoSuchType => f.write_str("no such type"),
         }
     }
 }

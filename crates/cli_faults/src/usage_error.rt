@@ -17,6 +17,8 @@ pub enum UsageError<'a> {
     NoFile,
     /// `check` got both files and a list of files.
     FilesAndList,
+    /// `check` got `--json` with several files, a list of files, a budget or `-q`.
+    JsonOfOneFile,
     /// The argument is not where a list of files can come from.
     NoList(&'a str),
     /// The argument is not the name or the number of a table.
@@ -44,6 +46,10 @@ impl fmt::Display for UsageError<'_> {
             UsageError::FilesAndList => {
                 write!(f, "error: '--files-from' and FILE exclude each other")
             }
+            UsageError::JsonOfOneFile => write!(
+                f,
+                "error: '--json' takes one FILE, and no list, '--budget' or '--quiet'"
+            ),
             UsageError::NoList(word) => write!(
                 f,
                 "error: '--files-from' takes '-', the standard input, not '{}'",

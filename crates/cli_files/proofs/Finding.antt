@@ -1,6 +1,10 @@
--- The first item of a list that passes a test.
-use Rattle.std.proofs.Common.{◌≡◌, ◌∙◌, ◌+◌, ◌<◌, ℕ, zero, suc, Bool, true, false, cond, List, [], ◌∷◌, Option, Some, None, length, take, get_or, ap, refl, arith}
+-- The first item of a list that passes a test, as the rule with a name is.
+use Rattle.std.proofs.Common.{◌≡◌, ◌∙◌, ◌+◌, ◌<◌, ℕ, zero, suc, Bool, true, false, cond, eqb, List, [], ◌∷◌, Some, None, length, take, get_or, ap, refl, arith}
 use Rattle.std.specs.Prelude.{find}
+use Rattle.std.specs.Str.{bytes_eq}
+use Rattle.packed.specs.Codes.{name_of, number_of_code}
+use Rattle.cli_faults.specs.Codes.{codes_in_order}
+use Rattle.cli_files.specs.Names.{code_named}
 
 module _ {X : Type 0} (passes : X → Bool) where
   next_none : (xs : List X) (k : ℕ) (d : X) → k < length xs → find passes (take k xs) ≡ None → passes (get_or xs k d) ≡ false → find passes (take (suc k) xs) ≡ None
@@ -35,3 +39,8 @@ module _ {X : Type 0} (passes : X → Bool) where
           → cond b (Some x) (find passes xs) ≡ Some (get_or xs k d)
       go true is later = cc
       go false is later = later is
+
+-- a name that is not empty is looked for among all rules
+pub among_all : (name : List ℕ) → eqb (length name) 0 ≡ false → code_named name ≡ find (λ code. bytes_eq (name_of (number_of_code code)) name) codes_in_order
+among_all [] some = cc
+among_all (first ∷ tail) some = refl

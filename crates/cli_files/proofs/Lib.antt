@@ -1,4 +1,5 @@
 pub mod Finding
 pub mod NumbersRead
+pub mod TypeNames
 pub mod Reading
 pub mod Statuses

@@ -4,7 +4,7 @@ use Rattle.cli_faults.specs.declared.failure.Failure.{Failure}
 use Rattle.cli_faults.specs.declared.failure.Failure.TheVariants.{Fault, NoSuchRow, Usage, NotUtf8, CannotRead, CannotWriteOutput, CannotWriteFile, OutOfMemory}
 use Rattle.cli_faults.specs.Status.{status_of}
 use Rattle.cli_faults.specs.declared.stop.Stop.{Stop}
-use Rattle.cli_faults.specs.declared.stop.Stop.TheVariants.{BudgetSpent, Different, Failed, Nothing}
+use Rattle.cli_faults.specs.declared.stop.Stop.TheVariants.{Broken, BudgetSpent, Different, Failed, NoSuchType, Nothing}
 use Rattle.cli_faults.specs.Stops.{status_of_stop}
 
 failure_never_zero : (failure : Failure) → status_of failure ≡ 0 → ⊥
@@ -23,3 +23,5 @@ never_zero (Failed failure) is = failure_never_zero failure is
 never_zero BudgetSpent is = cc
 never_zero Different is = cc
 never_zero Nothing is = cc
+never_zero Broken is = cc
+never_zero NoSuchType is = cc

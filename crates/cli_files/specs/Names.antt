@@ -1,5 +1,6 @@
 -- The arguments that name a fault or a table.
-use Rattle.std.specs.Prelude.{◌≡◌, ℕ, ◌⊎◌, List, [], Option, None, Some, find}
+use Rattle.std.specs.Prelude.{◌≡◌, ◌≢◌, ℕ, ◌⊎◌, List, [], ◌∷◌, ◌++◌, Option, None, Some, find}
+use Rattle.std.specs.List.{All}
 use Rattle.std.specs.Str.{bytes_eq}
 use Rattle.std.specs.Str.Parse.{digits_value}
 use Rattle.packed.specs.declared.code.FaultCode.{FaultCode}
@@ -27,3 +28,8 @@ table_named name = find (λ table. bytes_eq (table_name table) name) tables
 abbrev pub NamesTable : List ℕ → TableId → Type 0
 NamesTable word table =
     (IsTableNumber word × (table_number table ≡ digits_value 16 word)) ⊎ ((¬ IsTableNumber word) × (table_named word ≡ Some table))
+
+-- the full name of a type: its namespace, a dot and its name; or its name alone. A name has no dot, whose ASCII code is 46
+abbrev pub IsFullName : List ℕ → List ℕ → List ℕ → Type 0
+IsFullName word namespace name =
+    All (λ byte. byte ≢ 46) name × ((word ≡ namespace ++ 46 ∷ name) ⊎ ((namespace ≡ []) × (word ≡ name)))

@@ -2,7 +2,7 @@
 //!
 //! [`read_file`] reads a file of at most 2^30 bytes, and [`write_root`] writes a root. A [`Stopped`] says why a run
 //! stopped, with a [`Hint`] if there is one; [`status`] reports it and returns the exit code. [`token_of`],
-//! [`offset_of`], [`code_of`] and [`table_of`] read what an argument names.
+//! [`offset_of`], [`type_row_of`], [`code_of`], [`table_of`] and [`names_of_type`] read what an argument names.
 //!
 //! ```text
 //! let bytes = read_file(&rt, "one_module.dll")?;
@@ -20,7 +20,7 @@ mod stopped;
 
 pub use hint::{Hint, hint_of};
 pub use input::{LIMIT, STANDARD_INPUT, read_file, read_into};
-pub use names::{code_of, table_of};
-pub use numbers::{offset_of, token_of};
+pub use names::{code_of, names_of_type, table_of};
+pub use numbers::{offset_of, token_of, type_row_of};
 pub use output_file::{is_standard_output, write_root};
 pub use stopped::{Stopped, out_of_memory, status, stopped_by, with_hint};

@@ -2,7 +2,7 @@
 ghost use Rattle.std.specs.Prelude.{◌≡◌, IfSome, Some};
 ghost use Rattle.packed.specs.declared.code.FaultCode.{FaultCode as RuleCode};
 ghost use Rattle.table_schema.specs.declared.table.TableId.{TableId as Table};
-ghost use Rattle.cli_files.specs.Names.{NamesCode, NamesTable, code_named, table_named};
+ghost use Rattle.cli_files.specs.Names.{IsFullName, NamesCode, NamesTable, code_named, table_named};
 
 use crate::numbers::{code_number_of, table_number_of};
 use cli_faults::{all_codes, code_of_number};
@@ -59,4 +59,11 @@ fn table_named(name: &str) -> Option<TableId>
         }
     }
     None
+}
+
+/// The namespace and the name in the full name of a type, which its last dot divides. Without a dot there is no namespace.
+pub fn names_of_type(full_name: &str) -> (&str, &str)
+    ensures { IsFullName full_name.now result.0.now result.1.now }
+{
+    full_name.rsplit_once('.').unwrap_or(("", full_name))
 }

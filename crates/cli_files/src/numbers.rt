@@ -1,8 +1,13 @@
 //! Parses the numbers in arguments.
-ghost use Rattle.std.specs.Prelude.{◌<◌, ◌^◌, ◌≤◌, ℕ, MatchOption};
+ghost use Rattle.std.specs.Prelude.{◌<◌, ◌^◌, ◌%◌, ◌≤◌, ℕ, MatchOption};
 ghost use Rattle.std.specs.Option.{SomeIff};
 ghost use Rattle.std.specs.Str.Parse.{IsNumeral, digits_value};
-ghost use Rattle.cli_files.specs.Numbers.{IsCodeNumber, IsHexNumber, IsOffset, IsTableNumber};
+ghost use Rattle.cli_files.specs.Numbers.{IsCodeNumber, IsHexNumber, IsOffset, IsTableNumber, IsTypeToken};
+
+use table_schema::TableId;
+
+/// The number of rows that a token can name in a table: its high byte is the table (III.1.9).
+const ROWS: u32 = 1 << 24;
 
 /// The number with these one to eight hexadecimal digits, in either case; `None` for any other argument.
 pub fn token_of(word: &str) -> Option<u32>
@@ -12,6 +17,21 @@ pub fn token_of(word: &str) -> Option<u32>
         return None;
     }
     u32::from_str_radix(word, 16).ok()
+}
+
+/// The row of the token of a type with these eight hexadecimal digits, in either case, of which the first two are `02`
+/// (II.22.37); `None` for any other argument.
+pub fn type_row_of(word: &str) -> Option<u32>
+    ensures { SomeIff result (IsTypeToken word.now) (digits_value 16 word.now % 2 ^ 24) }
+{
+    if word.len() != 8 {
+        return None;
+    }
+    let token = token_of(word)?;
+    if token / ROWS != u32::from(TableId::TypeDef.number()) {
+        return None;
+    }
+    Some(token % ROWS)
 }
 
 /// The number with these three decimal digits; `None` for any other argument.

@@ -78,7 +78,7 @@ pub fn status<E: Write>(outcome: Result<(), Stopped<'_>>, err: &mut E) -> u8
 
 /// Whether the output says why the run stopped.
 fn is_printed(stop: &Stop<'_>) -> bool {
-    *stop == Stop::Different || *stop == Stop::Nothing
+    *stop == Stop::Different || *stop == Stop::Nothing || *stop == Stop::Broken
 }
 
 /// Reports that memory ran out, and returns the exit code for that.

@@ -2,6 +2,9 @@ pub mod RegionLemmas
 pub mod LoopLemmas
 pub mod HeaderLemmas
 pub mod CellLemmas
+pub mod EntryLemmas
+pub mod NamedLemmas
+pub mod UserLemmas
 pub mod RootLemmas
 pub mod FileLemmas
 pub mod Outcomes

@@ -78,3 +78,6 @@ three_joined line a b c = simp append_assoc
 pub eight_joined : (line a b c d e f g h : List ℕ)
     → (((((((line ++ a) ++ b) ++ c) ++ d) ++ e) ++ f) ++ g) ++ h ≡ line ++ (a ++ b ++ c ++ d ++ e ++ f ++ g ++ h)
 eight_joined line a b c d e f g h = simp append_assoc
+
+pub inner_joined : (line a b c d : List ℕ) → (((line ++ a) ++ b) ++ c) ++ d ≡ line ++ (a ++ (b ++ (c ++ d)))
+inner_joined line a b c d = simp append_assoc

@@ -1,6 +1,8 @@
 -- What `clim where` prints: the structures of a file that have a byte (ECMA-335 II.22 to II.25).
 use Rattle.std.specs.Prelude.{◌≡◌, ◌≤◌, ℕ, ◌+◌, Bool, true, false, List, [], ◌∷◌, ◌++◌, codes, Option, None, Some}
 use Rattle.cli_header.specs.declared.header.CliHeader.{CliHeader}
+use Rattle.root.specs.declared.kind.Kind.TheVariants.{UserStrings}
+use Rattle.root.specs.Fields.{root_read}
 use Rattle.schema.specs.Header.{sizes_of}
 use Rattle.metadata.specs.Metadata.{Metadata}
 use Rattle.metadata.specs.Model.{IsModel, IsModelOfFile}
@@ -12,13 +14,23 @@ use Rattle.cli_where.specs.declared.report.Found.TheVariants.{Something, Nothing
 use Rattle.cli_where.specs.Regions.{lines_at}
 use Rattle.cli_where.specs.Headers.{header_regions, root_start}
 use Rattle.cli_where.specs.Cells.{IsCellText}
+use Rattle.cli_where.specs.Entries.{AreEntryLines, heap_at, heaps_at}
+use Rattle.cli_where.specs.UserStrings.{IsUserLine}
+
+-- The lines after those of headers, streams and row counts, of a root at an offset of the file: of the cell that has the
+-- byte, of the heap entries that have it, by the cells that name them, and of the user string that has it.
+abbrev pub AreInnerLines : ℕ → List ℕ → ℕ → List ℕ → Type 0
+AreInnerLines start root offset lines =
+    (cell : List ℕ) × IsCellText (sizes_of (tables_in root)) (start + tables_offset root) offset cell
+    × (named : List ℕ) × AreEntryLines (heaps_at start (root_read root)) (tables_in root) (sizes_of (tables_in root)) offset named
+    × (user : List ℕ) × IsUserLine (heap_at start (root_read root) UserStrings) offset user
+    × (lines ≡ cell ++ (named ++ user))
 
 -- The lines of the structures that have the byte at an offset of a file with this CLI header and root, outermost first:
--- headers, streams and row counts, and then the cell.
+-- headers, streams and row counts, then the cell, and then heap entries.
 abbrev pub AreLines : Option CliHeader → List ℕ → ℕ → List ℕ → Type 0
 AreLines header root offset lines =
-    (cell : List ℕ) × IsCellText (sizes_of (tables_in root)) (root_start header + tables_offset root) offset cell
-    × (lines ≡ lines_at offset (header_regions header root) ++ cell)
+    (inner : List ℕ) × AreInnerLines (root_start header) root offset inner × (lines ≡ lines_at offset (header_regions header root) ++ inner)
 
 -- the bytes have a model, and these are their CLI header and metadata root; bare bytes are a root without a header
 abbrev pub AreParts : Bool → List ℕ → Option CliHeader → List ℕ → Type 0

@@ -25,7 +25,7 @@ fn column_name(table: TableId, column: usize) -> &'static str
 
 /// Appends the table, the row and the column of a cell.
 #[tactic(auto, unfolding(crate::specs::Cells::cell_words))]
-fn push_cell_words(cell: TableCell, line: &mut Vec<u8>) -> Result<(), AllocError>
+pub(crate) fn push_cell_words(cell: TableCell, line: &mut Vec<u8>) -> Result<(), AllocError>
     requires { cell.column < length (columns_of cell.table) }
     ensures { OnOk result (line.new.items ≡ line.old.items ++ cell_words cell) }
 {

@@ -140,10 +140,14 @@ fn print_where<W: Write>(
 /// - the metadata root and its field, or a stream header and its field (II.24.2.1, II.24.2.2);
 /// - the streams of the standard, which may overlap;
 /// - the field or row count of the table stream (II.24.2.6), or the cell: its table, its row from 1, and its column from
-///   0 and by name (II.22).
+///   0 and by name (II.22);
+/// - the entries of `#Strings`, `#GUID` and `#Blob` that have the byte, each with the cell that names it, for the first
+///   ten cells that name one. The NUL of a string and the packed length of a blob count (II.24.2.3 to II.24.2.5);
+/// - the user string that has the byte, with its token, if `clim strings` walks over it (II.24.2.4, III.1.9).
 ///
 /// If no structure has the byte, or the offset is not before the end, it prints `nothing`. A name in a stream header is
-/// escaped. Its memory is that of the lines, which are at most a dozen. Its time is that of opening.
+/// escaped. Its memory is that of the lines, which are fewer than thirty. After opening it takes one pass over the cells
+/// and one over `#US`, so its time is that of opening.
 ///
 /// # Errors
 ///

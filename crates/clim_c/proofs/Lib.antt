@@ -1,11 +1,6 @@
-pub mod Buffers
-pub mod ExplainedLemmas
-pub mod GuidLemmas
+pub mod ComparedLemmas
 pub mod HeaderLemmas
-pub mod HexLemmas
-pub mod PaddedLemmas
+pub mod LocationLemmas
 pub mod SignatureLemmas
-pub mod SinkLemmas
 pub mod Texts
-pub mod UnitLemmas
 pub mod Written

@@ -3,7 +3,7 @@ use Rattle.std.specs.Prelude.{◌≡◌, ◌⊎◌, ◌-◌, ◌^◌, ◌<◌, �
 use Rattle.metadata.specs.Metadata.{Metadata}
 use Rattle.metadata.specs.Model.{IsModel}
 use Rattle.canonical.specs.Canonical.{canonical}
-use Rattle.clim_c.specs.Texts.{with_text}
+use Rattle.c_texts.specs.Texts.{with_text}
 
 -- no root is made: the view is not open; or its canonical root is longer than 2^30 bytes; or memory ran out
 abbrev pub IsNoRoot : Bool → List ℕ → ℕ → Type 0

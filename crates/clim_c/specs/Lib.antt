@@ -4,8 +4,7 @@ pub mod Headers
 pub mod Reported
 pub mod LookUps
 pub mod Streams
-pub mod Texts
-pub mod Explained
 pub mod SignatureCells
-pub mod SignatureTexts
 pub mod CanonicalRoots
+pub mod Locations
+pub mod Compared

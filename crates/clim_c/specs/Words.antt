@@ -1,11 +1,9 @@
 -- The words of other crates that the contracts of this crate use.
 pub use Rattle.std.specs.Bool.{OnFalse, OnTrue}
-pub use Rattle.std.specs.Fmt.{digit_glyph}
 pub use Rattle.std.specs.List.{SameFrom}
 pub use Rattle.std.specs.Option.{option_map}
 pub use Rattle.packed.specs.Codes.{name_of, number_of_code}
 pub use Rattle.packed.specs.declared.code.FaultCode.{FaultCode as RuleCode}
-pub use Rattle.packed.specs.Packed.{IsPacked}
 pub use Rattle.packed.specs.Rule.{AllHold, FirstBroken}
 pub use Rattle.root.specs.Root.{IsRoot}
 pub use Rattle.root.specs.Streams.{Header}
@@ -14,18 +12,15 @@ pub use Rattle.cli_header.specs.declared.header.CliHeader.{CliHeader}
 pub use Rattle.heap_entries.specs.Entries.{IsBlob, IsUserString, UserText}
 pub use Rattle.heap_entries.specs.GuidText.{as_read}
 pub use Rattle.heap_entries.specs.Padding.{zero_padded}
-pub use Rattle.heap_entries.specs.UserView.{last_of, units_in}
 pub use Rattle.table_schema.specs.CellColumns.{cell_count, column_of}
 pub use Rattle.table_schema.specs.Columns.{column_at, key_of}
 pub use Rattle.table_schema.specs.Tables.{table_name, table_number}
-pub use Rattle.table_schema.specs.Tokens.{hexadecimal}
 pub use Rattle.table_schema.specs.declared.column.SigKind.{SigKind as Kind}
 pub use Rattle.table_schema.specs.declared.column.ColumnKind.TheVariants.{Signature}
 pub use Rattle.table_schema.specs.declared.table.TableId.{TableId as Table}
 pub use Rattle.table_schema.specs.declared.table.TableId.TheVariants.{TypeDef}
 pub use Rattle.schema.specs.ColumnNames.{column_names_of}
 pub use Rattle.sig_grammar.specs.Syntax.{Body}
-pub use Rattle.sig_text.specs.Refused.{refused_after}
 pub use Rattle.metadata.specs.Cell.{Sig}
 pub use Rattle.metadata.specs.Lookups.{HasNames, HasRow, IsFirstType}
 pub use Rattle.metadata.specs.Metadata.{Metadata, cell_in, count_in}

@@ -3,8 +3,8 @@ ghost use Rattle.clim_c.specs.CanonicalRoots.{HasWhole, IsNoRoot};
 ghost use Rattle.clim_c.specs.Words.{IsModel, Metadata, canonical, sha256};
 
 use crate::opened::seen;
-use crate::text_parts::{TOO_LONG, copy_at};
 use crate::view::ClimView;
+use c_texts::{TOO_LONG, copy_at};
 use root_plan::{Prepared, WriteError};
 use sha2::{Digest, Sha256};
 use std::alloc::Global;
@@ -14,7 +14,7 @@ use writer::prepare;
 const ROOT_LIMIT: u32 = 1 << 30;
 
 /// `CLIM_NO_MEMORY`: what is returned if memory runs out.
-const NO_MEMORY: usize = usize::MAX - 1;
+pub(crate) const NO_MEMORY: usize = usize::MAX - 1;
 
 /// The canonical root of a view, or the number that says why there is none.
 fn canonical_root(alloc: Global, view: &ClimView) -> Result<Prepared, usize>

@@ -1,17 +1,20 @@
 //! The C interface of `opening`: checks a file, opens it and reads it in place (ECMA-335 II.22 to II.25).
 //!
-//! `c/clim.h` declares the exports, says what a caller must ensure, and has an example. Only `clim_canonical_root` and
-//! `clim_digest` allocate. Nothing is kept between calls, except in what the caller holds. Nothing checks that a C caller
-//! meets a precondition, so no function has one: each tests its arguments, and its result says whether it rejected them.
+//! `c/clim.h` declares the exports, says what a caller must ensure, and has an example. Only `clim_canonical_root`,
+//! `clim_digest` and `clim_compare` allocate. Nothing is kept between calls, except in what the caller holds. Nothing
+//! checks that a C caller meets a precondition, so no function has one: each tests its arguments, and its result says
+//! whether it rejected them.
 #![tactic(auto)]
 
 pub mod canonical_root;
+pub mod compared;
+pub mod difference;
 pub mod explained;
 pub mod fault;
+pub mod located;
 pub mod look_ups;
 pub mod names;
 pub mod opened;
-mod padded_heap;
 pub mod read_header;
 pub mod reported_cell;
 pub mod shown;

@@ -1,5 +1,5 @@
 -- What a cell adds to the cells that differ.
-use Rattle.std.proofs.Common.{◌≡◌, ◌≢◌, ◌∙◌, ◌<◌, ◌≤◌, ℕ, ◌+◌, Bool, true, false, List, [], ◌∷◌, ◌++◌, All, length, take, get_or, min, ap, sym, subst, arith, cond, length-append}
+use Rattle.std.proofs.Common.{◌≡◌, ◌||◌, ◌≢◌, ◌∙◌, ◌<◌, ◌≤◌, ℕ, ◌+◌, Bool, true, false, List, [], ◌∷◌, ◌++◌, All, length, take, get_or, min, ap, sym, subst, arith, cond, length-append}
 use Rattle.std.specs.List.{flat_map, range_with_len}
 use Rattle.std.proofs.lemmas.List.{take_all}
 use Rattle.table_schema.specs.declared.table.TableId.{TableId}
@@ -8,23 +8,35 @@ use Rattle.table_schema.specs.CellColumns.{cell_count}
 use Rattle.metadata.specs.Metadata.{Metadata, cell_in, count_in}
 use Rattle.comparison.specs.declared.difference.Difference.{Difference}
 use Rattle.comparison.specs.declared.difference.Difference.TheVariants.{Cell}
+use Rattle.comparison.specs.declared.ignored.IgnoredColumns.{IgnoredColumns}
+use Rattle.comparison.specs.Ignored.{is_ignored}
 use Rattle.comparison.specs.SameCells.{is_same_cell}
-use Rattle.comparison.specs.Differences.{Grows, IsThere, cell_difference, cell_differences, row_differences, table_differences}
+use Rattle.comparison.specs.Differences.{Grows, IsThere, cell_difference, cell_differences_but, row_differences, table_differences}
 use Rattle.comparison.proofs.GrowthLemmas.{grows_more, grows_nothing, item_more, number_more}
 
-module _ (first second : Metadata) (table : TableId) (row cell_index : ℕ) (same : Bool)
+-- nothing is found in an ignored column
+pub cell_ignored : (ignored : IgnoredColumns) (first second : Metadata) (table : TableId) (row cell_index limit : ℕ) (found : List Difference) → length found ≤ limit
+    → is_ignored ignored table cell_index ≡ true → Grows limit found found (cell_difference ignored first second table row cell_index)
+cell_ignored ignored first second table row cell_index limit found few is =
+    subst (λ (more : List Difference). Grows limit found found more)
+    (sym (ap (λ t. cond (t || is_same_cell (cell_in first table row cell_index) (cell_in second table row cell_index)) [] (Cell table row cell_index ∷ [])) is)) (grows_nothing limit found few)
+
+either : (ignored same tested : Bool) → ignored ≡ false → same ≡ tested → (ignored || tested) ≡ same
+either ignored same tested kept is = ap (λ t. t || tested) kept ∙ sym is
+
+module _ (ignored : IgnoredColumns) (first second : Metadata) (table : TableId) (row cell_index : ℕ) (same : Bool) (compared : is_ignored ignored table cell_index ≡ false)
     (tested : same ≡ is_same_cell (cell_in first table row cell_index) (cell_in second table row cell_index)) where
-  pub cell_same : (limit : ℕ) (found : List Difference) → length found ≤ limit → same ≡ true → Grows limit found found (cell_difference first second table row cell_index)
+  pub cell_same : (limit : ℕ) (found : List Difference) → length found ≤ limit → same ≡ true → Grows limit found found (cell_difference ignored first second table row cell_index)
   cell_same limit found few is =
-      subst (λ (more : List Difference). Grows limit found found more) (sym (ap (λ t. cond t [] (Cell table row cell_index ∷ [])) (sym tested ∙ is))) (grows_nothing limit found few)
+      subst (λ (more : List Difference). Grows limit found found more) (sym (ap (λ t. cond t [] (Cell table row cell_index ∷ [])) (either (is_ignored ignored table cell_index) same (is_same_cell (cell_in first table row cell_index) (cell_in second table row cell_index)) compared tested ∙ is))) (grows_nothing limit found few)
 
   pub cell_differs : (limit : ℕ) (found after : List Difference) → length found ≤ limit → length found ≢ limit → same ≡ false
-      → after ≡ found ++ Cell table row cell_index ∷ [] → Grows limit found after (cell_difference first second table row cell_index)
+      → after ≡ found ++ Cell table row cell_index ∷ [] → Grows limit found after (cell_difference ignored first second table row cell_index)
   cell_differs limit found after few room is grown =
       let one : Difference = Cell table row cell_index in
       let long = length-append found (one ∷ []) in
       let fits : length (found ++ one ∷ []) ≤ limit = omega (arith, long, few, room) in
-      subst (λ (more : List Difference). Grows limit found after more) (sym (ap (λ t. cond t [] (one ∷ [])) (sym tested ∙ is)))
+      subst (λ (more : List Difference). Grows limit found after more) (sym (ap (λ t. cond t [] (one ∷ [])) (either (is_ignored ignored table cell_index) same (is_same_cell (cell_in first table row cell_index) (cell_in second table row cell_index)) compared tested ∙ is)))
       (grown ∙ sym (take_all limit (found ++ one ∷ []) fits))
 
 -- ---- one part after another
@@ -48,16 +60,16 @@ item_found f ys i limit d between after lt first second =
     subst (λ (more : List Difference). after ≡ take limit more) (sym (item_more f ys i d lt))
     (grows_more limit [] between after (flat_map f (take i ys)) (f (get_or ys i d)) first second)
 
-module _ (first second : Metadata) where
-  pub row_is : (table : TableId) (row n : ℕ) → n ≡ cell_count table → flat_map (cell_difference first second table row) (range_with_len 0 n) ≡ row_differences first second table row
+module _ (ignored : IgnoredColumns) (first second : Metadata) where
+  pub row_is : (table : TableId) (row n : ℕ) → n ≡ cell_count table → flat_map (cell_difference ignored first second table row) (range_with_len 0 n) ≡ row_differences ignored first second table row
   unfolding row_differences
-  row_is table row n is = ap (λ k. flat_map (cell_difference first second table row) (range_with_len 0 k)) is
+  row_is table row n is = ap (λ k. flat_map (cell_difference ignored first second table row) (range_with_len 0 k)) is
 
   pub table_is : (table : TableId) (n : ℕ) → n ≡ min (count_in first table) (count_in second table)
-      → flat_map (row_differences first second table) (range_with_len 1 n) ≡ table_differences first second table
+      → flat_map (row_differences ignored first second table) (range_with_len 1 n) ≡ table_differences ignored first second table
   unfolding table_differences
-  table_is table n is = ap (λ k. flat_map (row_differences first second table) (range_with_len 1 k)) is
+  table_is table n is = ap (λ k. flat_map (row_differences ignored first second table) (range_with_len 1 k)) is
 
-  pub tables_are : (i : ℕ) → length tables ≤ i → flat_map (table_differences first second) (take i tables) ≡ cell_differences first second
-  unfolding cell_differences
-  tables_are i all = ap (λ ts. flat_map (table_differences first second) ts) (take_all i tables all)
+  pub tables_are : (i : ℕ) → length tables ≤ i → flat_map (table_differences ignored first second) (take i tables) ≡ cell_differences_but ignored first second
+  unfolding cell_differences_but
+  tables_are i all = ap (λ ts. flat_map (table_differences ignored first second) ts) (take_all i tables all)

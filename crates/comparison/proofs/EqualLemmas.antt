@@ -1,5 +1,5 @@
 -- Two valid models are equal if and only if nothing differs.
-use Rattle.std.proofs.Common.{◌≡◌, ◌↔◌, ◌∙◌, ◌<◌, ◌≤◌, ℕ, zero, suc, ◌+◌, ◌-◌, Bool, true, false, IsTrue, List, [], ◌∷◌, ◌++◌, length, take, get_or, min, refl, ap, ap₂, sym, subst, cond, arith, ◌==◌, Option, Some, None, is_some}
+use Rattle.std.proofs.Common.{◌≡◌, ◌↔◌, ◌∙◌, ◌<◌, ◌≤◌, ℕ, zero, suc, ◌+◌, ◌-◌, ◌||◌, Bool, true, false, IsTrue, List, [], ◌∷◌, ◌++◌, length, take, get_or, min, refl, ap, sym, subst, cond, arith, ◌==◌, Option, Some, None, is_some}
 use Rattle.std.specs.Prelude.{bytes_eq, IfNone, IfSome}
 use Rattle.std.specs.List.{flat_map, range_with_len}
 use Rattle.std.proofs.lemmas.Bool.Decides.{Decides-eqb}
@@ -11,13 +11,16 @@ use Rattle.table_schema.specs.Tables.{tables, table_index_of}
 use Rattle.table_schema.specs.CellColumns.{cell_count}
 use Rattle.metadata.specs.Cell.{Cell}
 use Rattle.metadata.specs.Lookups.{HasRow}
-use Rattle.metadata.specs.Metadata.{Metadata, cell_in, count_in, row_of}
+use Rattle.metadata.specs.Metadata.{Metadata, cell_in, count_in}
 use Rattle.metadata.specs.Same.{SaysSame}
 use Rattle.metadata.specs.Valid.{IsValid}
 use Rattle.comparison.specs.declared.difference.Difference.{Difference}
 use Rattle.comparison.specs.declared.difference.Difference.TheVariants as difference
+use Rattle.comparison.specs.declared.ignored.IgnoredColumns.{IgnoredColumns}
+use Rattle.comparison.specs.Ignored.{is_ignored}
+use Rattle.comparison.specs.EqualBut.{AreEqualBut}
 use Rattle.comparison.specs.SameCells.{is_same_cell}
-use Rattle.comparison.specs.Differences.{cell_difference, cell_differences, count_difference, first_differences, outline_differences, row_differences, table_differences, user_difference, version_difference}
+use Rattle.comparison.specs.Differences.{cell_difference, cell_differences_but, count_difference, first_differences_but, outline_differences, row_differences, table_differences, user_difference, version_difference}
 
 -- ---- lists of nothing
 
@@ -52,39 +55,64 @@ test_holds : {X : Type 0} (test : Bool) (x : X) → cond test [] (x ∷ []) ≡ 
 test_holds true x is = refl
 test_holds false x is = cc
 
-module _ (tested : (a b : Cell) → IsTrue (is_same_cell a b) ↔ (a ≡ b)) where
-  -- ---- nothing differs between a model and itself
-  module _ (model : Metadata) where
-    pub outline_itself : outline_differences model model ≡ []
+-- numbers of a range
+all_nothing_in : {X : Type 0} (f : ℕ → List X) (a n : ℕ) → ((m : ℕ) → a ≤ m → m < a + n → f m ≡ []) → flat_map f (range_with_len a n) ≡ []
+all_nothing_in f a zero none = refl
+all_nothing_in f a (suc n) none =
+    ap (λ xs. xs ++ flat_map f (range_with_len (a + 1) n)) (none a (omega arith) (omega arith))
+    ∙ all_nothing_in f (a + 1) n (λ m low high. none m (omega (arith, low)) (omega (arith, high)))
+
+-- a test that holds adds nothing
+adds_nothing : {X : Type 0} (test : Bool) (x : X) → test ≡ true → cond test [] (x ∷ []) ≡ []
+adds_nothing test x is = ap (λ t. cond t [] (x ∷ [])) is
+
+-- a column is ignored, or its cells are the same
+either_holds : (ignored same : Bool) → (ignored ≡ false → same ≡ true) → (ignored || same) ≡ true
+either_holds true same holds = refl
+either_holds false same holds = holds refl
+
+second_holds : (ignored same : Bool) → (ignored || same) ≡ true → ignored ≡ false → same ≡ true
+second_holds true same found kept = cc
+second_holds false same found kept = found
+
+module _ (tested : (a b : Cell) → IsTrue (is_same_cell a b) ↔ (a ≡ b)) (ignored : IgnoredColumns) (first second : Metadata) where
+  -- ---- nothing else differs between models that are equal but for ignored columns
+  module _ (alike : AreEqualBut ignored first second) where
+    outline_alike : outline_differences first second ≡ []
     unfolding outline_differences
-    outline_itself =
-        ap (λ (xs : List Difference). xs ++ user_difference model model ++ flat_map (count_difference model model) tables)
-        (ap (λ t. cond t [] (difference.Version ∷ [])) ((bytes_eq-Decides model.version model.version).1 refl))
-        ∙ ap (λ (xs : List Difference). xs ++ flat_map (count_difference model model) tables)
-        (ap (λ t. cond t [] (difference.UserStrings ∷ [])) ((bytes_eq-Decides model.user model.user).1 refl))
-        ∙ all_nothing (count_difference model model) tables (λ table.
-        ap (λ t. cond t [] (difference.RowCount table (count_in model table) (count_in model table) ∷ [])) ((Decides-eqb (count_in model table) (count_in model table)).1 refl))
+    outline_alike =
+        ap (λ (xs : List Difference). xs ++ user_difference first second ++ flat_map (count_difference first second) tables)
+        (adds_nothing (bytes_eq first.version second.version) difference.Version ((bytes_eq-Decides first.version second.version).1 alike.version))
+        ∙ ap (λ (xs : List Difference). xs ++ flat_map (count_difference first second) tables)
+        (adds_nothing (bytes_eq first.user second.user) difference.UserStrings ((bytes_eq-Decides first.user second.user).1 alike.user))
+        ∙ all_nothing (count_difference first second) tables (λ table.
+        adds_nothing (count_in first table == count_in second table) (difference.RowCount table (count_in first table) (count_in second table))
+        ((Decides-eqb (count_in first table) (count_in second table)).1 (alike.counts table)))
 
-    cell_itself : (table : TableId) (row cell_index : ℕ) → cell_difference model model table row cell_index ≡ []
-    cell_itself table row cell_index =
-        let cell = cell_in model table row cell_index in
-        ap (λ t. cond t [] (difference.Cell table row cell_index ∷ [])) ((tested cell cell).1 refl)
+    cell_alike : (table : TableId) (row cell_index : ℕ) → HasRow first table row → cell_index < cell_count table → cell_difference ignored first second table row cell_index ≡ []
+    cell_alike table row cell_index has lt =
+        let left = cell_in first table row cell_index in
+        let right = cell_in second table row cell_index in
+        adds_nothing (is_ignored ignored table cell_index || is_same_cell left right) (difference.Cell table row cell_index)
+        (either_holds (is_ignored ignored table cell_index) (is_same_cell left right) (λ kept. (tested left right).1 (alike.cells table row cell_index has lt kept)))
 
-    row_itself : (table : TableId) (row : ℕ) → row_differences model model table row ≡ []
+    row_alike : (table : TableId) (row : ℕ) → HasRow first table row → row_differences ignored first second table row ≡ []
     unfolding row_differences
-    row_itself table row = all_nothing (cell_difference model model table row) (range_with_len 0 (cell_count table)) (cell_itself table row)
+    row_alike table row has =
+        all_nothing_in (cell_difference ignored first second table row) 0 (cell_count table) (λ cell_index low high. cell_alike table row cell_index has (omega (arith, high)))
 
-    table_itself : (table : TableId) → table_differences model model table ≡ []
+    table_alike : (table : TableId) → table_differences ignored first second table ≡ []
     unfolding table_differences
-    table_itself table = all_nothing (row_differences model model table) (range_with_len 1 (min (count_in model table) (count_in model table))) (row_itself table)
+    table_alike table =
+        all_nothing_in (row_differences ignored first second table) 1 (min (count_in first table) (count_in second table))
+        (λ row low high. row_alike table row (low, omega (arith, high)))
 
-    pub cells_itself : cell_differences model model ≡ []
-    unfolding cell_differences
-    cells_itself = all_nothing (table_differences model model) tables table_itself
+    pub cells_alike : cell_differences_but ignored first second ≡ []
+    unfolding cell_differences_but
+    cells_alike = all_nothing (table_differences ignored first second) tables table_alike
 
-  -- ---- models between which nothing differs
-  module _ (first second : Metadata) (valid : IsValid first) (other_valid : IsValid second)
-      (many : length tables ≡ 38) (below : (table : TableId) → table_index_of table < 38) (stand : (table : TableId) → get_or tables (table_index_of table) Module ≡ table) where
+  -- ---- models between which nothing else differs
+  module _ (many : length tables ≡ 38) (below : (table : TableId) → table_index_of table < 38) (stand : (table : TableId) → get_or tables (table_index_of table) Module ≡ table) where
     outline_parts : outline_differences first second ≡ []
         → (version_difference first second ≡ []) × (user_difference first second ≡ []) × (flat_map (count_difference first second) tables ≡ [])
     unfolding outline_differences
@@ -105,8 +133,8 @@ module _ (tested : (a b : Cell) → IsTrue (is_same_cell a b) ↔ (a ≡ b)) whe
         (Decides-eqb (count_in first table) (count_in second table)).0
         (test_holds (count_in first table == count_in second table) (difference.RowCount table (count_in first table) (count_in second table)) (of_table (count_difference first second) table (outline_parts none).2))
 
-    of_row : (table : TableId) (row : ℕ) → 1 ≤ row → row ≤ min (count_in first table) (count_in second table) → table_differences first second table ≡ []
-        → row_differences first second table row ≡ []
+    of_row : (table : TableId) (row : ℕ) → 1 ≤ row → row ≤ min (count_in first table) (count_in second table) → table_differences ignored first second table ≡ []
+        → row_differences ignored first second table row ≡ []
     unfolding table_differences
     of_row table row low high none =
         let n = min (count_in first table) (count_in second table) in
@@ -114,51 +142,68 @@ module _ (tested : (a b : Cell) → IsTrue (is_same_cell a b) ↔ (a ≡ b)) whe
         let here : row - 1 < n = omega (arith, low, high) in
         let within : row - 1 < length (range_with_len 1 n) = omega (arith, long, here) in
         let is : get_or (range_with_len 1 n) (row - 1) 0 ≡ row = get_or-range_with_len 1 n (row - 1) 0 here ∙ omega (arith, low) in
-        ap (row_differences first second table) (sym is) ∙ each_nothing (row_differences first second table) (range_with_len 1 n) (row - 1) 0 none within
+        ap (row_differences ignored first second table) (sym is) ∙ each_nothing (row_differences ignored first second table) (range_with_len 1 n) (row - 1) 0 none within
 
-    of_cell : (table : TableId) (row cell_index : ℕ) → cell_index < cell_count table → row_differences first second table row ≡ []
-        → cell_difference first second table row cell_index ≡ []
+    of_cell : (table : TableId) (row cell_index : ℕ) → cell_index < cell_count table → row_differences ignored first second table row ≡ []
+        → cell_difference ignored first second table row cell_index ≡ []
     unfolding row_differences
     of_cell table row cell_index lt none =
         let n = cell_count table in
         let long = length-range_with_len 0 n in
         let within : cell_index < length (range_with_len 0 n) = omega (arith, long, lt) in
         let is : get_or (range_with_len 0 n) cell_index 0 ≡ cell_index = get_or-range_with_len 0 n cell_index 0 lt ∙ omega arith in
-        ap (cell_difference first second table row) (sym is) ∙ each_nothing (cell_difference first second table row) (range_with_len 0 n) cell_index 0 none within
+        ap (cell_difference ignored first second table row) (sym is) ∙ each_nothing (cell_difference ignored first second table row) (range_with_len 0 n) cell_index 0 none within
 
-    table_none : (table : TableId) → cell_differences first second ≡ [] → table_differences first second table ≡ []
-    unfolding cell_differences
-    table_none table none = of_table (table_differences first second) table none
+    table_none : (table : TableId) → cell_differences_but ignored first second ≡ [] → table_differences ignored first second table ≡ []
+    unfolding cell_differences_but
+    table_none table none = of_table (table_differences ignored first second) table none
 
-    pub says_same : outline_differences first second ≡ [] → cell_differences first second ≡ [] → SaysSame first second
-    says_same outline cells = record {
+    pub are_alike : outline_differences first second ≡ [] → cell_differences_but ignored first second ≡ [] → AreEqualBut ignored first second
+    are_alike outline cells = record {
       version = (bytes_eq-Decides first.version second.version).0 (test_holds (bytes_eq first.version second.version) difference.Version (outline_parts outline).0);
       user = (bytes_eq-Decides first.user second.user).0 (test_holds (bytes_eq first.user second.user) difference.UserStrings (outline_parts outline).1);
-      tables = valid.tables;
-      other_tables = other_valid.tables;
       counts = counts_same outline;
-      long = λ table row has.
-          let also : HasRow second table row = (has.0, subst (λ (n : ℕ). row ≤ n) (counts_same outline table) has.1) in
-          valid.long table row has ∙ sym (other_valid.long table row also);
-      cells = λ table row cell_index has lt.
+      cells = λ table row cell_index has lt kept.
           let counted = counts_same outline table in
           let both : row ≤ min (count_in first table) (count_in second table) = let last = has.1 in omega (arith, last, counted) in
-          let within : cell_index < cell_count table = subst (λ (n : ℕ). cell_index < n) (valid.long table row has) lt in
-          (tested (cell_in first table row cell_index) (cell_in second table row cell_index)).0
-          (test_holds (is_same_cell (cell_in first table row cell_index) (cell_in second table row cell_index)) (difference.Cell table row cell_index)
-          (of_cell table row cell_index within (of_row table row has.0 both (table_none table cells))));
+          let left = cell_in first table row cell_index in
+          let right = cell_in second table row cell_index in
+          (tested left right).0
+          (second_holds (is_ignored ignored table cell_index) (is_same_cell left right)
+          (test_holds (is_ignored ignored table cell_index || is_same_cell left right) (difference.Cell table row cell_index)
+          (of_cell table row cell_index lt (of_row table row has.0 both (table_none table cells)))) kept);
     }
 
-  pub nothing_differs : (length tables ≡ 38) → ((table : TableId) → table_index_of table < 38) → ((table : TableId) → get_or tables (table_index_of table) Module ≡ table)
-      → ((model other : Metadata) → SaysSame model other → model ≡ other) → (first second : Metadata) → IsValid first → IsValid second → (limit : ℕ) → 1 ≤ limit
-      → ((outline_differences first second ≡ []) × (take limit (cell_differences first second) ≡ [])) ↔ (first ≡ second)
-  nothing_differs many below stand one first second valid other_valid limit some = (
-    (λ none. one first second (says_same first second valid other_valid many below stand none.0 (some_nothing (cell_differences first second) limit some none.1))),
-    (λ is. (
-      subst (λ (other : Metadata). outline_differences first other ≡ []) is (outline_itself first),
-      take_of_nothing limit (cell_differences first second) (subst (λ (other : Metadata). cell_differences first other ≡ []) is (cells_itself first)),
-    )),
-  )
+    pub nothing_else_differs : (limit : ℕ) → 1 ≤ limit
+        → ((outline_differences first second ≡ []) × (take limit (cell_differences_but ignored first second) ≡ [])) ↔ AreEqualBut ignored first second
+    nothing_else_differs limit some = (
+      (λ none. are_alike none.0 (some_nothing (cell_differences_but ignored first second) limit some none.1)),
+      (λ alike. (outline_alike alike, take_of_nothing limit (cell_differences_but ignored first second) (cells_alike alike))),
+    )
+
+-- models that are equal but for no column are equal
+module _ (ignored : IgnoredColumns) (none : (table : TableId) (cell_index : ℕ) → cell_index < cell_count table → is_ignored ignored table cell_index ≡ false)
+    (first second : Metadata) (valid : IsValid first) (other_valid : IsValid second) (alike : AreEqualBut ignored first second) where
+  pub says_same : SaysSame first second
+  says_same = record {
+    version = alike.version;
+    user = alike.user;
+    tables = valid.tables;
+    other_tables = other_valid.tables;
+    counts = alike.counts;
+    long = λ table row has.
+        let also : HasRow second table row = (has.0, subst (λ (n : ℕ). row ≤ n) (alike.counts table) has.1) in
+        valid.long table row has ∙ sym (other_valid.long table row also);
+    cells = λ table row cell_index has lt.
+        let within : cell_index < cell_count table = subst (λ (n : ℕ). cell_index < n) (valid.long table row has) lt in
+        alike.cells table row cell_index has within (none table cell_index within);
+  }
+
+itself_alike : (ignored : IgnoredColumns) (model : Metadata) → AreEqualBut ignored model model
+itself_alike ignored model = record { version = refl; user = refl; counts = λ table. refl; cells = λ table row cell_index has lt kept. refl }
+
+pub same_alike : (ignored : IgnoredColumns) (first second : Metadata) → first ≡ second → AreEqualBut ignored first second
+same_alike ignored first second is = subst (λ (other : Metadata). AreEqualBut ignored first other) is (itself_alike ignored first)
 
 pub outline_some : (o : Option Difference) (xs : List Difference) → IfSome o (λ one. take 1 xs ≡ one ∷ []) → is_some o ≡ true → xs ≡ [] → ⊥
 outline_some None xs found test none = cc
@@ -172,26 +217,26 @@ pub nothing_long : {X : Type 0} (xs : List X) → length xs ≡ 0 → xs ≡ []
 nothing_long [] is = refl
 nothing_long (x ∷ xs) is = absurd (omega (arith, is))
 
-pub first_differs : (first second : Metadata) (limit : ℕ) → first_differences first second limit ≡ []
-    → (outline_differences first second ≡ []) × (take limit (cell_differences first second) ≡ [])
-unfolding first_differences
-first_differs first second limit none = (
-  some_nothing (outline_differences first second) 1 (omega arith) (first_nothing (take 1 (outline_differences first second)) (take limit (cell_differences first second)) none),
-  last_nothing (take 1 (outline_differences first second)) (take limit (cell_differences first second)) none,
+pub first_differs : (ignored : IgnoredColumns) (first second : Metadata) (limit : ℕ) → first_differences_but ignored first second limit ≡ []
+    → (outline_differences first second ≡ []) × (take limit (cell_differences_but ignored first second) ≡ [])
+unfolding first_differences_but
+first_differs ignored first second limit none = (
+  some_nothing (outline_differences first second) 1 (omega arith) (first_nothing (take 1 (outline_differences first second)) (take limit (cell_differences_but ignored first second)) none),
+  last_nothing (take 1 (outline_differences first second)) (take limit (cell_differences_but ignored first second)) none,
 )
 
-pub first_nothing_differs : (first second : Metadata) (limit : ℕ) → outline_differences first second ≡ [] → take limit (cell_differences first second) ≡ []
-    → first_differences first second limit ≡ []
-unfolding first_differences
-first_nothing_differs first second limit none also =
-    ap (λ (xs : List Difference). take 1 xs ++ take limit (cell_differences first second)) none ∙ also
+pub first_nothing_differs : (ignored : IgnoredColumns) (first second : Metadata) (limit : ℕ) → outline_differences first second ≡ [] → take limit (cell_differences_but ignored first second) ≡ []
+    → first_differences_but ignored first second limit ≡ []
+unfolding first_differences_but
+first_nothing_differs ignored first second limit none also =
+    ap (λ (xs : List Difference). take 1 xs ++ take limit (cell_differences_but ignored first second)) none ∙ also
 
 -- the differences, by the first one besides cells
-pub first_is : (first second : Metadata) (limit : ℕ) (one : Difference) → take 1 (outline_differences first second) ≡ one ∷ []
-    → one ∷ take limit (cell_differences first second) ≡ first_differences first second limit
-unfolding first_differences
-first_is first second limit one is = ap (λ (xs : List Difference). xs ++ take limit (cell_differences first second)) (sym is)
+pub first_is : (ignored : IgnoredColumns) (first second : Metadata) (limit : ℕ) (one : Difference) → take 1 (outline_differences first second) ≡ one ∷ []
+    → one ∷ take limit (cell_differences_but ignored first second) ≡ first_differences_but ignored first second limit
+unfolding first_differences_but
+first_is ignored first second limit one is = ap (λ (xs : List Difference). xs ++ take limit (cell_differences_but ignored first second)) (sym is)
 
-pub none_is : (first second : Metadata) (limit : ℕ) → outline_differences first second ≡ [] → take limit (cell_differences first second) ≡ first_differences first second limit
-unfolding first_differences
-none_is first second limit none = ap (λ (xs : List Difference). take 1 xs ++ take limit (cell_differences first second)) (sym none)
+pub none_is : (ignored : IgnoredColumns) (first second : Metadata) (limit : ℕ) → outline_differences first second ≡ [] → take limit (cell_differences_but ignored first second) ≡ first_differences_but ignored first second limit
+unfolding first_differences_but
+none_is ignored first second limit none = ap (λ (xs : List Difference). take 1 xs ++ take limit (cell_differences_but ignored first second)) (sym none)

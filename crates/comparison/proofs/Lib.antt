@@ -5,3 +5,4 @@ pub mod CellSteps
 pub mod PaddingLemmas
 pub mod OutlineLemmas
 pub mod EqualLemmas
+pub mod IgnoredLemmas

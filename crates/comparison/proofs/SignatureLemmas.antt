@@ -1,5 +1,5 @@
 -- Two signatures in columns of one kind are equal if and only if their canonical encodings are.
-use Rattle.std.proofs.Common.{◌≡◌, ◌↔◌, ◌∙◌, Bool, true, false, IsTrue, List, ℕ, refl, ap, sym, subst}
+use Rattle.std.proofs.Common.{◌≡◌, Bool, true, false, List, ℕ, refl, sym, subst}
 use Rattle.std.specs.Bool.{Decides}
 use Rattle.table_schema.specs.declared.column.SigKind.{SigKind}
 use Rattle.sig_grammar.specs.Syntax.{Body}

@@ -1,5 +1,5 @@
 -- What differs between two models (ECMA-335 II.22 and II.24.2), in order.
-use Rattle.std.specs.Prelude.{◌≡◌, ◌<◌, ◌≤◌, ◌==◌, ℕ, if◌then◌else◌, min, List, [], ◌∷◌, ◌++◌, take}
+use Rattle.std.specs.Prelude.{◌≡◌, ◌<◌, ◌≤◌, ◌==◌, ◌||◌, ℕ, if◌then◌else◌, min, List, [], ◌∷◌, ◌++◌, take}
 use Rattle.std.specs.List.{flat_map, range_with_len}
 use Rattle.std.specs.Str.{bytes_eq}
 use Rattle.table_schema.specs.declared.table.TableId.{TableId}
@@ -9,6 +9,8 @@ use Rattle.metadata.specs.Metadata.{Metadata, cell_in, count_in}
 use Rattle.opening.specs.Views.{row_count}
 use Rattle.comparison.specs.declared.difference.Difference.{Difference}
 use Rattle.comparison.specs.declared.difference.Difference.TheVariants.{Version, UserStrings, RowCount, Cell}
+use Rattle.comparison.specs.declared.ignored.IgnoredColumns.{IgnoredColumns}
+use Rattle.comparison.specs.Ignored.{is_ignored, no_columns}
 use Rattle.comparison.specs.SameCells.{is_same_cell}
 
 module _ (left right : Metadata) where
@@ -28,10 +30,13 @@ module _ (left right : Metadata) where
   unfoldable pub outline_differences : List Difference
   outline_differences = version_difference ++ user_difference ++ flat_map count_difference tables
 
-  -- a cell, if it differs
+-- the cells that differ, but for those of ignored columns
+module _ (ignored : IgnoredColumns) (left right : Metadata) where
+  -- a cell, if it differs and its column is not ignored
   abbrev pub cell_difference : TableId → ℕ → ℕ → List Difference
   cell_difference table row cell_index =
-      if is_same_cell (cell_in left table row cell_index) (cell_in right table row cell_index) then [] else Cell table row cell_index ∷ []
+      if is_ignored ignored table cell_index || is_same_cell (cell_in left table row cell_index) (cell_in right table row cell_index) then []
+      else Cell table row cell_index ∷ []
 
   -- the cells of a row that differ
   unfoldable pub row_differences : TableId → ℕ → List Difference
@@ -42,12 +47,19 @@ module _ (left right : Metadata) where
   table_differences table = flat_map (row_differences table) (range_with_len 1 (min (count_in left table) (count_in right table)))
 
   -- the cells that differ, in the order of tables, rows and columns
-  unfoldable pub cell_differences : List Difference
-  cell_differences = flat_map table_differences tables
+  unfoldable pub cell_differences_but : List Difference
+  cell_differences_but = flat_map table_differences tables
 
   -- the first of the other differences, if there is one, and then the first cells that differ, at most this many
-  unfoldable pub first_differences : ℕ → List Difference
-  first_differences limit = take 1 outline_differences ++ take limit cell_differences
+  unfoldable pub first_differences_but : ℕ → List Difference
+  first_differences_but limit = take 1 (outline_differences left right) ++ take limit cell_differences_but
+
+-- the same if no column is ignored
+abbrev pub cell_differences : Metadata → Metadata → List Difference
+cell_differences = cell_differences_but no_columns
+
+abbrev pub first_differences : Metadata → Metadata → ℕ → List Difference
+first_differences = first_differences_but no_columns
 
 -- a cell of a row that the roots of both views have (II.24.2.6)
 abbrev pub IsThere : List ℕ → List ℕ → Difference → Type 0

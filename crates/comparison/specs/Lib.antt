@@ -1,2 +1,4 @@
 pub mod Differences
+pub mod EqualBut
+pub mod Ignored
 pub mod SameCells

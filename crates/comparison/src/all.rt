@@ -2,10 +2,11 @@
 ghost use Rattle.std.specs.Prelude.{◌≡◌, IfOk, All};
 ghost use Rattle.metadata.specs.Metadata.{Metadata};
 ghost use Rattle.metadata.specs.Model.{IsModel};
-ghost use Rattle.comparison.specs.Differences.{IsThere, first_differences};
+ghost use Rattle.comparison.specs.Differences.{IsThere, first_differences, first_differences_but};
 
-use crate::cells::differing_cells;
+use crate::cells::differing_cells_but;
 use crate::difference::Difference;
+use crate::ignored::IgnoredColumns;
 use crate::outlines::outline_difference;
 use opening::View;
 use std::alloc::{AllocError, Global};
@@ -29,7 +30,27 @@ pub fn differences(
         → IfOk result (λ found. found.items ≡ first_differences first second limit) }
     ensures there { IfOk result (λ found. All (IsThere left.now right.now) found.items) }
 {
-    let mut cells = differing_cells(alloc, left, right, limit)?;
+    differences_but(alloc, left, right, &IgnoredColumns::none(), limit)
+}
+
+/// What differs between two views, as [`differences`] finds it, but for the cells of ignored columns: these are not
+/// compared. If `limit` is not 0, there is none if and only if the models of the views are equal but for these cells.
+///
+/// # Errors
+///
+/// Only if out of memory.
+pub fn differences_but(
+    alloc: Global,
+    left: &View<'_>,
+    right: &View<'_>,
+    ignored: &IgnoredColumns,
+    limit: usize,
+) -> Result<Vec<Difference>, AllocError>
+    ensures sound { (first second : Metadata) → IsModel left.now first → IsModel right.now second
+        → IfOk result (λ found. found.items ≡ first_differences_but ignored.now first second limit) }
+    ensures there { IfOk result (λ found. All (IsThere left.now right.now) found.items) }
+{
+    let mut cells = differing_cells_but(alloc, left, right, ignored, limit)?;
     let Some(first) = outline_difference(left, right) else {
         return Ok(cells);
     };

@@ -4,9 +4,10 @@ ghost use Rattle.table_schema.specs.CellColumns.{cell_count};
 ghost use Rattle.metadata.specs.Metadata.{Metadata};
 ghost use Rattle.metadata.specs.Model.{IsModel};
 ghost use Rattle.opening.specs.Views.{row_count};
-ghost use Rattle.comparison.specs.Differences.{Grows, IsThere, cell_difference, cell_differences, row_differences, table_differences};
+ghost use Rattle.comparison.specs.Differences.{Grows, IsThere, cell_difference, cell_differences, cell_differences_but, row_differences, table_differences};
 
 use crate::difference::Difference;
+use crate::ignored::IgnoredColumns;
 use crate::same_cells::same_cell;
 use metadata_source::kind_of;
 use opening::{CellCursor, TableId, View};
@@ -31,6 +32,26 @@ pub fn differing_cells(
         → IfOk result (λ found. found.items ≡ take limit (cell_differences first second)) }
     ensures there { IfOk result (λ found. All (IsThere left.now right.now) found.items) }
 {
+    differing_cells_but(alloc, left, right, &IgnoredColumns::none(), limit)
+}
+
+/// The first cells that differ, at most `limit`, as [`differing_cells`] finds them, but for the cells of ignored columns:
+/// these are not compared.
+///
+/// # Errors
+///
+/// Only if out of memory.
+pub fn differing_cells_but(
+    alloc: Global,
+    left: &View<'_>,
+    right: &View<'_>,
+    ignored: &IgnoredColumns,
+    limit: usize,
+) -> Result<Vec<Difference>, AllocError>
+    ensures sound { (first second : Metadata) → IsModel left.now first → IsModel right.now second
+        → IfOk result (λ found. found.items ≡ take limit (cell_differences_but ignored.now first second)) }
+    ensures there { IfOk result (λ found. All (IsThere left.now right.now) found.items) }
+{
     let mut left_cells = CellCursor::new(left);
     let mut right_cells = CellCursor::new(right);
     let mut found = Vec::new(alloc);
@@ -40,6 +61,7 @@ pub fn differing_cells(
             &mut left_cells,
             &mut right_cells,
             *table,
+            ignored,
             limit,
             &mut found,
         )?;
@@ -53,6 +75,7 @@ fn find_in_table(
     left: &mut CellCursor<'_, '_>,
     right: &mut CellCursor<'_, '_>,
     table: TableId,
+    ignored: &IgnoredColumns,
     limit: usize,
     found: &mut Vec<Difference>,
 ) -> Result<(), AllocError>
@@ -62,11 +85,20 @@ fn find_in_table(
     ensures few { OnOk result (length found.new.items ≤ limit) }
     ensures there { OnOk result (All (IsThere left.old right.old) found.old.items → All (IsThere left.old right.old) found.new.items) }
     ensures sound { (first second : Metadata) → IsModel left.old first → IsModel right.old second
-        → OnOk result (Grows limit found.old.items found.new.items (table_differences first second table)) }
+        → OnOk result (Grows limit found.old.items found.new.items (table_differences ignored.now first second table)) }
 {
     let count = left.view().count(table).min(right.view().count(table));
     for earlier in 0..count {
-        find_in_row(alloc, left, right, table, earlier + 1, limit, found)?;
+        find_in_row(
+            alloc,
+            left,
+            right,
+            table,
+            earlier + 1,
+            ignored,
+            limit,
+            found,
+        )?;
     }
     Ok(())
 }
@@ -78,6 +110,7 @@ fn find_in_row(
     right: &mut CellCursor<'_, '_>,
     table: TableId,
     row: u32,
+    ignored: &IgnoredColumns,
     limit: usize,
     found: &mut Vec<Difference>,
 ) -> Result<(), AllocError>
@@ -90,18 +123,20 @@ fn find_in_row(
     ensures few { OnOk result (length found.new.items ≤ limit) }
     ensures there { OnOk result (All (IsThere left.old right.old) found.old.items → All (IsThere left.old right.old) found.new.items) }
     ensures sound { (first second : Metadata) → IsModel left.old first → IsModel right.old second
-        → OnOk result (Grows limit found.old.items found.new.items (row_differences first second table row)) }
+        → OnOk result (Grows limit found.old.items found.new.items (row_differences ignored.now first second table row)) }
 {
     if found.len() == limit {
         return Ok(());
     }
     for cell_index in 0..cell_count(table) {
-        find_in_cell(alloc, left, right, table, row, cell_index, limit, found)?;
+        find_in_cell(
+            alloc, left, right, table, row, cell_index, ignored, limit, found,
+        )?;
     }
     Ok(())
 }
 
-/// Adds a cell if it differs, up to the limit.
+/// Adds a cell if it differs and its column is not ignored, up to the limit.
 fn find_in_cell(
     alloc: Global,
     left: &mut CellCursor<'_, '_>,
@@ -109,6 +144,7 @@ fn find_in_cell(
     table: TableId,
     row: u32,
     cell_index: usize,
+    ignored: &IgnoredColumns,
     limit: usize,
     found: &mut Vec<Difference>,
 ) -> Result<(), AllocError>
@@ -122,8 +158,11 @@ fn find_in_cell(
     ensures few { OnOk result (length found.new.items ≤ limit) }
     ensures there { OnOk result (All (IsThere left.old right.old) found.old.items → All (IsThere left.old right.old) found.new.items) }
     ensures sound { (first second : Metadata) → IsModel left.old first → IsModel right.old second
-        → OnOk result (Grows limit found.old.items found.new.items (cell_difference first second table row cell_index)) }
+        → OnOk result (Grows limit found.old.items found.new.items (cell_difference ignored.now first second table row cell_index)) }
 {
+    if ignored.contains(table, cell_index) {
+        return Ok(());
+    }
     let kind = kind_of(table, cell_index);
     let left_value = left.cell(table, row, cell_index);
     let right_value = right.cell(table, row, cell_index);

@@ -5,6 +5,8 @@
 //! the first cells that differ. Views with the same model have the same canonical root, and [`digest`] is the SHA-256
 //! digest of that.
 //!
+//! [`differences_but`] and [`differing_cells_but`] do not compare the cells of [`IgnoredColumns`].
+//!
 //! ```text
 //! if !is_equal(alloc, &left, &right)? {
 //!     for difference in differences(alloc, &left, &right, 20)? { .. } // at most 21
@@ -16,15 +18,17 @@ mod all;
 mod cells;
 mod difference;
 mod equal;
+mod ignored;
 pub mod laws;
 mod outlines;
 mod root_digest;
 mod same_cells;
 mod user_strings;
 
-pub use all::differences;
-pub use cells::differing_cells;
+pub use all::{differences, differences_but};
+pub use cells::{differing_cells, differing_cells_but};
 pub use difference::Difference;
 pub use equal::is_equal;
+pub use ignored::IgnoredColumns;
 pub use outlines::outline_difference;
 pub use root_digest::digest;

@@ -6,6 +6,9 @@ ghost use Rattle.cli_header.specs.declared.header.CliHeader.{CliHeader};
 ghost use Rattle.heap_entries.specs.Padding.{zero_padded};
 ghost use Rattle.table_schema.specs.declared.table.TableId.{TableId as Table};
 ghost use Rattle.table_schema.specs.declared.token.Token.{Token};
+ghost use Rattle.table_schema.specs.declared.coded.Coded.{Coded as TheCoded};
+ghost use Rattle.table_schema.specs.declared.column.ColumnKind.TheVariants.{Coded};
+ghost use Rattle.table_schema.specs.CodedIndexes.{IsCoded};
 ghost use Rattle.table_schema.specs.Columns.{key_of};
 ghost use Rattle.schema.specs.LaidOut.{IsTableStream};
 ghost use Rattle.metadata.specs.Cell.{Cell, Ref};
@@ -126,6 +129,17 @@ pub fn key_numbers_are_one()
     ensures { (table : Table) (cell : ℕ) → IsKeyCell table cell → (token : Token) → 1 ≤ token.row → IsOfKind (kind_at table cell) (Ref (Some token))
         → (key : Cell) → IsOfKind (kind_at table cell) key
         → (key ≡ Ref (Some token)) ↔ (key_number (kind_at table cell) key ≡ row_number (kind_at table cell) token) }
+{
+    table_schema::laws::tables_stand();
+    table_schema::laws::columns_stand();
+    table_schema::laws::cells_have_columns();
+    table_schema::laws::tags_fit();
+}
+
+/// The number of a coded index is the one by which its column refers to the row that the index names (II.24.2.6).
+pub fn coded_indexes_are_row_numbers()
+    ensures { (coded : TheCoded) (number : ℕ) (token : Token) → IsCoded coded number token.table token.row
+        → number ≡ row_number (Coded coded) token }
 {
     table_schema::laws::tables_stand();
     table_schema::laws::columns_stand();

@@ -90,8 +90,8 @@ pub trait ReadCells: ReadMetadata {
         ensures { result ≡ Self.heap_index self.now (record { table = table; row = row; cell_index = cell }) };
 
     /// The numbers in the column of a cell, if the cells are read from a root (II.24.2.6). Each is the index of its cell's
-    /// value. In a column of numbers, or of rows of one table, it is also that of its cell. `None` if the cells are not
-    /// read from a root.
+    /// value. In a column of numbers, or of rows of one table, it is also that of its cell; a coded index is the number of
+    /// the row that it names, or has only a tag if it is null. `None` if the cells are not read from a root.
     fn column_numbers(&self, table: TableId, cell: usize) -> Option<ColumnNumbers<'_>>
         requires { cell < cell_count table }
         ensures count { IfSome result (λ numbers. numbers.count ≡ Self.row_count self.now table) }

@@ -115,7 +115,7 @@ pub use full_names::{
 pub use typed_rows::{ReadRows, Records, RefRow, cells_of, resolve, row, rows};
 
 // Whether two views have the same model, what differs, and the digest of a canonical root.
-pub use comparison::{Difference, differences, digest, is_equal};
+pub use comparison::{Difference, IgnoredColumns, differences, differences_but, digest, is_equal};
 
 // The canonical root of a model or a view.
 pub use writer::{

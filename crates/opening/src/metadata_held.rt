@@ -85,6 +85,8 @@ impl ReadCells for View<'_> {
 
     fn column_numbers(&self, table: TableId, cell: usize) -> Option<ColumnNumbers<'_>> {
         metadata::laws::models_are_read();
+        metadata::laws::coded_indexes_are_row_numbers();
+        table_schema::laws::tags_fit();
         Some(self.source().column(table, column_of_cell(table, cell)))
     }
 

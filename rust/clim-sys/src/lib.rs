@@ -104,13 +104,51 @@ pub const CLIM_ROW: u8 = 7;
 pub const CLIM_START: u8 = 8;
 pub const CLIM_SIGNATURE: u8 = 9;
 
+/// The cell of a table that has a byte.
+#[repr(C)]
+#[derive(Clone, Copy)]
+pub struct clim_location {
+    pub offset: usize,
+    pub size: usize,
+    pub column: usize,
+    pub row: u32,
+    pub table: u8,
+}
+
+/// The first difference of two roots.
+#[repr(C)]
+#[derive(Clone, Copy)]
+pub struct clim_difference {
+    pub column: usize,
+    pub row: u32,
+    pub left_count: u32,
+    pub right_count: u32,
+    pub kind: u8,
+    pub table: u8,
+}
+
+pub const CLIM_VERSION_DIFFERS: u8 = 1;
+pub const CLIM_USER_DIFFERS: u8 = 2;
+pub const CLIM_COUNT_DIFFERS: u8 = 3;
+pub const CLIM_CELL_DIFFERS: u8 = 4;
+
+/// What `clim_compare` returns if both roots have the same metadata.
+pub const CLIM_EQUAL: usize = 1;
+
+/// What `clim_compare` returns if something differs.
+pub const CLIM_DIFFERENT: usize = 2;
+
+pub const CLIM_NO_LOCATION: clim_location = clim_location { offset: 0, size: 0, column: 0, row: 0, table: 0 };
+pub const CLIM_NO_DIFFERENCE: clim_difference =
+    clim_difference { column: 0, row: 0, left_count: 0, right_count: 0, kind: 0, table: 0 };
+
 /// The version of the interface that this crate declares.
 pub const CLIM_ABI_VERSION: u32 = 1;
 
 /// What `clim_signature_text` returns for a text that is too long, and `clim_canonical_root` for a root that is.
 pub const CLIM_TOO_LONG: usize = usize::MAX;
 
-/// What `clim_canonical_root` and `clim_digest` return if memory runs out.
+/// What `clim_canonical_root`, `clim_digest` and `clim_compare` return if memory runs out.
 pub const CLIM_NO_MEMORY: usize = usize::MAX - 1;
 
 pub const CLIM_NO_BYTES: clim_bytes = clim_bytes { at: b"".as_ptr(), len: 0 };
@@ -184,6 +222,8 @@ newer! {
     HAS_USER_STRING: fn clim_user_string(view: *const clim_view, token: u32, units: *mut u16, room: usize, count: *mut usize, flag: *mut u16) -> bool;
     HAS_CANONICAL_ROOT: fn clim_canonical_root(view: *const clim_view, buffer: *mut u8, room: usize) -> usize;
     HAS_DIGEST: fn clim_digest(view: *const clim_view, digest: *mut u8) -> usize;
+    HAS_WHERE: fn clim_where(view: *const clim_view, offset: usize, location: *mut clim_location) -> bool;
+    HAS_COMPARE: fn clim_compare(left: *const clim_view, right: *const clim_view, difference: *mut clim_difference) -> usize;
 }
 
 // The layout of the structs, as tests of the C library have it.
@@ -192,3 +232,5 @@ const _: () = assert!(size_of::<clim_fault>() == 16);
 const _: () = assert!(size_of::<clim_header>() == 96);
 const _: () = assert!(size_of::<clim_view>() == 5208);
 const _: () = assert!(size_of::<clim_cell>() == 40);
+const _: () = assert!(size_of::<clim_location>() == 32);
+const _: () = assert!(size_of::<clim_difference>() == 24);

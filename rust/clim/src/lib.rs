@@ -50,6 +50,7 @@
 
 mod cells;
 mod chunks;
+mod compared;
 mod fault;
 mod library;
 pub mod rows;
@@ -58,6 +59,7 @@ mod view;
 
 pub use cells::{Cell, Guid, Signature};
 pub use chunks::{Cells, Rows};
+pub use compared::{CompareError, Difference, Location};
 pub use fault::{BoundedError, Fault, RootError, Unsupported};
 pub use rows::Row;
 pub use tables::{Table, Token};

@@ -2,12 +2,14 @@
 
 use crate::cells::Cell;
 use crate::chunks::{Cells, Chunks, Rows};
+use crate::compared::{CompareError, Difference, Location};
 use crate::fault::{BoundedError, Fault, RootError, Unsupported};
 use crate::library;
 use crate::rows::{NestedClass, Row, TypeDef};
 use crate::tables::{Table, Token};
 use clim_sys::{
-    clim_cell, clim_fault, clim_header, clim_view, CLIM_CLOSED, CLIM_NO_BYTES, CLIM_NO_CELL, CLIM_NO_FAULT,
+    clim_cell, clim_fault, clim_header, clim_view, CLIM_CLOSED, CLIM_EQUAL, CLIM_NO_BYTES, CLIM_NO_CELL,
+    CLIM_NO_DIFFERENCE, CLIM_NO_FAULT, CLIM_NO_LOCATION, CLIM_NO_MEMORY,
 };
 use std::fmt;
 use std::marker::PhantomData;
@@ -391,6 +393,37 @@ impl<'a> View<'a> {
         // SAFETY: The view is open, and the pointer is valid for 32 bytes during the call.
         library::root_len(unsafe { clim_sys::clim_digest(&self.view, digest.as_mut_ptr()) })?;
         Ok(digest)
+    }
+
+    /// The cell of a table that has the byte at an offset (II.24.2.6). `None` if no cell has it. The offset is in bytes from
+    /// the start of the metadata root: of a file, subtract [`Header`]'s `root_start` first.
+    ///
+    /// # Errors
+    ///
+    /// The library is older than this crate.
+    pub fn where_is(&self, offset: usize) -> Result<Option<Location>, Unsupported> {
+        Unsupported::unless(clim_sys::HAS_WHERE, "clim_where")?;
+        let mut location = CLIM_NO_LOCATION;
+        // SAFETY: The view is open, and the pointer is valid during the call.
+        let found = unsafe { clim_sys::clim_where(&self.view, offset, &mut location) };
+        Ok(if found { Location::new(&location) } else { None })
+    }
+
+    /// The first that differs from another view: the version, the user strings, the number of rows of a table, or a cell.
+    /// `None` if both have the same metadata, and so the same canonical root.
+    ///
+    /// # Errors
+    ///
+    /// Memory ran out, or the library is older than this crate.
+    pub fn difference(&self, other: &View) -> Result<Option<Difference>, CompareError> {
+        Unsupported::unless(clim_sys::HAS_COMPARE, "clim_compare")?;
+        let mut difference = CLIM_NO_DIFFERENCE;
+        // SAFETY: Both views are open, and the pointer is valid during the call.
+        match unsafe { clim_sys::clim_compare(&self.view, &other.view, &mut difference) } {
+            CLIM_EQUAL => Ok(None),
+            CLIM_NO_MEMORY => Err(CompareError::NoMemory),
+            _ => Ok(Difference::new(&difference)),
+        }
     }
 
     /// The namespace and the names of a type and of those that enclose it: `Namespace.Outer/Inner`. Empty if there is no

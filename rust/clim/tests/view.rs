@@ -1,7 +1,10 @@
 //! Tests on the samples, and on the file that CLIM_TEST_FILE names: a bare root if its name ends in `.root`.
 
 use clim::rows::*;
-use clim::{check, check_root, check_root_within, check_within, read_header, BoundedError, Cell, Fault, RootError, Row, Table, Token, View};
+use clim::{
+    check, check_root, check_root_within, check_within, read_header, BoundedError, Cell, CompareError, Difference, Fault,
+    RootError, Row, Table, Token, View,
+};
 use std::collections::BTreeMap;
 use std::error::Error;
 use std::{env, fs, thread};
@@ -269,4 +272,69 @@ fn a_canonical_root_is_its_own() {
         assert_eq!(again.digest(), view.digest());
         assert_eq!(again.version(), view.version());
     });
+}
+
+/// The locations of all bytes of a canonical root that are in a cell, one for each cell.
+fn locations(view: &View, len: usize) -> Vec<clim::Location> {
+    let mut found: Vec<_> = (0..len).filter_map(|offset| view.where_is(offset).ok().flatten()).collect();
+    found.dedup();
+    found
+}
+
+#[test]
+fn each_byte_of_a_cell_has_its_location() {
+    each(|view| {
+        let Ok(none) = view.where_is(0) else {
+            return;
+        };
+        assert!(none.is_none() && view.where_is(usize::MAX) == Ok(None));
+        let root = view.canonical_root().expect("a canonical root");
+        if root.len() > 1 << 16 {
+            return;
+        }
+        let again = View::open_root(&root).expect("a canonical root");
+        let found = locations(&again, root.len());
+        let cells = Table::ALL.into_iter().map(|it| again.count(it) as usize * it.columns().count()).sum::<usize>();
+        assert_eq!(found.len(), cells);
+        for it in found {
+            let bytes = &root[it.offset..it.offset + it.size];
+            let number = bytes.iter().rev().fold(0, |number, byte| number << 8 | u32::from(*byte));
+            let cell = again.cell(it.row.table, it.row.row, it.column).expect("a cell");
+            assert!(!matches!(cell, Cell::Number(value) if value != number));
+            assert_eq!(Some(it.column_name()), it.row.table.columns().nth(it.column));
+        }
+    });
+}
+
+#[test]
+fn the_first_difference_is_found() {
+    each(|view| {
+        let equal = match view.difference(view) {
+            Err(error) => return assert!(matches!(error, CompareError::Unsupported(_))),
+            Ok(difference) => difference,
+        };
+        assert_eq!(equal, None);
+        let mut root = view.canonical_root().expect("a canonical root");
+        let copy = root.clone();
+        let same = View::open_root(&copy).expect("a canonical root");
+        assert_eq!(view.difference(&same), Ok(None));
+        if view.count(Table::Module) > 0 && root.len() < 1 << 16 {
+            let first = locations(&same, root.len())[0];
+            root[first.offset] ^= 1;
+            let other = View::open_root(&root).expect("a root");
+            let wanted = Difference::Cell { row: first.row, column: 0 };
+            assert_eq!((view.difference(&other), first.column_name()), (Ok(Some(wanted)), "Generation"));
+        }
+        root[16] ^= 1;
+        let other = View::open_root(&root).expect("a root");
+        assert_eq!(view.difference(&other), Ok(Some(Difference::Version)));
+    });
+    let (left, right) = (sample("greeter.root"), sample("two_types.root"));
+    let (left, right) = (View::open_root(&left).expect("a root"), View::open_root(&right).expect("a root"));
+    match left.difference(&right) {
+        Ok(Some(Difference::RowCount { table, left: ours, right: theirs })) => {
+            assert_eq!((ours, theirs), (left.count(table), right.count(table)));
+        }
+        other => assert!(matches!(other, Err(CompareError::Unsupported(_)) | Ok(Some(_)))),
+    }
 }

@@ -4,7 +4,7 @@ ghost use Rattle.clap.specs.Words.{app_of, rule_of};
 ghost use Rattle.clap.specs.declared.Command.TheViews.{out-Command as fields_of};
 ghost use Rattle.cli_arguments.specs.CommandLine as line;
 
-use crate::subcommands::bare;
+use crate::subcommands::{bare, json};
 use clap::{Arg, ArgAction, Command, value_parser};
 use std::alloc::{AllocError, Global};
 
@@ -21,7 +21,8 @@ pub(crate) fn command<'a>(alloc: Global) -> Result<Command<'a>, AllocError>
         .arg(budget(alloc))?
         .arg(files_from(alloc))?
         .arg(null(alloc))?
-        .arg(quiet(alloc))
+        .arg(quiet(alloc))?
+        .arg(json(alloc))
 }
 
 /// `FILE..`, the paths of the files to read; none if they are listed.
@@ -108,9 +109,15 @@ read or checked is reported to standard error, and the next one follows. The exi
 With '--quiet' there are no such lines and no faults. The exit status is the same. A FILE that cannot be read or
 checked is still reported to standard error.
 
+With '--json' a JSON object (RFC 8259) is printed on one line: '{\"ok\":true}' or the fault, such as
+'{\"layer\":1,\"code\":102,\"name\":\"DosHeader\",\"offset\":0}'. Then nothing goes to standard error, unless FILE cannot be
+read or checked. The exit status is the same. '--json' takes one FILE, and no list, '--budget' or '--quiet'.
+
 Examples:
   $ clim check one_module.dll
   ok
+  $ clim check --json one_module.dll
+  {\"ok\":true}
   $ clim check --bare one_module.root
   ok
   $ clim check one_module.dll one_module.dll

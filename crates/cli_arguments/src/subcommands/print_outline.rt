@@ -1,10 +1,10 @@
-//! `clim outline`: the declarations of an assembly.
+//! `clim outline`: the declarations of an assembly, or of one type.
 ghost use Rattle.std.specs.Prelude.{◌≡◌, IfOk, false};
 ghost use Rattle.clap.specs.Words.{app_of};
 ghost use Rattle.clap.specs.declared.Command.TheViews.{out-Command as fields_of};
 ghost use Rattle.cli_arguments.specs.CommandLine as line;
 
-use crate::subcommands::reader;
+use crate::subcommands::{part, reader};
 use clap::Command;
 use std::alloc::{AllocError, Global};
 
@@ -16,9 +16,14 @@ pub(crate) fn command<'a>(alloc: Global) -> Result<Command<'a>, AllocError>
     reader(
         alloc,
         "outline",
-        "Print the declarations of the assembly, as ILAsm writes them",
+        "Print the declarations of the assembly, or of one type, as ILAsm writes them",
         OUTPUT,
-    )
+    )?
+    .arg(part(
+        alloc,
+        "NAME",
+        "The type to print alone, by its full name or token",
+    ))
 }
 
 const OUTPUT: &str = "\
@@ -29,10 +34,22 @@ interfaces, generic parameters and their constraints, overrides, imports and cus
 properties or accessors that are not in the order of what they belong to come after the types. Texts of FILE are
 escaped like the texts of 'clim show'. FILE is checked first, as by 'clim check'.
 
+NAME is the full name of a type: its namespace, a dot and its name, or its name alone. It is divided at its last dot. A
+nested type has no namespace. If several types have the same names, the first one is printed. Eight hexadecimal digits
+that begin with 02 are a token instead. Then there are only the lines of that type, its fields, methods, events and
+properties. If FILE has no such type, 'no such type' goes to standard error, and the exit status is 1.
+
 Examples:
   $ clim outline --bare two_types.root
   .class private auto ansi <Module>  // 02000001
   .class public auto ansi beforefieldinit N.C  // 02000002
     .field private int32 a  // 04000001
     .field private int32 b  // 04000002
-    .method public void N.C::M() cil managed  // 06000001";
+    .method public void N.C::M() cil managed  // 06000001
+  $ clim outline --bare two_types.root N.C
+  .class public auto ansi beforefieldinit N.C  // 02000002
+    .field private int32 a  // 04000001
+    .field private int32 b  // 04000002
+    .method public void N.C::M() cil managed  // 06000001
+  $ clim outline --bare two_types.root 02000001
+  .class private auto ansi <Module>  // 02000001";

@@ -4,7 +4,7 @@ ghost use Rattle.clap.specs.Words.{app_of};
 ghost use Rattle.clap.specs.declared.Command.TheViews.{out-Command as fields_of};
 ghost use Rattle.cli_arguments.specs.CommandLine as line;
 
-use crate::subcommands::{reader, second};
+use crate::subcommands::{reporter, second};
 use clap::Command;
 use std::alloc::{AllocError, Global};
 
@@ -13,7 +13,7 @@ pub(crate) fn command<'a>(alloc: Global) -> Result<Command<'a>, AllocError>
     ensures app { IfOk result (λ command. app_of command ≡ line.token) }
     ensures local { IfOk result (λ command. (fields_of command).has_globals ≡ false) }
 {
-    reader(
+    reporter(
         alloc,
         "token",
         "Print the row or the user string that a token names",
@@ -29,8 +29,14 @@ is the line of that row in 'clim show'. If the high byte is 70, HEX names an off
 become \\u and four hexadecimal digits. FLAG is the last byte. For an entry of no bytes the output is 'user'.
 FILE is checked first, as by 'clim check'.
 
+With '--json' the line is a JSON object (RFC 8259): that of the row in 'clim show --json', or the 'text' and the
+'flag' of a user string, with its numbers as 'units' if it is not well-formed UTF-16. A fault is printed to
+standard error as without it.
+
 Examples:
   $ clim token --bare one_module.root 00000001
   1: 0 \"a.dll\" {03020100-0504-0706-0809-0a0b0c0d0e0f} null null
   $ clim token --bare one_module.root 70000000
-  user";
+  user
+  $ clim token --json --bare one_module.root 70000000
+  {\"token\":\"70000000\",\"text\":\"\",\"flag\":null}";

@@ -4,7 +4,7 @@ ghost use Rattle.clap.specs.Words.{app_of};
 ghost use Rattle.clap.specs.declared.Command.TheViews.{out-Command as fields_of};
 ghost use Rattle.cli_arguments.specs.CommandLine as line;
 
-use crate::subcommands::{part, reader};
+use crate::subcommands::{part, reporter};
 use clap::Command;
 use std::alloc::{AllocError, Global};
 
@@ -13,7 +13,7 @@ pub(crate) fn command<'a>(alloc: Global) -> Result<Command<'a>, AllocError>
     ensures app { IfOk result (λ command. app_of command ≡ line.show) }
     ensures local { IfOk result (λ command. (fields_of command).has_globals ≡ false) }
 {
-    reader(
+    reporter(
         alloc,
         "show",
         "Print the rows of all tables, or of one",
@@ -49,6 +49,10 @@ TABLE is the name or the number of a table. Then there is nothing if it has no r
   28 ManifestResource                   29 NestedClass     2A GenericParam    2B MethodSpec
   2C GenericParamConstraint
 
+With '--json' there is a line for each row: a JSON object (RFC 8259) with its 'table', 'row' and 'token', and then
+its cells by the names of their columns. A signature is an object with its bytes as 'blob' and its 'text' in the
+notation of ILAsm. A fault is printed to standard error as without it.
+
 Examples:
   $ clim show --bare one_module.root
   table 00 Module 1
@@ -56,4 +60,7 @@ Examples:
   $ clim show --bare two_types.root Field
   table 04 Field 2
   1: 1 \"a\" <0608>
-  2: 1 \"b\" <0608>";
+  2: 1 \"b\" <0608>
+  $ clim show --json --bare two_types.root 06
+  {\"table\":\"MethodDef\",\"row\":1,\"token\":\"06000001\",\"RVA\":0,\"ImplFlags\":0,\"Flags\":6,\"Name\":\"M\",\
+\"Signature\":{\"blob\":\"000001\",\"text\":\"method void *()\"},\"ParamList\":1}";

@@ -6,6 +6,8 @@ mod comparing;
 mod disks;
 mod escaping;
 mod hints;
+mod json;
+mod one_type;
 mod replacing;
 mod rewriting;
 mod several;

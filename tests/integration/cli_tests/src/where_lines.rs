@@ -2,7 +2,7 @@
 
 use crate::runs::answer;
 use cli_where::{Found, report_where};
-use sample_roots::{ONE_MODULE, TWO_TYPES, image};
+use sample_roots::{NAMES_SHARED, ONE_MODULE, RootBuilder, TWO_TYPES, image};
 use std::alloc::Global;
 use std::fs;
 use std::test::Fail;
@@ -66,7 +66,90 @@ const ONE_MODULE_STRUCTURES: &[Structure] = &[
     (112, 2, "table 00 Module row 1 column 2 Mvid"),
     (114, 2, "table 00 Module row 1 column 3 EncId"),
     (116, 2, "table 00 Module row 1 column 4 EncBaseId"),
+    (121, 6, "string of table 00 Module row 1 column 1 Name"),
+    (128, 16, "guid of table 00 Module row 1 column 2 Mvid"),
 ];
+
+/// The cells of `TWO_TYPES` that index a heap, in order, with the offset of this heap (II.22).
+const TWO_TYPES_INDEXES: &[(Structure, Heap)] = &[
+    ((120, 2, "table 02 TypeDef row 1 column 1 TypeName"), Heap::Strings(172)),
+    ((122, 2, "table 02 TypeDef row 1 column 2 TypeNamespace"), Heap::Strings(172)),
+    ((134, 2, "table 02 TypeDef row 2 column 1 TypeName"), Heap::Strings(172)),
+    ((136, 2, "table 02 TypeDef row 2 column 2 TypeNamespace"), Heap::Strings(172)),
+    ((146, 2, "table 04 Field row 1 column 1 Name"), Heap::Strings(172)),
+    ((148, 2, "table 04 Field row 1 column 2 Signature"), Heap::Blobs(192)),
+    ((152, 2, "table 04 Field row 2 column 1 Name"), Heap::Strings(172)),
+    ((154, 2, "table 04 Field row 2 column 2 Signature"), Heap::Blobs(192)),
+    ((164, 2, "table 06 MethodDef row 1 column 3 Name"), Heap::Strings(172)),
+    ((166, 2, "table 06 MethodDef row 1 column 4 Signature"), Heap::Blobs(192)),
+];
+
+/// The cells of `ONE_MODULE` that index a heap, in order.
+const ONE_MODULE_INDEXES: &[(Structure, Heap)] = &[
+    ((110, 2, "table 00 Module row 1 column 1 Name"), Heap::Strings(120)),
+    ((112, 2, "table 00 Module row 1 column 2 Mvid"), Heap::Guids(128)),
+    ((114, 2, "table 00 Module row 1 column 3 EncId"), Heap::Guids(128)),
+    ((116, 2, "table 00 Module row 1 column 4 EncBaseId"), Heap::Guids(128)),
+];
+
+/// A heap and its offset in the root.
+#[derive(Clone, Copy)]
+enum Heap {
+    Strings(usize),
+    Guids(usize),
+    Blobs(usize),
+}
+
+/// A byte of a root.
+fn byte_at(root: &[u8], offset: usize) -> usize {
+    root.get(offset).copied().map_or(0, usize::from)
+}
+
+/// The offset and the size of the entry with an index that is not 0, read byte by byte (II.24.2.3 to II.24.2.5). The
+/// blobs here have less than 128 bytes.
+fn plain_entry(root: &[u8], heap: Heap, index: usize) -> (usize, usize, &'static str) {
+    match heap {
+        Heap::Strings(start) => {
+            let mut size = 1;
+            while byte_at(root, start + index + size - 1) != 0 {
+                size += 1;
+            }
+            (start + index, size, "string of ")
+        }
+        Heap::Guids(start) => (start + 16 * (index - 1), 16, "guid of "),
+        Heap::Blobs(start) => (start + index, 1 + byte_at(root, start + index), "blob of "),
+    }
+}
+
+/// The lines of the entries that have a byte, of the first ten cells that name one: a plain second implementation.
+fn plain_entries(alloc: Global, root: &[u8], indexes: &[(Structure, Heap)], offset: usize) -> Result<String, Fail> {
+    let mut lines = String::new(alloc);
+    let mut count = 0;
+    for ((cell, _, what), heap) in indexes {
+        let index = byte_at(root, *cell) + 256 * byte_at(root, *cell + 1);
+        if index == 0 {
+            continue;
+        }
+        let (start, size, word) = plain_entry(root, *heap, index);
+        if start <= offset && offset < start + size && count < 10 {
+            lines.push_str(&format!(in alloc; "{start} {size} {word}{what}\n")?)?;
+            count += 1;
+        }
+    }
+    Ok(lines)
+}
+
+/// The lines of a text that are those of entries: from the first one on that has one of their words.
+fn entry_lines(text: &str) -> &str {
+    for word in [" string of ", " guid of ", " blob of "] {
+        if let Some(at) = text.find(word) {
+            let before = &text[..at];
+            let start = before.rfind('\n').map_or(0, |line| line + 1);
+            return &text[start..];
+        }
+    }
+    ""
+}
 
 /// Appends the lines of the structures that have a byte. They are at `base` in the file.
 fn push_lines(alloc: Global, structures: &[Structure], base: usize, offset: usize, lines: &mut String) -> Result<(), Fail> {
@@ -137,6 +220,77 @@ fn prints_the_cells_of_each_table(rt: HostRuntime) -> Result<(), Fail> {
     for (offset, line) in cases {
         let lines = format!(in rt.alloc(); "0 200 root\n80 92 stream #~\n{line}")?;
         assert!(rt; is_printed(&rt, true, &TWO_TYPES, offset, &lines)?);
+    }
+    Ok(())
+}
+
+/// Entries are read as a plain reader reads them: at each byte of the samples.
+#[test]
+fn prints_the_entries_that_a_plain_reader_finds(rt: HostRuntime) -> Result<(), Fail> {
+    let samples: [(&[u8], &[(Structure, Heap)]); 2] = [(&ONE_MODULE, ONE_MODULE_INDEXES), (&TWO_TYPES, TWO_TYPES_INDEXES)];
+    for (root, indexes) in samples {
+        for offset in 0..root.len() {
+            let (_, text) = printed(&rt, true, root, offset as u64)?;
+            let plain = plain_entries(rt.alloc(), root, indexes, offset)?;
+            assert_eq!(rt; entry_lines(&text), plain.as_str(), "{offset}");
+        }
+    }
+    Ok(())
+}
+
+/// A string that a longer one ends with is an entry of its own.
+#[test]
+fn prints_the_strings_that_share_bytes(rt: HostRuntime) -> Result<(), Fail> {
+    let whole = "101 5 string of table 01 TypeRef row 1 column 1 TypeName\n";
+    let part = "103 3 string of table 01 TypeRef row 1 column 2 TypeNamespace\n";
+    for (offset, lines) in [
+        (100, format!(in rt.alloc(); "")?),
+        (101, format!(in rt.alloc(); "{whole}")?),
+        (102, format!(in rt.alloc(); "{whole}")?),
+        (103, format!(in rt.alloc(); "{whole}{part}")?),
+        (105, format!(in rt.alloc(); "{whole}{part}")?),
+        (106, format!(in rt.alloc(); "")?),
+    ] {
+        let (_, text) = printed(&rt, true, &NAMES_SHARED, offset)?;
+        assert_eq!(rt; entry_lines(&text), lines.as_str(), "{offset}");
+    }
+    Ok(())
+}
+
+/// The line of the user string that has a byte begins with its offset, and ends with its token.
+#[test]
+fn prints_the_user_string(rt: HostRuntime) -> Result<(), Fail> {
+    let mut builder = RootBuilder::new(rt.alloc());
+    builder.heap("#US", b"\0\x05H\0i\0\0\x01\0\0\0\0")?;
+    let root = builder.finish()?;
+    let start = root.len() - 12;
+    for (index, first, size) in [(1, 1, 6), (6, 1, 6), (7, 7, 2), (8, 7, 2), (9, 9, 1), (11, 11, 1)] {
+        let (_, text) = printed(&rt, true, &root, (start + index) as u64)?;
+        let line = format!(in rt.alloc(); "{} {size} user string {:08x}\n", start + first, 0x7000_0000 + first)?;
+        assert!(rt; text.ends_with(line.as_str()), "{text}");
+    }
+    let (_, text) = printed(&rt, true, &root, start as u64)?;
+    assert!(rt; !text.contains("user string"));
+    Ok(())
+}
+
+/// Of twelve cells that name a string, the first ten get a line.
+#[test]
+fn prints_the_first_ten_cells(rt: HostRuntime) -> Result<(), Fail> {
+    let mut builder = RootBuilder::new(rt.alloc());
+    for _ in 0..12 {
+        builder.row(0x1A, b"\x01\0")?;
+    }
+    builder.heap("#Strings", b"\0abc\0\0\0\0")?;
+    let root = builder.finish()?;
+    let mut lines = String::new(rt.alloc());
+    let start = root.len() - 7;
+    for row in 1..11 {
+        lines.push_str(&format!(in rt.alloc(); "{start} 4 string of table 1A ModuleRef row {row} column 0 Name\n")?)?;
+    }
+    for offset in start..start + 4 {
+        let (_, text) = printed(&rt, true, &root, offset as u64)?;
+        assert_eq!(rt; entry_lines(&text), lines.as_str());
     }
     Ok(())
 }

@@ -4,14 +4,13 @@ use Rattle.std.proofs.lemmas.List.{get_or_read}
 use Rattle.std.proofs.lemmas.Grind.{not_there}
 use Rattle.std.proofs.lemmas.Result.{on_ok_weaker}
 use Rattle.table_schema.specs.declared.column.ColumnKind.{ColumnKind}
-use Rattle.rows.specs.Columns.{ColumnBytes, number_in_row}
 use Rattle.metadata.specs.Metadata.{cell_in}
 use Rattle.metadata.specs.Lookups.{HasRow}
 use Rattle.metadata.specs.Valid.{kind_at}
 use Rattle.reading.specs.Shown.{Shows}
 use Rattle.canonical.specs.Numbers.{cell_number}
 use Rattle.cell_numbering.specs.NumbersSoFar.{no_pools, with_number}
-use Rattle.cell_numbering.specs.PlainColumns.{IsPlainIn, IsPlainNumber}
+use Rattle.cell_numbering.specs.PlainColumns.{IsPlainIn, IsPlainNumber, Plain, number_in}
 use Rattle.cell_numbering.proofs.KindLemmas.{IsPlainKind, next_text, next_guid, next_blob, next_signature, next_plain, plain_cell}
 use Rattle.cell_numbering.proofs.numbers.put_cell.Goals as goal
 
@@ -106,8 +105,8 @@ number-requires g c =
     let plain = c.args.plain.now in
     let within : i < length plain = omega (arith, c.requires.plain.len, c.requires.cell_index) in
     let is = sym (get_or_read plain i c.index-plain-cell_index.result within c.index-plain-cell_index.is None) ∙ c.in-Some.is in
-    let P : Option ColumnBytes → Type 0 = λ o. IfSome o (λ numbers. numbers.count ≡ g.S.ReadMetadata.row_count c.args.source.now table) in
-    let count : c.in-Some.numbers.count ≡ g.S.ReadMetadata.row_count c.args.source.now table = subst P is (c.requires.plain.counts i c.requires.cell_index) in
+    let P : Option Plain → Type 0 = λ o. IfSome o (λ plain. plain.column.count ≡ g.S.ReadMetadata.row_count c.args.source.now table) in
+    let count : c.in-Some.column.column.count ≡ g.S.ReadMetadata.row_count c.args.source.now table = subst P is (c.requires.plain.counts i c.requires.cell_index) in
     record { first = c.requires.first; last = omega (arith, c.requires.last, count) }
 
 pub returns-in-Some-clause-ok : goal.returns-in-Some-clause-ok
@@ -119,8 +118,8 @@ returns-in-Some-clause-ok g c = λ model shown.
     let is = sym (get_or_read plain i c.index-plain-cell_index.result within c.index-plain-cell_index.is None) ∙ c.in-Some.is in
     let cell = cell_in model table c.args.row i in
     let rows = c.holds_one.ensures.rows model shown table in
-    let P : Option ColumnBytes → Type 0 = λ o. IfSome o (IsPlainIn model table i) in
-    let here : IsPlainNumber (kind_at table i) (number_in_row c.in-Some.numbers c.args.row) cell =
+    let P : Option Plain → Type 0 = λ o. IfSome o (IsPlainIn model table i) in
+    let here : IsPlainNumber (kind_at table i) (number_in c.in-Some.column c.args.row) cell =
     subst P is (c.requires.plain.plain model shown i c.requires.cell_index) c.args.row c.requires.first (omega (arith, rows, c.requires.last)) in
     on_ok_weaker c.put_number.result
     (λ e. e ∙ ap (with_number c.args.so_far.now) (c.number.ensures ∙ here.number_is) ∙ sym (next_plain c.args.indexes (kind_at table i) cell c.args.so_far.now here.none))

@@ -1,6 +1,6 @@
 use Rattle.std.proofs.Common.{◌≡◌, [], ◌∷◌, ◌++◌, length, ap, arith}
 use Rattle.std.proofs.lemmas.List.{length_push}
-use Rattle.cell_numbering.specs.PlainColumns.{IsPlainIn}
+use Rattle.cell_numbering.specs.PlainColumns.{IsPlainIn, Plain}
 use Rattle.cell_numbering.proofs.PlainLemmas.{one_more}
 use Rattle.cell_numbering.proofs.plain_columns.plain_columns.Goals as goal
 
@@ -14,7 +14,7 @@ loop-cell_index-preserved g c =
     let inv = c.loop-cell_index.invariant in
     record {
       len = omega (arith, ap length is, length_push before last, inv.len);
-      counts = one_more (λ k numbers. numbers.count ≡ g.S.ReadMetadata.row_count c.args.source.now c.args.table) before after last i is inv.len inv.counts c.plain_column.ensures.count;
+      counts = one_more (λ k (plain : Plain). plain.column.count ≡ g.S.ReadMetadata.row_count c.args.source.now c.args.table) before after last i is inv.len inv.counts c.plain_column.ensures.count;
       plain = λ model shows. one_more (IsPlainIn model c.args.table) before after last i is inv.len (inv.plain model shows) (c.plain_column.ensures.plain model shows);
     }
 

@@ -26,20 +26,20 @@ loop-row-init c =
       );
     }
 
-pub loop-row-preserved-then-has : goal.loop-row-preserved-then-has
-loop-row-preserved-then-has c =
+pub loop-row-preserved-in_default : goal.loop-row-preserved-in_default
+loop-row-preserved-in_default c =
     let source = c.args.source.now.source in
     let row = c.loop-row.row in
     let number = number_after source c.args.table c.args.column in
     let again : row - 1 + 1 ≡ row = omega arith in
     let is : c.number-number.result ≡ number_of source c.args.table row c.args.column = c.number-number.ensures ∙ c.column-numbers.ensures.numbers row (omega arith) (omega arith) in
     let P : ℕ → Type 0 = λ number. IsEncoded source (kind.Signature c.args.encoded) number (Ok tt) in
-    let here : P c.number-number.result = c.loop-row.invariant.kept c.number-number.result (sym c.has.ensures ∙ c.if-has.true) in
+    let here : P c.number-number.result = c.loop-row.invariant.kept c.number-number.result c.in_default.ensures.kept in
     record {
       before = one_more P (λ row. number_of source c.args.table row c.args.column) row c.number-number.result c.loop-row.invariant.before is here;
       kept = c.loop-row.invariant.kept;
       walk = row_spared (length source.blobs) (blob_length source.blobs) number row c.loop-row.auto.row c.args.budget.now c.loop-row.budget c.loop-row.accepted
-          c.number-number.result c.loop-row.invariant.walk.0 c.loop-row.invariant.walk.1 (rw again is) (sym c.has.ensures ∙ c.if-has.true);
+          c.number-number.result c.loop-row.invariant.walk.0 c.loop-row.invariant.walk.1 (rw again is) c.in_default.ensures.kept;
     }
 
 pub loop-row-preserved : goal.loop-row-preserved
@@ -54,7 +54,7 @@ loop-row-preserved c =
     let here : P c.number-number.result = c.in-Ok-check_blob.ensures c.number-number.result found in
     let walk = row_walked (length source.blobs) (blob_length source.blobs) number row c.loop-row.auto.row c.args.budget.now c.loop-row.budget c.loop-row.accepted
     c.number-number.result c.loop-row.invariant.walk.0 c.loop-row.invariant.walk.1 (rw again is)
-    c.spend.new.self (length c.in-Ok.blob.now) (sym c.has.ensures ∙ c.if-has.false)
+    c.spend.new.self (length c.in-Ok.blob.now) c.in-Some.ensures.new
     (sym (blob_is c.numbers_are_read.ensures.unsigned_only source.blobs c.number-number.result c.in-Ok.blob.now found)) c.in_ok-spend.ensures.takes in
     record {
       before = one_more P (λ row. number_of source c.args.table row c.args.column) row c.number-number.result c.loop-row.invariant.before is here;
@@ -65,8 +65,8 @@ loop-row-preserved c =
       walk = (c.keep.ensures.value ∙ walk.0, walk.1);
     }
 
-pub returns-in_default-clause-walked : goal.returns-in_default-clause-walked
-returns-in_default-clause-walked c = (c.loop-row.row - 1, omega arith, omega arith, omega arith, c.loop-row.invariant.walk.1)
+pub returns-in_default-blob-clause-walked : goal.returns-in_default-blob-clause-walked
+returns-in_default-blob-clause-walked c = (c.loop-row.row - 1, omega arith, omega arith, omega arith, c.loop-row.invariant.walk.1)
 
 pub returns-in_err-spend-clause-spent : goal.returns-in_err-spend-clause-spent
 returns-in_err-spend-clause-spent c =
@@ -78,7 +78,7 @@ returns-in_err-spend-clause-spent c =
     let found = rw c.blobs-heap.ensures at c.in-Ok.ensures.sound in
     rw c.from_residual.ensures (row_refused (length source.blobs) (blob_length source.blobs) number row c.loop-row.auto.row c.args.budget.now c.loop-row.budget c.loop-row.accepted
     c.number-number.result c.loop-row.invariant.walk.0 c.loop-row.invariant.walk.1 (rw again is)
-    (length c.in-Ok.blob.now) (c.args.limit - 1) (sym c.has.ensures ∙ c.if-has.false)
+    (length c.in-Ok.blob.now) (c.args.limit - 1) c.in-Some.ensures.new
     (sym (blob_is c.numbers_are_read.ensures.unsigned_only source.blobs c.number-number.result c.in-Ok.blob.now found)) (omega arith) c.in_err-spend.ensures.spent)
 
 pub returns-in-Err-clause-walked : goal.returns-in-Err-clause-walked
@@ -91,7 +91,7 @@ returns-in-Err-clause-walked c =
     let found = rw c.blobs-heap.ensures at c.in-Ok.ensures.sound in
     let walk = row_walked (length source.blobs) (blob_length source.blobs) number row c.loop-row.auto.row c.args.budget.now c.loop-row.budget c.loop-row.accepted
     c.number-number.result c.loop-row.invariant.walk.0 c.loop-row.invariant.walk.1 (rw again is)
-    c.spend.new.self (length c.in-Ok.blob.now) (sym c.has.ensures ∙ c.if-has.false)
+    c.spend.new.self (length c.in-Ok.blob.now) c.in-Some.ensures.new
     (sym (blob_is c.numbers_are_read.ensures.unsigned_only source.blobs c.number-number.result c.in-Ok.blob.now found)) c.in_ok-spend.ensures.takes in
     (row + 1 - 1, omega arith, omega arith, omega arith, walk.1)
 

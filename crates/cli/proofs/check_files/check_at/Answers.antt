@@ -1,4 +1,4 @@
-use Rattle.std.proofs.Common.{Ok, Err, refl}
+use Rattle.std.proofs.Common.{refl}
 use Rattle.cli.proofs.Checks.{not_read, not_text, read_stopped, read_whole}
 use Rattle.cli.proofs.check_files.check_at.Goals as goal
 

@@ -1,4 +1,4 @@
-use Rattle.std.proofs.Common.{◌∙◌, List, Ok, Err, ap, map, refl, sym, subst}
+use Rattle.std.proofs.Common.{◌∙◌, List, Ok, Err, ap, map, refl, subst}
 use Rattle.std.specs.Borrow.{Bor}
 use Rattle.std.proofs.Common.{ℕ}
 use Rattle.cli_faults.specs.Stops.{status_of_stop}

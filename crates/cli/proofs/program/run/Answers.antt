@@ -1,14 +1,22 @@
 use Rattle.cli.specs.declared.task.Task.TheVariants as task
-use Rattle.cli.proofs.TaskFiles.{file_there, is_on_one, some_with}
+use Rattle.cli.proofs.TaskFiles.{file_there, is_on_one}
 use Rattle.cli.proofs.program.run.Goals as goal
 
 pub unwrap-requires : goal.unwrap-requires
 unwrap-requires g c =
-    file_there c.args.ask.now c.in-Ok.task (is_on_one c.in-Ok.task (task.Print c.in-Print.report) c.in-Print.is tt) c.requires.file c.requires.first c.in-Ok.ensures
+    file_there c.args.ask.now c.in-Ok.task (is_on_one c.in-Ok.task (task.Print c.in-Print.report c.in-Print.form) c.in-Print.is tt) c.requires.file c.requires.first c.in-Ok.ensures
 
 pub unwrap-requires-in-CheckWithin : goal.unwrap-requires-in-CheckWithin
 unwrap-requires-in-CheckWithin g c =
     file_there c.args.ask.now c.in-Ok.task (is_on_one c.in-Ok.task (task.CheckWithin c.in-CheckWithin.budget) c.in-CheckWithin.is tt) c.requires.file c.requires.first c.in-Ok.ensures
+
+pub unwrap-requires-in-CheckJson : goal.unwrap-requires-in-CheckJson
+unwrap-requires-in-CheckJson g c =
+    file_there c.args.ask.now c.in-Ok.task (is_on_one c.in-Ok.task task.CheckJson c.in-CheckJson.is tt) c.requires.file c.requires.first c.in-Ok.ensures
+
+pub unwrap-requires-in-OutlineOf : goal.unwrap-requires-in-OutlineOf
+unwrap-requires-in-OutlineOf g c =
+    file_there c.args.ask.now c.in-Ok.task (is_on_one c.in-Ok.task (task.OutlineOf c.in-OutlineOf.subject) c.in-OutlineOf.is tt) c.requires.file c.requires.first c.in-Ok.ensures
 
 pub unwrap-requires-in-Rewrite : goal.unwrap-requires-in-Rewrite
 unwrap-requires-in-Rewrite g c =

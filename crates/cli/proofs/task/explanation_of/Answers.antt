@@ -1,4 +1,4 @@
-use Rattle.std.proofs.Common.{◌+◌, All, List, ℕ, drop, get_or, length, refl, subst, take}
+use Rattle.std.proofs.Common.{◌+◌, All, List, ℕ, drop, get_or, refl, subst, take}
 use Rattle.std.specs.Borrow.{Bor}
 use Rattle.std.proofs.lemmas.List.{take_all}
 use Rattle.cli.specs.Tasks.{NamesFault}

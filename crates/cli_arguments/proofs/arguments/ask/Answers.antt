@@ -78,15 +78,18 @@ returns-clause-given c =
           (λ none. c.get_one-2.ensures.none (one_text-rows found (codes "budget") ∙ none))
           (λ t is. c.get_one-2.ensures.value t (one_text-rows found (codes "budget") ∙ is));
       part = c.get_str-3.ensures ∙ first_value-rows found (codes "part");
+      json = flag_is _ (one_of (codes "json") rows) c.get_one-3.result c.eq-2.result c.eq-2.ensures
+          (λ none. c.get_one-3.ensures.none (one_text-rows found (codes "json") ∙ none))
+          (λ t is. c.get_one-3.ensures.value t (one_text-rows found (codes "json") ∙ is));
       faults = files_read _ _ _ refl (ap (λ (s : List (Bor Text)). map (λ word. word.now) s) c.in_ok-codes.ensures.items) c.unwrap_or-2.ensures (c.get_raw-2.ensures ∙ raw_values-rows found (codes "CODE"));
       files = files_read _ _ _ refl (ap (λ (s : List (Bor Text)). map (λ word. word.now) s) c.in_ok-files.ensures.items) c.unwrap_or.ensures (c.get_raw.ensures ∙ raw_values-rows found (codes "FILE"));
       files_from = c.get_str-4.ensures ∙ first_value-rows found (codes "files-from");
-      null = flag_is _ (one_of (codes "null") rows) c.get_one-3.result c.eq-2.result c.eq-2.ensures
-          (λ none. c.get_one-3.ensures.none (one_text-rows found (codes "null") ∙ none))
-          (λ t is. c.get_one-3.ensures.value t (one_text-rows found (codes "null") ∙ is));
-      quiet = flag_is _ (one_of (codes "quiet") rows) c.get_one-4.result c.eq-3.result c.eq-3.ensures
-          (λ none. c.get_one-4.ensures.none (one_text-rows found (codes "quiet") ∙ none))
-          (λ t is. c.get_one-4.ensures.value t (one_text-rows found (codes "quiet") ∙ is));
+      null = flag_is _ (one_of (codes "null") rows) c.get_one-4.result c.eq-3.result c.eq-3.ensures
+          (λ none. c.get_one-4.ensures.none (one_text-rows found (codes "null") ∙ none))
+          (λ t is. c.get_one-4.ensures.value t (one_text-rows found (codes "null") ∙ is));
+      quiet = flag_is _ (one_of (codes "quiet") rows) c.get_one-5.result c.eq-4.result c.eq-4.ensures
+          (λ none. c.get_one-5.ensures.none (one_text-rows found (codes "quiet") ∙ none))
+          (λ t is. c.get_one-5.ensures.value t (one_text-rows found (codes "quiet") ∙ is));
     }
 
 -- each value that the subcommand needs is there

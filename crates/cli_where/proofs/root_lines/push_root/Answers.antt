@@ -19,11 +19,11 @@ returns c =
     let fields = region start (length root) (codes "root") ∷ fields_from (codes "root header ") start (root_fields (version_length root)) in
     let read = c.directory_of-directory.ensures.value in
     let tables = table_stream_regions (start + tables_offset root) (tables_in root) in
-    on_ok c.push_tables.result c.push_tables.ensures (λ is cell has.
-    is cell has
-    ∙ ap (λ xs. xs ++ (lines_at offset tables ++ cell)) (c.in_ok-push_streams.ensures
+    on_ok c.push_tables.result c.push_tables.ensures (λ is inner has.
+    is inner has
+    ∙ ap (λ xs. xs ++ (lines_at offset tables ++ inner)) (c.in_ok-push_streams.ensures
     ∙ ap (λ d. c.push_stream_headers.new.line.items ++ lines_at offset (flat_map (stream_regions start d) streams)) read
     ∙ ap (λ xs. xs ++ lines_at offset (flat_map (stream_regions start (root_read root)) streams)) (c.in_ok-push_stream_headers.ensures
     ∙ ap (λ headers. c.push_root_header.new.line.items ++ lines_at offset (flat_map (stream_header_regions start) headers)) (c.headers.ensures ∙ ap (λ d. d.headers) read)
     ∙ ap (λ xs. xs ++ lines_at offset (flat_map (stream_header_regions start) (root_read root).headers)) c.in_ok-push_root_header.ensures))
-    ∙ four_parts line cell offset fields (flat_map (stream_header_regions start) (root_read root).headers) (flat_map (stream_regions start (root_read root)) streams) tables)
+    ∙ four_parts line inner offset fields (flat_map (stream_header_regions start) (root_read root).headers) (flat_map (stream_regions start (root_read root)) streams) tables)

@@ -1,18 +1,11 @@
-use Rattle.std.proofs.Common.{rules, ◌≡◌, List, ℕ, [], true≢false, refl, sym, ap, subst, ◌∙◌, arith}
+use Rattle.std.proofs.Common.{rules, ◌≡◌, List, ℕ, sym, ap, subst, ◌∙◌}
 use Rattle.table_schema.specs.Tables.{table_number}
 use Rattle.table_schema.specs.Columns.{column_at}
 use Rattle.table_schema.specs.CellColumns.{column_of}
 use Rattle.metadata.specs.Metadata.{cell_in}
 use Rattle.metadata.specs.Model.{IsModel}
 use Rattle.clim_c.specs.SignatureCells.{HasSignature}
-use Rattle.clim_c.proofs.SinkLemmas.{received, none_written}
 use Rattle.clim_c.proofs.signature_text.clim_signature_text.Goals as goal
-
-pub returns-in-Some-write_signature-clause-none : goal.returns-in-Some-write_signature-clause-none
-returns-in-Some-write_signature-clause-none c = λ none.
-    let number : table_number c.in-Some-Some.table ≡ c.args.table = search rules in
-    let has : HasSignature c.args.view.now.root.now c.in-Some-Some.table c.args.row c.args.column c.in-Some.kind = search rules in
-    absurd (none c.in-Some-Some.table c.in-Some.kind number has)
 
 pub returns-in_default-signature_at-clause-text : goal.returns-in_default-signature_at-clause-text
 returns-in_default-signature_at-clause-text c = λ is_open model is known kind number has.
@@ -22,27 +15,18 @@ returns-in_default-signature_at-clause-text c = λ is_open model is known kind n
     let column = ap (λ table. (column_at table (column_of table c.args.column)).kind) (sym same) in
     absurd (c.in_default-signature_at.ensures.none model opened kind (column ∙ has.3))
 
-pub returns-in-Some-write_signature-clause-text : goal.returns-in-Some-write_signature-clause-text
-returns-in-Some-write_signature-clause-text c = λ is_open model is known kind number has.
-    let same : known ≡ c.in-Some-Some.table = search rules in
-    let P : List ℕ → Type 0 = λ root. IsModel root model in
-    let opened = subst P (sym c.in-Some-Some.ensures'.sound.0) is in
-    let shown = c.in-Some.ensures.shown model opened in
-    let cell = ap (λ table. cell_in model table c.args.row c.args.column) same ∙ shown.2 in
-    let ends = received (λ s. s.buffer.ghost_name) (λ s. s.buffer.now) (λ s. s.len) (c.in-Some-write_signature.ensures.text shown.0 shown.1) c.args.buffer.now [] (omega arith) (none_written c.args.buffer.now) in
-    let within = ends.2.0 refl in
-    let same_buffer = sym ends.0 in
-    let written = ends.1.0 in
-    (shown.0, cell, search rules ∙ written, (λ fits. omega (arith, ends.1.1, within), λ long. absurd (omega (arith, within, long))))
+pub returns-clause-none : goal.returns-clause-none
+returns-clause-none c = λ none.
+    let number : table_number c.in-Some-Some.table ≡ c.args.table = search rules in
+    let has : HasSignature c.args.view.now.root.now c.in-Some-Some.table c.args.row c.args.column c.in-Some.kind = search rules in
+    absurd (none c.in-Some-Some.table c.in-Some.kind number has)
 
-pub returns-in-None-clause-text : goal.returns-in-None-clause-text
-returns-in-None-clause-text c = λ is_open model is known kind number has.
+pub returns-clause-text : goal.returns-clause-text
+returns-clause-text c = λ is_open model is known kind number has.
     let same : known ≡ c.in-Some-Some.table = search rules in
     let P : List ℕ → Type 0 = λ root. IsModel root model in
     let opened = subst P (sym c.in-Some-Some.ensures'.sound.0) is in
     let shown = c.in-Some.ensures.shown model opened in
     let cell = ap (λ table. cell_in model table c.args.row c.args.column) same ∙ shown.2 in
-    let ends = received (λ s. s.buffer.ghost_name) (λ s. s.buffer.now) (λ s. s.len) (c.in-None.ensures.text shown.0 shown.1) c.args.buffer.now [] (omega arith) (none_written c.args.buffer.now) in
-    let same_buffer = sym ends.0 in
-    let written = ends.1.0 in
-    (shown.0, cell, search rules ∙ written, (λ fits. absurd (true≢false (sym (ends.2.1 fits))), λ long. refl))
+    let written = c.write_signature_text.ensures.text shown.0 shown.1 in
+    (shown.0, cell, written.0, written.1)

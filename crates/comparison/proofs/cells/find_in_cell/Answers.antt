@@ -1,10 +1,14 @@
-use Rattle.std.proofs.Common.{◌≡◌, ◌≢◌, length, sym, subst, arith}
+use Rattle.std.proofs.Common.{◌≢◌, ◌∙◌, length, sym, subst, arith}
 use Rattle.table_schema.specs.declared.column.ColumnKind.{ColumnKind}
 use Rattle.metadata.specs.Metadata.{cell_in}
 use Rattle.reading.specs.Shown.{Shows}
-use Rattle.comparison.proofs.CellSteps.{cell_differs, cell_same}
+use Rattle.comparison.proofs.CellSteps.{cell_differs, cell_ignored, cell_same}
 use Rattle.comparison.proofs.GrowthLemmas.{grows_full}
 use Rattle.comparison.proofs.cells.find_in_cell.Goals as goal
+
+pub returns-then-contains-clause-sound : goal.returns-then-contains-clause-sound
+returns-then-contains-clause-sound c = λ first second is also.
+    cell_ignored c.args.ignored.now first second c.args.table c.args.row c.args.cell_index c.args.limit c.args.found.now.items c.requires.few (sym c.contains.ensures ∙ c.if-contains.true)
 
 pub returns-then-same-clause-sound : goal.returns-then-same-clause-sound
 returns-then-same-clause-sound c = λ first second is also.
@@ -13,7 +17,7 @@ returns-then-same-clause-sound c = λ first second is also.
     let tested = c.in_ok-same.ensures left right
     (subst (λ (kind : ColumnKind). Shows kind c.cell-left_value.result left) (sym c.kind_of-kind.ensures) (c.cell-left_value.ensures.cell first is))
     (subst (λ (kind : ColumnKind). Shows kind c.cell-right_value.result right) (sym c.kind_of-kind.ensures) (c.cell-right_value.ensures.cell second also)) in
-    cell_same first second c.args.table c.args.row c.args.cell_index c.in_ok-same.same tested c.args.limit c.args.found.now.items c.requires.few c.if-same.true
+    cell_same c.args.ignored.now first second c.args.table c.args.row c.args.cell_index c.in_ok-same.same (sym c.contains.ensures ∙ c.if-contains.false) tested c.args.limit c.args.found.now.items c.requires.few c.if-same.true
 
 pub returns-then-len-limit-clause-sound : goal.returns-then-len-limit-clause-sound
 returns-then-len-limit-clause-sound c = λ first second is also. grows_full c.args.limit c.args.found.now.items _ (omega (arith, c.len.ensures, c.if-len-limit.true))
@@ -26,5 +30,5 @@ returns-clause-sound c = λ first second is also.
     (subst (λ (kind : ColumnKind). Shows kind c.cell-left_value.result left) (sym c.kind_of-kind.ensures) (c.cell-left_value.ensures.cell first is))
     (subst (λ (kind : ColumnKind). Shows kind c.cell-right_value.result right) (sym c.kind_of-kind.ensures) (c.cell-right_value.ensures.cell second also)) in
     let room : length c.args.found.now.items ≢ c.args.limit = λ full. c.if-len-limit.false (omega (arith, c.len.ensures, full)) in
-    cell_differs first second c.args.table c.args.row c.args.cell_index c.in_ok-same.same tested c.args.limit c.args.found.now.items c.push.new.self.items c.requires.few room c.if-same.false
+    cell_differs c.args.ignored.now first second c.args.table c.args.row c.args.cell_index c.in_ok-same.same (sym c.contains.ensures ∙ c.if-contains.false) tested c.args.limit c.args.found.now.items c.push.new.self.items c.requires.few room c.if-same.false
     c.in_ok-push.ensures.items

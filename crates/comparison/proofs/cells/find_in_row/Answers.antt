@@ -1,4 +1,4 @@
-use Rattle.std.proofs.Common.{◌≡◌, ◌∙◌, ℕ, List, subst, sym, refl, arith}
+use Rattle.std.proofs.Common.{◌≡◌, ◌∙◌, ℕ, List, subst, sym, arith}
 use Rattle.table_schema.specs.CellColumns.{cell_count}
 use Rattle.metadata.specs.Model.{IsModel}
 use Rattle.comparison.specs.declared.difference.Difference.{Difference}
@@ -16,7 +16,7 @@ loop-cell_index-preserved c =
       there = λ all. there_kept c.args.left.now c.loop-cell_index.left c.args.right.now c.loop-cell_index.right c.loop-cell_index.found.items c.find_in_cell.new.found.items loop.left loop.right
           c.in_ok-find_in_cell.ensures.there (loop.there all);
       found = λ first second is also.
-          number_found (cell_difference first second c.args.table c.args.row) 0 c.loop-cell_index.cell_index c.loop-cell_index.cell_index c.args.limit
+          number_found (cell_difference c.args.ignored.now first second c.args.table c.args.row) 0 c.loop-cell_index.cell_index c.loop-cell_index.cell_index c.args.limit
           c.args.found.now.items c.loop-cell_index.found.items c.find_in_cell.new.found.items (omega arith) (loop.found first second is also)
           (c.in_ok-find_in_cell.ensures.sound first second (subst (λ (root : List ℕ). IsModel root first) (sym loop.left) is) (subst (λ (root : List ℕ). IsModel root second) (sym loop.right) also));
     }
@@ -24,5 +24,5 @@ loop-cell_index-preserved c =
 pub returns-clause-sound : goal.returns-clause-sound
 returns-clause-sound c = λ first second is also.
     let all : c.loop-cell_index.cell_index ≡ cell_count c.args.table = omega (arith, c.cell_count-cell_index-end.ensures, c.loop-cell_index-test.false, c.loop-cell_index.auto.cell_index-end) in
-    subst (λ (more : List Difference). Grows c.args.limit c.args.found.now.items c.loop-cell_index.found.items more) (row_is first second c.args.table c.args.row c.loop-cell_index.cell_index all)
+    subst (λ (more : List Difference). Grows c.args.limit c.args.found.now.items c.loop-cell_index.found.items more) (row_is c.args.ignored.now first second c.args.table c.args.row c.loop-cell_index.cell_index all)
     (c.loop-cell_index.invariant.found first second is also)

@@ -12,5 +12,5 @@ invariant-loop-cell_index l = record {
   few : length l.found.items ≤ l.limit;
   there : All (IsThere l.initial.left l.initial.right) l.initial.found.items → All (IsThere l.initial.left l.initial.right) l.found.items;
   found : (first second : Metadata) → IsModel l.initial.left first → IsModel l.initial.right second
-      → Grows l.limit l.initial.found.items l.found.items (flat_map (cell_difference first second l.table l.row) (range_with_len 0 l.cell_index));
+      → Grows l.limit l.initial.found.items l.found.items (flat_map (cell_difference l.ignored first second l.table l.row) (range_with_len 0 l.cell_index));
 }

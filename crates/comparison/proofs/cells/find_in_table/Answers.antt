@@ -16,7 +16,7 @@ loop-earlier-preserved c =
       there = λ all. there_kept c.args.left.now c.loop-earlier.left c.args.right.now c.loop-earlier.right c.loop-earlier.found.items c.find_in_row.new.found.items loop.left loop.right
           c.in_ok-find_in_row.ensures.there (loop.there all);
       found = λ first second is also.
-          number_found (row_differences first second c.args.table) 1 c.loop-earlier.earlier (c.loop-earlier.earlier + 1) c.args.limit
+          number_found (row_differences c.args.ignored.now first second c.args.table) 1 c.loop-earlier.earlier (c.loop-earlier.earlier + 1) c.args.limit
           c.args.found.now.items c.loop-earlier.found.items c.find_in_row.new.found.items (omega arith) (loop.found first second is also)
           (c.in_ok-find_in_row.ensures.sound first second (subst (λ (root : List ℕ). IsModel root first) (sym loop.left) is) (subst (λ (root : List ℕ). IsModel root second) (sym loop.right) also));
     }
@@ -27,5 +27,5 @@ returns-clause-sound c = λ first second is also.
     let right = c.count-2.ensures.model second (subst (λ (root : List ℕ). IsModel root second) (sym c.view-2.ensures.view) also) in
     let last : c.loop-earlier.earlier ≡ c.min-count.result = omega (arith, c.loop-earlier-test.false, c.loop-earlier.auto.earlier-end) in
     let all : c.loop-earlier.earlier ≡ min (count_in first c.args.table) (count_in second c.args.table) = last ∙ c.min-count.ensures ∙ ap₂ min left right in
-    subst (λ (more : List Difference). Grows c.args.limit c.args.found.now.items c.loop-earlier.found.items more) (table_is first second c.args.table c.loop-earlier.earlier all)
+    subst (λ (more : List Difference). Grows c.args.limit c.args.found.now.items c.loop-earlier.found.items more) (table_is c.args.ignored.now first second c.args.table c.loop-earlier.earlier all)
     (c.loop-earlier.invariant.found first second is also)

@@ -12,5 +12,5 @@ invariant-loop-earlier l = record {
   few : length l.found.items ≤ l.limit;
   there : All (IsThere l.initial.left l.initial.right) l.initial.found.items → All (IsThere l.initial.left l.initial.right) l.found.items;
   found : (first second : Metadata) → IsModel l.initial.left first → IsModel l.initial.right second
-      → Grows l.limit l.initial.found.items l.found.items (flat_map (row_differences first second l.table) (range_with_len 1 l.earlier));
+      → Grows l.limit l.initial.found.items l.found.items (flat_map (row_differences l.ignored first second l.table) (range_with_len 1 l.earlier));
 }

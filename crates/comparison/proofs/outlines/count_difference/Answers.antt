@@ -1,10 +1,9 @@
-use Rattle.std.proofs.Common.{◌≡◌, ◌∙◌, ◌<◌, ◌≤◌, ℕ, List, [], ◌∷◌, ap, length, take, get_or, subst, sym, arith}
+use Rattle.std.proofs.Common.{◌≡◌, ◌∙◌, ◌<◌, ◌≤◌, List, ap, length, get_or, sym, arith}
 use Rattle.std.specs.List.{flat_map}
 use Rattle.std.proofs.lemmas.List.{take_all}
 use Rattle.table_schema.specs.declared.table.TableId.{TableId}
 use Rattle.table_schema.specs.declared.table.TableId.TheVariants.{Module}
 use Rattle.table_schema.specs.Tables.{tables}
-use Rattle.metadata.specs.Metadata.{count_in}
 use Rattle.comparison.specs.declared.difference.Difference.TheVariants.{RowCount}
 use Rattle.comparison.specs.Differences.{count_difference}
 use Rattle.comparison.proofs.OutlineLemmas.{count_differs, count_same, first_found, none_more}

@@ -1,9 +1,6 @@
-use Rattle.std.proofs.Common.{◌≡◌, ◌≢◌, ◌∙◌, ℕ, List, [], ◌∷◌, ap, take, subst, sym}
-use Rattle.std.specs.List.{flat_map}
+use Rattle.std.proofs.Common.{◌≡◌, ◌∙◌, List, [], ◌∷◌, take, subst, sym}
 use Rattle.std.specs.Prelude.{IfSome, IfNone}
-use Rattle.table_schema.specs.Tables.{tables}
 use Rattle.comparison.specs.declared.difference.Difference.{Difference}
-use Rattle.comparison.specs.Differences.{count_difference, outline_differences}
 use Rattle.comparison.proofs.OutlineLemmas.{outline_counts, outline_user, outline_version}
 use Rattle.comparison.proofs.PaddingLemmas.{parts_differ, parts_same, unzero}
 use Rattle.comparison.proofs.outlines.outline_difference.Goals as goal

@@ -42,13 +42,13 @@ fn print_what_help_reports(rt: HostRuntime) -> Result<(), Fail> {
     fs::write(&rt, "two_types.root", TWO_TYPES.as_slice())?;
     fs::write(&rt, "two_strings.root", TWO_STRINGS.as_slice())?;
     for (name, count) in [
-        ("root", 2),
-        ("check", 3),
-        ("show", 2),
-        ("types", 1),
-        ("outline", 1),
+        ("root", 3),
+        ("check", 4),
+        ("show", 3),
+        ("types", 2),
+        ("outline", 3),
         ("strings", 1),
-        ("token", 2),
+        ("token", 3),
         ("where", 2),
         ("rewrite", 2),
         ("digest", 2),

@@ -14,7 +14,7 @@ const LINES_IN_HELP: &str = "\
 ";
 
 /// Arguments that are a usage error, and what the program prints for them.
-const REFUSED: [(&[&str], &str); 59] = [
+const REFUSED: [(&[&str], &str); 68] = [
     (&[], "Usage: clim <COMMAND>"),
     (&["clim"], "Usage: clim <COMMAND>"),
     (&["clim", "lacks"], "unrecognized subcommand 'lacks'"),
@@ -96,6 +96,30 @@ const REFUSED: [(&[&str], &str); 59] = [
     ),
     (&["clim", "types"], "Usage: clim types <FILE>"),
     (&["clim", "outline"], "Usage: clim outline <FILE>"),
+    (&["clim", "outline", "lacks", "A", "B"], "unexpected argument 'B'"),
+    (&["clim", "outline", "--json", "lacks"], "unexpected argument '--json'"),
+    (&["clim", "check", "--json"], "error: FILE is missing"),
+    (
+        &["clim", "check", "--json", "lacks", "more"],
+        "error: '--json' takes one FILE, and no list, '--budget' or '--quiet'\n",
+    ),
+    (&["clim", "check", "--json", "-0"], "error: '--json' takes one FILE"),
+    (
+        &["clim", "check", "--json", "--files-from", "-"],
+        "error: '--json' takes one FILE",
+    ),
+    (
+        &["clim", "check", "lacks", "--json", "-q"],
+        "error: '--json' takes one FILE",
+    ),
+    (
+        &["clim", "check", "--json", "--budget", "9", "lacks"],
+        "error: '--json' takes one FILE",
+    ),
+    (
+        &["clim", "show", "--json", "lacks", "2"],
+        "error: TABLE is a table",
+    ),
     (&["clim", "token"], "Usage: clim token <FILE> <HEX>"),
     (&["clim", "token", "lacks"], "  <HEX>\n"),
     (
@@ -238,7 +262,7 @@ fn helps_with_each_subcommand(rt: HostRuntime) -> Result<(), Fail> {
         ),
         (
             "outline",
-            "Usage: clim outline [OPTIONS] <FILE>",
+            "Usage: clim outline [OPTIONS] <FILE> [NAME]",
             "  // 02000002\n",
         ),
         (
@@ -335,6 +359,10 @@ fn asks(rt: HostRuntime) -> Result<(), Fail> {
             (Subcommand::Show, false, Some("a.root"), None, None, None),
         ),
         (
+            &["clim", "outline", "a.root", "N.C"],
+            (Subcommand::Outline, false, Some("a.root"), None, None, Some("N.C")),
+        ),
+        (
             &["clim", "strings", "a.root"],
             (Subcommand::Strings, false, Some("a.root"), None, None, None),
         ),
@@ -390,7 +418,7 @@ fn asks(rt: HostRuntime) -> Result<(), Fail> {
         let asked = ask(rt.alloc(), words)?;
         assert_eq!(rt; given(&asked), want);
         assert!(rt; asked.files.as_slice().first().copied() == asked.file);
-        assert!(rt; asked.files_from.is_none() && !asked.null && !asked.quiet);
+        assert!(rt; asked.files_from.is_none() && !asked.null && !asked.quiet && !asked.json);
         assert!(rt; asked.codes.is_empty());
     }
     Ok(())
@@ -406,6 +434,22 @@ fn asks_for_faults(rt: HostRuntime) -> Result<(), Fail> {
         let asked = ask(rt.alloc(), words)?;
         assert_eq!(rt; asked.codes.as_slice(), &words[2..]);
         assert!(rt; asked.subcommand == Subcommand::Explain && asked.file.is_none());
+    }
+    Ok(())
+}
+
+#[test]
+fn asks_for_json(rt: HostRuntime) -> Result<(), Fail> {
+    for (words, json) in [
+        (["clim", "root", "a", "--json"].as_slice(), true),
+        (&["clim", "check", "--json", "a"], true),
+        (&["clim", "show", "--json", "a", "02"], true),
+        (&["clim", "types", "--json", "a"], true),
+        (&["clim", "token", "a", "--json", "1"], true),
+        (&["clim", "show", "a", "--", "--json"], false),
+        (&["clim", "check", "a"], false),
+    ] {
+        assert_eq!(rt; ask(rt.alloc(), words)?.json, json);
     }
     Ok(())
 }

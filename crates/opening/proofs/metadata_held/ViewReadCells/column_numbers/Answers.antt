@@ -1,7 +1,7 @@
 use Rattle.std.proofs.Common.{◌≡◌, ◌≤◌, ℕ, Some, sym, ap, subst, ◌∙◌, arith}
 use Rattle.table_schema.specs.CellColumns.{column_of}
 use Rattle.rows.specs.Columns.{number_in_row}
-use Rattle.metadata.specs.Metadata.{Metadata, cell_in}
+use Rattle.metadata.specs.Metadata.{cell_in}
 use Rattle.metadata.specs.Source.{Source, number_of, rows_in}
 use Rattle.metadata.specs.SourceAt.{source_of}
 use Rattle.metadata.specs.Starts.{start_of}
@@ -37,5 +37,5 @@ returns-clause-numbers c = λ model is row first last.
     ∙ ap (λ (s : Source). number_of s table row c.column_of_cell.result) c.source.ensures.source
     ∙ ap (λ (n : ℕ). number_of source table row n) c.column_of_cell.ensures.value in
     subst (λ (n : ℕ). IsNumberOf (kind_at table cell) n (cell_in model table row cell)) (sym number)
-    (number_is source (kind_at table cell) (nullable_at table cell) (start_of source table row column) (number_of source table row column) (cell_in model table row cell)
+    (number_is (record { few = c.tags_fit.ensures.few; row = c.coded_indexes_are_row_numbers.ensures }) source (kind_at table cell) (nullable_at table cell) (start_of source table row column) (number_of source table row column) (cell_in model table row cell)
     (c.models_are_read.ensures.cells root model is table row cell first last c.requires))

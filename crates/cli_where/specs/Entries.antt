@@ -1,0 +1,135 @@
+-- The heap entries that have a byte, and the cells that name them (ECMA-335 II.22 and II.24.2.3 to II.24.2.5).
+use Rattle.std.specs.Prelude.{◌≡◌, ℕ, ◌+◌, ◌-◌, ◌*◌, ◌<◌, true, List, [], ◌∷◌, ◌++◌, codes, length, map, take, Option, None, Some, unwrap_or}
+use Rattle.std.specs.List.{flat_map, range_with_len}
+use Rattle.std.specs.Option.{option_map}
+use Rattle.root.specs.declared.kind.Kind.{Kind}
+use Rattle.root.specs.declared.kind.Kind.TheVariants.{Strings, Guids, Blobs}
+use Rattle.root.specs.Streams.{RootRead, range_of, stream_of}
+use Rattle.heap_entries.specs.Entries.{IsCounted, IsEnded, IsGuidEntry}
+use Rattle.table_schema.specs.declared.column.ColumnKind.{ColumnKind}
+use Rattle.table_schema.specs.declared.column.ColumnKind.TheVariants as kind
+use Rattle.table_schema.specs.declared.table.TableId.{TableId}
+use Rattle.table_schema.specs.Tables.{tables}
+use Rattle.table_schema.specs.Columns.{column_at, columns_of}
+use Rattle.schema.specs.Sizes.{Sizes, count_of}
+use Rattle.schema.specs.Cells.{number_at}
+use Rattle.locations.specs.declared.cells.TableCell.{TableCell}
+use Rattle.cli_where.specs.Regions.{Region, has_byte, region_text}
+use Rattle.cli_where.specs.Cells.{cell_words}
+
+-- a heap: its bytes, and the offset of the first one in the file
+pub record Heap : Type 0 where
+  pub bytes : List ℕ
+  pub start : ℕ
+
+-- the heaps that cells index
+pub record Heaps : Type 0 where
+  pub texts : Heap
+  pub guids : Heap
+  pub blobs : Heap
+
+-- a stream of a root at an offset of the file, as a heap; it has no bytes if no header names it
+abbrev pub heap_at : ℕ → RootRead → Kind → Heap
+heap_at start root kind = record {
+  bytes = unwrap_or (stream_of root kind) [];
+  start = start + unwrap_or (option_map (λ offset. offset.0) (range_of root kind)) 0;
+}
+
+abbrev pub heaps_at : ℕ → RootRead → Heaps
+heaps_at start root = record { texts = heap_at start root Strings; guids = heap_at start root Guids; blobs = heap_at start root Blobs }
+
+-- II.24.2.3: an index names the string at this offset of the file, with this number of bytes, its NUL included. Index 0
+-- is the empty string of no entry.
+pub record IsStringAt (heap : Heap) (index start size : ℕ) : Type 0 where
+  pub some : 0 < index
+  pub text : List ℕ
+  pub stands : IsEnded heap.bytes index text
+  pub from : start ≡ heap.start + index
+  pub long : size ≡ length text + 1
+
+-- II.24.2.5: an index names the GUID at this offset of the file, with sixteen bytes. Index 0 is null.
+pub record IsGuidAt (heap : Heap) (index start size : ℕ) : Type 0 where
+  pub some : 0 < index
+  pub guid : List ℕ
+  pub stands : IsGuidEntry heap.bytes index guid
+  pub from : start ≡ heap.start + 16 * (index - 1)
+  pub long : size ≡ 16
+
+-- II.24.2.4: an index names the blob at this offset of the file, with this number of bytes, those of its packed length
+-- included. Index 0 is the empty blob of no entry.
+pub record IsBlobAt (heap : Heap) (index start size : ℕ) : Type 0 where
+  pub some : 0 < index
+  pub blob : List ℕ
+  pub stands : IsCounted heap.bytes index blob
+  pub from : start ≡ heap.start + index
+  pub long : size ≡ length stands.count + length blob
+
+-- the entry that an index in a column of a kind names; the other columns index no heap
+abbrev pub IsNamed : Heaps → ColumnKind → ℕ → ℕ → ℕ → Type 0
+IsNamed heaps kind.Text index start size = IsStringAt heaps.texts index start size
+IsNamed heaps kind.Guid index start size = IsGuidAt heaps.guids index start size
+IsNamed heaps kind.Blob index start size = IsBlobAt heaps.blobs index start size
+IsNamed heaps (kind.Signature signature) index start size = IsBlobAt heaps.blobs index start size
+IsNamed heaps kind.U8 index start size = ⊥
+IsNamed heaps kind.U16 index start size = ⊥
+IsNamed heaps kind.U32 index start size = ⊥
+IsNamed heaps kind.Padding index start size = ⊥
+IsNamed heaps (kind.Row table) index start size = ⊥
+IsNamed heaps (kind.Coded coded) index start size = ⊥
+IsNamed heaps (kind.List table) index start size = ⊥
+
+-- what an entry is, by the kind of a column that names it
+abbrev pub entry_word : ColumnKind → List ℕ
+entry_word kind.Text = codes "string of "
+entry_word kind.Guid = codes "guid of "
+entry_word _ = codes "blob of "
+
+abbrev pub kind_of : TableCell → ColumnKind
+kind_of cell = (column_at cell.table cell.column).kind
+
+-- what the entry is that a cell names
+abbrev pub entry_words : TableCell → List ℕ
+entry_words cell = entry_word (kind_of cell) ++ cell_words cell
+
+-- the number in a cell of a table stream names an entry
+abbrev pub IsNamedBy : Heaps → List ℕ → Sizes → TableCell → ℕ → ℕ → Type 0
+IsNamedBy heaps stream sizes cell start size = IsNamed heaps (kind_of cell) (number_at stream sizes cell.table cell.row cell.column) start size
+
+-- the entry that a cell names and that has the byte at an offset of the file; or the cell names no entry that has it
+abbrev pub IsEntryOf : Heaps → List ℕ → Sizes → ℕ → TableCell → Option Region → Type 0
+IsEntryOf heaps stream sizes offset cell None = (start size : ℕ) → IsNamedBy heaps stream sizes cell start size → has_byte start size offset ≡ true → ⊥
+IsEntryOf heaps stream sizes offset cell (Some entry) =
+    IsNamedBy heaps stream sizes cell entry.start entry.size × (has_byte entry.start entry.size offset ≡ true) × (entry.what ≡ entry_words cell)
+
+-- the cells of a row, column by column
+abbrev pub cell_of : TableId → ℕ → ℕ → TableCell
+cell_of table row column = record { table = table; row = row; column = column }
+
+abbrev pub row_cells : TableId → ℕ → List TableCell
+row_cells table row = map (cell_of table row) (range_with_len 0 (length (columns_of table)))
+
+-- the cells of a table, row by row from 1
+abbrev pub table_cells : Sizes → TableId → List TableCell
+table_cells sizes table = flat_map (row_cells table) (range_with_len 1 (count_of sizes table))
+
+-- all cells, table by table
+unfoldable pub all_cells : Sizes → List TableCell
+all_cells sizes = flat_map (table_cells sizes) tables
+
+-- the entries that were found, one for each cell at most
+abbrev pub listed : Option Region → List Region
+listed None = []
+listed (Some entry) = entry ∷ []
+
+abbrev pub entries : (TableCell → Option Region) → List TableCell → List Region
+entries found cells = flat_map (λ cell. listed (found cell)) cells
+
+-- the lines of the first structures of a list, at most this number
+unfoldable pub first_lines : ℕ → List Region → List ℕ
+first_lines left regions = flat_map region_text (take left regions)
+
+-- The lines of the entries that have the byte at an offset of the file: of the first ten cells that name one.
+abbrev pub AreEntryLines : Heaps → List ℕ → Sizes → ℕ → List ℕ → Type 0
+AreEntryLines heaps stream sizes offset text =
+    (found : TableCell → Option Region) × ((cell : TableCell) → IsEntryOf heaps stream sizes offset cell (found cell))
+    × (text ≡ first_lines 10 (entries found (all_cells sizes)))

@@ -1,0 +1,220 @@
+//! The heap entries that have a byte (II.24.2.3 to II.24.2.5).
+ghost use Rattle.std.specs.Prelude.{◌≡◌, ◌≤◌, ◌<◌, ◌+◌, ℕ, List, IfSome, IfNone, IsSomeAnd, length, true};
+ghost use Rattle.heap_entries.specs.Entries.{IsCounted};
+ghost use Rattle.table_schema.specs.declared.column.ColumnKind.{ColumnKind as Kind};
+ghost use Rattle.cli_where.specs.Entries.{IsBlobAt, IsGuidAt, IsNamed, IsStringAt, entry_word};
+ghost use Rattle.cli_where.specs.Kept.{AreReady, IsLow, IsRunAt, IsRunOf, heap_of, heaps_of};
+ghost use Rattle.cli_where.specs.Regions.{has_byte};
+
+use crate::regions::has_byte;
+use memchr::{memchr, memrchr};
+use packed::read_unsigned;
+use table_schema::ColumnKind;
+
+/// The number of bytes of a GUID.
+const GUID_SIZE: u64 = 16;
+
+/// A heap.
+#[derive(Clone, Copy)]
+pub(crate) struct Heap<'a> {
+    /// Its bytes.
+    pub bytes: &'a [u8],
+    /// The offset of the first one in the file.
+    pub start: u64,
+}
+
+/// The bytes around a byte of `#Strings` up to a NUL, of which only the last one is a NUL.
+#[derive(Clone, Copy)]
+pub(crate) struct Run {
+    /// The offset of the first byte in the heap.
+    pub first: usize,
+    /// The offset of the NUL in the heap.
+    pub end: usize,
+}
+
+/// A byte, and the heaps that may have it.
+#[derive(Clone, Copy)]
+pub(crate) struct Target<'a> {
+    /// The offset of the byte in the file.
+    pub offset: u64,
+    /// `#Strings`.
+    pub texts: Heap<'a>,
+    /// The run of the byte, if it is one of `#Strings`.
+    pub run: Option<Run>,
+    /// `#GUID`.
+    pub guids: Heap<'a>,
+    /// `#Blob`.
+    pub blobs: Heap<'a>,
+}
+
+/// Where an entry is in the file.
+#[derive(Clone, Copy)]
+pub(crate) struct Span {
+    /// The offset of its first byte.
+    pub start: u64,
+    /// Its number of bytes.
+    pub size: u64,
+}
+
+/// The run of a byte of `#Strings`; `None` if no NUL is at the byte or after it.
+fn run_at(heap: &[u8], byte: usize) -> Option<Run>
+    requires { byte < length heap.now }
+    ensures { IsRunAt heap.now byte result }
+{
+    let (before, tail) = heap.split_at(byte);
+    let first = match memrchr(0, before) {
+        Some(last) => last + 1,
+        None => 0,
+    };
+    let len = memchr(0, tail)?;
+    Some(Run {
+        first,
+        end: byte + len,
+    })
+}
+
+/// The run of the byte at an offset of the file, if it is one of `#Strings`.
+fn run_of(texts: Heap<'_>, offset: u64) -> Option<Run>
+    requires { IsLow texts }
+    ensures { IsRunOf (heap_of texts.entry) offset result }
+{
+    if offset < texts.start {
+        return None;
+    }
+    let byte = offset - texts.start;
+    if byte >= texts.bytes.len() as u64 {
+        return None;
+    }
+    run_at(texts.bytes, byte as usize)
+}
+
+/// The byte at an offset of the file, and the heaps.
+pub(crate) fn target_of<'a>(
+    texts: Heap<'a>,
+    guids: Heap<'a>,
+    blobs: Heap<'a>,
+    offset: u64,
+) -> Target<'a>
+    requires texts { IsLow texts }
+    requires guids { IsLow guids }
+    requires blobs { IsLow blobs }
+    ensures ready { AreReady result }
+    ensures heaps { heaps_of result ≡ record { texts = heap_of texts.entry; guids = heap_of guids.entry; blobs = heap_of blobs.entry } }
+    ensures offset { result.offset ≡ offset }
+{
+    Target {
+        offset,
+        texts,
+        run: run_of(texts, offset),
+        guids,
+        blobs,
+    }
+}
+
+/// The string at an index if it has the byte.
+fn string_at(target: &Target<'_>, index: u32) -> Option<Span>
+    requires { AreReady target.now }
+    ensures sound { IfSome result (λ span. IsStringAt (heap_of target.now.texts) index span.start span.size × (has_byte span.start span.size target.now.offset ≡ true)) }
+    ensures one { IfSome result (λ span. (start size : ℕ) → IsStringAt (heap_of target.now.texts) index start size → (start ≡ span.start) × (size ≡ span.size)) }
+    ensures none { IfNone result ((start size : ℕ) → IsStringAt (heap_of target.now.texts) index start size → has_byte start size target.now.offset ≡ true → ⊥) }
+{
+    let run = target.run?;
+    let start = target.texts.start + u64::from(index);
+    if index == 0 || (index as usize) < run.first || target.offset < start {
+        return None;
+    }
+    Some(Span {
+        start,
+        size: (run.end - index as usize) as u64 + 1,
+    })
+}
+
+/// The GUID with an index if it has the byte.
+fn guid_at(target: &Target<'_>, index: u32) -> Option<Span>
+    requires { AreReady target.now }
+    ensures sound { IfSome result (λ span. IsGuidAt (heap_of target.now.guids) index span.start span.size × (has_byte span.start span.size target.now.offset ≡ true)) }
+    ensures one { IfSome result (λ span. (start size : ℕ) → IsGuidAt (heap_of target.now.guids) index start size → (start ≡ span.start) × (size ≡ span.size)) }
+    ensures none { IfNone result ((start size : ℕ) → IsGuidAt (heap_of target.now.guids) index start size → has_byte start size target.now.offset ≡ true → ⊥) }
+{
+    let before = GUID_SIZE * u64::from(index.checked_sub(1)?);
+    let start = target.guids.start + before;
+    if before + GUID_SIZE > target.guids.bytes.len() as u64
+        || !has_byte(start, GUID_SIZE, target.offset)
+    {
+        return None;
+    }
+    Some(Span {
+        start,
+        size: GUID_SIZE,
+    })
+}
+
+/// The number of bytes of the blob at an offset of its heap, those of its packed length included.
+pub(crate) fn blob_size(heap: &[u8], start: usize) -> Option<usize>
+    ensures sound { IfSome result (λ size. (blob : List ℕ) × (stands : IsCounted heap.now start blob) × (size ≡ length stands.count + length blob)) }
+    ensures within { IfSome result (λ size. start + size ≤ length heap.now) }
+    ensures some { IfSome result (λ size. 1 ≤ size) }
+    ensures complete { (blob : List ℕ) (stands : IsCounted heap.now start blob)
+        → IsSomeAnd result (λ size. size ≡ length stands.count + length blob) }
+{
+    if start > heap.len() {
+        return None;
+    }
+    let (_, tail) = heap.split_at(start);
+    let (count, used) = read_unsigned(tail)?;
+    let (_, blob) = tail.split_at(used);
+    if blob.len() < count as usize {
+        return None;
+    }
+    Some(used + count as usize)
+}
+
+/// The blob at an index if it has the byte.
+fn blob_at(target: &Target<'_>, index: u32) -> Option<Span>
+    requires { AreReady target.now }
+    ensures sound { IfSome result (λ span. IsBlobAt (heap_of target.now.blobs) index span.start span.size × (has_byte span.start span.size target.now.offset ≡ true)) }
+    ensures one { IfSome result (λ span. (start size : ℕ) → IsBlobAt (heap_of target.now.blobs) index start size → (start ≡ span.start) × (size ≡ span.size)) }
+    ensures none { IfNone result ((start size : ℕ) → IsBlobAt (heap_of target.now.blobs) index start size → has_byte start size target.now.offset ≡ true → ⊥) }
+{
+    if index == 0 {
+        return None;
+    }
+    let size = blob_size(target.blobs.bytes, index as usize)? as u64;
+    let start = target.blobs.start + u64::from(index);
+    if !has_byte(start, size, target.offset) {
+        return None;
+    }
+    Some(Span { start, size })
+}
+
+/// The entry that an index in a column of a kind names, if it has the byte. It takes constant time.
+pub(crate) fn entry_at(target: &Target<'_>, kind: ColumnKind, index: u32) -> Option<Span>
+    requires { AreReady target.now }
+    ensures sound { IfSome result (λ span. IsNamed (heaps_of target.now) kind index span.start span.size × (has_byte span.start span.size target.now.offset ≡ true)) }
+    ensures one { IfSome result (λ span. (start size : ℕ) → IsNamed (heaps_of target.now) kind index start size → (start ≡ span.start) × (size ≡ span.size)) }
+    ensures none { IfNone result ((start size : ℕ) → IsNamed (heaps_of target.now) kind index start size → has_byte start size target.now.offset ≡ true → ⊥) }
+{
+    match kind {
+        ColumnKind::Text => string_at(target, index),
+        ColumnKind::Guid => guid_at(target, index),
+        ColumnKind::Blob | ColumnKind::Signature(_) => blob_at(target, index),
+        ColumnKind::U8
+        | ColumnKind::U16
+        | ColumnKind::U32
+        | ColumnKind::Padding
+        | ColumnKind::Row(_)
+        | ColumnKind::Coded(_)
+        | ColumnKind::List(_) => None,
+    }
+}
+
+/// What an entry is, by the kind of a column that names it.
+pub(crate) fn entry_word(kind: ColumnKind) -> &'static str
+    ensures { result.now ≡ entry_word kind }
+{
+    match kind {
+        ColumnKind::Text => "string of ",
+        ColumnKind::Guid => "guid of ",
+        _ => "blob of ",
+    }
+}

@@ -1,0 +1,35 @@
+use Rattle.std.proofs.Common.{◌≡◌, ◌∙◌, ◌<◌, ◌≤◌, ℕ, List, ap, length, take, get_or, subst, sym, arith}
+use Rattle.table_schema.specs.declared.table.TableId.{TableId}
+use Rattle.table_schema.specs.declared.table.TableId.TheVariants.{Module}
+use Rattle.table_schema.specs.Tables.{tables}
+use Rattle.metadata.specs.Model.{IsModel}
+use Rattle.comparison.specs.declared.difference.Difference.{Difference}
+use Rattle.comparison.specs.Differences.{Grows, table_differences}
+use Rattle.comparison.proofs.CellSteps.{item_found, tables_are, there_kept}
+use Rattle.comparison.proofs.cells.differing_cells_but.Goals as goal
+
+pub loop-table-preserved : goal.loop-table-preserved
+loop-table-preserved c =
+    let loop = c.loop-table.invariant in
+    let index = c.loop-table.table-index in
+    let many : length c.all-table-items.result.now ≡ length tables = ap length c.all-table-items.ensures.value in
+    let within : index < length tables = omega (arith, many, c.loop-table-test.true) in
+    record {
+      left = c.find_in_table.ensures.left ∙ loop.left;
+      right = c.find_in_table.ensures.right ∙ loop.right;
+      few = c.in_ok-find_in_table.ensures.few;
+      there = there_kept c.args.left.now c.loop-table.left_cells c.args.right.now c.loop-table.right_cells c.loop-table.found.items c.find_in_table.new.found.items loop.left loop.right
+          c.in_ok-find_in_table.ensures.there loop.there;
+      found = λ first second is also.
+          let grown = c.in_ok-find_in_table.ensures.sound first second (subst (λ (root : List ℕ). IsModel root first) (sym loop.left) is) (subst (λ (root : List ℕ). IsModel root second) (sym loop.right) also) in
+          item_found (table_differences c.args.ignored.now first second) tables index c.args.limit Module c.loop-table.found.items c.find_in_table.new.found.items within (loop.found first second is also)
+          (subst (λ (listed : List TableId). Grows c.args.limit c.loop-table.found.items c.find_in_table.new.found.items (table_differences c.args.ignored.now first second (get_or listed index Module)))
+          c.all-table-items.ensures.value grown);
+    }
+
+pub returns-clause-sound : goal.returns-clause-sound
+returns-clause-sound c = λ first second is also.
+    let many : length c.all-table-items.result.now ≡ length tables = ap length c.all-table-items.ensures.value in
+    let all : length tables ≤ c.loop-table.table-index = omega (arith, many, c.loop-table-test.false) in
+    subst (λ (more : List Difference). c.loop-table.found.items ≡ take c.args.limit more) (tables_are c.args.ignored.now first second c.loop-table.table-index all)
+    (c.loop-table.invariant.found first second is also)

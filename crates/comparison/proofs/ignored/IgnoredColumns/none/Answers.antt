@@ -1,0 +1,7 @@
+use Rattle.std.proofs.Common.{refl}
+use Rattle.comparison.specs.Ignored.{no_columns}
+use Rattle.comparison.proofs.ignored.IgnoredColumns.none.Goals as goal
+
+pub returns : goal.returns
+unfolding no_columns
+returns c = refl

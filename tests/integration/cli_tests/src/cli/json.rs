@@ -1,0 +1,83 @@
+use crate::runs::{Case, answer, other_answer};
+use sample_roots::{ONE_MODULE, TWO_TYPES, image};
+use std::fs;
+use std::test::Fail;
+
+const MODULE: &str = "\
+{\"table\":\"Module\",\"row\":1,\"token\":\"00000001\",\"Generation\":0,\"Name\":\"a.dll\",\
+\"Mvid\":\"03020100-0504-0706-0809-0a0b0c0d0e0f\",\"EncId\":null,\"EncBaseId\":null}\n";
+
+const ROOT: &str = "\
+{\"version\":\"v4.0.30319\"}
+{\"stream\":{\"name\":\"#~\",\"offset\":80,\"size\":40}}
+{\"stream\":{\"name\":\"#Strings\",\"offset\":120,\"size\":8}}
+{\"stream\":{\"name\":\"#GUID\",\"offset\":128,\"size\":16}}
+";
+
+const OK: &str = "{\"ok\":true}\n";
+
+#[test]
+fn prints_json_of_a_root(rt: HostRuntime) -> Result<(), Fail> {
+    fs::write(&rt, "json.root", &ONE_MODULE)?;
+    for (words, want) in [
+        (["clim", "root", "--json", "--bare", "json.root"].as_slice(), ROOT),
+        (&["clim", "show", "--json", "--bare", "json.root"], MODULE),
+        (&["clim", "show", "--json", "--bare", "json.root", "Module"], MODULE),
+        (&["clim", "show", "--json", "--bare", "json.root", "TypeDef"], ""),
+        (&["clim", "token", "--json", "--bare", "json.root", "1"], MODULE),
+        (&["clim", "types", "--json", "--bare", "json.root"], ""),
+        (&["clim", "check", "--json", "--bare", "json.root"], OK),
+    ] {
+        let (status, out, err) = answer(&rt, words)?;
+        assert_eq!(rt; (status, out.as_str(), err.as_str()), (0, want, ""));
+    }
+    let words = ["clim", "token", "--json", "--bare", "json.root", "02000001"];
+    let (status, out, err) = answer(&rt, &words)?;
+    assert_eq!(rt; (status, out.as_str(), err.as_str()), (1, "", "no such row\n"));
+    fs::remove_file(&rt, "json.root")?;
+    Ok(())
+}
+
+#[test]
+fn prints_json_of_types(rt: HostRuntime) -> Result<(), Fail> {
+    let types = "\
+{\"token\":\"02000001\",\"namespace\":\"\",\"name\":\"<Module>\",\"fields\":0,\"methods\":0}
+{\"token\":\"02000002\",\"namespace\":\"N\",\"name\":\"C\",\"fields\":2,\"methods\":1}
+";
+    let case = Case::new(TWO_TYPES.len(), 0, b"", 0, types);
+    assert_eq!(rt; other_answer(&rt, &["clim", "types", "--bare", "--json"], &TWO_TYPES, &case)?, None);
+    Ok(())
+}
+
+/// A broken rule is an object on the output, and nothing goes to standard error, not even a hint.
+#[test]
+fn checks_with_json(rt: HostRuntime) -> Result<(), Fail> {
+    let dos = "{\"layer\":1,\"code\":102,\"name\":\"DosHeader\",\"offset\":0}\n";
+    let version = "{\"layer\":3,\"code\":302,\"name\":\"Version\",\"offset\":12}\n";
+    fs::write(&rt, "json.file", &ONE_MODULE)?;
+    let (status, out, err) = answer(&rt, &["clim", "check", "--json", "json.file"])?;
+    assert_eq!(rt; (status, out.as_str(), err.as_str()), (1, dos, ""));
+    fs::write(&rt, "json.file", &ONE_MODULE[..20])?;
+    let (status, out, err) = answer(&rt, &["clim", "check", "--json", "--bare", "json.file"])?;
+    assert_eq!(rt; (status, out.as_str(), err.as_str()), (1, version, ""));
+    fs::write(&rt, "json.file", image().as_slice())?;
+    let (status, out, err) = answer(&rt, &["clim", "check", "json.file", "--json"])?;
+    assert_eq!(rt; (status, out.as_str(), err.as_str()), (0, OK, ""));
+    fs::remove_file(&rt, "json.file")?;
+    let (status, out, err) = answer(&rt, &["clim", "check", "json.file", "--json"])?;
+    assert!(rt; status == 3 && out.is_empty() && err.starts_with("error: cannot read json.file"));
+    Ok(())
+}
+
+/// The other subcommands report a broken rule with `--json` as they do without it.
+#[test]
+fn reports_faults_as_text(rt: HostRuntime) -> Result<(), Fail> {
+    fs::write(&rt, "fault.root", &ONE_MODULE[..20])?;
+    for name in ["root", "show", "types"] {
+        let (status, out, err) = answer(&rt, &["clim", name, "--json", "--bare", "fault.root"])?;
+        let reported = "fault 3 302 at 12: Version\n";
+        assert_eq!(rt; (status, out.as_str(), err.as_str()), (1, "", reported));
+    }
+    fs::remove_file(&rt, "fault.root")?;
+    Ok(())
+}
