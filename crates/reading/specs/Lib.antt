@@ -1,6 +1,7 @@
 pub mod Sources
 pub mod Codes
 pub mod ReadFrom
+pub mod RowBytes
 pub mod Starts
 pub mod KnownStarts
 pub mod Cursors

@@ -59,6 +59,7 @@ impl<'a> Source<'a> {
     ghost use Rattle.metadata.specs.SourceAt.{cell_offset};
     ghost use Rattle.rows.specs.Columns.{number_in_row};
     ghost use Rattle.reading.specs.Codes.{code_at};
+    ghost use Rattle.reading.specs.RowBytes.{AreRowBytes};
 
     /// A source whose table stream starts at this offset.
     ///
@@ -130,6 +131,25 @@ impl<'a> Source<'a> {
     {
         schema::laws::numbers_are_read();
         self.rows.column(table, column)
+    }
+
+    /// HeapSizes: the heaps whose indexes have four bytes (II.24.2.6).
+    pub fn heap_sizes(&self) -> u8
+        ensures { result ≡ self.now.source.sizes.heap_sizes }
+    {
+        self.rows.layout().heap_sizes()
+    }
+
+    /// The bytes of the rows of a table from `first` up to but not including `past`.
+    #[tactic(auto, unfolding(metadata::specs::Source::number_of))]
+    pub fn row_bytes(&self, table: TableId, first: u32, past: u32) -> &'a [u8]
+        requires first { 1 ≤ first }
+        requires order { first ≤ past }
+        requires last { past ≤ rows_in self.now.source table + 1 }
+        ensures { AreRowBytes self.now.source table first past result.now }
+    {
+        schema::laws::numbers_are_read();
+        self.rows.row_bytes(table, first, past)
     }
 
     /// The fault of a rule for a cell.

@@ -1,4 +1,5 @@
 pub mod BytesLemmas
 pub mod HalvingLemmas
 pub mod OffsetLemmas
+pub mod RowBytesLemmas
 pub mod RowLemmas

@@ -114,7 +114,7 @@ offset_behind stream sizes numbers table row column below listed first last h la
     omega (arith, length-append (tables_before ++ rows_before) columns_before, length-append tables_before rows_before)
 
 -- a part of a part is a part of the whole
-part_of_part : (whole : List ℕ) (start count offset width : ℕ) → offset + width ≤ count
+pub part_of_part : (whole : List ℕ) (start count offset width : ℕ) → offset + width ≤ count
     → part (part whole start count) offset width ≡ part whole (start + offset) width
 part_of_part whole start count offset width within =
     ap (λ n. take width (drop offset (take n (drop start whole)))) (omega arith)

@@ -70,13 +70,13 @@ impl<'a> Clone for Rows<'a> {
 }
 
 impl<'a> Rows<'a> {
-    ghost use Rattle.std.specs.Prelude.{◌≡◌, ◌≤◌, ◌<◌, ◌+◌, ◌^◌, ℕ, List, length};
+    ghost use Rattle.std.specs.Prelude.{◌≡◌, ◌≤◌, ◌<◌, ◌+◌, ◌-◌, ◌*◌, ◌^◌, ℕ, List, length};
     ghost use Rattle.table_schema.specs.Columns.{columns_of};
     ghost use Rattle.schema.specs.Sizes.{count_of};
-    ghost use Rattle.schema.specs.Offsets.{cell_start};
+    ghost use Rattle.schema.specs.Offsets.{cell_start, row_start, row_width};
     ghost use Rattle.schema.specs.LaidOut.{IsTableStream, IsLaidOut, StandsAt, number_bytes, number_in};
     ghost use Rattle.schema.specs.Cells.{number_at, cell_width};
-    ghost use Rattle.rows.specs.Cells.{bytes_before};
+    ghost use Rattle.rows.specs.Cells.{bytes_before, number_in_rows};
     ghost use Rattle.rows.specs.Columns.{number_in_row};
 
     /// The rows of a table stream, with the layout that [`Layout::read`] returned for these bytes.
@@ -128,6 +128,23 @@ impl<'a> Rows<'a> {
         schema::laws::cells_stand();
         let offset = self.place(table, row, column);
         number_of(self.bytes, offset, self.layout.cell_width(table, column))
+    }
+
+    /// The bytes of the rows of a table from `first` up to but not including `past`.
+    pub fn row_bytes(&self, table: TableId, first: u32, past: u32) -> &'a [u8]
+        requires first { 1 ≤ first }
+        requires order { first ≤ past }
+        requires last { past ≤ count_of self.now.sizes table + 1 }
+        ensures value { result.now ≡ part self.now.bytes (row_start self.now.sizes table first) ((past - first) * row_width self.now.sizes table) }
+        ensures len { length result.now ≡ (past - first) * row_width self.now.sizes table }
+        // The number of each cell is read at its offset in them.
+        ensures numbers { (row column : ℕ) → first ≤ row → row < past → column < length (columns_of table)
+            → number_at self.now.bytes self.now.sizes table row column ≡ number_in_rows result.now self.now.sizes table (row - first) column }
+    {
+        table_schema::laws::tables_stand();
+        let start = self.layout.row_start(table, first);
+        let end = self.layout.row_start(table, past);
+        bytes_between(self.bytes, start, end)
     }
 
     /// The numbers in a column of a table, to be read row by row.

@@ -155,6 +155,13 @@ impl Layout {
         self.header.sorted
     }
 
+    /// HeapSizes: the heaps whose indexes have four bytes (II.24.2.6).
+    pub fn heap_sizes(&self) -> u8
+        ensures { result ≡ self.now.heap_sizes }
+    {
+        self.header.heap_sizes
+    }
+
     /// The number of bytes of a column: 1, 2 or 4.
     pub fn width(&self, column: Column) -> usize
         ensures value { result ≡ width_of self.now column }
