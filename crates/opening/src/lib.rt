@@ -32,7 +32,7 @@ pub use metadata_source::{KeysOf, MemberList, ReadCells, ReadMetadata, Signature
 pub use open::{open_root, open_root_within, view_again};
 pub use packed::{Fault, FaultCode};
 pub use pe::Pe;
-pub use reading::{CellRef, KeyNumbers, KeyRows, Starts};
+pub use reading::{CellRef, KeyNumbers, KeyRows, Source, Starts};
 pub use root::Root;
 pub use table_schema::{TableId, Token};
 pub use view::View;

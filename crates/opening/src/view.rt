@@ -104,8 +104,8 @@ impl<'a> View<'a> {
         }
     }
 
-    /// The source that the model's cells are read from.
-    pub(crate) fn source(&self) -> &Source<'a>
+    /// The rows and heaps that the model's cells are read from.
+    pub fn source(&self) -> &Source<'a>
         ensures source { result.now.source ≡ source_of self.now }
         ensures rows { (table : Table) → rows_in result.now.source table ≡ row_count self.now table }
         ensures readable { IsReadable result.now.source }
