@@ -46,7 +46,7 @@ all_nothing : {X Y : Type 0} (f : Y → List X) (ys : List Y) → ((y : Y) → f
 all_nothing f [] none = refl
 all_nothing f (y ∷ ys) none = ap (λ xs. xs ++ flat_map f ys) (none y) ∙ all_nothing f ys none
 
-take_of_nothing : {X : Type 0} (n : ℕ) (xs : List X) → xs ≡ [] → take n xs ≡ []
+pub take_of_nothing : {X : Type 0} (n : ℕ) (xs : List X) → xs ≡ [] → take n xs ≡ []
 take_of_nothing zero xs is = refl
 take_of_nothing (suc n) xs is = ap (λ ys. take (suc n) ys) is
 
@@ -56,18 +56,18 @@ test_holds true x is = refl
 test_holds false x is = cc
 
 -- numbers of a range
-all_nothing_in : {X : Type 0} (f : ℕ → List X) (a n : ℕ) → ((m : ℕ) → a ≤ m → m < a + n → f m ≡ []) → flat_map f (range_with_len a n) ≡ []
+pub all_nothing_in : {X : Type 0} (f : ℕ → List X) (a n : ℕ) → ((m : ℕ) → a ≤ m → m < a + n → f m ≡ []) → flat_map f (range_with_len a n) ≡ []
 all_nothing_in f a zero none = refl
 all_nothing_in f a (suc n) none =
     ap (λ xs. xs ++ flat_map f (range_with_len (a + 1) n)) (none a (omega arith) (omega arith))
     ∙ all_nothing_in f (a + 1) n (λ m low high. none m (omega (arith, low)) (omega (arith, high)))
 
 -- a test that holds adds nothing
-adds_nothing : {X : Type 0} (test : Bool) (x : X) → test ≡ true → cond test [] (x ∷ []) ≡ []
+pub adds_nothing : {X : Type 0} (test : Bool) (x : X) → test ≡ true → cond test [] (x ∷ []) ≡ []
 adds_nothing test x is = ap (λ t. cond t [] (x ∷ [])) is
 
 -- a column is ignored, or its cells are the same
-either_holds : (ignored same : Bool) → (ignored ≡ false → same ≡ true) → (ignored || same) ≡ true
+pub either_holds : (ignored same : Bool) → (ignored ≡ false → same ≡ true) → (ignored || same) ≡ true
 either_holds true same holds = refl
 either_holds false same holds = holds refl
 

@@ -1,3 +1,4 @@
+pub mod AlikeLemmas
 pub mod CellTests
 pub mod GrowthLemmas
 pub mod SignatureLemmas

@@ -1,3 +1,4 @@
+pub mod Alike
 pub mod Differences
 pub mod EqualBut
 pub mod Ignored

@@ -15,7 +15,7 @@ use std::alloc::{AllocError, Global};
 /// and then the first cells that differ, at most `limit`. If `limit` is not 0, there is none if and only if the views
 /// have the same model.
 ///
-/// Each cell is read once, until `limit` are found. A signature is decoded only if its blobs have other bytes.
+/// The cells are compared as [`differing_cells`](crate::differing_cells) does.
 ///
 /// # Errors
 ///

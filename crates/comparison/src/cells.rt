@@ -1,13 +1,16 @@
 //! The cells of two views that differ.
-ghost use Rattle.std.specs.Prelude.{◌≡◌, ◌≤◌, ◌<◌, IfOk, OnOk, All, length, take};
+ghost use Rattle.std.specs.Prelude.{◌≡◌, ◌≤◌, ◌<◌, IfOk, IsTrue, OnOk, All, length, take};
 ghost use Rattle.table_schema.specs.CellColumns.{cell_count};
 ghost use Rattle.metadata.specs.Metadata.{Metadata};
 ghost use Rattle.metadata.specs.Model.{IsModel};
+ghost use Rattle.metadata.specs.SourceAt.{source_of};
 ghost use Rattle.opening.specs.Views.{row_count};
+ghost use Rattle.comparison.specs.Alike.{AreAlike, AreSameParts};
 ghost use Rattle.comparison.specs.Differences.{Grows, IsThere, cell_difference, cell_differences, cell_differences_but, row_differences, table_differences};
 
 use crate::difference::Difference;
 use crate::ignored::IgnoredColumns;
+use crate::same_bytes::{SameParts, have_same_root, is_same_row, is_same_table};
 use crate::same_cells::same_cell;
 use metadata_source::kind_of;
 use opening::{CellCursor, TableId, View};
@@ -17,7 +20,9 @@ use table_schema::cell_count;
 /// The first cells that differ, at most `limit`, in the order of tables, rows and columns. Only rows that both views
 /// have are compared.
 ///
-/// Each cell is read once, until `limit` are found. A signature is decoded only if its blobs have other bytes.
+/// If the roots have the same bytes, no cell is read. Otherwise each cell is read at most once, until `limit` are found,
+/// and none of a table or a row whose bytes show that it is the same. A signature is decoded only if its blobs have other
+/// bytes.
 ///
 /// # Errors
 ///
@@ -52,15 +57,20 @@ pub fn differing_cells_but(
         → IfOk result (λ found. found.items ≡ take limit (cell_differences_but ignored.now first second)) }
     ensures there { IfOk result (λ found. All (IsThere left.now right.now) found.items) }
 {
+    let mut found = Vec::new(alloc);
+    if have_same_root(left, right) {
+        return Ok(found);
+    }
+    let same = SameParts::of(left.source(), right.source());
     let mut left_cells = CellCursor::new(left);
     let mut right_cells = CellCursor::new(right);
-    let mut found = Vec::new(alloc);
     for table in TableId::all() {
         find_in_table(
             alloc,
             &mut left_cells,
             &mut right_cells,
             *table,
+            &same,
             ignored,
             limit,
             &mut found,
@@ -69,16 +79,18 @@ pub fn differing_cells_but(
     Ok(found)
 }
 
-/// Adds the cells of a table that differ, up to the limit.
+/// Adds the cells of a table that differ, up to the limit. No cell is read if the bytes of the rows decide that none differs.
 fn find_in_table(
     alloc: Global,
     left: &mut CellCursor<'_, '_>,
     right: &mut CellCursor<'_, '_>,
     table: TableId,
+    same: &SameParts,
     ignored: &IgnoredColumns,
     limit: usize,
     found: &mut Vec<Difference>,
 ) -> Result<(), AllocError>
+    requires same { AreSameParts (source_of left.old) (source_of right.old) same.now }
     requires few { length found.old.items ≤ limit }
     ensures left { left.new ≡ left.old }
     ensures right { right.new ≡ right.old }
@@ -87,7 +99,12 @@ fn find_in_table(
     ensures sound { (first second : Metadata) → IsModel left.old first → IsModel right.old second
         → OnOk result (Grows limit found.old.items found.new.items (table_differences ignored.now first second table)) }
 {
-    let count = left.view().count(table).min(right.view().count(table));
+    let (left_view, right_view) = (left.view(), right.view());
+    let alike = same.decide(table);
+    if is_same_table(left_view, right_view, table, alike) {
+        return Ok(());
+    }
+    let count = left_view.count(table).min(right_view.count(table));
     for earlier in 0..count {
         find_in_row(
             alloc,
@@ -95,6 +112,7 @@ fn find_in_table(
             right,
             table,
             earlier + 1,
+            alike,
             ignored,
             limit,
             found,
@@ -103,17 +121,20 @@ fn find_in_table(
     Ok(())
 }
 
-/// Adds the cells of a row that differ, up to the limit.
+/// Adds the cells of a row that differ, up to the limit. `alike` says that equal numbers in the rows of the table stand for
+/// equal cells.
 fn find_in_row(
     alloc: Global,
     left: &mut CellCursor<'_, '_>,
     right: &mut CellCursor<'_, '_>,
     table: TableId,
     row: u32,
+    alike: bool,
     ignored: &IgnoredColumns,
     limit: usize,
     found: &mut Vec<Difference>,
 ) -> Result<(), AllocError>
+    requires alike { IsTrue alike → AreAlike (source_of left.old) (source_of right.old) table }
     requires first { 1 ≤ row }
     requires left { row ≤ row_count left.old table }
     requires right { row ≤ row_count right.old table }
@@ -126,6 +147,9 @@ fn find_in_row(
         → OnOk result (Grows limit found.old.items found.new.items (row_differences ignored.now first second table row)) }
 {
     if found.len() == limit {
+        return Ok(());
+    }
+    if is_same_row(left.view(), right.view(), table, row, alike) {
         return Ok(());
     }
     for cell_index in 0..cell_count(table) {

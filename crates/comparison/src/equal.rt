@@ -11,7 +11,8 @@ use std::alloc::{AllocError, Global};
 
 /// Whether two views have the same model. Then their canonical roots are the same bytes.
 ///
-/// Each cell is read once, up to the first that differs.
+/// If the roots have the same bytes, no cell is read. Otherwise cells are read up to the first that differs, and none of
+/// a table or a row whose bytes show that it is the same.
 ///
 /// # Errors
 ///

@@ -22,6 +22,7 @@ mod ignored;
 pub mod laws;
 mod outlines;
 mod root_digest;
+mod same_bytes;
 mod same_cells;
 mod user_strings;
 

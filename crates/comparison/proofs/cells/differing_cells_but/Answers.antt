@@ -3,10 +3,28 @@ use Rattle.table_schema.specs.declared.table.TableId.{TableId}
 use Rattle.table_schema.specs.declared.table.TableId.TheVariants.{Module}
 use Rattle.table_schema.specs.Tables.{tables}
 use Rattle.metadata.specs.Model.{IsModel}
+use Rattle.metadata.specs.Source.{Source}
+use Rattle.metadata.specs.SourceAt.{source_of}
+use Rattle.comparison.specs.Alike.{AreSameParts}
 use Rattle.comparison.specs.declared.difference.Difference.{Difference}
-use Rattle.comparison.specs.Differences.{Grows, table_differences}
+use Rattle.comparison.specs.Differences.{Grows, cell_differences_but, table_differences}
 use Rattle.comparison.proofs.CellSteps.{item_found, tables_are, there_kept}
+use Rattle.comparison.proofs.EqualLemmas.{take_of_nothing}
 use Rattle.comparison.proofs.cells.differing_cells_but.Goals as goal
+
+pub returns-then-have_same_root-clause-sound : goal.returns-then-have_same_root-clause-sound
+returns-then-have_same_root-clause-sound c = λ first second is also.
+    c.new-found.ensures.items ∙ sym (take_of_nothing c.args.limit (cell_differences_but c.args.ignored.now first second)
+    (c.have_same_root.ensures.cells c.if-have_same_root.true c.args.ignored.now first second is also))
+
+pub find_in_table-requires-clause-same : goal.find_in_table-requires-clause-same
+find_in_table-requires-clause-same c =
+    let loop = c.loop-table.invariant in
+    let same = c.of-same.result in
+    subst (λ (root : List ℕ). AreSameParts (source_of c.loop-table.left_cells) (source_of root) same) (sym loop.right)
+    (subst (λ (root : List ℕ). AreSameParts (source_of root) (source_of c.args.right.now) same) (sym loop.left)
+    (subst (λ (s : Source). AreSameParts s (source_of c.args.right.now) same) c.source.ensures.source
+    (subst (λ (s : Source). AreSameParts c.source.result.now.source s same) c.source-2.ensures.source c.of-same.ensures)))
 
 pub loop-table-preserved : goal.loop-table-preserved
 loop-table-preserved c =

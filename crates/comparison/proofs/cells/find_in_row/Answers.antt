@@ -1,10 +1,26 @@
 use Rattle.std.proofs.Common.{◌≡◌, ◌∙◌, ℕ, List, subst, sym, arith}
 use Rattle.table_schema.specs.CellColumns.{cell_count}
 use Rattle.metadata.specs.Model.{IsModel}
+use Rattle.metadata.specs.SourceAt.{source_of}
+use Rattle.comparison.specs.Alike.{AreAlike}
 use Rattle.comparison.specs.declared.difference.Difference.{Difference}
 use Rattle.comparison.specs.Differences.{Grows, cell_difference}
+use Rattle.comparison.proofs.GrowthLemmas.{grows_nothing}
 use Rattle.comparison.proofs.CellSteps.{number_found, row_is, there_kept}
 use Rattle.comparison.proofs.cells.find_in_row.Goals as goal
+
+pub is_same_row-requires-clause-alike : goal.is_same_row-requires-clause-alike
+is_same_row-requires-clause-alike c = λ true.
+    subst (λ (root : List ℕ). AreAlike (source_of c.view.result.now) (source_of root) c.args.table) (sym c.view-2.ensures.view)
+    (subst (λ (root : List ℕ). AreAlike (source_of root) (source_of c.args.right.now) c.args.table) (sym c.view.ensures.view) (c.requires.alike true))
+
+pub returns-then-is_same_row-clause-sound : goal.returns-then-is_same_row-clause-sound
+returns-then-is_same_row-clause-sound c = λ first second is also.
+    let none = c.is_same_row.ensures c.if-is_same_row.true c.args.ignored.now first second
+    (subst (λ (root : List ℕ). IsModel root first) (sym c.view.ensures.view) is)
+    (subst (λ (root : List ℕ). IsModel root second) (sym c.view-2.ensures.view) also) in
+    subst (λ (more : List Difference). Grows c.args.limit c.args.found.now.items c.args.found.now.items more) (sym none)
+    (grows_nothing c.args.limit c.args.found.now.items c.requires.few)
 
 pub loop-cell_index-preserved : goal.loop-cell_index-preserved
 loop-cell_index-preserved c =

@@ -1,10 +1,34 @@
 use Rattle.std.proofs.Common.{◌≡◌, ◌∙◌, ◌+◌, ℕ, List, ap₂, min, subst, sym, arith}
 use Rattle.metadata.specs.Metadata.{count_in}
 use Rattle.metadata.specs.Model.{IsModel}
+use Rattle.metadata.specs.SourceAt.{source_of}
+use Rattle.comparison.specs.Alike.{AreAlike}
 use Rattle.comparison.specs.declared.difference.Difference.{Difference}
-use Rattle.comparison.specs.Differences.{Grows, row_differences}
+use Rattle.comparison.specs.Differences.{Grows, row_differences, table_differences}
+use Rattle.comparison.proofs.GrowthLemmas.{grows_nothing}
 use Rattle.comparison.proofs.CellSteps.{number_found, table_is, there_kept}
 use Rattle.comparison.proofs.cells.find_in_table.Goals as goal
+
+pub is_same_table-requires : goal.is_same_table-requires
+is_same_table-requires c = λ true.
+    subst (λ (root : List ℕ). AreAlike (source_of c.view-left_view.result.now) (source_of root) c.args.table) (sym c.view-right_view.ensures.view)
+    (subst (λ (root : List ℕ). AreAlike (source_of root) (source_of c.args.right.now) c.args.table) (sym c.view-left_view.ensures.view)
+    ((c.decide-alike.ensures (source_of c.args.left.now) (source_of c.args.right.now) c.requires.same).0 true))
+
+pub returns-then-is_same_table-clause-sound : goal.returns-then-is_same_table-clause-sound
+returns-then-is_same_table-clause-sound c = λ first second is also.
+    let none = c.is_same_table.ensures c.if-is_same_table.true c.args.ignored.now first second
+    (subst (λ (root : List ℕ). IsModel root first) (sym c.view-left_view.ensures.view) is)
+    (subst (λ (root : List ℕ). IsModel root second) (sym c.view-right_view.ensures.view) also) in
+    subst (λ (more : List Difference). Grows c.args.limit c.args.found.now.items c.args.found.now.items more) (sym none)
+    (grows_nothing c.args.limit c.args.found.now.items c.requires.few)
+
+pub find_in_row-requires-clause-alike : goal.find_in_row-requires-clause-alike
+find_in_row-requires-clause-alike c = λ true.
+    let loop = c.loop-earlier.invariant in
+    subst (λ (root : List ℕ). AreAlike (source_of c.loop-earlier.left) (source_of root) c.args.table) (sym loop.right)
+    (subst (λ (root : List ℕ). AreAlike (source_of root) (source_of c.args.right.now) c.args.table) (sym loop.left)
+    ((c.decide-alike.ensures (source_of c.args.left.now) (source_of c.args.right.now) c.requires.same).0 true))
 
 pub loop-earlier-preserved : goal.loop-earlier-preserved
 loop-earlier-preserved c =
@@ -23,8 +47,8 @@ loop-earlier-preserved c =
 
 pub returns-clause-sound : goal.returns-clause-sound
 returns-clause-sound c = λ first second is also.
-    let left = c.count.ensures.model first (subst (λ (root : List ℕ). IsModel root first) (sym c.view.ensures.view) is) in
-    let right = c.count-2.ensures.model second (subst (λ (root : List ℕ). IsModel root second) (sym c.view-2.ensures.view) also) in
+    let left = c.count.ensures.model first (subst (λ (root : List ℕ). IsModel root first) (sym c.view-left_view.ensures.view) is) in
+    let right = c.count-2.ensures.model second (subst (λ (root : List ℕ). IsModel root second) (sym c.view-right_view.ensures.view) also) in
     let last : c.loop-earlier.earlier ≡ c.min-count.result = omega (arith, c.loop-earlier-test.false, c.loop-earlier.auto.earlier-end) in
     let all : c.loop-earlier.earlier ≡ min (count_in first c.args.table) (count_in second c.args.table) = last ∙ c.min-count.ensures ∙ ap₂ min left right in
     subst (λ (more : List Difference). Grows c.args.limit c.args.found.now.items c.loop-earlier.found.items more) (table_is c.args.ignored.now first second c.args.table c.loop-earlier.earlier all)

@@ -1,0 +1,10 @@
+use Rattle.std.proofs.Common.{◌≡◌, ◌≢◌, ℕ, ◌<◌}
+use Rattle.table_schema.specs.declared.table.TableId.{TableId}
+use Rattle.table_schema.specs.declared.column.ColumnKind.TheVariants.{List}
+use Rattle.table_schema.specs.Columns.{column_at}
+use Rattle.metadata.specs.Source.{number_of}
+use Rattle.comparison.proofs.same_bytes.has_null_start.Given as goal
+
+abbrev pub invariant-loop-column : goal.invariant-loop-column
+invariant-loop-column l = (column : ℕ) → column < l.column → (member : TableId) → (column_at l.table column).kind ≡ List member
+    → number_of l.source.source l.table l.row column ≢ 0
