@@ -3,7 +3,7 @@ use Rattle.std.proofs.Common.{◌≡◌, ℕ, ℤ, zero, suc, ◌≤◌, cond, e
 use Rattle.std.specs.Prelude.{option_map, option_and_then, slice_get, codes, pos}
 use Rattle.std.proofs.lemmas.Bool.Decides.{nat_tests}
 use Rattle.sig_grammar.specs.Reading.{Reader, change, both, number_at, signed_at, many_at, counted_within, shape_with, shape_from, shape_at}
-use Rattle.sig_text.specs.SignatureText.{Piece, word, dimensions_text, shape_text}
+use Rattle.sig_text.specs.SignatureText.{Piece, word, dimensions_text, written_dimensions, shape_text}
 use Rattle.sig_text.specs.Shown.{number_or, signed_or, numbers_behind, next_of, dimensions_shown, shape_shown}
 use Rattle.sig_text.proofs.Options.{if_bind, if_map, if_cond, if_both, if_more, if_read}
 
@@ -105,12 +105,17 @@ within_read r read same most b =
     (if_both (λ y. many_at r x.0 x.1 ≡ Some y) (λ y. length y.0 ≡ x.0) (many_at r x.0 x.1) (itself (many_at r x.0 x.1)) (count_read r read same x.0 x.1))
     (λ y f. let le : x.0 ≤ most = grind (arith, nat_tests) in rw e (le, f.0, f.1))))
 
+-- each dimension with a lower bound is written
+low_written : (rank sizes low : ℕ) → low ≤ rank → low ≤ written_dimensions rank sizes low
+low_written rank sizes low h = grind (arith, nat_tests)
+
 shape_is : (b : List ℕ) (rank : ℕ × List ℕ) (sizes : List ℕ × List ℕ) (low : List ℤ × List ℕ) → number_or b ≡ rank → Counted number_at rank.0 rank.1 sizes → Counted signed_at rank.0 sizes.1 low
     → shape_shown b ≡ (shape_text (shape_with rank.0 (sizes.0, low.0)), low.1)
 unfolding shape_shown
 shape_is b rank sizes low e p q =
     let end : numbers_behind (number_or rank.1).0 (number_or rank.1).1 ≡ sizes.1 = of_read (number_or rank.1).0 (number_or rank.1).1 p.1 in
-    let all = dimensions_read rank.0 [] (number_or rank.1) (number_or sizes.1) sizes.0 low.0 sizes.1 low.1 p.1 q.1 q.0 in
+    let written : ℕ = written_dimensions rank.0 (number_or rank.1).0 (number_or sizes.1).0 in
+    let all = dimensions_read written [] (number_or rank.1) (number_or sizes.1) sizes.0 low.0 sizes.1 low.1 p.1 q.1 (low_written rank.0 (number_or rank.1).0 (number_or sizes.1).0 q.0) in
     rw (e, end, all, ← p.2, ← q.2) refl
   where
     of_some : (o : Option (List ℕ × List ℕ)) (k : ℕ) (c : List ℕ) → IfSome o (λ x. numbers_behind k c ≡ x.1) → o ≡ Some sizes → numbers_behind k c ≡ sizes.1

@@ -10,7 +10,7 @@ use Rattle.sig_grammar.specs.declared.element.Element.{Element}
 use Rattle.sig_grammar.specs.declared.body.Prefix.{Prefix}
 use Rattle.sig_grammar.specs.ElementTypes.{VOID, PTR, BYREF, VALUETYPE, CLASS, VAR, ARRAY, GENERICINST, TYPEDBYREF, FNPTR, SZARRAY, MVAR, SENTINEL}
 use Rattle.sig_grammar.specs.Reading.{number_at, signed_at, index_at, prefix_at, head_is, element_of}
-use Rattle.sig_text.specs.SignatureText.{Piece, word, number, name, method_name, param_name, comma, following, prefix_text, element_text, kind_text, dimension_text, mark_text, flag_text, call_text, arity_text}
+use Rattle.sig_text.specs.SignatureText.{Piece, word, number, name, method_name, param_name, comma, following, prefix_text, element_text, kind_text, dimension_text, written_dimensions, rank_text, mark_text, flag_text, call_text, arity_text}
 
 -- the pieces of what is at the start, and the bytes after it
 abbrev pub Shown : Type 0
@@ -77,8 +77,9 @@ shape_shown b =
     let rank = number_or b in
     let sizes = number_or rank.1 in
     let low = number_or (numbers_behind sizes.0 sizes.1) in
-    let all = dimensions_shown [] rank.0 sizes low in
-    (word (codes "[") ∷ (mark_text rank.0 sizes.0 low.0 ++ (all.0 ++ word (codes "]") ∷ [])), all.1)
+    let written = written_dimensions rank.0 sizes.0 low.0 in
+    let all = dimensions_shown [] written sizes low in
+    (word (codes "[") ∷ (mark_text rank.0 sizes.0 low.0 ++ (all.0 ++ (rank_text rank.0 written ++ word (codes "]") ∷ []))), all.1)
 
 -- ---- types; the reader shows a type without modifiers, from its first byte and the bytes after it
 

@@ -1,5 +1,5 @@
 -- The text of a signature in the notation of ILAsm (ECMA-335 II.7.1, II.14.2, II.15.3), as the pieces that a sink receives.
-use Rattle.std.specs.Prelude.{ℕ, zero, suc, ◌+◌, ◌==◌, ◌&&◌, ℤ, pos, ◌+ℤ◌, ◌-ℤ◌, Bool, if◌then◌else◌, Option, Some, None, slice_get, drop, length, List, [], ◌∷◌, ◌++◌, codes}
+use Rattle.std.specs.Prelude.{ℕ, zero, suc, ◌+◌, ◌==◌, ◌&&◌, ℤ, pos, ◌+ℤ◌, ◌-ℤ◌, nat_le, max, Bool, if◌then◌else◌, Option, Some, None, slice_get, drop, length, List, [], ◌∷◌, ◌++◌, codes}
 use Rattle.table_schema.specs.declared.token.Token.{Token}
 use Rattle.sig_grammar.specs.declared.element.Element.{Element}
 use Rattle.sig_grammar.specs.declared.element.Element.TheVariants.{Boolean, Char, I1, U1, I2, U2, I4, U4, I8, U8, R4, R8, String, I, U, Object}
@@ -84,9 +84,19 @@ dimensions_text before (suc n) sizes low =
 abbrev pub mark_text : ℕ → ℕ → ℕ → List Piece
 mark_text rank sizes low = if rank == 1 && sizes == 0 && low == 0 then word (codes "...") ∷ [] else []
 
+-- The number of dimensions that are written one by one. Six bytes can encode a rank of 2^29 - 1 (II.23.2.13). So of more than
+-- 32 dimensions only those are written that have a size or a lower bound.
+abbrev pub written_dimensions : ℕ → ℕ → ℕ → ℕ
+written_dimensions rank sizes low = if nat_le rank 32 then rank else max sizes low
+
+-- the rank, if not all dimensions are written
+abbrev pub rank_text : ℕ → ℕ → List Piece
+rank_text rank written = if written == rank then [] else word (codes ",... rank ") ∷ number rank ∷ []
+
 abbrev pub shape_text : ArrayShape → List Piece
 shape_text s =
-    word (codes "[") ∷ (mark_text s.rank (length s.sizes) (length s.low) ++ (dimensions_text [] s.rank s.sizes s.low ++ word (codes "]") ∷ []))
+    let written = written_dimensions s.rank (length s.sizes) (length s.low) in
+    word (codes "[") ∷ (mark_text s.rank (length s.sizes) (length s.low) ++ (dimensions_text [] written s.sizes s.low ++ (rank_text s.rank written ++ word (codes "]") ∷ [])))
 
 -- calling conventions (II.15.3)
 unfoldable pub convention_text : CallingConvention → List ℕ

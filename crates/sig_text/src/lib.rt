@@ -6,18 +6,22 @@
 //! as types nest, at most 128.
 //!
 //! The text of a signature is the definition `text_of` in `specs/SignatureText.antt`. It is proved that a sink receives
-//! its pieces and nothing else, until it refuses one (`specs/Receives.antt`).
+//! its pieces and nothing else, until it refuses one (`specs/Receives.antt`). It is linear in the bytes of the blob and
+//! the names (`laws`): of an array of rank more than 32 the rank is written, and only the dimensions with a size or a bound.
 //!
 //! ```text
 //! // 20 02 01 08 1D 0E: an instance method without result; its parameters are an integer and a vector of strings
 //! method instance void *(int32, string[])
 //! // 14 08 02 00 01 00: an array of two dimensions, the first with lower bound 0
 //! int32[0...,]
+//! // 14 08 DF FF FF FF 01 03 00: an array of 2^29 - 1 dimensions, the first with size 3
+//! int32[3,... rank 536870911]
 //! ```
 #![tactic(auto)]
 
 mod declared;
 mod head;
+pub mod laws;
 mod marks;
 mod named;
 mod shape;

@@ -2,10 +2,13 @@ ghost use Rattle.std.specs.Prelude.{◌≡◌, [], is_some, IfSome, pos, ◌+ℤ
 ghost use Rattle.sig_text.specs.Receives.{Receives};
 ghost use Rattle.sig_text.specs.Refused.{refused_after};
 ghost use Rattle.sig_text.specs.Shown.{number_or, signed_or, numbers_behind, next_of, before as before_piece, dimensions_shown, shape_shown};
-ghost use Rattle.sig_text.specs.SignatureText.{dimension_text, mark_text};
+ghost use Rattle.sig_text.specs.SignatureText.{dimension_text, mark_text, rank_text, written_dimensions as dimensions_to_write};
 
 use crate::head::{number, signed};
 use crate::sink::TextSink;
+
+/// The greatest rank of which each dimension is written.
+const FULL_RANK: u32 = 32;
 
 /// The bytes after `count` numbers.
 fn behind_numbers(bytes: &[u8], count: u32) -> &[u8]
@@ -79,25 +82,35 @@ pub fn before<S: TextSink>(sink: &mut S, separator: &str, done: u32) -> Option<(
     sink.text(separator)
 }
 
-/// Writes the dimensions of a shape, and returns the bytes after their lower bounds. `rank` is their number. The sizes
-/// are at the start of the first bytes, and the lower bounds at the start of the second.
+/// The number of dimensions that are written one by one, from the rank and the numbers of sizes and of lower bounds.
+fn written_dimensions(rank: u32, sizes: u32, low: u32) -> u32
+    ensures { result ≡ dimensions_to_write rank sizes low }
+{
+    if rank <= FULL_RANK {
+        return rank;
+    }
+    sizes.max(low)
+}
+
+/// Writes the first `count` dimensions of a shape, and returns the bytes after their lower bounds. The sizes are at the
+/// start of the first bytes, and the lower bounds at the start of the second.
 fn dimensions<'a, S: TextSink>(
     sink: &mut S,
-    rank: u32,
+    count: u32,
     size_count: u32,
     sizes: &[u8],
     low_count: u32,
     bounds: &'a [u8],
 ) -> Option<&'a [u8]>
     ensures words { S.refused sink.new ≡ refused_after result (S.refused sink.old) }
-    ensures pieces { Receives S.gives sink.old (dimensions_shown [] rank (size_count, sizes.now) (low_count, bounds.now)).0 (is_some result) sink.new }
-    ensures tail { IfSome result (λ tail. tail.now ≡ (dimensions_shown [] rank (size_count, sizes.now) (low_count, bounds.now)).1) }
+    ensures pieces { Receives S.gives sink.old (dimensions_shown [] count (size_count, sizes.now) (low_count, bounds.now)).0 (is_some result) sink.new }
+    ensures tail { IfSome result (λ tail. tail.now ≡ (dimensions_shown [] count (size_count, sizes.now) (low_count, bounds.now)).1) }
 {
     let mut sizes_left = size_count;
     let mut size_bytes = sizes;
     let mut low_left = low_count;
     let mut low_bytes = bounds;
-    for done in 0..rank {
+    for done in 0..count {
         before(sink, ",", done)?;
         let (size, left, tail) = next_size(sizes_left, size_bytes);
         sizes_left = left;
@@ -121,6 +134,18 @@ fn mark<S: TextSink>(sink: &mut S, rank: u32, sizes: u32, low: u32) -> Option<()
     Some(())
 }
 
+/// Writes the rank, if not all dimensions were written.
+fn unwritten<S: TextSink>(sink: &mut S, rank: u32, written: u32) -> Option<()>
+    ensures words { S.refused sink.new ≡ refused_after result (S.refused sink.old) }
+    ensures pieces { Receives S.gives sink.old (rank_text rank written) (is_some result) sink.new }
+{
+    if written == rank {
+        return Some(());
+    }
+    sink.text(",... rank ")?;
+    sink.number(rank)
+}
+
 /// Writes the shape of an array (II.23.2.13), and returns the bytes after it.
 pub fn shape<'a, S: TextSink>(sink: &mut S, bytes: &'a [u8]) -> Option<&'a [u8]>
     ensures words { S.refused sink.new ≡ refused_after result (S.refused sink.old) }
@@ -130,9 +155,11 @@ pub fn shape<'a, S: TextSink>(sink: &mut S, bytes: &'a [u8]) -> Option<&'a [u8]>
     let (rank, tail) = number(bytes);
     let (size_count, sizes) = number(tail);
     let (low_count, low) = number(behind_numbers(sizes, size_count));
+    let written = written_dimensions(rank, size_count, low_count);
     sink.text("[")?;
     mark(sink, rank, size_count, low_count)?;
-    let tail = dimensions(sink, rank, size_count, sizes, low_count, low)?;
+    let tail = dimensions(sink, written, size_count, sizes, low_count, low)?;
+    unwritten(sink, rank, written)?;
     sink.text("]")?;
     Some(tail)
 }
