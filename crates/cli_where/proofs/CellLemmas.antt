@@ -4,7 +4,7 @@ use Rattle.table_schema.specs.declared.table.TableId.{TableId}
 use Rattle.schema.specs.Sizes.{Sizes}
 use Rattle.locations.specs.Cells.{HasCell}
 use Rattle.locations.specs.declared.cells.TableCell.{TableCell}
-use Rattle.cli_where.specs.Regions.{region_text}
+use Rattle.cli_regions.specs.Regions.{region_text}
 use Rattle.cli_where.specs.Cells.{IsCellAt, cell_region, cell_text}
 
 module _ (sizes : Sizes) (start offset : ℕ) (text : List ℕ) where

@@ -9,7 +9,7 @@ use Rattle.packed.specs.Packed.{IsPacked}
 use Rattle.cli_where.specs.Kept.{IsRun, IsRunAt, IsRunOf}
 use Rattle.cli_where.specs.declared.entries.Run.{Run}
 use Rattle.cli_where.specs.Entries.{Heap}
-use Rattle.cli_where.specs.Regions.{has_byte}
+use Rattle.cli_regions.specs.Regions.{has_byte}
 
 both : (a b : Bool) → (a && b) ≡ true → (a ≡ true) × (b ≡ true)
 both true b is = (refl, is)

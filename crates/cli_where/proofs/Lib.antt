@@ -1,5 +1,4 @@
-pub mod RegionLemmas
-pub mod LoopLemmas
+pub mod JoinLemmas
 pub mod HeaderLemmas
 pub mod CellLemmas
 pub mod EntryLemmas

@@ -5,7 +5,7 @@ use Rattle.std.specs.List.{range_with_len}
 use Rattle.std.proofs.lemmas.Grind.{flat_map-append}
 use Rattle.schema.specs.Sizes.{Sizes}
 use Rattle.locations.specs.declared.cells.TableCell.{TableCell}
-use Rattle.cli_where.specs.Regions.{Region, has_byte, region, region_text}
+use Rattle.cli_regions.specs.Regions.{Region, has_byte, region, region_text}
 use Rattle.cli_where.specs.Entries.{Heaps, IsEntryOf, IsNamedBy, entries, entry_words, first_lines, listed}
 
 pub no_lines : (tail : List Region) → first_lines 0 tail ≡ []

@@ -1,7 +1,7 @@
 -- The lines of a root and of a file, part by part.
 use Rattle.std.proofs.Common.{◌≡◌, ◌∙◌, ℕ, List, ◌++◌, ap, sym, append_assoc}
-use Rattle.cli_where.specs.Regions.{Region, lines_at}
-use Rattle.cli_where.proofs.RegionLemmas.{lines_after}
+use Rattle.cli_regions.specs.Regions.{Region, lines_at}
+use Rattle.cli_where.proofs.JoinLemmas.{lines_after}
 
 -- what follows the lines of structures
 pub lines_then : (line cell : List ℕ) (offset : ℕ) (first tail : List Region)

@@ -3,7 +3,7 @@ use Rattle.std.proofs.Common.{◌≡◌, ◌∙◌, ℕ, ◌+◌, ◌<◌, ◌�
 use Rattle.std.proofs.lemmas.Bool.{both_ways}
 use Rattle.packed.specs.Packed.{IsPacked}
 use Rattle.heap_entries.specs.Entries.{IsBlob, IsCounted, IsUserString, UserText}
-use Rattle.cli_where.specs.Regions.{has_byte}
+use Rattle.cli_regions.specs.Regions.{has_byte}
 use Rattle.cli_where.specs.UserStrings.{AreUsers, IsUserAt}
 use Rattle.cli_where.proofs.EntryLemmas.{has_from}
 

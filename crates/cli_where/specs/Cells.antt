@@ -7,8 +7,8 @@ use Rattle.schema.specs.ColumnNames.{column_names_of}
 use Rattle.schema.specs.Offsets.{cell_start}
 use Rattle.locations.specs.Cells.{HasCell}
 use Rattle.locations.specs.declared.cells.TableCell.{TableCell}
-use Rattle.cli_where.specs.Regions.{Region, region, region_text}
-use Rattle.cli_where.specs.Headers.{table_words}
+use Rattle.cli_regions.specs.Regions.{Region, region, region_text}
+use Rattle.cli_regions.specs.Headers.{table_words}
 
 -- the cell of a table stream at this offset of the file has the byte, or no cell has it
 abbrev pub IsCellAt : Sizes → ℕ → ℕ → Option TableCell → Type 0

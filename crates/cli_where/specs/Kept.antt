@@ -6,7 +6,7 @@ use Rattle.cli_where.specs.declared.entries.Target.{Target}
 use Rattle.locations.specs.declared.cells.TableCell.{TableCell}
 use Rattle.rows.specs.Cells.{Stream}
 use Rattle.cli_where.specs.Entries.{Heap, Heaps, IsEntryOf, IsStringAt}
-use Rattle.cli_where.specs.Regions.{Region, has_byte}
+use Rattle.cli_regions.specs.Regions.{Region, has_byte}
 
 abbrev pub heap_of : KeptHeap → Heap
 heap_of heap = record { bytes = heap.bytes.now; start = heap.start }

@@ -1,6 +1,3 @@
-pub mod Regions
-pub mod Fields
-pub mod Headers
 pub mod Cells
 pub mod Entries
 pub mod Kept

@@ -4,7 +4,7 @@ use Rattle.heap_entries.specs.Entries.{UserText}
 use Rattle.table_schema.specs.Tokens.{hexadecimal}
 use Rattle.cli_strings.specs.Strings.{IsEntry}
 use Rattle.cli_where.specs.Entries.{Heap}
-use Rattle.cli_where.specs.Regions.{Region, has_byte, region, region_text}
+use Rattle.cli_regions.specs.Regions.{Region, has_byte, region, region_text}
 
 -- the user string at an index of the heap has this number of bytes, those of its packed length included
 pub record IsUserAt (heap : List ℕ) (index size : ℕ) : Type 0 where

@@ -8,16 +8,17 @@ use Rattle.metadata.specs.Metadata.{Metadata}
 use Rattle.metadata.specs.Model.{IsModel, IsModelOfFile}
 use Rattle.metadata.specs.SourceAt.{tables_in, tables_offset}
 use Rattle.metadata.specs.Streams.{root_in}
+use Rattle.opening.specs.Views.{HasImage}
 use Rattle.cli_reports.specs.RowTexts.{line_feed}
 use Rattle.cli_where.specs.declared.report.Found.{Found}
 use Rattle.cli_where.specs.declared.report.Found.TheVariants.{Something, Nothing}
-use Rattle.cli_where.specs.Regions.{lines_at}
-use Rattle.cli_where.specs.Headers.{header_regions, root_start}
+use Rattle.cli_regions.specs.Regions.{lines_at}
+use Rattle.cli_regions.specs.Files.{header_regions, root_start}
 use Rattle.cli_where.specs.Cells.{IsCellText}
 use Rattle.cli_where.specs.Entries.{AreEntryLines, heap_at, heaps_at}
 use Rattle.cli_where.specs.UserStrings.{IsUserLine}
 
--- The lines after those of headers, streams and row counts, of a root at an offset of the file: of the cell that has the
+-- The lines after those of headers, sections, streams and row counts, of a root at an offset of the file: of the cell that has the
 -- byte, of the heap entries that have it, by the cells that name them, and of the user string that has it.
 abbrev pub AreInnerLines : ℕ → List ℕ → ℕ → List ℕ → Type 0
 AreInnerLines start root offset lines =
@@ -27,16 +28,21 @@ AreInnerLines start root offset lines =
     × (lines ≡ cell ++ (named ++ user))
 
 -- The lines of the structures that have the byte at an offset of a file with this CLI header and root, outermost first:
--- headers, streams and row counts, then the cell, and then heap entries.
-abbrev pub AreLines : Option CliHeader → List ℕ → ℕ → List ℕ → Type 0
-AreLines header root offset lines =
-    (inner : List ℕ) × AreInnerLines (root_start header) root offset inner × (lines ≡ lines_at offset (header_regions header root) ++ inner)
+-- headers, sections, streams and row counts, then the cell, and then heap entries.
+abbrev pub AreLines : List ℕ → Option CliHeader → List ℕ → ℕ → List ℕ → Type 0
+AreLines file header root offset lines =
+    (inner : List ℕ) × AreInnerLines (root_start header) root offset inner × (lines ≡ lines_at offset (header_regions file header root) ++ inner)
 
 -- the bytes have a model, and these are their CLI header and metadata root; bare bytes are a root without a header
 abbrev pub AreParts : Bool → List ℕ → Option CliHeader → List ℕ → Type 0
 AreParts true bytes header root = (model : Metadata) × IsModel bytes model × (header ≡ None) × (root ≡ bytes)
 AreParts false bytes header root =
     (found : CliHeader) × (model : Metadata) × IsModelOfFile bytes found model × (header ≡ Some found) × (root ≡ root_in bytes found)
+
+-- the file has a model with this CLI header; nothing is said of bare bytes
+abbrev pub IsOpened : List ℕ → Option CliHeader → Type 0
+IsOpened file None = Unit {0}
+IsOpened file (Some header) = HasImage file header
 
 -- the offsets of a CLI header and of its metadata root are those of a file of at most 2^30 bytes
 abbrev pub IsLow : Option CliHeader → Type 0
@@ -56,5 +62,5 @@ text_of (first ∷ tail) = first ∷ tail
 -- what `clim where` prints of the byte at an offset, and whether some structure has the byte
 abbrev pub IsWhere : Bool → List ℕ → ℕ → Found → List ℕ → Type 0
 IsWhere bare bytes offset found text =
-    (header : Option CliHeader) × (root : List ℕ) × AreParts bare bytes header root × (lines : List ℕ) × AreLines header root offset lines
+    (header : Option CliHeader) × (root : List ℕ) × AreParts bare bytes header root × (lines : List ℕ) × AreLines bytes header root offset lines
     × (found ≡ found_of lines) × (text ≡ text_of lines)

@@ -5,10 +5,9 @@ ghost use Rattle.schema.specs.ColumnNames.{column_names_of};
 ghost use Rattle.schema.specs.Offsets.{tables_end};
 ghost use Rattle.schema.specs.Sizes.{count_of};
 ghost use Rattle.cli_where.specs.Cells.{IsCellText, cell_region, cell_words};
-ghost use Rattle.cli_where.specs.Regions.{region_text};
+ghost use Rattle.cli_regions.specs.Regions.{region_text};
 
-use crate::regions::push_span;
-use crate::table_stream::push_table;
+use cli_regions::{push_span, push_table};
 use cli_reports::push_decimal;
 use locations::{TableCell, cell_at};
 use schema::{Layout, column_names};
@@ -40,7 +39,7 @@ pub(crate) fn push_cell_words(cell: TableCell, line: &mut Vec<u8>) -> Result<(),
 }
 
 /// Appends the line of a cell of a table stream that is at offset `start` of the file.
-#[tactic(auto, unfolding(crate::specs::Regions::region_text))]
+#[tactic(auto, unfolding(cli_regions::specs::Regions::region_text))]
 fn push_cell_line(
     layout: &Layout,
     cell: TableCell,

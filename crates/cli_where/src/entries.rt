@@ -4,9 +4,9 @@ ghost use Rattle.heap_entries.specs.Entries.{IsCounted};
 ghost use Rattle.table_schema.specs.declared.column.ColumnKind.{ColumnKind as Kind};
 ghost use Rattle.cli_where.specs.Entries.{IsBlobAt, IsGuidAt, IsNamed, IsStringAt, entry_word};
 ghost use Rattle.cli_where.specs.Kept.{AreReady, IsLow, IsRunAt, IsRunOf, heap_of, heaps_of};
-ghost use Rattle.cli_where.specs.Regions.{has_byte};
+ghost use Rattle.cli_regions.specs.Regions.{has_byte};
 
-use crate::regions::has_byte;
+use cli_regions::has_byte;
 use memchr::{memchr, memrchr};
 use packed::read_unsigned;
 use table_schema::ColumnKind;

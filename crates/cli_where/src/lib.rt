@@ -1,8 +1,9 @@
 //! Prints what a byte of a file belongs to: `clim where` (ECMA-335 II.22 to II.25).
 //!
 //! [`report_where`] opens the bytes in place and prints a line for each structure that has the byte at an offset, from
-//! the outermost to the innermost: the CLI header, the metadata root, its stream headers and streams, the field, row
-//! count or cell of the table stream, and the heap entries, with the cells that name them or their token.
+//! the outermost to the innermost: the PE headers, the section, the CLI header, the metadata root, its stream headers and
+//! streams, the field, row count or cell of the table stream, and the heap entries, with the cells that name them or their
+//! token.
 //!
 //! ```text
 //! report_where(rt.alloc(), false, &file, 0x2d4, &mut out)? == Found::Something
@@ -11,13 +12,9 @@
 
 mod cells;
 mod entries;
-mod fields;
-mod headers;
 mod named_entries;
-mod regions;
 mod report;
 mod root_lines;
-mod table_stream;
 mod user_strings;
 
 pub use report::{Found, report_where};

@@ -5,11 +5,11 @@ ghost use Rattle.schema.specs.Sizes.{count_of};
 ghost use Rattle.locations.specs.declared.cells.TableCell.{TableCell as Cell};
 ghost use Rattle.cli_where.specs.Entries.{AreEntryLines, IsEntryOf, IsNamedBy, all_cells, entries, entry_words, first_lines, kind_of, listed, row_cells, table_cells};
 ghost use Rattle.cli_where.specs.Kept.{AreFound, AreReady, heaps_of};
-ghost use Rattle.cli_where.specs.Regions.{Region, has_byte, region, region_text};
+ghost use Rattle.cli_regions.specs.Regions.{Region, has_byte, region, region_text};
 
 use crate::cells::push_cell_words;
 use crate::entries::{Span, Target, entry_at, entry_word};
-use crate::regions::push_span;
+use cli_regions::push_span;
 use locations::TableCell;
 use rows::Rows;
 use std::alloc::AllocError;
@@ -41,7 +41,7 @@ fn entry_of(rows: &Rows<'_>, target: &Target<'_>, cell: TableCell) -> Option<Spa
 }
 
 /// Appends the line of an entry that a cell names.
-#[tactic(auto, unfolding(crate::specs::Regions::region_text))]
+#[tactic(auto, unfolding(cli_regions::specs::Regions::region_text))]
 fn push_entry(span: Span, cell: TableCell, line: &mut Vec<u8>) -> Result<(), AllocError>
     requires { cell.column < length (columns_of cell.table) }
     ensures { OnOk result (line.new.items ≡ line.old.items ++ region_text (region span.start span.size (entry_words cell))) }

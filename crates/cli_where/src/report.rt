@@ -1,24 +1,27 @@
 //! Opens a file and prints what a byte of it belongs to.
 ghost use Rattle.std.specs.Prelude.{◌≡◌, ◌++◌, ℕ, List, IfErr, IfOk, OnOk, Option};
 ghost use Rattle.cli_header.specs.declared.header.CliHeader.{CliHeader as Header};
-ghost use Rattle.packed.specs.Rule.{FirstBroken};
-ghost use Rattle.opening.specs.Views.{HasModel};
+ghost use Rattle.packed.specs.Rule.{AllHold, FirstBroken};
+ghost use Rattle.pe.specs.Headers.{image_of};
+ghost use Rattle.pe.specs.Rules.{rules_of_image};
+ghost use Rattle.opening.specs.Views.{HasImage, HasModel};
 ghost use Rattle.cli_faults.specs.Status.{IsOutput};
 ghost use Rattle.cli_reports.specs.Checked.{IsWhole, rules_of};
 ghost use Rattle.cli_reports.specs.Reported.{LeavesOutput, ReportsFault};
 ghost use Rattle.cli_reports.specs.Sent.{Prints};
-ghost use Rattle.cli_where.specs.Headers.{file_regions, root_start};
-ghost use Rattle.cli_where.specs.Regions.{lines_at};
-ghost use Rattle.cli_where.specs.Where.{AreLines, AreParts, IsLow, IsWhere, found_of, text_of};
+ghost use Rattle.cli_regions.specs.Files.{file_regions, root_start};
+ghost use Rattle.cli_regions.specs.Regions.{lines_at};
+ghost use Rattle.cli_where.specs.Where.{AreLines, AreParts, IsLow, IsOpened, IsWhere, found_of, text_of};
 ghost use Rattle.cli_where.specs.declared.report.Found.{Found as TheFound};
 
-use crate::headers::push_cli_header;
 use crate::root_lines::push_root;
 use cli_faults::{Failure, printed};
 use cli_header::CliHeader;
+use cli_regions::push_file;
 use cli_reports::finish;
 use opening::{View, open_image, open_root};
 use packed::Fault;
+use pe::{Pe, read_pe};
 use std::alloc::{AllocError, Global};
 use std::io::{self, Write};
 
@@ -36,6 +39,7 @@ fn open_parts(bytes: &[u8], bare: bool) -> Result<(Option<CliHeader>, View<'_>),
     ensures sound { IfOk result (λ _. IsWhole bare bytes.now) }
     ensures parts { IfOk result (λ parts. (header : Option Header) (root : List ℕ) → AreParts bare bytes.now header root
         → (parts.0 ≡ header) × (parts.1 ≡ root)) }
+    ensures opened { IfOk result (λ parts. IsOpened bytes.now parts.0) }
     ensures low { IfOk result (λ parts. IsLow parts.0) }
     ensures first_error { IfErr result (FirstBroken (rules_of bare bytes.now)) }
 {
@@ -47,13 +51,31 @@ fn open_parts(bytes: &[u8], bare: bool) -> Result<(Option<CliHeader>, View<'_>),
     Ok((Some(header), view))
 }
 
-/// Appends the lines of the CLI header that have the byte, if there is one.
-fn push_file(header: &Option<CliHeader>, offset: u64, line: &mut Vec<u8>) -> Result<(), AllocError>
-    requires { IsLow header.now }
-    ensures { OnOk result (line.new.items ≡ line.old.items ++ lines_at offset (file_regions header.now)) }
+/// The image that a file with a model is.
+fn image_in<'a>(file: &'a [u8], header: &CliHeader) -> Pe<'a>
+    requires { HasImage file.now header.now }
+    ensures image { result ≡ image_of file.now }
+    ensures rules { AllHold (rules_of_image file.now) }
+{
+    match read_pe(file) {
+        Ok(pe) => pe,
+        Err(_) => unreachable!(),
+    }
+}
+
+/// Appends the lines of the headers and sections of a file that have the byte. Bare bytes have none of them.
+fn push_headers(
+    file: &[u8],
+    header: &Option<CliHeader>,
+    offset: u64,
+    line: &mut Vec<u8>,
+) -> Result<(), AllocError>
+    requires opened { IsOpened file.now header.now }
+    requires low { IsLow header.now }
+    ensures { OnOk result (line.new.items ≡ line.old.items ++ lines_at offset (file_regions file.now header.now)) }
 {
     match header {
-        Some(header) => push_cli_header(header, offset, line),
+        Some(header) => push_file(&image_in(file, header), header, offset, line),
         None => Ok(()),
     }
 }
@@ -72,16 +94,18 @@ fn start_of(header: &Option<CliHeader>) -> u64
 /// The lines of the structures that have the byte.
 fn lines_of(
     alloc: Global,
+    file: &[u8],
     header: &Option<CliHeader>,
     root: &[u8],
     offset: u64,
 ) -> Result<Vec<u8>, AllocError>
     requires model { HasModel root.now }
+    requires opened { IsOpened file.now header.now }
     requires low { IsLow header.now }
-    ensures { IfOk result (λ lines. (text : List ℕ) → AreLines header.now root.now offset text → lines.items ≡ text) }
+    ensures { IfOk result (λ lines. (text : List ℕ) → AreLines file.now header.now root.now offset text → lines.items ≡ text) }
 {
     let mut lines = Vec::new(alloc);
-    push_file(header, offset, &mut lines)?;
+    push_headers(file, header, offset, &mut lines)?;
     push_root(root, start_of(header), offset, &mut lines)?;
     Ok(lines)
 }
@@ -110,19 +134,21 @@ fn found_in(lines: &[u8]) -> Found
 /// Prints the lines of the structures that have the byte, or `nothing`.
 fn print_where<W: Write>(
     alloc: Global,
+    file: &[u8],
     header: &Option<CliHeader>,
     root: &[u8],
     offset: u64,
     out: &mut W,
 ) -> Result<Found, Failure<'static>>
     requires model { HasModel root.now }
+    requires opened { IsOpened file.now header.now }
     requires low { IsLow header.now }
     ensures failed { IfErr result IsOutput }
-    ensures outcome { (lines : List ℕ) → AreLines header.now root.now offset lines → IfOk result (λ it. it ≡ found_of lines) }
-    ensures printed { (lines : List ℕ) → AreLines header.now root.now offset lines
+    ensures outcome { (lines : List ℕ) → AreLines file.now header.now root.now offset lines → IfOk result (λ it. it ≡ found_of lines) }
+    ensures printed { (lines : List ℕ) → AreLines file.now header.now root.now offset lines
         → Prints (W.contents out.old) (W.contents out.new) result (text_of lines) }
 {
-    let lines = match lines_of(alloc, header, root, offset) {
+    let lines = match lines_of(alloc, file, header, root, offset) {
         Ok(lines) => lines,
         Err(_) => return Err(Failure::OutOfMemory),
     };
@@ -136,7 +162,10 @@ fn print_where<W: Write>(
 /// Each structure that has the byte gets a line, the outermost first: its offset in the file and its size in bytes, both
 /// in decimal, and what it is. Lines are those of
 ///
-/// - the CLI header and its field (II.25.3.3);
+/// - the MS-DOS header, the PE signature, the PE file header, the optional header, a data directory or a section header, and
+///   its field (II.25.2, II.25.3);
+/// - each section that has the byte in the file: its number from 1 and its name (II.25.3);
+/// - the CLI header and its field, and what it names except the metadata root (II.25.3.3);
 /// - the metadata root and its field, or a stream header and its field (II.24.2.1, II.24.2.2);
 /// - the streams of the standard, which may overlap;
 /// - the field or row count of the table stream (II.24.2.6), or the cell: its table, its row from 1, and its column from
@@ -145,9 +174,9 @@ fn print_where<W: Write>(
 ///   ten cells that name one. The NUL of a string and the packed length of a blob count (II.24.2.3 to II.24.2.5);
 /// - the user string that has the byte, with its token, if `clim strings` walks over it (II.24.2.4, III.1.9).
 ///
-/// If no structure has the byte, or the offset is not before the end, it prints `nothing`. A name in a stream header is
-/// escaped. Its memory is that of the lines, which are fewer than thirty. After opening it takes one pass over the cells
-/// and one over `#US`, so its time is that of opening.
+/// If no structure has the byte, or the offset is not before the end, it prints `nothing`. The name of a stream or section is
+/// escaped. Its memory is that of the lines: at most one for each section, and fewer than fifty others. After opening it
+/// takes one pass over the sections, one over the cells and one over `#US`, so its time is that of opening.
 ///
 /// # Errors
 ///
@@ -172,5 +201,5 @@ pub fn report_where<W: Write>(
         → Prints (W.contents out.old) (W.contents out.new) result text }
 {
     let (header, view) = open_parts(bytes, bare)?;
-    print_where(alloc, &header, view.root(), offset, out)
+    print_where(alloc, bytes, &header, view.root(), offset, out)
 }

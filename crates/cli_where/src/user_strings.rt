@@ -1,11 +1,11 @@
 //! Appends the line of the user string that has a byte (II.24.2.4).
 ghost use Rattle.std.specs.Prelude.{◌≡◌, ◌≤◌, ◌<◌, ◌+◌, ◌++◌, ◌^◌, ℕ, List, OnOk, IfSome, IfNone, IsSomeAnd, length, true};
 ghost use Rattle.cli_where.specs.Kept.{IsLow, heap_of};
-ghost use Rattle.cli_where.specs.Regions.{has_byte, region_text};
+ghost use Rattle.cli_regions.specs.Regions.{has_byte, region_text};
 ghost use Rattle.cli_where.specs.UserStrings.{IsListed, IsUserAt, IsUserLine, user_region};
 
 use crate::entries::{Heap, blob_size};
-use crate::regions::{has_byte, push_span};
+use cli_regions::{has_byte, push_span};
 use cli_reports::push_word;
 use heap_entries::user_string;
 use std::alloc::AllocError;
@@ -65,7 +65,7 @@ fn user_entry(heap: &Heap<'_>, offset: u64) -> Option<UserEntry>
 }
 
 /// Appends the line of a user string of a heap that is at offset `start` of the file.
-#[tactic(auto, unfolding(crate::specs::Regions::region_text))]
+#[tactic(auto, unfolding(cli_regions::specs::Regions::region_text))]
 fn push_user_line(start: u64, entry: UserEntry, line: &mut Vec<u8>) -> Result<(), AllocError>
     requires start { start ≤ 0x80000000 }
     requires token { entry.index < 2 ^ 24 }
@@ -78,7 +78,7 @@ fn push_user_line(start: u64, entry: UserEntry, line: &mut Vec<u8>) -> Result<()
 }
 
 /// Appends the line of the user string that has the byte, if there is one.
-#[tactic(auto, unfolding(crate::specs::Regions::region_text))]
+#[tactic(auto, unfolding(cli_regions::specs::Regions::region_text))]
 pub(crate) fn push_user_string(
     heap: &Heap<'_>,
     offset: u64,

@@ -1,6 +1,6 @@
 use Rattle.std.proofs.Common.{◌++◌, ◌∙◌, ap, append-nil, arith, sym}
 use Rattle.cli_where.proofs.CellLemmas.{none_text, one_text}
-use Rattle.cli_where.proofs.RegionLemmas.{on_ok}
+use Rattle.cli_where.proofs.JoinLemmas.{on_ok}
 use Rattle.cli_where.proofs.cells.push_cell.Goals as goal
 
 pub returns-then-offset-start : goal.returns-then-offset-start

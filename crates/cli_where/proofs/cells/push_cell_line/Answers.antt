@@ -2,8 +2,8 @@ use Rattle.std.proofs.Common.{◌++◌, ◌+◌, ◌∷◌, [], ◌∙◌, ap}
 use Rattle.schema.specs.Cells.{cell_width}
 use Rattle.schema.specs.Offsets.{cell_start}
 use Rattle.cli_where.specs.Cells.{cell_words}
-use Rattle.cli_where.specs.Regions.{region_text, span_text}
-use Rattle.cli_where.proofs.RegionLemmas.{three_joined}
+use Rattle.cli_regions.specs.Regions.{region_text, span_text}
+use Rattle.cli_where.proofs.JoinLemmas.{three_joined}
 use Rattle.cli_where.proofs.cells.push_cell_line.Goals as goal
 
 pub returns : goal.returns

@@ -1,8 +1,8 @@
 use Rattle.std.proofs.Common.{◌++◌, ◌∷◌, [], ◌∙◌, ap, codes, decimal, slice_index_or}
 use Rattle.schema.specs.ColumnNames.{column_names_of}
 use Rattle.cli_where.specs.Cells.{cell_words}
-use Rattle.cli_where.specs.Headers.{table_words}
-use Rattle.cli_where.proofs.RegionLemmas.{appended, eight_joined, on_ok}
+use Rattle.cli_regions.specs.Headers.{table_words}
+use Rattle.cli_where.proofs.JoinLemmas.{appended, eight_joined, on_ok}
 use Rattle.cli_where.proofs.cells.push_cell_words.Goals as goal
 
 pub returns : goal.returns

@@ -4,7 +4,7 @@ use Rattle.std.proofs.lemmas.List.{drop_all}
 use Rattle.table_schema.specs.declared.table.TableId.TheVariants.{Module}
 use Rattle.table_schema.specs.Tables.{tables}
 use Rattle.cli_where.specs.Entries.{all_cells, entries, table_cells}
-use Rattle.cli_where.proofs.LoopLemmas.{first_left}
+use Rattle.cli_where.proofs.JoinLemmas.{first_left}
 use Rattle.cli_where.proofs.NamedLemmas.{all_lines, cells_end, cells_more, none_of_none}
 use Rattle.cli_where.proofs.named_entries.push_entries.Goals as goal
 

@@ -4,7 +4,7 @@ use Rattle.table_schema.specs.Tables.{tables}
 use Rattle.locations.specs.declared.cells.TableCell.{TableCell}
 use Rattle.cli_where.specs.Entries.{all_cells, entries, first_lines, table_cells}
 use Rattle.cli_where.specs.Kept.{AreFound, heaps_of}
-use Rattle.cli_where.specs.Regions.{Region}
+use Rattle.cli_regions.specs.Regions.{Region}
 use Rattle.cli_where.proofs.named_entries.push_entries.Given as goal
 
 abbrev pub invariant-loop-table : goal.invariant-loop-table

@@ -1,7 +1,7 @@
 use Rattle.std.proofs.Common.{◌++◌, ◌∙◌, ap, arith, sym}
 use Rattle.cli_where.specs.Entries.{entry_words, first_lines, listed}
 use Rattle.cli_where.specs.Kept.{heaps_of}
-use Rattle.cli_where.specs.Regions.{region}
+use Rattle.cli_regions.specs.Regions.{region}
 use Rattle.cli_where.proofs.NamedLemmas.{found_is, none_left, one_more}
 use Rattle.cli_where.proofs.named_entries.push_named.Goals as goal
 

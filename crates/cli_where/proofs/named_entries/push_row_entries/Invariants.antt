@@ -4,7 +4,7 @@ use Rattle.table_schema.specs.Columns.{columns_of}
 use Rattle.locations.specs.declared.cells.TableCell.{TableCell}
 use Rattle.cli_where.specs.Entries.{cell_of, entries, first_lines, row_cells}
 use Rattle.cli_where.specs.Kept.{AreFound, heaps_of}
-use Rattle.cli_where.specs.Regions.{Region}
+use Rattle.cli_regions.specs.Regions.{Region}
 use Rattle.cli_where.proofs.named_entries.push_row_entries.Given as goal
 
 abbrev pub invariant-loop-column : goal.invariant-loop-column

@@ -4,7 +4,7 @@ use Rattle.schema.specs.Sizes.{count_of}
 use Rattle.locations.specs.declared.cells.TableCell.{TableCell}
 use Rattle.cli_where.specs.Entries.{entries, first_lines, row_cells, table_cells}
 use Rattle.cli_where.specs.Kept.{AreFound, heaps_of}
-use Rattle.cli_where.specs.Regions.{Region}
+use Rattle.cli_regions.specs.Regions.{Region}
 use Rattle.cli_where.proofs.named_entries.push_table_entries.Given as goal
 
 abbrev pub invariant-loop-row : goal.invariant-loop-row

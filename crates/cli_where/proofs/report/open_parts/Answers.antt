@@ -17,6 +17,9 @@ returns-clause-parts c = λ header root are.
     let same = c.in_ok-header.ensures.complete is.0 is.1 is.2 in
     (ap (λ h. Some h) same ∙ sym is.3, c.in_ok-header.ensures.view ∙ ap (root_in c.args.bytes.now) same ∙ sym is.4)
 
+pub returns-clause-opened : goal.returns-clause-opened
+returns-clause-opened c = c.in_ok-header.ensures.sound
+
 pub returns-clause-low : goal.returns-clause-low
 returns-clause-low c =
     (header_low c.args.bytes.now c.in_ok-header.header c.in_ok-header.ensures.sound, root_low c.args.bytes.now c.in_ok-header.header c.in_ok-header.ensures.sound)

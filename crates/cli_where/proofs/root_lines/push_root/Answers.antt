@@ -2,10 +2,10 @@ use Rattle.std.proofs.Common.{◌++◌, ◌+◌, ◌∷◌, ◌∙◌, ap, codes
 use Rattle.std.specs.List.{flat_map}
 use Rattle.root.specs.Fields.{root_read, version_length}
 use Rattle.metadata.specs.SourceAt.{tables_in, tables_offset}
-use Rattle.cli_where.specs.Fields.{fields_from, root_fields}
-use Rattle.cli_where.specs.Headers.{root_regions, stream_header_regions, stream_regions, streams, table_stream_regions}
-use Rattle.cli_where.specs.Regions.{lines_at, region}
-use Rattle.cli_where.proofs.RegionLemmas.{on_ok}
+use Rattle.cli_regions.specs.Fields.{fields_from, root_fields}
+use Rattle.cli_regions.specs.Headers.{root_regions, stream_header_regions, stream_regions, streams, table_stream_regions}
+use Rattle.cli_regions.specs.Regions.{lines_at, region}
+use Rattle.cli_where.proofs.JoinLemmas.{on_ok}
 use Rattle.cli_where.proofs.RootLemmas.{four_parts}
 use Rattle.cli_where.proofs.root_lines.push_root.Goals as goal
 

@@ -9,9 +9,9 @@ use Rattle.metadata.specs.SourceAt.{tables_in, tables_offset}
 use Rattle.cli_where.specs.Cells.{IsCellText}
 use Rattle.cli_where.specs.Entries.{AreEntryLines, heap_at, heaps_at}
 use Rattle.cli_where.specs.UserStrings.{IsUserLine}
-use Rattle.cli_where.specs.Headers.{table_stream_regions}
-use Rattle.cli_where.specs.Regions.{lines_at}
-use Rattle.cli_where.proofs.RegionLemmas.{on_ok, inner_joined}
+use Rattle.cli_regions.specs.Headers.{table_stream_regions}
+use Rattle.cli_regions.specs.Regions.{lines_at}
+use Rattle.cli_where.proofs.JoinLemmas.{on_ok, inner_joined}
 use Rattle.cli_where.proofs.root_lines.push_tables.Goals as goal
 
 pub returns : goal.returns

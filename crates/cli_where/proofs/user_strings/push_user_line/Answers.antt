@@ -1,7 +1,7 @@
 use Rattle.std.proofs.Common.{◌++◌, ◌+◌, ◌*◌, ◌^◌, ◌∷◌, [], ◌∙◌, ap, codes}
 use Rattle.table_schema.specs.Tokens.{hexadecimal}
-use Rattle.cli_where.specs.Regions.{region_text, span_text}
-use Rattle.cli_where.proofs.RegionLemmas.{word_joined}
+use Rattle.cli_regions.specs.Regions.{region_text, span_text}
+use Rattle.cli_where.proofs.JoinLemmas.{word_joined}
 use Rattle.cli_where.proofs.user_strings.push_user_line.Goals as goal
 
 pub returns : goal.returns

@@ -1,5 +1,5 @@
 use Rattle.std.proofs.Common.{◌≡◌, ◌≤◌, ◌+◌, ℕ, List, true}
-use Rattle.cli_where.specs.Regions.{has_byte}
+use Rattle.cli_regions.specs.Regions.{has_byte}
 use Rattle.cli_where.specs.UserStrings.{AreUsers, IsListed}
 use Rattle.cli_where.proofs.user_strings.user_entry.Given as goal
 

@@ -1,0 +1,6 @@
+pub mod RegionLemmas
+pub mod LoopLemmas
+pub mod CountLemmas
+pub mod PeLemmas
+pub mod NulLemmas
+pub mod FileLemmas

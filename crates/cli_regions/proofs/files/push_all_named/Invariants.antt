@@ -1,0 +1,10 @@
+use Rattle.std.proofs.Common.{◌≡◌, ◌++◌, drop}
+use Rattle.std.specs.List.{flat_map}
+use Rattle.cli_regions.specs.Files.{named_by, named_regions}
+use Rattle.cli_regions.specs.Regions.{lines_at}
+use Rattle.cli_regions.proofs.files.push_all_named.Given as goal
+
+abbrev pub invariant-loop-named : goal.invariant-loop-named
+invariant-loop-named l =
+    l.line.items ++ lines_at l.offset (flat_map (named_regions l.pe) (drop l.named-index (named_by l.header)))
+    ≡ l.initial.line.items ++ lines_at l.offset (flat_map (named_regions l.pe) (named_by l.header))

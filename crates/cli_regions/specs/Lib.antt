@@ -1,0 +1,6 @@
+pub mod Regions
+pub mod Fields
+pub mod Headers
+pub mod PeHeaders
+pub mod Files
+pub mod Kept
