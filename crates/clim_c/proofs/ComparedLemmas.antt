@@ -1,5 +1,5 @@
 -- The first of all that differs between two models.
-use Rattle.std.proofs.Common.{◌≡◌, ◌∙◌, ℕ, List, [], ◌∷◌, ◌++◌, length, take, Option, None, Some, slice_get, refl, sym, ap, subst, arith}
+use Rattle.std.proofs.Common.{◌≡◌, ◌∙◌, List, [], ◌∷◌, ◌++◌, length, take, Option, slice_get, refl, sym, ap, subst, arith}
 use Rattle.metadata.specs.Metadata.{Metadata}
 use Rattle.comparison.specs.Differences.{cell_differences, outline_differences}
 use Rattle.comparison.specs.declared.difference.Difference.{Difference}

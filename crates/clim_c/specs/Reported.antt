@@ -1,5 +1,5 @@
 -- The cell that a C caller receives (II.22).
-use Rattle.std.specs.Prelude.{◌≡◌, ℕ, List, [], replicate, Some, None}
+use Rattle.std.specs.Prelude.{ℕ, List, [], replicate, Some, None}
 use Rattle.table_schema.specs.declared.table.TableId.{TableId}
 use Rattle.table_schema.specs.Tables.{table_number}
 use Rattle.table_schema.specs.CellColumns.{column_of}
@@ -9,12 +9,8 @@ use Rattle.metadata.specs.SourceAt.{source_of}
 use Rattle.reading.specs.declared.cell_ref.CellRef.{CellRef}
 use Rattle.reading.specs.declared.cell_ref.CellRef.TheVariants.{Number, Text, Bytes, Guid, Ref, Start, Sig}
 use Rattle.reading.specs.Shown.{ShowsCell, ShowsBlob}
-use Rattle.clim_c.specs.declared.reported_cell.ClimCell.{ClimCell}
-
--- the cell for C has this kind, these bytes, this number, this table and this GUID
-abbrev pub HasFields : ClimCell → ℕ → List ℕ → ℕ → ℕ → List ℕ → Type 0
-HasFields reported kind bytes number table guid =
-    (reported.kind ≡ kind) × (reported.bytes.now ≡ bytes) × (reported.number ≡ number) × (reported.table ≡ table) × (reported.guid ≡ guid)
+use Rattle.c_tables.specs.declared.cell.ClimCell.{ClimCell}
+use Rattle.c_tables.specs.Cells.{HasFields}
 
 -- the GUID field of a cell that is not a GUID
 abbrev pub no_guid : List ℕ

@@ -33,6 +33,18 @@ fn canonical_root(alloc: Global, view: &ClimView) -> Result<Prepared, usize>
     }
 }
 
+/// Writes a root into a buffer, if there is room for all of it, and returns its length.
+pub(crate) fn write_whole(root: &Prepared, buffer: &mut [u8]) -> usize
+    ensures bytes { HasWhole buffer.old root.now buffer.new }
+    ensures length { result ≡ length root.now }
+{
+    let bytes = root.bytes();
+    if bytes.len() <= buffer.len() {
+        copy_at(buffer, 0, bytes);
+    }
+    bytes.len()
+}
+
 /// Writes the canonical root of a view into a buffer, if there is room for all of it, and returns its length (II.24.2).
 /// Otherwise the buffer is unchanged. Returns 0 if the view is not open, `CLIM_TOO_LONG` if the root would have more than
 /// 2^30 bytes, and `CLIM_NO_MEMORY` if memory runs out.
@@ -43,13 +55,7 @@ pub extern "C" fn clim_canonical_root(alloc: Global, view: &ClimView, buffer: &m
     ensures refused { ((view.now.is_open ≡ true) × (result ≤ 2 ^ 30)) ⊎ ((buffer.new ≡ buffer.old) × IsNoRoot view.now.is_open view.now.root.now result) }
 {
     match canonical_root(alloc, view) {
-        Ok(root) => {
-            let bytes = root.bytes();
-            if bytes.len() <= buffer.len() {
-                copy_at(buffer, 0, bytes);
-            }
-            bytes.len()
-        }
+        Ok(root) => write_whole(&root, buffer),
         Err(reason) => reason,
     }
 }

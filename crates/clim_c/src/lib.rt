@@ -1,9 +1,9 @@
 //! The C interface of `opening`: checks a file, opens it and reads it in place (ECMA-335 II.22 to II.25).
 //!
 //! `c/clim.h` declares the exports, says what a caller must ensure, and has an example. Only `clim_canonical_root`,
-//! `clim_digest` and `clim_compare` allocate. Nothing is kept between calls, except in what the caller holds. Nothing
-//! checks that a C caller meets a precondition, so no function has one: each tests its arguments, and its result says
-//! whether it rejected them.
+//! `clim_digest`, `clim_compare` and `clim_tables` allocate. Nothing is kept between calls, except in what the caller
+//! holds. Nothing checks that a C caller meets a precondition, so no function has one: each tests its arguments, and its
+//! result says whether it rejected them.
 #![tactic(auto)]
 
 pub mod canonical_root;
@@ -11,12 +11,13 @@ pub mod compared;
 pub mod difference;
 pub mod explained;
 pub mod fault;
+pub mod given_tables;
+pub mod laws;
 pub mod located;
 pub mod look_ups;
 pub mod names;
 pub mod opened;
 pub mod read_header;
-pub mod reported_cell;
 pub mod shown;
 pub mod signature_text;
 pub mod streams;
@@ -24,3 +25,5 @@ pub mod text_parts;
 pub mod user_strings;
 pub mod view;
 pub mod view_parts;
+
+pub use c_tables::{ClimCell, ClimRefusal, ClimRow};

@@ -1,4 +1,3 @@
-use Rattle.std.proofs.Common.{ap, length, arith}
 use Rattle.std.proofs.lemmas.Grind.{not_there}
 use Rattle.clim_c.proofs.located.directory_of.Goals as goal
 

@@ -1,4 +1,4 @@
-use Rattle.std.proofs.Common.{◌≡◌, ◌∙◌, ℕ, ◌+◌, ◌-◌, ◌<◌, ◌≤◌, IfNone, List, ap, sym, subst, unwrap_or, arith}
+use Rattle.std.proofs.Common.{◌≡◌, ◌∙◌, ℕ, ◌+◌, ◌-◌, ◌<◌, ◌≤◌, IfNone, ap, sym, subst, unwrap_or, arith}
 use Rattle.std.specs.Option.{option_map}
 use Rattle.root.specs.Streams.{range_of}
 use Rattle.root.specs.declared.kind.Kind.TheVariants.{Tables}

@@ -1,4 +1,4 @@
-use Rattle.std.proofs.Common.{◌≡◌, ◌%◌, ◌^◌, ℕ, List, sym, subst, ◌∙◌, ap}
+use Rattle.std.proofs.Common.{◌%◌, ◌^◌, ℕ, List, sym, subst, ◌∙◌, ap}
 use Rattle.heap_entries.specs.Entries.{IsUserString}
 use Rattle.heap_entries.specs.Padding.{zero_padded}
 use Rattle.opening.specs.Views.{user_of}

@@ -1,8 +1,9 @@
-/// A cell of a row, for C (II.22). The fields that do not belong to its kind are 0 or no bytes.
+/// A cell of a row, for C (II.22). In a cell that a call writes, the fields that do not belong to its kind are 0 or no
+/// bytes. In a cell that is given, nothing looks at them.
 #[repr(C)]
 #[derive(Clone, Copy)]
 pub struct ClimCell<'a> {
-    /// A text, a blob or a signature blob: a part of the root.
+    /// A text, a blob or a signature blob.
     pub bytes: &'a [u8],
     /// A number, the number of a row, or the first member of a run.
     pub number: u32,
@@ -15,16 +16,10 @@ pub struct ClimCell<'a> {
 }
 
 impl<'a> ClimCell<'a> {
-    ghost use Rattle.clim_c.specs.Reported.{HasFields};
+    ghost use Rattle.c_tables.specs.Cells.{HasFields};
 
     /// A cell by its fields.
-    pub(crate) fn new(
-        kind: u8,
-        bytes: &'a [u8],
-        number: u32,
-        table: u8,
-        guid: [u8; 16],
-    ) -> ClimCell<'a>
+    pub fn new(kind: u8, bytes: &'a [u8], number: u32, table: u8, guid: [u8; 16]) -> ClimCell<'a>
         ensures { HasFields result kind bytes.now number table guid }
     {
         ClimCell {
