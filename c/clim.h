@@ -1,4 +1,5 @@
-/* clim for C: checks, opens and reads the metadata of a .NET assembly in place (ECMA-335 II.22 to II.25).
+/* clim for C: checks, opens and reads the metadata of a .NET assembly in place, and makes new metadata (ECMA-335 II.22 to
+ * II.25).
  *
  *     clim_view view = CLIM_CLOSED;
  *     clim_fault fault = CLIM_NO_FAULT;
@@ -12,8 +13,9 @@
  * result is what its contract in crates/clim_c says. No function keeps state between calls, so threads may call them at
  * the same time. Rows count from 1. Columns, which are the cells of a row, count from 0.
  *
- * Memory: only clim_canonical_root, clim_digest and clim_compare allocate. They call malloc, realloc and free, and free
- * all of it before they return. So none of them is called in a signal handler, or after fork in a process with threads.
+ * Memory: only clim_canonical_root, clim_digest, clim_compare and clim_tables allocate. They call malloc, realloc and
+ * free, and free all of it before they return. So none of them is called in a signal handler, or after fork in a process
+ * with threads.
  *
  * A call on a view reads the directory of the root and the row counts again, but no heap. It takes about 3
  * microseconds, for a small file and for one of 5 MB alike; a crafted root of 200 kB with 16,000 stream headers makes
@@ -22,24 +24,25 @@
  * take some 50 milliseconds for a file of 5 MB, and allocate some 12 MB then.
  *
  * Errors: clim_check, clim_open, clim_read_header and their variants return false and write a clim_fault, or say that a
- * budget is spent. clim_canonical_root, clim_digest and clim_compare say if memory runs out. Any other call has no
- * error: for a view that is not open, and for a number that names nothing, it returns false, 0 or no bytes. A fault has
- * no table, row or column, only the offset of what is wrong.
+ * budget is spent. clim_tables returns 0 and writes a clim_refusal. clim_canonical_root, clim_digest, clim_compare and
+ * clim_tables say if memory runs out. Any other call has no error: for a view that is not open, and for a number that
+ * names nothing, it returns false, 0 or no bytes. A fault has no table, row or column, only the offset of what is wrong;
+ * a refusal has these, and no offset.
  *
  * Sizes: a clim_view has 5,208 bytes. No other call needs memory but its stack. None of these figures is proved:
- * up to 128 kB in the calls that check or open, up to 384 kB in clim_canonical_root, clim_digest and clim_compare (64
- * kB, and more for nested types), up to 192 kB in clim_signature_text, and up to 48 kB in any other call. So a thread
- * needs CLIM_STACK bytes beside its own. The first was measured at calls that do the same as those of this library: to check took 46 kB
- * for an assembly and 54 kB for a root whose types are nested 127 deep in a signature; to open took 73 kB and 82 kB.
- * For a file with such types they add up to 61 kB and 89 kB.
+ * up to 128 kB in the calls that check or open, up to 384 kB in clim_canonical_root, clim_digest, clim_compare and
+ * clim_tables (64 kB, and more for nested types), up to 192 kB in clim_signature_text, and up to 48 kB in any other
+ * call. So a thread needs CLIM_STACK bytes beside its own. The first was measured at calls that do the same as those of
+ * this library: to check took 46 kB for an assembly and 54 kB for a root whose types are nested 127 deep in a
+ * signature; to open took 73 kB and 82 kB. For a file with such types they add up to 61 kB and 89 kB.
  *
  * A caller must ensure the following. Nothing checks it:
  *   - No pointer is null, even if the length after it is 0. Use "" then.
  *   - A pointer and a length describe that number of bytes or items. Nobody writes them during the call.
  *   - What a call writes through a pointer does not overlap its other arguments. It has a value before the call:
  *     initialise a clim_view, a clim_cell, a clim_bytes, a clim_fault, a clim_header, a clim_stream_header, a
- *     clim_location and a clim_difference with CLIM_CLOSED, CLIM_NO_CELL, CLIM_NO_BYTES, CLIM_NO_FAULT, CLIM_NO_HEADER,
- *     CLIM_NO_STREAM, CLIM_NO_LOCATION and CLIM_NO_DIFFERENCE.
+ *     clim_location, a clim_difference and a clim_refusal with CLIM_CLOSED, CLIM_NO_CELL, CLIM_NO_BYTES, CLIM_NO_FAULT,
+ *     CLIM_NO_HEADER, CLIM_NO_STREAM, CLIM_NO_LOCATION, CLIM_NO_DIFFERENCE and CLIM_NO_REFUSAL.
  *   - A clim_view is copied as a whole. Only calls write its fields.
  *   - The bytes that were opened do not change and do not move, while a view of them, or a text or a blob from
  *     that view, is in use.
@@ -118,7 +121,8 @@ typedef struct clim_view {
     bool is_open;
 } clim_view;
 
-/* The kind of a cell, and the fields of clim_cell that belong to it. The other fields are 0 or no bytes. */
+/* The kind of a cell, and the fields of clim_cell that belong to it. The other fields of a cell that a call writes are 0
+ * or no bytes. Those of a cell that is given to clim_tables are not read. */
 enum clim_kind {
     CLIM_NO_KIND = 0,   /* no cell: the kind in CLIM_NO_CELL */
     CLIM_NUMBER = 1,    /* number */
@@ -177,6 +181,23 @@ typedef struct clim_difference {
     uint8_t kind;
     uint8_t table;
 } clim_difference;
+
+/* A row that is given to clim_tables: its cells in the order of the columns, and the number of its table. A row of
+ * Constant has three cells: its padding byte is none (II.22.9). */
+typedef struct clim_row {
+    const clim_cell *cells;
+    size_t count;
+    uint8_t table;
+} clim_row;
+
+/* The first rule that tables break: its number, and the table, the row and the column where they break it. Rows count
+ * from 1 in their table, and columns from 0. What the rule is not about is 0. */
+typedef struct clim_refusal {
+    size_t column;
+    uint32_t row;
+    uint16_t code;
+    uint8_t table;
+} clim_refusal;
 
 /* The tables, by their numbers (II.22). */
 enum clim_table {
@@ -433,6 +454,7 @@ enum clim_generic_param_constraint_column {
 #define CLIM_NO_STREAM {CLIM_NO_BYTES, 0, 0, 0}
 #define CLIM_NO_LOCATION {0, 0, 0, 0, 0}
 #define CLIM_NO_DIFFERENCE {0, 0, 0, 0, CLIM_NO_DIFFERENCE_KIND, 0}
+#define CLIM_NO_REFUSAL {0, 0, 0, 0}
 #define CLIM_NO_STARTS {1, {0}}
 #define CLIM_NOT_FOUND {CLIM_NO_STARTS, CLIM_NO_STARTS, CLIM_NO_STARTS, CLIM_NO_STARTS, CLIM_NO_STARTS, {false}, false}
 #define CLIM_CLOSED {CLIM_NO_BYTES, CLIM_NOT_FOUND, false}
@@ -552,8 +574,8 @@ bool clim_cell_at(const clim_view *view, uint8_t table, uint32_t row, size_t col
  * Reads *view and the root. Much faster than a call of clim_cell_at for each cell. */
 size_t clim_cells(const clim_view *view, uint8_t table, uint32_t first, size_t column, clim_cell *cells, size_t room);
 
-/* What clim_signature_text returns for a text of more than 65,536 bytes, and clim_canonical_root and clim_digest for a
- * root of more than 2^30 bytes. */
+/* What clim_signature_text returns for a text of more than 65,536 bytes, and clim_canonical_root, clim_digest and
+ * clim_tables for a root of more than 2^30 bytes. */
 #define CLIM_TOO_LONG SIZE_MAX
 
 /* Writes a signature in the notation of ILAsm (II.7.1, II.15.3), such as "method instance string *(int32, class
@@ -589,7 +611,7 @@ uint32_t clim_find_type(const clim_view *view, const uint8_t *name_space, size_t
 size_t clim_rows_by_key(const clim_view *view, uint8_t table, uint8_t key_table, uint32_t key_row, uint32_t *rows,
                         size_t room);
 
-/* What clim_canonical_root, clim_digest and clim_compare return if memory runs out. */
+/* What clim_canonical_root, clim_digest, clim_compare and clim_tables return if memory runs out. */
 #define CLIM_NO_MEMORY (SIZE_MAX - 1)
 
 /* Writes the canonical root of the view (II.24.2) into buffer[0] to buffer[room - 1], if there is room for all of it;
@@ -626,6 +648,45 @@ bool clim_where(const clim_view *view, size_t offset, clim_location *location);
  * *difference is unchanged. Reads both views and their roots, the cells up to the first that differs. Allocates only to
  * decode signatures whose blobs have other bytes, and for that one cell. */
 size_t clim_compare(const clim_view *left, const clim_view *right, clim_difference *difference);
+
+/* Checks that rows meet all rules (II.22, II.24.2), and writes the canonical root of the metadata that they are into
+ * buffer[0] to buffer[room - 1], if there is room for all of it; otherwise the buffer is unchanged. Returns the length of
+ * the root, which can be more than room. clim_open_root opens the root. It then has these rows with these cells, the
+ * version and the user strings, and clim_canonical_root writes the same bytes.
+ *
+ *     clim_cell cells[] = {{CLIM_NO_BYTES, 0, CLIM_NUMBER, 0, {0}},                                  // Generation
+ *                          {{(const uint8_t *)"one.dll", 7}, 0, CLIM_TEXT, 0, {0}},                  // Name
+ *                          {CLIM_NO_BYTES, 0, CLIM_NULL_GUID, 0, {0}},                               // Mvid
+ *                          {CLIM_NO_BYTES, 0, CLIM_NULL_GUID, 0, {0}},                               // EncId
+ *                          {CLIM_NO_BYTES, 0, CLIM_NULL_GUID, 0, {0}}};                              // EncBaseId
+ *     clim_row rows[] = {{cells, 5, CLIM_MODULE}};
+ *     uint8_t root[1000];
+ *     clim_refusal refusal = CLIM_NO_REFUSAL;
+ *     size_t len = clim_tables((const uint8_t *)"v4.0.30319", 10, (const uint8_t *)"", 0, rows, 1, root, 1000, &refusal);
+ *
+ * The version is that of the root, in UTF-8 without its NUL (II.24.2.1). The user strings are the bytes of #US (II.24.2.4),
+ * as clim_user writes them, with zeros after them up to a multiple of four. Rows of different tables may be mixed; those
+ * of one table are its rows in the order given, from 1 on. A cell has the kind that clim_cell_at writes for its column;
+ * fields that do not belong to its kind are not read. So a cell that clim_cell_at wrote can be given as it is. A signature
+ * is the bytes of its blob, in any encoding; the root has its canonical one.
+ *
+ * Returns 0 and writes *refusal if a rule is broken. It is the first of these:
+ *   - 302 without a table, if the version is not UTF-8.
+ *   - That of the first row, in the order given, that cannot be read. 509 with row and column 0, if no table has the number
+ *     of the row. Otherwise at its first such cell: 509 for a kind of no cell, a text that is not UTF-8, a CLIM_ROW whose
+ *     table is none, or a CLIM_SIGNATURE in a column that has none; 701 for a CLIM_SIGNATURE whose bytes are no signature
+ *     of that column.
+ *   - That of the first rule that the tables break: 302 and 510, for the version and the user strings; 406, for the number
+ *     of rows of a table; 509, 506 and 507, for a cell; 602 and 603, for runs of members; 604, for nested types; and 702,
+ *     for the rows that a signature names. clim_explain says what each means.
+ *
+ * Returns CLIM_TOO_LONG for a root of more than 2^30 bytes, and CLIM_NO_MEMORY if memory runs out. Then, and if it
+ * returns 0, the buffer is unchanged; if it returns another number, *refusal is. Ask with a room that usually suffices, for
+ * each call checks the rows and makes the root anew: 4 bytes for each cell, the lengths of all texts and blobs and 5 for
+ * each, 16 for each GUID, the user strings, and 1,000 are always enough. Reads the version, the user strings, the rows, and
+ * what their cells point to. Allocates in proportion to these. */
+size_t clim_tables(const uint8_t *version, size_t version_len, const uint8_t *user, size_t user_len,
+                   const clim_row *rows, size_t row_count, uint8_t *buffer, size_t room, clim_refusal *refusal);
 
 #ifdef __cplusplus
 }

@@ -3,6 +3,8 @@
  *     test show FILE [bare]      prints the tables as clim show does, each signature as its blob
  *     test vary FILE [bare]      checks each prefix of the file, and the file with one byte set to 00 or FF, and
  *                                prints what clim check prints, one line each
+ *     test rewrite FILE OUT [bare]   writes the canonical root to OUT, as clim rewrite does, and prints its digest
+ *     test build FILE OUT [bare]     the same, but the root is that of tables with the rows of the file
  *     test write FILE FOLDER     writes these inputs into files of a folder, in the same order
  *     test calls FILE [bare]     compares calls with one another, and makes calls that must be rejected; the last line
  *                                is 'N passed, M failed'
@@ -34,6 +36,8 @@ _Static_assert(sizeof(clim_stream_header) == 32 && offsetof(clim_stream_header, 
 _Static_assert(sizeof(clim_cell) == 40 && offsetof(clim_cell, guid) == 22, "clim_cell");
 _Static_assert(sizeof(clim_location) == 32 && offsetof(clim_location, table) == 28, "clim_location");
 _Static_assert(sizeof(clim_difference) == 24 && offsetof(clim_difference, table) == 21, "clim_difference");
+_Static_assert(sizeof(clim_row) == 24 && offsetof(clim_row, table) == 16, "clim_row");
+_Static_assert(sizeof(clim_refusal) == 16 && offsetof(clim_refusal, table) == 14, "clim_refusal");
 
 static const clim_cell NO_CELL = CLIM_NO_CELL;
 static const clim_view CLOSED = CLIM_CLOSED;
@@ -617,7 +621,26 @@ static ucontext_t caller, callee;
 static guarded deep, other_deep;
 static bool deep_same;
 
-/* Opens a root with one signature that is as deep as it may be, and writes the signature. */
+/* Whether the only row of TypeSpec of a view, given as a row, has the canonical root of the view. One type more around it
+ * is too deep. */
+static bool is_built_deep(const clim_view *view, const uint8_t *root, size_t len) {
+    static uint8_t made[1 << 16], deeper[1 << 10];
+    clim_cell cell = NO_CELL;
+    clim_row row = {&cell, 1, CLIM_TYPE_SPEC};
+    clim_refusal refusal = CLIM_NO_REFUSAL;
+    clim_bytes version = CLIM_NO_BYTES, user = CLIM_NO_BYTES;
+    clim_version(view, &version);
+    bool same = clim_cell_at(view, CLIM_TYPE_SPEC, 1, CLIM_TYPE_SPEC_SIGNATURE, &cell) &&
+                clim_tables(version.at, version.len, user.at, user.len, &row, 1, made, sizeof made, &refusal) == len &&
+                memcmp(made, root, len) == 0;
+    deeper[0] = deeper[1] = 0x1D;
+    memcpy(deeper + 2, cell.bytes.at, cell.bytes.len);
+    cell.bytes = (clim_bytes){deeper, cell.bytes.len + 2};
+    return same && clim_tables(version.at, version.len, user.at, user.len, &row, 1, made, sizeof made, &refusal) == 0 &&
+           refusal.code == 701 && memcmp(made, root, len) == 0;
+}
+
+/* Opens a root with one signature that is as deep as it may be, writes the signature, and builds the root again. */
 static void open_deep(void) {
     static uint8_t text[1 << 16];
     clim_view view = CLOSED;
@@ -629,7 +652,7 @@ static void open_deep(void) {
     deep_same &= len > 127 && len <= sizeof text;
     uint8_t digest[32] = {0};
     len = clim_canonical_root(&view, text, sizeof text);
-    deep_same &= len > 0 && len <= sizeof text && clim_digest(&view, digest) == len;
+    deep_same &= len > 0 && len <= sizeof text && clim_digest(&view, digest) == len && is_built_deep(&view, text, len);
     clim_difference found = CLIM_NO_DIFFERENCE;
     clim_view other = CLOSED;
     deep_same &= clim_open_root(other_deep.at, other_deep.len, &other, &fault) &&
@@ -685,20 +708,38 @@ static void ask_deep(void) {
     }
 }
 
-/* An array of 2^28 dimensions is a few bytes (II.23.2.13). Its text is refused, after its first bytes were written. */
+/* A text of 65,536 bytes is written, and a longer one is refused, after its first bytes were written. The signature is a
+ * pointer to a method of 3,120 parameters, of which the first has three or four pointers. */
 static void ask_long(void) {
-    static const uint8_t ranks[2][8] = {{0x14, 0x08, 0xD0, 0, 0, 0, 0, 0}, {0x14, 0x08, 0xC0, 0, 0xFF, 0xF9, 0, 0}};
-    for (size_t i = 0; i < 2; i++) {
-        guarded root = root_of(ranks[i], 8), part = guard(9);
+    for (uint8_t pointers = 3; pointers < 5; pointers++) {
+        uint8_t signature[5 + 4 + 3120] = {0x1B, 0, 0x80 | 3120 >> 8, 3120 & 0xFF, 0x01};
+        size_t len = 5 + (size_t)pointers + 3120;
+        memset(signature + 5, 0x0F, pointers);
+        memset(signature + 5 + pointers, 0x19, 3120);
+        guarded root = root_of(signature, len), part = guard(9);
         clim_view view = CLOSED;
         clim_fault fault = CLIM_NO_FAULT;
         memset(part.at, 0xEE, part.len);
         CHECK(clim_open_root(root.at, root.len, &view, &fault));
-        size_t len = clim_signature_text(&view, CLIM_TYPE_SPEC, 1, CLIM_TYPE_SPEC_SIGNATURE, part.at, 8);
-        CHECK(len == (i == 0 ? CLIM_TOO_LONG : 65535) && memcmp(part.at, "int32[,,\xEE", 9) == 0);
+        size_t text_len = clim_signature_text(&view, CLIM_TYPE_SPEC, 1, CLIM_TYPE_SPEC_SIGNATURE, part.at, 8);
+        CHECK(text_len == (pointers == 4 ? CLIM_TOO_LONG : 65536) && memcmp(part.at, "method v\xEE", 9) == 0);
         munmap(root.pages, root.room);
         munmap(part.pages, part.room);
     }
+}
+
+/* An array of 2^28 dimensions is a few bytes (II.23.2.13), and so is its text: it has the rank. */
+static void ask_rank(void) {
+    static const uint8_t array[] = {0x14, 0x08, 0xD0, 0, 0, 0, 0, 0};
+    static const char text[] = "int32[,... rank 268435456]";
+    guarded root = root_of(array, sizeof array);
+    clim_view view = CLOSED;
+    clim_fault fault = CLIM_NO_FAULT;
+    uint8_t buffer[sizeof text];
+    CHECK(clim_open_root(root.at, root.len, &view, &fault));
+    size_t len = clim_signature_text(&view, CLIM_TYPE_SPEC, 1, CLIM_TYPE_SPEC_SIGNATURE, buffer, sizeof buffer);
+    CHECK(len == sizeof text - 1 && memcmp(buffer, text, sizeof text - 1) == 0);
+    munmap(root.pages, root.room);
 }
 
 /* The number of blocks that can be allocated before memory runs out, or -1 for any number. c/run links this program
@@ -864,14 +905,329 @@ static void ask_compare(const clim_view *view) {
     munmap(root.pages, root.room);
 }
 
-/* Writes the canonical root to a file, as clim rewrite does, and prints its digest. */
-static void rewrite(const clim_view *view, const char *path) {
+/* ---- tables that are given */
+
+/* The version, the user strings and the rows that a call of clim_tables is given. */
+typedef struct given {
+    clim_bytes version;
+    clim_bytes user;
+    clim_row *rows;
+    size_t count;
+} given;
+
+static size_t make_root(const given *it, uint8_t *buffer, size_t room, clim_refusal *refusal) {
+    return clim_tables(it->version.at, it->version.len, it->user.at, it->user.len, it->rows, it->count, buffer, room, refusal);
+}
+
+static bool same_refusal(const clim_refusal *a, const clim_refusal *b) {
+    return a->column == b->column && a->row == b->row && a->code == b->code && a->table == b->table;
+}
+
+static clim_bytes text_of(const char *text) {
+    return (clim_bytes){(const uint8_t *)text, strlen(text)};
+}
+
+static clim_cell number_cell(uint32_t number) {
+    return (clim_cell){CLIM_NO_BYTES, number, CLIM_NUMBER, 0, {0}};
+}
+
+static clim_cell text_cell(const char *text) {
+    return (clim_cell){text_of(text), 0, CLIM_TEXT, 0, {0}};
+}
+
+static clim_cell row_cell(uint8_t table, uint32_t row) {
+    return (clim_cell){CLIM_NO_BYTES, row, row == 0 ? CLIM_NULL_ROW : CLIM_ROW, table, {0}};
+}
+
+static clim_cell start_cell(uint32_t row) {
+    return (clim_cell){CLIM_NO_BYTES, row, CLIM_START, 0, {0}};
+}
+
+static clim_cell bytes_cell(uint8_t kind, const char *bytes, size_t len) {
+    return (clim_cell){{(const uint8_t *)bytes, len}, 0, kind, 0, {0}};
+}
+
+/* Rows with a cell each of most kinds: a module, a reference, types of which one is nested, a field, a method with a
+ * parameter, and an array of the type that is referred to. Those of a table are in order, and the tables are mixed. */
+enum { MODULE, REFERENCE, FIRST_TYPE, TYPE, METHOD, INNER_TYPE, FIELD, PARAM, NESTED, ARRAY, ROWS };
+enum { MOST_CELLS = 6 };
+
+typedef struct sample_rows {
+    clim_cell cells[ROWS][MOST_CELLS];
+    clim_row rows[ROWS];
+    given all;
+} sample_rows;
+
+static void set_row(sample_rows *to, size_t at, uint8_t table, const clim_cell *cells) {
+    to->rows[at] = (clim_row){to->cells[at], clim_cell_count(table), table};
+    for (size_t i = 0; i < MOST_CELLS; i++) to->cells[at][i] = i < to->rows[at].count ? cells[i] : NO_CELL;
+}
+
+static void set_sample(sample_rows *to) {
+    clim_cell zero = number_cell(0), no_name = text_cell(""), null_guid = bytes_cell(CLIM_NULL_GUID, "", 0), guid = NO_CELL;
+    guid.kind = CLIM_GUID;
+    memcpy(guid.guid, "0123456789abcdef", sizeof guid.guid);
+    set_row(to, MODULE, CLIM_MODULE, (clim_cell[]){zero, text_cell("one.dll"), guid, null_guid, null_guid});
+    set_row(to, REFERENCE, CLIM_TYPE_REF, (clim_cell[]){row_cell(CLIM_MODULE, 1), text_cell("Object"), text_cell("System")});
+    set_row(to, FIRST_TYPE, CLIM_TYPE_DEF,
+            (clim_cell[]){zero, text_cell("<Module>"), no_name, row_cell(0, 0), start_cell(1), start_cell(1)});
+    set_row(to, TYPE, CLIM_TYPE_DEF, (clim_cell[]){number_cell(1), text_cell("Greeter"), text_cell("Hello"),
+                                                   row_cell(CLIM_TYPE_REF, 1), start_cell(1), start_cell(1)});
+    set_row(to, METHOD, CLIM_METHOD_DEF, (clim_cell[]){zero, zero, number_cell(6), text_cell("Greet"),
+                                                       bytes_cell(CLIM_SIGNATURE, "\x20\x01\x01\x08", 4), start_cell(1)});
+    set_row(to, INNER_TYPE, CLIM_TYPE_DEF,
+            (clim_cell[]){number_cell(2), text_cell("Inner"), no_name, row_cell(0, 0), start_cell(2), start_cell(2)});
+    set_row(to, FIELD, CLIM_FIELD, (clim_cell[]){number_cell(6), text_cell("count"), bytes_cell(CLIM_SIGNATURE, "\x06\x08", 2)});
+    set_row(to, PARAM, CLIM_PARAM, (clim_cell[]){zero, number_cell(1), text_cell("times")});
+    set_row(to, NESTED, CLIM_NESTED_CLASS, (clim_cell[]){row_cell(CLIM_TYPE_DEF, 3), row_cell(CLIM_TYPE_DEF, 2)});
+    set_row(to, ARRAY, CLIM_TYPE_SPEC, (clim_cell[]){bytes_cell(CLIM_SIGNATURE, "\x1D\x12\x05", 3)});
+    to->all = (given){text_of("v4.0.30319"), {(const uint8_t *)"\0\3A\0\0\0\0", 8}, to->rows, ROWS};
+}
+
+/* Whether a view has the rows that are given, and no others. */
+static bool has_rows(const clim_view *view, const given *it) {
+    uint32_t rows[256] = {0};
+    bool same = true;
+    for (size_t i = 0; i < it->count; i++) {
+        const clim_row *row = &it->rows[i];
+        rows[row->table]++;
+        for (size_t column = 0; column < row->count; column++) {
+            clim_cell cell = NO_CELL;
+            same &= clim_cell_at(view, row->table, rows[row->table], column, &cell) && same_cell(&cell, &row->cells[column]);
+        }
+    }
+    for (unsigned table = 0; table < 256; table++) same &= clim_count(view, (uint8_t)table) == rows[table];
+    return same;
+}
+
+/* The root of rows that are given has these rows. It is its own canonical root. */
+static void ask_sample(void) {
+    static sample_rows sample;
+    set_sample(&sample);
+    clim_refusal none = {7, 7, 7, 7}, refusal = none;
+    size_t len = make_root(&sample.all, NULL_BUFFER, 0, &refusal);
+    CHECK(len > 0 && len < 1000);
+    guarded root = guard(len), same = guard(len);
+    clim_view view = CLOSED;
+    clim_fault fault = CLIM_NO_FAULT;
+    clim_bytes version = CLIM_NO_BYTES, user = CLIM_NO_BYTES;
+    CHECK(make_root(&sample.all, root.at, len, &refusal) == len && same_refusal(&refusal, &none));
+    CHECK(clim_open_root(root.at, len, &view, &fault) && has_rows(&view, &sample.all));
+    clim_version(&view, &version);
+    clim_user(&view, &user);
+    CHECK(same_bytes(version, sample.all.version) && same_bytes(user, sample.all.user));
+    CHECK(clim_canonical_root(&view, same.at, len) == len && memcmp(root.at, same.at, len) == 0);
+    /* No rows are an empty model. */
+    given empty = {CLIM_NO_BYTES, CLIM_NO_BYTES, sample.rows, 0};
+    len = make_root(&empty, root.at, root.len, &refusal);
+    CHECK(clim_open_root(root.at, len, &view, &fault) && has_rows(&view, &empty) && same_refusal(&refusal, &none));
+    munmap(root.pages, root.room);
+    munmap(same.pages, same.room);
+}
+
+/* Whether rows are refused like this, with a buffer that has room, which is unchanged. */
+static bool is_refused(const given *it, uint16_t code, uint8_t table, uint32_t row, size_t column) {
+    guarded buffer = guard(4000);
+    clim_refusal refusal = {7, 7, 7, 7}, wanted = {column, row, code, table};
+    memset(buffer.at, 0xEE, buffer.len);
+    bool as_stated = make_root(it, buffer.at, buffer.len, &refusal) == 0 && same_refusal(&refusal, &wanted);
+    for (size_t i = 0; i < buffer.len; i++) as_stated &= buffer.at[i] == 0xEE;
+    if (!as_stated) printf("refused: %u %u %u %zu\n", refusal.code, refusal.table, refusal.row, refusal.column);
+    munmap(buffer.pages, buffer.room);
+    return as_stated;
+}
+
+/* The sample with another cell is refused at this cell. */
+static bool is_cell_refused(size_t at, size_t column, clim_cell cell, uint16_t code, uint32_t row) {
+    static sample_rows sample;
+    set_sample(&sample);
+    sample.cells[at][column] = cell;
+    return is_refused(&sample.all, code, sample.rows[at].table, row, column);
+}
+
+/* Cells that cannot be read, and cells that break a rule. */
+static void ask_refused_cells(void) {
+    clim_cell no_kind = NO_CELL, past_kinds = NO_CELL;
+    past_kinds.kind = 10;
+    CHECK(is_cell_refused(MODULE, CLIM_MODULE_NAME, no_kind, 509, 1));
+    CHECK(is_cell_refused(INNER_TYPE, CLIM_TYPE_DEF_TYPE_NAME, past_kinds, 509, 3));
+    CHECK(is_cell_refused(TYPE, CLIM_TYPE_DEF_TYPE_NAME, text_cell("\xC0\x80"), 509, 2));
+    CHECK(is_cell_refused(TYPE, CLIM_TYPE_DEF_EXTENDS, row_cell(0x03, 1), 509, 2));
+    CHECK(is_cell_refused(TYPE, CLIM_TYPE_DEF_TYPE_NAME, bytes_cell(CLIM_SIGNATURE, "\x06\x08", 2), 509, 2));
+    CHECK(is_cell_refused(FIELD, CLIM_FIELD_SIGNATURE, bytes_cell(CLIM_SIGNATURE, "\x06", 1), 701, 1));
+    CHECK(is_cell_refused(FIELD, CLIM_FIELD_SIGNATURE, bytes_cell(CLIM_SIGNATURE, "\x20\x01\x01\x08", 4), 701, 1));
+    CHECK(is_cell_refused(FIELD, CLIM_FIELD_SIGNATURE, bytes_cell(CLIM_BLOB, "\x06\x08", 2), 509, 1));
+    CHECK(is_cell_refused(FIELD, CLIM_FIELD_FLAGS, number_cell(0x10000), 509, 1));
+    CHECK(is_cell_refused(FIELD, CLIM_FIELD_FLAGS, start_cell(1), 509, 1));
+    CHECK(is_cell_refused(PARAM, CLIM_PARAM_NAME, bytes_cell(CLIM_TEXT, "a\0b", 3), 509, 1));
+    CHECK(is_cell_refused(PARAM, CLIM_PARAM_NAME, bytes_cell(CLIM_BLOB, "a", 1), 509, 1));
+    CHECK(is_cell_refused(MODULE, CLIM_MODULE_MVID, row_cell(0, 0), 509, 1));
+    CHECK(is_cell_refused(TYPE, CLIM_TYPE_DEF_EXTENDS, row_cell(CLIM_MODULE, 1), 509, 2));
+    CHECK(is_cell_refused(TYPE, CLIM_TYPE_DEF_EXTENDS, row_cell(CLIM_TYPE_REF, 2), 506, 2));
+    CHECK(is_cell_refused(TYPE, CLIM_TYPE_DEF_EXTENDS, row_cell(CLIM_TYPE_REF, UINT32_MAX), 506, 2));
+    CHECK(is_cell_refused(NESTED, CLIM_NESTED_CLASS_NESTED_CLASS, row_cell(0, 0), 506, 1));
+    CHECK(is_cell_refused(METHOD, CLIM_METHOD_DEF_PARAM_LIST, start_cell(3), 507, 1));
+    CHECK(is_cell_refused(FIRST_TYPE, CLIM_TYPE_DEF_METHOD_LIST, start_cell(2), 602, 1));
+    CHECK(is_cell_refused(INNER_TYPE, CLIM_TYPE_DEF_FIELD_LIST, start_cell(0), 602, 3));
+    CHECK(is_cell_refused(NESTED, CLIM_NESTED_CLASS_ENCLOSING_CLASS, row_cell(CLIM_TYPE_DEF, 3), 604, 1));
+    CHECK(is_cell_refused(ARRAY, CLIM_TYPE_SPEC_SIGNATURE, bytes_cell(CLIM_SIGNATURE, "\x1D\x12\x09", 3), 702, 1));
+}
+
+/* Versions, user strings and rows that are refused, and which is refused first. */
+static void ask_refused_rows(void) {
+    static sample_rows sample;
+    static const uint8_t zeros[3], spaces[256] = {' '};
+    set_sample(&sample);
+    given it = sample.all;
+    it.version = text_of("v\xFF");
+    CHECK(is_refused(&it, 302, 0, 0, 0));
+    sample.rows[TYPE].table = 0x03;
+    CHECK(is_refused(&it, 302, 0, 0, 0));
+    it.version = (clim_bytes){spaces, 255};
+    CHECK(is_refused(&it, 509, 0x03, 0, 0));
+    sample.cells[REFERENCE][CLIM_TYPE_REF_TYPE_NAME] = text_cell("\xFF");
+    CHECK(is_refused(&it, 509, CLIM_TYPE_REF, 1, CLIM_TYPE_REF_TYPE_NAME));
+    set_sample(&sample);
+    CHECK(is_refused(&it, 302, 0, 0, 0));
+    it = sample.all;
+    it.user = (clim_bytes){zeros, 3};
+    CHECK(is_refused(&it, 510, 0, 0, 0));
+    it = sample.all;
+    sample.rows[INNER_TYPE].count--;
+    CHECK(is_refused(&it, 509, CLIM_TYPE_DEF, 3, 0));
+    sample.rows[TYPE].count = 0;
+    CHECK(is_refused(&it, 509, CLIM_TYPE_DEF, 2, 0));
+    set_sample(&sample);
+    sample.rows[NESTED].count = 3;
+    CHECK(is_refused(&it, 509, CLIM_NESTED_CLASS, 1, 2));
+    sample.cells[NESTED][2] = number_cell(0);
+    CHECK(is_refused(&it, 509, CLIM_NESTED_CLASS, 1, 0));
+    /* A parameter without a method. */
+    set_sample(&sample);
+    sample.rows[METHOD] = sample.rows[PARAM];
+    sample.cells[INNER_TYPE][CLIM_TYPE_DEF_METHOD_LIST] = start_cell(1);
+    CHECK(is_refused(&it, 603, CLIM_PARAM, 1, 0));
+}
+
+/* Gives fields that do not belong to the kind of a cell another value. */
+static void spoil_unused(clim_cell *cell) {
+    static const uint8_t no_text[] = {0xFF};
+    uint8_t kind = cell->kind;
+    if (kind != CLIM_TEXT && kind != CLIM_BLOB && kind != CLIM_SIGNATURE) cell->bytes = (clim_bytes){no_text, 1};
+    if (kind != CLIM_NUMBER && kind != CLIM_ROW && kind != CLIM_START) cell->number = 7;
+    if (kind != CLIM_ROW) cell->table = 0xFF;
+    if (kind != CLIM_GUID) memset(cell->guid, 7, sizeof cell->guid);
+}
+
+/* The rows of a view, which the caller frees, and their cells: in the order of the tables or, mixed, a row of each table
+ * in turn. Of mixed rows, fields that do not belong to the kind of a cell have any value. */
+static given rows_of(const clim_view *view, clim_cell **cells, bool mixed) {
+    static clim_cell *columns[256];
+    size_t rows = 0, count = 0, room = 0;
+    for (unsigned table = 0; table < 256; table++) {
+        columns[table] = read_cells(view, (uint8_t)table);
+        rows += clim_count(view, (uint8_t)table);
+        room += clim_count(view, (uint8_t)table) * clim_cell_count((uint8_t)table);
+    }
+    given it = {CLIM_NO_BYTES, CLIM_NO_BYTES, malloc((rows + 1) * sizeof(clim_row)), rows};
+    clim_cell *cell = *cells = malloc((room + 1) * sizeof(clim_cell));
+    if (it.rows == NULL || cell == NULL) stop("no memory");
+    clim_version(view, &it.version);
+    for (uint32_t turn = 1; count < rows; turn++) {
+        for (unsigned table = 0; table < 256; table++) {
+            uint32_t its = clim_count(view, (uint8_t)table), past = mixed && its > turn ? turn + 1 : its + 1;
+            for (uint32_t row = turn; row < past; row++) {
+                it.rows[count++] = (clim_row){cell, clim_cell_count((uint8_t)table), (uint8_t)table};
+                for (size_t column = 0; column < clim_cell_count((uint8_t)table); column++, cell++) {
+                    *cell = columns[table][column * its + row - 1];
+                    if (mixed) spoil_unused(cell);
+                }
+            }
+        }
+    }
+    for (unsigned table = 0; table < 256; table++) free(columns[table]);
+    return it;
+}
+
+/* The user strings of a view, padded with zeros to a multiple of four. */
+static guarded padded_user(const clim_view *view) {
+    clim_bytes user = CLIM_NO_BYTES;
+    clim_user(view, &user);
+    guarded padded = guard((user.len + 3) / 4 * 4);
+    memcpy(padded.at, user.at, user.len);
+    return padded;
+}
+
+/* Writes the root of the rows of a view, and returns its length. */
+static size_t build_again(const clim_view *view, uint8_t *buffer, size_t room) {
+    clim_cell *cells = NULL;
+    clim_refusal refusal = CLIM_NO_REFUSAL;
+    given it = rows_of(view, &cells, false);
+    guarded user = padded_user(view);
+    it.user = (clim_bytes){user.at, user.len};
+    size_t len = make_root(&it, buffer, room, &refusal);
+    munmap(user.pages, user.room);
+    free(it.rows);
+    free(cells);
+    return len;
+}
+
+/* Memory runs out at each block in turn: nothing is written then. */
+static void ask_no_memory_for(const given *it, const guarded *wanted) {
+    guarded root = guard(wanted->len), same = guard(wanted->len);
+    clim_refusal none = {7, 7, 7, 7}, refusal = none;
+    long blocks = 1;
+    bool as_stated = true;
+    memset(same.at, 0xEE, same.len);
+    for (size_t made = CLIM_NO_MEMORY; made == CLIM_NO_MEMORY; blocks++) {
+        memset(root.at, 0xEE, root.len);
+        blocks_left = blocks;
+        made = make_root(it, root.at, root.len, &refusal);
+        blocks_left = -1;
+        as_stated &= made == root.len || (made == CLIM_NO_MEMORY && memcmp(root.at, same.at, root.len) == 0);
+    }
+    CHECK(as_stated && blocks > 2 && same_refusal(&refusal, &none));
+    CHECK(memcmp(root.at, wanted->at, root.len) == 0);
+    munmap(root.pages, root.room);
+    munmap(same.pages, same.room);
+}
+
+/* The rows of a view have its canonical root. It is written as a whole or not at all, and nothing is written past it. */
+static void ask_given(const clim_view *view) {
+    clim_refusal none = {7, 7, 7, 7}, refusal = none;
+    size_t len = clim_canonical_root(view, NULL_BUFFER, 0);
+    guarded wanted = guard(len), root = guard(len), more = guard(len + 1), padded = padded_user(view);
+    CHECK(clim_canonical_root(view, wanted.at, len) == len);
+    for (int mixed = 0; mixed < 2; mixed++) {
+        clim_cell *cells = NULL;
+        given it = rows_of(view, &cells, mixed == 1);
+        it.user = (clim_bytes){padded.at, padded.len};
+        memset(root.at, 0xEE, len);
+        memset(more.at, 0xEE, len + 1);
+        CHECK(make_root(&it, root.at, len - 1, &refusal) == len && memcmp(root.at, more.at, len) == 0);
+        CHECK(make_root(&it, more.at, len + 1, &refusal) == len && more.at[len] == 0xEE);
+        CHECK(make_root(&it, root.at, len, &refusal) == len && memcmp(root.at, more.at, len) == 0);
+        CHECK(memcmp(root.at, wanted.at, len) == 0 && same_refusal(&refusal, &none));
+        /* Of a large file there are too many blocks. */
+        if (len < 1 << 14) ask_no_memory_for(&it, &wanted);
+        free(it.rows);
+        free(cells);
+    }
+    munmap(wanted.pages, wanted.room);
+    munmap(root.pages, root.room);
+    munmap(more.pages, more.room);
+    munmap(padded.pages, padded.room);
+}
+
+/* Writes the canonical root to a file, as clim rewrite does, and prints its digest. It is that of the view, or that of
+ * tables with the rows of the view. */
+static void rewrite(const clim_view *view, const char *path, bool from_tables) {
     uint8_t digest[32] = {0};
     size_t len = clim_digest(view, digest);
     guarded root = guard(len);
     FILE *out = fopen(path, "wb");
-    if (!out || clim_canonical_root(view, root.at, len) != len || fwrite(root.at, 1, len, out) != len || fclose(out))
-        stop("no canonical root");
+    size_t made = from_tables ? build_again(view, root.at, len) : clim_canonical_root(view, root.at, len);
+    if (!out || made != len || fwrite(root.at, 1, len, out) != len || fclose(out)) stop("no canonical root");
     for (size_t i = 0; i < sizeof digest; i++) printf("%02x", digest[i]);
     puts("");
     munmap(root.pages, root.room);
@@ -945,11 +1301,16 @@ static void calls(guarded file, clim_view *view, bool bare) {
     ask_padded();
     ask_deep();
     ask_long();
+    ask_rank();
     ask_streams(view);
     ask_user_strings(view);
     ask_canonical(view);
     ask_where(view);
     ask_compare(view);
+    ask_sample();
+    ask_refused_cells();
+    ask_refused_rows();
+    ask_given(view);
 }
 
 /* Prints the first difference of two views, as clim compare does. */
@@ -1027,11 +1388,20 @@ static void times(guarded file, bool bare) {
         }
     }
     double taken = now() - begun;
+    size_t len = clim_canonical_root(&view, NULL_BUFFER, 0);
+    guarded root = guard(len);
+    begun = now();
+    clim_canonical_root(&view, root.at, len);
+    printf("clim_canonical_root %.0f us\n", now() - begun);
+    begun = now();
+    build_again(&view, root.at, len);
+    printf("clim_tables, and the cells for it, %.0f us\n", now() - begun);
+    munmap(root.pages, root.room);
     printf("clim_cells %zu cells %.0f us, %.1f ns a cell (%u)\n", cells, taken, taken * 1e3 / (double)cells, sum + first + past);
 }
 
 int main(int count, char **words) {
-    if (count < 3) stop("test show|vary|write|rewrite|calls|times FILE ..");
+    if (count < 3) stop("test show|vary|write|rewrite|build|calls|times FILE ..");
     guarded file = read_file(words[2]);
     bool bare = strcmp(words[count - 1], "bare") == 0;
     if (strcmp(words[1], "vary") == 0) {
@@ -1052,8 +1422,8 @@ int main(int count, char **words) {
         }
         if (strcmp(words[1], "show") == 0) {
             show(&view);
-        } else if (strcmp(words[1], "rewrite") == 0 && count > 3) {
-            rewrite(&view, words[3]);
+        } else if ((strcmp(words[1], "rewrite") == 0 || strcmp(words[1], "build") == 0) && count > 3) {
+            rewrite(&view, words[3], words[1][0] == 'b');
         } else if (strcmp(words[1], "compare") == 0 && count > 3) {
             guarded second = read_file(words[3]);
             clim_view right = CLOSED;

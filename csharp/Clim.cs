@@ -6,7 +6,8 @@
 //                 Console.WriteLine(type.TypeName + "." + method.Name);
 //
 // A file is opened if and only if it meets all rules of ECMA-335 II.22 to II.25. Then each cell is proved to be that of
-// the file's only model. Rows are structs with the names of the standard, and count from 1. It needs C# 6.
+// the file's only model. Rows are structs with the names of the standard, and count from 1. Clim.Tables makes new metadata.
+// It needs C# 6.
 //
 // The loader has to find libclim.so: in a folder of the system, next to the program, or in one of LD_LIBRARY_PATH.
 
@@ -43,14 +44,66 @@ namespace Clim
 
         /// <summary>What <c>clim explain</c> prints of the rule, in lines that are not broken.</summary>
         /// <exception cref="NotSupportedException">The library is older than this file.</exception>
-        public string Explanation
+        public string Explanation { get { return Native.Explanation(Code); } }
+    }
+
+    /// <summary>The first rule that tables break, thrown by <see cref="Tables.Root"/>.</summary>
+    public sealed class ClimRefusal : Exception
+    {
+        /// <summary>The layer of the rule, from 1 to 9: the hundreds of its number.</summary>
+        public int Layer { get { return Code / 100; } }
+
+        /// <summary>The number of the rule, for example 506. docs/FAULTS.md explains each.</summary>
+        public int Code { get; }
+
+        /// <summary>The name of the rule, for example <c>BadIndex</c>.</summary>
+        public string RuleName { get; }
+
+        /// <summary>The table; null if the rule is about none.</summary>
+        public TableId? Table { get; }
+
+        /// <summary>The row, counted from 1; null if the rule is about none.</summary>
+        public int? Row { get; }
+
+        /// <summary>
+        /// The column, counted from 0; null if the rule is about no row. A rule about a whole row is reported at column 0.
+        /// </summary>
+        public int? Column { get; }
+
+        /// <summary>The name of the column, for example <c>Extends</c>, or null.</summary>
+        public string ColumnName { get { return Column.HasValue ? ColumnOf(Table.Value, Column.Value) : null; } }
+
+        internal ClimRefusal(NativeRefusal refusal, string name) : base(Text(refusal, name))
         {
-            get
-            {
-                return Native.WrittenText(
-                    (buffer, room) => Native.Newer(() => Native.clim_explain((ushort)Code, buffer, room)));
-            }
+            Code = refusal.Code;
+            RuleName = name;
+            if (IsWhole(refusal))
+                return;
+            Table = refusal.Table;
+            if (refusal.Row == 0)
+                return;
+            Row = (int)refusal.Row;
+            Column = (int)refusal.Column;
         }
+
+        // The rules about the version and the user strings are about no table.
+        static bool IsWhole(NativeRefusal refusal) { return refusal.Code == 302 || refusal.Code == 510; }
+
+        static string Text(NativeRefusal refusal, string name)
+        {
+            string text = "refusal " + refusal.Code / 100 + " " + refusal.Code;
+            if (!IsWhole(refusal))
+                text += " at " + refusal.Table;
+            if (!IsWhole(refusal) && refusal.Row > 0)
+                text += " " + refusal.Row + " " + ColumnOf(refusal.Table, (int)refusal.Column);
+            return text + ": " + name;
+        }
+
+        static string ColumnOf(TableId table, int column) { return Assembly.ColumnNames(table)[column]; }
+
+        /// <summary>What <c>clim explain</c> prints of the rule, in lines that are not broken.</summary>
+        /// <exception cref="NotSupportedException">The library is older than this file.</exception>
+        public string Explanation { get { return Native.Explanation(Code); } }
     }
 
     /// <summary>Thrown by <see cref="Assembly.Open(byte[], ulong)"/> if the signatures have more bytes than the budget.</summary>
@@ -327,6 +380,23 @@ namespace Clim
         public TableId Table;
     }
 
+    [StructLayout(LayoutKind.Sequential)]
+    struct NativeRow
+    {
+        public IntPtr Cells;
+        public UIntPtr Count;
+        public TableId Table;
+    }
+
+    [StructLayout(LayoutKind.Sequential)]
+    struct NativeRefusal
+    {
+        public UIntPtr Column;
+        public uint Row;
+        public ushort Code;
+        public TableId Table;
+    }
+
     /// <summary>A view, followed by a copy of the bytes that were opened.</summary>
     sealed class Memory : SafeHandle
     {
@@ -470,6 +540,11 @@ namespace Clim
         public static extern UIntPtr clim_compare(Memory left, Memory right, ref NativeDifference difference);
 
         [DllImport(Library)]
+        public static extern UIntPtr clim_tables(
+            byte[] version, UIntPtr versionLength, byte[] user, UIntPtr userLength, [In] NativeRow[] rows, UIntPtr rowCount,
+            [In, Out] byte[] buffer, UIntPtr room, ref NativeRefusal refusal);
+
+        [DllImport(Library)]
         static extern uint clim_abi_version();
 
         // The interface that this file calls, CLIM_ABI_VERSION of clim.h.
@@ -521,6 +596,12 @@ namespace Clim
                     return null;
                 buffer = new byte[length];
             }
+        }
+
+        /// <summary>What <c>clim explain</c> prints of a rule, in lines that are not broken.</summary>
+        public static string Explanation(int code)
+        {
+            return WrittenText((buffer, room) => Newer(() => clim_explain((ushort)code, buffer, room)));
         }
 
         /// <summary>The length of a canonical root, or the result of a comparison, as a call returned it.</summary>
@@ -921,7 +1002,7 @@ namespace Clim
         }
 
         // The column of the signatures of a table, or -1. No table has two.
-        static int SignatureColumn(TableId table)
+        internal static int SignatureColumn(TableId table)
         {
             switch (table)
             {
@@ -1055,6 +1136,45 @@ namespace Clim
             });
         }
 
+        /// <summary>The values of all cells of a table, row by row, as <see cref="Tables.Add"/> takes them.</summary>
+        internal IEnumerable<object[]> Values(TableId table)
+        {
+            int width = (int)Native.clim_cell_count(table), past = Count(table) + 1;
+            for (int first = 1; first < past; first += Chunk)
+                foreach (var row in Values(table, width, first, Math.Min(Chunk, past - first)))
+                    yield return row;
+        }
+
+        object[][] Values(TableId table, int width, int first, int count)
+        {
+            return Held(() =>
+            {
+                var rows = new object[count][];
+                for (int index = 0; index < count; index++)
+                    rows[index] = new object[width];
+                for (int column = 0; column < width; column++)
+                {
+                    var cells = ReadColumn(table, first, column, count);
+                    for (int index = 0; index < count; index++)
+                        rows[index][column] = ValueOf(cells[index]);
+                }
+                return rows;
+            });
+        }
+
+        object ValueOf(NativeCell cell)
+        {
+            switch (cell.Kind)
+            {
+                case CellKind.Number: case CellKind.Start: return cell.Number;
+                case CellKind.Text: return TextOf(cell.Bytes);
+                case CellKind.Blob: case CellKind.Signature: return BytesOf(cell.Bytes);
+                case CellKind.Guid: return cell.Guid;
+                case CellKind.Row: return new Token(cell.Table, (int)cell.Number);
+                default: return null;
+            }
+        }
+
         NativeCell[] ReadColumn(TableId table, int first, int column, int count)
         {
             var cells = new NativeCell[count];
@@ -1109,13 +1229,306 @@ namespace Clim
 
         static readonly IntPtr empty = Marshal.AllocHGlobal(1);
 
-        static NativeBytes NoBytes { get { return new NativeBytes { At = empty }; } }
+        internal static NativeBytes NoBytes { get { return new NativeBytes { At = empty }; } }
 
         static ClimFault FaultOf(NativeFault fault)
         {
+            return new ClimFault(fault, RuleName(fault.Code));
+        }
+
+        /// <summary>The name of a rule, by its number.</summary>
+        internal static string RuleName(ushort code)
+        {
+            // Only tables can break these two rules, and the library has no names for them.
+            if (code == 509 || code == 510)
+                return code == 509 ? "BadCell" : "UserBytes";
             var name = NoBytes;
-            Native.clim_fault_name(fault.Code, ref name);
-            return new ClimFault(fault, Encoding.UTF8.GetString(BytesOf(name)));
+            Native.clim_fault_name(code, ref name);
+            return Encoding.UTF8.GetString(BytesOf(name));
+        }
+    }
+
+    /// <summary>
+    /// Tables that a program fills. <see cref="Root"/> checks them against all rules, and makes a metadata root of them.
+    /// <code>
+    /// var tables = new Tables();
+    /// tables.Add(TableId.Module, 0, "one.dll", Guid.NewGuid(), null, null);
+    /// tables.Add(TableId.TypeDef, 0, "&lt;Module&gt;", "", null, 1, 1);
+    /// tables.Add(TableId.TypeDef, 1, "Greeter", "Hello", null, tables.NextRow(TableId.Field), tables.NextRow(TableId.MethodDef));
+    /// tables.Add(TableId.MethodDef, 0, 0, 0x96, "Greet", new byte[] { 0x00, 0x00, 0x01 }, tables.NextRow(TableId.Param));
+    /// byte[] root = tables.Root();
+    /// </code>
+    /// A number, and the first row of a run, is of any integer type or an enum. A text is a <c>string</c>, a blob or a
+    /// signature a <c>byte[]</c>, a GUID a <c>Guid</c> or null, and a row of a table a <see cref="Token"/> or null.
+    /// </summary>
+    public sealed class Tables
+    {
+        // The number of bytes of a root that are neither cells nor heaps, at most, and those of a cell with what a heap adds.
+        const int Heads = 1000;
+        const int CellSize = 4 + 5 + 16;
+        // The number of bytes of #US to a multiple of which it is padded (II.24.2.2).
+        const int Alignment = 4;
+        // The token of a user string (II.24.2.4), and the number of bytes that its offset and its length can have.
+        const int UserStringTable = 0x70 << 24;
+        const int OffsetLimit = 1 << 24;
+        const int LengthLimit = 1 << 29;
+
+        /// <summary>A cell of a row that was added, and its text, blob or signature.</summary>
+        struct Kept
+        {
+            public NativeCell Cell;
+            public byte[] Content;
+        }
+
+        // It throws if a text has a surrogate without a partner.
+        static readonly Encoding utf8 = new UTF8Encoding(false, true);
+        static readonly byte[] none = new byte[0];
+
+        readonly SortedDictionary<TableId, List<Kept[]>> rows = new SortedDictionary<TableId, List<Kept[]>>();
+
+        /// <summary>Empty tables with a version string (II.24.2.1).</summary>
+        public Tables(string version = "v4.0.30319")
+        {
+            Version = version;
+            UserStrings = none;
+        }
+
+        /// <summary>The tables of an assembly, copied: its version, its user strings and all rows.</summary>
+        public static Tables Of(Assembly assembly)
+        {
+            var tables = new Tables(assembly.Version) { UserStrings = assembly.UserStrings };
+            foreach (TableId table in Enum.GetValues(typeof(TableId)))
+                foreach (var row in assembly.Values(table))
+                    tables.Add(table, row);
+            return tables;
+        }
+
+        /// <summary>The version string of the root.</summary>
+        public string Version { get; set; }
+
+        /// <summary>The bytes of <c>#US</c> (II.24.2.4).</summary>
+        public byte[] UserStrings { get; set; }
+
+        /// <summary>The number of rows in a table.</summary>
+        public int Count(TableId table)
+        {
+            List<Kept[]> found;
+            return rows.TryGetValue(table, out found) ? found.Count : 0;
+        }
+
+        /// <summary>
+        /// The row that a table gets next. A run begins with it: so add a type, then its fields and its methods, then the next
+        /// type.
+        /// </summary>
+        public int NextRow(TableId table)
+        {
+            return Count(table) + 1;
+        }
+
+        /// <summary>Adds a row at the end of a table, by its cells in the order of the columns.</summary>
+        /// <exception cref="ArgumentException">
+        /// There is no such table, it has another number of columns, or a cell is of another type.
+        /// </exception>
+        /// <exception cref="OverflowException">A number is negative, or has more than 32 bits.</exception>
+        public Token Add(TableId table, params object[] cells)
+        {
+            var names = Assembly.ColumnNames(table);
+            if (names.Length == 0 || cells == null || cells.Length != names.Length)
+                throw new ArgumentException(table + " has the columns " + string.Join(", ", names), "cells");
+            var row = new Kept[cells.Length];
+            for (int column = 0; column < row.Length; column++)
+                row[column] = Keep(table, names[column], column, cells[column]);
+            if (!rows.ContainsKey(table))
+                rows.Add(table, new List<Kept[]>());
+            rows[table].Add(row);
+            return new Token(table, Count(table));
+        }
+
+        /// <summary>Changes a cell of a row, in the column with a name.</summary>
+        /// <exception cref="ArgumentOutOfRangeException">There is no such row or column.</exception>
+        /// <exception cref="ArgumentException">The cell is of another type.</exception>
+        /// <exception cref="OverflowException">A number is negative, or has more than 32 bits.</exception>
+        public void Set(Token row, string column, object cell)
+        {
+            int index = Array.IndexOf(Assembly.ColumnNames(row.Table), column);
+            if (index < 0)
+                throw new ArgumentOutOfRangeException("column", row.Table + " has no column " + column);
+            if (row.Row < 1 || row.Row > Count(row.Table))
+                throw new ArgumentOutOfRangeException("row", row.Table + " has no row " + row.Row);
+            rows[row.Table][row.Row - 1][index] = Keep(row.Table, column, index, cell);
+        }
+
+        /// <summary>
+        /// Adds a user string, and returns its token, such as 0x70000001, which <c>ldstr</c> has (II.24.2.4). Surrogates that
+        /// have no partner may be in it.
+        /// </summary>
+        /// <exception cref="ArgumentException">It is too long, or <c>#US</c> has too many bytes for a token.</exception>
+        public int AddUserString(string text)
+        {
+            var heap = new List<byte>(UserStrings.Length == 0 ? new byte[1] : UserStrings);
+            int offset = heap.Count;
+            if (offset >= OffsetLimit || text.Length >= (LengthLimit - 1) / 2)
+                throw new ArgumentException("the user string has no token", "text");
+            int length = 2 * text.Length + 1;
+            if (length >= 1 << 14)
+                heap.AddRange(new[] { (byte)(0xC0 | length >> 24), (byte)(length >> 16) });
+            if (length >= 1 << 7)
+                heap.Add((byte)((length < 1 << 14 ? 0x80 : 0) | length >> 8));
+            heap.Add((byte)length);
+            byte flag = 0;
+            foreach (char unit in text)
+            {
+                heap.Add((byte)unit);
+                heap.Add((byte)(unit >> 8));
+                if (NeedsMore(unit))
+                    flag = 1;
+            }
+            heap.Add(flag);
+            UserStrings = heap.ToArray();
+            return UserStringTable | offset;
+        }
+
+        // Whether a character needs more than the handling of 8-bit sets. The last byte of its user string says so.
+        static bool NeedsMore(char unit)
+        {
+            return unit > 0xFF || unit >= 0x01 && unit <= 0x08 || unit >= 0x0E && unit <= 0x1F || unit == 0x27 || unit == 0x2D
+                || unit == 0x7F;
+        }
+
+        /// <summary>
+        /// Checks the tables, and returns the canonical root that they make (II.24.2). <see cref="Assembly.OpenRoot(byte[])"/>
+        /// opens it, with these rows.
+        /// </summary>
+        /// <exception cref="ClimRefusal">The tables break a rule. It is that of the first one.</exception>
+        /// <exception cref="ArgumentException">The version has a surrogate without a partner.</exception>
+        /// <exception cref="OverflowException">The root would have more than 2^30 bytes.</exception>
+        /// <exception cref="OutOfMemoryException">Memory ran out.</exception>
+        /// <exception cref="NotSupportedException">The library is older than this file.</exception>
+        public byte[] Root()
+        {
+            Native.CheckVersion();
+            var cells = new List<NativeCell>();
+            var contents = new List<byte[]>();
+            foreach (var kept in rows.Values)
+                foreach (var row in kept)
+                    foreach (var cell in row)
+                    {
+                        cells.Add(cell.Cell);
+                        contents.Add(cell.Content);
+                    }
+            long length = 0;
+            foreach (var content in contents)
+                length += content.Length;
+            var heap = new byte[length + 1];
+            var given = cells.ToArray();
+            GCHandle heapPin = GCHandle.Alloc(heap, GCHandleType.Pinned), cellsPin = GCHandle.Alloc(given, GCHandleType.Pinned);
+            try
+            {
+                Place(given, contents, heap, heapPin.AddrOfPinnedObject());
+                return Made(GivenRows(cellsPin.AddrOfPinnedObject()), Heads + heap.Length + (long)CellSize * given.Length);
+            }
+            finally
+            {
+                heapPin.Free();
+                cellsPin.Free();
+            }
+        }
+
+        /// <summary>Copies the contents of all cells into a heap, and lets each cell point to its own.</summary>
+        static void Place(NativeCell[] cells, List<byte[]> contents, byte[] heap, IntPtr start)
+        {
+            int at = 0;
+            for (int index = 0; index < cells.Length; index++)
+            {
+                var content = contents[index];
+                Buffer.BlockCopy(content, 0, heap, at, content.Length);
+                cells[index].Bytes = new NativeBytes { At = start + at, Length = (UIntPtr)content.Length };
+                at += content.Length;
+            }
+        }
+
+        /// <summary>The rows, whose cells follow one another. There is room for one at least.</summary>
+        NativeRow[] GivenRows(IntPtr cells)
+        {
+            var given = new List<NativeRow>();
+            foreach (var table in rows)
+                foreach (var row in table.Value)
+                {
+                    given.Add(new NativeRow { Cells = cells, Count = (UIntPtr)row.Length, Table = table.Key });
+                    cells += row.Length * Marshal.SizeOf(typeof(NativeCell));
+                }
+            given.Add(new NativeRow());
+            return given.ToArray();
+        }
+
+        byte[] Made(NativeRow[] given, long usual)
+        {
+            var version = utf8.GetBytes(Version);
+            var user = UserStrings;
+            Array.Resize(ref user, (user.Length + Alignment - 1) / Alignment * Alignment);
+            for (var root = new byte[usual + user.Length]; ;)
+            {
+                var refusal = new NativeRefusal();
+                int length = Native.RootLength(() => Native.clim_tables(
+                    version, Native.Length(version), user, Native.Length(user), given, (UIntPtr)(given.Length - 1),
+                    root, Native.Length(root), ref refusal));
+                if (length == 0)
+                    throw new ClimRefusal(refusal, Assembly.RuleName(refusal.Code));
+                bool fits = length <= root.Length;
+                Array.Resize(ref root, length);
+                if (fits)
+                    return root;
+            }
+        }
+
+        /// <summary>A cell of a column, by its value.</summary>
+        static Kept Keep(TableId table, string name, int column, object value)
+        {
+            var cell = new NativeCell();
+            var content = none;
+            if (value == null)
+                cell.Kind = IsGuid(name) ? CellKind.NullGuid : CellKind.NullRow;
+            else if (value is string)
+            {
+                cell.Kind = CellKind.Text;
+                content = utf8.GetBytes((string)value);
+            }
+            else if (value is byte[])
+            {
+                cell.Kind = column == Assembly.SignatureColumn(table) ? CellKind.Signature : CellKind.Blob;
+                content = (byte[])((byte[])value).Clone();
+            }
+            else if (value is Guid)
+            {
+                cell.Kind = CellKind.Guid;
+                cell.Guid = (Guid)value;
+            }
+            else if (value is Token)
+            {
+                cell.Kind = CellKind.Row;
+                cell.Table = ((Token)value).Table;
+                cell.Number = (uint)((Token)value).Row;
+            }
+            else if (IsInteger(value))
+            {
+                cell.Kind = name.EndsWith("List") ? CellKind.Start : CellKind.Number;
+                cell.Number = Convert.ToUInt32(value);
+            }
+            else
+                throw new ArgumentException(table + " " + name + ": no cell is of the type " + value.GetType(), "cells");
+            return new Kept { Cell = cell, Content = content };
+        }
+
+        // The columns of GUIDs are those of Module.
+        static bool IsGuid(string name)
+        {
+            return name == "Mvid" || name == "EncId" || name == "EncBaseId";
+        }
+
+        static bool IsInteger(object value)
+        {
+            var code = Type.GetTypeCode(value.GetType());
+            return code >= TypeCode.SByte && code <= TypeCode.UInt64;
         }
     }
 

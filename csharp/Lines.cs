@@ -5,6 +5,8 @@
 //                                     one byte set to 00 or FF, one line each
 //     Lines.exe rewrite FILE OUT [bare]
 //                                     writes the canonical root to OUT, as clim rewrite does, and prints its digest
+//     Lines.exe build FILE OUT [bare]
+//                                     the same, but the root is that of tables with the rows of the file
 
 using System;
 using System.Collections.Generic;
@@ -105,9 +107,9 @@ static class Lines
         return BitConverter.ToString(bytes).Replace("-", "").ToLowerInvariant();
     }
 
-    static void Rewrite(Assembly assembly, string path)
+    static void WriteRoot(Assembly assembly, byte[] root, string path)
     {
-        File.WriteAllBytes(path, assembly.CanonicalRoot());
+        File.WriteAllBytes(path, root);
         Console.WriteLine(Hex(assembly.Digest()));
     }
 
@@ -125,7 +127,9 @@ static class Lines
         else
             using (var assembly = Open(data, bare))
                 if (arguments[0] == "rewrite")
-                    Rewrite(assembly, arguments[2]);
+                    WriteRoot(assembly, assembly.CanonicalRoot(), arguments[2]);
+                else if (arguments[0] == "build")
+                    WriteRoot(assembly, Tables.Of(assembly).Root(), arguments[2]);
                 else
                     Show(assembly);
         output.Flush();

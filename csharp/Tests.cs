@@ -145,6 +145,7 @@ static class Tests
             });
             Newer("clim_where", () => Where(assembly));
             Newer("clim_compare", () => Differences(assembly));
+            Newer("clim_tables", () => Built(assembly));
             Newer("clim_digest", () =>
             {
                 using (var hash = System.Security.Cryptography.SHA256.Create())
@@ -187,6 +188,96 @@ static class Tests
         }
     }
 
+    // Tables with a cell of each kind, and a type in another type.
+    static Tables Sample()
+    {
+        var tables = new Tables();
+        var module = tables.Add(TableId.Module, 0, "one.dll", new Guid("03020100-0504-0706-0809-0a0b0c0d0e0f"), null, null);
+        var parent = tables.Add(TableId.TypeRef, module, "Object", "System");
+        tables.Add(TableId.TypeDef, 0, "<Module>", "", null, 1, 1);
+        var outer = AddType(tables, "Greeter", "Hello", parent);
+        tables.Add(TableId.Field, FieldAttributes.Public, "count", new byte[] { 0x06, 0x08 });
+        tables.Add(TableId.MethodDef, 0, 0, 6, "Greet", new byte[] { 0x20, 0x01, 0x01, 0x08 }, tables.NextRow(TableId.Param));
+        tables.Add(TableId.Param, 0, 1, "times");
+        var inner = AddType(tables, "Inner", "", null);
+        tables.Add(TableId.NestedClass, inner, outer);
+        tables.Add(TableId.TypeSpec, new byte[] { 0x1D, 0x12, 0x05 });
+        return tables;
+    }
+
+    static Token AddType(Tables tables, string name, string space, Token? parent)
+    {
+        return tables.Add(TableId.TypeDef, TypeAttributes.Public, name, space, parent, tables.NextRow(TableId.Field),
+            tables.NextRow(TableId.MethodDef));
+    }
+
+    static void Built(Assembly greeter)
+    {
+        Check(Tables.Of(greeter).Root().SequenceEqual(greeter.CanonicalRoot()), "the tables of an assembly make its root");
+        var tables = Sample();
+        int first = tables.AddUserString("A"), second = tables.AddUserString("\ud800" + new string('b', 10000));
+        var root = tables.Root();
+        using (var assembly = Assembly.OpenRoot(root))
+        {
+            Check(assembly.CanonicalRoot().SequenceEqual(root) && Tables.Of(assembly).Root().SequenceEqual(root), "a root");
+            Check(assembly.Row<ModuleRow>(1).Mvid == new Guid("03020100-0504-0706-0809-0a0b0c0d0e0f"), "a GUID");
+            Check(assembly.FullName(assembly.Row<TypeDefRow>(3)) == "Hello.Greeter/Inner", "a nested type");
+            var type = assembly.FindType("Hello", "Greeter").Value;
+            Check(type.Extends.Value.Value == 0x01000001 && type.Flags == 1, "a type");
+            Check(assembly.Methods(type).Single().Name == "Greet" && assembly.Fields(type).Single().Flags == 6, "its members");
+            Check(assembly.Params(assembly.Row<MethodDefRow>(1)).Single().Name == "times", "a parameter");
+            Check(assembly.UserString(first) == "A" && assembly.UserString(second).Length == 10001, "user strings");
+            Check(assembly.UserString(second)[0] == '\ud800', "a surrogate without a partner");
+            tables.Set(type.Token, "TypeName", "Welcomer");
+            using (var changed = Assembly.OpenRoot(tables.Root()))
+                Check(changed.FullName(changed.Row<TypeDefRow>(2)) == "Hello.Welcomer", "a cell that was changed");
+        }
+        using (var empty = Assembly.OpenRoot(new Tables("").Root()))
+            Check(empty.Version == "" && empty.Count(TableId.Module) == 0, "no rows");
+        Refused();
+        Unfit(tables);
+    }
+
+    // What breaks a rule, and the text of the refusal.
+    static void Refused()
+    {
+        Token inner = new Token(TableId.TypeDef, 3), nested = new Token(TableId.NestedClass, 1);
+        Refuse(inner, "Extends", new Token(TableId.TypeRef, 2), "refusal 5 506 at TypeDef 3 Extends: BadIndex");
+        Refuse(inner, "TypeName", new byte[] { 1 }, "refusal 5 509 at TypeDef 3 TypeName: BadCell");
+        Refuse(inner, "TypeName", null, "refusal 5 509 at TypeDef 3 TypeName: BadCell");
+        Refuse(inner, "FieldList", 4, "refusal 5 507 at TypeDef 3 FieldList: BadList");
+        Refuse(inner, "FieldList", 0, "refusal 6 602 at TypeDef 3 FieldList: BadRun");
+        Refuse(nested, "EnclosingClass", inner, "refusal 6 604 at NestedClass 1 EnclosingClass: NestedOrder");
+        Refuse(new Token(TableId.Field, 1), "Signature", new byte[] { 6 }, "refusal 7 701 at Field 1 Signature: BadSignature");
+        var refusal = Throws<ClimRefusal>(() => new Tables(new string('v', 255)).Root());
+        Check(refusal.Message == "refusal 3 302: Version" && refusal.Table == null && refusal.Row == null, "no table");
+        Check(refusal.Layer == 3 && refusal.Code == 302 && refusal.RuleName == "Version", "the parts of a refusal");
+        Check(refusal.Column == null && refusal.ColumnName == null, "no column");
+        Newer("clim_explain", () => Check(refusal.Explanation.StartsWith("302 Version: "), "an explanation"));
+    }
+
+    static void Refuse(Token row, string column, object cell, string text)
+    {
+        var tables = Sample();
+        tables.Set(row, column, cell);
+        var refusal = Throws<ClimRefusal>(() => tables.Root());
+        Check(refusal.Message == text, text + " is not " + refusal.Message);
+        Check(refusal.Table == row.Table && refusal.Row == row.Row && refusal.ColumnName == column, "the cell of " + text);
+    }
+
+    // What is no cell.
+    static void Unfit(Tables tables)
+    {
+        Throws<ArgumentException>(() => tables.Add(TableId.Module, 0));
+        Throws<ArgumentException>(() => tables.Add((TableId)3, 0));
+        Throws<ArgumentException>(() => tables.Add(TableId.ModuleRef, 1.5));
+        Throws<ArgumentException>(() => tables.Add(TableId.ModuleRef, "\ud800"));
+        Throws<OverflowException>(() => tables.Add(TableId.AssemblyProcessor, -1));
+        Throws<ArgumentOutOfRangeException>(() => tables.Set(new Token(TableId.Module, 2), "Name", "a"));
+        Throws<ArgumentOutOfRangeException>(() => tables.Set(new Token(TableId.File, 1), "Name", "a"));
+        Throws<ArgumentOutOfRangeException>(() => tables.Set(new Token(TableId.Module, 1), "Title", "a"));
+    }
+
     static void Header(byte[] file)
     {
         var header = Assembly.ReadHeader(file);
@@ -227,6 +318,8 @@ static class Tests
                     methods++;
                 }
             }
+            Newer("clim_tables", () =>
+                Expect(Tables.Of(assembly).Root().SequenceEqual(assembly.CanonicalRoot()), "the tables of " + path));
             foreach (var nested in assembly.Rows<NestedClassRow>())
             {
                 var type = assembly.Row<TypeDefRow>(nested.NestedClass.Row);

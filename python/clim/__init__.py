@@ -1,4 +1,4 @@
-"""Reads the metadata of .NET assemblies (ECMA-335 II.22 to II.25), in place and proved.
+"""Reads the metadata of .NET assemblies (ECMA-335 II.22 to II.25), in place and proved, and makes new metadata.
 
     import clim
 
@@ -10,6 +10,9 @@
 A file is opened if and only if it meets all rules. Then each cell is proved to be that of the file's only model. What
 `clim.open` returns has the tables by name, `assembly["TypeDef"]`, and their rows with a cell for each column,
 `row.TypeName`. `clim.rows` has the classes of rows. Rows count from 1, as in the standard.
+
+`clim.Tables` has rows that a program adds, or those of an assembly, which may be changed. Its `root()` checks them against
+all rules, and returns the metadata root that they make.
 
 The shared library is the file that the environment variable CLIM_LIBRARY names, or else the one that a wheel has, or
 else the one that is installed.
@@ -24,7 +27,8 @@ from . import rows
 from ._library import FaultStruct, Unsupported, library, supports
 from .assembly import Assembly, Source, Table, address_of, fault_of, header_of, read_source
 from .rows import Row
-from .values import BudgetSpent, Difference, Directory, Fault, Header, Location, Signature, Start, Token
+from .tables import Tables
+from .values import BudgetSpent, Difference, Directory, Fault, Header, Location, Refusal, Signature, Start, Token
 
 __version__ = "0.1.0"
 
@@ -36,10 +40,12 @@ __all__ = [
     "Fault",
     "Header",
     "Location",
+    "Refusal",
     "Row",
     "Signature",
     "Start",
     "Table",
+    "Tables",
     "Token",
     "Unsupported",
     "check",

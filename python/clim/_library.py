@@ -111,6 +111,14 @@ class ViewStruct(ctypes.Structure):
     _fields_ = [("root", Bytes), ("found", _Found), ("is_open", c_bool)]
 
 
+class RefusalStruct(ctypes.Structure):
+    """A `clim_refusal`."""
+
+    _fields_ = [("column", c_size_t), ("row", c_uint32), ("code", c_uint16), ("table", c_uint8)]
+
+
+#: A `clim_row`: the address of its first cell, the number of its cells, and its table.
+GIVEN_ROW = struct.Struct("@PNB7x")
 #: A `clim_cell`: the address and the number of its bytes, its number, its kind, its table and its GUID.
 CELL = struct.Struct("@PNIBB16s2x")
 #: The first two of them.
@@ -176,6 +184,7 @@ _NEWER: dict[str, tuple[Any, ...]] = {
     "clim_user_string": (c_bool, _VIEW, c_uint32, c_void_p, c_size_t, POINTER(c_size_t), POINTER(c_uint16)),
     "clim_where": (c_bool, _VIEW, c_size_t, POINTER(LocationStruct)),
     "clim_compare": (c_size_t, _VIEW, _VIEW, POINTER(DifferenceStruct)),
+    "clim_tables": (c_size_t, *[c_void_p, c_size_t] * 4, POINTER(RefusalStruct)),
 }
 
 

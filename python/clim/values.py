@@ -37,6 +37,47 @@ class Fault(Exception):
         return cast(str, written_text(library.clim_explain, self.code))
 
 
+class Refusal(Exception):
+    """The first rule that tables break, as `Tables.root` raises it. What the rule is not about is `None`.
+
+    Attributes:
+        code: The number of the rule, for example 506. docs/FAULTS.md explains each.
+        name: The name of the rule, for example `"BadIndex"`.
+        table: The name of the table, for example `"TypeDef"`.
+        row: The row, counted from 1.
+        column: The name of the column, for example `"Extends"`. A rule about a whole row is reported at its first column.
+    """
+
+    def __init__(
+        self,
+        code: int,
+        name: str,
+        table: Optional[str] = None,
+        row: Optional[int] = None,
+        column: Optional[str] = None,
+    ) -> None:
+        super().__init__(code, name, table, row, column)
+        self.code, self.name, self.table, self.row, self.column = code, name, table, row, column
+
+    def __str__(self) -> str:
+        cell = " ".join(str(it) for it in (self.table, self.row, self.column) if it is not None)
+        return f"refusal {self.layer} {self.code}{f' at {cell}' if cell else ''}: {self.name}"
+
+    @property
+    def layer(self) -> int:
+        """The layer of the rule, from 1 to 9: the hundreds of its number."""
+        return self.code // 100
+
+    @property
+    def explanation(self) -> str:
+        """What `clim explain` prints of the rule, in lines that are not broken.
+
+        Raises:
+            Unsupported: The library is older than this package.
+        """
+        return cast(str, written_text(library.clim_explain, self.code))
+
+
 class BudgetSpent(Exception):
     """The signatures of a file have more bytes than the budget of `clim.open` allows."""
 

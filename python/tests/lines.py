@@ -5,6 +5,8 @@
                                    byte set to 00 or FF, one line each
     lines.py rewrite FILE OUT [bare]
                                    writes the canonical root to OUT, as clim rewrite does, and prints its digest
+    lines.py build FILE OUT [bare]
+                                   the same, but the root is that of tables with the rows of the file
     lines.py times FILE [bare]     prints how long calls take
 """
 
@@ -58,9 +60,9 @@ def show(assembly):
             print(f"{row.number}:", *map(shown, row.cells().values()))
 
 
-def rewrite(assembly, path):
+def write_root(assembly, root, path):
     with open(path, "wb") as out:
-        out.write(assembly.canonical_root())
+        out.write(root)
     print(assembly.digest().hex())
 
 
@@ -73,6 +75,9 @@ def times(data, bare):
     measure("open", lambda: len(clim.open(data, bare).types))
     assembly = clim.open(data, bare)
     measure("the names of methods, as a column", lambda: len(assembly.methods.column("Name")))
+    if clim.supports("clim_tables"):
+        tables = clim.Tables.of(assembly)
+        measure("the canonical root of its tables", lambda: len(tables.root()))
     measure("the same again, by their types", lambda: sum(len(method.name) > 0 for type in assembly.types for method in type.methods))
 
 
@@ -85,7 +90,11 @@ def main():
     if sys.argv[1] == "show":
         show(clim.open(data, bare))
     elif sys.argv[1] == "rewrite":
-        rewrite(clim.open(data, bare), sys.argv[3])
+        assembly = clim.open(data, bare)
+        write_root(assembly, assembly.canonical_root(), sys.argv[3])
+    elif sys.argv[1] == "build":
+        assembly = clim.open(data, bare)
+        write_root(assembly, clim.Tables.of(assembly).root(), sys.argv[3])
     else:
         {"vary": vary, "times": times}[sys.argv[1]](data, bare)
 

@@ -60,10 +60,10 @@ class Declared(unittest.TestCase):
             self.assertTrue(all(cells[it] == it for it in names) and set(cells.values()) == names, name)
 
     def test_structs(self):
-        sizes = {"Bytes": 16, "FaultStruct": 16, "HeaderStruct": 96, "StreamStruct": 32, "ViewStruct": 5208}
+        sizes = {"Bytes": 16, "FaultStruct": 16, "HeaderStruct": 96, "StreamStruct": 32, "ViewStruct": 5208, "RefusalStruct": 16}
         for name, size in sizes.items():
             self.assertEqual(_library.ctypes.sizeof(getattr(_library, name)), size)
-        self.assertEqual((_library.CELL.size, _library.CELL_BYTES.size), (40, 40))
+        self.assertEqual((_library.CELL.size, _library.CELL_BYTES.size, _library.GIVEN_ROW.size), (40, 40, 24))
         self.assertEqual(_library.ViewStruct.is_open.offset, 5204)
 
     def test_version(self):
@@ -181,7 +181,9 @@ class Closed(unittest.TestCase):
                 lambda: table.by_key(0x02000001), lambda: assembly["TypeDef"], lambda: assembly.types,
                 lambda: list(assembly), lambda: assembly.version, lambda: assembly.user, lambda: assembly.heaps,
                 lambda: assembly.header, lambda: assembly.find_type("", "a"), lambda: assembly.row(0x02000001),
-                lambda: assembly.module, assembly.to_dict, assembly.__enter__,
+                lambda: assembly.module, assembly.to_dict, assembly.__enter__, assembly.canonical_root, assembly.digest,
+                lambda: assembly.where(0), lambda: assembly.user_string(0x70000001), lambda: assembly.difference(assembly),
+                lambda: clim.compare(assembly, assembly), lambda: clim.Tables.of(assembly), lambda: name and row.Flags,
             ]
             for number, call in enumerate(calls):
                 with self.subTest(call=number), self.assertRaisesRegex(ValueError, "the assembly is closed"):
@@ -546,9 +548,150 @@ class Features(unittest.TestCase):
         return version + streams + struct.pack("<IBBBBQQ", 0, 2, 0, 0, 1, 0, 0x16003301FA00) + user
 
 
+class Built(unittest.TestCase):
+    """Tables that a program fills."""
+
+    MVID = uuid.UUID("03020100-0504-0706-0809-0a0b0c0d0e0f")
+
+    def setUp(self):
+        if not clim.supports("clim_tables"):
+            with self.assertRaises(clim.Unsupported) as caught:
+                clim.Tables().root()
+            self.assertEqual(caught.exception.function, "clim_tables")
+            self.skipTest("the library is older")
+
+    def sample(self):
+        """A module, a reference, two types of which one is nested, a field, and a method with a parameter."""
+        tables = clim.Tables()
+        tables.add("Module", 0, "one.dll", self.MVID, None, None)
+        base = tables.add("TypeRef", ResolutionScope=("Module", 1), TypeName="Object", TypeNamespace="System")
+        tables.add("TypeDef", TypeName="<Module>")
+        outer = tables.add("TypeDef", Flags=1, TypeName="Greeter", TypeNamespace="Hello", Extends=base)
+        tables.add("Field", Flags=6, Name="count", Signature=b"\x06\x08")
+        tables.add("MethodDef", Flags=6, Name="Greet", Signature=b"\x20\x01\x01\x08")
+        tables.add("Param", Sequence=1, Name="times")
+        inner = tables.add("TypeDef", Flags=2, TypeName="Inner")
+        tables.add("NestedClass", inner, outer)
+        tables.add("TypeSpec", b"\x1d\x12\x05")
+        return tables
+
+    def test_cells_are_those_that_were_given(self):
+        tables = self.sample()
+        tokens = tables.add_user_string("A"), tables.add_user_string("\ud800" + "'" * 100)
+        root = tables.root()
+        with clim.open(root, bare=True) as assembly:
+            self.assertEqual(assembly.canonical_root(), root)
+            self.assertEqual((assembly.version, assembly.module.Mvid), ("v4.0.30319", self.MVID))
+            for name in _library.TABLE_NUMBERS:
+                self.assertEqual([row.cells() for row in assembly[name]], tables[name])
+            first, greeter, inner = assembly.types
+            self.assertEqual((first.methods, [it.name for it in greeter.methods]), ([], ["Greet"]))
+            self.assertEqual(([it.name for it in greeter.fields], greeter.base.name), (["count"], "Object"))
+            self.assertEqual((inner.full_name, inner.methods), ("Hello.Greeter/Inner", []))
+            self.assertEqual([it.name for it in greeter.methods[0].params], ["times"])
+            self.assertEqual([assembly.user_string(it) for it in tokens], ["A", "\ud800" + "'" * 100])
+            self.assertEqual(assembly.user, b"\0\x03A\0\0\x80\xcb\0\xd8" + b"'\0" * 100 + b"\x01" + bytes(2))
+
+    def test_tables_of_an_assembly_make_its_canonical_root(self):
+        for path, assembly in opened():
+            tables = clim.Tables.of(assembly)
+            self.assertEqual(tables.root(), assembly.canonical_root(), path)
+            self.assertEqual(repr(tables), f"<tables of {sum(map(len, assembly))} rows>")
+            for table in assembly:
+                self.assertEqual(tables[table.name], [row.cells() for row in table][: len(table)], path)
+        self.assertRaises(ValueError, clim.Tables.of, assembly)
+
+    def test_a_cell_is_changed(self):
+        with clim.open(SAMPLES / "greeter.root", bare=True) as assembly:
+            tables = clim.Tables.of(assembly)
+            tables["TypeDef"][1]["TypeName"] = "Welcomer"
+            with clim.open(tables.root(), bare=True) as changed:
+                self.assertEqual(clim.compare(assembly, changed), clim.Difference("cell", "TypeDef", 2, "TypeName"))
+                self.assertEqual(changed.types[1].full_name, "Hello.Welcomer")
+            tables["TypeDef"][1]["Extends"] = assembly.types[0]
+            tables["TypeDef"][0]["Extends"] = None
+            with clim.open(tables.root(), bare=True) as changed:
+                self.assertEqual(changed.types[1].Extends, 0x02000001)
+
+    def test_rules(self):
+        def changed(table, column, value):
+            tables = self.sample()
+            tables[table][-1][column] = value
+            return tables
+
+        wanted = [
+            (changed("TypeDef", "Extends", ("TypeRef", 2)), "refusal 5 506 at TypeDef 3 Extends: BadIndex"),
+            (changed("TypeDef", "Extends", ("Module", 1)), "refusal 5 509 at TypeDef 3 Extends: BadCell"),
+            (changed("TypeDef", "Extends", 0x03000001), "refusal 5 509 at TypeDef 3 Extends: BadCell"),
+            (changed("NestedClass", "NestedClass", None), "refusal 5 506 at NestedClass 1 NestedClass: BadIndex"),
+            (changed("Field", "Flags", 0x10000), "refusal 5 509 at Field 1 Flags: BadCell"),
+            (changed("Param", "Name", "a\0b"), "refusal 5 509 at Param 1 Name: BadCell"),
+            (changed("TypeDef", "FieldList", 4), "refusal 5 507 at TypeDef 3 FieldList: BadList"),
+            (changed("TypeDef", "FieldList", 0), "refusal 6 602 at TypeDef 3 FieldList: BadRun"),
+            (changed("NestedClass", "EnclosingClass", 0x02000003), "refusal 6 604 at NestedClass 1 EnclosingClass: NestedOrder"),
+            (changed("Field", "Signature", b"\x06"), "refusal 7 701 at Field 1 Signature: BadSignature"),
+            (changed("TypeSpec", "Signature", b"\x1d\x12\x09"), "refusal 7 702 at TypeSpec 1 Signature: SignatureIndex"),
+        ]
+        versioned, alone = clim.Tables("v" * 255), clim.Tables()
+        alone.add("Event", Name="Greeted")
+        wanted += [(versioned, "refusal 3 302: Version"), (alone, "refusal 6 603 at Event 1 EventFlags: NoOwner")]
+        for tables, text in wanted:
+            with self.assertRaises(clim.Refusal) as caught:
+                tables.root()
+            self.assertEqual(str(caught.exception), text)
+            for same in (pickle.loads(pickle.dumps(caught.exception)), copy.copy(caught.exception)):
+                self.assertEqual((str(same), vars(same)), (text, vars(caught.exception)))
+            self.assertRegex(caught.exception.explanation, f"^{caught.exception.code}( {caught.exception.name})?: ")
+        self.assertEqual((caught.exception.table, caught.exception.row, caught.exception.layer), ("Event", 1, 6))
+
+    def test_what_no_cell_can_be(self):
+        tables = clim.Tables()
+        for error, call in (
+            (KeyError, lambda: tables.add("NoTable")), (KeyError, lambda: tables.add(3)), (KeyError, lambda: tables["NoTable"]),
+            (TypeError, lambda: tables.add("Module", 0)), (TypeError, lambda: tables.add("Module", NoColumn=0)),
+            (TypeError, lambda: tables.add("Field", Name="f")), (TypeError, lambda: tables.add("TypeSpec", "1d08")),
+            (TypeError, lambda: tables.add("Module", Name=b"a")), (TypeError, lambda: tables.add("Module", Generation="0")),
+            (TypeError, lambda: tables.add("Module", Mvid="a")), (TypeError, lambda: tables.add("TypeDef", Flags=clim.Token(1))),
+            (TypeError, lambda: tables.add("TypeDef", Extends="TypeRef")), (KeyError, lambda: tables.add("TypeDef", Extends=("a", 1))),
+            (ValueError, lambda: tables.add("TypeDef", Flags=-1)), (ValueError, lambda: tables.add("TypeDef", Flags=1 << 32)),
+            (ValueError, lambda: tables.add("TypeDef", Extends=("TypeDef", 1 << 24))), (TypeError, lambda: tables.add("TypeDef", Extends=("TypeDef", "a"))),
+            (ValueError, lambda: tables.add("TypeDef", Extends=1 << 32)), (ValueError, lambda: tables.add("TypeDef", TypeName="\ud800")),
+        ):
+            self.assertRaises(error, call)
+        self.assertEqual(repr(tables), "<tables of 0 rows>")
+        with self.assertRaisesRegex(TypeError, "^Module 1 Name: a text is wanted, and not b'a'$"):
+            tables.add("Module", Name=b"a")
+        tables.add("Module", Name="a")
+        del tables["Module"][0]["Name"]
+        self.assertRaises(KeyError, tables.root)
+        tables["Module"][0].update(Name="a", Title="b")
+        self.assertRaisesRegex(KeyError, "Title", tables.root)
+        tables["Module"][0] = {"Name": 1}
+        self.assertRaises((KeyError, TypeError), tables.root)
+
+    def test_flags_of_user_strings(self):
+        tables = clim.Tables()
+        for text, flag in (("", 0), ("a b", 0), ("it's", 1), ("a-b", 1), ("\t\n\r", 0), ("\x01", 1), ("\x7f", 1), ("\u00e9", 0), ("\u0141", 1)):
+            tables.add_user_string(text)
+            self.assertEqual(tables.user[-1], flag, text)
+        token = tables.add_user_string("b" * 10000)
+        self.assertEqual(token, 0x70000000 | len(tables.user) - 20005)
+        with clim.open(tables.root(), bare=True) as assembly:
+            self.assertEqual(assembly.user_string(token), "b" * 10000)
+
+
+class Examples(doctest.DocTestParser):
+    """The examples of README.md, without those of its last section if the library is too old for them."""
+
+    def get_examples(self, string, name="<string>"):
+        text, found, _ = string.partition("## New metadata\n")
+        self_contained = string if found and clim.supports("clim_tables") else text
+        return super().get_examples(self_contained, name)
+
+
 def load_tests(loader, tests, pattern):
     """The tests above, and the examples of README.md."""
-    tests.addTests(doctest.DocFileSuite(str(TOP / "python/README.md"), module_relative=False))
+    tests.addTests(doctest.DocFileSuite(str(TOP / "python/README.md"), module_relative=False, parser=Examples()))
     return tests
 
 
@@ -557,7 +700,7 @@ def main():
     os.chdir(TOP)
     result = unittest.main(argv=sys.argv[:1], exit=False).result
     bad = len(result.failures) + len(result.errors)
-    print(f"{result.testsRun - bad} passed, {bad} failed")
+    print(f"{result.testsRun - bad - len(result.skipped)} passed, {bad} failed")
     return bad > 0
 
 

@@ -23,6 +23,7 @@ const NEWER: &[&str] = &[
     "clim_digest",
     "clim_where",
     "clim_compare",
+    "clim_tables",
 ];
 
 /// The folder of the library by pkg-config, or why there is none.

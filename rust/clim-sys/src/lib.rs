@@ -127,6 +127,25 @@ pub struct clim_difference {
     pub table: u8,
 }
 
+/// A row that is given to `clim_tables`.
+#[repr(C)]
+#[derive(Clone, Copy)]
+pub struct clim_row {
+    pub cells: *const clim_cell,
+    pub count: usize,
+    pub table: u8,
+}
+
+/// The first rule that tables break.
+#[repr(C)]
+#[derive(Clone, Copy)]
+pub struct clim_refusal {
+    pub column: usize,
+    pub row: u32,
+    pub code: u16,
+    pub table: u8,
+}
+
 pub const CLIM_VERSION_DIFFERS: u8 = 1;
 pub const CLIM_USER_DIFFERS: u8 = 2;
 pub const CLIM_COUNT_DIFFERS: u8 = 3;
@@ -142,13 +161,16 @@ pub const CLIM_NO_LOCATION: clim_location = clim_location { offset: 0, size: 0, 
 pub const CLIM_NO_DIFFERENCE: clim_difference =
     clim_difference { column: 0, row: 0, left_count: 0, right_count: 0, kind: 0, table: 0 };
 
+pub const CLIM_NO_REFUSAL: clim_refusal = clim_refusal { column: 0, row: 0, code: 0, table: 0 };
+
 /// The version of the interface that this crate declares.
 pub const CLIM_ABI_VERSION: u32 = 1;
 
-/// What `clim_signature_text` returns for a text that is too long, and `clim_canonical_root` for a root that is.
+/// What `clim_signature_text` returns for a text that is too long, and `clim_canonical_root`, `clim_digest` and
+/// `clim_tables` for a root that is.
 pub const CLIM_TOO_LONG: usize = usize::MAX;
 
-/// What `clim_canonical_root`, `clim_digest` and `clim_compare` return if memory runs out.
+/// What `clim_canonical_root`, `clim_digest`, `clim_compare` and `clim_tables` return if memory runs out.
 pub const CLIM_NO_MEMORY: usize = usize::MAX - 1;
 
 pub const CLIM_NO_BYTES: clim_bytes = clim_bytes { at: b"".as_ptr(), len: 0 };
@@ -224,6 +246,7 @@ newer! {
     HAS_DIGEST: fn clim_digest(view: *const clim_view, digest: *mut u8) -> usize;
     HAS_WHERE: fn clim_where(view: *const clim_view, offset: usize, location: *mut clim_location) -> bool;
     HAS_COMPARE: fn clim_compare(left: *const clim_view, right: *const clim_view, difference: *mut clim_difference) -> usize;
+    HAS_TABLES: fn clim_tables(version: *const u8, version_len: usize, user: *const u8, user_len: usize, rows: *const clim_row, row_count: usize, buffer: *mut u8, room: usize, refusal: *mut clim_refusal) -> usize;
 }
 
 // The layout of the structs, as tests of the C library have it.
@@ -234,3 +257,5 @@ const _: () = assert!(size_of::<clim_view>() == 5208);
 const _: () = assert!(size_of::<clim_cell>() == 40);
 const _: () = assert!(size_of::<clim_location>() == 32);
 const _: () = assert!(size_of::<clim_difference>() == 24);
+const _: () = assert!(size_of::<clim_row>() == 24);
+const _: () = assert!(size_of::<clim_refusal>() == 16);

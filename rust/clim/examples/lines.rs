@@ -5,8 +5,10 @@
 //!                                 byte set to 00 or FF, one line each
 //!     lines rewrite FILE OUT [bare]
 //!                                 writes the canonical root to OUT, as clim rewrite does, and prints its digest
+//!     lines build FILE OUT [bare]
+//!                                 the same, but the root is that of tables with the rows of the file
 
-use clim::{check, check_root, Cell, Fault, Signature, Table, View};
+use clim::{check, check_root, Cell, Fault, Signature, Table, Tables, View};
 use std::error::Error;
 use std::io::{stdout, BufWriter, Write};
 use std::{env, fs, io};
@@ -87,9 +89,9 @@ fn show(out: &mut impl Write, view: &View) -> io::Result<()> {
     Ok(())
 }
 
-/// Writes the canonical root to a file, and its digest as hexadecimal digits.
-fn rewrite(out: &mut impl Write, view: &View, path: &str) -> Result<(), Box<dyn Error>> {
-    fs::write(path, view.canonical_root()?)?;
+/// Writes a root to a file, and the digest of the view as hexadecimal digits.
+fn write_root(out: &mut impl Write, view: &View, root: &[u8], path: &str) -> Result<(), Box<dyn Error>> {
+    fs::write(path, root)?;
     view.digest()?.iter().try_for_each(|byte| write!(out, "{byte:02x}"))?;
     Ok(writeln!(out)?)
 }
@@ -97,13 +99,20 @@ fn rewrite(out: &mut impl Write, view: &View, path: &str) -> Result<(), Box<dyn 
 fn main() -> Result<(), Box<dyn Error>> {
     let arguments: Vec<_> = env::args().collect();
     let [_, what, path, others @ ..] = &arguments[..] else {
-        return Err("lines show|vary|rewrite FILE [OUT] [bare]".into());
+        return Err("lines show|vary|rewrite|build FILE [OUT] [bare]".into());
     };
     let bare = others.last().is_some_and(|it| it == "bare");
     let (mut data, mut out) = (fs::read(path)?, BufWriter::new(stdout().lock()));
     match what.as_str() {
         "vary" => vary(&mut out, &mut data, bare)?,
-        "rewrite" => rewrite(&mut out, &open(&data, bare)?, &others[0])?,
+        "rewrite" => {
+            let view = open(&data, bare)?;
+            write_root(&mut out, &view, &view.canonical_root()?, &others[0])?;
+        }
+        "build" => {
+            let view = open(&data, bare)?;
+            write_root(&mut out, &view, &Tables::of(&view).root()?, &others[0])?;
+        }
         _ => show(&mut out, &open(&data, bare)?)?,
     }
     Ok(())

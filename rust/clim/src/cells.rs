@@ -81,10 +81,16 @@ impl<'a> Cell<'a> {
 pub(crate) trait Column<'a>: Sized {
     /// The value; `None` if the cell is of another kind.
     fn from_cell(cell: Cell<'a>) -> Option<Self>;
+
+    /// The cell with the value, in the column with a name.
+    fn to_cell(self, column: &str) -> Cell<'a>;
 }
 
+/// The end of the names of the columns that have the start of a run (II.22). No other name ends with it.
+const RUN: &str = "List";
+
 macro_rules! columns {
-    ($($type:ty: $pattern:pat => $value:expr;)*) => {$(
+    ($($type:ty: $pattern:pat => $value:expr, |$it:ident, $column:ident| $cell:expr;)*) => {$(
         impl<'a> Column<'a> for $type {
             fn from_cell(cell: Cell<'a>) -> Option<Self> {
                 match cell {
@@ -92,16 +98,22 @@ macro_rules! columns {
                     _ => None,
                 }
             }
+
+            fn to_cell(self, $column: &str) -> Cell<'a> {
+                let $it = self;
+                $cell
+            }
         }
     )*};
 }
 
 columns! {
-    u32: Cell::Number(it) | Cell::Start(it) => it;
-    &'a str: Cell::Text(it) => it;
-    &'a [u8]: Cell::Blob(it) => it;
-    Signature<'a>: Cell::Signature(it) => it;
-    Option<Guid>: Cell::Guid(it) => it;
-    Option<Token>: Cell::Row(it) => it;
-    Token: Cell::Row(Some(it)) => it;
+    u32: Cell::Number(it) | Cell::Start(it) => it,
+        |it, column| if column.ends_with(RUN) { Cell::Start(it) } else { Cell::Number(it) };
+    &'a str: Cell::Text(it) => it, |it, _column| Cell::Text(it);
+    &'a [u8]: Cell::Blob(it) => it, |it, _column| Cell::Blob(it);
+    Signature<'a>: Cell::Signature(it) => it, |it, _column| Cell::Signature(it);
+    Option<Guid>: Cell::Guid(it) => it, |it, _column| Cell::Guid(it);
+    Option<Token>: Cell::Row(it) => it, |it, _column| Cell::Row(it);
+    Token: Cell::Row(Some(it)) => it, |it, _column| Cell::Row(Some(it));
 }

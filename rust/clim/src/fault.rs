@@ -28,12 +28,7 @@ impl Fault {
     ///
     /// The library is older than this crate.
     pub fn explanation(&self) -> Result<String, Unsupported> {
-        Unsupported::unless(clim_sys::HAS_EXPLAIN, "clim_explain")?;
-        // SAFETY: The pointer is valid for that number of bytes during the call.
-        let text = library::written(|buffer| unsafe {
-            clim_sys::clim_explain(self.code, buffer.as_mut_ptr(), buffer.len())
-        });
-        Ok(text.unwrap_or_default())
+        library::explanation(self.code)
     }
 }
 

@@ -1,4 +1,4 @@
-//! Reads the metadata of .NET assemblies (ECMA-335 II.22 to II.25), in place and proved.
+//! Reads the metadata of .NET assemblies (ECMA-335 II.22 to II.25), in place and proved, and makes new metadata.
 //!
 //! A file is opened if and only if it meets all rules. Then each cell is proved to be that of the file's only model. The
 //! rows of the 38 tables are structs with a field for each column.
@@ -44,23 +44,31 @@
 //! drop(file);
 //! ```
 //!
-//! The library allocates nothing. This crate allocates the cells of some rows at a time, and what `by_key` and
-//! `full_name` return. Rows of a valid file may still form circles, and names may be any text: see `docs/CLIENTS.md`.
+//! To open and to read, the library allocates nothing. This crate allocates the cells of some rows at a time, and what
+//! `by_key` and `full_name` return. Rows of a valid file may still form circles, and names may be any text: see
+//! `docs/CLIENTS.md`.
+//!
+//! [`Tables`] has rows that a program adds, or those of a view, which may be changed. [`Tables::root`] checks them against
+//! all rules, and makes a metadata root of them.
 #![warn(missing_docs)]
 
+mod building;
 mod cells;
 mod chunks;
 mod compared;
 mod fault;
 mod library;
+mod refusal;
 pub mod rows;
 mod tables;
 mod view;
 
+pub use building::Tables;
 pub use cells::{Cell, Guid, Signature};
 pub use chunks::{Cells, Rows};
 pub use compared::{CompareError, Difference, Location};
 pub use fault::{BoundedError, Fault, RootError, Unsupported};
+pub use refusal::{BuildError, Refusal};
 pub use rows::Row;
 pub use tables::{Table, Token};
 pub use view::{check, check_root, check_root_within, check_within, read_header, Header, View, DEPTH};

@@ -1,6 +1,6 @@
 //! Calls whose results belong to the library.
 
-use crate::fault::RootError;
+use crate::fault::{RootError, Unsupported};
 use clim_sys::{clim_bytes, CLIM_NO_BYTES, CLIM_NO_MEMORY, CLIM_TOO_LONG};
 use std::{slice, str};
 
@@ -49,6 +49,14 @@ pub(crate) fn written(write: impl Fn(&mut [u8]) -> usize) -> Option<String> {
         }
         buffer.resize(len, 0);
     }
+}
+
+/// What `clim explain` prints of a rule, in lines that are not broken.
+pub(crate) fn explanation(code: u16) -> Result<String, Unsupported> {
+    Unsupported::unless(clim_sys::HAS_EXPLAIN, "clim_explain")?;
+    // SAFETY: The pointer is valid for that number of bytes during the call.
+    let text = written(|buffer| unsafe { clim_sys::clim_explain(code, buffer.as_mut_ptr(), buffer.len()) });
+    Ok(text.unwrap_or_default())
 }
 
 /// The length of a canonical root, as a call returned it.

@@ -13,6 +13,9 @@ pub trait Row<'a>: Sized {
 
     /// The row with these cells, given in the order of their columns; `None` if there are others.
     fn from_cells(cells: impl Iterator<Item = Cell<'a>>) -> Option<Self>;
+
+    /// The cells of the row, in the order of their columns.
+    fn cells(&self) -> Vec<Cell<'a>>;
 }
 
 macro_rules! rows {
@@ -30,6 +33,10 @@ macro_rules! rows {
             fn from_cells(mut cells: impl Iterator<Item = Cell<'a>>) -> Option<Self> {
                 $(let $field = Column::from_cell(cells.next()?)?;)*
                 Some($name { $($field),* })
+            }
+
+            fn cells(&self) -> Vec<Cell<'a>> {
+                vec![$(self.$field.to_cell($column)),*]
             }
         }
     )*};

@@ -2,8 +2,8 @@
 
 use clim::rows::*;
 use clim::{
-    check, check_root, check_root_within, check_within, read_header, BoundedError, Cell, CompareError, Difference, Fault,
-    RootError, Row, Table, Token, View,
+    check, check_root, check_root_within, check_within, read_header, BoundedError, BuildError, Cell, CompareError, Difference,
+    Fault, RootError, Row, Table, Tables, Token, View,
 };
 use std::collections::BTreeMap;
 use std::error::Error;
@@ -271,6 +271,14 @@ fn a_canonical_root_is_its_own() {
         assert_eq!(again.canonical_root().as_ref(), Ok(&root));
         assert_eq!(again.digest(), view.digest());
         assert_eq!(again.version(), view.version());
+    });
+}
+
+#[test]
+fn tables_of_a_view() {
+    each(|view| match Tables::of(view).root() {
+        Err(error) => assert!(matches!(error, BuildError::Unsupported(_)) && !clim_sys::HAS_TABLES),
+        Ok(root) => assert!(Ok(root) == view.canonical_root()),
     });
 }
 
