@@ -1,6 +1,9 @@
 -- The value of a row can be printed and read back.
-use Rattle.std.proofs.Common.{◌≡◌, ℕ, suc, ◌+◌, ◌^◌, ◌<◌, ◌≤◌, List, [], ◌∷◌, length, get_or, Option, Some, None, max, subst, sym, arith}
+use Rattle.std.proofs.Common.{◌≡◌, ℕ, zero, suc, ◌+◌, ◌^◌, ◌<◌, ◌≤◌, List, [], ◌∷◌, length, get_or, Option, Some, None, map, max, subst, sym, arith}
 use Rattle.std.specs.Prelude.{⊤}
+use Rattle.std.specs.List.{All}
+use Rattle.std.proofs.lemmas.List.{get_or-map}
+use Rattle.std.proofs.lemmas.List.{length-map}
 use Rattle.json.specs.Json.{Json, Members, document, max_depth}
 use Rattle.json.specs.Print.{print}
 use Rattle.json.specs.Tree.{HasNumbers, MembersHaveNumbers, depth, json_tokens, members_depth}
@@ -15,7 +18,11 @@ use Rattle.metadata.specs.Kinds.{IsOfKind}
 use Rattle.metadata.specs.Lookups.{HasRow}
 use Rattle.metadata.specs.Metadata.{Metadata, cell_in, count_in, row_of}
 use Rattle.metadata.specs.Valid.{IsValid, IsValidCell, IsWithinMembers, kind_at, nullable_at}
-use Rattle.cli_json.specs.Values.{cell_members, cell_value, row_value}
+use Rattle.comparison.specs.declared.difference.Difference.{Difference}
+use Rattle.comparison.specs.declared.difference.Difference.TheVariants.{Version, UserStrings, RowCount}
+use Rattle.comparison.specs.declared.difference.Difference.TheVariants as difference
+use Rattle.cli_json.specs.Compared.{IsInBoth, cells_value, compared_values, counts_value, difference_value, equal_value, versions_value}
+use Rattle.cli_json.specs.Values.{cell_members, cell_value, decimal_value, row_value}
 
 number_small : (kind : ColumnKind) (n : ℕ) → IsOfKind kind (Number n) → n < 2 ^ 64
 number_small kind.U8 n small = omega (arith, small)
@@ -81,3 +88,45 @@ row_reads_back model table row valid there =
     let numbers = members_numbers table 0 cells (λ i lt.
     cell_numbers model (kind_at table i) (nullable_at table i) (cell_in model table row i) valid.few (valid.cells table row i there (omega (arith, long, lt)))) in
     document-print (row_value model table row) (tt, (IsNumber-decimal row (omega (arith, there.1, few)), (tt, numbers))) (omega (arith, shallow))
+
+-- ---- what differs between two models
+
+member_numbers : (model : Metadata) (table : TableId) (row cell_index : ℕ) → IsValid model → HasRow model table row → cell_index < cell_count table
+    → HasNumbers (cell_value (cell_in model table row cell_index))
+member_numbers model table row cell_index valid there within =
+    cell_numbers model (kind_at table cell_index) (nullable_at table cell_index) (cell_in model table row cell_index) valid.few
+    (valid.cells table row cell_index there within)
+
+count_number : (model : Metadata) (table : TableId) → IsValid model → HasNumbers (decimal_value (count_in model table))
+count_number model table valid = let few = valid.few table in IsNumber-decimal (count_in model table) (omega (arith, few))
+
+difference_reads_back : (left right : Metadata) → IsValid left → IsValid right → (difference : Difference) → IsInBoth left right difference
+    → document (print (json_tokens (difference_value left right difference))) ≡ Some (difference_value left right difference)
+unfolding versions_value counts_value cells_value
+difference_reads_back left right valid also Version there = document-print (difference_value left right Version) (tt, (tt, (tt, tt))) (omega arith)
+difference_reads_back left right valid also UserStrings there = document-print (difference_value left right UserStrings) (tt, tt) (omega arith)
+difference_reads_back left right valid also (RowCount table m n) there =
+    document-print (difference_value left right (RowCount table m n)) (tt, (tt, (count_number left table valid, (count_number right table also, tt)))) (omega arith)
+difference_reads_back left right valid also (difference.Cell table row cell_index) there =
+    let one = cell_depth (cell_in left table row cell_index) in
+    let other = cell_depth (cell_in right table row cell_index) in
+    document-print (difference_value left right (difference.Cell table row cell_index))
+    (tt, (tt, (tt, (member_numbers left table row cell_index valid there.0 there.2, (member_numbers right table row cell_index also there.1 there.2, tt)))))
+    (omega (arith, one, other))
+
+all_of_map : {X : Type 0} (P : Json → Type 0) (f : X → Json) (d : X) (xs : List X) → ((i : ℕ) → i < length xs → P (f (get_or xs i d))) → All P (map f xs)
+all_of_map P f d xs each = λ i e lt.
+    let within : i < length xs = omega (arith, lt, length-map xs f) in
+    subst P (sym (get_or-map f xs i d e within)) (each i within)
+
+all_of_one : {X : Type 0} (P : X → Type 0) (x : X) → P x → All P (x ∷ [])
+all_of_one P x is zero e lt = is
+all_of_one P x is (suc i) e lt = absurd (omega (arith, lt))
+
+pub differences_read_back : (left right : Metadata) → IsValid left → IsValid right → (found : List Difference) → All (IsInBoth left right) found
+    → All (λ value. document (print (json_tokens value)) ≡ Some value) (compared_values left right found)
+differences_read_back left right valid also [] there =
+    all_of_one (λ value. document (print (json_tokens value)) ≡ Some value) equal_value (document-print equal_value (tt, tt) (omega arith))
+differences_read_back left right valid also (one ∷ later) there =
+    all_of_map (λ value. document (print (json_tokens value)) ≡ Some value) (difference_value left right) Version (one ∷ later)
+    (λ i lt. difference_reads_back left right valid also (get_or (one ∷ later) i Version) (there i Version lt))

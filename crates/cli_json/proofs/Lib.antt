@@ -1,9 +1,11 @@
 pub mod PrintLemmas
 pub mod PlainLemmas
+pub mod SignatureLemmas
 pub mod SentLemmas
 pub mod LineLemmas
 pub mod SinkLemmas
 pub mod RowLemmas
+pub mod RowTextLemmas
 pub mod ValueLemmas
 pub mod Outcomes
 pub mod TypeLemmas
@@ -13,4 +15,5 @@ pub mod StringLemmas
 pub mod ItemLemmas
 pub mod HeadLemmas
 pub mod ReportLemmas
+pub mod ComparedLemmas
 pub mod LawLemmas

@@ -1,6 +1,6 @@
 -- Texts that stand for themselves in a string of JSON.
-use Rattle.std.proofs.Common.{◌≡◌, ◌∙◌, ℕ, zero, suc, nat_lt, ◌+◌, ◌-◌, ◌/◌, ◌%◌, ◌<◌, ◌≤◌, ◌==◌, ◌||◌, Bool, true, false, cond, List, [], ◌∷◌, ◌++◌, length, get_or, replicate, IsTrue, refl, ap, sym, append-nil, arith}
-use Rattle.std.specs.Fmt.{char_count, digit_glyph, digits, digits_onto, padded_integral}
+use Rattle.std.proofs.Common.{◌≡◌, ◌∙◌, ℕ, zero, suc, nat_lt, ◌+◌, ◌-◌, ◌/◌, ◌%◌, ◌<◌, ◌≤◌, ◌==◌, ◌||◌, ℤ, pos, negsuc, Bool, true, false, cond, List, [], ◌∷◌, ◌++◌, length, get_or, replicate, IsTrue, refl, ap, sym, append-nil, arith}
+use Rattle.std.specs.Fmt.{char_count, decimal, digit_glyph, digits, digits_onto, padded_integral, signed_decimal}
 use Rattle.std.specs.Char.{digit_char}
 use Rattle.std.proofs.lemmas.Fmt.{hex_byte}
 use Rattle.std.specs.List.{flat_map}
@@ -67,6 +67,22 @@ token_is_plain token =
 pub bytes_are_plain : (bytes : List ℕ) → Plain (escaped_bytes bytes)
 bytes_are_plain [] = refl
 bytes_are_plain (byte ∷ bytes) = plain_joined (hexadecimal 2 byte) (escaped_bytes bytes) (hexadecimal_is_plain 2 byte) (bytes_are_plain bytes)
+
+-- the decimal digits of a number
+decimal_onto_plain : (limit n : ℕ) (later : List ℕ) → Plain later → Plain (digits_onto limit 10 false n later)
+decimal_onto_plain zero n later plain = plain
+decimal_onto_plain (suc limit) n later plain =
+    let first = plain_first (digit_glyph false (n % 10)) later (glyph_is_plain (n % 10) (omega arith)) plain in
+    either_plain (n / 10 == 0) (digit_glyph false (n % 10) ∷ later) (digits_onto limit 10 false (n / 10) (digit_glyph false (n % 10) ∷ later)) first
+    (decimal_onto_plain limit (n / 10) (digit_glyph false (n % 10) ∷ later) first)
+
+pub decimal_is_plain : (n : ℕ) → Plain (decimal n)
+unfolding digits
+decimal_is_plain n = decimal_onto_plain 64 n [] refl
+
+pub signed_is_plain : (z : ℤ) → Plain (signed_decimal z)
+signed_is_plain (pos n) = decimal_is_plain n
+signed_is_plain (negsuc n) = plain_first 45 (decimal (suc n)) (escape_byte_plain 45 (λ e. omega (arith, e)) (λ e. omega (arith, e)) (omega arith)) (decimal_is_plain (suc n))
 
 -- a byte that stands for itself
 pub plain_byte : (byte : ℕ) → IsTrue (is_plain byte) → escape_byte byte ≡ byte ∷ []

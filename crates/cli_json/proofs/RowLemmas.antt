@@ -12,7 +12,9 @@ use Rattle.cli_reports.specs.Comparisons.{column_name}
 use Rattle.cli_reports.specs.Escaped.{escaped_bytes}
 use Rattle.cli_json.specs.Texts.{later_key, members_text, row_start, text_of}
 use Rattle.cli_json.specs.Values.{cell_members, cell_value, line_of, own_token, row_value, signature_text, signature_value}
+use Rattle.cli_json.proofs.PlainLemmas.{bytes_are_plain}
 use Rattle.cli_json.proofs.PrintLemmas.{line_is}
+use Rattle.cli_json.proofs.SignatureLemmas.{signature_is_plain}
 
 regroup : (q t m : List ℕ) → q ++ 58 ∷ (t ++ m) ≡ ((q ++ 58 ∷ []) ++ t) ++ m
 regroup q t m = sym (append_assoc (q ++ 58 ∷ []) t m ∙ append_assoc q (58 ∷ []) (t ++ m))
@@ -38,12 +40,23 @@ row_is model table row =
     (members_text true (cell_members table 0 (row_of model table row))))
     ∙ sym (line_is (row_value model table row))
 
-signature_joined : (a b c d e f : List ℕ) → a ++ b ++ c ++ d ++ (e ++ f) ≡ a ++ (b ++ (c ++ ((d ++ e) ++ f)))
-signature_joined a b c d e f = simp append_assoc
+signature_joined : (a b c d e : List ℕ) → a ++ b ++ c ++ d ++ e ≡ a ++ (b ++ (c ++ (d ++ e)))
+signature_joined a b c d e = simp append_assoc
 
--- the text of a signature's object
+-- the quotes around the strings of a signature's object
+quotes_joined : (blob text : List ℕ)
+    → codes "{\"blob\":\"" ++ (blob ++ (codes "\",\"text\":\"" ++ (text ++ codes "\"}")))
+    ≡ codes "{\"blob\":\"" ++ ((blob ++ 34 ∷ []) ++ (codes ",\"text\":\"" ++ ((text ++ 34 ∷ []) ++ codes "}")))
+quotes_joined blob text = simp append_assoc
+
+-- the text of a signature's object; no byte of its strings is escaped
 pub signature_is : (signature : Body)
-    → codes "{\"blob\":" ++ quoted (escaped_bytes (short signature)) ++ codes ",\"text\":\"" ++ escape (signature_text signature) ++ codes "\"}" ≡ text_of (signature_value signature)
+    → codes "{\"blob\":\"" ++ escaped_bytes (short signature) ++ codes "\",\"text\":\"" ++ signature_text signature ++ codes "\"}" ≡ text_of (signature_value signature)
 unfolding escape_byte
 signature_is signature =
-    signature_joined (codes "{\"blob\":") (quoted (escaped_bytes (short signature))) (codes ",\"text\":\"") (escape (signature_text signature)) (codes "\"") (codes "}")
+    let blob = escaped_bytes (short signature) in
+    let text = signature_text signature in
+    signature_joined (codes "{\"blob\":\"") blob (codes "\",\"text\":\"") text (codes "\"}")
+    ∙ ap (λ xs. codes "{\"blob\":\"" ++ (xs ++ (codes "\",\"text\":\"" ++ (text ++ codes "\"}")))) (sym (bytes_are_plain (short signature)))
+    ∙ ap (λ xs. codes "{\"blob\":\"" ++ (escape blob ++ (codes "\",\"text\":\"" ++ (xs ++ codes "\"}")))) (sym (signature_is_plain signature))
+    ∙ quotes_joined (escape blob) (escape text)

@@ -1,3 +1,4 @@
 pub mod Values
+pub mod Compared
 pub mod Texts
 pub mod Printed

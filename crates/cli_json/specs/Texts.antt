@@ -1,5 +1,5 @@
 -- The text of a value, part by part; for private clauses. It is what `print` gives for the tokens of the value.
-use Rattle.std.specs.Prelude.{ℕ, List, [], ◌∷◌, ◌++◌, Bool, true, false, if◌then◌else◌, Option, None, Some, codes, decimal, flat_map}
+use Rattle.std.specs.Prelude.{ℕ, List, [], ◌∷◌, ◌++◌, Bool, true, false, if◌then◌else◌, Option, None, Some, codes, decimal, flat_map, map}
 use Rattle.std.specs.List.{range_with_len}
 use Rattle.std.specs.Char.Utf16.{has_unpaired_surrogate, utf16_lossy_chars}
 use Rattle.std.specs.Str.{encode_utf8_all}
@@ -12,9 +12,13 @@ use Rattle.table_schema.specs.declared.table.TableId.{TableId}
 use Rattle.table_schema.specs.Tables.{tables, table_name}
 use Rattle.table_schema.specs.declared.table.TableId.TheVariants.{TypeDef, Field, MethodDef}
 use Rattle.table_schema.specs.Tokens.{hexadecimal}
+use Rattle.table_schema.specs.CellColumns.{cell_count}
 use Rattle.metadata.specs.Metadata.{Metadata, cell_in, count_in}
+use Rattle.comparison.specs.declared.difference.Difference.{Difference}
+use Rattle.cli_reports.specs.Comparisons.{column_name}
 use Rattle.cli_reports.specs.TypeTexts.{member_count}
 use Rattle.cli_reports.specs.TypeTexts as types
+use Rattle.cli_json.specs.Compared.{difference_value}
 use Rattle.cli_json.specs.Values.{cli_value, decimal_items, line_of, own_token, row_value, stream_value, type_value, version_value}
 
 -- a comma after another item or member
@@ -43,10 +47,18 @@ abbrev mutual
 abbrev pub later_key : List ℕ → List ℕ
 later_key key = 44 ∷ (quoted key ++ 58 ∷ [])
 
+-- the text before the value of each cell of a row
+abbrev pub cell_keys : TableId → List (List ℕ)
+cell_keys table = map (λ cell_index. later_key (column_name table cell_index)) (range_with_len 0 (cell_count table))
+
+-- the text of a row before its number
+abbrev pub row_head : TableId → List ℕ
+row_head table = codes "{\"table\":" ++ quoted (table_name table) ++ codes ",\"row\":"
+
 -- the members of a row before its cells
 unfoldable pub row_start : TableId → ℕ → List ℕ
 row_start table row =
-    codes "{\"table\":" ++ quoted (table_name table) ++ codes ",\"row\":" ++ decimal row ++ codes ",\"token\":" ++ quoted (own_token table row)
+    row_head table ++ decimal row ++ codes ",\"token\":" ++ quoted (own_token table row)
 
 -- the lines of the first rows
 unfoldable pub first_lines : (ℕ → List ℕ) → ℕ → List ℕ
@@ -88,6 +100,10 @@ unfoldable pub units_text : List ℕ → List ℕ
 units_text units =
     if has_unpaired_surrogate units then codes ",\"units\":" ++ text_of (array (decimal_items units))
     else codes ",\"text\":" ++ quoted (encode_utf8_all (utf16_lossy_chars units))
+
+-- the line of something that differs
+abbrev pub difference_line : Metadata → Metadata → Difference → List ℕ
+difference_line left right difference = line_of (difference_value left right difference)
 
 -- the members of a CLI header before the one of the root
 unfoldable pub cli_start : CliHeader → List ℕ

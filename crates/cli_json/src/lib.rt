@@ -7,20 +7,20 @@
 //!
 //! ```text
 //! {"table":"TypeDef","row":2,"token":"02000002","Flags":1048577,"TypeName":"C","TypeNamespace":"N",..} // show, token
-//! {"token":"70000001","text":"hello","flag":0} // token of a user string
 //! {"token":"02000002","namespace":"N","name":"C","fields":2,"methods":1} // types
 //! {"ok":true} // check
 //! {"layer":5,"code":501,"name":"BadString","offset":2170594} // a fault
-//! {"version":"v4.0.30319"} // root
 //! ```
 #![tactic(auto)]
 
 mod cells;
 mod check;
+mod difference_lines;
 pub mod laws;
 mod report;
 mod root_lines;
 mod row_line;
+mod row_texts;
 mod show;
 mod signature_object;
 mod texts;
@@ -29,4 +29,6 @@ mod types;
 mod user_string;
 
 pub use check::print_json_fault;
+pub use difference_lines::print_comparison_json;
 pub use report::print_json;
+pub use token::print_json_named;

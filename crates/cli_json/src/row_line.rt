@@ -9,8 +9,8 @@ ghost use Rattle.cli_json.specs.Texts.{later_key, members_text, row_start, text_
 ghost use Rattle.cli_json.specs.Values.{cell_members, cell_value, line_of, row_value};
 
 use crate::cells::{push_cell, push_token_string};
-use crate::texts::{push_later_key, push_string};
-use cli_reports::{column_name, push_decimal};
+use crate::row_texts::{head_of, key_of};
+use cli_reports::push_decimal;
 use opening::{CellCursor, TableId, Token};
 use std::alloc::{AllocError, Global};
 use table_schema::cell_count;
@@ -20,9 +20,7 @@ fn push_start(table: TableId, row: u32, line: &mut Vec<u8>) -> Result<(), AllocE
     requires { row ≤ 0xFFFFFF }
     ensures { OnOk result (line.new.items ≡ line.old.items ++ row_start table row) }
 {
-    line.extend_from_slice(b"{\"table\":")?;
-    push_string(table.name(), line)?;
-    line.extend_from_slice(b",\"row\":")?;
+    line.extend_from_slice(head_of(table).as_bytes())?;
     push_decimal(u64::from(row), line)?;
     line.extend_from_slice(b",\"token\":")?;
     push_token_string(Token { table, row }, line)
@@ -45,7 +43,7 @@ fn push_member(
     ensures line { OnOk result ((model : Metadata) → IsModel cells.old model
         → line.new.items ≡ line.old.items ++ (later_key (name_of table cell_index) ++ text_of (cell_value (cell_in model table row cell_index)))) }
 {
-    push_later_key(column_name(table, cell_index), line)?;
+    line.extend_from_slice(key_of(table, cell_index).as_bytes())?;
     push_cell(alloc, cells, table, row, cell_index, line)
 }
 
@@ -74,10 +72,6 @@ fn push_members(
 
 /// Appends the line of a row: an object with the name of its table, its number, its token, and each cell of the view's
 /// model by the name of its column.
-///
-/// # Errors
-///
-/// Out of memory.
 pub(crate) fn push_row(
     alloc: Global,
     cells: &mut CellCursor<'_, '_>,

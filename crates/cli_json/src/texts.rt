@@ -5,7 +5,6 @@ ghost use Rattle.json.specs.Print.{escape, escape_byte, escape_letter, quoted};
 ghost use Rattle.json.specs.Run.{is_plain};
 ghost use Rattle.table_schema.specs.Tokens.{token_text};
 ghost use Rattle.cli_reports.specs.Escaped.{escaped_bytes};
-ghost use Rattle.cli_json.specs.Texts.{later_key};
 
 use cli_reports::push_hexadecimal;
 use std::alloc::AllocError;
@@ -83,13 +82,4 @@ pub(crate) fn push_hexadecimal_string(bytes: &[u8], line: &mut Vec<u8>) -> Resul
     line.push(b'"')?;
     push_hexadecimal(bytes, line)?;
     Ok(line.push(b'"')?)
-}
-
-/// Appends a comma, a key and a colon.
-pub(crate) fn push_later_key(key: &str, line: &mut Vec<u8>) -> Result<(), AllocError>
-    ensures { OnOk result (line.new.items ≡ line.old.items ++ later_key key.now) }
-{
-    line.push(b',')?;
-    push_string(key, line)?;
-    Ok(line.push(b':')?)
 }

@@ -3,7 +3,7 @@ ghost use Rattle.std.specs.Prelude.{◌≡◌, ◌≤◌, ◌%◌, ◌^◌, IfEr
 ghost use Rattle.json.specs.Json.{Json};
 ghost use Rattle.metadata.specs.Metadata.{Metadata};
 ghost use Rattle.metadata.specs.Model.{IsModel};
-ghost use Rattle.opening.specs.Views.{HasModel, row_count};
+ghost use Rattle.opening.specs.Views.{row_count};
 ghost use Rattle.cli_reports.specs.Printed.{IsModelOf};
 ghost use Rattle.cli_reports.specs.Reported.{HasString, IsMet, IsNamed, LeavesOutput, ReportsNoString, ReportsNone, ReportsUnnamed};
 ghost use Rattle.cli_reports.specs.Sent.{Prints};
@@ -41,18 +41,21 @@ pub(crate) fn run<W: Write>(
         → Prints (W.contents out.old) (W.contents out.new) result (line_of value) }
 {
     let view = open(bytes, bare)?;
-    print_named(alloc, &view, number, out)
+    print_json_named(alloc, &view, number, out)
 }
 
-/// Prints the line of what a number names in a view.
+/// Prints the row or the user string that a token names in a view as a JSON value.
+///
+/// # Errors
+///
+/// `NoSuchRow` if it names nothing; out of memory, or the output cannot be written.
 #[tactic(auto, using(crate::proofs::Tokens::string_named, crate::proofs::Tokens::string_unnamed, crate::proofs::Tokens::row_named, crate::proofs::Tokens::output_unnamed, crate::proofs::Tokens::none_named))]
-fn print_named<W: Write>(
+pub fn print_json_named<W: Write>(
     alloc: Global,
     view: &View<'_>,
     number: u32,
     out: &mut W,
 ) -> Result<(), Failure<'static>>
-    requires { HasModel view.now }
     ensures sound { OnOk result (IsNamed view.now number) }
     ensures none { IfErr result (ReportsUnnamed view.now number) }
     ensures untouched { IfErr result (LeavesOutput out.old out.new) }
@@ -103,8 +106,7 @@ fn print_string_at<W: Write>(
     printed(print_string(alloc, number, &string, out))
 }
 
-/// Prints the line of a user string.
-/// Its memory is that of the line.
+/// Prints the line of a user string. Its memory is that of the line.
 fn print_string<W: Write>(
     alloc: Global,
     number: u32,

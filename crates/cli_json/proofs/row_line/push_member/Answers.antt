@@ -13,5 +13,5 @@ returns-clause-line c =
     let value = text_of (cell_value (cell_in model c.args.table c.args.row c.args.cell_index)) in
     let key = later_key (column_name c.args.table c.args.cell_index) in
     line model is
-    ∙ ap (λ xs. xs ++ value) (c.in_ok-push_later_key.ensures ∙ ap (λ xs. start ++ later_key xs) c.column_name.ensures)
+    ∙ ap (λ xs. xs ++ value) (c.in_ok-extend_from_slice.ensures.items ∙ ap (λ xs. start ++ xs) (c.as_bytes.ensures.value ∙ c.key_of.ensures))
     ∙ append_assoc start key value)

@@ -5,12 +5,12 @@ use Rattle.cli_json.proofs.token.run.Goals as goal
 
 pub returns-clause-sound : goal.returns-clause-sound
 returns-clause-sound g c =
-    named_met c.in_ok-view.view c.args.number c.args.bare c.args.bytes.now c.print_named.result c.in_ok-view.ensures.root c.print_named.ensures.sound
+    named_met c.in_ok-view.view c.args.number c.args.bare c.args.bytes.now c.print_json_named.result c.in_ok-view.ensures.root c.print_json_named.ensures.sound
 
 pub returns-clause-first_error : goal.returns-clause-first_error
 returns-clause-first_error g c =
-    unnamed_reported c.in_ok-view.view c.args.number c.args.bare c.args.bytes.now c.print_named.result c.in_ok-view.ensures.root
-    c.in_ok-view.ensures.sound c.print_named.ensures.none
+    unnamed_reported c.in_ok-view.view c.args.number c.args.bare c.args.bytes.now c.print_json_named.result c.in_ok-view.ensures.root
+    c.in_ok-view.ensures.sound c.print_json_named.ensures.none
 
 pub returns-in_err-view-clause-printed : goal.returns-in_err-view-clause-printed
 returns-in_err-view-clause-printed g c = λ model is value named.
@@ -18,4 +18,4 @@ returns-in_err-view-clause-printed g c = λ model is value named.
     cut_printed c.from_residual.result known known (line_of value) c.from_residual.ensures.0 (prefix_of_nothing known (line_of value))
 
 pub returns-clause-printed : goal.returns-clause-printed
-returns-clause-printed g c = λ model is value named. c.print_named.ensures.printed model (c.in_ok-view.ensures.models model is) value named
+returns-clause-printed g c = λ model is value named. c.print_json_named.ensures.printed model (c.in_ok-view.ensures.models model is) value named
