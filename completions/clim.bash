@@ -21,9 +21,10 @@ _clim() {
             local flags='--bare --help'
             if [ "${COMP_WORDS[1]}" = check ]; then flags="$flags --budget --files-from -0 --quiet"; fi
             case ${COMP_WORDS[1]} in root | check | show | types | token) flags="$flags --json" ;; esac
-            # A list of files comes from the standard input alone. The budget is a number.
+            if [ "${COMP_WORDS[1]}" = compare ]; then flags="$flags --ignore"; fi
+            # A list of files comes from the standard input alone. The budget is a number, and a column a name.
             if [ "${COMP_WORDS[COMP_CWORD-1]}" = --files-from ]; then COMPREPLY=(-); return; fi
-            if [ "${COMP_WORDS[COMP_CWORD-1]}" = --budget ]; then return; fi
+            case ${COMP_WORDS[COMP_CWORD-1]} in --budget | --ignore) return ;; esac
             if [[ $word == -* ]]; then
                 while read -r line; do COMPREPLY+=("$line"); done < <(compgen -W "$flags" -- "$word")
             else

@@ -12,7 +12,7 @@ complete -c clim -n "not __fish_seen_subcommand_from $subcommands" -a show -d 'P
 complete -c clim -n "not __fish_seen_subcommand_from $subcommands" -a types -d 'Print the types, with the number of their fields and methods'
 complete -c clim -n "not __fish_seen_subcommand_from $subcommands" -a outline -d 'Print the declarations of the assembly, or of one type, as ILAsm writes them'
 complete -c clim -n "not __fish_seen_subcommand_from $subcommands" -a strings -d 'Print the user strings, with their tokens'
-complete -c clim -n "not __fish_seen_subcommand_from $subcommands" -a token -d 'Print the row or the user string that a token names'
+complete -c clim -n "not __fish_seen_subcommand_from $subcommands" -a token -d 'Print the row or the user string that each token names'
 complete -c clim -n "not __fish_seen_subcommand_from $subcommands" -a where -d 'Print what has the byte at an offset: a header, a stream or a cell'
 complete -c clim -n "not __fish_seen_subcommand_from $subcommands" -a rewrite -d 'Write the canonical metadata root of a file'
 complete -c clim -n "not __fish_seen_subcommand_from $subcommands" -a digest -d 'Print the SHA-256 digest of the canonical metadata root of each file'
@@ -26,5 +26,6 @@ complete -c clim -n "__fish_seen_subcommand_from check" -l budget -x -d 'Check a
 complete -c clim -n "__fish_seen_subcommand_from check" -l files-from -x -a - -d 'Read the names of the files from standard input, each ended by a NUL'
 complete -c clim -n "__fish_seen_subcommand_from check" -s 0 -d "The same as '--files-from -'"
 complete -c clim -n "__fish_seen_subcommand_from check" -s q -l quiet -d 'Print nothing about faults; only the exit status reports them'
+complete -c clim -n "__fish_seen_subcommand_from compare" -l ignore -x -d 'Do not compare the cells of this column'
 complete -c clim -n "__fish_seen_subcommand_from explain" -a "(clim explain | string replace -r '^(\d+)[ :]+' '\$1\t')"
 complete -c clim -n "__fish_seen_subcommand_from help" -a "$readers explain help"

@@ -1,11 +1,4 @@
 pub mod TaskFiles
-pub mod Comparing
-pub mod Rewritings
-pub mod RunLemmas
-pub mod SeveralLemmas
-pub mod Checks
-pub mod Digesting
 pub mod Explaining
-pub mod Locating
-pub mod Outlining
-pub mod JsonChecking
+pub mod ColumnsNamed
+pub mod TokensRead

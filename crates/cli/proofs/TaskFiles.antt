@@ -11,9 +11,9 @@ use Rattle.cli_faults.specs.declared.usage_error.UsageError.TheVariants.{JsonOfO
 use Rattle.cli.specs.declared.task.Task.{Task}
 use Rattle.cli.specs.declared.task.Task.TheVariants as task
 use Rattle.cli_arguments.specs.Asked.{HasFile, HasFirst}
-use Rattle.cli.specs.Forms.{form_of}
-use Rattle.cli.specs.declared.report_form.Form.{Form}
-use Rattle.cli.specs.declared.report_form.Form.TheVariants.{JsonLines, Text}
+use Rattle.cli_commands.specs.Forms.{form_of}
+use Rattle.cli_commands.specs.declared.report_form.Form.{Form}
+use Rattle.cli_commands.specs.declared.report_form.Form.TheVariants.{JsonLines, Text}
 use Rattle.cli.specs.Tasks.{IsCheckTask, IsExplanation, IsTask, json_task_on_files, task_on_files, task_on_list}
 
 abbrev result_or : {T E : Type 0} → Result T E → T → T
@@ -31,6 +31,7 @@ IsOnOne _ = Unit {0}
 -- `explain` has no such task
 never_both : (words : List (Bor (List ℕ))) (made : Task) → IsOnOne made → IsExplanation words made → ⊥
 never_both words (task.Print report form) one explains = explains
+never_both words (task.Tokens numbers form) one explains = explains
 never_both words task.CheckJson one explains = explains
 never_both words (task.OutlineOf subject) one explains = explains
 never_both words (task.CheckWithin budget) one explains = explains
@@ -42,7 +43,7 @@ never_both words task.Strings one explains = explains
 never_both words (task.Where offset) one explains = explains
 never_both words task.Digest one explains = explains
 never_both words task.DigestEach one explains = explains
-never_both words (task.Compare other) one explains = explains
+never_both words (task.Compare other ignored) one explains = explains
 never_both words (task.Explain given) one explains = one
 
 module _ (file : Option (Bor (List ℕ))) (made : Task) (one : IsOnOne made) where

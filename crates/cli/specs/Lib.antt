@@ -1,12 +1,3 @@
-pub mod Checks
-pub mod Compared
-pub mod Digested
-pub mod Digests
-pub mod Located
-pub mod Rewritten
+pub mod Columns
 pub mod Runs
-pub mod Several
 pub mod Tasks
-pub mod Forms
-pub mod JsonChecks
-pub mod Outlined

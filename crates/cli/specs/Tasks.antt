@@ -1,5 +1,5 @@
 -- What the arguments ask the program to do.
-use Rattle.std.specs.Prelude.{◌≡◌, ℕ, ◌%◌, ◌^◌, ◌||◌, Bool, List, [], ◌∷◌, ◌++◌, Option, Some, None, Result, Ok, Err, IfSome, IsOkAnd, MatchOption, MatchResult, codes, if◌then◌else◌, is_some}
+use Rattle.std.specs.Prelude.{◌≡◌, ℕ, ◌%◌, ◌^◌, ◌||◌, Bool, List, [], ◌∷◌, ◌++◌, Option, Some, None, Result, Ok, Err, IfSome, IsOkAnd, MatchOption, MatchResult, codes, if◌then◌else◌, is_some, map}
 use Rattle.std.specs.List.{All}
 use Rattle.std.specs.Borrow.{Bor}
 use Rattle.std.specs.Str.{bytes_eq}
@@ -13,15 +13,17 @@ use Rattle.cli_faults.specs.declared.failure.Failure.TheVariants as failed
 use Rattle.cli_faults.specs.declared.usage_error.UsageError.TheVariants as wrong
 use Rattle.table_schema.specs.declared.table.TableId.{TableId}
 use Rattle.cli_reports.specs.declared.report.Report.TheVariants as report
+use Rattle.comparison.specs.declared.ignored.IgnoredColumns.{IgnoredColumns}
+use Rattle.cli.specs.Columns.{AreNamed, NamesSome}
 use Rattle.cli.specs.declared.task.Task.{Task}
 use Rattle.cli.specs.declared.task.Task.TheVariants as task
 use Rattle.cli_files.specs.Names.{IsFullName, NamesCode, NamesTable}
 use Rattle.cli_files.specs.Numbers.{IsHexNumber, IsOffset, IsTypeToken}
 use Rattle.cli_outline.specs.declared.subject.Subject.{Subject}
 use Rattle.cli_outline.specs.declared.subject.Subject.TheVariants as subject
-use Rattle.cli.specs.Forms.{form_of}
-use Rattle.cli.specs.declared.report_form.Form.{Form}
-use Rattle.cli.specs.declared.report_form.Form.TheVariants.{JsonLines, Text}
+use Rattle.cli_commands.specs.Forms.{form_of}
+use Rattle.cli_commands.specs.declared.report_form.Form.{Form}
+use Rattle.cli_commands.specs.declared.report_form.Form.TheVariants.{JsonLines, Text}
 
 -- the failure says that this argument is not a token
 abbrev pub IsNoToken : List ℕ → Failure → Type 0
@@ -32,6 +34,11 @@ IsNoToken hex _ = ⊥
 abbrev pub IsNoCode : List ℕ → Failure → Type 0
 IsNoCode given (failed.Usage (wrong.NoCode word)) = word.now ≡ given
 IsNoCode given _ = ⊥
+
+-- the failure says that this argument names no column
+abbrev pub IsNoColumn : List ℕ → Failure → Type 0
+IsNoColumn given (failed.Usage (wrong.NoColumn word)) = word.now ≡ given
+IsNoColumn given _ = ⊥
 
 -- the failure says that this argument names no table
 abbrev pub IsNoTable : List ℕ → Failure → Type 0
@@ -48,6 +55,35 @@ abbrev pub IsTokenTask : Form → List ℕ → Result Task Failure → Type 0
 IsTokenTask form hex result =
     MatchResult result (λ made. IsHexNumber hex × (made ≡ task.Print (report.Token (digits_value 16 hex)) form))
     (λ failure. IsNoToken hex failure × (¬ IsHexNumber hex))
+
+-- this is the first of the arguments that names nothing
+abbrev pub IsFirstUnknown : (Bor (List ℕ) → Type 0) → List (Bor (List ℕ)) → Bor (List ℕ) → Type 0
+IsFirstUnknown Names words word =
+    (before later : List (Bor (List ℕ))) × (words ≡ before ++ word ∷ later) × All Names before × (¬ Names word)
+
+-- the arguments are tokens, with these numbers
+abbrev pub AreTokens : List (Bor (List ℕ)) → List ℕ → Type 0
+AreTokens words numbers = All (λ word. IsHexNumber word.now) words × (numbers ≡ map (λ word. digits_value 16 word.now) words)
+
+-- the failure says that an argument, the first that is not a token, is not; or memory ran out
+abbrev pub IsFirstNoToken : List (Bor (List ℕ)) → Failure → Type 0
+IsFirstNoToken words failed.OutOfMemory = Unit {0}
+IsFirstNoToken words failure =
+    (word : Bor (List ℕ)) × IsFirstUnknown (λ word. IsHexNumber word.now) words word × IsNoToken word.now failure
+
+-- the task is to print what each of these numbers names, in this form
+abbrev pub IsOnTokens : Form → List (Bor (List ℕ)) → Task → Type 0
+IsOnTokens form words (task.Tokens numbers asked) = AreTokens words numbers.items × (asked ≡ form)
+IsOnTokens form words _ = ⊥
+
+-- the task is to print what each of several tokens names; else the failure says which is not a token
+abbrev pub IsSeveralTask : Form → List (Bor (List ℕ)) → Result Task Failure → Type 0
+IsSeveralTask form words result = MatchResult result (IsOnTokens form words) (IsFirstNoToken words)
+
+-- the task is to print what one token names, or what each of several names
+abbrev pub IsTokensTask : Form → List (Bor (List ℕ)) → Result Task Failure → Type 0
+IsTokensTask form (word ∷ []) result = IsTokenTask form word.now result
+IsTokensTask form words result = IsSeveralTask form words result
 
 -- the task is to print what has the byte if the argument is an offset; else the failure says that it is not
 abbrev pub IsWhereTask : List ℕ → Result Task Failure → Type 0
@@ -84,16 +120,11 @@ abbrev pub IsExplanation : List (Bor (List ℕ)) → Task → Type 0
 IsExplanation words (task.Explain given) = given.now ≡ words
 IsExplanation words _ = ⊥
 
--- this is the first of the arguments that names no fault
-abbrev pub IsFirstUnknown : List (Bor (List ℕ)) → Bor (List ℕ) → Type 0
-IsFirstUnknown words word =
-    (before later : List (Bor (List ℕ))) × (words ≡ before ++ word ∷ later) × All NamesFault before × (¬ NamesFault word)
-
 -- the task is to explain the faults if all arguments name some; else the failure reports the first one that does not
 abbrev pub IsExplainTask : List (Bor (List ℕ)) → Result Task Failure → Type 0
 IsExplainTask words result =
     MatchResult result (λ made. All NamesFault words × IsExplanation words made)
-    (λ failure. (word : Bor (List ℕ)) × IsFirstUnknown words word × IsNoCode word.now failure)
+    (λ failure. (word : Bor (List ℕ)) × IsFirstUnknown NamesFault words word × IsNoCode word.now failure)
 
 -- the task of `check` for one file, with or without a budget
 abbrev pub task_on_one : Option ℕ → Task
@@ -140,6 +171,13 @@ abbrev pub digest_task : List (Bor (List ℕ)) → Task
 digest_task (file ∷ next ∷ more) = task.DigestEach
 digest_task _ = task.Digest
 
+-- the task is to compare with this file, besides the columns that the arguments name; else the failure reports the first
+-- one that names none
+abbrev pub IsCompareTask : List (Bor (List ℕ)) → Bor (List ℕ) → Result Task Failure → Type 0
+IsCompareTask words other result =
+    MatchResult result (λ made. (ignored : IgnoredColumns) × AreNamed words ignored × (made ≡ task.Compare other ignored))
+    (λ failure. (word : Bor (List ℕ)) × IsFirstUnknown NamesSome words word × IsNoColumn word.now failure)
+
 -- the task of a subcommand
 abbrev pub IsTask : Subcommand → Ask → Result Task Failure → Type 0
 IsTask word.Root ask result = result ≡ Ok (task.Print report.Root (form_of ask.json))
@@ -148,9 +186,9 @@ IsTask word.Show ask result = IsShowTask (form_of ask.json) ask.part result
 IsTask word.Types ask result = result ≡ Ok (task.Print report.Types (form_of ask.json))
 IsTask word.Outline ask result = IsOkAnd result (IsOutlineTask ask.part)
 IsTask word.Strings ask result = result ≡ Ok task.Strings
-IsTask word.Token ask result = IfSome ask.second (λ hex. IsTokenTask (form_of ask.json) hex.now result)
+IsTask word.Token ask result = IsTokensTask (form_of ask.json) ask.tokens.items result
 IsTask word.Where ask result = IfSome ask.second (λ word. IsWhereTask word.now result)
 IsTask word.Rewrite ask result = IfSome ask.second (λ out. result ≡ Ok (task.Rewrite out))
 IsTask word.Digest ask result = result ≡ Ok (digest_task ask.files.items)
-IsTask word.Compare ask result = IfSome ask.second (λ other. result ≡ Ok (task.Compare other))
+IsTask word.Compare ask result = IfSome ask.second (λ other. IsCompareTask ask.ignored.items other result)
 IsTask word.Explain ask result = IsExplainTask ask.codes.items result

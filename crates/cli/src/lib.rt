@@ -9,21 +9,11 @@
 //! ```
 #![tactic(auto)]
 
-mod check_files;
-mod check_json;
-mod check_listed;
-mod compare_files;
-mod digest_file;
-mod digest_files;
-mod digest_line;
+mod columns;
 mod explain_fault;
-mod outline_type;
 mod program;
-mod report_form;
-mod rewrite_file;
 mod task;
 mod usage_text;
-mod where_file;
 
 pub use cli_arguments::{Ask, Subcommand, ask};
 pub use program::{go, refuse_words};

@@ -1,35 +1,33 @@
-ghost use Rattle.std.specs.Prelude.{◌≡◌, ◌≢◌, ◌≤◌, ◌⊎◌, IfErr, map};
+ghost use Rattle.std.specs.Prelude.{◌≡◌, ◌≢◌, ◌≤◌, IfErr, map};
 ghost use Rattle.std.specs.IoError.{error_kind};
 ghost use Rattle.std.specs.declared.io.ErrorKind.TheVariants as cause;
 ghost use Rattle.clap.specs.Words.{kind_of};
 ghost use Rattle.cli_arguments.specs.Asked.{HasFile, HasFirst, HasSecond};
 ghost use Rattle.cli_faults.specs.declared.failure.Failure.{Failure as Failed};
 ghost use Rattle.cli_faults.specs.Status.{IsOutput};
-ghost use Rattle.cli.specs.Checks.{EndsCheck};
-ghost use Rattle.cli.specs.Compared.{IsComparing};
-ghost use Rattle.cli.specs.Several.{IsRunOnEach};
-ghost use Rattle.cli.specs.Runs.{Does, IsChecked, IsDigesting, IsListed, IsLocated, IsMixed, IsOutlined, IsReported, IsRewriting, IsRunOn, IsUsage, Ran, StopsBy};
+ghost use Rattle.cli_commands.specs.Checks.{EndsCheck};
+ghost use Rattle.cli_commands.specs.Commands.{StopsBy};
+ghost use Rattle.cli_commands.specs.Several.{IsRunOnEach};
+ghost use Rattle.cli.specs.Runs.{Does, IsUsage, Ran};
 
-use crate::check_files::{CheckOptions, check_files};
-use crate::check_json::check_json;
-use crate::check_listed::check_listed;
-use crate::compare_files::compare;
-use crate::digest_file::digest_bytes_of;
-use crate::digest_files::digest_files;
 use crate::explain_fault::explain;
-use crate::outline_type::outline_type;
-use crate::report_form::{Form, print_in};
-use crate::rewrite_file::rewrite;
 use crate::task::{Task, task_of};
 use crate::usage_text::usage_text;
-use crate::where_file::locate;
 use clap::error::ErrorKind;
 use cli_arguments::{Ask, ask};
-use cli_faults::{Failure, FileError, Reason, printed};
-use cli_files::{Stopped, is_standard_output, read_file, status, stopped_by, with_hint};
-use cli_outline::report_outline;
-use cli_reports::{Report, check_within, finish};
-use cli_strings::report_strings;
+use cli_commands::check_files::{CheckOptions, check_files};
+use cli_commands::check_json::check_json;
+use cli_commands::check_listed::check_listed;
+use cli_commands::digest_files::digest_files;
+use cli_commands::file_runs::{
+    check_file, compare_files, digest_file, list_strings, locate_in, outline_file, print_file,
+    rewrite_file,
+};
+use cli_commands::outline_type::outline_type;
+use cli_commands::print_tokens::print_tokens;
+use cli_faults::{Failure, printed};
+use cli_files::{Stopped, status};
+use cli_reports::finish;
 use std::alloc::Global;
 use std::io::{self, Write};
 use std::rt::Files;
@@ -118,7 +116,7 @@ fn run<R: Files + Input + AllocGlobal, W: Write, E: Write>(
     ensures does { Does W.contents out.old out.new R.File.contents ask.now result }
     ensures quiet { result ≡ 0 → err.new ≡ err.old }
 {
-    let task = match task_of(ask) {
+    let task = match task_of(rt.alloc(), ask) {
         Ok(task) => task,
         Err(failure) => return status(Err(Stopped::from(failure)), err),
     };
@@ -130,6 +128,10 @@ fn run<R: Files + Input + AllocGlobal, W: Write, E: Write>(
                 err,
             )
         }
+        Task::Tokens(numbers, form) => status(
+            print_tokens(rt, numbers.as_slice(), form, ask.file.unwrap(), bare, out),
+            err,
+        ),
         Task::CheckJson => status(check_json(rt, ask.file.unwrap(), bare, out), err),
         Task::CheckWithin(budget) => {
             status(check_file(rt, budget, ask.file.unwrap(), bare, out), err)
@@ -154,9 +156,10 @@ fn run<R: Files + Input + AllocGlobal, W: Write, E: Write>(
         Task::Where(offset) => status(locate_in(rt, offset, ask.file.unwrap(), bare, out), err),
         Task::Digest => status(digest_file(rt, ask.file.unwrap(), bare, out), err),
         Task::DigestEach => digest_files(rt, ask.files.as_slice(), bare, out, err),
-        Task::Compare(other) => {
-            status(compare_files(rt, other, ask.file.unwrap(), bare, out), err)
-        }
+        Task::Compare(other, ignored) => status(
+            compare_files(rt, &ignored, other, ask.file.unwrap(), bare, out),
+            err,
+        ),
         Task::Explain(words) => status(explain_words(rt.alloc(), words, out), err),
     }
 }
@@ -190,162 +193,6 @@ fn explain_words<W: Write>(
     ensures { IfErr result (λ stopped. (failure : Failed) × StopsBy failure stopped × IsOutput failure) }
 {
     Ok(explain(alloc, words, out)?)
-}
-
-/// Prints a report on a file.
-fn print_file<'a, R: Files + Input + AllocGlobal, W: Write>(
-    rt: &R,
-    report: Report,
-    form: Form,
-    file: &'a str,
-    bare: bool,
-    out: &mut W,
-) -> Result<(), Stopped<'a>>
-    ensures { IsRunOn W.contents out.old out.new file.now (IsReported W.contents out.old out.new report form bare) result }
-{
-    let read = read_file(rt, file)?;
-    let bytes = read.as_slice();
-    let outcome = print_in(rt.alloc(), form, report, bare, bytes, out);
-    with_hint(stopped_by(outcome), bare, bytes)
-}
-
-/// Prints the declarations of a file.
-fn outline_file<'a, R: Files + Input + AllocGlobal, W: Write>(
-    rt: &R,
-    file: &'a str,
-    bare: bool,
-    out: &mut W,
-) -> Result<(), Stopped<'a>>
-    ensures { IsRunOn W.contents out.old out.new file.now (IsOutlined W.contents out.old out.new bare) result }
-{
-    let read = read_file(rt, file)?;
-    let bytes = read.as_slice();
-    let outcome = report_outline(rt.alloc(), bare, bytes, out);
-    with_hint(stopped_by(outcome), bare, bytes)
-}
-
-/// Prints the user strings of a file.
-fn list_strings<'a, R: Files + Input + AllocGlobal, W: Write>(
-    rt: &R,
-    file: &'a str,
-    bare: bool,
-    out: &mut W,
-) -> Result<(), Stopped<'a>>
-    ensures { IsRunOn W.contents out.old out.new file.now (IsListed W.contents out.old out.new bare) result }
-{
-    let read = read_file(rt, file)?;
-    let bytes = read.as_slice();
-    let outcome = report_strings(rt.alloc(), bare, bytes, out);
-    with_hint(stopped_by(outcome), bare, bytes)
-}
-
-/// Prints what has the byte at an offset of a file.
-fn locate_in<'a, R: Files + Input + AllocGlobal, W: Write>(
-    rt: &R,
-    offset: u64,
-    file: &'a str,
-    bare: bool,
-    out: &mut W,
-) -> Result<(), Stopped<'a>>
-    ensures { IsRunOn W.contents out.old out.new file.now (IsLocated W.contents out.old out.new offset bare) result }
-{
-    let bytes = read_file(rt, file)?;
-    locate(rt.alloc(), offset, &bytes, bare, out)
-}
-
-/// Checks a file against the rules, within a budget.
-fn check_file<'a, R: Files + Input + AllocGlobal, W: Write>(
-    rt: &R,
-    budget: u64,
-    file: &'a str,
-    bare: bool,
-    out: &mut W,
-) -> Result<(), Stopped<'a>>
-    ensures { IsRunOn W.contents out.old out.new file.now (IsChecked W.contents out.old out.new budget bare) result }
-{
-    let read = read_file(rt, file)?;
-    let bytes = read.as_slice();
-    let outcome = check_within(rt.alloc(), bytes, bare, budget, out);
-    with_hint(outcome, bare, bytes)
-}
-
-/// Writes the canonical root of a file to a path, which must not be that of the standard output.
-fn rewrite_file<'a, R: Files + Input + AllocGlobal, W: Write>(
-    rt: &R,
-    path: &'a str,
-    file: &'a str,
-    bare: bool,
-    out: &mut W,
-) -> Result<(), Stopped<'a>>
-    ensures { IsRunOn W.contents out.old out.new file.now (IsRewriting W.contents out.old out.new R.File.contents path.now bare) result
-        ⊎ IsMixed W.contents out.old out.new path.now result }
-{
-    if is_standard_output(rt, path) {
-        return Err(Stopped::from(Failure::CannotWriteFile(FileError {
-            path,
-            reason: Reason::StandardOutput,
-        })));
-    }
-    let bytes = read_file(rt, file)?;
-    rewrite_bytes(rt, path, file, &bytes, bare, out)
-}
-
-/// Writes the canonical root of bytes that were read from a file.
-fn rewrite_bytes<'a, R: Files + Input + AllocGlobal, W: Write>(
-    rt: &R,
-    path: &'a str,
-    file: &str,
-    bytes: &[u8],
-    bare: bool,
-    out: &mut W,
-) -> Result<(), Stopped<'a>>
-    ensures { IsRewriting W.contents out.old out.new R.File.contents path.now bare bytes.now result }
-{
-    let outcome = rewrite(rt, bytes, bare, file, path, out);
-    with_hint(stopped_by(outcome), bare, bytes)
-}
-
-/// Prints the digest of the canonical root of a file.
-fn digest_file<'a, R: Files + Input + AllocGlobal, W: Write>(
-    rt: &R,
-    file: &'a str,
-    bare: bool,
-    out: &mut W,
-) -> Result<(), Stopped<'a>>
-    ensures { IsRunOn W.contents out.old out.new file.now (IsDigesting W.contents out.old out.new file.now bare) result }
-{
-    let bytes = read_file(rt, file)?;
-    digest_bytes(rt.alloc(), file, &bytes, bare, out)
-}
-
-/// Prints the digest of the canonical root of bytes that were read from a file.
-fn digest_bytes<W: Write>(
-    alloc: Global,
-    file: &str,
-    bytes: &[u8],
-    bare: bool,
-    out: &mut W,
-) -> Result<(), Stopped<'static>>
-    ensures { IsDigesting W.contents out.old out.new file.now bare bytes.now result }
-{
-    let outcome = digest_bytes_of(alloc, bytes, bare, file, out);
-    with_hint(stopped_by(outcome), bare, bytes)
-}
-
-/// Prints what differs between a file and another.
-fn compare_files<'a, R: Files + Input + AllocGlobal, W: Write>(
-    rt: &R,
-    other: &'a str,
-    file: &'a str,
-    bare: bool,
-    out: &mut W,
-) -> Result<(), Stopped<'a>>
-    ensures { IsRunOn W.contents out.old out.new file.now (λ left. IsRunOn W.contents out.old out.new other.now
-        (λ right. IsComparing W.contents out.old out.new bare left right file.now other.now)) result }
-{
-    let left = read_file(rt, file)?;
-    let right = read_file(rt, other)?;
-    compare(rt.alloc(), &left, &right, bare, file, other, out)
 }
 
 /// Prints the help or the version.

@@ -1,22 +1,27 @@
 //! What the arguments ask the program to do.
-ghost use Rattle.std.specs.Prelude.{◌≡◌};
+ghost use Rattle.std.specs.Prelude.{◌≡◌, IfErr, IfOk};
 ghost use Rattle.cli_arguments.specs.Asked.{HasSecond};
-ghost use Rattle.cli.specs.Tasks.{IsCheckTask, IsExplainTask, IsOutlineTask, IsShowTask, IsTask, IsTextCheckTask, IsWhereTask, NamesType, digest_task, json_task, task_on_files, task_on_list, task_on_one};
+ghost use Rattle.cli.specs.Tasks.{AreTokens, IsCheckTask, IsCompareTask, IsExplainTask, IsOutlineTask, IsShowTask, IsTask, IsFirstNoToken, IsSeveralTask, IsTextCheckTask, IsTokenTask, IsTokensTask, IsWhereTask, NamesType, digest_task, json_task, task_on_files, task_on_list, task_on_one};
 
-use crate::report_form::{Form, form_of};
+use crate::columns::columns_of;
 use cli_arguments::{Ask, Subcommand};
+use cli_commands::report_form::{Form, form_of};
 use cli_faults::{Failure, UsageError};
 use cli_files::{
     STANDARD_INPUT, code_of, names_of_type, offset_of, table_of, token_of, type_row_of,
 };
 use cli_outline::Subject;
 use cli_reports::Report;
+use comparison::IgnoredColumns;
+use std::alloc::Global;
 
 /// What to do.
-#[derive(Clone, Copy, Debug)]
+#[derive(Debug, Drop)]
 pub(crate) enum Task<'a> {
     /// Print something of a file, in this form.
     Print(Report, Form),
+    /// Print what each of these tokens names in a file, in this form.
+    Tokens(Vec<u32>, Form),
     /// Check a file against the rules, and print a JSON value.
     CheckJson,
     /// Check a file against the rules. At most this number of signature blob bytes is checked.
@@ -39,14 +44,14 @@ pub(crate) enum Task<'a> {
     Digest,
     /// Print those of several files.
     DigestEach,
-    /// Print what differs between a file and the one at this path.
-    Compare(&'a str),
+    /// Print what differs between a file and the one at this path, besides the cells of these columns.
+    Compare(&'a str, IgnoredColumns),
     /// Explain the faults that these arguments name, or list all if there is none.
     Explain(&'a [&'a str]),
 }
 
 /// The task of the arguments. It is known before the file is read.
-pub(crate) fn task_of<'a>(ask: &'a Ask<'a>) -> Result<Task<'a>, Failure<'a>>
+pub(crate) fn task_of<'a>(alloc: Global, ask: &'a Ask<'a>) -> Result<Task<'a>, Failure<'a>>
     requires { HasSecond ask.now }
     ensures { IsTask ask.now.subcommand ask.now result }
 {
@@ -58,15 +63,11 @@ pub(crate) fn task_of<'a>(ask: &'a Ask<'a>) -> Result<Task<'a>, Failure<'a>>
         Subcommand::Types => Task::Print(Report::Types, form),
         Subcommand::Outline => outline_of(ask.part),
         Subcommand::Strings => Task::Strings,
-        Subcommand::Token => {
-            let word = ask.second.unwrap();
-            let number = token_of(word).ok_or(UsageError::NoToken(word))?;
-            Task::Print(Report::Token(number), form)
-        }
+        Subcommand::Token => return tokens_of(alloc, ask.tokens.as_slice(), form),
         Subcommand::Where => return where_of(ask.second.unwrap()),
         Subcommand::Rewrite => Task::Rewrite(ask.second.unwrap()),
         Subcommand::Digest => digest_of(ask.files.as_slice()),
-        Subcommand::Compare => Task::Compare(ask.second.unwrap()),
+        Subcommand::Compare => return comparison_of(ask.ignored.as_slice(), ask.second.unwrap()),
         Subcommand::Explain => return explanation_of(ask.codes.as_slice()),
     })
 }
@@ -177,6 +178,57 @@ fn type_named<'a>(word: &'a str) -> Subject<'a>
     Subject::Named { namespace, name }
 }
 
+/// The task of `token` for these arguments: print what one token names, or what each of several names.
+fn tokens_of<'a>(alloc: Global, words: &[&'a str], form: Form) -> Result<Task<'a>, Failure<'a>>
+    ensures { IsTokensTask form words.now result }
+{
+    match words {
+        [word] => one_token_of(word, form),
+        _ => several_tokens_of(alloc, words, form),
+    }
+}
+
+/// The task of `token` for several arguments.
+fn several_tokens_of<'a>(
+    alloc: Global,
+    words: &[&'a str],
+    form: Form,
+) -> Result<Task<'a>, Failure<'a>>
+    ensures { IsSeveralTask form words.now result }
+{
+    let numbers = numbers_of(alloc, words)?;
+    Ok(Task::Tokens(numbers, form))
+}
+
+/// The task of `token` for one argument.
+fn one_token_of<'a>(word: &'a str, form: Form) -> Result<Task<'a>, Failure<'a>>
+    ensures { IsTokenTask form word.now result }
+{
+    let number = token_of(word).ok_or(UsageError::NoToken(word))?;
+    Ok(Task::Print(Report::Token(number), form))
+}
+
+/// The numbers of tokens.
+///
+/// # Errors
+///
+/// The first argument that is no token; or out of memory.
+fn numbers_of<'a>(alloc: Global, words: &[&'a str]) -> Result<Vec<u32>, Failure<'a>>
+    ensures sound { IfOk result (λ numbers. AreTokens words.now numbers.items) }
+    ensures first_error { IfErr result (IsFirstNoToken words.now) }
+{
+    let mut numbers = Vec::new(alloc);
+    for word in words {
+        let Some(number) = token_of(word) else {
+            return Err(Failure::Usage(UsageError::NoToken(word)));
+        };
+        let Ok(()) = numbers.push(number) else {
+            return Err(Failure::OutOfMemory);
+        };
+    }
+    Ok(numbers)
+}
+
 /// The task of `where` for this argument.
 fn where_of<'a>(word: &'a str) -> Result<Task<'a>, Failure<'a>>
     ensures { IsWhereTask word.now result }
@@ -194,6 +246,16 @@ fn digest_of(files: &[&str]) -> Task<'static>
     match files {
         [_, _, ..] => Task::DigestEach,
         _ => Task::Digest,
+    }
+}
+
+/// The task of `compare`, which leaves out the columns that arguments name.
+fn comparison_of<'a>(ignored: &[&'a str], other: &'a str) -> Result<Task<'a>, Failure<'a>>
+    ensures { IsCompareTask ignored.now other.entry result }
+{
+    match columns_of(ignored) {
+        Ok(ignored) => Ok(Task::Compare(other, ignored)),
+        Err(word) => Err(Failure::Usage(UsageError::NoColumn(word))),
     }
 }
 

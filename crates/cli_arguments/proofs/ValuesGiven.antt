@@ -16,7 +16,7 @@ use Rattle.std.proofs.lemmas.Slice.Eq.{bytes_eq-Decides}
 use Rattle.cli_arguments.specs.Asked.{name_of, subcommand_named}
 use Rattle.cli_arguments.specs.declared.asked.Subcommand.TheVariants.{Root, Check, Show, Types, Outline, Strings, Token, Where, Rewrite, Digest, Compare, Explain}
 use Rattle.cli_arguments.specs.declared.asked.Subcommand.{Subcommand}
-use Rattle.cli_arguments.specs.CommandLine.{bare, budget, check, clim, digest, explain, fault_codes, file, files, files_from, json, null, outline, part, quiet, reader, reporter, second, several, show, token}
+use Rattle.cli_arguments.specs.CommandLine.{bare, budget, check, clim, compare, digest, explain, fault_codes, file, files, files_from, ignore, json, null, outline, part, quiet, reader, reporter, second, several, show, token, tokens}
 use Rattle.cli_arguments.proofs.NoHelp.{StopsElsewhere, is_help, stops_elsewhere}
 use Rattle.cli_arguments.proofs.Supplied.{AllSupply, Supplies, IsSupplied, below_none, check_none, supplied_with, supplied_without, first_none, given_has_value, level_supplied}
 
@@ -43,7 +43,7 @@ built_bare = with_index 2 (filled bare)
 abbrev pub values_in : Text → List Text
 values_in name =
     if bytes_eq name (name_of Explain) || bytes_eq name (name_of Check) then []
-    else codes "FILE" ∷ (if bytes_eq name (name_of Token) || bytes_eq name (name_of Where) || bytes_eq name (name_of Rewrite) || bytes_eq name (name_of Compare) then codes "second" ∷ [] else [])
+    else codes "FILE" ∷ (if bytes_eq name (name_of Where) || bytes_eq name (name_of Rewrite) || bytes_eq name (name_of Compare) then codes "second" ∷ [] else [])
 
 abbrev AllGiven : List Text → List Row → Type 0
 AllGiven [] rows = Unit {0}
@@ -151,6 +151,14 @@ several_supplies : Supplies (built_value 1 several)
 several_supplies again [] rows none f = cc
 several_supplies again (v ∷ vs) rows none f = supplied_with (codes "FILE") (reading_by (built_value 1 several)) CommandLine v vs rows f
 
+tokens_supplies : Supplies (built_value 2 tokens)
+tokens_supplies again [] rows none f = cc
+tokens_supplies again (v ∷ vs) rows none f = supplied_with (codes "HEX") (reading_by (built_value 2 tokens)) CommandLine v vs rows f
+
+ignore_supplies : Supplies (built_value 3 ignore)
+ignore_supplies again [] rows none f = cc
+ignore_supplies again (v ∷ vs) rows none f = supplied_with (codes "ignore") (reading_by (built_value 3 ignore)) CommandLine v vs rows f
+
 codes_supplies : Supplies (built_value 1 fault_codes)
 codes_supplies again [] rows none f = cc
 codes_supplies again (v ∷ vs) rows none f = supplied_with (codes "CODE") (reading_by (built_value 1 fault_codes)) CommandLine v vs rows f
@@ -188,7 +196,7 @@ strings_takes : values_in (codes "strings") ≡ codes "FILE" ∷ []
 unfolding clap_on_literals
 strings_takes = refl
 
-pub token_takes : values_in (codes "token") ≡ codes "FILE" ∷ codes "second" ∷ []
+token_takes : values_in (codes "token") ≡ codes "FILE" ∷ []
 unfolding clap_on_literals
 token_takes = refl
 
@@ -340,10 +348,19 @@ second_ready name takes known = record {
 
 token_ready : IsReady (built_leaf (inherited (built clim).top token.top))
 token_ready = record {
-  supplies = (file_supplies, (bare_supplies, (json_supplies, (second_supplies, ((λ again values rows none f. f), tt)))));
-  values = codes "FILE" ∷ codes "second" ∷ [];
+  supplies = (file_supplies, (bare_supplies, (json_supplies, (tokens_supplies, ((λ again values rows none f. f), tt)))));
+  values = codes "FILE" ∷ [];
   takes = token_takes;
   known = token_known;
+  needs = λ rows all. (needed (is_given (codes "FILE") rows) _ all, tt);
+}
+
+compare_ready : IsReady (built_leaf (inherited (built clim).top compare.top))
+compare_ready = record {
+  supplies = (file_supplies, (bare_supplies, (second_supplies, (ignore_supplies, ((λ again values rows none f. f), tt)))));
+  values = codes "FILE" ∷ codes "second" ∷ [];
+  takes = compare_takes;
+  known = compare_known;
   needs = λ rows all. (
     needed (is_given (codes "FILE") rows) _ all,
     (needed (is_given (codes "second") rows) _ (not_needed (is_given (codes "FILE") rows) _ all), tt),
@@ -390,7 +407,7 @@ clim_ready word other = (
                   (
                     (λ is. digest_ready),
                     (
-                      (λ is. second_ready (codes "compare") compare_takes compare_known),
+                      (λ is. compare_ready),
                       (
                         (λ is. explain_ready),
                         ((λ is. let help = answers_help word is in cc), tt),

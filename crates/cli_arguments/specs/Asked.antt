@@ -57,6 +57,8 @@ pub record Gives (words : List Text) (ask : Ask) : Type 0 where
   pub bare : IsTrue ask.bare ↔ (one_of (codes "bare") rows ≡ Some (codes "true"))
   pub file : option_map (λ word. word.now) ask.file ≡ first_of (codes "FILE") rows
   pub second : option_map (λ word. word.now) ask.second ≡ first_of (codes "second") rows
+  pub tokens : map (λ word. word.now) ask.tokens.items ≡ unwrap_or (all_of (codes "HEX") rows) []
+  pub ignored : map (λ word. word.now) ask.ignored.items ≡ unwrap_or (all_of (codes "ignore") rows) []
   pub budget : IsCountOf (one_of (codes "budget") rows) ask.budget
   pub part : option_map (λ word. word.now) ask.part ≡ first_of (codes "part") rows
   pub json : IsTrue ask.json ↔ (one_of (codes "json") rows ≡ Some (codes "true"))
@@ -77,5 +79,4 @@ HasFirst ask = option_map (λ word. word.now) ask.file ≡ slice_get (map (λ wo
 -- there is a second value, if the subcommand has one
 abbrev pub HasSecond : Ask → Type 0
 HasSecond ask =
-    (ask.subcommand ≡ Token → IsSome ask.second) × (ask.subcommand ≡ Where → IsSome ask.second) × (ask.subcommand ≡ Rewrite → IsSome ask.second)
-    × (ask.subcommand ≡ Compare → IsSome ask.second)
+    (ask.subcommand ≡ Where → IsSome ask.second) × (ask.subcommand ≡ Rewrite → IsSome ask.second) × (ask.subcommand ≡ Compare → IsSome ask.second)

@@ -50,6 +50,14 @@ quiet = record (new_rule (codes "quiet")) { short = Some 113; long = Some (codes
 abbrev pub json : Rule
 json = record (new_rule (codes "json")) { long = Some (codes "json"); action = Some SetTrue }
 
+-- `HEX..`, at least one value
+abbrev pub tokens : Rule
+tokens = record (new_rule (codes "HEX")) { action = Some Append; range = Some (record { start_inclusive = 1; end_inclusive = usize_max }); required = true }
+
+-- `--ignore TABLE.COLUMN`, one value, any number of times
+abbrev pub ignore : Rule
+ignore = record (new_rule (codes "ignore")) { long = Some (codes "ignore"); action = Some Append; value_names = 1 }
+
 -- `CODE..`, any number of values
 abbrev pub fault_codes : Rule
 fault_codes = record (new_rule (codes "CODE")) { action = Some Append; range = Some (record { start_inclusive = 1; end_inclusive = usize_max }) }
@@ -86,9 +94,9 @@ outline = with_rule (reader (codes "outline")) part
 abbrev pub strings : App
 strings = reader (codes "strings")
 
--- `token [--bare] [--json] FILE HEX`
+-- `token [--bare] [--json] FILE HEX..`
 abbrev pub token : App
-token = with_rule (reporter (codes "token")) second
+token = with_rule (reporter (codes "token")) tokens
 
 -- `where [--bare] FILE OFFSET`
 abbrev pub where_is : App
@@ -102,9 +110,9 @@ rewrite = with_rule (reader (codes "rewrite")) second
 abbrev pub digest : App
 digest = with_rule (with_rule (new_app (codes "digest")) several) bare
 
--- `compare [--bare] FILE OTHER`
+-- `compare [--bare] [--ignore TABLE.COLUMN].. FILE OTHER`
 abbrev pub compare : App
-compare = with_rule (reader (codes "compare")) second
+compare = with_rule (with_rule (reader (codes "compare")) second) ignore
 
 -- `explain [CODE]..`
 abbrev pub explain : App

@@ -6,6 +6,7 @@ ghost use Rattle.cli_arguments.specs.CommandLine as line;
 ghost use Rattle.cli_arguments.specs.CommandLine.{clim};
 
 use crate::asked::{Ask, Subcommand};
+use crate::help::HELP;
 use crate::subcommands::{
     check_file, compare_files, digest_file, explain_fault, print_outline, print_root,
     print_strings, print_token, print_types, print_where, rewrite_file, show_tables,
@@ -31,11 +32,15 @@ pub fn ask<'a>(alloc: Global, words: &'a [&'a str]) -> Result<Ask<'a>, Error>
     let (name, given) = matches.subcommand().unwrap();
     let files = Vec::from_slice(alloc, given.get_raw("FILE").unwrap_or(&[]))?;
     let codes = Vec::from_slice(alloc, given.get_raw("CODE").unwrap_or(&[]))?;
+    let tokens = Vec::from_slice(alloc, given.get_raw("HEX").unwrap_or(&[]))?;
+    let ignored = Vec::from_slice(alloc, given.get_raw("ignore").unwrap_or(&[]))?;
     Ok(Ask {
         subcommand: Subcommand::named(name).unwrap(),
         bare: given.get_one::<bool>("bare") == Some(true),
         file: given.get_str("FILE"),
         second: given.get_str("second"),
+        tokens,
+        ignored,
         budget: given.get_one::<u64>("budget"),
         part: given.get_str("part"),
         json: given.get_one::<bool>("json") == Some(true),
@@ -52,9 +57,8 @@ fn command<'a>(alloc: Global) -> Result<Command<'a>, AllocError>
     ensures { IfOk result (λ command. app_of command ≡ clim) }
 {
     let program = Command::new(alloc, "clim")
-        .about("Read, check and rewrite the metadata of .NET assemblies (ECMA-335, Partition II)")
         .version("0.1.0")
-        .after_help(STATUSES)
+        .override_help(HELP)
         .subcommand_required(true);
     let program = with_reports(alloc, program)?;
     let program = with_lookups(alloc, program)?;
@@ -103,16 +107,3 @@ fn with<'a>(
         _ => Err(AllocError),
     }
 }
-
-const STATUSES: &str = "\
-'clim <COMMAND> --help' has examples of each command. 'clim explain CODE' explains a fault.
-
-Exit status:
-  0  success
-  1  FILE breaks a rule of the standard, printed as 'fault LAYER CODE at OFFSET: NAME';
-     or FILE has nothing that HEX names, no type NAME, or nothing at OFFSET; or its canonical
-     root has more than 2^30 bytes; or FILE and OTHER differ
-  2  usage error; FILE was not read
-  3  I/O error, out of memory, or budget spent
-The status of 'clim check' and 'clim digest' for several files is the greatest of theirs.
-FILE may be '-', the standard input.";

@@ -10,9 +10,12 @@ pub struct Ask<'a> {
     pub bare: bool,
     /// The path of the file to read, the first of `files`. `explain` has none, and `check` may have none.
     pub file: Option<&'a str>,
-    /// The argument after the file: the token of `token`, the offset of `where`, the output path of `rewrite`, the other
-    /// file of `compare`.
+    /// The argument after the file: the offset of `where`, the output path of `rewrite`, the other file of `compare`.
     pub second: Option<&'a str>,
+    /// The tokens of `token`, in the order given.
+    pub tokens: Vec<&'a str>,
+    /// The columns whose cells `compare` leaves out, as they were given.
+    pub ignored: Vec<&'a str>,
     /// The largest number of signature blob bytes that `check` may check, if given.
     pub budget: Option<u64>,
     /// What alone to print of the file, as it was given: the table of `show`, the type of `outline`.
@@ -46,7 +49,7 @@ pub enum Subcommand {
     Outline,
     /// `strings`: print the user strings.
     Strings,
-    /// `token`: print the row or the user string that a token names.
+    /// `token`: print the row or the user string that each token names.
     Token,
     /// `where`: print what has the byte at an offset.
     Where,

@@ -11,6 +11,7 @@
 
 mod arguments;
 mod asked;
+mod help;
 mod subcommands;
 
 pub use arguments::ask;

@@ -6,7 +6,7 @@ use Rattle.cli_faults.specs.FileErrors.{file_error_text}
 use Rattle.cli_faults.specs.declared.failure.Failure.{Failure}
 use Rattle.cli_faults.specs.declared.failure.Failure.TheVariants.{Fault, NoSuchRow, Usage, NotUtf8, CannotRead, CannotWriteOutput, CannotWriteFile, OutOfMemory}
 use Rattle.cli_faults.specs.declared.usage_error.UsageError.{UsageError}
-use Rattle.cli_faults.specs.declared.usage_error.UsageError.TheVariants.{NoToken, NoCode, NoFile, FilesAndList, JsonOfOneFile, NoList, NoTable, NoOffset}
+use Rattle.cli_faults.specs.declared.usage_error.UsageError.TheVariants.{NoToken, NoCode, NoFile, FilesAndList, JsonOfOneFile, NoList, NoTable, NoOffset, NoColumn}
 
 -- the line that reports an argument that is wrong, without its line feed; arguments in it are escaped
 abbrev pub usage_text : UsageError → List ℕ
@@ -19,6 +19,8 @@ usage_text JsonOfOneFile = codes "error: '--json' takes one FILE, and no list, '
 usage_text (NoList word) = codes "error: '--files-from' takes '-', the standard input, not '" ++ escaped_text word.now ++ codes "'"
 usage_text (NoTable word) = codes "error: TABLE is a table, which 'clim show --help' lists, not '" ++ escaped_text word.now ++ codes "'"
 usage_text (NoOffset word) = codes "error: OFFSET is a number, decimal or hexadecimal after '0x', not '" ++ escaped_text word.now ++ codes "'"
+usage_text (NoColumn word) =
+    codes "error: no such column: '--ignore' takes a table and one of its columns, as 'Module.Mvid', not '" ++ escaped_text word.now ++ codes "'"
 
 -- the line that reports a failure, without its last line feed; arguments in it are escaped, and a line with the reason
 -- follows the name of a file

@@ -25,6 +25,8 @@ pub enum UsageError<'a> {
     NoTable(&'a str),
     /// The argument is not an offset.
     NoOffset(&'a str),
+    /// The argument is not a table and one of its columns.
+    NoColumn(&'a str),
 }
 
 impl fmt::Display for UsageError<'_> {
@@ -63,6 +65,11 @@ impl fmt::Display for UsageError<'_> {
             UsageError::NoOffset(word) => write!(
                 f,
                 "error: OFFSET is a number, decimal or hexadecimal after '0x', not '{}'",
+                Escaped(word)
+            ),
+            UsageError::NoColumn(word) => write!(
+                f,
+                "error: no such column: '--ignore' takes a table and one of its columns, as 'Module.Mvid', not '{}'",
                 Escaped(word)
             ),
         }

@@ -10,7 +10,8 @@ use Rattle.metadata.specs.Metadata.{Metadata, cell_in, count_in}
 use Rattle.opening.specs.Views.{row_count}
 use Rattle.comparison.specs.declared.difference.Difference.{Difference}
 use Rattle.comparison.specs.declared.difference.Difference.TheVariants.{Version, UserStrings, RowCount, Cell}
-use Rattle.comparison.specs.Differences.{first_differences}
+use Rattle.comparison.specs.Differences.{first_differences_but}
+use Rattle.comparison.specs.declared.ignored.IgnoredColumns.{IgnoredColumns}
 use Rattle.cli_faults.specs.Escaped.{escaped_text}
 use Rattle.cli_reports.specs.Escaped.{upper_hexadecimal}
 use Rattle.cli_reports.specs.RowTexts.{cell_text, line_feed}
@@ -45,9 +46,9 @@ compared_text left right [] = codes "equal" ++ line_feed
 compared_text left right (difference ∷ differences) = flat_map (difference_text left right) (difference ∷ differences)
 
 -- what `clim compare` prints: `equal`, or the first of the version, the user strings and the row counts that differs, and
--- the first 20 cells that differ
-unfoldable pub compare_text : Metadata → Metadata → List ℕ
-compare_text left right = compared_text left right (first_differences left right 20)
+-- the first 20 cells that differ and whose columns are not ignored
+unfoldable pub compare_text : IgnoredColumns → Metadata → Metadata → List ℕ
+compare_text ignored left right = compared_text left right (first_differences_but ignored left right 20)
 
 -- a cell of the root, if a cell differs (II.24.2.6)
 abbrev pub HasRows : List ℕ → Difference → Type 0

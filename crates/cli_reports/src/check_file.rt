@@ -10,7 +10,6 @@ use crate::opened::{open, open_within};
 use crate::sending::finish;
 use cli_faults::{Failure, Stop, printed};
 use opening::BoundedError;
-use std::alloc::Global;
 use std::io::{self, Write};
 
 /// Prints `ok` if the bytes break no rule.
@@ -33,7 +32,6 @@ pub(crate) fn run<W: Write>(bytes: &[u8], bare: bool, out: &mut W) -> Result<(),
 /// `Failed` with the fault of the first rule that fails, or if memory runs out or the output cannot be written.
 /// `BudgetSpent` if more bytes of blobs must be checked; then all rules before signatures hold.
 pub fn check_within<W: Write>(
-    _alloc: Global,
     bytes: &[u8],
     bare: bool,
     budget: u64,

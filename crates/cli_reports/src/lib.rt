@@ -31,7 +31,7 @@ pub use existing::existing_row;
 pub use line::{push_decimal, push_escaped, push_hexadecimal, push_upper_hexadecimal, push_word};
 pub use opened::{open, open_within};
 pub use print_root::heads_of;
-pub use print_token::padded_copy;
+pub use print_token::{padded_copy, print_named};
 pub use report::{Report, print_report};
 pub use row_lines::{push_token, shortest};
 pub use sending::{FULL, finish, send_full};

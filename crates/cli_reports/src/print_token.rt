@@ -3,7 +3,7 @@ ghost use Rattle.std.specs.Prelude.{◌≡◌, ◌≤◌, ℕ, List, IfOk, IfErr
 ghost use Rattle.heap_entries.specs.Padding.{zero_padded};
 ghost use Rattle.metadata.specs.Metadata.{Metadata, row_of};
 ghost use Rattle.metadata.specs.Model.{IsModel};
-ghost use Rattle.opening.specs.Views.{HasModel, row_count};
+ghost use Rattle.opening.specs.Views.{row_count};
 ghost use Rattle.cli_reports.specs.Printed.{IsModelOf};
 ghost use Rattle.cli_reports.specs.Reported.{HasString, IsMet, IsNamed, LeavesOutput, ReportsNoString, ReportsNone, ReportsUnnamed};
 ghost use Rattle.cli_reports.specs.RowTexts.{row_text};
@@ -46,15 +46,18 @@ pub(crate) fn run<W: Write>(
     print_named(alloc, &view, number, out)
 }
 
-/// Prints what a number names in a view.
+/// Prints the row or the user string that a token names in a view, as [`crate::print_report`] does.
+///
+/// # Errors
+///
+/// `NoSuchRow` if it names nothing; out of memory, or the output cannot be written.
 #[tactic(auto, using(crate::proofs::Tokens::string_named, crate::proofs::Tokens::string_unnamed, crate::proofs::Tokens::row_named, crate::proofs::Tokens::output_unnamed, crate::proofs::Tokens::none_named))]
-fn print_named<W: Write>(
+pub fn print_named<W: Write>(
     alloc: Global,
     view: &View<'_>,
     number: u32,
     out: &mut W,
 ) -> Result<(), Failure<'static>>
-    requires { HasModel view.now }
     ensures sound { OnOk result (IsNamed view.now number) }
     ensures none { IfErr result (ReportsUnnamed view.now number) }
     ensures untouched { IfErr result (LeavesOutput out.old out.new) }

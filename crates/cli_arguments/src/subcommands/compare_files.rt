@@ -5,7 +5,7 @@ ghost use Rattle.clap.specs.declared.Command.TheViews.{out-Command as fields_of}
 ghost use Rattle.cli_arguments.specs.CommandLine as line;
 
 use crate::subcommands::{reader, second};
-use clap::Command;
+use clap::{Arg, ArgAction, Command};
 use std::alloc::{AllocError, Global};
 
 /// The arguments of the subcommand and its help.
@@ -19,7 +19,20 @@ pub(crate) fn command<'a>(alloc: Global) -> Result<Command<'a>, AllocError>
         "Compare the metadata of two files",
         OUTPUT,
     )?
-    .arg(second(alloc, "OTHER", "The file to compare it with"))
+    .arg(second(alloc, "OTHER", "The file to compare it with"))?
+    .arg(ignore(alloc))
+}
+
+/// `--ignore TABLE.COLUMN`, a column whose cells are left out.
+fn ignore<'a>(alloc: Global) -> Arg<'a>
+    ensures rule { rule_of result ≡ line.ignore }
+    ensures local { result.global ≡ false }
+{
+    Arg::new(alloc, "ignore")
+        .long("ignore")
+        .value_name("TABLE.COLUMN")
+        .action(ArgAction::Append)
+        .help("Do not compare the cells of this column")
 }
 
 const OUTPUT: &str = "\
@@ -32,9 +45,15 @@ OTHER. First comes the first of these that differs, if one does:
 Then come the first 20 cells that differ, in the rows that both files have: 'TOKEN COLUMN: A | B', with the name
 of the column (ECMA-335, II.22). The values are printed as by 'clim show'.
 
+'--ignore TABLE.COLUMN' leaves out the cells of a column, by the names of ECMA-335, II.22. It may be given several
+times. Then 'equal' means: the same but for the cells of these columns. '--ignore Module.Mvid' compares two builds
+of the same source, whose module versions differ.
+
 FILE and OTHER are checked first, as by 'clim check'. If OTHER is refused, its name follows the fault.
 '--bare' is for both.
 
 Examples:
   $ clim compare --bare one_module.root one_module.root
+  equal
+  $ clim compare --bare --ignore Module.Mvid --ignore Module.Name one_module.root one_module.root
   equal";

@@ -1,11 +1,11 @@
-//! `clim token`: the row or the user string that a token names.
+//! `clim token`: the rows or the user strings that tokens name.
 ghost use Rattle.std.specs.Prelude.{◌≡◌, IfOk, false};
-ghost use Rattle.clap.specs.Words.{app_of};
+ghost use Rattle.clap.specs.Words.{app_of, rule_of};
 ghost use Rattle.clap.specs.declared.Command.TheViews.{out-Command as fields_of};
 ghost use Rattle.cli_arguments.specs.CommandLine as line;
 
-use crate::subcommands::{reporter, second};
-use clap::Command;
+use crate::subcommands::reporter;
+use clap::{Arg, ArgAction, Command};
 use std::alloc::{AllocError, Global};
 
 /// The arguments of the subcommand and its help.
@@ -16,10 +16,22 @@ pub(crate) fn command<'a>(alloc: Global) -> Result<Command<'a>, AllocError>
     reporter(
         alloc,
         "token",
-        "Print the row or the user string that a token names",
+        "Print the row or the user string that each token names",
         OUTPUT,
     )?
-    .arg(second(alloc, "HEX", "The token: one to eight hexadecimal digits"))
+    .arg(tokens(alloc))
+}
+
+/// `HEX..`, the tokens, at least one.
+fn tokens<'a>(alloc: Global) -> Arg<'a>
+    ensures rule { rule_of result ≡ line.tokens }
+    ensures local { result.global ≡ false }
+{
+    Arg::new(alloc, "HEX")
+        .required(true)
+        .num_args(1..)
+        .action(ArgAction::Append)
+        .help("The tokens: one to eight hexadecimal digits each")
 }
 
 const OUTPUT: &str = "\
@@ -29,6 +41,9 @@ is the line of that row in 'clim show'. If the high byte is 70, HEX names an off
 become \\u and four hexadecimal digits. FLAG is the last byte. For an entry of no bytes the output is 'user'.
 FILE is checked first, as by 'clim check'.
 
+Several HEX are looked up in the order given, in one reading of FILE. If one names nothing, the lines of those
+before it are printed, and it ends there with 'no such row' and exit status 1.
+
 With '--json' the line is a JSON object (RFC 8259): that of the row in 'clim show --json', or the 'text' and the
 'flag' of a user string, with its numbers as 'units' if it is not well-formed UTF-16. A fault is printed to
 standard error as without it.
@@ -36,7 +51,8 @@ standard error as without it.
 Examples:
   $ clim token --bare one_module.root 00000001
   1: 0 \"a.dll\" {03020100-0504-0706-0809-0a0b0c0d0e0f} null null
-  $ clim token --bare one_module.root 70000000
+  $ clim token --bare one_module.root 70000000 00000001
   user
+  1: 0 \"a.dll\" {03020100-0504-0706-0809-0a0b0c0d0e0f} null null
   $ clim token --json --bare one_module.root 70000000
   {\"token\":\"70000000\",\"text\":\"\",\"flag\":null}";

@@ -28,16 +28,18 @@ pub(crate) fn command<'a>(alloc: Global) -> Result<Command<'a>, AllocError>
 
 const OUTPUT: &str = "\
 There is a line 'START SIZE WHAT' for each structure that has the byte, the outermost first. START is its offset
-in FILE. OFFSET counts from the first byte of FILE, like the OFFSET of a fault. The structures are the CLI header
-and its fields (ECMA-335, II.25.3.3), the metadata root and its fields, the stream headers (II.24.2.1, II.24.2.2),
-the streams, and the fields, row counts and cells of the table stream (II.24.2.6). A cell has its table, its row
-from 1, and its column from 0 and by name (II.22). A string, GUID or blob of a heap has the cell that names it; there
-are lines of the first ten cells (II.24.2.3 to II.24.2.5). A user string has its token. The name in a stream header
-is escaped like the texts of 'clim show'. If no structure has the byte, the output is 'nothing', and the exit status is 1. FILE is checked
-first, as by 'clim check'.
+in FILE. OFFSET counts from the first byte of FILE, like the OFFSET of a fault. The structures are the headers of the
+PE file with their fields and data directories (ECMA-335, II.25.2), section headers and sections (II.25.3), the CLI
+header with its fields and what it names (II.25.3.3), the metadata root and its fields, the stream headers (II.24.2.1,
+II.24.2.2), the streams, and the fields, row counts and cells of the table stream (II.24.2.6). A section has its number
+from 1 and its name. A cell has its table, its row from 1, and its column from 0 and by name (II.22). A string, GUID or
+blob of a heap has the cell that names it; there are lines of the first ten cells (II.24.2.3 to II.24.2.5). A user
+string has its token. The names of streams and sections are escaped like the texts of 'clim show'. If no structure has
+the byte, the output is 'nothing', and the exit status is 1. FILE is checked first, as by 'clim check'.
 
 Examples:
   $ clim where one_module.dll 0x208
+  512 512 section 1
   520 72 cli header
   520 4 cli header Cb
   $ clim where --bare one_module.root 128

@@ -6,6 +6,10 @@ pub unwrap-requires : goal.unwrap-requires
 unwrap-requires g c =
     file_there c.args.ask.now c.in-Ok.task (is_on_one c.in-Ok.task (task.Print c.in-Print.report c.in-Print.form) c.in-Print.is tt) c.requires.file c.requires.first c.in-Ok.ensures
 
+pub unwrap-requires-in-Tokens : goal.unwrap-requires-in-Tokens
+unwrap-requires-in-Tokens g c =
+    file_there c.args.ask.now c.in-Ok.task (is_on_one c.in-Ok.task (task.Tokens c.in-Tokens.numbers c.in-Tokens.form) c.in-Tokens.is tt) c.requires.file c.requires.first c.in-Ok.ensures
+
 pub unwrap-requires-in-CheckWithin : goal.unwrap-requires-in-CheckWithin
 unwrap-requires-in-CheckWithin g c =
     file_there c.args.ask.now c.in-Ok.task (is_on_one c.in-Ok.task (task.CheckWithin c.in-CheckWithin.budget) c.in-CheckWithin.is tt) c.requires.file c.requires.first c.in-Ok.ensures
@@ -40,4 +44,4 @@ unwrap-requires-in-Digest g c =
 
 pub unwrap-requires-in-Compare : goal.unwrap-requires-in-Compare
 unwrap-requires-in-Compare g c =
-    file_there c.args.ask.now c.in-Ok.task (is_on_one c.in-Ok.task (task.Compare c.in-Compare.other) c.in-Compare.is tt) c.requires.file c.requires.first c.in-Ok.ensures
+    file_there c.args.ask.now c.in-Ok.task (is_on_one c.in-Ok.task (task.Compare c.in-Compare.other c.in-Compare.ignored) c.in-Compare.is tt) c.requires.file c.requires.first c.in-Ok.ensures

@@ -22,7 +22,7 @@ returns-in_default c =
 
 pub loop-word-preserved : goal.loop-word-preserved
 loop-word-preserved c =
-    one_more c.args.words.now c.loop-word.word-index _ c.loop-word-test.true c.loop-word.invariant (c.in-Some._code, c.in-Some.ensures.sound)
+    one_more c.args.words.now c.loop-word.word-index _ c.loop-word-test.true NamesFault c.loop-word.invariant (c.in-Some._code, c.in-Some.ensures.sound)
 
 pub returns : goal.returns
 returns c =

@@ -11,7 +11,7 @@ use Rattle.clap.specs.Words.{App, HasKind, HasMatchesOf, Row, Text, fault_of, fi
 use Rattle.clap.specs.declared.ArgMatches.{ArgMatches}
 use Rattle.cli_arguments.specs.CommandLine.{clim}
 use Rattle.cli_arguments.specs.Asked.{name_of}
-use Rattle.cli_arguments.proofs.ValuesGiven.{AllThere, compare_takes, file_first, has_values, is_known, rewrite_takes, token_takes, values_in, where_takes}
+use Rattle.cli_arguments.proofs.ValuesGiven.{AllThere, compare_takes, file_first, has_values, is_known, rewrite_takes, values_in, where_takes}
 use Rattle.cli_arguments.proofs.Readings.{count_is, files_read, first_read, named_back, rows_met, flag_is, some_mapped}
 use Rattle.cli_arguments.proofs.arguments.ask.Goals as goal
 
@@ -44,7 +44,7 @@ entered_by a texts m name rows same has named given =
     let matched = (has (ap is_simple same ∙ clim_is_simple)).1 ∙ ap (λ (b : App). subcommand_of b texts) same in
     sym matched ∙ rows_met m name rows named given
 
-entered : (c : goal.Joined-matches-3) → subcommand_of clim (map (λ word. word.now) c.args.words.now)
+entered : (c : goal.Joined-matches-5) → subcommand_of clim (map (λ word. word.now) c.args.words.now)
     ≡ Some (c.unwrap.result.0.now, rows_of (found_of c.unwrap.result.1.now))
 entered c =
     entered_by _ _ c.in_ok-matches.matches _ _ c.in_ok-command.ensures c.in_ok-matches.ensures.matches
@@ -73,6 +73,8 @@ returns-clause-given c =
           (λ t is. c.get_one.ensures.value t (one_text-rows found (codes "bare") ∙ is));
       file = c.get_str.ensures ∙ first_value-rows found (codes "FILE");
       second = c.get_str-2.ensures ∙ first_value-rows found (codes "second");
+      tokens = files_read _ _ _ refl (ap (λ (s : List (Bor Text)). map (λ word. word.now) s) c.in_ok-tokens.ensures.items) c.unwrap_or-3.ensures (c.get_raw-3.ensures ∙ raw_values-rows found (codes "HEX"));
+      ignored = files_read _ _ _ refl (ap (λ (s : List (Bor Text)). map (λ word. word.now) s) c.in_ok-ignored.ensures.items) c.unwrap_or-4.ensures (c.get_raw-4.ensures ∙ raw_values-rows found (codes "ignore"));
       budget = count_is ParseIntError
           (λ t r. ParsesUnsigned 64 10 t r × ExplainsUnsignedError 10 t r × HasUnsignedDigitsIfOk t r) (λ t r gives. gives.0) (one_of (codes "budget") rows) c.get_one-2.result
           (λ none. c.get_one-2.ensures.none (one_text-rows found (codes "budget") ∙ none))
@@ -93,7 +95,7 @@ returns-clause-given c =
     }
 
 -- each value that the subcommand needs is there
-values_there : (c : goal.Joined-matches-3) → fault_of clim (map (λ word. word.now) c.args.words.now) ≡ []
+values_there : (c : goal.Joined-matches-5) → fault_of clim (map (λ word. word.now) c.args.words.now) ≡ []
     → AllThere (values_in c.unwrap.result.0.now) (rows_of (found_of c.unwrap.result.1.now))
 values_there c none = has_values (map (λ word. word.now) c.args.words.now) _ (rows_of (found_of c.unwrap.result.1.now)) none (entered c)
 
@@ -106,7 +108,7 @@ returns-clause-file c = λ other listed.
     (file_first c.unwrap-2.result (rows_of found) other listed there)
 
 -- the second value is there if the arguments name a subcommand that needs one
-second_there : (c : goal.Joined-matches-3) (name : Text) → c.unwrap.result.0.now ≡ name → values_in name ≡ codes "FILE" ∷ codes "second" ∷ []
+second_there : (c : goal.Joined-matches-5) (name : Text) → c.unwrap.result.0.now ≡ name → values_in name ≡ codes "FILE" ∷ codes "second" ∷ []
     → fault_of clim (map (λ word. word.now) c.args.words.now) ≡ [] → IsSome c.get_str-2.result
 second_there c name is takes none =
     let found = found_of c.unwrap.result.1.now in
@@ -116,7 +118,6 @@ second_there c name is takes none =
 pub returns-clause-second : goal.returns-clause-second
 returns-clause-second c =
     let word = named_back c.unwrap.result.0.now c.unwrap-2.result (sym c.named.ensures ∙ c.unwrap-2.ensures) in (
-      (λ is. second_there c (codes "token") (word ∙ ap name_of is) token_takes (returns-clause-refused c)),
       (λ is. second_there c (codes "where") (word ∙ ap name_of is) where_takes (returns-clause-refused c)),
       (λ is. second_there c (codes "rewrite") (word ∙ ap name_of is) rewrite_takes (returns-clause-refused c)),
       (λ is. second_there c (codes "compare") (word ∙ ap name_of is) compare_takes (returns-clause-refused c)),

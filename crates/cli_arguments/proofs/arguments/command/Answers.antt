@@ -7,9 +7,8 @@ use Rattle.cli_arguments.proofs.arguments.command.Goals as goal
 
 pub returns : goal.returns
 returns c =
-    let named : app_of c.about.result ≡ new_app (codes "clim") = ap app_of_fields c.about.ensures ∙ c.new.ensures.app in
-    let versioned : app_of c.after_help.result ≡ on_top (λ s. record s { has_version = true }) (new_app (codes "clim")) =
-    ap app_of_fields c.after_help.ensures ∙ ap app_of_fields c.version.ensures ∙ ap (on_top (λ s. record s { has_version = true })) named in
+    let versioned : app_of c.override_help.result ≡ on_top (λ s. record s { has_version = true }) (new_app (codes "clim")) =
+    ap app_of_fields c.override_help.ensures ∙ ap app_of_fields c.version.ensures ∙ ap (on_top (λ s. record s { has_version = true })) c.new.ensures.app in
     let alone : app_of c.subcommand_required-program.result ≡ line.without_subcommands =
     ap app_of_fields c.subcommand_required-program.ensures ∙ ap (on_top (λ s. record s { subcommand_required = true })) versioned in
     IfOk-weaker c.with_others.result _ _

@@ -1,0 +1,140 @@
+-- The columns that arguments name, one after another.
+use Rattle.std.proofs.Common.{◌≡◌, ◌≢◌, ◌∙◌, ◌+◌, ◌<◌, ℕ, Bool, true, false, List, [], ◌∷◌, ◌++◌, All, take, get_or, length, refl, ap, sym, subst, arith, inl, inr, ◌⊎◌}
+use Rattle.std.specs.Prelude.{Option, None, Some, IfNone, IfSome, slice_index_or}
+use Rattle.std.specs.List.{Any}
+use Rattle.std.specs.Borrow.{Bor}
+use Rattle.std.proofs.lemmas.Bool.Decides.{Decides-eqb}
+use Rattle.std.proofs.lemmas.List.{append_cancel_left, get_or_append_left, length-append}
+use Rattle.std.proofs.lemmas.List.Elements.{All-get_or, All-weaker}
+use Rattle.std.proofs.lemmas.List.Quantifiers.{Any-push}
+use Rattle.std.specs.Bool.{Decides}
+use Rattle.table_schema.specs.declared.table.TableId.{TableId}
+use Rattle.table_schema.specs.declared.table.TableId.TheVariants.{Module}
+use Rattle.table_schema.specs.CellColumns.{cell_count}
+use Rattle.table_schema.specs.Tables.{table_index_of, table_name, tables}
+use Rattle.cli_reports.specs.Comparisons.{column_name}
+use Rattle.comparison.specs.Ignored.{AreOthersSame, is_ignored, no_columns}
+use Rattle.comparison.specs.declared.ignored.IgnoredColumns.{IgnoredColumns}
+use Rattle.cli.specs.Columns.{NamesColumn, NamesIgnored, NamesSome}
+use Rattle.cli.proofs.Explaining.{one_more, take_more}
+
+-- some item of a list is one of a longer list
+any_longer : {X : Type 0} (P : X → Type 0) (xs ys : List X) → Any P xs → Any P (xs ++ ys)
+any_longer P xs ys any =
+    (any.0, any.1, omega (arith, any.2, length-append xs ys), get_or_append_left xs ys any.1 any.0 any.2 ∙ any.3, any.4)
+
+-- an ignored column that an argument names is a column
+pub some_of_ignored : (ignored : IgnoredColumns) (word : Bor (List ℕ)) → NamesIgnored ignored word → NamesSome word
+some_of_ignored ignored word named = (named.0, named.1, named.2)
+
+-- no column is ignored at first
+pub none_ignored : ((table : TableId) (cell_index : ℕ) → is_ignored no_columns table cell_index ≡ false) → (ignored : IgnoredColumns) → ignored ≡ no_columns
+    → (words : List (Bor (List ℕ))) (table : TableId) (cell_index : ℕ) → cell_index < cell_count table
+    → is_ignored ignored table cell_index ≡ true → Any (λ word. NamesColumn word.now table cell_index) words
+none_ignored none ignored is words table cell_index within marked =
+    let other = sym (none table cell_index) ∙ subst (λ (columns : IgnoredColumns). is_ignored columns table cell_index ≡ true) is marked in cc
+
+-- two numbers are equal or not
+same_or_not : (m n : ℕ) (r : Bool) → Decides r (m ≡ n) → (m ≡ n) ⊎ (m ≢ n)
+same_or_not m n true decides = inl (decides.0 refl)
+same_or_not m n false decides = inr (λ is. let yes = decides.1 is in cc)
+
+-- what holds if there is no value
+pub when_none : (P : Type 0) (found : Option ℕ) → P → IfNone found P
+when_none P None holds = holds
+when_none P (Some value) holds = tt
+
+-- an argument, and the name of a table
+module _ (word : List ℕ) (table : TableId) where
+  -- it does not start with that name
+  pub no_table : ((tail : List ℕ) → word ≢ table_name table ++ tail) → (cell_index : ℕ) → NamesColumn word table cell_index → ⊥
+  no_table none cell_index named = none (46 ∷ column_name table cell_index) named.1
+
+  module _ (tail : List ℕ) (is : word ≡ table_name table ++ tail) where
+    after_name : (cell_index : ℕ) → NamesColumn word table cell_index → tail ≡ 46 ∷ column_name table cell_index
+    after_name cell_index named = append_cancel_left (table_name table) tail (46 ∷ column_name table cell_index) (sym is ∙ named.1)
+
+    -- no dot follows that name
+    pub no_dot : ((more : List ℕ) → tail ≢ 46 ∷ more) → (cell_index : ℕ) → NamesColumn word table cell_index → ⊥
+    no_dot none cell_index named = none (column_name table cell_index) (after_name cell_index named)
+
+    module _ (name : List ℕ) (dotted : tail ≡ 46 ∷ name) where
+      -- the name of a column follows
+      pub column_there : (cell_index : ℕ) → cell_index < cell_count table → name ≡ column_name table cell_index → NamesColumn word table cell_index
+      column_there cell_index within same = (within, is ∙ ap (λ (xs : List ℕ). table_name table ++ xs) (dotted ∙ ap (λ (xs : List ℕ). 46 ∷ xs) same))
+
+      -- or that of none
+      pub no_column : ((cell_index : ℕ) → cell_index < cell_count table → name ≢ column_name table cell_index) → (cell_index : ℕ) → NamesColumn word table cell_index → ⊥
+      no_column none cell_index named =
+          none cell_index named.0 (append_cancel_left (46 ∷ []) name (column_name table cell_index) (sym dotted ∙ after_name cell_index named))
+
+      -- what is found is a column
+      pub found_there : (found : Option ℕ) → IfSome found (λ cell_index. (cell_index < cell_count table) × (name ≡ column_name table cell_index)) → IfSome found (NamesColumn word table)
+      found_there None is = tt
+      found_there (Some cell_index) is = column_there cell_index is.0 is.1
+
+      -- and if nothing is, there is none
+      pub found_none : (found : Option ℕ) → IfNone found ((cell_index : ℕ) → cell_index < cell_count table → name ≢ column_name table cell_index)
+          → IfNone found ((cell_index : ℕ) → NamesColumn word table cell_index → ⊥)
+      found_none None none = no_column none
+      found_none (Some cell_index) none = tt
+
+-- what is true of all tables of the list is true of each
+pub of_each_table : (P : TableId → Type 0) → ((table : TableId) → slice_index_or tables (table_index_of table) Module ≡ table)
+    → ((table : TableId) → table_index_of table < 38) → length tables ≡ 38 → All P tables → (table : TableId) → P table
+of_each_table P stand within count all table =
+    subst P (stand table) (All-get_or P tables (table_index_of table) Module (subst (λ (n : ℕ). table_index_of table < n) (sym count) (within table)) all)
+
+-- no column before an index has a name, and the one at it has not
+pub next_differs : (name : List ℕ) (table : TableId) (k : ℕ) → ((index : ℕ) → index < k → name ≢ column_name table index) → name ≢ column_name table k
+    → (index : ℕ) → index < k + 1 → name ≢ column_name table index
+next_differs name table k before at index lt =
+    elim (same_or_not index k _ (Decides-eqb index k)) [
+      | inl is ↦ subst (λ (i : ℕ). name ≢ column_name table i) (sym is) at
+      | inr is_not ↦ before index (omega (arith, lt, is_not))
+    ]
+
+module _ (stand : (table : TableId) → slice_index_or tables (table_index_of table) Module ≡ table) where
+  same_table : (left right : TableId) → (left ≡ right) ⊎ (left ≢ right)
+  same_table left right =
+      elim (same_or_not (table_index_of left) (table_index_of right) _ (Decides-eqb (table_index_of left) (table_index_of right))) [
+        | inl is ↦ inl (sym (stand left) ∙ ap (λ (n : ℕ). slice_index_or tables n Module) is ∙ stand right)
+        | inr is_not ↦ inr (λ is. is_not (ap table_index_of is))
+      ]
+
+  module _ (words : List (Bor (List ℕ))) (k : ℕ) (d : Bor (List ℕ)) (lt : k < length words) (old new : IgnoredColumns) (table : TableId) (cell_index : ℕ)
+      (named : NamesColumn (get_or words k d).now table cell_index) (added : is_ignored new table cell_index ≡ true)
+      (others : AreOthersSame old new table cell_index) where
+    -- a column is the added one or another
+    added_or_other : (other : TableId) (index : ℕ) → ((other ≡ table) × (index ≡ cell_index)) ⊎ ((other ≢ table) ⊎ (index ≢ cell_index))
+    added_or_other other index =
+        elim (same_table other table) [
+          | inl is ↦ elim (same_or_not index cell_index _ (Decides-eqb index cell_index)) [ inl also ↦ inl (is, also) | inr is_not ↦ inr (inr is_not) ]
+          | inr is_not ↦ inr (inl is_not)
+        ]
+
+    stays : (other : TableId) (index : ℕ) → index < cell_count other → is_ignored old other index ≡ true → is_ignored new other index ≡ true
+    stays other index within marked =
+        elim (added_or_other other index) [
+          | inl is ↦ subst (λ (t : TableId). is_ignored new t index ≡ true) (sym is.0) (subst (λ (i : ℕ). is_ignored new table i ≡ true) (sym is.1) added)
+          | inr is_not ↦ others other index within is_not ∙ marked
+        ]
+
+    -- one more argument names an ignored column
+    pub all_more : All (NamesIgnored old) (take k words) → All (NamesIgnored new) (take (k + 1) words)
+    all_more all =
+        one_more words k d lt (NamesIgnored new)
+        (All-weaker (NamesIgnored old) (NamesIgnored new) (λ word is. (is.0, is.1, is.2, stays is.0 is.1 is.2.0 is.3)) (take k words) all)
+        (table, cell_index, named, added)
+
+    -- no column is ignored but those that the arguments name
+    pub only_more : ((other : TableId) (index : ℕ) → index < cell_count other → is_ignored old other index ≡ true → Any (λ word. NamesColumn word.now other index) (take k words))
+        → (other : TableId) (index : ℕ) → index < cell_count other → is_ignored new other index ≡ true → Any (λ word. NamesColumn word.now other index) (take (k + 1) words)
+    only_more only other index within marked =
+        subst (λ (xs : List (Bor (List ℕ))). Any (λ word. NamesColumn word.now other index) xs) (sym (take_more words k d lt))
+        (elim (added_or_other other index) [
+          | inl is ↦ Any-push (λ word. NamesColumn word.now other index) (take k words) (get_or words k d)
+              (subst (λ (t : TableId). NamesColumn (get_or words k d).now t index) (sym is.0)
+              (subst (λ (i : ℕ). NamesColumn (get_or words k d).now table i) (sym is.1) named))
+          | inr is_not ↦ any_longer (λ word. NamesColumn word.now other index) (take k words) (get_or words k d ∷ []) (only other index within (sym (others other index within is_not) ∙ marked))
+        ])

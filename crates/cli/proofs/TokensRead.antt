@@ -1,0 +1,41 @@
+-- The tokens that arguments are, one after another.
+use Rattle.std.proofs.Common.{◌≡◌, ◌∙◌, ◌+◌, ◌<◌, ℕ, List, [], ◌∷◌, ◌++◌, All, drop, get_or, length, map, take, refl, ap, sym, arith}
+use Rattle.std.specs.Borrow.{Bor}
+use Rattle.std.specs.Str.Parse.{digits_value}
+use Rattle.std.proofs.lemmas.List.{map-append}
+use Rattle.std.proofs.lemmas.List.Elements.{All-nil}
+use Rattle.cli_files.specs.Numbers.{IsHexNumber}
+use Rattle.cli_faults.specs.declared.failure.Failure.{Failure}
+use Rattle.cli_commands.specs.declared.report_form.Form.{Form}
+use Rattle.cli.specs.Tasks.{AreTokens, IsSeveralTask, IsTokenTask, IsTokensTask}
+use Rattle.cli.specs.declared.task.Task.{Task}
+use Rattle.std.specs.Prelude.{Result}
+use Rattle.cli.proofs.Explaining.{one_more, take_more}
+
+pub none_read : (numbers : List ℕ) → numbers ≡ [] → AreTokens [] numbers
+none_read numbers none = (All-nil _, none)
+
+-- one more argument is a token
+pub more_read : (words : List (Bor (List ℕ))) (k : ℕ) (d : Bor (List ℕ)) (numbers more : List ℕ) (number : ℕ) → k < length words → AreTokens (take k words) numbers
+    → IsHexNumber (get_or words k d).now → number ≡ digits_value 16 (get_or words k d).now → more ≡ numbers ++ number ∷ [] → AreTokens (take (k + 1) words) more
+more_read words k d numbers more number lt before is value pushed = (
+  one_more words k d lt (λ word. IsHexNumber word.now) before.0 is,
+  pushed
+      ∙ ap (λ (n : ℕ). numbers ++ n ∷ []) value
+      ∙ ap (λ (ns : List ℕ). ns ++ digits_value 16 (get_or words k d).now ∷ []) before.1
+      ∙ sym (map-append (λ (word : Bor (List ℕ)). digits_value 16 word.now) (take k words) (get_or words k d ∷ []))
+      ∙ ap (λ (ws : List (Bor (List ℕ))). map (λ (word : Bor (List ℕ)). digits_value 16 word.now) ws) (sym (take_more words k d lt)),
+)
+
+-- several arguments, or none
+pub several : (form : Form) (words : List (Bor (List ℕ))) (result : Result Task Failure) → (length words ≡ 1 → ⊥) → IsSeveralTask form words result → IsTokensTask form words result
+several form [] result other is = is
+several form (word ∷ []) result other is = absurd (other refl)
+several form (word ∷ next ∷ more) result other is = is
+
+-- one argument
+pub one : (form : Form) (words : List (Bor (List ℕ))) (d : Bor (List ℕ)) (result : Result Task Failure) → length words ≡ 1 → IsTokenTask form (get_or words 0 d).now result
+    → IsTokensTask form words result
+one form [] d result is task = absurd (omega (arith, is))
+one form (word ∷ []) d result is task = task
+one form (word ∷ next ∷ more) d result is task = absurd (omega (arith, is))

@@ -1,0 +1,30 @@
+use Rattle.std.proofs.Common.{◌≡◌, ◌+◌, ℕ, List, All, subst, sym, take}
+use Rattle.std.proofs.lemmas.List.{take_all}
+use Rattle.std.proofs.lemmas.List.Elements.{All-nil}
+use Rattle.table_schema.specs.Tables.{tables}
+use Rattle.table_schema.specs.declared.table.TableId.{TableId}
+use Rattle.cli.specs.Columns.{NamesColumn}
+use Rattle.cli.proofs.ColumnsNamed.{of_each_table}
+use Rattle.cli.proofs.Explaining.{one_more}
+use Rattle.cli.proofs.columns.column_named.Goals as goal
+
+pub loop-table-init : goal.loop-table-init
+loop-table-init c = All-nil _
+
+pub loop-table-preserved : goal.loop-table-preserved
+loop-table-preserved c =
+    let Unnamed : TableId → Type 0 = λ table. (cell_index : ℕ) → ¬ NamesColumn c.args.word.now table cell_index in
+    let items = c.all-table-items.result.now in
+    let index = c.loop-table.table-index in
+    subst (λ (xs : List TableId). All Unnamed (take (index + 1) xs)) c.all-table-items.ensures.value
+    (one_more items index _ c.loop-table-test.true Unnamed
+    (subst (λ (xs : List TableId). All Unnamed (take index xs)) (sym c.all-table-items.ensures.value) c.loop-table.invariant) c.in_default.ensures.complete)
+
+pub returns-clause-complete : goal.returns-clause-complete
+returns-clause-complete c =
+    let Unnamed : TableId → Type 0 = λ table. (cell_index : ℕ) → ¬ NamesColumn c.args.word.now table cell_index in
+    let index = c.loop-table.table-index in
+    let all : take index tables ≡ tables =
+    subst (λ (xs : List TableId). take index xs ≡ xs) c.all-table-items.ensures.value (take_all index c.all-table-items.result.now c.loop-table-test.false) in
+    of_each_table Unnamed c.tables_stand.ensures.stand c.tables_stand.ensures.table_index c.tables_stand.ensures.count
+    (subst (λ (xs : List TableId). All Unnamed xs) all c.loop-table.invariant)

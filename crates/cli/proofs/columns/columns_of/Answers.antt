@@ -1,0 +1,43 @@
+use Rattle.std.proofs.Common.{◌+◌, ℕ, List, [], All, drop, get_or, subst, sym, take}
+use Rattle.std.specs.List.{Any}
+use Rattle.std.specs.Borrow.{Bor}
+use Rattle.std.proofs.lemmas.List.{take_all}
+use Rattle.std.proofs.lemmas.List.Elements.{All-nil, All-weaker}
+use Rattle.cli.specs.Columns.{NamesColumn, NamesIgnored, NamesSome}
+use Rattle.cli.proofs.ColumnsNamed.{all_more, none_ignored, only_more, some_of_ignored}
+use Rattle.cli.proofs.Explaining.{split_at}
+use Rattle.cli.proofs.columns.columns_of.Goals as goal
+
+pub loop-word-init : goal.loop-word-init
+loop-word-init c = record { all = All-nil _; only = none_ignored c.models_equal_but_for_no_columns_are_equal.ensures.none c.none-ignored.result c.none-ignored.ensures [] }
+
+pub returns-in_default-clause-unknown : goal.returns-in_default-clause-unknown
+returns-in_default-clause-unknown c =
+    let words = c.args.words.now in
+    let index = c.loop-word.word-index in (
+      take index words,
+      drop (index + 1) words,
+      split_at words index _ c.loop-word-test.true,
+      All-weaker (NamesIgnored c.loop-word.ignored) NamesSome (some_of_ignored c.loop-word.ignored) (take index words) c.loop-word.invariant.all,
+      (λ named. c.in_default.ensures.complete named.0 named.1 (subst (λ (bytes : List ℕ). NamesColumn bytes named.0 named.1) (sym c.as_bytes.ensures.value) named.2)),
+    )
+
+pub loop-word-preserved : goal.loop-word-preserved
+loop-word-preserved c =
+    let words = c.args.words.now in
+    let index = c.loop-word.word-index in
+    let named = subst (λ (bytes : List ℕ). NamesColumn bytes c.in-Some.table c.in-Some.cell_index) c.as_bytes.ensures.value c.in-Some.ensures.sound in record {
+      all = all_more c.tables_stand.ensures.stand words index _ c.loop-word-test.true c.loop-word.ignored c.insert.new.self c.in-Some.table c.in-Some.cell_index
+          named c.insert.ensures.added c.insert.ensures.others c.loop-word.invariant.all;
+      only = only_more c.tables_stand.ensures.stand words index _ c.loop-word-test.true c.loop-word.ignored c.insert.new.self c.in-Some.table c.in-Some.cell_index
+          named c.insert.ensures.added c.insert.ensures.others c.loop-word.invariant.only;
+    }
+
+pub returns-clause-named : goal.returns-clause-named
+returns-clause-named c =
+    let words = c.args.words.now in
+    let all = take_all c.loop-word.word-index words c.loop-word-test.false in record {
+      all = subst (λ (xs : List (Bor (List ℕ))). All (NamesIgnored c.loop-word.ignored) xs) all c.loop-word.invariant.all;
+      only = λ table cell_index within marked.
+          subst (λ (xs : List (Bor (List ℕ))). Any (λ word. NamesColumn word.now table cell_index) xs) all (c.loop-word.invariant.only table cell_index within marked);
+    }

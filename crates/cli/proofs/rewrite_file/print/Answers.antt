@@ -1,6 +1,0 @@
-use Rattle.cli.specs.Runs.{wrote_text}
-use Rattle.cli.proofs.RunLemmas.{none_sent}
-use Rattle.cli.proofs.rewrite_file.print.Goals as goal
-
-pub returns-in_err-line : goal.returns-in_err-line
-returns-in_err-line g c = none_sent c.from_residual.result (g.W.Write.contents c.args.out.now) (wrote_text c.args.count) c.from_residual.ensures.0

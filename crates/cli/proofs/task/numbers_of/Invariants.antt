@@ -1,0 +1,6 @@
+use Rattle.std.proofs.Common.{take}
+use Rattle.cli.specs.Tasks.{AreTokens}
+use Rattle.cli.proofs.task.numbers_of.Given as goal
+
+abbrev pub invariant-loop-word : goal.invariant-loop-word
+invariant-loop-word l = AreTokens (take l.word-index l.fn.words) l.numbers.items

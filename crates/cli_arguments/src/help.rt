@@ -1,0 +1,46 @@
+//! The help of the program.
+
+/// The commands in groups, with the texts of their own help, and the exit statuses.
+pub(crate) const HELP: &str = "\
+Read, check and rewrite the metadata of .NET assemblies (ECMA-335, Partition II)
+
+Usage: clim <COMMAND>
+
+Look:
+  root     Print the CLI header, and the version and the stream headers of the metadata root
+  show     Print the rows of all tables, or of one
+  types    Print the types, with the number of their fields and methods
+  outline  Print the declarations of the assembly, or of one type, as ILAsm writes them
+  strings  Print the user strings, with their tokens
+  token    Print the row or the user string that each token names
+  where    Print what has the byte at an offset: a header, a stream or a cell
+
+Check:
+  check    Check files against the rules of the standard
+  explain  Explain faults, or list all
+
+Compare:
+  compare  Compare the metadata of two files
+  digest   Print the SHA-256 digest of the canonical metadata root of each file
+
+Write:
+  rewrite  Write the canonical metadata root of a file
+
+Help:
+  help     Print this message or the help of the given subcommand(s)
+
+Options:
+  -h, --help     Print help
+  -V, --version  Print version
+
+'clim <COMMAND> --help' has examples of each command. 'clim explain CODE' explains a fault.
+
+Exit status:
+  0  success
+  1  FILE breaks a rule of the standard, printed as 'fault LAYER CODE at OFFSET: NAME';
+     or FILE has nothing that HEX names, no type NAME, or nothing at OFFSET; or its canonical
+     root has more than 2^30 bytes; or FILE and OTHER differ
+  2  usage error; FILE was not read
+  3  I/O error, out of memory, or budget spent
+The status of 'clim check' and 'clim digest' for several files is the greatest of theirs.
+FILE may be '-', the standard input.";

@@ -1,0 +1,10 @@
+pub mod Comparing
+pub mod Rewritings
+pub mod RunLemmas
+pub mod SeveralLemmas
+pub mod Checks
+pub mod Digesting
+pub mod Locating
+pub mod Outlining
+pub mod JsonChecking
+pub mod TokenLines

@@ -1,0 +1,12 @@
+pub mod Checks
+pub mod Commands
+pub mod Compared
+pub mod Digested
+pub mod Digests
+pub mod Located
+pub mod Rewritten
+pub mod Several
+pub mod Forms
+pub mod JsonChecks
+pub mod Outlined
+pub mod Tokens

@@ -1,0 +1,35 @@
+//! `clim where` of the bytes of a file.
+ghost use Rattle.std.specs.Prelude.{◌≡◌};
+ghost use Rattle.cli_commands.specs.Located.{stop_of_found};
+ghost use Rattle.cli_commands.specs.Commands.{IsLocated};
+
+use cli_faults::{Failure, Stop};
+use cli_files::{Stopped, with_hint};
+use cli_where::{Found, report_where};
+use std::alloc::Global;
+use std::io::Write;
+
+/// Prints what has the byte at an offset.
+pub(crate) fn locate<W: Write>(
+    alloc: Global,
+    offset: u64,
+    bytes: &[u8],
+    bare: bool,
+    out: &mut W,
+) -> Result<(), Stopped<'static>>
+    ensures { IsLocated W.contents out.old out.new offset bare bytes.now result }
+{
+    let outcome = report_where(alloc, bare, bytes, offset, out);
+    with_hint(stop_of(outcome), bare, bytes)
+}
+
+/// The result of a run that found something; else why it stopped.
+fn stop_of(outcome: Result<Found, Failure<'static>>) -> Result<(), Stop<'static>>
+    ensures { result ≡ stop_of_found outcome.entry }
+{
+    match outcome {
+        Ok(Found::Something) => Ok(()),
+        Ok(Found::Nothing) => Err(Stop::Nothing),
+        Err(failure) => Err(Stop::Failed(failure)),
+    }
+}
