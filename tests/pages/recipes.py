@@ -117,8 +117,10 @@ def check_crates(counts):
         counts.expect(described.count(name) == 1, f"docs/ARCHITECTURE.md has {described.count(name)} rows for {name}")
     for name in described:
         counts.expect(name in names, f"docs/ARCHITECTURE.md has a row for {name}, which is no crate")
+    # Only c_tables makes tables for C. All else of clim_c reads in place.
+    in_place = {**names, "clim_c": [it for it in names.get("clim_c", []) if it != "c_tables"]}
     for top in ("clim", "clim_c"):
-        owners = all_below(top, names) & OWNERS
+        owners = all_below(top, in_place) & OWNERS
         counts.expect(not owners, f"docs/ARCHITECTURE.md: {top} stands on {', '.join(sorted(owners))}")
 
 

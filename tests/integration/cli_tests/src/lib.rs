@@ -25,4 +25,6 @@ mod runs;
 #[cfg(test)]
 mod samples;
 #[cfg(test)]
+mod where_files;
+#[cfg(test)]
 mod where_lines;

@@ -1,6 +1,7 @@
 //! Tests of `cli_where`: what `clim where` prints of each byte of the samples.
 
 use crate::runs::answer;
+use crate::where_files::plain_lines;
 use cli_where::{Found, report_where};
 use sample_roots::{NAMES_SHARED, ONE_MODULE, RootBuilder, TWO_TYPES, image};
 use std::alloc::Global;
@@ -163,7 +164,7 @@ fn push_lines(alloc: Global, structures: &[Structure], base: usize, offset: usiz
 }
 
 /// What is printed of a byte, and whether a structure has it.
-fn printed(rt: &HostRuntime, bare: bool, file: &[u8], offset: u64) -> Result<(Found, String), Fail> {
+pub fn printed(rt: &HostRuntime, bare: bool, file: &[u8], offset: u64) -> Result<(Found, String), Fail> {
     let mut out = Vec::new(rt.alloc());
     let Ok(found) = report_where(rt.alloc(), bare, file, offset, &mut out) else {
         return Err(Fail::from("a failure"));
@@ -172,12 +173,18 @@ fn printed(rt: &HostRuntime, bare: bool, file: &[u8], offset: u64) -> Result<(Fo
 }
 
 /// Whether the lines of a byte are these.
-fn is_printed(rt: &HostRuntime, bare: bool, file: &[u8], offset: usize, lines: &str) -> Result<bool, Fail> {
+pub fn is_printed(rt: &HostRuntime, bare: bool, file: &[u8], offset: usize, lines: &str) -> Result<bool, Fail> {
     let (found, text) = printed(rt, bare, file, offset as u64)?;
     if lines.is_empty() {
         return Ok(found == Found::Nothing && text.as_str() == "nothing\n");
     }
     Ok(found == Found::Something && text.as_str() == lines)
+}
+
+/// Appends the lines of the structures of the file of `ONE_MODULE` that have a byte, from its CLI header inwards.
+pub fn push_image_lines(alloc: Global, offset: usize, lines: &mut String) -> Result<(), Fail> {
+    push_lines(alloc, CLI_HEADER, 0, offset, lines)?;
+    push_lines(alloc, ONE_MODULE_STRUCTURES, 592, offset, lines)
 }
 
 #[test]
@@ -194,9 +201,8 @@ fn prints_the_structures_of_each_byte_of_a_root(rt: HostRuntime) -> Result<(), F
 fn prints_the_structures_of_each_byte_of_a_file(rt: HostRuntime) -> Result<(), Fail> {
     let file = image();
     for offset in 0..file.len() + 2 {
-        let mut lines = String::new(rt.alloc());
-        push_lines(rt.alloc(), CLI_HEADER, 0, offset, &mut lines)?;
-        push_lines(rt.alloc(), ONE_MODULE_STRUCTURES, 592, offset, &mut lines)?;
+        let mut lines = plain_lines(rt.alloc(), &file, offset)?;
+        push_image_lines(rt.alloc(), offset, &mut lines)?;
         assert!(rt; is_printed(&rt, false, &file, offset, &lines)?);
     }
     Ok(())
@@ -334,11 +340,12 @@ fn prints_nothing_past_the_end(rt: HostRuntime) -> Result<(), Fail> {
 fn ends_with_1_if_nothing_has_the_byte(rt: HostRuntime) -> Result<(), Fail> {
     fs::write(&rt, "where.dll", image().as_slice())?;
     for (offset, status, lines) in [
-        ("520", 0, "520 72 cli header\n520 4 cli header Cb\n"),
-        ("00520", 0, "520 72 cli header\n520 4 cli header Cb\n"),
-        ("0x208", 0, "520 72 cli header\n520 4 cli header Cb\n"),
-        ("0x000000000000000000208", 0, "520 72 cli header\n520 4 cli header Cb\n"),
-        ("0", 1, "nothing\n"),
+        ("520", 0, "512 512 section 1\n520 72 cli header\n520 4 cli header Cb\n"),
+        ("00520", 0, "512 512 section 1\n520 72 cli header\n520 4 cli header Cb\n"),
+        ("0x208", 0, "512 512 section 1\n520 72 cli header\n520 4 cli header Cb\n"),
+        ("0x000000000000000000208", 0, "512 512 section 1\n520 72 cli header\n520 4 cli header Cb\n"),
+        ("0", 0, "0 64 ms-dos header\n0 2 ms-dos header Signature\n"),
+        ("0x7f", 1, "nothing\n"),
         ("1024", 1, "nothing\n"),
         ("0xfFfFfFfFfFfFfFfF", 1, "nothing\n"),
         ("18446744073709551615", 1, "nothing\n"),

@@ -131,6 +131,41 @@ fn prints_what_differs(rt: HostRuntime) -> Result<(), Fail> {
     Ok(())
 }
 
+/// The cells of ignored columns are not compared. All others are, and so is what is no cell.
+#[test]
+fn leaves_out_columns(rt: HostRuntime) -> Result<(), Fail> {
+    fs::write(&rt, "first.root", ONE_MODULE.as_slice())?;
+    let name = "00000001 Name: \"a.dll\" | \"b.dll\"\n";
+    let mvid = "00000001 Mvid: {03020100-0504-0706-0809-0a0b0c0d0e0f} | {030201ff-0504-0706-0809-0a0b0c0d0e0f}\n";
+    let both = format!(in rt.alloc(); "{name}{mvid}")?;
+    let mut other: Vec<u8> = ONE_MODULE.to_vec(rt.alloc())?;
+    write_at(&mut other, 121, b"b");
+    write_at(&mut other, 128, b"\xff");
+    fs::write(&rt, "second.root", other.as_slice())?;
+    for (columns, status, printed) in [
+        (["TypeDef.TypeName"].as_slice(), 1, both.as_str()),
+        (&["Module.Mvid"], 1, name),
+        (&["Module.Name"], 1, mvid),
+        (&["Module.Name", "Module.Mvid"], 0, "equal\n"),
+        (&["Module.Mvid", "Module.Name", "Module.Mvid"], 0, "equal\n"),
+        (&["Module.Mvid", "Module.Mvid"], 1, name),
+    ] {
+        let mut words: Vec<&str> = bare("first.root", "second.root").to_vec(rt.alloc())?;
+        for column in columns {
+            words.extend_from_slice(&["--ignore", column])?;
+        }
+        assert!(rt; ends(&rt, &words, status, printed, "")?, "{printed}");
+    }
+    write_at(&mut other, 17, b"5");
+    fs::write(&rt, "second.root", other.as_slice())?;
+    let words = ["clim", "compare", "--ignore", "Module.Name", "--ignore=Module.Mvid", "--bare", "first.root", "second.root"];
+    let version = "version: v4.0.30319 | v5.0.30319\n";
+    assert!(rt; ends(&rt, &words, 1, version, "")?);
+    fs::remove_file(&rt, "first.root")?;
+    fs::remove_file(&rt, "second.root")?;
+    Ok(())
+}
+
 #[test]
 fn names_the_file_with_a_fault(rt: HostRuntime) -> Result<(), Fail> {
     fs::write(&rt, "whole.root", ONE_MODULE.as_slice())?;
@@ -138,6 +173,7 @@ fn names_the_file_with_a_fault(rt: HostRuntime) -> Result<(), Fail> {
     let reported = "fault 3 305 at 64: StreamRange\n  file: cut.root\n";
     assert!(rt; ends(&rt, &bare("cut.root", "whole.root"), 1, "", reported)?);
     assert!(rt; ends(&rt, &bare("whole.root", "cut.root"), 1, "", reported)?);
+    assert!(rt; ends(&rt, &bare("cut.root", "cut.root"), 1, "", reported)?);
     let hinted = "fault 1 102 at 0: DosHeader\n  file: whole.root\n  hint: FILE begins like a metadata root; try it with '--bare'\n";
     assert!(rt; ends(&rt, &["clim", "compare", "whole.root", "cut.root"], 1, "", hinted)?);
     let missing = "error: cannot read lacks\n  reason: no such file\n";

@@ -31,6 +31,11 @@ fn prints_json_of_a_root(rt: HostRuntime) -> Result<(), Fail> {
         let (status, out, err) = answer(&rt, words)?;
         assert_eq!(rt; (status, out.as_str(), err.as_str()), (0, want, ""));
     }
+    let words = ["clim", "token", "--json", "--bare", "json.root", "70000000", "1"];
+    let (status, out, err) = answer(&rt, &words)?;
+    assert_eq!(rt; (status, err.as_str()), (0, ""));
+    let user = "{\"token\":\"70000000\",\"text\":\"\",\"flag\":null}\n";
+    assert_eq!(rt; out.as_str(), format!(in rt.alloc(); "{user}{MODULE}")?.as_str());
     let words = ["clim", "token", "--json", "--bare", "json.root", "02000001"];
     let (status, out, err) = answer(&rt, &words)?;
     assert_eq!(rt; (status, out.as_str(), err.as_str()), (1, "", "no such row\n"));

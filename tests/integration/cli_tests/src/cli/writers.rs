@@ -41,6 +41,8 @@ fn stands_full_devices(rt: HostRuntime) -> Result<(), Fail> {
             &["clim", "strings", "--bare", "b.root"],
             &["clim", "token", "--bare", "b.root", "1"],
             &["clim", "token", "--bare", "b.root", "70000000"],
+            &["clim", "token", "--bare", "b.root", "70000000", "1"],
+            &["clim", "compare", "--bare", "b.root", "b.root"],
             &["clim", "where", "--bare", "b.root", "0"],
             &["clim", "where", "--bare", "b.root", "1000"],
             &["clim", "explain"],

@@ -52,7 +52,7 @@ fn print_what_help_reports(rt: HostRuntime) -> Result<(), Fail> {
         ("where", 2),
         ("rewrite", 2),
         ("digest", 2),
-        ("compare", 1),
+        ("compare", 2),
         ("explain", 1),
     ] {
         assert_eq!(rt; run_examples(&rt, name)?, count, "{name}");

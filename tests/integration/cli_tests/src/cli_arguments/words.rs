@@ -14,7 +14,7 @@ const LINES_IN_HELP: &str = "\
 ";
 
 /// Arguments that are a usage error, and what the program prints for them.
-const REFUSED: [(&[&str], &str); 68] = [
+const REFUSED: [(&[&str], &str); 78] = [
     (&[], "Usage: clim <COMMAND>"),
     (&["clim"], "Usage: clim <COMMAND>"),
     (&["clim", "lacks"], "unrecognized subcommand 'lacks'"),
@@ -120,11 +120,15 @@ const REFUSED: [(&[&str], &str); 68] = [
         &["clim", "show", "--json", "lacks", "2"],
         "error: TABLE is a table",
     ),
-    (&["clim", "token"], "Usage: clim token <FILE> <HEX>"),
-    (&["clim", "token", "lacks"], "  <HEX>\n"),
+    (&["clim", "token"], "Usage: clim token <FILE> <HEX>..."),
+    (&["clim", "token", "lacks"], "  <HEX>...\n"),
     (
-        &["clim", "token", "lacks", "1", "2"],
-        "unexpected argument '2'",
+        &["clim", "token", "lacks", "1", "2", "g"],
+        "error: HEX is one to eight hexadecimal digits, not 'g'\n",
+    ),
+    (
+        &["clim", "token", "--json", "lacks", "", "1"],
+        "error: HEX is one to eight hexadecimal digits, not ''\n",
     ),
     (&["clim", "where"], "Usage: clim where <FILE> <OFFSET>"),
     (&["clim", "where", "lacks"], "  <OFFSET>\n"),
@@ -145,6 +149,39 @@ const REFUSED: [(&[&str], &str); 68] = [
     (&["clim", "digest"], "Usage: clim digest <FILE>"),
     (&["clim", "digest", "--bare"], "  <FILE>...\n"),
     (&["clim", "compare", "lacks"], "  <OTHER>\n"),
+    (
+        &["clim", "compare", "lacks", "lacks", "--ignore"],
+        "a value is required for '--ignore <TABLE.COLUMN>'",
+    ),
+    (
+        &["clim", "check", "lacks", "--ignore", "Module.Mvid"],
+        "unexpected argument '--ignore'",
+    ),
+    (
+        &["clim", "compare", "--ignore", "Module", "lacks", "lacks"],
+        "error: no such column: '--ignore' takes a table and one of its columns, as 'Module.Mvid', not 'Module'\n",
+    ),
+    (
+        &["clim", "compare", "--ignore", "Module.Mvid", "--ignore=module.mvid", "lacks", "lacks"],
+        "as 'Module.Mvid', not 'module.mvid'\n",
+    ),
+    (
+        &["clim", "compare", "--ignore", "Constant.padding", "lacks", "lacks"],
+        "as 'Module.Mvid', not 'Constant.padding'\n",
+    ),
+    (
+        &["clim", "compare", "--ignore", "TypeRef.Mvid", "lacks", "lacks"],
+        "as 'Module.Mvid', not 'TypeRef.Mvid'\n",
+    ),
+    (&["clim", "compare", "--ignore", "", "lacks", "lacks"], "as 'Module.Mvid', not ''\n"),
+    (
+        &["clim", "compare", "--ignore", ".Mvid", "lacks", "lacks"],
+        "as 'Module.Mvid', not '.Mvid'\n",
+    ),
+    (
+        &["clim", "compare", "--ignore", "Module.Mvid\u{1b}", "lacks", "lacks"],
+        "as 'Module.Mvid', not 'Module.Mvid\\x1b'\n",
+    ),
     (
         &["clim", "explain", "501", "BadText"],
         "error: CODE is the number or the name of a fault, which 'clim explain' lists, not 'BadText'\n",
@@ -222,6 +259,23 @@ fn helps(rt: HostRuntime) -> Result<(), Fail> {
     ];
     assert!(rt; prints(&rt, &["clim", "--help"], &texts)?);
     assert!(rt; prints(&rt, &["clim", "help"], &texts)?);
+    assert!(rt; prints(&rt, &["clim", "-h"], &["\nLook:\n", "\nCheck:\n", "\nCompare:\n", "\nWrite:\n"])?);
+    Ok(())
+}
+
+/// The help of the program says of each command what the command's own help begins with.
+#[test]
+fn helps_with_the_same_words(rt: HostRuntime) -> Result<(), Fail> {
+    let (_, help, _) = answer(&rt, &["clim", "help"])?;
+    for name in [
+        "root", "show", "types", "outline", "strings", "token", "where", "check", "explain", "compare", "digest",
+        "rewrite",
+    ] {
+        let (_, own, _) = answer(&rt, &["clim", name, "--help"])?;
+        let (about, _) = own.split_once('\n').ok_or("no line")?;
+        let line = format!(in rt.alloc(); "\n  {name:<9}{about}\n")?;
+        assert!(rt; help.contains(line.as_str()), "{line}");
+    }
     Ok(())
 }
 
@@ -272,7 +326,7 @@ fn helps_with_each_subcommand(rt: HostRuntime) -> Result<(), Fail> {
         ),
         (
             "token",
-            "Usage: clim token [OPTIONS] <FILE> <HEX>",
+            "Usage: clim token [OPTIONS] <FILE> <HEX>...",
             "\n  user\n",
         ),
         (
@@ -372,7 +426,7 @@ fn asks(rt: HostRuntime) -> Result<(), Fail> {
                 Subcommand::Token,
                 true,
                 Some("a.root"),
-                Some("6000001"),
+                None,
                 None,
                 None,
             ),
@@ -435,6 +489,24 @@ fn asks_for_faults(rt: HostRuntime) -> Result<(), Fail> {
         assert_eq!(rt; asked.codes.as_slice(), &words[2..]);
         assert!(rt; asked.subcommand == Subcommand::Explain && asked.file.is_none());
     }
+    Ok(())
+}
+
+/// Several tokens, and several columns to leave out, in the order given.
+#[test]
+fn asks_for_tokens_and_columns(rt: HostRuntime) -> Result<(), Fail> {
+    for words in [
+        ["clim", "token", "a", "1"].as_slice(),
+        &["clim", "token", "a", "70000001", "2", "2"],
+    ] {
+        let asked = ask(rt.alloc(), words)?;
+        assert_eq!(rt; asked.tokens.as_slice(), &words[3..]);
+        assert!(rt; asked.file == Some("a") && asked.second.is_none() && asked.ignored.is_empty());
+    }
+    let words = ["clim", "compare", "--ignore", "Module.Mvid", "a", "--ignore=x", "b"];
+    let asked = ask(rt.alloc(), &words)?;
+    assert_eq!(rt; asked.ignored.as_slice(), ["Module.Mvid", "x"].as_slice());
+    assert!(rt; asked.file == Some("a") && asked.second == Some("b") && asked.tokens.is_empty());
     Ok(())
 }
 

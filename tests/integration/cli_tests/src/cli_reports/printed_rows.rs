@@ -172,6 +172,34 @@ fn prints_what_a_token_names(rt: HostRuntime) -> Result<(), Fail> {
     Ok(())
 }
 
+/// Several tokens are looked up in the order given, up to the first that names nothing.
+#[test]
+fn prints_what_several_tokens_name(rt: HostRuntime) -> Result<(), Fail> {
+    fs::write(&rt, "tokens.root", &TWO_TYPES)?;
+    let module = "1: 0 \"<Module>\" \"\" null +1 +1\n";
+    let field = "2: 1 \"b\" <0608>\n";
+    let (both, turned) = (
+        format!(in rt.alloc(); "{module}{field}")?,
+        format!(in rt.alloc(); "{field}{module}{field}")?,
+    );
+    for (tokens, status, printed, reported) in [
+        (["2000001", "04000002"].as_slice(), 0, both.as_str(), ""),
+        (&["04000002", "02000001", "4000002"], 0, &turned, ""),
+        (&["2000001", "06000009", "04000002"], 1, module, "no such row\n"),
+        (&["06000009", "2000001"], 1, "", "no such row\n"),
+        (&["2000001", "04000002", "70000001"], 1, &both, "no such row\n"),
+    ] {
+        let mut words: Vec<&str> = ["clim", "token", "--bare", "tokens.root"].to_vec(rt.alloc())?;
+        words.extend_from_slice(tokens)?;
+        let (ended, out, err) = answer(&rt, &words)?;
+        assert_eq!(rt; (ended, out.as_str(), err.as_str()), (status, printed, reported));
+    }
+    let (status, out, err) = answer(&rt, &["clim", "token", "tokens.root", "1", "2"])?;
+    assert!(rt; status == 1 && out.is_empty() && err.starts_with("fault 1 102 at 0: DosHeader\n"));
+    fs::remove_file(&rt, "tokens.root")?;
+    Ok(())
+}
+
 /// The file named lacks: a status of 2 shows that it was not looked for.
 #[test]
 fn refuses_what_is_no_token(rt: HostRuntime) -> Result<(), Fail> {

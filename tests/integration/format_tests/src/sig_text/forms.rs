@@ -6,7 +6,7 @@ use std::test::Fail;
 type Type = (&'static [u8], &'static str);
 
 /// Each element type (II.23.1.16) and each form of a type (II.23.2.12).
-const TYPES: [Type; 47] = [
+const TYPES: [Type; 53] = [
     (&[0x02], "bool"),
     (&[0x03], "char"),
     (&[0x04], "int8"),
@@ -63,6 +63,28 @@ const TYPES: [Type; 47] = [
             0x14, 0x14, 0x08, 0x01, 0x01, 0x07, 0x00, 0x01, 0x00, 0x01, 0x02,
         ],
         "int32[7][1...]",
+    ),
+    // Of more than 32 dimensions those without a size or a lower bound are not written.
+    (
+        &[0x14, 0x08, 0x20, 0x00, 0x00],
+        "int32[,,,,,,,,,,,,,,,,,,,,,,,,,,,,,,,]",
+    ),
+    (&[0x14, 0x08, 0x21, 0x00, 0x00], "int32[,... rank 33]"),
+    (&[0x14, 0x08, 0x21, 0x01, 0x05, 0x00], "int32[5,... rank 33]"),
+    (
+        &[0x14, 0x08, 0x28, 0x01, 0x05, 0x03, 0x00, 0x02, 0x04],
+        "int32[0...4,1...,2...,... rank 40]",
+    ),
+    (
+        &[0x14, 0x08, 0xDF, 0xFF, 0xFF, 0xFF, 0x00, 0x00],
+        "int32[,... rank 536870911]",
+    ),
+    (
+        &[
+            0x14, 0x08, 0x21, 0x21, 1, 1, 1, 1, 1, 1, 1, 1, 1, 1, 1, 1, 1, 1, 1, 1, 1, 1, 1, 1, 1,
+            1, 1, 1, 1, 1, 1, 1, 1, 1, 1, 1, 7, 0x00,
+        ],
+        "int32[1,1,1,1,1,1,1,1,1,1,1,1,1,1,1,1,1,1,1,1,1,1,1,1,1,1,1,1,1,1,1,1,7]",
     ),
     (&[0x15, 0x11, 0x05, 0x00], "valuetype r1<>"),
     (
