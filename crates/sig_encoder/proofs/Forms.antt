@@ -12,12 +12,12 @@ use Rattle.sig_grammar.specs.declared.types.Core as cores
 use Rattle.sig_grammar.specs.declared.types.SlotKind as kinds
 use Rattle.sig_grammar.specs.declared.types.Ret as rets
 use Rattle.sig_grammar.specs.Syntax as sig
-use Rattle.sig_grammar.specs.ElementTypes.{element_code, VOID, PTR, BYREF, CLASS, VALUETYPE, VAR, ARRAY, GENERICINST, TYPEDBYREF, FNPTR, SZARRAY, MVAR}
+use Rattle.sig_grammar.specs.ElementTypes.{element_code, VOID, BYREF, CLASS, VALUETYPE, VAR, TYPEDBYREF, MVAR}
 use Rattle.sig_grammar.specs.Parts.{byte, number, index}
-use Rattle.sig_grammar.specs.Grammar.{modifiers_parts, generic_parts, named_code, method_code, count_types, count_slots}
+use Rattle.sig_grammar.specs.Grammar.{modifiers_parts, generic_parts, method_code, count_slots}
 use Rattle.sig_grammar.specs.Views.{core_of, type_of, types_from, content_of, slot_of, slots_from, ret_of, method_of, shape_of}
 use Rattle.sig_encoder.specs.Run.{then, run}
-use Rattle.sig_encoder.specs.Items.{Item, part, parts_items, rule, is_call, core_items, first_items, typed_items, types_items, content_items, slot_items, slots_items, ret_items, method_items, leaf_items, shape_items}
+use Rattle.sig_encoder.specs.Items.{Item, part, parts_items, rule, is_call, core_items, first_items, typed_items, content_items, slot_items, slots_items, ret_items, method_items, leaf_items}
 use Rattle.sig_encoder.proofs.Steps.{run_last, run_both}
 use Rattle.sig_encoder.proofs.Loops.{slots_count}
 use Rattle.sig_grammar.proofs.ViewLemmas.{view_simple, view_void_pointer, view_pointer, view_vector, view_array, view_class, view_value, view_var, view_mvar, view_instance, view_function, view_type, view_typed_ref, view_plain, view_by_ref, view_slot, view_some_ret, view_void_ret, view_method}
@@ -32,54 +32,37 @@ module _ {S : Type 0} (step : Item → S → Result S S) where
     pub run_simple : (e : Element) → run step (first_items (core_of (cores.Simple e)) d) s ≡ step (part (byte (element_code e))) s
     run_simple e = ap (λ (c : sig.Core). run step (first_items c d) s) (view_simple e) ∙ run_last step _ s
 
-    pub run_void_pointer : (mods : Vec Modifier Global)
-        → run step (first_items (core_of (cores.Pointer mods None)) d) s
-        ≡ then (run step (leaf_items VOID d)) (then (run step (parts_items (modifiers_parts mods.items))) (step (part (byte PTR)) s))
-    unfolding run
-    run_void_pointer mods = ap (λ (c : sig.Core). run step (first_items c d) s) (view_void_pointer mods) ∙ then_both (parts_items (modifiers_parts mods.items)) (leaf_items VOID d) (step (part (byte PTR)) s)
+    pub run_void_pointer : (mods : Vec Modifier Global) → run step (first_items (core_of (cores.Pointer mods None)) d) s ≡ run step (first_items (sig.void_pointer mods.items) d) s
+    run_void_pointer mods = ap (λ (c : sig.Core). run step (first_items c d) s) (view_void_pointer mods)
 
     pub run_pointer : (mods : Vec Modifier Global) (to : Box cores.Core Global)
-        → run step (first_items (core_of (cores.Pointer mods (Some to))) d) s
-        ≡ then (run step (core_items (core_of to.value) d)) (then (run step (parts_items (modifiers_parts mods.items))) (step (part (byte PTR)) s))
-    unfolding run
-    run_pointer mods to =
-        ap (λ (c : sig.Core). run step (first_items c d) s) (view_pointer mods to) ∙ then_both (parts_items (modifiers_parts mods.items)) (core_items (core_of to.value) d) (step (part (byte PTR)) s)
+        → run step (first_items (core_of (cores.Pointer mods (Some to))) d) s ≡ run step (first_items (sig.pointer mods.items (core_of to.value)) d) s
+    run_pointer mods to = ap (λ (c : sig.Core). run step (first_items c d) s) (view_pointer mods to)
 
-    pub run_vector : (of : Box TypeSig Global) → run step (first_items (core_of (cores.Vector of)) d) s ≡ then (run step (typed_items (type_of of.value) d)) (step (part (byte SZARRAY)) s)
-    unfolding run
+    pub run_vector : (of : Box TypeSig Global) → run step (first_items (core_of (cores.Vector of)) d) s ≡ run step (first_items (sig.vector (type_of of.value)) d) s
     run_vector of = ap (λ (c : sig.Core). run step (first_items c d) s) (view_vector of)
 
     pub run_array : (of : Box TypeSig Global) (shape : Shape)
-        → run step (first_items (core_of (cores.Array of shape)) d) s
-        ≡ then (run step (shape_items (shape_of shape))) (then (run step (typed_items (type_of of.value) d)) (step (part (byte ARRAY)) s))
-    unfolding run
-    run_array of shape = ap (λ (c : sig.Core). run step (first_items c d) s) (view_array of shape) ∙ then_both (typed_items (type_of of.value) d) (shape_items (shape_of shape)) (step (part (byte ARRAY)) s)
+        → run step (first_items (core_of (cores.Array of shape)) d) s ≡ run step (first_items (sig.array (type_of of.value) (shape_of shape)) d) s
+    run_array of shape = ap (λ (c : sig.Core). run step (first_items c d) s) (view_array of shape)
 
-    pub run_class : (t : Token) → run step (first_items (core_of (cores.Class t)) d) s ≡ then (run step (part (index t) ∷ [])) (step (part (byte CLASS)) s)
-    unfolding run
+    pub run_class : (t : Token) → run step (first_items (core_of (cores.Class t)) d) s ≡ run step (part (byte CLASS) ∷ part (index t) ∷ []) s
     run_class t = ap (λ (c : sig.Core). run step (first_items c d) s) (view_class t)
 
-    pub run_value : (t : Token) → run step (first_items (core_of (cores.Value t)) d) s ≡ then (run step (part (index t) ∷ [])) (step (part (byte VALUETYPE)) s)
-    unfolding run
+    pub run_value : (t : Token) → run step (first_items (core_of (cores.Value t)) d) s ≡ run step (part (byte VALUETYPE) ∷ part (index t) ∷ []) s
     run_value t = ap (λ (c : sig.Core). run step (first_items c d) s) (view_value t)
 
-    pub run_var : (n : ℕ) → run step (first_items (core_of (cores.Var n)) d) s ≡ then (run step (part (number n) ∷ [])) (step (part (byte VAR)) s)
-    unfolding run
+    pub run_var : (n : ℕ) → run step (first_items (core_of (cores.Var n)) d) s ≡ run step (part (byte VAR) ∷ part (number n) ∷ []) s
     run_var n = ap (λ (c : sig.Core). run step (first_items c d) s) (view_var n)
 
-    pub run_mvar : (n : ℕ) → run step (first_items (core_of (cores.MVar n)) d) s ≡ then (run step (part (number n) ∷ [])) (step (part (byte MVAR)) s)
-    unfolding run
+    pub run_mvar : (n : ℕ) → run step (first_items (core_of (cores.MVar n)) d) s ≡ run step (part (byte MVAR) ∷ part (number n) ∷ []) s
     run_mvar n = ap (λ (c : sig.Core). run step (first_items c d) s) (view_mvar n)
 
     pub run_instance : (is_value : Bool) (of : Token) (args : Vec TypeSig Global)
-        → run step (first_items (core_of (cores.Instance is_value of args)) d) s
-        ≡ then (run step (part (byte (named_code is_value)) ∷ part (index of) ∷ part (number (count_types (types_from (map type_of args.items)))) ∷ types_items (types_from (map type_of args.items)) d))
-        (step (part (byte GENERICINST)) s)
-    unfolding run
+        → run step (first_items (core_of (cores.Instance is_value of args)) d) s ≡ run step (first_items (sig.instance is_value of (types_from (map type_of args.items))) d) s
     run_instance is_value of args = ap (λ (c : sig.Core). run step (first_items c d) s) (view_instance is_value of args)
 
-    pub run_function : (m : Box MethodSig Global) → run step (first_items (core_of (cores.Function m)) d) s ≡ then (run step (method_items (method_of m.value) d)) (step (part (byte FNPTR)) s)
-    unfolding run
+    pub run_function : (m : Box MethodSig Global) → run step (first_items (core_of (cores.Function m)) d) s ≡ run step (first_items (sig.function (method_of m.value)) d) s
     run_function m = ap (λ (c : sig.Core). run step (first_items c d) s) (view_function m)
 
     pub run_type : (t : TypeSig)
@@ -127,17 +110,3 @@ module _ {S : Type 0} (step : Item → S → Result S S) (d : ℕ) (s : S) (m : 
       (λ i. run step (rule (is i) ++ part (byte (k i)) ∷ (parts_items (generic_parts (out-MethodSig m).generic)
       ++ part (number (number_is i)) ∷ (ret_items (ret_of (out-MethodSig m).ret) d ++ slots_items (slots_from (map slot_of (l i))) (out-MethodSig m).sentinel d))) s)
       ∙ sym (ap (λ (v : sig.Method). run step (method_items v d) s) (view_method m))
-
-pub ruleset cores_run = (
-  run_simple,
-  run_void_pointer,
-  run_pointer,
-  run_vector,
-  run_array,
-  run_class,
-  run_value,
-  run_var,
-  run_mvar,
-  run_instance,
-  run_function,
-)

@@ -1,8 +1,10 @@
-ghost use Rattle.std.specs.Prelude.{◌≡◌, ◌-◌, nat_lt, map};
-ghost use Rattle.sig_grammar.specs.Views.{core_of, type_of, types_from, content_of, slot_of, slots_from, ret_of, method_of};
+ghost use Rattle.std.specs.Prelude.{◌≡◌, ◌-◌, ◌∷◌, [], nat_lt, map};
+ghost use Rattle.sig_grammar.specs.Syntax as sig;
+ghost use Rattle.sig_grammar.specs.Parts.{byte, number, index};
+ghost use Rattle.sig_grammar.specs.Views.{core_of, type_of, types_from, content_of, slot_of, slots_from, ret_of, method_of, shape_of};
 ghost use Rattle.sig_grammar.specs.Grammar.{flag, method_code, named_code, count_slots, generic_parts};
 ghost use Rattle.sig_encoder.specs.Run.{after, run};
-ghost use Rattle.sig_encoder.specs.Items.{parts_items, level, leaf_items, core_items, first_items, typed_items, types_items, content_items, slot_items, slots_items, ret_items, method_items, may_stand, is_call, stands_at, param_items};
+ghost use Rattle.sig_encoder.specs.Items.{part, parts_items, level, leaf_items, core_items, first_items, typed_items, types_items, content_items, slot_items, slots_items, ret_items, method_items, may_stand, is_call, stands_at, param_items};
 
 use crate::items::{visit_modifiers, visit_rule, visit_shape};
 use crate::sink::PartSink;
@@ -11,7 +13,8 @@ use sig_grammar::element_type::{
     VAR, VOID,
 };
 use sig_grammar::method_byte::{EXPLICITTHIS, GENERIC, HASTHIS};
-use sig_grammar::{Core, MethodSig, Ret, Slot, SlotKind, TypeSig};
+use sig_grammar::{Core, MethodSig, Modifier, Ret, Shape, Slot, SlotKind, TypeSig};
+use table_schema::Token;
 
 /// The byte that says whether a generic type is a value type or a class.
 fn named_byte(value: bool) -> u16
@@ -41,57 +44,113 @@ fn visit_core<S: PartSink>(sink: &mut S, core: &Core, depth: u8) -> Option<()>
 
 /// Visits a core whose level was already counted.
 #[cycle(walk)]
-#[tactic(auto, using(crate::proofs::Steps::steps, crate::proofs::Forms::cores_run, crate::proofs::Loops::types_count))]
 fn visit_first<S: PartSink>(sink: &mut S, core: &Core, depth: u8) -> Option<()>
     ensures { after result sink.new ≡ run S.step (first_items (core_of core.now) depth) sink.old }
 {
     match core {
         Core::Simple(element) => sink.byte(u16::from(element.byte())),
-        Core::Pointer(modifiers, to) => {
-            sink.byte(u16::from(PTR))?;
-            visit_modifiers(sink, modifiers)?;
-            match to {
-                Some(to) => visit_core(sink, to, depth),
-                None => visit_leaf(sink, VOID, depth),
-            }
-        }
-        Core::Vector(of) => {
-            sink.byte(u16::from(SZARRAY))?;
-            visit_typed(sink, of, depth)
-        }
-        Core::Array(of, shape) => {
-            sink.byte(u16::from(ARRAY))?;
-            visit_typed(sink, of, depth)?;
-            visit_shape(sink, shape)
-        }
-        Core::Class(of) => {
-            sink.byte(u16::from(CLASS))?;
-            sink.index(*of)
-        }
-        Core::Value(of) => {
-            sink.byte(u16::from(VALUETYPE))?;
-            sink.index(*of)
-        }
-        Core::Var(number) => {
-            sink.byte(u16::from(VAR))?;
-            sink.number(*number as usize)
-        }
-        Core::MVar(number) => {
-            sink.byte(u16::from(MVAR))?;
-            sink.number(*number as usize)
-        }
-        Core::Instance { value, of, args } => {
-            sink.byte(u16::from(GENERICINST))?;
-            sink.byte(named_byte(*value))?;
-            sink.index(*of)?;
-            sink.number(args.len())?;
-            visit_types(sink, args, depth)
-        }
-        Core::Function(method) => {
-            sink.byte(u16::from(FNPTR))?;
-            visit_method(sink, method, depth)
-        }
+        Core::Pointer(modifiers, to) => match to {
+            Some(to) => visit_pointer(sink, modifiers, to, depth),
+            None => visit_void_pointer(sink, modifiers, depth),
+        },
+        Core::Vector(of) => visit_vector(sink, of, depth),
+        Core::Array(of, shape) => visit_array(sink, of, shape, depth),
+        Core::Class(of) => visit_named(sink, CLASS, *of),
+        Core::Value(of) => visit_named(sink, VALUETYPE, *of),
+        Core::Var(number) => visit_variable(sink, VAR, *number),
+        Core::MVar(number) => visit_variable(sink, MVAR, *number),
+        Core::Instance { value, of, args } => visit_instance(sink, *value, *of, args, depth),
+        Core::Function(method) => visit_function(sink, method, depth),
     }
+}
+
+/// Visits CLASS or VALUETYPE, and the type index after it.
+#[tactic(auto, using(crate::proofs::Steps::steps))]
+fn visit_named<S: PartSink>(sink: &mut S, code: u8, of: Token) -> Option<()>
+    ensures { after result sink.new ≡ run S.step (part (byte code) ∷ part (index of) ∷ []) sink.old }
+{
+    sink.byte(u16::from(code))?;
+    sink.index(of)
+}
+
+/// Visits VAR or MVAR, and the number of the generic parameter after it.
+#[tactic(auto, using(crate::proofs::Steps::steps))]
+fn visit_variable<S: PartSink>(sink: &mut S, code: u8, parameter: u32) -> Option<()>
+    ensures { after result sink.new ≡ run S.step (part (byte code) ∷ part (number parameter) ∷ []) sink.old }
+{
+    sink.byte(u16::from(code))?;
+    sink.number(parameter as usize)
+}
+
+/// Visits a pointer to VOID.
+#[tactic(auto, using(crate::proofs::Steps::steps))]
+fn visit_void_pointer<S: PartSink>(sink: &mut S, modifiers: &[Modifier], depth: u8) -> Option<()>
+    ensures { after result sink.new ≡ run S.step (first_items (sig.void_pointer modifiers.now) depth) sink.old }
+{
+    sink.byte(u16::from(PTR))?;
+    visit_modifiers(sink, modifiers)?;
+    visit_leaf(sink, VOID, depth)
+}
+
+/// Visits a pointer to a type.
+#[cycle(walk)]
+fn visit_pointer<S: PartSink>(
+    sink: &mut S,
+    modifiers: &[Modifier],
+    to: &Core,
+    depth: u8,
+) -> Option<()>
+    ensures { after result sink.new ≡ run S.step (first_items (sig.pointer modifiers.now (core_of to.now)) depth) sink.old }
+{
+    sink.byte(u16::from(PTR))?;
+    visit_modifiers(sink, modifiers)?;
+    visit_core(sink, to, depth)
+}
+
+/// Visits an array of one dimension.
+#[cycle(walk)]
+fn visit_vector<S: PartSink>(sink: &mut S, of: &TypeSig, depth: u8) -> Option<()>
+    ensures { after result sink.new ≡ run S.step (first_items (sig.vector (type_of of.now)) depth) sink.old }
+{
+    sink.byte(u16::from(SZARRAY))?;
+    visit_typed(sink, of, depth)
+}
+
+/// Visits an array with a shape (II.23.2.13).
+#[cycle(walk)]
+fn visit_array<S: PartSink>(sink: &mut S, of: &TypeSig, shape: &Shape, depth: u8) -> Option<()>
+    ensures { after result sink.new ≡ run S.step (first_items (sig.array (type_of of.now) (shape_of shape.now)) depth) sink.old }
+{
+    sink.byte(u16::from(ARRAY))?;
+    visit_typed(sink, of, depth)?;
+    visit_shape(sink, shape)
+}
+
+/// Visits an instance of a generic type.
+#[cycle(walk)]
+fn visit_instance<S: PartSink>(
+    sink: &mut S,
+    value: bool,
+    of: Token,
+    args: &[TypeSig],
+    depth: u8,
+) -> Option<()>
+    ensures { after result sink.new ≡ run S.step (first_items (sig.instance value of (types_from (map type_of args.now))) depth) sink.old }
+{
+    sink.byte(u16::from(GENERICINST))?;
+    sink.byte(named_byte(value))?;
+    sink.index(of)?;
+    sink.number(args.len())?;
+    visit_types(sink, args, depth)
+}
+
+/// Visits a pointer to a method.
+#[cycle(walk)]
+fn visit_function<S: PartSink>(sink: &mut S, method: &MethodSig, depth: u8) -> Option<()>
+    ensures { after result sink.new ≡ run S.step (first_items (sig.function (method_of method.now)) depth) sink.old }
+{
+    sink.byte(u16::from(FNPTR))?;
+    visit_method(sink, method, depth)
 }
 
 /// Visits a type.

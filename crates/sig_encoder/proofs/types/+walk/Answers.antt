@@ -72,74 +72,80 @@ visit_method-returns g t c =
 pub visit_first-returns-in-Simple : goal.visit_first-returns-in-Simple
 visit_first-returns-in-Simple g t c = grind (arith, steps, run_simple)
 
-pub visit_first-returns-in_err-byte-in-Pointer : goal.visit_first-returns-in_err-byte-in-Pointer
-visit_first-returns-in_err-byte-in-Pointer g t c = grind (arith, steps, run_void_pointer, run_pointer)
-
-pub visit_first-returns-in_err-visit_modifiers-in-Pointer : goal.visit_first-returns-in_err-visit_modifiers-in-Pointer
-visit_first-returns-in_err-visit_modifiers-in-Pointer g t c = grind (arith, steps, run_void_pointer, run_pointer)
-
 pub visit_first-returns-in-Some : goal.visit_first-returns-in-Some
-visit_first-returns-in-Some g t c = grind (arith, steps, run_pointer)
+visit_first-returns-in-Some g t c = grind (arith, run_pointer)
 
 pub visit_first-returns-in-None : goal.visit_first-returns-in-None
-visit_first-returns-in-None g t c = grind (arith, steps, run_void_pointer)
+visit_first-returns-in-None g t c = grind (arith, run_void_pointer)
 
-pub visit_first-returns-in_err-byte-in-Vector : goal.visit_first-returns-in_err-byte-in-Vector
-visit_first-returns-in_err-byte-in-Vector g t c = grind (arith, steps, run_vector)
+pub visit_first-returns-in-Vector : goal.visit_first-returns-in-Vector
+visit_first-returns-in-Vector g t c = grind (arith, run_vector)
 
-pub visit_first-returns-in_ok-byte-in-Vector : goal.visit_first-returns-in_ok-byte-in-Vector
-visit_first-returns-in_ok-byte-in-Vector g t c = grind (arith, steps, run_vector)
+pub visit_first-returns-in-Array : goal.visit_first-returns-in-Array
+visit_first-returns-in-Array g t c = grind (arith, run_array)
 
-pub visit_first-returns-in_err-byte-in-Array : goal.visit_first-returns-in_err-byte-in-Array
-visit_first-returns-in_err-byte-in-Array g t c = grind (arith, steps, run_array)
+pub visit_first-returns-in-Class : goal.visit_first-returns-in-Class
+visit_first-returns-in-Class g t c = grind (arith, run_class)
 
-pub visit_first-returns-in_err-visit_typed-in-Array : goal.visit_first-returns-in_err-visit_typed-in-Array
-visit_first-returns-in_err-visit_typed-in-Array g t c = grind (arith, steps, run_array)
+pub visit_first-returns-in-Value : goal.visit_first-returns-in-Value
+visit_first-returns-in-Value g t c = grind (arith, run_value)
 
-pub visit_first-returns-in_ok-visit_typed-in-Array : goal.visit_first-returns-in_ok-visit_typed-in-Array
-visit_first-returns-in_ok-visit_typed-in-Array g t c = grind (arith, steps, run_array)
+pub visit_first-returns-in-Var : goal.visit_first-returns-in-Var
+visit_first-returns-in-Var g t c = grind (arith, run_var)
 
-pub visit_first-returns-in_err-byte-in-Class : goal.visit_first-returns-in_err-byte-in-Class
-visit_first-returns-in_err-byte-in-Class g t c = grind (arith, steps, run_class)
+pub visit_first-returns-in-MVar : goal.visit_first-returns-in-MVar
+visit_first-returns-in-MVar g t c = grind (arith, run_mvar)
 
-pub visit_first-returns-in_ok-byte-in-Class : goal.visit_first-returns-in_ok-byte-in-Class
-visit_first-returns-in_ok-byte-in-Class g t c = grind (arith, steps, run_class)
+pub visit_first-returns-in-Instance : goal.visit_first-returns-in-Instance
+visit_first-returns-in-Instance g t c = grind (arith, run_instance)
 
-pub visit_first-returns-in_err-byte-in-Value : goal.visit_first-returns-in_err-byte-in-Value
-visit_first-returns-in_err-byte-in-Value g t c = grind (arith, steps, run_value)
+pub visit_first-returns-in-Function : goal.visit_first-returns-in-Function
+visit_first-returns-in-Function g t c = grind (arith, run_function)
 
-pub visit_first-returns-in_ok-byte-in-Value : goal.visit_first-returns-in_ok-byte-in-Value
-visit_first-returns-in_ok-byte-in-Value g t c = grind (arith, steps, run_value)
+pub visit_pointer-returns-in_err-byte : goal.visit_pointer-returns-in_err-byte
+visit_pointer-returns-in_err-byte g t c = grind (arith, steps)
 
-pub visit_first-returns-in_err-byte-in-Var : goal.visit_first-returns-in_err-byte-in-Var
-visit_first-returns-in_err-byte-in-Var g t c = grind (arith, steps, run_var)
+pub visit_pointer-returns-in_err-visit_modifiers : goal.visit_pointer-returns-in_err-visit_modifiers
+visit_pointer-returns-in_err-visit_modifiers g t c = grind (arith, steps)
 
-pub visit_first-returns-in_ok-byte-in-Var : goal.visit_first-returns-in_ok-byte-in-Var
-visit_first-returns-in_ok-byte-in-Var g t c = grind (arith, steps, run_var)
+pub visit_pointer-returns : goal.visit_pointer-returns
+visit_pointer-returns g t c = grind (arith, steps)
 
-pub visit_first-returns-in_err-byte-in-MVar : goal.visit_first-returns-in_err-byte-in-MVar
-visit_first-returns-in_err-byte-in-MVar g t c = grind (arith, steps, run_mvar)
+pub visit_vector-returns-in_err-byte : goal.visit_vector-returns-in_err-byte
+visit_vector-returns-in_err-byte g t c = grind (arith, steps)
 
-pub visit_first-returns-in_ok-byte-in-MVar : goal.visit_first-returns-in_ok-byte-in-MVar
-visit_first-returns-in_ok-byte-in-MVar g t c = grind (arith, steps, run_mvar)
+pub visit_vector-returns : goal.visit_vector-returns
+visit_vector-returns g t c = grind (arith, steps)
 
-pub visit_first-returns-in_err-byte-in-Function : goal.visit_first-returns-in_err-byte-in-Function
-visit_first-returns-in_err-byte-in-Function g t c = grind (arith, steps, run_function)
+pub visit_array-returns-in_err-byte : goal.visit_array-returns-in_err-byte
+visit_array-returns-in_err-byte g t c = grind (arith, steps)
 
-pub visit_first-returns-in_ok-byte-in-Function : goal.visit_first-returns-in_ok-byte-in-Function
-visit_first-returns-in_ok-byte-in-Function g t c = grind (arith, steps, run_function)
+pub visit_array-returns-in_err-visit_typed : goal.visit_array-returns-in_err-visit_typed
+visit_array-returns-in_err-visit_typed g t c = grind (arith, steps)
 
-pub visit_first-returns-in_err-byte-in-Instance : goal.visit_first-returns-in_err-byte-in-Instance
-visit_first-returns-in_err-byte-in-Instance g t c = grind (arith, steps, run_instance, types_count)
+pub visit_array-returns : goal.visit_array-returns
+visit_array-returns g t c = grind (arith, steps)
 
-pub visit_first-returns-in_err-byte-in-Instance-2 : goal.visit_first-returns-in_err-byte-in-Instance-2
-visit_first-returns-in_err-byte-in-Instance-2 g t c = grind (arith, steps, run_instance, types_count)
+pub visit_function-returns-in_err-byte : goal.visit_function-returns-in_err-byte
+visit_function-returns-in_err-byte g t c = grind (arith, steps)
 
-pub visit_first-returns-in_err-number-in-Instance : goal.visit_first-returns-in_err-number-in-Instance
-visit_first-returns-in_err-number-in-Instance g t c = grind (arith, steps, run_instance, types_count)
+pub visit_function-returns : goal.visit_function-returns
+visit_function-returns g t c = grind (arith, steps)
 
-pub visit_first-returns-in_ok-number-in-Instance : goal.visit_first-returns-in_ok-number-in-Instance
-visit_first-returns-in_ok-number-in-Instance g t c = grind (arith, steps, run_instance, types_count)
+pub visit_instance-returns-in_err-byte : goal.visit_instance-returns-in_err-byte
+visit_instance-returns-in_err-byte g t c = grind (arith, steps, types_count)
+
+pub visit_instance-returns-in_err-byte-2 : goal.visit_instance-returns-in_err-byte-2
+visit_instance-returns-in_err-byte-2 g t c = grind (arith, steps, types_count)
+
+pub visit_instance-returns-in_err-index : goal.visit_instance-returns-in_err-index
+visit_instance-returns-in_err-index g t c = grind (arith, steps, types_count)
+
+pub visit_instance-returns-in_err-number : goal.visit_instance-returns-in_err-number
+visit_instance-returns-in_err-number g t c = grind (arith, steps, types_count)
+
+pub visit_instance-returns : goal.visit_instance-returns
+visit_instance-returns g t c = grind (arith, steps, types_count)
 
 pub visit_core-returns-in_err-visit_rule : goal.visit_core-returns-in_err-visit_rule
 visit_core-returns-in_err-visit_rule g t c = grind (arith, steps)
