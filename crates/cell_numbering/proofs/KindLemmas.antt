@@ -13,8 +13,8 @@ use Rattle.metadata_source.specs.declared.signature_bytes.SignatureBytes.TheVari
 use Rattle.reading.specs.Shown.{Shows, ShowsSignature}
 use Rattle.reading.specs.declared.cell_ref.CellRef.{CellRef}
 use Rattle.reading.specs.declared.cell_ref.CellRef.TheVariants as seen
-use Rattle.canonical.specs.Numbers.{cell_number}
-use Rattle.canonical.specs.Pools.{texts_of, blobs_of}
+use Rattle.root_writer.specs.Numbers.{cell_number}
+use Rattle.root_writer.specs.Pools.{texts_of, blobs_of}
 use Rattle.cell_numbering.specs.declared.numbers_so_far.Indexes.{Indexes}
 use Rattle.cell_numbering.specs.HeapUses.{IsInNoHeap, guid_of}
 use Rattle.cell_numbering.specs.NumbersSoFar.{SoFar, no_pools, with_blob, with_cell, with_guid, with_number, with_text}

@@ -19,8 +19,8 @@ use Rattle.heap_pools.specs.GuidHeap.{guid_index}
 use Rattle.metadata.specs.Cell.{Cell, Number, Text, Bytes, Guid, Ref, Start, Sig}
 use Rattle.metadata.specs.Metadata.{Metadata, rows_of}
 use Rattle.metadata.specs.Valid.{IsValid}
-use Rattle.canonical.specs.Pools.{Pools, pools_of, texts_of, blobs_of}
-use Rattle.canonical.specs.Numbers.{cell_number, with_next, numbers_of, table_numbers, numbers}
+use Rattle.root_writer.specs.Pools.{Pools, pools_of, texts_of, blobs_of}
+use Rattle.root_writer.specs.Numbers.{cell_number, with_next, numbers_of, table_numbers, numbers}
 use Rattle.root_writer.specs.Numbered.{flat}
 use Rattle.cell_numbering.specs.declared.numbers_so_far.Indexes.{Indexes}
 use Rattle.cell_numbering.specs.HeapUses.{AreIndexes, all_cells, guid_of}

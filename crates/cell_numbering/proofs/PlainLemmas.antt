@@ -12,7 +12,7 @@ use Rattle.table_schema.specs.CodedIndexes.{tag_bits}
 use Rattle.metadata.specs.Cell.{Cell, Ref}
 use Rattle.metadata.specs.Kinds.{IsOfKind}
 use Rattle.metadata_source.specs.ColumnNumbers.{IsNumberOf}
-use Rattle.canonical.specs.Numbers.{cell_number}
+use Rattle.root_writer.specs.Numbers.{cell_number}
 use Rattle.cell_numbering.specs.HeapUses.{IsInNoHeap}
 use Rattle.cell_numbering.specs.NumbersSoFar.{no_pools}
 use Rattle.cell_numbering.specs.PlainColumns.{IsLeast, IsPlainNumber, without_null}

@@ -8,7 +8,7 @@ use Rattle.heap_pools.specs.HeapTexts.{heap_text, texts_at}
 use Rattle.metadata.specs.Metadata.{Metadata}
 use Rattle.metadata_source.specs.SharedBlobs.{CellId, HasCell, cell_by_id, kind_by_id}
 use Rattle.metadata_source.specs.TextsIn.{AreTextsIn}
-use Rattle.canonical.specs.Pools.{texts_of}
+use Rattle.root_writer.specs.Pools.{texts_of}
 
 abbrev pub ReadsTexts : Type 0
 ReadsTexts = (heap : List ℕ) (index : ℕ) (text : List ℕ) → IsText heap index text → heap_text heap index ≡ text

@@ -17,7 +17,7 @@ use Rattle.metadata_source.specs.SignatureBytes.{AreBytesOf}
 use Rattle.metadata_source.specs.declared.signature_bytes.SignatureBytes.{SignatureBytes}
 use Rattle.metadata_source.specs.declared.signature_bytes.SignatureBytes.TheVariants.{Stored, Canonical}
 use Rattle.metadata_source.specs.SharedBlobs.{CellId, HasCell, IsBlobKind, ShareBlob, cell_by_id, kind_by_id}
-use Rattle.canonical.specs.Pools.{texts_of, blobs_of, guids_of, used}
+use Rattle.root_writer.specs.Pools.{texts_of, blobs_of, guids_of, used}
 use Rattle.cell_numbering.specs.declared.blob_use.BlobUse.{BlobUse}
 use Rattle.cell_numbering.specs.declared.blob_uses.BlobUses.{BlobUses}
 use Rattle.cell_numbering.specs.declared.heap_uses.HeapUses.{HeapUses}

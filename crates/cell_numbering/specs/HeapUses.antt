@@ -14,7 +14,7 @@ use Rattle.metadata.specs.Metadata.{Metadata}
 use Rattle.metadata_source.specs.declared.signature_bytes.SignatureBytes.{SignatureBytes}
 use Rattle.metadata_source.specs.declared.signature_bytes.SignatureBytes.TheVariants.{Stored, Canonical}
 use Rattle.metadata_source.specs.SharedBlobs.{CellId, HasCell, IsBlobKind, cell_by_id, kind_by_id}
-use Rattle.canonical.specs.Pools.{texts_of, blobs_of, pools_of}
+use Rattle.root_writer.specs.Pools.{texts_of, blobs_of, pools_of}
 use Rattle.cell_numbering.specs.declared.blob_use.BlobUse.{BlobUse}
 use Rattle.cell_numbering.specs.declared.heap_uses.HeapUses.{HeapUses}
 use Rattle.cell_numbering.specs.declared.numbers_so_far.Indexes.{Indexes}

@@ -8,8 +8,8 @@ use Rattle.table_schema.specs.CellColumns.{is_padding}
 use Rattle.metadata.specs.Cell.{Cell}
 use Rattle.metadata.specs.Cell.{Text, Bytes, Guid, Sig}
 use Rattle.metadata.specs.Metadata.{Metadata, rows_of}
-use Rattle.canonical.specs.Pools.{Pools}
-use Rattle.canonical.specs.Numbers.{cell_number}
+use Rattle.root_writer.specs.Pools.{Pools}
+use Rattle.root_writer.specs.Numbers.{cell_number}
 use Rattle.cell_numbering.specs.declared.numbers_so_far.Indexes.{Indexes}
 use Rattle.cell_numbering.specs.declared.numbers_so_far.NumbersSoFar.TheInside.{Inside}
 

@@ -9,7 +9,7 @@ use Rattle.rows.specs.Columns.{ColumnBytes, number_in_row}
 use Rattle.metadata.specs.Cell.{Cell}
 use Rattle.metadata.specs.Metadata.{Metadata, count_in, cell_in}
 use Rattle.metadata.specs.Valid.{kind_at}
-use Rattle.canonical.specs.Numbers.{cell_number}
+use Rattle.root_writer.specs.Numbers.{cell_number}
 use Rattle.cell_numbering.specs.HeapUses.{IsInNoHeap}
 use Rattle.cell_numbering.specs.NumbersSoFar.{no_pools}
 use Rattle.cell_numbering.specs.declared.plain_columns.PlainColumn.TheInside.{Inside}

@@ -4,7 +4,7 @@ ghost use Rattle.table_schema.specs.CellColumns.{is_padding, cell_count};
 ghost use Rattle.metadata.specs.Cell.{Cell as Says};
 ghost use Rattle.metadata.specs.Metadata.{Metadata, rows_of, row_of, cell_in};
 ghost use Rattle.metadata.specs.Valid.{kind_at};
-ghost use Rattle.canonical.specs.Numbers.{cell_number, numbers};
+ghost use Rattle.root_writer.specs.Numbers.{cell_number, numbers};
 ghost use Rattle.reading.specs.Shown.{Shows};
 ghost use Rattle.root_writer.specs.Numbered.{CanBeNumbered, flat};
 ghost use Rattle.table_schema.specs.Tables.{tables as all_tables};

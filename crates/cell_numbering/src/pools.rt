@@ -5,7 +5,7 @@ ghost use Rattle.heap_pools.specs.Distinct.{distinct};
 ghost use Rattle.heap_pools.specs.GuidHeap.{given, guid_heap, guid_index};
 ghost use Rattle.heap_pools.specs.TextHeap.{text_heap};
 ghost use Rattle.metadata.specs.Metadata.{Metadata};
-ghost use Rattle.canonical.specs.Pools.{pools_of as pools_in};
+ghost use Rattle.root_writer.specs.Pools.{pools_of as pools_in};
 ghost use Rattle.root_writer.specs.Numbered.{IsNumbering, IsTooLong};
 ghost use Rattle.cell_numbering.specs.HeapUses.{AreUsesOfAll};
 
@@ -15,8 +15,8 @@ use crate::group_indexes::indexes_of_uses;
 use crate::heap_uses::heap_uses;
 use crate::numbers::numbers_of;
 use crate::numbers_so_far::Indexes;
-use heap_plans::{HeapPlan, SortedBlobs, SortedGuids};
 use heap_pools::{PoolError, TextPool};
+use heaps::{HeapPlan, SortedBlobs, SortedGuids};
 use metadata_source::ReadCells;
 use root_writer::Numbering;
 use std::alloc::Global;

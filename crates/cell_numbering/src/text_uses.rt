@@ -7,7 +7,7 @@ ghost use Rattle.heap_pools.specs.TextHeap.{holders, text_heap, text_index};
 ghost use Rattle.heap_pools.specs.Uses.{bytes_of};
 ghost use Rattle.metadata.specs.Metadata.{Metadata, cell_in};
 ghost use Rattle.metadata.specs.Valid.{kind_at};
-ghost use Rattle.canonical.specs.Pools.{texts_of};
+ghost use Rattle.root_writer.specs.Pools.{texts_of};
 ghost use Rattle.cell_numbering.specs.TextUses.{AreTextUses, used_texts};
 
 use crate::group_indexes::indexes_of_uses;

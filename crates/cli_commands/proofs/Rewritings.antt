@@ -4,11 +4,11 @@ use Rattle.std.specs.Prelude.{⊤}
 use Rattle.std.proofs.Math.Logic.{∥∥₁_map}
 use Rattle.metadata.specs.Metadata.{Metadata}
 use Rattle.metadata.specs.Model.{IsModel}
-use Rattle.canonical.specs.Canonical.{canonical}
+use Rattle.root_writer.specs.Canonical.{canonical}
 use Rattle.opening.specs.Views.{HasModel}
-use Rattle.root_plan.specs.Errors.{MatchError}
-use Rattle.root_plan.specs.declared.error.WriteError.{WriteError}
-use Rattle.root_plan.specs.declared.error.WriteError.TheVariants.{TooLarge}
+use Rattle.writer.specs.Errors.{MatchError}
+use Rattle.writer.specs.declared.error.WriteError.{WriteError}
+use Rattle.writer.specs.declared.error.WriteError.TheVariants.{TooLarge}
 use Rattle.cli_reports.specs.Checked.{IsOpened}
 use Rattle.cli_commands.specs.Rewritten.{IsRewritten, IsTooLong}
 

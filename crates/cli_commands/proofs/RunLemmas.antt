@@ -9,7 +9,7 @@ use Rattle.cli_faults.specs.declared.stop.Stop.{Stop}
 use Rattle.cli_reports.specs.Checked.{IsWhole, rules_of, signature_bytes_of}
 use Rattle.sha2.specs.Sha256.{sha256}
 use Rattle.cli_commands.specs.Digests.{digest_text}
-use Rattle.cli_strings.specs.Strings.{IsStringsText}
+use Rattle.cli_where.specs.Strings.{IsStringsText}
 use Rattle.cli_outline.specs.Outline.{IsLine, outline_rows}
 use Rattle.cli_outline.specs.Sent.{PrintsLines}
 use Rattle.metadata.specs.Metadata.{Metadata}

@@ -12,7 +12,7 @@ use Rattle.cli_outline.specs.declared.subject.Outcome.{Outcome as Outlined}
 use Rattle.cli_outline.specs.declared.subject.Outcome.TheVariants as outlined
 use Rattle.cli_outline.specs.declared.subject.Subject.{Subject}
 use Rattle.cli_reports.specs.Checked.{IsWhole, rules_of, signature_bytes_of}
-use Rattle.cli_strings.specs.Strings.{IsStringsText}
+use Rattle.cli_where.specs.Strings.{IsStringsText}
 use Rattle.cli_where.specs.Where.{IsWhere}
 use Rattle.cli_where.specs.declared.report.Found.{Found}
 use Rattle.cli_where.specs.declared.report.Found.TheVariants as found

@@ -4,7 +4,7 @@ use Rattle.packed.specs.declared.code.FaultCode.TheVariants.{TooLarge}
 use Rattle.packed.specs.Rule.{FirstBroken, fault}
 use Rattle.metadata.specs.Metadata.{Metadata}
 use Rattle.metadata.specs.Model.{IsModel}
-use Rattle.canonical.specs.Canonical.{canonical}
+use Rattle.root_writer.specs.Canonical.{canonical}
 use Rattle.cli_faults.specs.declared.failure.Failure.{Failure}
 use Rattle.cli_faults.specs.declared.failure.Failure.TheVariants as failed
 use Rattle.cli_reports.specs.Checked.{IsOpened, IsWhole, rules_of}

@@ -12,7 +12,7 @@ use cli_faults::{Failure, FileError, Reason};
 use cli_files::{Stopped, is_standard_output, read_file, stopped_by, with_hint};
 use cli_outline::report_outline;
 use cli_reports::{Report, check_within};
-use cli_strings::report_strings;
+use cli_where::report_strings;
 use comparison::IgnoredColumns;
 use std::alloc::Global;
 use std::io::Write;
@@ -62,7 +62,7 @@ pub fn outline_file<'a, R: Files + Input + AllocGlobal, W: Write>(
 ///
 /// # Errors
 ///
-/// The file cannot be read; or as [`cli_strings::report_strings`], with the hint for these bytes.
+/// The file cannot be read; or as [`cli_where::report_strings`], with the hint for these bytes.
 pub fn list_strings<'a, R: Files + Input + AllocGlobal, W: Write>(
     rt: &R,
     file: &'a str,

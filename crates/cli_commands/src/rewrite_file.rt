@@ -11,11 +11,10 @@ use cli_faults::{Failure, printed};
 use cli_files::write_root;
 use cli_reports::{finish, open};
 use packed::{Fault, FaultCode};
-use root_plan::{Prepared, WriteError};
 use std::alloc::Global;
 use std::io::{self, Write};
 use std::rt::Files;
-use writer::prepare;
+use writer::{Prepared, WriteError, prepare};
 
 /// The largest length of a root that is written, in bytes.
 const LIMIT: u32 = 1 << 30;

@@ -6,12 +6,12 @@ ghost use Rattle.cli_files.specs.Written.{WasGiven};
 
 use crate::kind_keeper::KindKeeper;
 use cli_faults::{Failure, FileError};
-use root_plan::{Counted, Prepared};
 use std::fs::{Metadata, OpenFile, OpenOptions, Permissions};
 use std::io::{ErrorKind, Write};
 use std::os::unix::fs::{MetadataExt, OpenOptionsExt, PermissionsExt};
 use std::rt::Files;
 use std::{fs, io};
+use writer::{Counted, Prepared};
 
 /// The standard output of this process, by its path.
 const STANDARD_OUTPUT: &str = "/dev/stdout";

@@ -2,8 +2,8 @@
 use Rattle.std.proofs.Common.{◌≡◌, ◌∙◌, ℕ, ◌-◌, ◌≤◌, List, [], Option, None, Some, ap}
 use Rattle.table_schema.specs.declared.table.TableId.{TableId}
 use Rattle.schema.specs.Sizes.{Sizes}
-use Rattle.locations.specs.Cells.{HasCell}
-use Rattle.locations.specs.declared.cells.TableCell.{TableCell}
+use Rattle.schema.specs.LocatedCells.{HasCell}
+use Rattle.schema.specs.declared.located_cells.TableCell.{TableCell}
 use Rattle.cli_regions.specs.Regions.{region_text}
 use Rattle.cli_where.specs.Cells.{IsCellAt, cell_region, cell_text}
 

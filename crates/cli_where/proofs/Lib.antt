@@ -1,3 +1,6 @@
+pub mod SentLemmas
+pub mod StringLineLemmas
+pub mod StringOutcomes
 pub mod JoinLemmas
 pub mod HeaderLemmas
 pub mod CellLemmas

@@ -4,7 +4,7 @@ use Rattle.std.specs.Prelude.{Option, Some, None}
 use Rattle.std.specs.List.{range_with_len}
 use Rattle.std.proofs.lemmas.Grind.{flat_map-append}
 use Rattle.schema.specs.Sizes.{Sizes}
-use Rattle.locations.specs.declared.cells.TableCell.{TableCell}
+use Rattle.schema.specs.declared.located_cells.TableCell.{TableCell}
 use Rattle.cli_regions.specs.Regions.{Region, has_byte, region, region_text}
 use Rattle.cli_where.specs.Entries.{Heaps, IsEntryOf, IsNamedBy, entries, entry_words, first_lines, listed}
 
@@ -78,3 +78,16 @@ none_of_none line left = ap (λ xs. line ++ xs) (lines_of_none left) ∙ append-
 
 pub all_lines : (line : List ℕ) (found : TableCell → Option Region) (cells : List TableCell) → line ++ first_lines 10 (entries found cells ++ []) ≡ line ++ first_lines 10 (entries found cells)
 all_lines line found cells = ap (λ regions. line ++ first_lines 10 regions) (append-nil (entries found cells))
+
+-- no cell names an entry that has the byte
+module _ (heaps : Heaps) (stream : List ℕ) (sizes : Sizes) (offset : ℕ)
+    (none : (cell : TableCell) (start size : ℕ) → IsNamedBy heaps stream sizes cell start size → has_byte start size offset ≡ true → ⊥) where
+  none_listed : (cell : TableCell) (found : Option Region) → IsEntryOf heaps stream sizes offset cell found → listed found ≡ []
+  none_listed cell None is = refl
+  none_listed cell (Some entry) is = absurd (none cell entry.start entry.size is.0 is.1)
+
+  pub none_found : (found : TableCell → Option Region) → ((cell : TableCell) → IsEntryOf heaps stream sizes offset cell (found cell)) → (cells : List TableCell)
+      → entries found cells ≡ []
+  none_found found is [] = refl
+  none_found found is (cell ∷ cells) =
+      ap (λ (xs : List Region). xs ++ entries found cells) (none_listed cell (found cell) (is cell)) ∙ none_found found is cells

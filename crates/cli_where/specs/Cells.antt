@@ -5,8 +5,8 @@ use Rattle.schema.specs.Sizes.{Sizes}
 use Rattle.schema.specs.Cells.{cell_width}
 use Rattle.schema.specs.ColumnNames.{column_names_of}
 use Rattle.schema.specs.Offsets.{cell_start}
-use Rattle.locations.specs.Cells.{HasCell}
-use Rattle.locations.specs.declared.cells.TableCell.{TableCell}
+use Rattle.schema.specs.LocatedCells.{HasCell}
+use Rattle.schema.specs.declared.located_cells.TableCell.{TableCell}
 use Rattle.cli_regions.specs.Regions.{Region, region, region_text}
 use Rattle.cli_regions.specs.Headers.{table_words}
 

@@ -13,7 +13,7 @@ use Rattle.table_schema.specs.Tables.{tables}
 use Rattle.table_schema.specs.Columns.{column_at, columns_of}
 use Rattle.schema.specs.Sizes.{Sizes, count_of}
 use Rattle.schema.specs.Cells.{number_at}
-use Rattle.locations.specs.declared.cells.TableCell.{TableCell}
+use Rattle.schema.specs.declared.located_cells.TableCell.{TableCell}
 use Rattle.cli_regions.specs.Regions.{Region, has_byte, region_text}
 use Rattle.cli_where.specs.Cells.{cell_words}
 

@@ -1,3 +1,4 @@
+pub mod Strings
 pub mod Cells
 pub mod Entries
 pub mod Kept

@@ -2,7 +2,7 @@
 use Rattle.std.specs.Prelude.{◌≡◌, ℕ, ◌+◌, ◌*◌, ◌^◌, ◌<◌, true, List, [], ◌∷◌, ◌++◌, codes, Option, None, Some}
 use Rattle.heap_entries.specs.Entries.{UserText}
 use Rattle.table_schema.specs.Tokens.{hexadecimal}
-use Rattle.cli_strings.specs.Strings.{IsEntry}
+use Rattle.cli_where.specs.Strings.{IsEntry}
 use Rattle.cli_where.specs.Entries.{Heap}
 use Rattle.cli_regions.specs.Regions.{Region, has_byte, region, region_text}
 

@@ -9,8 +9,7 @@ ghost use Rattle.cli_regions.specs.Regions.{region_text};
 
 use cli_regions::{push_span, push_table};
 use cli_reports::push_decimal;
-use locations::{TableCell, cell_at};
-use schema::{Layout, column_names};
+use schema::{Layout, TableCell, cell_at, column_names};
 use std::alloc::AllocError;
 use table_schema::TableId;
 
@@ -71,7 +70,7 @@ pub(crate) fn push_cell(
     requires small { tables_end layout.now ≤ 0x40000000 }
     ensures { OnOk result ((text : List ℕ) → IsCellText layout.now start offset text → line.new.items ≡ line.old.items ++ text) }
 {
-    locations::laws::cells_are_apart();
+    schema::laws::cells_are_apart();
     if offset < start {
         return Ok(());
     }

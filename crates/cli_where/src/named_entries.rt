@@ -2,16 +2,16 @@
 ghost use Rattle.std.specs.Prelude.{◌≡◌, ◌≤◌, ◌<◌, ◌++◌, ℕ, List, OnOk, IfOk, IfSome, IfNone, Option, length, true};
 ghost use Rattle.table_schema.specs.Columns.{columns_of};
 ghost use Rattle.schema.specs.Sizes.{count_of};
-ghost use Rattle.locations.specs.declared.cells.TableCell.{TableCell as Cell};
+ghost use Rattle.schema.specs.declared.located_cells.TableCell.{TableCell as Cell};
 ghost use Rattle.cli_where.specs.Entries.{AreEntryLines, IsEntryOf, IsNamedBy, all_cells, entries, entry_words, first_lines, kind_of, listed, row_cells, table_cells};
 ghost use Rattle.cli_where.specs.Kept.{AreFound, AreReady, heaps_of};
 ghost use Rattle.cli_regions.specs.Regions.{Region, has_byte, region, region_text};
 
 use crate::cells::push_cell_words;
-use crate::entries::{Span, Target, entry_at, entry_word};
+use crate::entries::{Span, Target, entry_at, entry_word, is_in_heaps};
 use cli_regions::push_span;
-use locations::TableCell;
 use rows::Rows;
+use schema::TableCell;
 use std::alloc::AllocError;
 use table_schema::{ColumnKind, TableId, columns};
 
@@ -127,9 +127,9 @@ fn push_table_entries(
     Ok(left)
 }
 
-/// Appends the lines of the entries that have the byte, for the first ten cells that name one.
+/// Appends the lines of the entries that have the byte, for the first ten cells that name one. It reads all cells.
 #[tactic(auto, unfolding(crate::specs::Entries::all_cells))]
-pub(crate) fn push_entries(
+fn push_all_entries(
     rows: &Rows<'_>,
     target: &Target<'_>,
     line: &mut Vec<u8>,
@@ -141,6 +141,23 @@ pub(crate) fn push_entries(
     let mut left = LINES;
     for table in TableId::all() {
         left = push_table_entries(rows, target, *table, left, line)?;
+    }
+    Ok(())
+}
+
+/// Appends the lines of the entries that have the byte, for the first ten cells that name one. It reads no cell if no heap
+/// has the byte.
+pub(crate) fn push_entries(
+    rows: &Rows<'_>,
+    target: &Target<'_>,
+    line: &mut Vec<u8>,
+) -> Result<(), AllocError>
+    requires ready { AreReady target.now }
+    ensures { OnOk result ((text : List ℕ) → AreEntryLines (heaps_of target.now) rows.now.bytes rows.now.sizes target.now.offset text
+        → line.new.items ≡ line.old.items ++ text) }
+{
+    if is_in_heaps(target) {
+        return push_all_entries(rows, target, line);
     }
     Ok(())
 }

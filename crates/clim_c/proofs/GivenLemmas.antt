@@ -14,9 +14,9 @@ use Rattle.metadata.specs.Valid.{kind_at}
 use Rattle.reading.specs.declared.cell_ref.CellRef.{CellRef}
 use Rattle.reading.specs.declared.cell_ref.CellRef.TheVariants as seen
 use Rattle.reading.specs.Shown.{Shows, ShowsSignature}
-use Rattle.c_tables.specs.declared.cell.ClimCell.{ClimCell}
-use Rattle.c_tables.specs.declared.cell_kind.CellKind.TheVariants as of
-use Rattle.c_tables.specs.Cells.{HasSignatures, IsCell}
+use Rattle.c_values.specs.declared.cell.ClimCell.{ClimCell}
+use Rattle.c_values.specs.declared.cell_kind.CellKind.TheVariants as of
+use Rattle.c_values.specs.Cells.{HasSignatures, IsCell}
 use Rattle.clim_c.specs.Reported.{Reports}
 
 -- a text that a heap can store is UTF-8

@@ -3,7 +3,7 @@ use Rattle.std.proofs.Common.{◌≡◌, ℕ, ◌-◌, ◌<◌, ◌≤◌, List,
 use Rattle.table_schema.specs.declared.table.TableId.{TableId}
 use Rattle.table_schema.specs.CellColumns.{cell_count, column_of}
 use Rattle.schema.specs.Sizes.{Sizes}
-use Rattle.locations.specs.Cells.{HasCell}
+use Rattle.schema.specs.LocatedCells.{HasCell}
 use Rattle.metadata.specs.SourceAt.{tables_offset}
 use Rattle.clim_c.specs.Locations.{HasByte, sizes_in}
 

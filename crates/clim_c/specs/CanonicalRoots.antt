@@ -2,8 +2,8 @@
 use Rattle.std.specs.Prelude.{◌≡◌, ◌⊎◌, ◌-◌, ◌^◌, ◌<◌, ◌≤◌, ℕ, List, Bool, true, false, length}
 use Rattle.metadata.specs.Metadata.{Metadata}
 use Rattle.metadata.specs.Model.{IsModel}
-use Rattle.canonical.specs.Canonical.{canonical}
-use Rattle.c_texts.specs.Texts.{with_text}
+use Rattle.root_writer.specs.Canonical.{canonical}
+use Rattle.c_values.specs.Texts.{with_text}
 
 -- no root is made: the view is not open; or its canonical root is longer than 2^30 bytes; or memory ran out
 abbrev pub IsNoRoot : Bool → List ℕ → ℕ → Type 0

@@ -7,7 +7,7 @@ use Rattle.schema.specs.Sizes.{Sizes}
 use Rattle.schema.specs.Cells.{cell_width}
 use Rattle.schema.specs.Header.{sizes_of}
 use Rattle.schema.specs.Offsets.{cell_start}
-use Rattle.locations.specs.Cells.{HasCell}
+use Rattle.schema.specs.LocatedCells.{HasCell}
 use Rattle.metadata.specs.SourceAt.{tables_in, tables_offset}
 use Rattle.clim_c.specs.declared.located.ClimLocation.{ClimLocation}
 

@@ -9,8 +9,8 @@ use Rattle.metadata.specs.SourceAt.{source_of}
 use Rattle.reading.specs.declared.cell_ref.CellRef.{CellRef}
 use Rattle.reading.specs.declared.cell_ref.CellRef.TheVariants.{Number, Text, Bytes, Guid, Ref, Start, Sig}
 use Rattle.reading.specs.Shown.{ShowsCell, ShowsBlob}
-use Rattle.c_tables.specs.declared.cell.ClimCell.{ClimCell}
-use Rattle.c_tables.specs.Cells.{HasFields}
+use Rattle.c_values.specs.declared.cell.ClimCell.{ClimCell}
+use Rattle.c_values.specs.Cells.{HasFields}
 
 -- the GUID field of a cell that is not a GUID
 abbrev pub no_guid : List ℕ

@@ -33,9 +33,9 @@ pub use Rattle.opening.specs.Heads.{rules_of_heads}
 pub use Rattle.opening.specs.Views.{AreFound, HasImage, HasModel, row_count, user_of}
 pub use Rattle.opening.specs.Within.{HoldBeforeSignatures, signature_bytes_in, signature_bytes_in_file}
 pub use Rattle.cli_faults.specs.declared.explained.Explanation.{Explanation as Explained}
-pub use Rattle.canonical.specs.Canonical.{canonical}
-pub use Rattle.c_tables.specs.Cells.{IsCell}
-pub use Rattle.c_tables.specs.Given.{IsGiven}
-pub use Rattle.c_tables.specs.Refused.{IsGivenValid, IsRefused, refusal_of}
+pub use Rattle.root_writer.specs.Canonical.{canonical}
+pub use Rattle.c_values.specs.Cells.{IsCell}
+pub use Rattle.c_values.specs.Given.{IsGiven}
+pub use Rattle.c_values.specs.Refused.{IsGivenValid, IsRefused, refusal_of}
 pub use Rattle.sha2.specs.Sha256.{sha256}
 pub use Rattle.uuid.specs.Text.{braced_text, lower}

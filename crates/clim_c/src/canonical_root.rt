@@ -4,11 +4,10 @@ ghost use Rattle.clim_c.specs.Words.{IsModel, Metadata, canonical, sha256};
 
 use crate::opened::seen;
 use crate::view::ClimView;
-use c_texts::{TOO_LONG, copy_at};
-use root_plan::{Prepared, WriteError};
+use c_values::{TOO_LONG, copy_at};
 use sha2::{Digest, Sha256};
 use std::alloc::Global;
-use writer::prepare;
+use writer::{Prepared, WriteError, prepare};
 
 /// The largest length of a root in bytes.
 const ROOT_LIMIT: u32 = 1 << 30;

@@ -3,8 +3,7 @@ ghost use Rattle.clim_c.specs.CanonicalRoots.{HasWhole};
 ghost use Rattle.clim_c.specs.Words.{IsGiven, IsGivenValid, IsRefused, IsValid, Metadata, canonical, refusal_of};
 
 use crate::canonical_root::{NO_MEMORY, write_whole};
-use c_tables::{ClimRefusal, ClimRow, NoRoot, root_of};
-use c_texts::TOO_LONG;
+use c_values::{ClimRefusal, ClimRow, NoRoot, TOO_LONG, root_of};
 use std::alloc::Global;
 
 /// Makes the canonical root of the metadata that is given by its version, its user strings and its rows, and writes it
@@ -36,7 +35,7 @@ pub extern "C" fn clim_tables(
     ensures within { (result ≤ 2 ^ 30) ⊎ ((result ≡ 2 ^ 64 - 1) ⊎ (result ≡ 2 ^ 64 - 2)) }
     ensures same { (0 < result → refusal.new ≡ refusal.old) × ((result ≡ 0) ⊎ (2 ^ 30 < result) → buffer.new ≡ buffer.old) }
 {
-    c_tables::laws::refused_metadata_is_not_valid();
+    c_values::laws::refused_metadata_is_not_valid();
     match root_of(alloc, version, user, rows) {
         Ok(root) => write_whole(&root, buffer),
         Err(NoRoot::Refused(found)) => {

@@ -1,5 +1,5 @@
 ghost use Rattle.std.specs.Prelude.{◌<◌, ℕ, List};
-ghost use Rattle.c_tables.specs.declared.cell.ClimCell.{ClimCell as Reported};
+ghost use Rattle.c_values.specs.declared.cell.ClimCell.{ClimCell as Reported};
 ghost use Rattle.clim_c.specs.Reported.{ReportsCell};
 ghost use Rattle.clim_c.specs.Words.{HasRow, IsCell, IsModel, Metadata, Table, cell_count, cell_in};
 

@@ -26,4 +26,4 @@ pub mod user_strings;
 pub mod view;
 pub mod view_parts;
 
-pub use c_tables::{ClimCell, ClimRefusal, ClimRow};
+pub use c_values::{ClimCell, ClimRefusal, ClimRow};

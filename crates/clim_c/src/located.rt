@@ -10,9 +10,8 @@ ghost use Rattle.clim_c.specs.Locations.{HasByte, IsLocation, sizes_in};
 ghost use Rattle.clim_c.specs.Words.{HasModel, OnFalse, OnTrue, Table, cell_count, column_of};
 
 use crate::view::ClimView;
-use locations::cell_at;
 use root::{Kind, Root, read_root};
-use schema::Layout;
+use schema::{Layout, cell_at};
 use table_schema::{TableId, cell_count, column_of_cell};
 
 /// The cell that has a byte, for C (II.24.2.6).
@@ -94,7 +93,7 @@ fn location_at(root: &[u8], offset: usize) -> Option<ClimLocation>
     ensures sound { IfSome result (IsLocation root.now offset) }
     ensures none { IfNone result ((table : Table) (row column : ℕ) → HasByte root.now table row column offset → ⊥) }
 {
-    locations::laws::cells_are_apart();
+    schema::laws::cells_are_apart();
     let directory = directory_of(root);
     let (stream, start) = tables_of(&directory);
     let layout = layout_of(root, stream);

@@ -1,11 +1,11 @@
 ghost use Rattle.std.specs.Prelude.{◌≡◌, ◌≤◌, ◌<◌, ◌+◌, ◌-◌, ℕ, min, true, false, length, slice_index_or};
-ghost use Rattle.c_tables.specs.declared.cell.ClimCell.{ClimCell as Reported};
+ghost use Rattle.c_values.specs.declared.cell.ClimCell.{ClimCell as Reported};
 ghost use Rattle.clim_c.specs.Reported.{Reports, ReportsCell};
 ghost use Rattle.clim_c.specs.Words.{IsModel, Metadata, OnFalse, OnTrue, SameFrom, Table, cell_count, row_count, table_number};
 
 use crate::opened::seen;
 use crate::view::ClimView;
-use c_tables::ClimCell;
+use c_values::ClimCell;
 use opening::{CellRef, TableId, View};
 use table_schema::cell_count;
 

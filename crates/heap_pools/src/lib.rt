@@ -3,7 +3,7 @@
 //! A [`TextPool`] holds each text once, in the order of first use. A text that another text ends with has no entry of its
 //! own. The laws say that what is pooled is read back, and that its index stays as the pool grows. Of the texts of
 //! another heap, only the longest one before each NUL is sorted by its bytes, so texts that overlap cost no more than
-//! their number. [`sorted_uses`] and the calls beside it are for `heap_plans`, which has the heaps of blobs and GUIDs.
+//! their number. [`sorted_uses`] and the calls beside it are for `heaps`, which has the heaps of blobs and GUIDs.
 //!
 //! ```text
 //! let pool = TextPool::plan(alloc, &["me", "Name"])?;

@@ -73,7 +73,8 @@ pub use schema::{Coded, Column, ColumnKind, cell_count, column_names, columns, k
 
 // Models that own their memory.
 pub use owned_model::{
-    Bytes, Cell, LoadError, Model, Refusal, Row, Tables, Text, ToModel, load_image, load_root,
+    Bytes, Cell, LoadError, Model, ReadRows, Records, RefRow, Refusal, Row, Tables, Text, ToModel,
+    cells_of, load_image, load_root, resolve, row, rows,
 };
 
 // Signatures in place: item by item, and in the notation of ILAsm.
@@ -110,9 +111,6 @@ pub use navigation::{
 pub use full_names::{
     DEPTH, FullNames, TextError, write_full_name, write_method, write_type_def, write_type_ref,
 };
-
-// Rows of a model and of a view as records.
-pub use typed_rows::{ReadRows, Records, RefRow, cells_of, resolve, row, rows};
 
 // Whether two views have the same model, what differs, and the digest of a canonical root.
 pub use comparison::{Difference, IgnoredColumns, differences, differences_but, digest, is_equal};

@@ -11,9 +11,16 @@
 //! Otherwise they return the fault that opening it returns. They are out of memory only if there is a model.
 //! [`ToModel`] makes the model of a view that is already open. A load checks nothing that opening checked.
 //!
+//! [`rows`] goes over the records of a table of a view or of a model, [`row`] returns one, and [`resolve`] the one that a
+//! reference names. They are written once, over [`ReadRows`]. What records hold lives as long as what they are read from:
+//! of a view, as long as the bytes that were opened. Nothing is copied or allocated. In place, a signature is its blob.
+//! [`cells_of`] returns the cells of one row of a view, whichever table it is in.
+//!
 //! ```text
 //! let (header, model) = load_image(alloc, &file)?;
 //! let model = open_root(&root)?.model(alloc)?;
+//! for class in rows::<TypeDef, _>(&view) { class.type_name }
+//! let method = row::<MethodDef<_>, _>(&model, 1)?; // None if there is no such row
 //! match Model::from_tables(tables) {
 //!     Ok(model) => model.fields_of(model.find_type("System", "Object")?),
 //!     Err((refusal, tables)) => // `refusal.code` of the cell at `refusal.table`, `.row`, `.column`
@@ -22,22 +29,31 @@
 #![tactic(auto)]
 
 mod cell;
+mod coded_rows;
 mod error;
 pub mod laws;
 mod load;
 mod lookups;
 mod metadata_held;
 mod padding;
+mod records_left;
+mod ref_row;
+mod row_values;
 mod rows_held;
+mod rows_read;
 mod table_rows;
 mod to_model;
 mod valid_model;
 
+pub use coded_rows::resolve;
 pub use error::LoadError;
 pub use load::{load_image, load_root};
 pub use metadata_source::{KeysOf, MemberList, ReadCells, ReadMetadata, SignatureBytes};
 pub use reading::{KeyNumbers, KeyRows};
-pub use refusals::Refusal;
-pub use tables::{Bytes, Cell, Row, Signature, TableId, Tables, Text, Token};
+pub use records_left::{Records, row, rows};
+pub use ref_row::RefRow;
+pub use row_values::cells_of;
+pub use rows_read::ReadRows;
+pub use tables::{Bytes, Cell, Refusal, Row, Signature, TableId, Tables, Text, Token};
 pub use to_model::ToModel;
 pub use valid_model::Model;

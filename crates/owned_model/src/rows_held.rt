@@ -2,12 +2,12 @@ ghost use Rattle.std.specs.Prelude.{◌≡◌, ◌≤◌, ◌↔◌, Some, IsSom
 ghost use Rattle.table_schema.specs.CodedIndexes.{tables_of};
 ghost use Rattle.metadata.specs.Metadata.{Metadata, rows_of, row_of, count_in};
 ghost use Rattle.metadata.specs.Lookups.{HasRow};
-ghost use Rattle.typed_rows.specs.RowsLeft.{rows_between};
+ghost use Rattle.owned_model.specs.RowsLeft.{rows_between};
 
 use crate::valid_model::Model;
+use crate::{ReadRows, Records};
 use table_schema::{TableId, Token};
 use type_records::{CellRow, CodedRow, FromRow};
-use typed_rows::{ReadRows, Records};
 
 impl<'m> ReadRows<'m> for &'m Model {
     type Form = CellRow<'m>;
@@ -39,7 +39,7 @@ impl Model {
         ensures there { IsSome result ↔ HasRow self.now R.table row }
         ensures fields { IfSome result (λ it. R.fields it ≡ row_of self.now R.table row) }
     {
-        typed_rows::row(self, row)
+        crate::row(self, row)
     }
 
     /// The records of a table's rows, in order.
@@ -48,7 +48,7 @@ impl Model {
         // They are the rows of the table.
         ensures rows { rows_between self.now R.table result.next result.last ≡ rows_of self.now R.table }
     {
-        typed_rows::rows(self)
+        crate::rows(self)
     }
 
     /// The record of the row that a token names, in the variant of its table; `None` if the coded index does
@@ -58,6 +58,6 @@ impl Model {
         ensures table { IfSome result (λ it. R.table_of it ≡ token.table) }
         ensures fields { IfSome result (λ it. R.fields it ≡ row_of self.now token.table token.row) }
     {
-        typed_rows::resolve(self, token)
+        crate::resolve(self, token)
     }
 }

@@ -9,7 +9,7 @@ use Rattle.table_schema.specs.Tables.{tables, table_index_of}
 use Rattle.schema.specs.Sizes.{Sizes, count_of}
 use Rattle.schema.specs.LaidOut.{number_bytes, bits_of, counts_bytes}
 use Rattle.metadata.specs.Metadata.{Metadata, count_in}
-use Rattle.canonical.specs.TableStream.{has_rows, sizes_of}
+use Rattle.root_writer.specs.TableStream.{has_rows, sizes_of}
 use Rattle.root_writer.specs.TableHeader.{is_counted, bit_if}
 
 pub more_bits : (sizes : Sizes) (items : List TableId) (i valid next total : ℕ) → items ≡ tables → i < length items

@@ -14,8 +14,8 @@ use Rattle.table_schema.specs.CellColumns.{is_padding}
 use Rattle.schema.specs.Sizes.{Sizes, count_of}
 use Rattle.metadata.specs.Cell.{Cell}
 use Rattle.metadata.specs.Metadata.{Metadata, rows_of, count_in}
-use Rattle.canonical.specs.Pools.{Pools, pools_of}
-use Rattle.canonical.specs.Numbers.{cell_number, with_next, numbers_by, numbers_of, table_numbers, numbers}
+use Rattle.root_writer.specs.Pools.{Pools, pools_of}
+use Rattle.root_writer.specs.Numbers.{cell_number, with_next, numbers_by, numbers_of, table_numbers, numbers}
 use Rattle.root_writer.specs.Flat.{cells_of, rows_in, table_in, tables_in}
 use Rattle.root_writer.specs.Numbered.{flat}
 

@@ -8,7 +8,7 @@ use Rattle.root.specs.declared.kind.Kind.{Kind}
 use Rattle.root.specs.declared.kind.Kind.TheVariants.{Tables, Strings, UserStrings, Guids, Blobs}
 use Rattle.root.specs.Streams.{stream_name}
 use Rattle.schema.specs.LaidOut.{number_bytes}
-use Rattle.canonical.specs.Canonical.{ended, prefix, directory, root_of}
+use Rattle.root_writer.specs.Canonical.{ended, prefix, directory, root_of}
 use Rattle.root_writer.specs.Heading.{header_length, sized_header, sized_directory, heading_size, heading}
 
 pub name_short : (kind : Kind) → length (stream_name kind) ≤ 8

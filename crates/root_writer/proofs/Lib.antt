@@ -1,3 +1,15 @@
+pub mod Lists
+pub mod Facts
+pub mod HeldRoots
+pub mod Widths
+pub mod Stands
+pub mod Rows
+pub mod Starts
+pub mod Tables
+pub mod Orders
+pub mod Streams
+pub mod Whole
+pub mod Sample
 pub mod CountLemmas
 pub mod HeadingLemmas
 pub mod HeldLemmas

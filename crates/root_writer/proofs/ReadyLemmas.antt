@@ -15,7 +15,7 @@ use Rattle.metadata.specs.Cell.{Cell, Number, Text, Bytes, Guid, Ref, Start, Sig
 use Rattle.metadata.specs.Lookups.{HasRow}
 use Rattle.metadata.specs.Metadata.{Metadata, rows_of, count_in, cell_in}
 use Rattle.metadata.specs.Valid.{IsValid, IsValidCell, kind_at, nullable_at}
-use Rattle.canonical.specs.Pools.{used, texts_of}
+use Rattle.root_writer.specs.Pools.{used, texts_of}
 use Rattle.root_writer.proofs.PositionLemmas.{table_index_at}
 use Rattle.root_writer.specs.Numbered.{CanBeNumbered}
 

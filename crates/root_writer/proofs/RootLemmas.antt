@@ -6,7 +6,7 @@ use Rattle.root.specs.declared.kind.Kind.{Kind}
 use Rattle.root.specs.declared.kind.Kind.TheVariants.{Tables, Strings, UserStrings, Guids, Blobs}
 use Rattle.heap_entries.specs.Padding.{zero_padded}
 use Rattle.metadata.specs.Metadata.{Metadata}
-use Rattle.canonical.specs.Canonical.{stream}
+use Rattle.root_writer.specs.Canonical.{stream}
 use Rattle.root_writer.specs.Written.{Written, Puts}
 use Rattle.root_writer.specs.Heading.{size_of, heading}
 use Rattle.root_writer.specs.Root.{content, kinds_of, root_bytes, ArePartsOf}

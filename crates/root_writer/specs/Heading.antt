@@ -4,7 +4,7 @@ use Rattle.root.specs.declared.kind.Kind.{Kind}
 use Rattle.root.specs.declared.kind.Kind.TheVariants.{Tables, Strings, UserStrings, Guids, Blobs}
 use Rattle.root.specs.Streams.{stream_name}
 use Rattle.schema.specs.LaidOut.{number_bytes}
-use Rattle.canonical.specs.Canonical.{ended, prefix}
+use Rattle.root_writer.specs.Canonical.{ended, prefix}
 use Rattle.root_writer.specs.declared.sizes.StreamSizes.{StreamSizes}
 
 -- the number of bytes in a stream

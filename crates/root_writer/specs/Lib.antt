@@ -1,3 +1,7 @@
+pub mod Pools
+pub mod Numbers
+pub mod TableStream
+pub mod Canonical
 pub mod Written
 pub mod Heading
 pub mod TableHeader

@@ -6,8 +6,8 @@ use Rattle.sig_grammar.specs.Encodes.{short}
 use Rattle.metadata.specs.Cell.{Cell}
 use Rattle.metadata.specs.Cell.{Bytes, Ref, Sig}
 use Rattle.metadata.specs.Metadata.{Metadata}
-use Rattle.canonical.specs.Pools.{pools_of}
-use Rattle.canonical.specs.Numbers.{numbers}
+use Rattle.root_writer.specs.Pools.{pools_of}
+use Rattle.root_writer.specs.Numbers.{numbers}
 
 -- the bytes of the two heaps, without padding, and the numbers of the cells
 pub record Numbered : Type 0 where

@@ -9,9 +9,9 @@ use Rattle.heap_pools.specs.TextHeap.{text_heap}
 use Rattle.heap_pools.specs.BlobHeap.{blob_heap}
 use Rattle.heap_pools.specs.GuidHeap.{guid_heap}
 use Rattle.metadata.specs.Metadata.{Metadata}
-use Rattle.canonical.specs.Pools.{pools_of}
-use Rattle.canonical.specs.TableStream.{table_stream}
-use Rattle.canonical.specs.Canonical.{stream}
+use Rattle.root_writer.specs.Pools.{pools_of}
+use Rattle.root_writer.specs.TableStream.{table_stream}
+use Rattle.root_writer.specs.Canonical.{stream}
 use Rattle.root_writer.specs.Written.{padding}
 use Rattle.root_writer.specs.Heading.{size_of, held, heading, heading_size}
 use Rattle.root_writer.specs.TableHeader.{table_header}

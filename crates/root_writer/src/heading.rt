@@ -1,6 +1,6 @@
 ghost use Rattle.std.specs.Prelude.{◌≡◌, ◌+◌, ◌^◌, ◌<◌, ◌≤◌, ℕ, List, length, sum_by};
 ghost use Rattle.root.specs.declared.kind.Kind.{Kind as TheKind};
-ghost use Rattle.canonical.specs.Canonical.{ended, prefix};
+ghost use Rattle.root_writer.specs.Canonical.{ended, prefix};
 ghost use Rattle.root_writer.specs.Heading.{header_length, size_of, sized_header, sized_directory, heading, heading_size};
 ghost use Rattle.root_writer.specs.Written.{Puts};
 

@@ -2,13 +2,16 @@ ghost use Rattle.std.specs.Prelude.{◌≡◌, ◌++◌, ℕ, length, flat_map};
 ghost use Rattle.schema.specs.Sizes.{Sizes};
 ghost use Rattle.root.specs.declared.kind.Kind.{Kind as TheKind};
 ghost use Rattle.metadata.specs.Metadata.{Metadata};
-ghost use Rattle.canonical.specs.Canonical.{canonical, stream};
-ghost use Rattle.canonical.specs.TableStream.{sizes_of, header_bytes};
+ghost use Rattle.root_writer.specs.Canonical.{canonical, stream};
+ghost use Rattle.root_writer.specs.TableStream.{sizes_of, header_bytes};
 ghost use Rattle.root_writer.specs.Heading.{heading, held};
 ghost use Rattle.root_writer.specs.TableHeader.{table_header};
 ghost use Rattle.root_writer.specs.declared.root_parts.RootParts.{RootParts as TheParts};
 ghost use Rattle.root_writer.specs.Root.{root_bytes, ArePartsOf};
 
+pub use crate::canonical_laws::{
+    canonical_root_has_its_model, canonical_root_is_one, sorted_bits_report_order,
+};
 pub use crate::numbering_laws::{cells_can_be_numbered, numbers_are_put};
 
 /// The canonical root is what [`Writer::put_heading`](crate::Writer::put_heading) writes for the sizes of its streams,

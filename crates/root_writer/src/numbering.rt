@@ -1,6 +1,6 @@
 ghost use Rattle.std.specs.Prelude.{◌≡◌, ◌^◌, ◌≤◌, length};
 
-use heap_plans::HeapPlan;
+use heaps::HeapPlan;
 use std::marker::Model;
 
 /// The numbers of cells, one per column, and the planned heaps of their blobs and GUIDs (II.24.2.4 to II.24.2.6).

@@ -8,8 +8,8 @@ ghost use Rattle.heap_entries.specs.Entries.{HasNoNul};
 ghost use Rattle.metadata.specs.Lookups.{HasRow};
 ghost use Rattle.metadata.specs.Metadata.{Metadata, rows_of, count_in, cell_in};
 ghost use Rattle.metadata.specs.Valid.{IsValid};
-ghost use Rattle.canonical.specs.Numbers.{numbers};
-ghost use Rattle.canonical.specs.Pools.{texts_of, used};
+ghost use Rattle.root_writer.specs.Numbers.{numbers};
+ghost use Rattle.root_writer.specs.Pools.{texts_of, used};
 ghost use Rattle.root_writer.specs.Flat.{cells_of, tables_in};
 ghost use Rattle.root_writer.specs.Numbered.{flat, CanBeNumbered};
 

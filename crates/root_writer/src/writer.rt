@@ -2,7 +2,7 @@ ghost use Rattle.std.specs.Prelude.{◌≡◌, ◌≤◌, ◌∷◌, ◌++◌, [
 ghost use Rattle.heap_entries.specs.Padding.{zero_padded};
 ghost use Rattle.schema.specs.Sizes.{IsWidth};
 ghost use Rattle.schema.specs.LaidOut.{number_bytes};
-ghost use Rattle.canonical.specs.Canonical.{ended};
+ghost use Rattle.root_writer.specs.Canonical.{ended};
 ghost use Rattle.root_writer.specs.Written.{Puts, padding};
 
 use std::alloc::{AllocError, Global};

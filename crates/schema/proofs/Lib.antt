@@ -8,3 +8,5 @@ pub mod TableLayoutLemmas
 pub mod ReadLemmas
 pub mod Samples
 pub mod StreamLemmas
+pub mod LocatedCellLemmas
+pub mod ApartLemmas

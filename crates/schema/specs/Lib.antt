@@ -6,3 +6,4 @@ pub mod LaidOut
 pub mod Offsets
 pub mod Sizes
 pub mod ColumnNames
+pub mod LocatedCells

@@ -10,6 +10,7 @@ ghost use Rattle.schema.specs.Cells.{HoldsCell};
 
 pub use crate::bit_laws::bits_are_known;
 pub use crate::field_laws::{low_bytes_stand, widths_follow_from_counts};
+pub use crate::location_laws::cells_are_apart;
 pub use crate::read_laws::{numbers_are_read, streams_are_read};
 pub use table_schema::laws::{
     cells_have_columns, columns_stand, tables_stand, tags_fit, tokens_are_in_order,

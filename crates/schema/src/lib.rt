@@ -7,12 +7,14 @@
 //! fault of the first broken rule. A layout has the widths and offsets ready, so it does not search
 //! for them. Nothing here allocates.
 //!
-//! [`column_names`] returns the names of the columns of a table, as the standard writes them.
+//! [`cell_at`] returns the cell that has the byte at an offset of the table stream, and `None` if and only if no cell has
+//! it. At most one has it. [`column_names`] returns the names of the columns of a table, as the standard writes them.
 //!
 //! ```text
 //! let layout = Layout::read(stream)?;
 //! layout.count(TableId::TypeDef) == 3 && layout.row_width(TableId::TypeDef) == 14
 //! split(Coded::HasCustomAttribute, 46) == Some((TableId::Assembly, 1))
+//! cell_at(&layout, 32) == Some(TableCell { table: TableId::Module, row: 1, column: 2 })
 //! ```
 #![tactic(auto)]
 
@@ -21,12 +23,15 @@ mod field_laws;
 mod header;
 pub mod laws;
 mod layout;
+mod located_cells;
+mod location_laws;
 mod name_lists;
 mod read;
 mod read_laws;
 mod table_layout;
 
 pub use layout::Layout;
+pub use located_cells::{TableCell, cell_at};
 pub use name_lists::column_names;
 pub use packed::{Fault, FaultCode};
 pub use table_schema::{

@@ -1,2 +1,6 @@
+pub mod Cores
+pub mod Leaves
+pub mod Items
+pub mod Parameters
 pub mod LongFormLemmas
 pub mod CopyLemmas

@@ -2,10 +2,10 @@ ghost use Rattle.std.specs.Prelude.{◌≡◌, ◌↔◌, ◌<◌, ◌≤◌, �
 ghost use Rattle.std.specs.List.{AllByRecursion};
 ghost use Rattle.sig_grammar.specs.Syntax.{Body};
 ghost use Rattle.sig_grammar.specs.Encodes.{Encodes, short};
-ghost use Rattle.sig_decoder.specs.declared.error.SigError.TheVariants.{Bad};
+ghost use Rattle.signatures.specs.declared.error.SigError.TheVariants.{Bad};
 ghost use Rattle.sig_items.specs.ItemParts.{encoded_item, HasItemEncoding};
 
-use sig_decoder::SigError;
+use crate::SigError;
 use sig_items::{Items, put_item};
 use std::alloc::{AllocError, Global};
 use table_schema::SigKind;

@@ -3,13 +3,14 @@ ghost use Rattle.std.specs.Cmp.{partial_equiv_from_equiv};
 ghost use Rattle.sig_grammar.specs.Syntax.{Body};
 ghost use Rattle.sig_grammar.specs.Views.{body_of};
 ghost use Rattle.sig_grammar.specs.Encodes.{Holds, Encodes, IsEncodable, short, tokens, first_bad as first_bad_of};
-ghost use Rattle.sig_decoder.specs.declared.error.SigError.TheVariants.{Bad};
+ghost use Rattle.signatures.specs.declared.error.SigError.TheVariants.{Bad};
 ghost use Rattle.sig_copier.specs.Same.{is_same_body};
 ghost use Rattle.sig_copier.proofs.TestLaws.{same_bodies_equiv};
 
 use crate::columns::holds;
+use crate::error::SigError;
+use crate::whole::decode_body;
 use sig_copier::{copy_body, first_bad, is_same};
-use sig_decoder::{SigError, decode_body};
 use sig_encoder::{encode_body, encoded_len};
 use sig_grammar::SigBody;
 use std::alloc::{AllocError, Global};

@@ -15,7 +15,7 @@ use Rattle.schema.specs.LaidOut.{bits_of}
 use Rattle.metadata.specs.Metadata.{Metadata}
 use Rattle.metadata.specs.Valid.{IsValid}
 use Rattle.metadata.specs.KeyOrder.{IsKeyOrdered}
-use Rattle.canonical.specs.TableStream.{is_by_key, table_keys, is_sorted}
+use Rattle.root_writer.specs.TableStream.{is_by_key, table_keys, is_sorted}
 use Rattle.root_writer.specs.TableHeader.{bit_if}
 
 -- ---- counts

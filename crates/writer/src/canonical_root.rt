@@ -1,12 +1,12 @@
 ghost use Rattle.std.specs.Prelude.{◌≡◌, ◌^◌, ◌<◌, ◌≤◌, ◌↔◌, ⊤, Err, IfOk, IfErr, length};
 ghost use Rattle.metadata.specs.Metadata.{Metadata};
-ghost use Rattle.canonical.specs.Canonical.{canonical};
-ghost use Rattle.root_plan.specs.declared.error.WriteError.TheVariants as WriteError;
-ghost use Rattle.root_plan.specs.Errors.{MatchError};
+ghost use Rattle.root_writer.specs.Canonical.{canonical};
+ghost use Rattle.writer.specs.declared.error.WriteError.TheVariants as WriteError;
+ghost use Rattle.writer.specs.Errors.{MatchError};
 
 use crate::planned::plan_of;
+use crate::{Prepared, WriteError, make};
 use metadata_source::ReadCells;
-use root_plan::{Prepared, WriteError, make};
 use std::alloc::Global;
 
 /// Makes the canonical root of a metadata, if it has at most `limit` bytes. A root that is open in place and the model

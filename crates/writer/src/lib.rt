@@ -8,6 +8,11 @@
 //! first, so once a file is open only [`Prepared::send`] is left, which does not allocate. A root that is too long and
 //! lack of memory are reported before the first byte is sent.
 //!
+//! An [`Outline`] has what the plan of a root needs besides the pools. [`RootPlan::of`] plans the root: its length, and the
+//! length of each stream. It fails if and only if the root exceeds a limit. [`make`] makes the root from its plan, and
+//! allocates its memory at once. A [`Sink`] accepts a prefix of the bytes at each call, and counts its failures. Sending
+//! stops at the first failure, and reports how many bytes were sent. That number is exact, and no byte is sent twice.
+//!
 //! ```text
 //! let prepared = prepare(alloc, &model, 1 << 20)?;        // TooLarge: it has more than 2^20 bytes
 //! let mut sink = Counted::new(file);
@@ -20,11 +25,31 @@
 #![tactic(auto)]
 
 mod canonical_root;
+mod counted;
+mod error;
+mod heap_lens;
+pub mod laws;
 mod outline;
+mod plan_error;
 mod planned;
+mod prepared;
+mod root_outline;
+mod root_plan;
 mod roots;
+mod send;
+mod sink;
+mod stream_lens;
+mod tables_plan;
 mod tables_reported;
 
 pub use canonical_root::prepare;
-pub use root_plan::{Counted, Prepared, Sink, WriteError};
+pub use counted::Counted;
+pub use error::WriteError;
+pub use plan_error::PlanError;
+pub use prepared::{Prepared, make};
+pub use root_outline::Outline;
+pub use root_plan::RootPlan;
 pub use roots::{write_root, write_root_to, write_root_within};
+pub use send::{Stopped, send_all};
+pub use sink::Sink;
+pub use tables_plan::TablesPlan;

@@ -1,9 +1,8 @@
 ghost use Rattle.metadata.specs.Metadata.{Metadata};
-ghost use Rattle.root_plan.specs.Outlined.{Describes};
+ghost use Rattle.writer.specs.Outlined.{Describes};
 
-use crate::tables_reported;
+use crate::{Outline, tables_reported};
 use metadata_source::ReadMetadata;
-use root_plan::Outline;
 
 /// What the canonical root of a metadata is planned from, besides its pools.
 pub fn outline_of<S: ReadMetadata>(source: &S) -> Outline<'_>

@@ -1,14 +1,14 @@
 ghost use Rattle.std.specs.Prelude.{◌≡◌, ◌^◌, ◌<◌, ◌≤◌, Err, OnOk, IfOk, length};
 ghost use Rattle.metadata.specs.Metadata.{Metadata};
-ghost use Rattle.canonical.specs.Canonical.{canonical};
-ghost use Rattle.root_plan.specs.declared.plan_error.PlanError.TheVariants.{TooLarge};
-ghost use Rattle.root_plan.specs.Planned.{ArePooled, IsRootPlan};
+ghost use Rattle.root_writer.specs.Canonical.{canonical};
+ghost use Rattle.writer.specs.declared.plan_error.PlanError.TheVariants.{TooLarge};
+ghost use Rattle.writer.specs.Planned.{ArePooled, IsRootPlan};
 
 use crate::outline::outline_of;
+use crate::{PlanError, RootPlan};
 use cell_numbering::pools_of;
 use heap_pools::TextPool;
 use metadata_source::ReadCells;
-use root_plan::{PlanError, RootPlan};
 use root_writer::Numbering;
 use std::alloc::Global;
 
@@ -17,7 +17,7 @@ fn pools<S: ReadCells>(alloc: Global, source: &S) -> Result<(TextPool, Numbering
     ensures pools { (model : Metadata) → S.shows source.now model → IfOk result (λ pools. ArePooled model pools.0 pools.1) }
     ensures too_large { (model : Metadata) → S.shows source.now model → result ≡ Err PlanError.TooLarge → 2 ^ 30 < length (canonical model) }
 {
-    root_plan::laws::streams_are_within_roots();
+    crate::laws::streams_are_within_roots();
     Ok(pools_of(alloc, source)?)
 }
 

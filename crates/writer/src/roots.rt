@@ -2,12 +2,12 @@ ghost use Rattle.std.specs.Prelude.{◌≡◌, ◌+◌, ◌^◌, ◌<◌, ◌≤
 ghost use Rattle.std.specs.Io.KnownBytes.{Appends};
 ghost use Rattle.metadata.specs.Metadata.{Metadata};
 ghost use Rattle.metadata.specs.Model.{IsModel};
-ghost use Rattle.canonical.specs.Canonical.{canonical};
-ghost use Rattle.root_plan.specs.Errors.{MatchError};
+ghost use Rattle.root_writer.specs.Canonical.{canonical};
+ghost use Rattle.writer.specs.Errors.{MatchError};
 
 use crate::canonical_root::prepare;
+use crate::{Sink, WriteError};
 use metadata_source::ReadCells;
-use root_plan::{Sink, WriteError};
 use std::alloc::Global;
 
 /// The largest length of a root in bytes.
@@ -33,8 +33,8 @@ pub fn write_root_within<S: ReadCells>(
     ensures unique { (model : Metadata) → S.shows source.now model
         → IfOk result (λ root. (other : Metadata) → IsModel root.items other → other ≡ model) }
 {
-    canonical::laws::canonical_root_has_its_model();
-    canonical::laws::canonical_root_is_one();
+    root_writer::laws::canonical_root_has_its_model();
+    root_writer::laws::canonical_root_is_one();
     source.holds_one();
     let prepared = prepare(alloc, source, limit)?;
     Ok(prepared.into_bytes())

@@ -3,7 +3,7 @@ ghost use Rattle.table_schema.specs.declared.table.TableId.{TableId as Table};
 ghost use Rattle.table_schema.specs.Tables.{tables, table_number};
 ghost use Rattle.schema.specs.LaidOut.{bits_of};
 ghost use Rattle.metadata.specs.Metadata.{Metadata};
-ghost use Rattle.canonical.specs.TableStream.{is_sorted as is_sorted_in};
+ghost use Rattle.root_writer.specs.TableStream.{is_sorted as is_sorted_in};
 
 use metadata_source::ReadMetadata;
 use root_writer::bit;
@@ -25,7 +25,7 @@ pub fn counts<S: ReadMetadata>(source: &S) -> [u32; 45]
 fn is_sorted<S: ReadMetadata>(source: &S, table: TableId) -> bool
     ensures { (model : Metadata) → S.shows source.now model → result ≡ is_sorted_in model table }
 {
-    canonical::laws::sorted_bits_report_order();
+    root_writer::laws::sorted_bits_report_order();
     source.holds_one();
     key(table).is_some() && source.in_order(table)
 }

@@ -6,7 +6,7 @@ use Rattle.metadata.specs.Kinds.{IsOfKind}
 use Rattle.metadata.specs.Metadata.{cell_in}
 use Rattle.metadata.specs.Lookups.{HasRow}
 use Rattle.metadata.specs.Valid.{kind_at}
-use Rattle.canonical.specs.Pools.{texts_of}
+use Rattle.root_writer.specs.Pools.{texts_of}
 use Rattle.cell_numbering.proofs.KindLemmas.{IsPlainKind, has_none, plain_cell, text_alone}
 use Rattle.cell_numbering.proofs.UseLemmas.{added_text, unchanged}
 use Rattle.cell_numbering.proofs.heap_uses.add_cell.Goals as goal

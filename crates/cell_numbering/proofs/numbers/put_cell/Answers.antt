@@ -8,7 +8,7 @@ use Rattle.metadata.specs.Metadata.{cell_in}
 use Rattle.metadata.specs.Lookups.{HasRow}
 use Rattle.metadata.specs.Valid.{kind_at}
 use Rattle.reading.specs.Shown.{Shows}
-use Rattle.canonical.specs.Numbers.{cell_number}
+use Rattle.root_writer.specs.Numbers.{cell_number}
 use Rattle.cell_numbering.specs.NumbersSoFar.{no_pools, with_number}
 use Rattle.cell_numbering.specs.PlainColumns.{IsPlainIn, IsPlainNumber, Plain, number_in}
 use Rattle.cell_numbering.proofs.KindLemmas.{IsPlainKind, next_text, next_guid, next_blob, next_signature, next_plain, plain_cell}

@@ -8,7 +8,7 @@ use Rattle.heap_pools.specs.Distinct.{distinct}
 use Rattle.heap_pools.specs.GuidHeap.{given, guid_heap, guid_index}
 use Rattle.heap_pools.specs.TextHeap.{holders, text_heap, text_index}
 use Rattle.heap_pools.specs.declared.pool_error.PoolError.TheVariants.{Full}
-use Rattle.canonical.specs.Pools.{blobs_of, guids_of, texts_of, used}
+use Rattle.root_writer.specs.Pools.{blobs_of, guids_of, texts_of, used}
 use Rattle.cell_numbering.specs.declared.numbers_so_far.Indexes.{Indexes}
 use Rattle.cell_numbering.specs.HeapUses.{AreIndexes, all_cells, guid_of}
 use Rattle.cell_numbering.specs.TextUses.{used_texts}

@@ -1,7 +1,7 @@
 use Rattle.std.proofs.Common.{◌≡◌, ◌++◌, ◌-◌, List, Option, length, map}
 use Rattle.std.specs.List.{range_with_len}
 use Rattle.table_schema.specs.Columns.{columns_of}
-use Rattle.locations.specs.declared.cells.TableCell.{TableCell}
+use Rattle.schema.specs.declared.located_cells.TableCell.{TableCell}
 use Rattle.cli_where.specs.Entries.{cell_of, entries, first_lines, row_cells}
 use Rattle.cli_where.specs.Kept.{AreFound, heaps_of}
 use Rattle.cli_regions.specs.Regions.{Region}

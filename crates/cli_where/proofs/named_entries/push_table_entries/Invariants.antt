@@ -1,7 +1,7 @@
 use Rattle.std.proofs.Common.{◌≡◌, ◌++◌, ◌+◌, ◌-◌, List, Option}
 use Rattle.std.specs.List.{flat_map, range_with_len}
 use Rattle.schema.specs.Sizes.{count_of}
-use Rattle.locations.specs.declared.cells.TableCell.{TableCell}
+use Rattle.schema.specs.declared.located_cells.TableCell.{TableCell}
 use Rattle.cli_where.specs.Entries.{entries, first_lines, row_cells, table_cells}
 use Rattle.cli_where.specs.Kept.{AreFound, heaps_of}
 use Rattle.cli_regions.specs.Regions.{Region}

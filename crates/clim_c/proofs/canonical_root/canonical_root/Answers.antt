@@ -1,9 +1,9 @@
 use Rattle.std.proofs.Common.{◌^◌, ◌<◌, List, ℕ, length, inl, inr, refl, sym, subst}
 use Rattle.std.specs.Prelude.{⊤}
 use Rattle.metadata.specs.Model.{IsModel}
-use Rattle.canonical.specs.Canonical.{canonical}
-use Rattle.root_plan.specs.declared.error.WriteError.{WriteError}
-use Rattle.root_plan.specs.Errors.{MatchError}
+use Rattle.root_writer.specs.Canonical.{canonical}
+use Rattle.writer.specs.declared.error.WriteError.{WriteError}
+use Rattle.writer.specs.Errors.{MatchError}
 use Rattle.clim_c.proofs.canonical_root.canonical_root.Goals as goal
 
 pub returns-in-Err-TooLarge-clause-refused : goal.returns-in-Err-TooLarge-clause-refused

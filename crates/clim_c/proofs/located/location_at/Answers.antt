@@ -7,7 +7,7 @@ use Rattle.table_schema.specs.CellColumns.{cell_count, column_of}
 use Rattle.schema.specs.Cells.{cell_width}
 use Rattle.schema.specs.Offsets.{cell_start}
 use Rattle.schema.specs.Sizes.{Sizes}
-use Rattle.locations.specs.Cells.{HasCell}
+use Rattle.schema.specs.LocatedCells.{HasCell}
 use Rattle.metadata.specs.SourceAt.{tables_offset}
 use Rattle.clim_c.specs.Locations.{HasByte, sizes_in}
 use Rattle.clim_c.proofs.LocationLemmas.{in_root, in_stream}

@@ -2,7 +2,7 @@ use Rattle.std.proofs.Common.{◌≡◌, ◌<◌, ◌+◌, ℕ, length, slice_in
 use Rattle.std.specs.List.{SameFrom}
 use Rattle.metadata.specs.Metadata.{Metadata}
 use Rattle.metadata.specs.Model.{IsModel}
-use Rattle.c_tables.specs.declared.cell.ClimCell.{ClimCell}
+use Rattle.c_values.specs.declared.cell.ClimCell.{ClimCell}
 use Rattle.clim_c.specs.Reported.{ReportsCell}
 use Rattle.clim_c.proofs.shown.clim_cells.Given as goal
 

@@ -1,6 +1,6 @@
 use Rattle.std.proofs.Common.{◌≡◌, ◌+◌, ◌*◌, ◌≤◌, length, drop}
 use Rattle.std.specs.Prelude.{sum_by}
-use Rattle.canonical.specs.Canonical.{ended}
+use Rattle.root_writer.specs.Canonical.{ended}
 use Rattle.root_writer.specs.Heading.{header_length}
 use Rattle.root_writer.proofs.heading.heading_len.Given as goal
 

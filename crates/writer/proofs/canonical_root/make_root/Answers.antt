@@ -2,9 +2,9 @@ use Rattle.std.proofs.Common.{◌≡◌, Result, Ok, Err, IfErr, length, sym, su
 use Rattle.std.specs.Prelude.{⊤, IsErrAnd}
 use Rattle.std.proofs.Math.Logic.{∥∥₁_map, ∥∥₁_elim}
 use Rattle.std.specs.Coded.{le_prop}
-use Rattle.root_plan.specs.Errors.{MatchError}
-use Rattle.root_plan.specs.declared.error.WriteError.{WriteError}
-use Rattle.root_plan.specs.declared.error.WriteError.TheVariants.{Memory}
+use Rattle.writer.specs.Errors.{MatchError}
+use Rattle.writer.specs.declared.error.WriteError.{WriteError}
+use Rattle.writer.specs.declared.error.WriteError.TheVariants.{Memory}
 use Rattle.writer.proofs.canonical_root.make_root.Goals as goal
 
 -- `Memory` says nothing about the root

@@ -1,8 +1,8 @@
 use Rattle.std.proofs.Common.{◌≡◌, ℕ, ◌≤◌, ◌<◌, List, Result, Ok, Err, IfOk, IfErr, length, refl, ap, arith}
 use Rattle.std.specs.Prelude.{◌↔◌, ⊤}
-use Rattle.root_plan.specs.Errors.{MatchError}
-use Rattle.root_plan.specs.declared.error.WriteError.{WriteError}
-use Rattle.root_plan.specs.declared.error.WriteError.TheVariants as error
+use Rattle.writer.specs.Errors.{MatchError}
+use Rattle.writer.specs.declared.error.WriteError.{WriteError}
+use Rattle.writer.specs.declared.error.WriteError.TheVariants as error
 use Rattle.writer.proofs.canonical_root.prepare.Goals as goal
 
 exactly : (limit : ℕ) (root : List ℕ) (result : Result (List ℕ) WriteError) → IfOk result (λ bytes. bytes ≡ root) → IfOk result (λ bytes. length bytes ≤ limit)

@@ -1,6 +1,6 @@
 use Rattle.std.proofs.Common.{◌≡◌, ◌<◌, IfErr, length, subst}
-use Rattle.canonical.specs.Canonical.{canonical}
-use Rattle.root_plan.specs.declared.plan_error.PlanError.TheVariants.{TooLarge}
+use Rattle.root_writer.specs.Canonical.{canonical}
+use Rattle.writer.specs.declared.plan_error.PlanError.TheVariants.{TooLarge}
 use Rattle.writer.proofs.planned.plan_of.Goals as goal
 
 pub returns-clause-fits : goal.returns-clause-fits

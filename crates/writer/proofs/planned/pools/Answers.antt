@@ -2,9 +2,9 @@ use Rattle.std.proofs.Common.{◌≡◌, Result, Ok, Err, refl, ap, ⊎_elim}
 use Rattle.std.specs.Prelude.{IsErrAnd}
 use Rattle.heap_pools.specs.declared.pool_error.PoolError.{PoolError}
 use Rattle.heap_pools.specs.declared.pool_error.PoolError.TheVariants.{Memory, Full}
-use Rattle.root_plan.specs.declared.plan_error.PlanError.{PlanError}
-use Rattle.root_plan.specs.declared.plan_error.PlanError.TheVariants.{TooLarge}
-use Rattle.root_plan.specs.Planned.{plan_error}
+use Rattle.writer.specs.declared.plan_error.PlanError.{PlanError}
+use Rattle.writer.specs.declared.plan_error.PlanError.TheVariants.{TooLarge}
+use Rattle.writer.specs.Planned.{plan_error}
 use Rattle.writer.proofs.planned.pools.Goals as goal
 
 -- `TooLarge` is returned only if a pool is full

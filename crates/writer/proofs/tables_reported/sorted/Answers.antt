@@ -2,7 +2,7 @@ use Rattle.std.proofs.Common.{◌+◌, ◌^◌, ◌≤◌, ap, ◌∙◌, get_or
 use Rattle.std.proofs.Math.Logic.{∥∥₁_elim}
 use Rattle.std.specs.Coded.{le_prop}
 use Rattle.table_schema.specs.declared.table.TableId.TheVariants.{Module}
-use Rattle.canonical.specs.TableStream.{is_sorted}
+use Rattle.root_writer.specs.TableStream.{is_sorted}
 use Rattle.root_writer.specs.TableHeader.{bit_if}
 use Rattle.writer.proofs.CountLemmas.{more_bits, all_bits}
 use Rattle.writer.proofs.tables_reported.sorted.Goals as goal

@@ -8,7 +8,7 @@ use Rattle.metadata.specs.Valid.{kind_at}
 use Rattle.metadata_source.specs.SharedBlobs.{CellId}
 use Rattle.reading.specs.Shown.{Shows}
 use Rattle.reading.specs.declared.cell_ref.CellRef.{CellRef}
-use Rattle.canonical.specs.Pools.{texts_of}
+use Rattle.root_writer.specs.Pools.{texts_of}
 use Rattle.cell_numbering.specs.declared.text_uses.TextUses.{TextUses}
 use Rattle.cell_numbering.specs.declared.text_uses.TextUses.TheVariants.{Indexed, Read}
 use Rattle.cell_numbering.specs.TextUses.{AreTextUses}

@@ -1,6 +1,0 @@
-pub mod CellLemmas
-pub mod RowLemmas
-pub mod OneLemmas
-pub mod RefusedLemmas
-pub mod ReasonLemmas
-pub mod StepLemmas

@@ -1,0 +1,13 @@
+pub mod Buffers
+pub mod ExplainedLemmas
+pub mod GuidLemmas
+pub mod HexLemmas
+pub mod PaddedLemmas
+pub mod SinkLemmas
+pub mod UnitLemmas
+pub mod CellLemmas
+pub mod RowLemmas
+pub mod OneLemmas
+pub mod RefusedLemmas
+pub mod ReasonLemmas
+pub mod StepLemmas

@@ -1,0 +1,57 @@
+-- Why there is no root.
+use Rattle.std.proofs.Common.{◌≡◌, ℕ, ◌+◌, ◌^◌, ◌<◌, List, ◌∷◌, ◌++◌, length, take, drop, get_or, inl, inr, refl, sym, ap, ◌∙◌, subst, add-one}
+use Rattle.std.proofs.Math.Seq.{drop-cons}
+use Rattle.std.proofs.lemmas.List.{take-append-drop}
+use Rattle.packed.specs.Rule.{FirstBroken}
+use Rattle.packed.specs.declared.code.FaultCode.TheVariants.{BadCell, BadSignature}
+use Rattle.table_schema.specs.declared.table.TableId.{TableId}
+use Rattle.table_schema.specs.Tables.{table_number}
+use Rattle.metadata.specs.Cell.{Cell}
+use Rattle.metadata.specs.Metadata.{Metadata}
+use Rattle.metadata.specs.Valid.{IsValid}
+use Rattle.metadata.specs.declared.refusal.Refusal.{Refusal}
+use Rattle.root_writer.specs.Canonical.{canonical}
+use Rattle.c_values.specs.declared.cell.ClimCell.{ClimCell}
+use Rattle.c_values.specs.declared.row.ClimRow.{ClimRow}
+use Rattle.c_values.specs.declared.no_root.NoRoot.{NoRoot}
+use Rattle.c_values.specs.declared.no_root.NoRoot.TheVariants.{Refused, TooLong, Memory}
+use Rattle.c_values.specs.Cells.{IsCell, IsFormed}
+use Rattle.c_values.specs.Given.{IsGiven}
+use Rattle.c_values.specs.Refused.{IsNoRoot, IsRefused, MatchNoRoot, refusal_at, rules_of_cell}
+
+-- a reason has a weaker fact too
+pub reason_more : (P Q : Refusal → Type 0) (S T : Type 0) (reason : NoRoot) → ((refusal : Refusal) → P refusal → Q refusal) → (S → T)
+    → MatchNoRoot P S reason → MatchNoRoot Q T reason
+reason_more P Q S T (Refused refusal) f g is = f refusal is
+reason_more P Q S T TooLong f g is = g is
+reason_more P Q S T Memory f g is = tt
+
+-- valid metadata is not refused
+pub valid_accepted : (version user : List ℕ) (given : List ClimRow) (model : Metadata)
+    → ((refusal : Refusal) → IsRefused version user given refusal → IsGiven version user given model → ¬ IsValid model)
+    → ((other : Metadata) → IsGiven version user given other → other ≡ model)
+    → (reason : NoRoot) → IsNoRoot version user given reason → IsGiven version user given model → IsValid model
+    → MatchNoRoot (λ refusal. ⊥) (2 ^ 30 < length (canonical model)) reason
+valid_accepted version user given model never same (Refused refusal) is here valid = never refusal is here valid
+valid_accepted version user given model never same TooLong is here valid =
+    let P : Metadata → Type 0 = λ m. 2 ^ 30 < length (canonical m) in
+    subst P (same is.0 is.1) is.3
+valid_accepted version user given model never same Memory is here valid = tt
+
+-- a list, split at one of its items
+pub split_at : {X : Type 0} (xs : List X) (i : ℕ) (d : X) → i < length xs → xs ≡ take i xs ++ get_or xs i d ∷ drop (i + 1) xs
+split_at xs i d below =
+    sym (take-append-drop i xs) ∙ ap (λ t. take i xs ++ t) (drop-cons xs i d below) ∙ ap (λ j. take i xs ++ get_or xs i d ∷ drop j xs) (sym (add-one i))
+
+-- a cell whose fields are not in order, and one whose bytes encode no signature
+pub bad_cell : (table : TableId) (row column : ℕ) (given : ClimCell) (reason : NoRoot) → reason ≡ Refused (refusal_at BadCell (table_number table) row column)
+    → ¬ IsFormed table column given → MatchNoRoot (FirstBroken (rules_of_cell table row column given)) ⊥ reason
+bad_cell table row column given reason is bad =
+    let P : NoRoot → Type 0 = λ r. MatchNoRoot (FirstBroken (rules_of_cell table row column given)) ⊥ r in
+    subst P (sym is) (inl (bad, refl))
+
+pub bad_signature : (table : TableId) (row column : ℕ) (given : ClimCell) (reason : NoRoot) → reason ≡ Refused (refusal_at BadSignature (table_number table) row column)
+    → IsFormed table column given → ¬ ((cell : Cell) × IsCell table column given cell) → MatchNoRoot (FirstBroken (rules_of_cell table row column given)) ⊥ reason
+bad_signature table row column given reason is formed bad =
+    let P : NoRoot → Type 0 = λ r. MatchNoRoot (FirstBroken (rules_of_cell table row column given)) ⊥ r in
+    subst P (sym is) (inr (formed, inl (bad, refl)))

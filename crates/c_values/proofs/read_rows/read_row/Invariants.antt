@@ -1,0 +1,8 @@
+use Rattle.std.proofs.Common.{take}
+use Rattle.tables.specs.Said.{all_said}
+use Rattle.c_values.specs.Cells.{AreCells}
+use Rattle.c_values.proofs.read_rows.read_row.Given as goal
+
+-- the cells so far are the first cells that are given
+abbrev pub invariant-loop-column : goal.invariant-loop-column
+invariant-loop-column l = AreCells l.table 0 (take l.column l.given) (all_said l.cells.items)

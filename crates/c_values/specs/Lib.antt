@@ -1,0 +1,6 @@
+pub mod Texts
+pub mod Explained
+pub mod SignatureTexts
+pub mod Cells
+pub mod Given
+pub mod Refused

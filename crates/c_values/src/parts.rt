@@ -1,0 +1,31 @@
+//! Bytes in a caller's buffer.
+ghost use Rattle.std.specs.Prelude.{◌≡◌, length};
+ghost use Rattle.c_values.specs.Texts.{counted, joined, overwritten, with_text};
+
+/// What is returned instead of the length of what is too long.
+pub const TOO_LONG: usize = usize::MAX;
+
+/// Writes bytes into a buffer from an offset on, up to the end of the buffer.
+pub fn copy_at(buffer: &mut [u8], at: usize, bytes: &[u8])
+    ensures { buffer.new ≡ overwritten buffer.old at bytes.now }
+{
+    if at >= buffer.len() {
+        return;
+    }
+    let count = bytes.len().min(buffer.len() - at);
+    let (fits, _) = bytes.split_at(count);
+    buffer[at..at + count].copy_from_slice(fits);
+}
+
+/// Writes the parts of a text into a buffer, up to its length, and returns the length of the whole text.
+pub(crate) fn write_parts(buffer: &mut [u8], parts: &[&[u8]]) -> usize
+    ensures bytes { buffer.new ≡ with_text buffer.old (joined parts.now) }
+    ensures length { result ≡ counted (length (joined parts.now)) }
+{
+    let mut len = 0usize;
+    for part in parts {
+        copy_at(buffer, len, part);
+        len = len.saturating_add(part.len());
+    }
+    len
+}

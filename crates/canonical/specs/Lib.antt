@@ -1,4 +1,0 @@
-pub mod Pools
-pub mod Numbers
-pub mod TableStream
-pub mod Canonical

@@ -1,3 +1,0 @@
-pub mod SentLemmas
-pub mod EntryLemmas
-pub mod Outcomes

@@ -1,6 +1,0 @@
-use Rattle.std.proofs.Common.{◌≡◌, ◌++◌, take, flat_map}
-use Rattle.heap_entries.specs.Units.{unit_bytes}
-use Rattle.heap_plans.proofs.user_heap.put_units.Given as goal
-
-abbrev pub invariant-loop-unit : goal.invariant-loop-unit
-invariant-loop-unit l = l.bytes.items ≡ l.initial.bytes.items ++ flat_map unit_bytes (take l.unit-index l.units)

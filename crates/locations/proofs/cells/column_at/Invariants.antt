@@ -1,6 +1,0 @@
-use Rattle.std.proofs.Common.{ℕ, ◌<◌}
-use Rattle.locations.specs.Cells.{HasCell}
-use Rattle.locations.proofs.cells.column_at.Given as goal
-
-abbrev pub invariant-loop-column : goal.invariant-loop-column
-invariant-loop-column l = (column : ℕ) → column < l.column → HasCell l.layout l.table l.row column l.offset → ⊥

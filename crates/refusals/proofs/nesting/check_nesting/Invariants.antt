@@ -1,6 +1,0 @@
-use Rattle.packed.specs.Rule.{HoldBefore}
-use Rattle.metadata.specs.Refusals.{refusals_of_nesting_in}
-use Rattle.refusals.proofs.nesting.check_nesting.Given as goal
-
-abbrev pub invariant-loop-row : goal.invariant-loop-row
-invariant-loop-row l = HoldBefore (refusals_of_nesting_in l.counted) 1 l.row

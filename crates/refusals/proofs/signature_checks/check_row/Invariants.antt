@@ -1,6 +1,0 @@
-use Rattle.packed.specs.Rule.{HoldBefore}
-use Rattle.metadata.specs.Refusals.{refusals_of_signature}
-use Rattle.refusals.proofs.signature_checks.check_row.Given as goal
-
-abbrev pub invariant-loop-cell_index : goal.invariant-loop-cell_index
-invariant-loop-cell_index l = HoldBefore (refusals_of_signature l.counted l.table l.row) 0 l.cell_index

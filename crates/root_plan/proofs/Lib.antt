@@ -1,5 +1,0 @@
-pub mod LengthLemmas
-pub mod StandLemmas
-pub mod TableLemmas
-pub mod PlanLemmas
-pub mod PlannedRoots

@@ -1,5 +1,0 @@
-use Rattle.root_plan.proofs.LengthLemmas.{length-zero_padded}
-use Rattle.root_plan.proofs.stream_lens.padded_len.Goals as goal
-
-pub returns-clause-value : goal.returns-clause-value
-returns-clause-value c bytes is = length-zero_padded bytes c.args.len is

@@ -1,0 +1,225 @@
+-- The numbers of a row: one per column, one for each cell, each truncated to the width of its column.
+use Rattle.std.proofs.Common.{◌≡◌, ℕ, zero, suc, ◌+◌, ◌-◌, ◌*◌, ◌/◌, ◌%◌, ◌^◌, ◌<◌, ◌≤◌, Bool, true, false, cond, List, [], ◌∷◌, ◌++◌, map, length, get_or, refl, sym, ap, subst, ◌∙◌, arith, mul_assoc}
+use Rattle.std.proofs.lemmas.List.{length-map, get_or-map}
+use Rattle.std.proofs.lemmas.Nat.{div-add-mod', div-mul-add, mod-mul-add, mod_below}
+use Rattle.std.proofs.Math.Nat.{mod-lt, one-le-pow, pow-suc}
+use Rattle.table_schema.specs.declared.table.TableId.{TableId}
+use Rattle.table_schema.specs.declared.table.TableId.TheVariants.{Module}
+use Rattle.table_schema.specs.declared.column.Column.{Column}
+use Rattle.table_schema.specs.declared.column.ColumnKind.{ColumnKind}
+use Rattle.table_schema.specs.Tables.{tables, table_index_of}
+use Rattle.table_schema.specs.Columns.{columns_of}
+use Rattle.schema.specs.Sizes.{Sizes, width_of}
+use Rattle.schema.specs.LaidOut.{number_bytes, row_bytes, rows_bytes, tables_bytes, FitRow, FitRows, FitTables, number_in}
+use Rattle.metadata.specs.Cell.{Cell}
+use Rattle.metadata.specs.Metadata.{Metadata, rows_of, count_in}
+use Rattle.table_schema.specs.CellColumns.{is_padding, indexes_from}
+use Rattle.root_writer.specs.Pools.{Pools, pools_of}
+use Rattle.root_writer.specs.Numbers.{cell_number, with_next, numbers_by, numbers_of, table_numbers, numbers}
+use Rattle.root_writer.specs.TableStream.{sizes_of}
+use Rattle.root_writer.proofs.Facts.{Facts}
+
+-- ---- one number per column
+
+length-with_next : (b : Bool) (number : Cell → ℕ) (tail : List Cell → List ℕ) (n : ℕ) → ((cells : List Cell) → length (tail cells) ≡ n) → (cells : List Cell)
+    → length (with_next b number tail cells) ≡ suc n
+length-with_next true number tail n h cells = ap suc (h cells)
+length-with_next false number tail n h [] = ap suc (h [])
+length-with_next false number tail n h (cell ∷ cells) = ap suc (h cells)
+
+pub length-numbers_by : (value : ColumnKind → Cell → ℕ) (columns : List Column) (cells : List Cell) → length (numbers_by value columns cells) ≡ length columns
+length-numbers_by value [] cells = refl
+length-numbers_by value (column ∷ columns) cells =
+    length-with_next (is_padding column.kind) (value column.kind) (numbers_by value columns) (length columns) (length-numbers_by value columns)
+    cells
+
+-- ---- the low bytes of each number
+
+abbrev pub fields_of : Sizes → List Column → List ℕ → List ℕ
+fields_of sizes [] numbers = []
+fields_of sizes (column ∷ columns) [] = []
+fields_of sizes (column ∷ columns) (number ∷ numbers) = number % 256 ^ width_of sizes column ∷ fields_of sizes columns numbers
+
+abbrev pub table_fields : Metadata → TableId → List (List ℕ)
+table_fields model table = map (fields_of (sizes_of model) (columns_of table)) (table_numbers model table)
+
+unfoldable pub fields : Metadata → List (List (List ℕ))
+fields model = map (table_fields model) tables
+
+-- the low bytes of a number are its lowest byte and the low bytes of the remainder
+low_split : (width number : ℕ) → number % 256 ^ suc width ≡ number / 256 % 256 ^ width * 256 + number % 256
+low_split width number =
+    let p = 256 ^ width in
+    let q = number / 256 in
+    let some : 0 < p = one-le-pow width 256 (omega arith) in
+    let tail = div-add-mod' q p in
+    let whole = div-add-mod' number 256 in
+    let less = mod_below q p some in
+    let moved : q / p * (p * 256) ≡ q / p * p * 256 = sym (mul_assoc (q / p) p 256) in
+    let is : number ≡ q / p * (p * 256) + (q % p * 256 + number % 256) = omega (arith, tail, whole, moved) in
+    let fits : q % p * 256 + number % 256 < p * 256 = omega (arith, less) in
+    ap (λ n. number % n) (pow-suc 256 width) ∙ ap (λ n. n % (p * 256)) is ∙ mod-mul-add (q / p) (p * 256) (q % p * 256 + number % 256) fits
+
+low_first : (width number : ℕ) → number % 256 ^ suc width % 256 ≡ number % 256
+low_first width number = ap (λ n. n % 256) (low_split width number)
+    ∙ mod-mul-add (number / 256 % 256 ^ width) 256 (number % 256) (mod_below number 256 (omega arith))
+
+low_tail : (width number : ℕ) → number % 256 ^ suc width / 256 ≡ number / 256 % 256 ^ width
+low_tail width number = ap (λ n. n / 256) (low_split width number)
+    ∙ div-mul-add (number / 256 % 256 ^ width) 256 (number % 256) (mod_below number 256 (omega arith))
+
+low_bytes : (width number : ℕ) → number_bytes width (number % 256 ^ width) ≡ number_bytes width number
+low_bytes zero number = refl
+low_bytes (suc width) number =
+    ap (λ n. n ∷ number_bytes width (number % 256 ^ suc width / 256)) (low_first width number)
+    ∙ ap (λ l. number % 256 ∷ l) (ap (number_bytes width) (low_tail width number) ∙ low_bytes width (number / 256))
+
+row_low : (sizes : Sizes) (columns : List Column) (row : List ℕ) → row_bytes sizes columns (fields_of sizes columns row) ≡ row_bytes sizes columns row
+row_low sizes [] row = refl
+row_low sizes (column ∷ columns) [] = refl
+row_low sizes (column ∷ columns) (number ∷ row) =
+    ap (λ l. l ++ row_bytes sizes columns (fields_of sizes columns row)) (low_bytes (width_of sizes column) number)
+    ∙ ap (λ l. number_bytes (width_of sizes column) number ++ l) (row_low sizes columns row)
+
+rows_low : (sizes : Sizes) (columns : List Column) (rows : List (List ℕ)) → rows_bytes sizes columns (map (fields_of sizes columns) rows)
+    ≡ rows_bytes sizes columns rows
+rows_low sizes columns [] = refl
+rows_low sizes columns (row ∷ rows) =
+    ap (λ l. l ++ rows_bytes sizes columns (map (fields_of sizes columns) rows)) (row_low sizes columns row)
+    ∙ ap (λ l. row_bytes sizes columns row ++ l) (rows_low sizes columns rows)
+
+all_low : (model : Metadata) (listed : List TableId) → tables_bytes (sizes_of model) listed (map (table_fields model) listed)
+    ≡ tables_bytes (sizes_of model) listed (map (table_numbers model) listed)
+all_low model [] = refl
+all_low model (table ∷ listed) =
+    ap (λ l. l ++ tables_bytes (sizes_of model) listed (map (table_fields model) listed))
+    (rows_low (sizes_of model) (columns_of table) (table_numbers model table))
+    ∙ ap (λ l. rows_bytes (sizes_of model) (columns_of table) (table_numbers model table) ++ l) (all_low model listed)
+
+-- the bytes of the numbers are those of the fields
+pub tables_low : (model : Metadata) → tables_bytes (sizes_of model) tables (fields model) ≡ tables_bytes (sizes_of model) tables (numbers model)
+unfolding fields numbers
+tables_low model = all_low model tables
+
+fit_row : (sizes : Sizes) (columns : List Column) (row : List ℕ) → length row ≡ length columns → FitRow sizes columns (fields_of sizes columns row)
+fit_row sizes [] row e = tt
+fit_row sizes (column ∷ columns) [] e = absurd (omega arith)
+fit_row sizes (column ∷ columns) (number ∷ row) e =
+    (mod-lt number (one-le-pow (width_of sizes column) 256 (omega arith)), fit_row sizes columns row (omega arith))
+
+fit_rows : (sizes : Sizes) (pools : Pools) (columns : List Column) (rows : List (List Cell))
+    → FitRows sizes columns (map (fields_of sizes columns) (map (numbers_of pools columns) rows))
+fit_rows sizes pools columns [] = tt
+fit_rows sizes pools columns (cells ∷ rows) =
+    (fit_row sizes columns (numbers_of pools columns cells) (length-numbers_by (cell_number pools) columns cells), fit_rows sizes pools columns rows)
+
+fit_all : (model : Metadata) (listed : List TableId) → FitTables (sizes_of model) listed (map (table_fields model) listed)
+fit_all model [] = tt
+fit_all model (table ∷ listed) = (fit_rows (sizes_of model) (pools_of model) (columns_of table) (rows_of model table), fit_all model listed)
+
+pub fit_tables : (model : Metadata) → FitTables (sizes_of model) tables (fields model)
+unfolding fields
+fit_tables model = fit_all model tables
+
+count_all : (model : Metadata) (listed : List TableId) → map (count_in model) listed ≡ map length (map (table_fields model) listed)
+count_all model [] = refl
+count_all model (table ∷ listed) =
+    let long : length (table_fields model table) ≡ count_in model table =
+    length-map (table_numbers model table) (fields_of (sizes_of model) (columns_of table))
+    ∙ length-map (rows_of model table) (numbers_of (pools_of model) (columns_of table)) in
+    ap (λ n. n ∷ map (count_in model) listed) (sym long) ∙ ap (λ l. length (table_fields model table) ∷ l) (count_all model listed)
+
+pub counts_are : (model : Metadata) → (sizes_of model).counts ≡ map length (fields model)
+unfolding fields sizes_of
+counts_are model = count_all model tables
+
+-- ---- the number of a row and a column
+
+field_at : (sizes : Sizes) (columns : List Column) (row : List ℕ) (i : ℕ) (none : Column) → length row ≡ length columns → i < length columns
+    → get_or (fields_of sizes columns row) i 0 ≡ get_or row i 0 % 256 ^ width_of sizes (get_or columns i none)
+field_at sizes [] row i none e below = absurd (omega arith)
+field_at sizes (column ∷ columns) [] i none e below = absurd (omega arith)
+field_at sizes (column ∷ columns) (number ∷ row) zero none e below = refl
+field_at sizes (column ∷ columns) (number ∷ row) (suc i) none e below = field_at sizes columns row i none (omega arith) (omega arith)
+
+-- the cells of a row, counted from 1
+abbrev pub cells_of : Metadata → TableId → ℕ → List Cell
+cells_of model table row = get_or (rows_of model table) (row - 1) []
+
+pub number_is : Facts → (model : Metadata) (table : TableId) (row column : ℕ) (none : Column) → 1 ≤ row → row ≤ count_in model table
+    → column < length (columns_of table)
+    → number_in (fields model) table row column
+    ≡ get_or (numbers_of (pools_of model) (columns_of table) (cells_of model table row)) column 0 % 256 ^ width_of (sizes_of model)
+    (get_or (columns_of table) column none)
+unfolding fields
+number_is facts model table row column none first last below =
+    let low : table_index_of table < length tables = omega (arith, facts.table_index table, facts.count) in
+    let rows = rows_of model table in
+    let here : row - 1 < length rows = omega arith in
+    let many : row - 1 < length (table_numbers model table) = omega (arith, length-map rows (numbers_of (pools_of model) (columns_of table))) in
+    let one : get_or (map (table_fields model) tables) (table_index_of table) [] ≡ table_fields model table =
+    get_or-map (table_fields model) tables (table_index_of table) Module [] low ∙ ap (table_fields model) (facts.stand table) in
+    let two : get_or (table_fields model table) (row - 1) [] ≡ fields_of (sizes_of model) (columns_of table) (get_or (table_numbers model table) (row - 1) []) =
+    get_or-map (fields_of (sizes_of model) (columns_of table)) (table_numbers model table) (row - 1) [] [] many in
+    let three : get_or (table_numbers model table) (row - 1) [] ≡ numbers_of (pools_of model) (columns_of table) (cells_of model table row) =
+    get_or-map (numbers_of (pools_of model) (columns_of table)) rows (row - 1) [] [] here in
+    ap (λ (t : List (List ℕ)). get_or (get_or t (row - 1) []) column 0) one
+    ∙ ap (λ (r : List ℕ). get_or r column 0) (two ∙ ap (fields_of (sizes_of model) (columns_of table)) three)
+    ∙ field_at (sizes_of model) (columns_of table) (numbers_of (pools_of model) (columns_of table) (cells_of model table row)) column none
+    (length-numbers_by (cell_number (pools_of model)) (columns_of table) (cells_of model table row)) below
+
+-- ---- the number of each cell
+
+-- the number of the cell at an index is in the column of that cell
+pub record IsLocated (value : ColumnKind → Cell → ℕ) (row indexes : List ℕ) (columns : List Column) (cells : List Cell) (from cell_index : ℕ) (none : Column)
+    (no_cell : Cell) : Type 0 where
+  pub index : ℕ
+  pub at : get_or indexes cell_index 0 ≡ from + index
+  pub below : index < length columns
+  pub number : get_or row index 0 ≡ value (get_or columns index none).kind (get_or cells cell_index no_cell)
+
+cell_index_next : (value : ColumnKind → Cell → ℕ) (column : Column) (columns : List Column) (from cell_index : ℕ) (none : Column) (no_cell : Cell)
+    → ((cells : List Cell) (cell_index : ℕ) → cell_index < length (indexes_from (from + 1) columns) → length cells ≡ length (indexes_from (from + 1) columns)
+    → IsLocated value (numbers_by value columns cells) (indexes_from (from + 1) columns) columns cells (from + 1) cell_index none no_cell)
+    → (b : Bool) (cells : List Cell) → cell_index < length (cond b (indexes_from (from + 1) columns) (from ∷ indexes_from (from + 1) columns))
+    → length cells ≡ length (cond b (indexes_from (from + 1) columns) (from ∷ indexes_from (from + 1) columns))
+    → IsLocated value (with_next b (value column.kind) (numbers_by value columns) cells)
+    (cond b (indexes_from (from + 1) columns) (from ∷ indexes_from (from + 1) columns)) (column ∷ columns) cells from cell_index none no_cell
+cell_index_next value column columns from cell_index none no_cell next true cells below long =
+    let tail = next cells cell_index below long in
+    record { index = suc tail.index; at = tail.at ∙ omega arith; below = omega (arith, tail.below); number = tail.number }
+cell_index_next value column columns from cell_index none no_cell next false [] below long = absurd (omega arith)
+cell_index_next value column columns from zero none no_cell next false (cell ∷ cells) below long =
+    record { index = 0; at = omega arith; below = omega arith; number = refl }
+cell_index_next value column columns from (suc cell_index) none no_cell next false (cell ∷ cells) below long =
+    let tail = next cells cell_index (omega arith) (omega arith) in
+    record { index = suc tail.index; at = tail.at ∙ omega arith; below = omega (arith, tail.below); number = tail.number }
+
+pub located : (value : ColumnKind → Cell → ℕ) (columns : List Column) (cells : List Cell) (from cell_index : ℕ) (none : Column) (no_cell : Cell)
+    → cell_index < length (indexes_from from columns) → length cells ≡ length (indexes_from from columns)
+    → IsLocated value (numbers_by value columns cells) (indexes_from from columns) columns cells from cell_index none no_cell
+located value [] cells from cell_index none no_cell below long = absurd (omega arith)
+located value (column ∷ columns) cells from cell_index none no_cell below long =
+    cell_index_next value column columns from cell_index none no_cell (λ tail k l e. located value columns tail (from + 1) k none no_cell l e) (is_padding column.kind)
+    cells below long
+
+-- ---- a column that has a cell
+
+pub record HasCellIndex (indexes : List ℕ) (column : ℕ) : Type 0 where
+  pub cell_index : ℕ
+  pub below : cell_index < length indexes
+  pub at : get_or indexes cell_index 0 ≡ column
+
+has_cell_index_next : (indexes : List ℕ) (b : Bool) (from column : ℕ) → HasCellIndex indexes column → HasCellIndex (cond b indexes (from ∷ indexes)) column
+has_cell_index_next indexes true from column has = has
+has_cell_index_next indexes false from column has = record { cell_index = suc has.cell_index; below = omega (arith, has.below); at = has.at }
+
+pub has_cell_index : (columns : List Column) (from i j : ℕ) (none : Column) → i < length columns → is_padding (get_or columns i none).kind ≡ false → j ≡ from + i
+    → HasCellIndex (indexes_from from columns) j
+has_cell_index [] from i j none below plain e = absurd (omega arith)
+has_cell_index (column ∷ columns) from zero j none below plain e =
+    let same : from ≡ j = omega arith in
+    subst (λ b. HasCellIndex (cond b (indexes_from (from + 1) columns) (from ∷ indexes_from (from + 1) columns)) j) (sym plain)
+    (record { cell_index = 0; below = omega arith; at = same })
+has_cell_index (column ∷ columns) from (suc i) j none below plain e =
+    has_cell_index_next (indexes_from (from + 1) columns) (is_padding column.kind) from j (has_cell_index columns (from + 1) i j none (omega arith) plain (omega arith))

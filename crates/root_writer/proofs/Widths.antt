@@ -1,0 +1,217 @@
+-- The numbers of cells fit the widths of the canonical table stream.
+use Rattle.std.proofs.Common.{◌≡◌, ℕ, zero, suc, ◌+◌, ◌-◌, ◌*◌, ◌/◌, ◌%◌, ◌^◌, ◌<◌, ◌≤◌, Bool, true, false, not, ◌&&◌, cond, eqb, ltb, leb, List, [], ◌∷◌, ◌++◌, length, get_or, Contains, refl, sym, ap, subst, ◌∙◌, ◌⊎◌, inl, inr, ⊎_elim, true≢false, Option, Some, None, arith, length-append}
+use Rattle.std.specs.Prelude.{slice_get}
+use Rattle.std.specs.List.{list_all, position_or_len}
+use Rattle.std.proofs.lemmas.Bool.{cases_Bool, cases_lt}
+use Rattle.std.proofs.lemmas.Bool.Decides.{nat_tests}
+use Rattle.std.proofs.lemmas.List.{get_or-map}
+use Rattle.std.proofs.lemmas.Nat.{mul-add-lt}
+use Rattle.packed.specs.Packed.{IsPacked}
+use Rattle.table_schema.specs.declared.table.TableId.{TableId}
+use Rattle.table_schema.specs.declared.table.TableId.TheVariants.{Module}
+use Rattle.table_schema.specs.declared.coded.Coded.{Coded}
+use Rattle.table_schema.specs.Tables.{tables, table_index_of, table_number}
+use Rattle.table_schema.specs.CodedIndexes.{tables_of, tag_bits}
+use Rattle.schema.specs.Sizes.{Sizes, count_of, narrow_or_wide, heap_width, is_below, coded_width}
+use Rattle.heap_entries.specs.Entries.{IsText, IsBlob, IsGuid}
+use Rattle.sig_grammar.specs.Parts.{is_table}
+use Rattle.metadata.specs.Metadata.{Metadata, count_in}
+use Rattle.root_writer.specs.Pools.{texts_stream, blobs_stream, guids_stream}
+use Rattle.root_writer.specs.TableStream.{sizes_of}
+use Rattle.root_writer.proofs.Lists.{IsIn, in_from_contains}
+use Rattle.root_writer.proofs.Facts.{Facts}
+
+-- ---- indexes lie within their heaps
+
+pub text_within : (heap : List ℕ) (index : ℕ) (text : List ℕ) → IsText heap index text → (index ≡ 0) ⊎ (index < length heap)
+text_within heap index text (inl e) = inl e.0
+text_within heap index text (inr is) =
+    let entry = is.1 in
+    inr (omega (arith, ap length entry.whole, length-append entry.before (text ++ 0 ∷ entry.after), length-append text (0 ∷ entry.after), entry.at))
+
+counted_within : (before blob after heap : List ℕ) (index : ℕ) (count : List ℕ) → IsPacked (length blob) count
+    → length heap ≡ length before + length (count ++ (blob ++ after)) → length before ≡ index → index < length heap
+counted_within before blob after heap index count (inl p) e at = omega (arith, length-append count (blob ++ after), ap length p.1)
+counted_within before blob after heap index count (inr (inl p)) e at = omega (arith, length-append count (blob ++ after), ap length p.1)
+counted_within before blob after heap index count (inr (inr p)) e at = omega (arith, length-append count (blob ++ after), ap length p.1)
+
+pub blob_within : (heap : List ℕ) (index : ℕ) (blob : List ℕ) → IsBlob heap index blob → (index ≡ 0) ⊎ (index < length heap)
+blob_within heap index blob (inl e) = inl e.0
+blob_within heap index blob (inr is) =
+    let entry = is.1 in
+    inr (counted_within entry.before blob entry.after heap index entry.count entry.counts
+    (ap length entry.whole ∙ length-append entry.before (entry.count ++ (blob ++ entry.after))) entry.at)
+
+pub guid_within : (heap : List ℕ) (index : ℕ) (guid : Option (List ℕ)) → IsGuid heap index guid → (index ≡ 0) ⊎ (index < length heap)
+guid_within heap index None e = inl e
+guid_within heap index (Some guid) is =
+    let entry = is.1 in
+    inr (omega (arith, is.0, ap length entry.whole, length-append entry.before (guid ++ entry.after), length-append guid entry.after, entry.at, entry.long))
+
+-- ---- the width of a heap's indexes depends on the length of its stream
+
+heap_bits : (a b c : Bool) → ((eqb ((cond a 1 0 + cond b 2 0 + cond c 4 0) / 1 % 2) 0 ≡ not a)
+    × (eqb ((cond a 1 0 + cond b 2 0 + cond c 4 0) / 2 % 2) 0 ≡ not b)) × (eqb ((cond a 1 0 + cond b 2 0 + cond c 4 0) / 4 % 2) 0 ≡ not c)
+heap_bits true true true = ((refl, refl), refl)
+heap_bits true true false = ((refl, refl), refl)
+heap_bits true false true = ((refl, refl), refl)
+heap_bits true false false = ((refl, refl), refl)
+heap_bits false true true = ((refl, refl), refl)
+heap_bits false true false = ((refl, refl), refl)
+heap_bits false false true = ((refl, refl), refl)
+heap_bits false false false = ((refl, refl), refl)
+
+heap_sizes_below : (a b c : Bool) → cond a 1 0 + cond b 2 0 + cond c 4 0 < 8
+heap_sizes_below true true true = omega arith
+heap_sizes_below true true false = omega arith
+heap_sizes_below true false true = omega arith
+heap_sizes_below true false false = omega arith
+heap_sizes_below false true true = omega arith
+heap_sizes_below false true false = omega arith
+heap_sizes_below false false true = omega arith
+heap_sizes_below false false false = omega arith
+
+-- an index has two or four bytes, depending on the length of its stream
+abbrev pub index_width : List ℕ → ℕ
+index_width stream = narrow_or_wide (not (leb (2 ^ 16) (length stream)))
+
+pub index_fits : (index : ℕ) (stream : List ℕ) → (index ≡ 0) ⊎ (index < length stream) → length stream ≤ 2 ^ 30 → index < 256 ^ index_width stream
+index_fits index stream within small = ⊎_elim
+    (λ (e : leb (2 ^ 16) (length stream) ≡ true). subst (λ b. index < 256 ^ narrow_or_wide (not b)) (sym e) (below within))
+    (λ (e : leb (2 ^ 16) (length stream) ≡ false).
+    let few : length stream < 2 ^ 16 = grind (arith, nat_tests) in
+    subst (λ b. index < 256 ^ narrow_or_wide (not b)) (sym e) (few_of few within))
+    (cases_Bool (leb (2 ^ 16) (length stream)))
+  where
+    below : (index ≡ 0) ⊎ (index < length stream) → index < 4294967296
+    below (inl e) = omega arith
+    below (inr l) = omega arith
+
+    few_of : length stream < 2 ^ 16 → (index ≡ 0) ⊎ (index < length stream) → index < 65536
+    few_of few (inl e) = omega arith
+    few_of few (inr l) = omega arith
+
+module _ (model : Metadata) where
+  bits : ((heap_width (sizes_of model) 1 ≡ index_width (texts_stream model)) × (heap_width (sizes_of model) 2 ≡ index_width (guids_stream model)))
+      × (heap_width (sizes_of model) 4 ≡ index_width (blobs_stream model))
+  unfolding sizes_of
+  bits =
+      let all = heap_bits (leb (2 ^ 16) (length (texts_stream model))) (leb (2 ^ 16) (length (guids_stream model)))
+      (leb (2 ^ 16) (length (blobs_stream model))) in
+      ((ap narrow_or_wide all.0.0, ap narrow_or_wide all.0.1), ap narrow_or_wide all.1)
+
+  pub texts_width : heap_width (sizes_of model) 1 ≡ index_width (texts_stream model)
+  texts_width = bits.0.0
+
+  pub guids_width : heap_width (sizes_of model) 2 ≡ index_width (guids_stream model)
+  guids_width = bits.0.1
+
+  pub blobs_width : heap_width (sizes_of model) 4 ≡ index_width (blobs_stream model)
+  blobs_width = bits.1
+
+  pub heap_sizes_low : (sizes_of model).heap_sizes < 8
+  unfolding sizes_of
+  heap_sizes_low = heap_sizes_below (leb (2 ^ 16) (length (texts_stream model))) (leb (2 ^ 16) (length (guids_stream model)))
+      (leb (2 ^ 16) (length (blobs_stream model)))
+
+  pub count_is : Facts → (table : TableId) → count_of (sizes_of model) table ≡ count_in model table
+  unfolding sizes_of
+  count_is facts table =
+      let below : table_index_of table < length tables = omega (arith, facts.table_index table, facts.count) in
+      get_or-map (count_in model) tables (table_index_of table) Module 0 below ∙ ap (count_in model) (facts.stand table)
+
+-- ---- rows
+
+pub row_fits : (number count : ℕ) → number ≤ count → count ≤ 0xFFFFFF → number < 256 ^ narrow_or_wide (ltb count (2 ^ 16))
+row_fits number count low small = ⊎_elim
+    (λ (e : ltb count (2 ^ 16) ≡ true).
+    let few : count < 2 ^ 16 = grind (arith, nat_tests) in
+    let fits : number < 65536 = omega arith in
+    subst (λ b. number < 256 ^ narrow_or_wide b) (sym e) fits)
+    (λ (e : ltb count (2 ^ 16) ≡ false). let fits : number < 4294967296 = omega arith in subst (λ b. number < 256 ^ narrow_or_wide b) (sym e) fits)
+    (cases_Bool (ltb count (2 ^ 16)))
+
+-- ---- tags
+
+pub both_true : (a b : Bool) → (a && b) ≡ true → (a ≡ true) × (b ≡ true)
+both_true true true h = (refl, refl)
+both_true true false h = absurd (true≢false (sym h))
+both_true false b h = absurd (true≢false (sym h))
+
+pub same_table : Facts → (a b : TableId) → table_number a ≡ table_number b → a ≡ b
+same_table facts a b e = ⊎_elim
+    (λ (l : table_index_of a < table_index_of b). absurd (omega (arith, facts.rise a b l)))
+    (λ (h : table_index_of b ≤ table_index_of a). ⊎_elim
+    (λ (l : table_index_of b < table_index_of a). absurd (omega (arith, facts.rise b a l)))
+    (λ (k : table_index_of a ≤ table_index_of b).
+    let same : table_index_of a ≡ table_index_of b = omega arith in
+    sym (facts.stand a) ∙ ap (λ n. get_or tables n Module) same ∙ facts.stand b)
+    (cases_lt (table_index_of b) (table_index_of a)))
+    (cases_lt (table_index_of a) (table_index_of b))
+
+below_listed : (sizes : Sizes) (limit : ℕ) (listed : List (Option TableId)) (tag : ℕ) (table : TableId)
+    → list_all (is_below sizes limit) listed ≡ true → slice_get listed tag ≡ Some (Some table) → count_of sizes table < limit
+below_listed sizes limit [] tag table all e = cc
+below_listed sizes limit (None ∷ listed) zero table all e = cc
+below_listed sizes limit (None ∷ listed) (suc tag) table all e = below_listed sizes limit listed tag table all e
+below_listed sizes limit (Some other ∷ listed) zero table all e =
+    let same : other ≡ table = cc in
+    let low = (both_true (ltb (count_of sizes other) limit) (list_all (is_below sizes limit) listed) all).0 in
+    let less : count_of sizes other < limit = grind (arith, nat_tests) in
+    subst (λ t. count_of sizes t < limit) same less
+below_listed sizes limit (Some other ∷ listed) (suc tag) table all e =
+    below_listed sizes limit listed tag table (both_true (ltb (count_of sizes other) limit) (list_all (is_below sizes limit) listed) all).1 e
+
+-- a row and a tag of a listed table fit the width of the coded index
+pub coded_fits : Facts → (sizes : Sizes) (coded : Coded) (table : TableId) (row tag : ℕ) → slice_get (tables_of coded) tag ≡ Some (Some table)
+    → tag < 2 ^ tag_bits coded
+    → row ≤ count_of sizes table → count_of sizes table ≤ 0xFFFFFF → row * 2 ^ tag_bits coded + tag < 256 ^ coded_width sizes coded
+coded_fits facts sizes coded table row tag is low there small = ⊎_elim
+    (λ (e : narrow ≡ true).
+    let few = below_listed sizes (2 ^ (16 - tag_bits coded)) (tables_of coded) tag table e is in
+    let fits : row * 2 ^ tag_bits coded + tag < 65536 =
+    subst (λ n. row * 2 ^ tag_bits coded + tag < n) (facts.narrow coded)
+    (mul-add-lt row (2 ^ tag_bits coded) tag (2 ^ (16 - tag_bits coded)) (omega arith) low) in
+    subst (λ b. row * 2 ^ tag_bits coded + tag < 256 ^ narrow_or_wide b) (sym e) fits)
+    (λ (e : narrow ≡ false).
+    let below = mul-add-lt row (2 ^ tag_bits coded) tag (2 ^ 24) (omega arith) low in
+    let fits : row * 2 ^ tag_bits coded + tag < 4294967296 = omega (arith, below, facts.wide coded) in
+    subst (λ b. row * 2 ^ tag_bits coded + tag < 256 ^ narrow_or_wide b) (sym e) fits)
+    (cases_Bool narrow)
+  where
+    narrow : Bool
+    narrow = list_all (is_below sizes (2 ^ (16 - tag_bits coded))) (tables_of coded)
+
+-- the first index of a table in a list
+abbrev IsTag : List (Option TableId) → TableId → ℕ → Type 0
+IsTag listed table tag = (slice_get listed tag ≡ Some (Some table)) × (tag < length listed)
+
+later : (first : Option TableId) (listed : List (Option TableId)) (table : TableId) (tag : ℕ) → IsTag listed table tag → IsTag (first ∷ listed) table (1 + tag)
+later first listed table tag is = let up : 1 + tag ≡ suc tag = omega arith in rw up (is.0, omega (arith, is.1))
+
+tag_in : Facts → (listed : List (Option TableId)) (table : TableId) → IsIn (Some table) listed → IsTag listed table (position_or_len (is_table table) listed)
+tag_in facts [] table h = absurd h
+tag_in facts (None ∷ listed) table (inl e) = cc
+tag_in facts (None ∷ listed) table (inr h) = later None listed table (position_or_len (is_table table) listed) (tag_in facts listed table h)
+tag_in facts (Some other ∷ listed) table h = ⊎_elim
+    (λ (t : is_table table (Some other) ≡ true).
+    let equal : table_number table ≡ table_number other = grind (arith, nat_tests) in
+    let same = same_table facts table other equal in
+    subst (λ b. IsTag (Some other ∷ listed) table (cond (not b) (1 + position_or_len (is_table table) listed) 0)) (sym t)
+    (ap (λ t. Some (Some t)) (sym same), omega arith))
+    (λ (f : is_table table (Some other) ≡ false).
+    subst (λ b. IsTag (Some other ∷ listed) table (cond (not b) (1 + position_or_len (is_table table) listed) 0)) (sym f)
+    (later (Some other) listed table (position_or_len (is_table table) listed) (tag_in facts listed table (there f h))))
+    (cases_Bool (is_table table (Some other)))
+  where
+    there : is_table table (Some other) ≡ false → IsIn (Some table) (Some other ∷ listed) → IsIn (Some table) listed
+    there f (inl e) =
+        let same : other ≡ table = cc in
+        let equal = ap table_number same in
+        let same_number : is_table table (Some other) ≡ true = grind (arith, nat_tests) in
+        absurd (true≢false (sym same_number ∙ f))
+    there f (inr l) = l
+
+pub tag_found : Facts → (listed : List (Option TableId)) (table : TableId) → Contains listed (Some table)
+    → IsTag listed table (position_or_len (is_table table) listed)
+tag_found facts listed table there = tag_in facts listed table (in_from_contains listed (Some table) there)

@@ -1,0 +1,6 @@
+use Rattle.std.proofs.Common.{ℕ, ◌<◌}
+use Rattle.schema.specs.LocatedCells.{HasCell}
+use Rattle.schema.proofs.located_cells.column_at.Given as goal
+
+abbrev pub invariant-loop-column : goal.invariant-loop-column
+invariant-loop-column l = (column : ℕ) → column < l.column → HasCell l.layout l.table l.row column l.offset → ⊥

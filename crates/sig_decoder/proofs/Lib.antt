@@ -1,4 +1,0 @@
-pub mod Cores
-pub mod Leaves
-pub mod Items
-pub mod Parameters

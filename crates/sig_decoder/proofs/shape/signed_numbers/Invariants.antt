@@ -1,7 +1,0 @@
-use Rattle.std.proofs.Common.{◌≡◌, ◌-◌}
-use Rattle.sig_grammar.specs.Reading.{many_at, signed_at}
-use Rattle.sig_decoder.proofs.Items.{with_head}
-use Rattle.sig_decoder.proofs.shape.signed_numbers.Given as goal
-
-abbrev pub invariant-loop-done : goal.invariant-loop-done
-invariant-loop-done l = with_head l.all.items (many_at signed_at (l.count - l.done) l.tail) ≡ many_at signed_at l.count l.bytes

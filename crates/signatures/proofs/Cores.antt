@@ -1,0 +1,115 @@
+-- Cores and their parts: reading by the first byte, and the content of values in a `Box` and in a `Vec`.
+use Rattle.std.proofs.Common.{◌≡◌, ◌∙◌, ℕ, zero, suc, ◌-◌, ◌<◌, ◌≢◌, ◌⊎◌, inl, inr, Bool, eqb, Option, Some, None, List, [], ◌∷◌, Vec, Global, map, refl, ap, arith}
+use Rattle.std.proofs.lemmas.Bool.{ne_eqb}
+use Rattle.std.specs.Prelude.{option_map, option_and_then}
+use Rattle.table_schema.specs.declared.column.SigKind.{SigKind}
+use Rattle.table_schema.specs.declared.column.SigKind.TheVariants as column
+use Rattle.sig_grammar.specs.declared.element.Element.{Element}
+use Rattle.sig_grammar.specs.declared.types.Modifier.{Modifier}
+use Rattle.sig_grammar.specs.declared.types.TypeSig.{TypeSig}
+use Rattle.sig_grammar.specs.declared.types.TypeSig as types
+use Rattle.sig_grammar.specs.declared.types.MethodSig.{MethodSig}
+use Rattle.sig_grammar.specs.declared.types.MethodSig as methods
+use Rattle.sig_grammar.specs.declared.types.Core as cores
+use Rattle.sig_grammar.specs.declared.types.Slot.{Slot}
+use Rattle.sig_grammar.specs.declared.types.Slot as slots
+use Rattle.sig_grammar.specs.declared.types.SlotKind as kinds
+use Rattle.sig_grammar.specs.declared.types.Ret as rets
+use Rattle.sig_grammar.specs.Syntax as sig
+use Rattle.sig_grammar.specs.Views.{core_of, type_of, content_of, slot_of, ret_of, method_of, slots_from}
+use Rattle.sig_grammar.specs.Reading.{Reader, change, deep, void_or, named_at, leading_within, leading_at, modifiers_at, content_at, ret_at, method_at, both, core_at, core_by, element_of}
+use Rattle.sig_grammar.specs.Columns.{body_at}
+use Rattle.sig_grammar.proofs.ViewLemmas.{view_some_ret}
+use Rattle.signatures.specs.declared.error.SigError.{SigError}
+use Rattle.signatures.specs.declared.error.SigError.TheVariants.{Bad, Memory}
+use Rattle.signatures.specs.Gives.{Fails}
+
+-- ---- a core, by its first byte
+
+pub core_none : (d : ℕ) (b : List ℕ) → d ≡ 0 → core_at d b ≡ None
+unfolding core_at
+core_none zero b h = refl
+core_none (suc d) b h = absurd (omega arith)
+
+pub core_end : (d : ℕ) (b : List ℕ) → b ≡ [] → core_at d b ≡ None
+unfolding core_at
+core_end zero b h = refl
+core_end (suc d) b h = rw h refl
+
+pub core_simple : (d c : ℕ) (e : Element) (b tail : List ℕ) → 0 < d → b ≡ c ∷ tail → Some e ≡ element_of c → core_at d b ≡ Some (sig.simple e, tail)
+unfolding core_at
+core_simple zero c e b tail lt h k = absurd (omega arith)
+core_simple (suc d) c e b tail lt h k = rw (h, ← k) refl
+
+pub core_other : (d c : ℕ) (b tail : List ℕ) → 0 < d → b ≡ c ∷ tail → None ≡ element_of c → core_at d b ≡ core_by (d - 1) (core_at (d - 1)) c tail
+unfolding core_at
+core_other zero c b tail lt h k = absurd (omega arith)
+core_other (suc d) c b tail lt h k = let p : suc d - 1 ≡ d = omega arith in rw (h, ← k, p) refl
+
+pub deep_some : (d : ℕ) (r : Reader sig.Core) (b : List ℕ) → 0 < d → deep d r b ≡ r b
+deep_some zero r b lt = absurd (omega arith)
+deep_some (suc d) r b lt = refl
+
+pub fails_change : {A B : Type 0} (e : SigError) (f : A → B) (r : Reader A) (b : List ℕ) → Fails e (r b) → Fails e (change f r b)
+fails_change Bad f r b h = rw h refl
+fails_change Memory f r b h = tt
+
+pub fails_map : {A B : Type 0} (e : SigError) (f : A → B) (o : Option A) → Fails e o → Fails e (option_map f o)
+fails_map Bad f o h = rw h refl
+fails_map Memory f o h = tt
+
+pub fails_then : {A B : Type 0} (e : SigError) (f : A → Option B) (o : Option A) → Fails e o → Fails e (option_and_then f o)
+fails_then Bad f o h = rw h refl
+fails_then Memory f o h = tt
+
+-- no byte remains
+pub fails_end : {A : Type 0} (e : SigError) (r : Reader A) (b : List ℕ) → (e ≡ Bad) × (b ≡ []) → r [] ≡ None → Fails e (r b)
+fails_end e r b h none = rw (h.0, h.1) none
+
+-- ---- by the first byte
+
+-- not VOID
+pub void_other : {A : Type 0} (r : Reader A) (c : ℕ) (b tail : List ℕ) → b ≡ c ∷ tail → c ≢ 0x01 → void_or r b ≡ change (λ x. Some x) r b
+unfolding void_or
+void_other r c b tail h p = rw (h, ne_eqb c 0x01 p) refl
+
+-- neither TYPEDBYREF nor BYREF
+pub content_other : (r : Reader sig.Core) (c : ℕ) (b tail : List ℕ) → b ≡ c ∷ tail → c ≢ 0x16 → c ≢ 0x10 → content_at r b ≡ change sig.plain r b
+unfolding content_at
+content_other r c b tail h p q = rw (h, ne_eqb c 0x16 p, ne_eqb c 0x10 q) refl
+
+-- CLASS or VALUETYPE
+pub named_is : (c : ℕ) (b tail : List ℕ) → b ≡ c ∷ tail → (c ≢ 0x11) × (c ≡ 0x12) ⊎ (c ≡ 0x11) → named_at b ≡ Some (eqb c 0x11, tail)
+unfolding named_at
+named_is c b tail h (inl k) = rw (h, k.1) refl
+named_is c b tail h (inr k) = rw (h, k) refl
+
+-- no signature is empty
+pub body_end : (kind : SigKind) (r : Reader sig.Core) (b : List ℕ) → b ≡ [] → body_at kind r b ≡ None
+unfolding body_at method_at ret_at both void_or modifiers_at leading_at leading_within
+body_end column.Field r b h = rw h refl
+body_end column.MethodDef r b h = rw h refl
+body_end column.MemberRef r b h = rw h refl
+body_end column.StandAlone r b h = rw h refl
+body_end column.Property r b h = rw h refl
+body_end column.TypeSpec r b h = rw h refl
+body_end column.Instance r b h = rw h refl
+
+-- ---- cores
+
+pub view_typed : (mods : Vec Modifier Global) (core : cores.Core) → type_of (types.roll-TypeSig (record { mods = mods; core = core })) ≡ sig.typed mods.items (core_of core)
+unfolding type_of core_of
+view_typed mods core = rw types.fold-roll-TypeSig refl
+
+-- ---- contents, results and methods
+
+pub view_slot : (mods : Vec Modifier Global) (kind : kinds.SlotKind) → slot_of (slots.roll-Slot (record { mods = mods; kind = kind })) ≡ sig.slot mods.items (content_of kind)
+unfolding slot_of content_of
+view_slot mods kind = rw slots.fold-roll-Slot refl
+
+pub view_slot_ret : (mods : Vec Modifier Global) (kind : kinds.SlotKind) → ret_of (rets.Slot (slots.roll-Slot (record { mods = mods; kind = kind }))) ≡ sig.some_ret (sig.slot mods.items (content_of kind))
+view_slot_ret mods kind = view_some_ret (slots.roll-Slot (record { mods = mods; kind = kind })) ∙ ap sig.some_ret (view_slot mods kind)
+
+pub view_method : (kind : ℕ) (this explicit : Bool) (generic : Option ℕ) (ret : rets.Ret) (params : Vec Slot Global) (sentinel : Option ℕ) → method_of (methods.roll-MethodSig (record { kind = kind; this = this; explicit = explicit; generic = generic; ret = ret; params = params; sentinel = sentinel })) ≡ sig.method kind this explicit generic (ret_of ret) (slots_from (map slot_of params.items)) sentinel
+unfolding method_of ret_of slot_of
+view_method kind this explicit generic ret params sentinel = rw methods.fold-roll-MethodSig refl

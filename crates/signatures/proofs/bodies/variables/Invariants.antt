@@ -1,0 +1,10 @@
+use Rattle.std.proofs.Common.{◌≡◌, ◌-◌, map}
+use Rattle.sig_grammar.specs.Reading.{many_at, core_at}
+use Rattle.sig_grammar.specs.Columns.{local_at}
+use Rattle.sig_grammar.specs.Views.{local_of}
+use Rattle.signatures.proofs.Items.{with_head}
+use Rattle.signatures.proofs.bodies.variables.Given as goal
+
+abbrev pub invariant-loop-done : goal.invariant-loop-done
+invariant-loop-done l =
+    with_head (map local_of l.all.items) (many_at (local_at (core_at l.depth)) (l.count - l.done) l.tail) ≡ many_at (local_at (core_at l.depth)) l.count l.bytes

@@ -1,0 +1,6 @@
+use Rattle.packed.specs.Rule.{HoldBefore}
+use Rattle.metadata.specs.Refusals.{refusals_of_row}
+use Rattle.tables.proofs.cell_checks.check_rows.Given as goal
+
+abbrev pub invariant-loop-row : goal.invariant-loop-row
+invariant-loop-row l = HoldBefore (refusals_of_row l.counted l.table) 1 l.row

@@ -1,0 +1,30 @@
+use Rattle.std.proofs.Common.{◌≡◌, ℕ, List, slice_index_or, ap, arith, ◌∙◌, length-set}
+use Rattle.packed.proofs.RuleLemmas.{before_more}
+use Rattle.table_schema.specs.declared.table.TableId.{TableId}
+use Rattle.table_schema.specs.declared.table.TableId.TheVariants.{Module}
+use Rattle.metadata.specs.Metadata.{count_in}
+use Rattle.metadata.specs.Refusals.{refusals_of_count}
+use Rattle.tables.proofs.CountLemmas.{known_more, few_rows}
+use Rattle.tables.proofs.counted.Counted.new.Goals as goal
+
+pub loop-table_index-preserved : goal.loop-table_index-preserved
+loop-table_index-preserved c =
+    let long = c.loop-table_index.invariant.long in
+    let limit = c.number-number.ensures.limit in
+    record {
+      long = length-set _ _ _ ∙ long;
+      few = before_more (refusals_of_count c.args.tables.now) 0 c.loop-table_index.table_index c.loop-table_index.invariant.few c.in_ok-counts.ensures.reports;
+      counted = known_more c.tables_stand.ensures.stand c.tables_stand.ensures.rise (λ (count : ℕ) (table : TableId). count ≡ count_in c.args.tables.now table) 0
+          c.loop-table_index.counts c.loop-table_index.table_index c.number-number.result
+          (slice_index_or c.all-all.result.now c.loop-table_index.table_index Module) c.in_ok-counts.field-0
+          (ap (λ (ts : List TableId). slice_index_or ts c.loop-table_index.table_index Module) c.all-all.ensures.value)
+          c.number-number.ensures.value (omega arith) (rw c.all-all.ensures.value c.in_ok-counts.ensures.count) c.loop-table_index.invariant.counted;
+    }
+
+pub invariant_of-result : goal.invariant_of-result
+invariant_of-result c =
+    let done = c.loop-table_index-test.false in
+    record {
+      counts = λ table. let within = c.tables_stand.ensures.table_index table in c.loop-table_index.invariant.counted table (omega arith);
+      few = few_rows c.tables_stand.ensures.table_index c.tables_stand.ensures.stand c.args.tables.now c.loop-table_index.table_index (omega arith) c.loop-table_index.invariant.few;
+    }

@@ -1,0 +1,21 @@
+use Rattle.std.proofs.Common.{◌≡◌, ◌↔◌, ℕ, Bool, false, IsTrue, Some, List, slice_index_or, ap, arith, ◌∙◌, length-set}
+use Rattle.table_schema.specs.declared.table.TableId.{TableId}
+use Rattle.table_schema.specs.declared.table.TableId.TheVariants.{Module}
+use Rattle.table_schema.specs.Columns.{key_of}
+use Rattle.metadata.specs.KeyOrder.{IsKeyOrdered}
+use Rattle.tables.proofs.CountLemmas.{known_more}
+use Rattle.tables.proofs.order.find_order.Goals as goal
+
+pub loop-table_index-preserved : goal.loop-table_index-preserved
+loop-table_index-preserved c =
+    let long = c.loop-table_index.invariant.long in
+    let limit = c.number.ensures.limit in
+    record {
+      long = length-set _ _ _ ∙ long;
+      reported = known_more c.tables_stand.ensures.stand c.tables_stand.ensures.rise
+          (λ (bit : Bool) (table : TableId). (key : ℕ) → key_of table ≡ Some key → IsTrue bit ↔ IsKeyOrdered c.args.tables.now table) false
+          c.loop-table_index.in_order c.loop-table_index.table_index c.number.result
+          (slice_index_or c.all-all.result.now c.loop-table_index.table_index Module) c.is_in_order.result
+          (ap (λ (ts : List TableId). slice_index_or ts c.loop-table_index.table_index Module) c.all-all.ensures.value)
+          c.number.ensures.value (omega arith) c.is_in_order.ensures c.loop-table_index.invariant.reported;
+    }

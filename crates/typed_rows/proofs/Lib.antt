@@ -1,2 +1,0 @@
-pub mod RefRowLemmas
-pub mod RowsLeftLemmas

@@ -1,2 +1,0 @@
-pub mod RefRows
-pub mod RowsLeft

@@ -1,0 +1,24 @@
+use Rattle.std.proofs.Common.{◌^◌, ◌<◌, length, inl, inr, refl}
+use Rattle.root.specs.declared.kind.Kind.TheVariants.{Strings, Guids, Blobs}
+use Rattle.heap_pools.specs.TextHeap.{text_heap}
+use Rattle.heap_pools.specs.BlobHeap.{blob_heap}
+use Rattle.heap_pools.specs.GuidHeap.{guid_heap}
+use Rattle.metadata.specs.Metadata.{Metadata}
+use Rattle.root_writer.specs.Pools.{pools_of}
+use Rattle.root_writer.specs.Canonical.{canonical}
+use Rattle.root_writer.specs.Numbered.{IsTooLong}
+use Rattle.writer.proofs.LengthLemmas.{ArePut, within, over}
+use Rattle.writer.proofs.laws.streams_are_within_roots.Goals as goal
+
+too_long : ArePut → (model : Metadata) → IsTooLong model → 2 ^ 30 < length (canonical model)
+too_long put model (inl blobs) = over put model Blobs (blob_heap (pools_of model).blobs) (2 ^ 30) refl blobs
+too_long put model (inr guids) = over put model Guids (guid_heap (pools_of model).guids) (2 ^ 30) refl guids
+
+pub returns : goal.returns
+returns c =
+    let put : ArePut = c.canonical_roots_are_put.ensures in
+    record {
+      stream = within put;
+      texts = λ model long. over put model Strings (text_heap (pools_of model).texts) (2 ^ 30) refl long;
+      pools = too_long put;
+    }
