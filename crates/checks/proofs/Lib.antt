@@ -1,6 +1,7 @@
 pub mod AsciiTexts
 pub mod Apart
 pub mod Before
+pub mod Broken
 pub mod BlobLemmas
 pub mod CodedLemmas
 pub mod Columns

@@ -1,4 +1,5 @@
 pub mod Blobs
+pub mod Broken
 pub mod Budgets
 pub mod CodedLimits
 pub mod Columns

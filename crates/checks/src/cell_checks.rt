@@ -9,7 +9,8 @@ ghost use Rattle.metadata.specs.Source.{Source as Numbers, rows_in};
 ghost use Rattle.reading.specs.Codes.{code_at};
 ghost use Rattle.checks.specs.CodedLimits.{AreLimits};
 ghost use Rattle.checks.specs.Columns.{AllPass, IsChecked, ColumnStands};
-ghost use Rattle.metadata.specs.Rules.{MayRefer, rules_of_number, rules_of_cell, rules_of_row, rules_of_table, rules_of_cells};
+ghost use Rattle.checks.specs.Broken.{IsFirstBroken, IsFirstBrokenIn};
+ghost use Rattle.metadata.specs.Rules.{MayRefer, rules_of_number, rules_of_cell, rules_of_row, rules_of_cells};
 
 use crate::blobs::Blobs;
 use crate::coded_limits::{is_below_limit, limits_by_tag};
@@ -19,46 +20,72 @@ use packed::{Fault, FaultCode};
 use reading::{Source, column_at, named_by};
 use table_schema::{Coded, Column, ColumnKind, TableId, columns};
 
+/// A row of a table (II.22).
+#[derive(Clone, Copy, Debug, PartialEq, Eq)]
+pub struct BrokenRow {
+    /// The table index, from 0.
+    pub table_index: usize,
+    /// The row, from 1.
+    pub row: u32,
+}
+
 /// Checks that each number of each table stands for a cell (II.22).
 #[inline(never)]
 pub fn check_cells(source: &Source) -> Result<(), Fault>
     ensures { Reports (rules_of_cells source.now) result }
 {
+    match first_broken_row(source) {
+        Some(broken) => check_row(source, TableId::all()[broken.table_index], broken.row),
+        None => Ok(()),
+    }
+}
+
+/// The first row, by table and row, that breaks a rule for cells; `None` if no row does (II.22). Those rules do not look
+/// into signatures.
+///
+/// It does not allocate. The cost is linear in the rows, and in the texts that they name.
+pub fn first_broken_row(source: &Source) -> Option<BrokenRow>
+    ensures { IsFirstBroken source.now result }
+{
     let tables = TableId::all();
     let mut texts = Texts::new(source.texts());
     for table_index in 0..tables.len() {
-        check_table(source, tables[table_index], &mut texts)?;
+        if let Some(row) = broken_row(source, tables[table_index], &mut texts) {
+            return Some(BrokenRow { table_index, row });
+        }
     }
-    Ok(())
+    None
 }
 
-/// Checks that each number of a table stands for a cell.
+/// The first row of a table with a number that stands for no cell.
 ///
-/// A pass over the columns finds the first row with a number that does not. The rows are checked one by one
-/// only from that row on, to find its first fault.
-fn check_table(source: &Source, table: TableId, texts: &mut Texts) -> Result<(), Fault>
+/// A pass over the columns finds a row before which there is none. The rows are checked one by one only from that row
+/// on.
+fn broken_row(source: &Source, table: TableId, texts: &mut Texts) -> Option<u32>
     requires { texts.old ≡ source.now.source.texts }
     ensures texts { texts.new ≡ texts.old }
-    ensures reports { Reports (rules_of_table source.now table) result }
+    ensures broken { IsFirstBrokenIn source.now table result }
 {
-    check_rows(source, table, first_row(source, table, texts))
+    broken_from(source, table, first_row(source, table, texts))
 }
 
-/// Checks that each number of a table stands for a cell, row by row from `first` on.
-fn check_rows(source: &Source, table: TableId, first: u32) -> Result<(), Fault>
+/// The same, by the rows from `first` on.
+fn broken_from(source: &Source, table: TableId, first: u32) -> Option<u32>
     requires first { 1 ≤ first }
     requires last { first ≤ rows_in source.now.source table + 1 }
     requires before { HoldBefore (rules_of_row source.now table) 1 first }
-    ensures { Reports (rules_of_table source.now table) result }
+    ensures { IsFirstBrokenIn source.now table result }
 {
     let count = source.count(table);
     for row in first..count + 1 {
-        check_row(source, table, row)?;
+        if check_row(source, table, row).is_err() {
+            return Some(row);
+        }
     }
-    Ok(())
+    None
 }
 
-/// The first row of a table with a number that stands for no cell. If there is none, one more than the last row.
+/// A row of a table before which each number stands for a cell; one more than the last row if that is so of all rows.
 /// It reads column by column.
 fn first_row(source: &Source, table: TableId, texts: &mut Texts) -> u32
     requires { texts.old ≡ source.now.source.texts }

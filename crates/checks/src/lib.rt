@@ -28,4 +28,5 @@ mod tables;
 mod texts;
 
 pub use budget::{BoundedError, Budget};
+pub use cell_checks::{BrokenRow, first_broken_row};
 pub use tables::check_tables_within;

@@ -24,8 +24,7 @@ use table_schema::column_of_cell;
 
 /// Prints what differs between two views, as `comparison::differences` found it: a line `WHAT: A | B` for each, and `equal` if there
 /// is none. WHAT is `version`, `user strings`, `rows NN NAME`, or the token of a row and the name of a column. A cell is
-/// printed as by `clim show`.
-/// Its memory is that of the longest line, and of the lines that wait to be sent.
+/// printed as by `clim show`. Its memory is that of the longest line, and of the lines that wait to be sent.
 ///
 /// # Errors
 ///

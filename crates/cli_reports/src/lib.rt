@@ -21,7 +21,7 @@ mod print_token;
 mod report;
 mod row_lines;
 mod sending;
-mod table_lines;
+pub mod table_lines;
 pub mod type_lines;
 mod user_string_line;
 
@@ -33,6 +33,6 @@ pub use opened::{open, open_within};
 pub use print_root::heads_of;
 pub use print_token::{padded_copy, print_named};
 pub use report::{Report, print_report};
-pub use row_lines::{push_token, shortest};
+pub use row_lines::{kind_of, push_token, push_value, shortest};
 pub use sending::{FULL, finish, send_full};
 pub use user_string_line::print_units;

@@ -21,7 +21,7 @@ use std::alloc::{AllocError, Global};
 use table_schema::{ColumnKind, SigKind, cell_count, column_of_cell, columns};
 
 /// The kind of the column of a cell.
-fn kind_of(table: TableId, cell_index: usize) -> ColumnKind
+pub fn kind_of(table: TableId, cell_index: usize) -> ColumnKind
     requires { cell_index < cell_count table }
     ensures { result ≡ (column_at table (column_of table cell_index)).kind }
 {
@@ -122,7 +122,9 @@ pub fn push_token(token: Token, line: &mut Vec<u8>) -> Result<(), AllocError>
 
 /// Appends the value of a cell: a text in quotes, bytes between `<` and `>`, a GUID in braces. A reference is the eight
 /// digits of its token, and a start follows a plus sign.
-fn push_value(
+/// # Errors
+/// Out of memory.
+pub fn push_value(
     alloc: Global,
     kind: ColumnKind,
     value: CellRef<'_>,
@@ -180,9 +182,7 @@ pub(crate) fn push_cell(
 /// - Bytes are in hexadecimal between `<` and `>`, and so is a signature, in its canonical encoding (II.23.2).
 /// - A GUID is in braces, a reference is the eight hexadecimal digits of its token, and a start is `+` and a row.
 /// - `null` means no GUID or no row.
-///
 /// # Errors
-///
 /// Out of memory.
 pub fn push_row(
     alloc: Global,

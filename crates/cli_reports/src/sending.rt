@@ -57,9 +57,7 @@ pub fn send_full<W: Write>(lines: &mut Vec<u8>, out: &mut W) -> io::Result<()>
 }
 
 /// Sends the last lines, and flushes the writer.
-///
 /// # Errors
-///
 /// The error of the writer. By then the writer has nothing or a prefix of the lines, or all of them if it could not be
 /// flushed.
 pub fn finish<W: Write>(lines: &[u8], out: &mut W) -> io::Result<()>

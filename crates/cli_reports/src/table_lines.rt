@@ -104,7 +104,9 @@ fn print_table<W: Write>(
 }
 
 /// Appends the line before the rows of a table.
-fn push_heading(table: TableId, count: u32, line: &mut Vec<u8>) -> Result<(), AllocError>
+/// # Errors
+/// Out of memory.
+pub fn push_heading(table: TableId, count: u32, line: &mut Vec<u8>) -> Result<(), AllocError>
     ensures { OnOk result (line.new.items ≡ line.old.items ++ heading_text table count) }
 {
     line.extend_from_slice(b"table ")?;

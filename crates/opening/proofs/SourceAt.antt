@@ -1,7 +1,7 @@
 -- The parts that are read from a root are those that its bytes encode.
-use Rattle.std.proofs.Common.{◌≡◌, ℕ, ◌+◌, List, ◌++◌, ap, ◌∙◌, subst}
+use Rattle.std.proofs.Common.{◌≡◌, ℕ, ◌+◌, List, ◌++◌, Result, Ok, Err, ap, ◌∙◌, subst}
 use Rattle.packed.specs.declared.fault.Fault.{Fault}
-use Rattle.packed.specs.Rule.{AllHold, FirstBroken, rebased}
+use Rattle.packed.specs.Rule.{AllHold, FirstBroken, Reports, rebased}
 use Rattle.root.specs.Rules.{rules_of_root}
 use Rattle.root.specs.declared.kind.Kind.TheVariants.{Strings, Guids, Blobs}
 use Rattle.root.specs.Fields.{root_read}
@@ -11,12 +11,13 @@ use Rattle.schema.specs.Header.{sizes_of}
 use Rattle.schema.specs.Cells.{numbers_at}
 use Rattle.metadata.specs.Streams.{stream_in}
 use Rattle.metadata.specs.Rules.{rules_of_tables, rules_of_metadata}
-use Rattle.packed.proofs.RuleLemmas.{fails_prefix}
+use Rattle.packed.proofs.RuleLemmas.{all_append, fails_back, fails_prefix}
 use Rattle.checks.specs.declared.budget.Budget.{Budget}
 use Rattle.checks.specs.declared.budget.BoundedError.{BoundedError}
 use Rattle.checks.specs.declared.budget.BoundedError.TheVariants as bounded
 use Rattle.checks.specs.Budgets.{FailsWithin, HoldBeforeSignatures, IsBelow}
 use Rattle.checks.specs.Signatures.{signature_bytes}
+use Rattle.opening.specs.BeforeCells.{rules_before_cells, rules_of_tables_in}
 use Rattle.opening.specs.Within.{signature_bytes_in}
 use Rattle.opening.proofs.Parts.{second_fails, third_fails, all_hold, before_behind}
 use Rattle.metadata.specs.SourceAt.{SourceAt, tables_in, tables_offset, source_of, source_at}
@@ -29,11 +30,16 @@ located_is root offset at here tables texts blobs guids sizes source is_offset i
     λ i. record { source = same i; offset = moved i }
 
 module _ (root : List ℕ) (offset at : ℕ) (tables : List ℕ) (is_tables : tables ≡ tables_in root) (is_at : at ≡ tables_offset root) where
+  pub stream_breaks : (found : Fault) → FirstBroken (rebased (offset + at) (rules_of_stream tables)) found
+      → FirstBroken (rebased (offset + tables_offset root) (rules_of_stream (tables_in root))) found
+  stream_breaks found first =
+      subst (λ n. FirstBroken (rebased (offset + n) (rules_of_stream (tables_in root))) found) is_at (subst (λ t. FirstBroken (rebased (offset + at) (rules_of_stream t)) found) is_tables first)
+
   pub stream_fails : (found : Fault) → AllHold (rebased offset (rules_of_root root)) → FirstBroken (rebased (offset + at) (rules_of_stream tables)) found → FirstBroken (rules_of_metadata offset root) found
   unfolding rules_of_metadata
   stream_fails found all first =
       second_fails (rebased offset (rules_of_root root)) (rebased (offset + tables_offset root) (rules_of_stream (tables_in root))) (rules_of_tables (source_at offset root)) found
-      all (subst (λ n. FirstBroken (rebased (offset + n) (rules_of_stream (tables_in root))) found) is_at (subst (λ t. FirstBroken (rebased (offset + at) (rules_of_stream t)) found) is_tables first))
+      all (stream_breaks found first)
 
   pub stream_holds : AllHold (rebased (offset + at) (rules_of_stream tables)) → AllHold (rebased (offset + tables_offset root) (rules_of_stream (tables_in root)))
   stream_holds more = subst (λ n. AllHold (rebased (offset + n) (rules_of_stream (tables_in root)))) is_at (subst (λ t. AllHold (rebased (offset + at) (rules_of_stream t))) is_tables more)
@@ -65,3 +71,15 @@ module _ (root : List ℕ) (offset : ℕ) (here : SourceAt) (is : here ≡ sourc
   metadata_holds holds =
       all_hold (rebased offset (rules_of_root root)) (rebased (offset + tables_offset root) (rules_of_stream (tables_in root))) (rules_of_tables (source_at offset root))
       all more (rw is at holds)
+
+-- the rules before those for cells: for the directory, and then for the table stream
+module _ (root : List ℕ) (offset : ℕ) where
+  pub directory_breaks : (found : Fault) → FirstBroken (rebased offset (rules_of_root root)) found → FirstBroken (rules_before_cells offset root) found
+  unfolding rules_before_cells
+  directory_breaks found first = fails_prefix (rebased offset (rules_of_root root)) (rules_of_tables_in offset root) found first
+
+  pub before_cells_report : {X : Type 0} (r : Result X Fault) → AllHold (rebased offset (rules_of_root root)) → Reports (rules_of_tables_in offset root) r
+      → Reports (rules_before_cells offset root) r
+  unfolding rules_before_cells
+  before_cells_report (Ok x) all more = all_append (rebased offset (rules_of_root root)) (rules_of_tables_in offset root) all more
+  before_cells_report (Err found) all first = fails_back (rebased offset (rules_of_root root)) (rules_of_tables_in offset root) found all first

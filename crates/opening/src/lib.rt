@@ -5,7 +5,8 @@
 //! [`open_image_within`] do the same within a budget of bytes to check. A [`View`] reads the one model of the bytes:
 //! its version, its user strings, its cells, the runs of members, and rows by name and by key. It returns values and
 //! parts of the caller's bytes. A [`CellCursor`] reads the cells in a pass over the rows.
-//! [`read_heads`] reads only the headers before the streams of a file.
+//! [`read_heads`] reads only the headers before the streams of a file. [`read_source_of_root`] and
+//! [`read_source_of_image`] read the rows of bytes that break a rule for cells or a later one.
 //!
 //! ```text
 //! let (header, view) = open_image(&file)?;
@@ -27,9 +28,9 @@ pub use checks::BoundedError;
 pub use cli_header::CliHeader;
 pub use found::Found;
 pub use heads::{Heads, read_heads};
-pub use image::{open_image, open_image_within};
+pub use image::{open_image, open_image_within, read_source_of_image};
 pub use metadata_source::{KeysOf, MemberList, ReadCells, ReadMetadata, SignatureBytes};
-pub use open::{open_root, open_root_within, view_again};
+pub use open::{open_root, open_root_within, read_source_of_root, view_again};
 pub use packed::{Fault, FaultCode};
 pub use pe::Pe;
 pub use reading::{CellRef, KeyNumbers, KeyRows, Source, Starts};

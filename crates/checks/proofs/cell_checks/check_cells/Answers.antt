@@ -1,33 +1,10 @@
-use Rattle.std.proofs.Common.{List, get_or, ap, ◌∙◌, arith}
-use Rattle.std.proofs.lemmas.Result.{err_from_is_err_and}
-use Rattle.packed.proofs.RuleLemmas.{before_none, before_more, before_all, before_fails}
+use Rattle.std.proofs.Common.{List, get_or, ap, arith}
 use Rattle.table_schema.specs.declared.table.TableId.{TableId}
 use Rattle.table_schema.specs.declared.table.TableId.TheVariants.{Module}
-use Rattle.metadata.specs.Rules.{rules_of_cells, rules_of_table_at}
+use Rattle.checks.proofs.Broken.{row_reports}
 use Rattle.checks.proofs.cell_checks.check_cells.Goals as goal
 
-pub loop-table_index-init : goal.loop-table_index-init
-loop-table_index-init c = record {
-  texts = c.new-texts.ensures ∙ c.texts.ensures;
-  hold = before_none _ _ _ (omega arith);
-}
-
-pub loop-table_index-preserved : goal.loop-table_index-preserved
-unfolding rules_of_table_at
-loop-table_index-preserved c =
-    let listed = ap (λ (l : List TableId). get_or l c.loop-table_index.table_index Module) c.all-tables.ensures.value in
-    record {
-      texts = c.check_table.ensures.texts ∙ c.loop-table_index.invariant.texts;
-      hold = before_more _ _ _ c.loop-table_index.invariant.hold (rw listed at c.in_ok-check_table.ensures.reports);
-    }
-
-pub returns-in_err-check_table : goal.returns-in_err-check_table
-unfolding rules_of_cells rules_of_table_at
-returns-in_err-check_table c =
-    let listed = ap (λ (l : List TableId). get_or l c.loop-table_index.table_index Module) c.all-tables.ensures.value in
-    let p = err_from_is_err_and c.from_residual.result c.from_residual.ensures.1 in
-    rw (p.1, p.2) (before_fails _ _ _ _ _ c.loop-table_index.invariant.hold (omega arith) (omega arith) (rw listed at c.in_err-check_table.ensures.reports))
-
-pub returns : goal.returns
-unfolding rules_of_cells
-returns c = before_all _ _ _ _ c.loop-table_index.invariant.hold (omega arith)
+pub returns-in-Some : goal.returns-in-Some
+returns-in-Some c =
+    row_reports c.args.source.now c.in-Some.broken _ c.check_row.result c.in-Some.ensures
+    (ap (λ (l : List TableId). get_or l c.in-Some.broken.table_index Module) c.all.ensures.value) c.check_row.ensures

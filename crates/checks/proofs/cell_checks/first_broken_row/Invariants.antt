@@ -1,7 +1,7 @@
 use Rattle.std.proofs.Common.{◌≡◌}
 use Rattle.packed.specs.Rule.{HoldBefore}
 use Rattle.metadata.specs.Rules.{rules_of_table_at}
-use Rattle.checks.proofs.cell_checks.check_cells.Given as goal
+use Rattle.checks.proofs.cell_checks.first_broken_row.Given as goal
 
 abbrev pub invariant-loop-table_index : goal.invariant-loop-table_index
 invariant-loop-table_index l = record {

@@ -1,0 +1,3 @@
+pub mod Shown
+pub mod Before
+pub mod MetRows
