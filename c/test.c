@@ -1,6 +1,7 @@
 /* Tests of clim from C.
  *
  *     test show FILE [bare]      prints the tables as clim show does, each signature as its blob
+ *     test texts FILE [bare]     the same, but each signature as its text
  *     test vary FILE [bare]      checks each prefix of the file, and the file with one byte set to 00 or FF, and
  *                                prints what clim check prints, one line each
  *     test rewrite FILE OUT [bare]   writes the canonical root to OUT, as clim rewrite does, and prints its digest
@@ -232,7 +233,20 @@ static clim_cell *read_cells(const clim_view *view, uint8_t table) {
     return cells;
 }
 
-static void show(const clim_view *view) {
+/* A cell, but a signature as its text. */
+static void print_with_text(const clim_view *view, uint8_t table, uint32_t row, size_t column, const clim_cell *cell) {
+    static uint8_t text[1 << 16];
+    if (cell->kind != CLIM_SIGNATURE) {
+        print_cell(cell);
+        return;
+    }
+    size_t len = clim_signature_text(view, table, row, column, text, sizeof text);
+    printf(" <%.*s>", (int)(len < sizeof text ? len : sizeof text), (const char *)text);
+}
+
+typedef enum signatures_are { BLOBS, TEXTS } signatures_are;
+
+static void show(const clim_view *view, signatures_are shown) {
     for (unsigned table = 0; table < 256; table++) {
         uint32_t rows = clim_count(view, (uint8_t)table);
         size_t columns = clim_cell_count((uint8_t)table);
@@ -243,7 +257,11 @@ static void show(const clim_view *view) {
         clim_cell *cells = read_cells(view, (uint8_t)table);
         for (uint32_t row = 0; row < rows; row++) {
             printf("%u:", row + 1);
-            for (size_t column = 0; column < columns; column++) print_cell(&cells[column * rows + row]);
+            for (size_t column = 0; column < columns; column++) {
+                const clim_cell *cell = &cells[column * rows + row];
+                if (shown == TEXTS) print_with_text(view, (uint8_t)table, row + 1, column, cell);
+                else print_cell(cell);
+            }
             putchar('\n');
         }
         free(cells);
@@ -1269,6 +1287,59 @@ static void ask_within(guarded file, const clim_view *view, bool bare) {
     CHECK(!clim_check_root_within(file.at, 0, 0, &fault, &spent) && !spent && fault.code == 301);
 }
 
+/* A file and a root of more than 2^30 bytes are too long, whatever their bytes are. */
+static void ask_too_long(void) {
+    size_t most = (size_t)1 << 30;
+    uint8_t *zeros = mmap(NULL, most + 1, PROT_READ, MAP_PRIVATE | MAP_ANONYMOUS | MAP_NORESERVE, -1, 0);
+    if (zeros == MAP_FAILED) stop("no memory");
+    clim_fault fault = {7, 7, 7};
+    clim_header header = CLIM_NO_HEADER;
+    clim_view view = CLOSED;
+    CHECK(!clim_check(zeros, most + 1, &fault) && same_fault(fault, (clim_fault){0, 101, 1}));
+    CHECK(!clim_read_header(zeros, most + 1, &header, &fault) && same_fault(fault, (clim_fault){0, 101, 1}));
+    CHECK(!clim_check(zeros, most, &fault) && same_fault(fault, (clim_fault){0, 102, 1}));
+    CHECK(!clim_open_root(zeros, most + 1, &view, &fault) && same_fault(fault, (clim_fault){0, 101, 1}));
+    CHECK(!clim_open_root(zeros, most, &view, &fault) && same_fault(fault, (clim_fault){0, 301, 3}));
+    CHECK(same_view(&view, &CLOSED));
+    munmap(zeros, most + 1);
+}
+
+/* A view may be moved. The memory that it was in may then have any bytes. */
+static void ask_moved(const clim_view *view) {
+    clim_view *first = malloc(sizeof *first), moved = CLOSED;
+    uint32_t types = clim_count(view, CLIM_TYPE_DEF);
+    clim_cell name = NO_CELL, its_name = NO_CELL;
+    if (first == NULL) stop("no memory");
+    *first = *view;
+    bool has_name = clim_cell_at(first, CLIM_TYPE_DEF, 1, CLIM_TYPE_DEF_TYPE_NAME, &name);
+    moved = *first;
+    memset(first, 0xEE, sizeof *first);
+    free(first);
+    CHECK(clim_count(&moved, CLIM_TYPE_DEF) == types && has_name == (types > 0));
+    CHECK(clim_cell_at(&moved, CLIM_TYPE_DEF, 1, CLIM_TYPE_DEF_TYPE_NAME, &its_name) == has_name);
+    CHECK(same_cell(&name, &its_name));
+}
+
+/* Arguments that a call only reads may overlap: a name in its own namespace, and a version that is also the text, the
+ * blob of a cell and the user strings. */
+static void ask_overlapping(const clim_view *view) {
+    clim_cell name = NO_CELL;
+    if (clim_cell_at(view, CLIM_TYPE_DEF, 1, CLIM_TYPE_DEF_TYPE_NAME, &name)) {
+        uint32_t row = clim_find_type(view, name.bytes.at, 0, name.bytes.at, name.bytes.len);
+        CHECK(row <= 1 && clim_find_type(view, name.bytes.at, name.bytes.len, name.bytes.at, 0) == 0);
+    }
+    static const uint8_t bytes[] = {0, 3, 'A', 0, 1, 0, 0, 0};
+    clim_cell file[] = {number_cell(0), {{bytes + 2, 1}, 0, CLIM_TEXT, 0, {0}}, {{bytes, 8}, 0, CLIM_BLOB, 0, {0}}};
+    clim_row rows[] = {{file, 3, CLIM_FILE}, {file, 3, CLIM_FILE}};
+    given it = {{bytes + 2, 1}, {bytes, sizeof bytes}, rows, 2};
+    clim_refusal refusal = CLIM_NO_REFUSAL;
+    uint8_t root[400];
+    size_t len = make_root(&it, root, sizeof root, &refusal);
+    clim_view made = CLOSED;
+    clim_fault fault = CLIM_NO_FAULT;
+    CHECK(len > 0 && len <= sizeof root && clim_open_root(root, len, &made, &fault) && has_rows(&made, &it));
+}
+
 static void calls(guarded file, clim_view *view, bool bare) {
     static const struct { uint8_t owner, column, member; } runs[] = {
         {CLIM_TYPE_DEF, 4, CLIM_FIELD}, {CLIM_TYPE_DEF, 5, CLIM_METHOD_DEF}, {CLIM_METHOD_DEF, 5, CLIM_PARAM},
@@ -1307,6 +1378,9 @@ static void calls(guarded file, clim_view *view, bool bare) {
     ask_canonical(view);
     ask_where(view);
     ask_compare(view);
+    ask_too_long();
+    ask_moved(view);
+    ask_overlapping(view);
     ask_sample();
     ask_refused_cells();
     ask_refused_rows();
@@ -1401,7 +1475,7 @@ static void times(guarded file, bool bare) {
 }
 
 int main(int count, char **words) {
-    if (count < 3) stop("test show|vary|write|rewrite|build|calls|times FILE ..");
+    if (count < 3) stop("test show|texts|vary|write|rewrite|build|calls|times FILE ..");
     guarded file = read_file(words[2]);
     bool bare = strcmp(words[count - 1], "bare") == 0;
     if (strcmp(words[1], "vary") == 0) {
@@ -1414,14 +1488,16 @@ int main(int count, char **words) {
     } else if (strcmp(words[1], "explain") == 0) {
         explain();
     } else {
+        /* No call writes what it only reads. */
+        if (mprotect(file.pages, (size_t)(file.at + file.len - file.pages), PROT_READ) != 0) stop("no protection");
         clim_view view = CLOSED;
         clim_fault fault = CLIM_NO_FAULT;
         if (!(bare ? clim_open_root(file.at, file.len, &view, &fault) : clim_open(file.at, file.len, &view, &fault))) {
             print_fault(fault);
             return 1;
         }
-        if (strcmp(words[1], "show") == 0) {
-            show(&view);
+        if (strcmp(words[1], "show") == 0 || strcmp(words[1], "texts") == 0) {
+            show(&view, strcmp(words[1], "texts") == 0 ? TEXTS : BLOBS);
         } else if ((strcmp(words[1], "rewrite") == 0 || strcmp(words[1], "build") == 0) && count > 3) {
             rewrite(&view, words[3], words[1][0] == 'b');
         } else if (strcmp(words[1], "compare") == 0 && count > 3) {

@@ -986,9 +986,9 @@ namespace Clim
         }
 
         /// <summary>
-        /// The signature of a row in the notation of ILAsm (II.7.1, II.15.3), with names as they are in the file. It is null
-        /// if there is no such row, if it has no signature, or if the text has more than 65,536 bytes, as those of crafted
-        /// files can have.
+        /// The signature of a row in the notation of ILAsm (II.7.1, II.15.3), such as "method instance string *(int32, class
+        /// 01000007)". A type is named by its token. It is null if there is no such row, if it has no signature, or if the
+        /// text has more than 65,536 bytes, as those of crafted files can have.
         /// </summary>
         /// <exception cref="NotSupportedException">The library is older than this file.</exception>
         public string SignatureText(Token row)

@@ -1,6 +1,7 @@
 // Prints what clim prints, from C#. c/run compares both.
 //
 //     Lines.exe show FILE [bare]      prints the tables as clim show does, each signature as its blob
+//     Lines.exe texts FILE [bare]     the same, but each signature as its text
 //     Lines.exe vary FILE [bare]      prints what clim check prints for each prefix of the file, and for the file with
 //                                     one byte set to 00 or FF, one line each
 //     Lines.exe rewrite FILE OUT [bare]
@@ -78,7 +79,14 @@ static class Lines
         return value is int ? "+" + value : value.ToString();
     }
 
-    static void ShowTable<T>(Assembly assembly) where T : struct, IRow
+    // The same, but a signature as its text. No table with signatures has other blobs.
+    static string WithText(Assembly assembly, Token row, object value)
+    {
+        string text = value is byte[] ? assembly.SignatureText(row) : null;
+        return text == null ? Shown(value) : "<" + text + ">";
+    }
+
+    static void ShowTable<T>(Assembly assembly, Func<Token, object, string> shown) where T : struct, IRow
     {
         var table = default(T).Table;
         var fields = typeof(T).GetFields().Where(field => field.Name != "Token").ToArray();
@@ -91,15 +99,15 @@ static class Lines
         {
             object boxed = row;
             var token = (Token)typeof(T).GetField("Token").GetValue(boxed);
-            Console.WriteLine(token.Row + ": " + string.Join(" ", fields.Select(field => Shown(field.GetValue(boxed)))));
+            Console.WriteLine(token.Row + ": " + string.Join(" ", fields.Select(field => shown(token, field.GetValue(boxed)))));
         }
     }
 
-    static void Show(Assembly assembly)
+    static void Show(Assembly assembly, Func<Token, object, string> shown)
     {
         var show = typeof(Lines).GetMethod("ShowTable", BindingFlags.NonPublic | BindingFlags.Static);
         foreach (TableId table in Enum.GetValues(typeof(TableId)))
-            show.MakeGenericMethod(Type.GetType("Clim." + table + "Row")).Invoke(null, new object[] { assembly });
+            show.MakeGenericMethod(Type.GetType("Clim." + table + "Row")).Invoke(null, new object[] { assembly, shown });
     }
 
     static string Hex(byte[] bytes)
@@ -130,8 +138,10 @@ static class Lines
                     WriteRoot(assembly, assembly.CanonicalRoot(), arguments[2]);
                 else if (arguments[0] == "build")
                     WriteRoot(assembly, Tables.Of(assembly).Root(), arguments[2]);
+                else if (arguments[0] == "texts")
+                    Show(assembly, (row, value) => WithText(assembly, row, value));
                 else
-                    Show(assembly);
+                    Show(assembly, (row, value) => Shown(value));
         output.Flush();
         return 0;
     }

@@ -2,7 +2,8 @@
 //
 //     Tests.exe SAMPLES [FILE..]      the samples in a folder, and these files; without one, mscorlib.dll and Tests.exe
 //
-// Each name of a type and of a method of a file is compared with that of System.Reflection.
+// Each name of a type and of a method of a file is compared with that of System.Reflection. What Mono cannot load is left
+// out and counted.
 
 using System;
 using System.IO;
@@ -287,63 +288,119 @@ static class Tests
             Check(whole.Version == bare.Version && whole.Count(TableId.TypeDef) == bare.Count(TableId.TypeDef), "its root");
     }
 
-    // Each name of a type and of a method is that of System.Reflection. A file counts once.
-    static void Compare(string path)
+    // Runs a comparison with System.Reflection. False if it needs an assembly that is not found.
+    static bool CanCompare(Action comparison)
     {
-        Module module;
         try
         {
-            module = System.Reflection.Assembly.ReflectionOnlyLoadFrom(path).ManifestModule;
+            comparison();
+            return true;
         }
-        catch (BadImageFormatException)
+        catch (FileNotFoundException)
         {
-            Console.WriteLine("System.Reflection does not load " + path);
-            return;
+            return false;
         }
-        int types = 0, methods = 0, before = failed;
+        catch (TypeLoadException)
+        {
+            return false;
+        }
+    }
+
+    static void CompareType(Module module, TypeDefRow type)
+    {
+        var its = module.ResolveType(type.Token.Value);
+        Expect(its.Name == type.TypeName, type.Token + " " + its.Name + " is not " + type.TypeName);
+        Expect(its.IsNested || (its.Namespace ?? "") == type.TypeNamespace, "the namespace of " + type.Token);
+        Expect((int)its.Attributes == (int)type.Flags, "the flags of " + type.Token);
+    }
+
+    static void CompareMethod(Module module, TypeDefRow type, MethodDefRow method)
+    {
+        var its = module.ResolveMethod(method.Token.Value);
+        Expect(its.Name == method.Name, method.Token + " " + its.Name + " is not " + method.Name);
+        Expect(type.Token.Row == 1 || its.DeclaringType.MetadataToken == type.Token.Value, "the type of " + method.Token);
+    }
+
+    // Each name of a type and of a method is that of System.Reflection, unless Mono cannot load it: it needs an assembly
+    // that is not found. It looks next to the file too, and in the folders that MONO_PATH names.
+    static void CompareNames(Module module, Assembly assembly)
+    {
+        int types = 0, methods = 0, leftOut = 0;
+        foreach (var type in assembly.Rows<TypeDefRow>())
+        {
+            types++;
+            if (!CanCompare(() => CompareType(module, type)))
+                leftOut++;
+            foreach (var method in assembly.Methods(type))
+            {
+                methods++;
+                if (!CanCompare(() => CompareMethod(module, type, method)))
+                    leftOut++;
+            }
+        }
+        Expect(methods == assembly.Count(TableId.MethodDef) && types == assembly.Count(TableId.TypeDef), "all rows");
+        Console.Write("compared {0} types and {1} methods with System.Reflection", types, methods);
+        Console.WriteLine(leftOut == 0 ? "" : ", without " + leftOut + " of them, which need an assembly that is not found");
+    }
+
+    // Calls against one another, on all rows of an assembly.
+    static void CompareCalls(Assembly assembly, string path)
+    {
+        Newer("clim_tables", () =>
+            Expect(Tables.Of(assembly).Root().SequenceEqual(assembly.CanonicalRoot()), "the tables of " + path));
+        foreach (var nested in assembly.Rows<NestedClassRow>())
+        {
+            var type = assembly.Row<TypeDefRow>(nested.NestedClass.Row);
+            var outer = assembly.Row<TypeDefRow>(nested.EnclosingClass.Row);
+            Expect(assembly.FullName(type) == assembly.FullName(outer) + "/" + type.TypeName, "the name of " + type.Token);
+        }
+        foreach (var attributes in assembly.Rows<CustomAttributeRow>().GroupBy(it => it.Parent))
+            if (attributes.Key.Row % 10 == 1)
+            {
+                var listed = assembly.ByKey<CustomAttributeRow>(attributes.Key).Select(it => it.Token);
+                Expect(listed.SequenceEqual(attributes.Select(it => it.Token)), "the attributes of " + attributes.Key);
+            }
+        Newer("clim_signature_text", () =>
+        {
+            foreach (var table in new[] {
+                TableId.Field, TableId.MethodDef, TableId.MemberRef, TableId.StandAloneSig, TableId.Property,
+                TableId.TypeSpec, TableId.MethodSpec })
+                Expect(assembly.Count(table) == 0 || assembly.SignatureText(new Token(table, 1)) != null,
+                    "the text of a signature of " + table);
+        });
+    }
+
+    // A file counts once.
+    static void Compare(string path)
+    {
+        int before = failed;
         using (var assembly = Assembly.Open(File.ReadAllBytes(path)))
         {
-            foreach (var type in assembly.Rows<TypeDefRow>())
+            CompareCalls(assembly, path);
+            try
             {
-                var its = module.ResolveType(type.Token.Value);
-                Expect(its.Name == type.TypeName, type.Token + " " + its.Name + " is not " + type.TypeName);
-                Expect(its.IsNested || (its.Namespace ?? "") == type.TypeNamespace, "the namespace of " + type.Token);
-                Expect((int)its.Attributes == (int)type.Flags, "the flags of " + type.Token);
-                types++;
-                foreach (var method in assembly.Methods(type))
-                {
-                    var itsMethod = module.ResolveMethod(method.Token.Value);
-                    Expect(itsMethod.Name == method.Name, method.Token + " " + itsMethod.Name + " is not " + method.Name);
-                    Expect(itsMethod.DeclaringType == its || type.Token.Row == 1, "the type of " + method.Token);
-                    methods++;
-                }
+                CompareNames(System.Reflection.Assembly.ReflectionOnlyLoadFrom(path).ManifestModule, assembly);
             }
-            Newer("clim_tables", () =>
-                Expect(Tables.Of(assembly).Root().SequenceEqual(assembly.CanonicalRoot()), "the tables of " + path));
-            foreach (var nested in assembly.Rows<NestedClassRow>())
+            catch (BadImageFormatException)
             {
-                var type = assembly.Row<TypeDefRow>(nested.NestedClass.Row);
-                var outer = assembly.Row<TypeDefRow>(nested.EnclosingClass.Row);
-                Expect(assembly.FullName(type) == assembly.FullName(outer) + "/" + type.TypeName, "the name of " + type.Token);
+                Console.WriteLine("System.Reflection does not load " + path);
             }
-            foreach (var attributes in assembly.Rows<CustomAttributeRow>().GroupBy(it => it.Parent))
-                if (attributes.Key.Row % 10 == 1)
-                {
-                    var listed = assembly.ByKey<CustomAttributeRow>(attributes.Key).Select(it => it.Token);
-                    Expect(listed.SequenceEqual(attributes.Select(it => it.Token)), "the attributes of " + attributes.Key);
-                }
-            Newer("clim_signature_text", () =>
-            {
-                foreach (var table in new[] {
-                    TableId.Field, TableId.MethodDef, TableId.MemberRef, TableId.StandAloneSig, TableId.Property,
-                    TableId.TypeSpec, TableId.MethodSpec })
-                    Expect(assembly.Count(table) == 0 || assembly.SignatureText(new Token(table, 1)) != null,
-                        "the text of a signature of " + table);
-            });
-            Expect(methods == assembly.Count(TableId.MethodDef) && types == assembly.Count(TableId.TypeDef), "all rows");
         }
         Check(failed == before, "the names of " + path);
-        Console.WriteLine("compared {0} types and {1} methods", types, methods);
+    }
+
+    // An assembly that another one needs: what Mono finds, or the file next to the other one; null if there is none.
+    static System.Reflection.Assembly Load(ResolveEventArgs wanted, string folder)
+    {
+        try
+        {
+            return System.Reflection.Assembly.ReflectionOnlyLoad(wanted.Name);
+        }
+        catch (FileNotFoundException)
+        {
+            string path = Path.Combine(folder, new AssemblyName(wanted.Name).Name + ".dll");
+            return File.Exists(path) ? System.Reflection.Assembly.ReflectionOnlyLoadFrom(path) : null;
+        }
     }
 
     static int Main(string[] arguments)
@@ -354,11 +411,12 @@ static class Tests
         Closed(File.ReadAllBytes(Path.Combine(samples, "one_module.dll")));
         NewerFunctions(File.ReadAllBytes(Path.Combine(samples, "greeter.root")));
         Header(File.ReadAllBytes(Path.Combine(samples, "one_module.dll")));
-        AppDomain.CurrentDomain.ReflectionOnlyAssemblyResolve +=
-            (sender, wanted) => System.Reflection.Assembly.ReflectionOnlyLoad(wanted.Name);
+        string folder = ".";
+        AppDomain.CurrentDomain.ReflectionOnlyAssemblyResolve += (sender, wanted) => Load(wanted, folder);
         var own = new[] { typeof(object).Assembly.Location, typeof(Tests).Assembly.Location };
         foreach (string path in arguments.Length > 1 ? arguments.Skip(1) : own)
         {
+            folder = Path.GetDirectoryName(Path.GetFullPath(path));
             Header(File.ReadAllBytes(path));
             Compare(path);
         }

@@ -106,8 +106,14 @@ class _Found(ctypes.Structure):
 
 
 class ViewStruct(ctypes.Structure):
-    """A `clim_view`. `closed_view` makes one that is not open."""
+    """A `clim_view`. `closed_view` makes one that is not open.
 
+    Attributes:
+        kept: What has the bytes of the view. So they stay as long as a call has the view, also if another thread closes
+            the assembly during the call.
+    """
+
+    kept: Any = None
     _fields_ = [("root", Bytes), ("found", _Found), ("is_open", c_bool)]
 
 

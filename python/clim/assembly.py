@@ -2,6 +2,7 @@
 
 from __future__ import annotations
 
+import contextlib
 import ctypes
 import io
 import mmap as _mmap
@@ -55,7 +56,8 @@ def read_source(source: Source, mmap: bool = False) -> Union[bytes, _mmap.mmap]:
         return source
     if isinstance(source, (bytearray, memoryview, _mmap.mmap)):
         return bytes(source)
-    with io.open(source, "rb") as file:
+    # The number of a file descriptor is no path.
+    with io.open(os.fspath(source), "rb") as file:
         size = os.fstat(file.fileno()).st_size
         if mmap and size > 0:
             return _mmap.mmap(file.fileno(), 0, access=_mmap.ACCESS_COPY)
@@ -93,6 +95,18 @@ def header_of(data: Union[bytes, _mmap.mmap]) -> Header:
     return Header(*(Directory(it.rva, it.size) if isinstance(it, _c.DirectoryStruct) else it for it in fields))
 
 
+def _read_streams(data: Union[bytes, _mmap.mmap], root: int) -> Iterator[Tuple[str, int, int]]:
+    """What `Assembly._streams` gives, of a root that was opened, with an older library."""
+    at = root + 16 + struct.unpack_from("<I", data, root + 12)[0]
+    (count,) = struct.unpack_from("<H", data, at + 2)
+    at += 4
+    for _ in range(count):
+        past = data.find(b"\0", at + 8)
+        offset, size = struct.unpack_from("<II", data, at)
+        yield data[at + 8 : past].decode("ascii"), offset, size
+        at += 8 + (past - at - 8 + 4) // 4 * 4
+
+
 def _difference_of(it: _c.DifferenceStruct) -> Difference:
     """A difference that the library wrote."""
     if it.kind == _c.VERSION_DIFFERS:
@@ -112,6 +126,7 @@ class Assembly:
     or by number: `assembly["TypeDef"]`. Iterating gives the tables that have rows, in the order of their numbers.
 
     After `close`, each access to a table, a row or a heap is a `ValueError`. Values that were read before stay valid.
+    Threads may use one assembly at the same time, and close it.
 
     Raises:
         Fault: The bytes break a rule of the standard. It is the first one in the order of docs/FAULTS.md.
@@ -124,6 +139,7 @@ class Assembly:
         self._bare = bare
         self._at, self._kept = address_of(self._data)
         self._struct = _c.closed_view()
+        self._struct.kept = self._data, self._kept
         # The texts that were read, by their addresses. Many names in a file are the same text of its heap.
         self._texts: Dict[int, str] = {}
         self._groups: Dict[Tuple[str, str], Dict[Token, List[Any]]] = {}
@@ -158,12 +174,14 @@ class Assembly:
         self._is_closed = True
         for table in self._tables.values():
             table._columns_read.clear()
-        self._texts.clear()
-        self._groups.clear()
+        # Another thread may still use these.
+        self._texts, self._groups = {}, {}
         self._struct = _c.closed_view()
         data, self._data, self._kept, self._at = self._data, b"", None, 0
         if isinstance(data, _mmap.mmap):
-            data.close()
+            # If another thread reads the map just now, it is closed when the last call has ended.
+            with contextlib.suppress(BufferError):
+                data.close()
 
     @property
     def closed(self) -> bool:
@@ -271,8 +289,9 @@ class Assembly:
     @property
     def header(self) -> Optional[Header]:
         """The CLI header (II.25.3.3), or `None` of a bare root."""
+        data = self._data
         self._view()
-        return None if self._bare else header_of(self._data)
+        return None if self._bare else header_of(data)
 
     @property
     def user(self) -> bytes:
@@ -282,32 +301,20 @@ class Assembly:
     @property
     def heaps(self) -> Dict[str, bytes]:
         """The bytes of the streams `#~`, `#Strings`, `#US`, `#GUID` and `#Blob` that the root has, by name (II.24.2.2)."""
+        data = self._data
         self._view()
-        root = 0 if self._bare else header_of(self._data).root_start
-        streams = self._streams() if _c.supports("clim_stream") else self._read_streams(root)
-        found = {name: self._data[root + offset : root + offset + size] for name, offset, size in streams}
+        root = 0 if self._bare else header_of(data).root_start
+        streams = self._streams() if _c.supports("clim_stream") else _read_streams(data, root)
+        found = {name: data[root + offset : root + offset + size] for name, offset, size in streams}
         return {name: found[name] for name in _STREAMS if name in found}
 
     def _streams(self) -> Iterator[Tuple[str, int, int]]:
         """The stream headers: the name of each stream, its offset in the root, and its size."""
-        for index in range(library.clim_stream_count(self._view())):
+        view = self._view()
+        for index in range(library.clim_stream_count(view)):
             stream = _c.StreamStruct(name=_c.Bytes(_c.EMPTY_AT, 0))
-            library.clim_stream(self._view(), index, ctypes.byref(stream))
+            library.clim_stream(view, index, ctypes.byref(stream))
             yield ctypes.string_at(stream.name.at, stream.name.len).decode("ascii"), stream.offset, stream.size
-
-    def _read_streams(self, root: int) -> Iterator[Tuple[str, int, int]]:
-        """The same with an older library. The root is opened, so all is where it should be."""
-        at = root + 16 + self._numbers("<I", root + 12)[0]
-        count = self._numbers("<H", at + 2)[0]
-        at += 4
-        for _ in range(count):
-            past = self._data.find(b"\0", at + 8)
-            offset, size = self._numbers("<II", at)
-            yield self._data[at + 8 : past].decode("ascii"), offset, size
-            at += 8 + (past - at - 8 + 4) // 4 * 4
-
-    def _numbers(self, form: str, at: int) -> Tuple[int, ...]:
-        return struct.unpack_from(form, self._data, at)
 
     # -- look-ups
 
@@ -328,7 +335,7 @@ class Assembly:
         """
         units = _c.written_units(self._view(), token)
         if units is None:
-            raise KeyError(token)
+            raise KeyError(f"no user string has the token {token:#010x}")
         return units.decode(f"utf-16-{sys.byteorder[0]}e", "surrogatepass")
 
     def canonical_root(self) -> bytes:
@@ -363,9 +370,9 @@ class Assembly:
         Raises:
             Unsupported: The library is older than this package.
         """
-        it, view = _c.LocationStruct(), self._view()
-        if not 0 <= offset < self._struct.root.len:
-            offset = self._struct.root.len
+        it, struct, view = _c.LocationStruct(), self._struct, self._view()
+        if not 0 <= offset < struct.root.len:
+            offset = struct.root.len
         if not library.clim_where(view, offset, ctypes.byref(it)):
             return None
         return Location(_c.TABLE_NAMES[it.table], it.row, _c.COLUMN_NAMES[it.table][it.column], it.offset, it.size)
@@ -384,7 +391,7 @@ class Assembly:
         first, past, number = ctypes.c_uint32(), ctypes.c_uint32(), table_number(table)
         ends = ctypes.byref(first), ctypes.byref(past)
         if not library.clim_members(self._view(), row.table.number, row.number, number, *ends):
-            raise KeyError(table)
+            raise KeyError(f"rows of {row.table.name} own no rows of {_c.TABLE_NAMES[number]}")
         return self._table(number)._rows(range(first.value, past.value))
 
     def _run(self, row: Row, column: str, member: int) -> List[Any]:
@@ -414,7 +421,9 @@ class Assembly:
 
     def _bytes(self, at: int, length: int) -> bytes:
         """The bytes of a text or a blob, by their address and length."""
-        return self._data[at - self._at : at - self._at + length] if length else b""
+        found = self._data[at - self._at : at - self._at + length] if length else b""
+        self._view()
+        return found
 
     def _column(self, table: int, column: int, count: int) -> Sequence[Any]:
         """The cells of a column. They are read some at a time."""
@@ -473,7 +482,6 @@ class _Blobs(Sequence[Any]):
     def __getitem__(self, index: Any) -> Any:
         if isinstance(index, slice):
             return tuple(self[number] for number in range(len(self))[index])
-        self._assembly._view()
         return self._assembly._bytes(self._addresses[index], self._lengths[index])
 
     def read(self) -> Sequence[Any]:
@@ -538,7 +546,10 @@ class Table(Generic[R]):
     def __getitem__(self, index: slice) -> List[R]: ...
     def __getitem__(self, index: Union[int, slice]) -> Union[R, List[R]]:
         """The row after `index` others, as in any sequence: `table[0]` is row 1, and `table[-1]` is the last row."""
-        numbers = range(1, len(self) + 1)[index]
+        try:
+            numbers = range(1, len(self) + 1)[index]
+        except IndexError:
+            raise IndexError(f"{self.name} has {self._count} rows, and none at index {index}") from None
         return self._rows(numbers) if isinstance(numbers, range) else self._row_type(self, numbers)
 
     def __repr__(self) -> str:
@@ -556,8 +567,10 @@ class Table(Generic[R]):
         if found is None:
             self.assembly._view()
             if name not in self.columns:
-                raise KeyError(name)
+                raise KeyError(f"{self.name} has no column {name!r}")
             found = self.assembly._column(self.number, self.columns.index(name), self._count)
+            # Another thread may have closed the assembly, and then not all cells were read.
+            self.assembly._view()
             self._columns_read[name] = found
         return found
 
@@ -585,5 +598,5 @@ def table_number(table: Union[str, int]) -> int:
     """The number of a table, by its name or its number; raises `KeyError` if there is none."""
     number = _c.TABLE_NUMBERS.get(table) if isinstance(table, str) else table
     if number not in _c.TABLE_NAMES:
-        raise KeyError(table)
+        raise KeyError(f"there is no table {table!r}")
     return number

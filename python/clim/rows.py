@@ -104,7 +104,7 @@ class Row:
     def __getitem__(self, column: str) -> Any:
         """The cell of the column with a name; raises `KeyError` if there is no such column."""
         if column not in self.table.columns:
-            raise KeyError(column)
+            raise KeyError(f"{self.table.name} has no column {column!r}")
         return getattr(self, column)
 
     @property

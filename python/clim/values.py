@@ -156,7 +156,9 @@ class Signature(bytes):
 
     @property
     def text(self) -> str:
-        """The signature in the notation of ILAsm (II.7.1, II.15.3), with names as they are in the file.
+        """The signature in the notation of ILAsm (II.7.1, II.15.3): `"method instance string *(int32, class 01000007)"`.
+
+        A type is named by its token, `assembly.row(0x01000007)`.
 
         Raises:
             Unsupported: The library is older than this package.

@@ -1,6 +1,7 @@
 """Prints what clim prints, from Python. c/run compares both.
 
     lines.py show FILE [bare]      prints the tables as clim show does, each signature as its blob
+    lines.py texts FILE [bare]     the same, but each signature as its text
     lines.py vary FILE [bare]      prints what clim check prints for each prefix of the file, and for the file with one
                                    byte set to 00 or FF, one line each
     lines.py rewrite FILE OUT [bare]
@@ -53,11 +54,16 @@ def shown(value):
     return f"+{int(value)}" if isinstance(value, clim.Start) else f"{value}"
 
 
-def show(assembly):
+def with_text(value):
+    """The same, but a signature as its text."""
+    return f"<{value.text}>" if isinstance(value, clim.Signature) else shown(value)
+
+
+def show(assembly, how):
     for table in assembly:
         print(f"table {table.number:02X} {table.name} {len(table)}")
         for row in table:
-            print(f"{row.number}:", *map(shown, row.cells().values()))
+            print(f"{row.number}:", *map(how, row.cells().values()))
 
 
 def write_root(assembly, root, path):
@@ -87,8 +93,8 @@ def main():
     bare = sys.argv[-1] == "bare"
     with open(sys.argv[2], "rb") as file:
         data = file.read()
-    if sys.argv[1] == "show":
-        show(clim.open(data, bare))
+    if sys.argv[1] in ("show", "texts"):
+        show(clim.open(data, bare), with_text if sys.argv[1] == "texts" else shown)
     elif sys.argv[1] == "rewrite":
         assembly = clim.open(data, bare)
         write_root(assembly, assembly.canonical_root(), sys.argv[3])

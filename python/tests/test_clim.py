@@ -17,6 +17,7 @@ import subprocess
 import sys
 import tempfile
 import threading
+import time
 import unittest
 import unittest.mock
 import uuid
@@ -127,6 +128,8 @@ class Opening(unittest.TestCase):
         for call in (clim.open, clim.check, clim.read_header):
             self.assertRaises(OSError, call, SAMPLES / "no such file")
             self.assertRaises(TypeError, call, 5.0)
+            # A number could be a file descriptor, which is no path.
+            self.assertRaises(TypeError, call, 5)
 
     def test_a_fault_is_an_exception_with_its_parts(self):
         fault = clim.check(b"MZ")
@@ -191,6 +194,45 @@ class Closed(unittest.TestCase):
             self.assertEqual((row.token, repr(row), repr(assembly)), (0x02000002, "<TypeDef 2>", "<closed assembly>"))
 
 
+class ClosedByAnother(unittest.TestCase):
+    """An assembly that another thread closes: what a thread reads is right, or it is an error."""
+
+    def test_all_cells(self):
+        for path, bare in FILES:
+            for mapped in (False, True):
+                with clim.open(path, bare) as assembly:
+                    wanted = {(table.name, it): tuple(table.column(it)) for table in assembly for it in table.columns}
+                for delay in range(10):
+                    # A copy of the bytes, which nothing else keeps.
+                    source = path if mapped else memoryview(path.read_bytes())
+                    self.close_while_reading(clim.open(source, bare, mmap=mapped), delay / 2000, wanted)
+
+    def close_while_reading(self, assembly, delay, wanted):
+        others = []
+
+        def read():
+            try:
+                while True:
+                    for table in assembly:
+                        table._columns_read = {}
+                        others.extend((table, it) for it in table.columns if tuple(table.column(it)) != wanted[table.name, it])
+                    others.extend(["no version"] * (assembly.version == ""))
+                    assembly.heaps, assembly.header, assembly.find_type("no such", "type")
+            except ValueError:
+                pass
+            except BaseException as error:
+                others.append(error)
+
+        threads = [threading.Thread(target=read) for _ in range(2)]
+        for it in threads:
+            it.start()
+        time.sleep(delay)
+        assembly.close()
+        for it in threads:
+            it.join()
+        self.assertEqual(others, [])
+
+
 class Reading(unittest.TestCase):
     def test_greeter(self):
         assembly = clim.open(SAMPLES / "greeter.root", bare=True)
@@ -205,6 +247,25 @@ class Reading(unittest.TestCase):
         self.assertEqual((greeter.properties, greeter.events, greeter.interfaces), ([], [], []))
         self.assertIsNone(assembly.header)
         self.assertIsNone(assembly.identity)
+
+    def test_what_is_not_there(self):
+        with clim.open(SAMPLES / "greeter.root", bare=True) as assembly:
+            greeter = assembly.types[1]
+            for error, text, call in (
+                (KeyError, "there is no table 'TypeDefs'", lambda: assembly["TypeDefs"]),
+                (KeyError, "there is no table 3", lambda: assembly.row(0x03000001)),
+                (KeyError, "there is no table -1", lambda: assembly.row(-1)),
+                (IndexError, "TypeDef has no row 3", lambda: assembly.row(0x02000003)),
+                (IndexError, "TypeDef has no row 0", lambda: assembly.types.row(0)),
+                (IndexError, "TypeDef has 2 rows, and none at index 2", lambda: assembly.types[2]),
+                (IndexError, "TypeDef has 2 rows, and none at index -3", lambda: assembly.types[-3]),
+                (KeyError, "TypeDef has no column 'Title'", lambda: assembly.types.column("Title")),
+                (KeyError, "TypeDef has no column 'Title'", lambda: greeter["Title"]),
+                (KeyError, "rows of TypeDef own no rows of Param", lambda: greeter.members("Param")),
+                (AttributeError, "Title", lambda: greeter.Title),
+            ):
+                with self.subTest(text), self.assertRaisesRegex(error, text):
+                    call()
 
     def test_types_of_values(self):
         for path, assembly in opened():
@@ -378,7 +439,7 @@ class Reading(unittest.TestCase):
             if assembly.header:
                 root = root[assembly.header.root_start : assembly.header.root_end]
             self.assertEqual(heaps.get("#US", b""), assembly.user)
-            streams = list(assembly._read_streams(assembly.header.root_start if assembly.header else 0))
+            streams = list(clim.assembly._read_streams(assembly._data, assembly.header.root_start if assembly.header else 0))
             self.assertEqual(set(heaps), {name for name, _, _ in streams} & set(clim.assembly._STREAMS))
             if clim.supports("clim_stream"):
                 self.assertEqual(list(assembly._streams()), streams)
@@ -490,11 +551,13 @@ class Features(unittest.TestCase):
                 continue
             start = 0 if assembly.header is None else assembly.header.root_start
             with open(path, "rb") as file:
-                root = file.read()[start : start + (1 << 15)]
-            found = [it for it in map(assembly.where, range(len(root))) if it]
+                root = file.read()[start:]
+            # Of a larger root the first part. Its end may cut a cell in two, of which this part has the first bytes.
+            end = min(len(root), 1 << 15)
+            found = [it for it in map(assembly.where, range(end)) if it]
             cells = set(found)
-            self.assertEqual(len(found), sum(it.size for it in cells), path)
-            if len(root) < 1 << 15:
+            self.assertEqual(len(found), sum(min(it.size, end - it.offset) for it in cells), path)
+            if end == len(root):
                 self.assertEqual(len(cells), sum(len(table) * len(table.columns) for table in assembly), path)
             for it in cells:
                 row, number = assembly[it.table].row(it.row), root[it.offset : it.offset + it.size]

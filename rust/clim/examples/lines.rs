@@ -1,6 +1,7 @@
 //! Prints what clim prints, from Rust. c/run compares both.
 //!
 //!     lines show FILE [bare]      prints the tables as clim show does, each signature as its blob
+//!     lines texts FILE [bare]     the same, but each signature as its text
 //!     lines vary FILE [bare]      prints what clim check prints for each prefix of the file, and for the file with one
 //!                                 byte set to 00 or FF, one line each
 //!     lines rewrite FILE OUT [bare]
@@ -8,7 +9,7 @@
 //!     lines build FILE OUT [bare]
 //!                                 the same, but the root is that of tables with the rows of the file
 
-use clim::{check, check_root, Cell, Fault, Signature, Table, Tables, View};
+use clim::{check, check_root, Cell, Fault, Signature, Table, Tables, Token, View};
 use std::error::Error;
 use std::io::{stdout, BufWriter, Write};
 use std::{env, fs, io};
@@ -73,15 +74,27 @@ fn write_cell(out: &mut impl Write, cell: Cell) -> io::Result<()> {
     }
 }
 
-/// Writes all tables as clim show does.
-fn show(out: &mut impl Write, view: &View) -> io::Result<()> {
+/// Writes a cell of a row as clim show does, but a signature as its text.
+fn write_text(out: &mut impl Write, view: &View, row: Token, cell: Cell) -> io::Result<()> {
+    match (cell, view.signature_text(row)) {
+        (Cell::Signature(_), Ok(Some(text))) => write!(out, " <{text}>"),
+        (cell, _) => write_cell(out, cell),
+    }
+}
+
+/// Writes all tables as clim show does, with cells as `write` writes them.
+fn show<W: Write>(
+    out: &mut W,
+    view: &View,
+    write: impl Fn(&mut W, &View, Token, Cell) -> io::Result<()>,
+) -> io::Result<()> {
     for table in Table::ALL.into_iter().filter(|&it| view.count(it) > 0) {
         writeln!(out, "table {:02X} {table} {}", table.number(), view.count(table))?;
         let mut columns: Vec<_> = (0..table.columns().count()).map(|it| view.column(table, it)).collect();
         for row in 1..=view.count(table) {
             write!(out, "{row}:")?;
             for cell in columns.iter_mut().filter_map(Iterator::next) {
-                write_cell(out, cell)?;
+                write(out, view, Token { table, row }, cell)?;
             }
             writeln!(out)?;
         }
@@ -99,7 +112,7 @@ fn write_root(out: &mut impl Write, view: &View, root: &[u8], path: &str) -> Res
 fn main() -> Result<(), Box<dyn Error>> {
     let arguments: Vec<_> = env::args().collect();
     let [_, what, path, others @ ..] = &arguments[..] else {
-        return Err("lines show|vary|rewrite|build FILE [OUT] [bare]".into());
+        return Err("lines show|texts|vary|rewrite|build FILE [OUT] [bare]".into());
     };
     let bare = others.last().is_some_and(|it| it == "bare");
     let (mut data, mut out) = (fs::read(path)?, BufWriter::new(stdout().lock()));
@@ -113,7 +126,8 @@ fn main() -> Result<(), Box<dyn Error>> {
             let view = open(&data, bare)?;
             write_root(&mut out, &view, &Tables::of(&view).root()?, &others[0])?;
         }
-        _ => show(&mut out, &open(&data, bare)?)?,
+        "texts" => show(&mut out, &open(&data, bare)?, write_text)?,
+        _ => show(&mut out, &open(&data, bare)?, |out, _, _, cell| write_cell(out, cell))?,
     }
     Ok(())
 }
