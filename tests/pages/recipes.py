@@ -27,7 +27,9 @@ README_LINES = 100
 MODEL = ["Rattle.metadata.specs.Model"]
 RULES = ["Rattle.metadata.specs.Rules"]
 # The crates of cells that own their content, and those that are above them.
-OWNERS = {"tables", "refusals", "owned_model", "type_records", "member_records", "records", "typed_rows"}
+OWNERS = {"tables", "owned_model", "type_records", "member_records", "records"}
+# The modules of c_values that make tables of the rows of a C caller.
+TABLE_MAKERS = {"made_root", "read_cell", "read_rows"}
 # How far a count on a page may be from the count of the files.
 TOLERANCE = 0.05
 
@@ -107,6 +109,16 @@ def all_below(name, listed):
     return {*near}.union(*(all_below(it, listed) for it in near))
 
 
+def modules_of(crate):
+    """The modules of a crate, by the names of their files."""
+    return [os.path.splitext(name)[0] for name in sorted(os.listdir(f"crates/{crate}/src"))]
+
+
+def uses_of(crate, module):
+    """The crates that a module imports from."""
+    return set(re.findall(r"^(?:pub )?use (\w+)::", text_of(f"crates/{crate}/src/{module}.rt"), re.M))
+
+
 def check_crates(counts):
     """The pages name the crates that are there, and no other."""
     names, readme = libraries(), text_of("README.md")
@@ -117,8 +129,10 @@ def check_crates(counts):
         counts.expect(described.count(name) == 1, f"docs/ARCHITECTURE.md has {described.count(name)} rows for {name}")
     for name in described:
         counts.expect(name in names, f"docs/ARCHITECTURE.md has a row for {name}, which is no crate")
-    # Only c_tables makes tables for C. All else of clim_c reads in place.
-    in_place = {**names, "clim_c": [it for it in names.get("clim_c", []) if it != "c_tables"]}
+    # Only these modules of c_values make tables for C. All else of clim_c reads in place.
+    makers = {module for module in modules_of("c_values") if uses_of("c_values", module) & OWNERS}
+    counts.expect(makers == TABLE_MAKERS, f"docs/ARCHITECTURE.md: tables are made in {', '.join(sorted(makers))}")
+    in_place = {**names, "clim_c": [it for it in names.get("clim_c", []) if it != "c_values"]}
     for top in ("clim", "clim_c"):
         owners = all_below(top, in_place) & OWNERS
         counts.expect(not owners, f"docs/ARCHITECTURE.md: {top} stands on {', '.join(sorted(owners))}")

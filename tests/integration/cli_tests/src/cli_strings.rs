@@ -1,4 +1,4 @@
-//! Tests of `cli_strings`: what `clim strings` prints of the user strings of a root.
+//! Tests of `report_strings`: what `clim strings` prints of the user strings of a root.
 
 use crate::runs::{Case, answer, other_answer};
 use crate::samples::{TWO_STRINGS, USER_STRINGS};

@@ -15,6 +15,8 @@ mod cli_faults;
 #[cfg(test)]
 mod cli_outline;
 #[cfg(test)]
+mod cli_prefix;
+#[cfg(test)]
 mod cli_reports;
 #[cfg(test)]
 mod cli_strings;

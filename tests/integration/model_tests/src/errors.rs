@@ -6,7 +6,7 @@ use model::{
     BoundedError, Fault, FaultCode, HeapFault, LoadError, PoolError, Refusal, SigError, TextError,
     WriteError,
 };
-use root_plan::{PlanError, Stopped};
+use writer::{PlanError, Stopped};
 use std::alloc::Global;
 use std::error::Error;
 use std::process::Abort;

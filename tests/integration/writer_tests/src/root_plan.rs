@@ -1,7 +1,7 @@
-//! Tests of `root_plan`: bytes are sent to writers that take a part, are interrupted or fail.
+//! Tests of `Prepared::send`: bytes are sent to writers that take a part, are interrupted or fail.
 
 use crate::scripted::{Scripted, Step};
-use root_plan::{Counted, Sink, Stopped, send_all};
+use writer::{Counted, Sink, Stopped, send_all};
 use std::alloc::Global;
 use std::process::Abort;
 use std::test::Fail;

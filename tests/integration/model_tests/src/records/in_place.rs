@@ -8,13 +8,12 @@ use records::{
     Signature, StandAloneSig, TypeDef, TypeRef, TypeSpec,
 };
 use opening::{CellRef, TableId, View, open_root};
-use owned_model::{Model, load_root};
+use owned_model::{Model, RefRow, load_root};
 use signatures::decode;
 use std::alloc::Global;
 use std::fmt::Debug;
 use std::process::Abort;
 use std::test::Fail;
-use typed_rows::RefRow;
 
 /// The record of the first row of a model's table.
 fn owned<'a, R: Record<'a>>(model: &'a Model) -> Result<R, Fail> {
@@ -23,7 +22,7 @@ fn owned<'a, R: Record<'a>>(model: &'a Model) -> Result<R, Fail> {
 
 /// The record of the first row of a view's table.
 fn seen<'a, R: FromRow<'a, RefRow<'a>>>(view: &View<'a>) -> Result<R, Fail> {
-    Ok(typed_rows::row(view, 1).ok_or("no row of the view")?)
+    Ok(owned_model::row(view, 1).ok_or("no row of the view")?)
 }
 
 /// Holds the records of a table without signatures against one another, and what they stand for against the
@@ -42,14 +41,14 @@ fn is_same<'a, R: Record<'a> + FromRow<'a, RefRow<'a>> + PartialEq + Debug + Cop
     assert_eq!(rt; R::from_cells(row), Some(seen));
     let cells = seen.cells(alloc)?;
     assert!(rt; cells.as_slice() == row);
-    let mut records = typed_rows::rows::<R, _>(view);
+    let mut records = owned_model::rows::<R, _>(view);
     let count = model.rows::<R>().len();
     assert_eq!(rt; records.len(), count);
     assert_eq!(rt; records.next(), Some(owned));
     assert_eq!(rt; records.count(), count.saturating_sub(1));
-    assert!(rt; typed_rows::row::<R, _>(view, 0).is_none());
-    assert!(rt; typed_rows::row::<R, _>(view, 3).is_none());
-    assert!(rt; typed_rows::row::<R, _>(view, u32::MAX).is_none());
+    assert!(rt; owned_model::row::<R, _>(view, 0).is_none());
+    assert!(rt; owned_model::row::<R, _>(view, 3).is_none());
+    assert!(rt; owned_model::row::<R, _>(view, u32::MAX).is_none());
     Ok(())
 }
 

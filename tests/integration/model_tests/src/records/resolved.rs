@@ -5,13 +5,12 @@ use records::{
     ResolutionScope, TypeDefOrRef, TypeOrMethodDef,
 };
 use opening::{View, open_root};
-use owned_model::{Model, load_root};
+use owned_model::{Model, RefRow, load_root};
 use schema::{Coded, TableId, Token};
 use std::alloc::Global;
 use std::fmt::Debug;
 use std::process::Abort;
 use std::test::Fail;
-use typed_rows::RefRow;
 
 /// A row that no table has.
 const MISSING: [u32; 3] = [0, 3, u32::MAX];
@@ -53,11 +52,11 @@ fn check_in_place<'a, R: CodedRow<'a, RefRow<'a>> + Debug + Drop>(
     let coded = R::coded_id();
     for table in TableId::all() {
         let table = *table;
-        let found = typed_rows::resolve::<R, _>(view, Token { table, row: 1 });
+        let found = owned_model::resolve::<R, _>(view, Token { table, row: 1 });
         let is_listed = coded.tables().contains(&Some(table));
         assert_eq!(rt; found.is_some(), is_listed, "{table}");
         for row in MISSING {
-            let found = typed_rows::resolve::<R, _>(view, Token { table, row });
+            let found = owned_model::resolve::<R, _>(view, Token { table, row });
             assert!(rt; found.is_none(), "{table}");
         }
         if let Some(found) = found {

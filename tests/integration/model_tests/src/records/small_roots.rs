@@ -26,7 +26,7 @@ fn the_row_of_a_module(rt: HostRuntime) -> Result<(), Fail> {
         enc_base_id: None,
     };
     let view = open_root(root.as_slice())?;
-    assert_eq!(rt; typed_rows::row::<Module, _>(&view, 1), Some(wanted));
+    assert_eq!(rt; owned_model::row::<Module, _>(&view, 1), Some(wanted));
     let model = load_root(alloc, root.as_slice())?;
     assert_eq!(rt; model.row::<Module>(1), Some(wanted));
     Ok(())
@@ -75,7 +75,7 @@ fn the_rows_of_two_types(rt: HostRuntime) -> Result<(), Fail> {
     let root = two_types(alloc)?;
     let view = open_root(root.as_slice())?;
     let model = load_root(alloc, root.as_slice())?;
-    let mut shown = typed_rows::rows::<TypeDef, _>(&view);
+    let mut shown = owned_model::rows::<TypeDef, _>(&view);
     let mut owned = model.rows::<TypeDef>();
     assert_eq!(rt; (shown.len(), owned.len()), (2, 2));
     for (wanted, full_name) in TYPES.iter().zip(["<Module>", "N.C"]) {
@@ -99,7 +99,7 @@ fn the_members_of_two_types(rt: HostRuntime) -> Result<(), Fail> {
         return Err("no signature of a field".into());
     };
     for (row, name) in [(1, "a"), (2, "b")] {
-        let shown = typed_rows::row::<Field<_>, _>(&view, row).ok_or("no field of the view")?;
+        let shown = owned_model::row::<Field<_>, _>(&view, row).ok_or("no field of the view")?;
         assert_eq!(rt; (shown.flags, shown.name), (1, name));
         assert_eq!(rt; shown.signature, [0x06, 0x08].as_slice());
         let owned = model.row::<Field<_>>(row).ok_or("no field of the model")?;
@@ -109,7 +109,7 @@ fn the_members_of_two_types(rt: HostRuntime) -> Result<(), Fail> {
     let Ok(nothing) = decode(alloc, &[0, 0, 1], SigKind::MethodDef) else {
         return Err("no signature of a method".into());
     };
-    let shown = typed_rows::row::<MethodDef<_>, _>(&view, 1).ok_or("no method of the view")?;
+    let shown = owned_model::row::<MethodDef<_>, _>(&view, 1).ok_or("no method of the view")?;
     assert_eq!(rt; (shown.rva, shown.impl_flags, shown.flags), (0, 0, 6));
     assert_eq!(rt; (shown.name, shown.param_list), ("M", 1));
     assert_eq!(rt; shown.signature, [0, 0, 1].as_slice());
@@ -137,7 +137,7 @@ fn starts_that_are_null(rt: HostRuntime) -> Result<(), Fail> {
     let view = open_root(root.as_slice())?;
     let model = load_root(alloc, root.as_slice())?;
     for (row, start) in [(1, 1), (2, 3), (3, 3)] {
-        let shown = typed_rows::row::<TypeDef, _>(&view, row).ok_or("no type of the view")?;
+        let shown = owned_model::row::<TypeDef, _>(&view, row).ok_or("no type of the view")?;
         assert_eq!(rt; shown.field_list, start);
         let owned = model.row::<TypeDef>(row).ok_or("no type of the model")?;
         assert_eq!(rt; owned, shown);
@@ -163,7 +163,7 @@ fn null_by_each_tag(rt: HostRuntime) -> Result<(), Fail> {
         let root = root_of(alloc, &[(0x27, 1)], &rows, &[(STRINGS, b"\0T\0N.M\0")])?;
         let view = open_root(root.as_slice())?;
         assert_eq!(rt;
-            typed_rows::row::<ExportedType, _>(&view, 1),
+            owned_model::row::<ExportedType, _>(&view, 1),
             Some(wanted),
             "tag {tag}"
         );

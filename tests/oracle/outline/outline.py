@@ -1,0 +1,117 @@
+"""What an assembly declares, read from the output of `clim outline`."""
+
+import re
+from collections import defaultdict
+
+from texts import ACCESSORS, CODE, flags_of, no_kinds, opening, ordered, plain
+
+
+def declared(text):
+    """The declarations as texts, by the name of a type and the kind. The name '' has what belongs to no type."""
+    return Reader(text).declared
+
+
+def unescaped(text):
+    """A text with the characters that the program escapes, byte by byte in UTF-8."""
+    return re.sub(r"(\\x[0-9a-f]{2})+", lambda match: bytes.fromhex(match[0].replace("\\x", "")).decode(), text)
+
+
+class Reader:
+    """Reads the lines one by one. A type is followed by its members."""
+
+    def __init__(self, text):
+        self.declared, self.type, self.mapped, self.owners = defaultdict(list), "", "", {}
+        for line in text.splitlines():
+            line, _, self.token = line.rpartition("  // ")
+            self.read(unescaped(line))
+
+    def add(self, kind, text):
+        self.declared[self.type, kind].append(plain(text))
+
+    def read(self, line):
+        word, _, tail = line.strip().partition(" ")
+        if word == ".class" and not tail.startswith("extern "):
+            self.read_class(tail)
+        elif line.startswith("  "):
+            self.read_member(word, tail)
+        elif word == ".param":
+            self.read_param(tail)
+        elif word == ".interfaceimpl":
+            self.type, _, interface = tail.removeprefix("type ").partition(" implements ")
+            self.add("interface", no_kinds(interface))
+        elif word == ".override":
+            self.read_override(tail)
+        elif word.startswith(".pinvokeimpl"):
+            self.read_import(line)
+        elif word != ".custom":
+            self.read_manifest(line)
+
+    def read_class(self, text):
+        flags, tail = flags_of(text)
+        self.type, _, extends = tail.partition(" extends ")
+        # monodis does not print the type of what belongs to no type.
+        if self.type != "<Module>":
+            self.add("class", f"{flags} extends {no_kinds(extends)}")
+
+    def own(self, text):
+        """A text without the type before the name of its member."""
+        return f" {text}".replace(f" {self.type}::", " ", 1).strip()
+
+    def read_member(self, word, text):
+        flags, tail = flags_of(text)
+        if word in ACCESSORS:
+            called, of = (it.rpartition("::")[2] for it in text.split(" of "))
+            self.add(f"accessor of {self.mapped}", f"{word} {called} of {of}")
+            return
+        self.mapped = word[1:]
+        if word == ".method":
+            code = CODE.search(tail)
+            self.add("method", f"{flags} {self.own(tail[:code.start() + 1])} {ordered(code[1])}")
+        elif word == ".property":
+            signature, _, name = tail.rpartition(f" {self.type}::")
+            start = opening(signature, len(signature) - 1)
+            self.add("property", f"{flags} {signature[:start].rstrip()} {name}{signature[start:]}")
+        else:
+            self.add(word[1:], f"{flags} {self.own(tail)}")
+
+    def go_to(self, owner):
+        """Goes to the type of a method, or to a type, and returns the name of the method, or the last one of the type."""
+        self.type, _, member = owner.rpartition("::") if "::" in owner else (owner, "", re.split(r"[./]", owner)[-1])
+        return member
+
+    def read_param(self, text):
+        if text.startswith("type "):
+            head, _, owner = text.removeprefix("type ").rpartition(" of ")
+            *flags, name = head.rpartition(" [")[0].split()
+            self.owners[self.token] = owner
+            self.add_of(owner, "generic parameter", " ".join([*sorted(flags), name]))
+        else:
+            of, _, constraint = text.removeprefix("constraint ").partition(", ")
+            self.add_of(self.owners[of.rpartition(" ")[2]], "constraint", no_kinds(constraint))
+
+    def add_of(self, owner, kind, text):
+        name = self.go_to(owner)
+        self.add(kind, f"{text} of {name}")
+
+    def read_override(self, text):
+        text, _, self.type = text.rpartition(" in ")
+        declaration, _, body = text.partition(" with ")
+        self.add("override", f"{no_kinds(declaration)} with {body.removeprefix(f'{self.type}::')}")
+
+    def read_import(self, line):
+        library, entry, words, owner = re.match(r'\.pinvokeimpl\("(.*)" as "(.*)"(.*)\) of (.*)', line).groups()
+        self.add_of(owner, "import", f"{library} as {entry} {ordered(words)}")
+
+    def read_manifest(self, line):
+        self.type = ""
+        if line.startswith(".assembly"):
+            kind, name, version, tail = re.match(r"\.(assembly(?: extern)?) (.*) \{ \.ver (\S+)(.*) \}", line).groups()
+            culture = re.search(r'\.culture "(.*?)"', tail)
+            key = re.search(r"\.(publickey\w*) = \((\w+)\)", tail)
+            self.add(kind, " ".join([name, version, culture[1] if culture else "", *(key.groups() if key else [])]))
+        elif line.startswith(".class extern"):
+            name, _, of = flags_of(line.removeprefix(".class extern "))[1].partition(" in ")
+            self.add("class extern", f"{name} in {re.split(r'[. ]', of)[-1]}")
+        else:
+            kind, text = re.match(r"\.(\w+(?: extern)?) (.*)", line).groups()
+            self.add(kind, text)

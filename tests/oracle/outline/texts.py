@@ -1,0 +1,67 @@
+"""What both readers use: words of flags, brackets, and one way to write what the two outputs write differently."""
+
+import re
+
+# Words of flags (II.23.1). What follows them is a type or a name.
+FLAGS = set(
+    "private public family assembly famandassem famorassem compilercontrolled nested auto sequential explicit interface abstract "
+    "sealed specialname import serializable ansi unicode autochar beforefieldinit rtspecialname static initonly literal "
+    "notserialized pinvokeimpl final virtual hidebysig newslot strict unmanagedexp reqsecobj".split()
+)
+ACCESSORS = (".get", ".set", ".addon", ".removeon", ".fire", ".other")
+# The words at the end of a method: what its code is (II.23.1.11).
+CODE = re.compile(r"\)\s+((?:cil|native|runtime|optil)\b[^()]*)$")
+
+
+def flags_of(text, other={}):
+    """The words of flags that begin a text, in alphabetical order, and what follows them. Another word stands for one."""
+    words, tail = [], text.strip()
+    while other.get(tail.partition(" ")[0], tail.partition(" ")[0]) in FLAGS:
+        word, _, tail = tail.partition(" ")
+        words.append(other.get(word, word))
+        tail = tail.lstrip()
+    return " ".join(sorted(words)), tail
+
+
+def ordered(words):
+    """The words of a text in alphabetical order."""
+    return " ".join(sorted(words.split()))
+
+
+def depths(text):
+    """How many brackets enclose each character of a text. A bracket is outside of itself."""
+    depth = 0
+    for character in text:
+        depth -= character in ")>]"
+        yield depth
+        depth += character in "(<["
+
+
+def split_outside(text, separator):
+    """The parts of a text between those of a separator that no bracket encloses."""
+    cuts = [at for at, depth in enumerate(depths(text)) if text[at] == separator and depth == 0]
+    return [text[start + 1:end].strip() for start, end in zip([-1, *cuts], [*cuts, len(text)])]
+
+
+def split_list(text):
+    """The parts of a list, none of which is empty."""
+    return [it for it in split_outside(text, ",") if it]
+
+
+def opening(text, end):
+    """The index of the bracket that the one at an index closes."""
+    enclosed = list(depths(text[:end + 1]))
+    return max(at for at in range(end) if enclosed[at] == enclosed[end] and text[at] in "(<[")
+
+
+def plain(text):
+    """A text without the scopes of types, without `default`, and with spaces as the program has them."""
+    text = re.sub(r"\[(?!\.\.\.)[^\[\]\d,-][^\[\]]*\](?=\S)", "", text)
+    text = re.sub(r"\bdefault ", "", text)
+    text = re.sub(r" ?(modreq|modopt) ?\(", r" \1(", text).replace(") *", ")*")
+    return re.sub(r",\s+", ",", re.sub(r"\s+", " ", text)).strip()
+
+
+def no_kinds(text):
+    """A text without the words for classes and value types."""
+    return re.sub(r"\b(class|valuetype) ", "", text)
