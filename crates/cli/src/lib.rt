@@ -11,6 +11,7 @@
 
 mod columns;
 mod explain_fault;
+mod nearest;
 mod program;
 mod task;
 mod usage_text;

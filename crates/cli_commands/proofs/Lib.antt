@@ -8,3 +8,5 @@ pub mod Locating
 pub mod Outlining
 pub mod JsonChecking
 pub mod TokenLines
+pub mod FaultLemmas
+pub mod WhereChecking

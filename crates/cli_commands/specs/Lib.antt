@@ -10,3 +10,6 @@ pub mod Forms
 pub mod JsonChecks
 pub mod Outlined
 pub mod Tokens
+pub mod Stops
+pub mod FaultLines
+pub mod WhereChecks

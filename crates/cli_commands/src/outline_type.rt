@@ -6,6 +6,7 @@ ghost use Rattle.cli_commands.specs.Commands.{IsRunOn, IsTypeOutlined};
 use cli_faults::{Failure, Stop};
 use cli_files::{Stopped, read_file, with_hint};
 use cli_outline::{Outcome, Subject, report_outline_of};
+use cli_reports::Form;
 use std::io::Write;
 use std::rt::Files;
 
@@ -16,16 +17,17 @@ use std::rt::Files;
 /// The file cannot be read or breaks a rule; it has no such type; out of memory, or the output cannot be written.
 pub fn outline_type<'a, R: Files + Input + AllocGlobal, W: Write>(
     rt: &R,
+    form: Form,
     subject: Subject<'_>,
     file: &'a str,
     bare: bool,
     out: &mut W,
 ) -> Result<(), Stopped<'a>>
-    ensures { IsRunOn W.contents out.old out.new file.now (IsTypeOutlined W.contents out.old out.new subject.entry bare) result }
+    ensures { IsRunOn W.contents out.old out.new file.now (IsTypeOutlined W.contents out.old out.new form subject.entry bare) result }
 {
     let read = read_file(rt, file)?;
     let bytes = read.as_slice();
-    let outcome = report_outline_of(rt.alloc(), bare, bytes, subject, out);
+    let outcome = report_outline_of(rt.alloc(), form, bare, bytes, subject, out);
     with_hint(stop_of(outcome), bare, bytes)
 }
 

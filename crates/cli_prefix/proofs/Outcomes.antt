@@ -16,6 +16,7 @@ use Rattle.metadata.specs.Rules.{rules_of_file, rules_of_metadata}
 use Rattle.cli_reports.specs.Checked.{IsWhole, rules_of}
 use Rattle.cli_reports.specs.Printed.{IsModelOf, IsReportText}
 use Rattle.cli_reports.specs.Reported.{ReportsFault}
+use Rattle.cli_reports.specs.declared.row_lines.Names.{Names}
 use Rattle.cli_reports.specs.Sent.{SendsPrefix, Prints}
 use Rattle.cli_prefix.specs.Before.{ReportsFirst, SendsBefore, report_of}
 
@@ -78,10 +79,10 @@ module _ (roots : (offset : ℕ) (root : List ℕ) (model : Metadata) → IsMode
   model_holds false bytes model is = files bytes is.0 model is.1
 
   -- bytes that break a rule have no report
-  pub no_text : (bare : Bool) (bytes : List ℕ) (table : Option TableId) (text : List ℕ) (found : First) → FirstBroken (rules_of bare bytes) found
-      → IsReportText (report_of table) bare bytes text → ⊥
-  no_text bare bytes None text found first is = none_fails (rules_of bare bytes) found (model_holds bare bytes is.0 is.1) first
-  no_text bare bytes (Some table) text found first is = none_fails (rules_of bare bytes) found (model_holds bare bytes is.0 is.1) first
+  pub no_text : (names : Names) (bare : Bool) (bytes : List ℕ) (table : Option TableId) (text : List ℕ) (found : First) → FirstBroken (rules_of bare bytes) found
+      → IsReportText (report_of names table) bare bytes text → ⊥
+  no_text names bare bytes None text found first is = none_fails (rules_of bare bytes) found (model_holds bare bytes is.0 is.1) first
+  no_text names bare bytes (Some table) text found first is = none_fails (rules_of bare bytes) found (model_holds bare bytes is.0 is.1) first
 
   -- bytes that break a rule have no model
   pub not_whole : (bare : Bool) (bytes : List ℕ) (found : First) → FirstBroken (rules_of bare bytes) found → IsWhole bare bytes → ⊥

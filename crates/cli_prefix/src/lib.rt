@@ -5,8 +5,8 @@
 //! `specs/Before.antt` go out and nothing else.
 //!
 //! ```text
-//! report_until_fault(rt.alloc(), false, &file, None, &mut out)?; // all tables
-//! report_until_fault(rt.alloc(), true, &root, Some(TableId::TypeDef), &mut out)?; // one table of a bare root
+//! report_until_fault(rt.alloc(), false, &file, None, Names::Hidden, &mut out)?; // all tables
+//! report_until_fault(rt.alloc(), true, &root, Some(TableId::TypeDef), Names::Shown, &mut out)?; // one of a root
 //! ```
 #![tactic(auto)]
 

@@ -22,7 +22,8 @@ pub(crate) fn command<'a>(alloc: Global) -> Result<Command<'a>, AllocError>
         .arg(files_from(alloc))?
         .arg(null(alloc))?
         .arg(quiet(alloc))?
-        .arg(json(alloc))
+        .arg(json(alloc))?
+        .arg(locates(alloc))
 }
 
 /// `FILE..`, the paths of the files to read; none if they are listed.
@@ -84,6 +85,17 @@ fn quiet<'a>(alloc: Global) -> Arg<'a>
         .help("Print nothing about faults; only the exit status reports them")
 }
 
+/// `--where`, the flag to print what has the byte at the offset of a fault.
+fn locates<'a>(alloc: Global) -> Arg<'a>
+    ensures rule { rule_of result ≡ line.locates }
+    ensures local { result.global ≡ false }
+{
+    Arg::new(alloc, "where")
+        .long("where")
+        .action(ArgAction::SetTrue)
+        .help("Print what has the byte at the offset of the fault, and explain the fault")
+}
+
 const OUTPUT: &str = "\
 Prints 'ok' if FILE breaks no rule. Otherwise prints only the first fault, to standard error. The rules are
 those that 'clim explain' lists from 101 to 801, except 508 to 510. OFFSET is an offset in FILE. LAYER is one
@@ -112,6 +124,12 @@ checked is still reported to standard error.
 With '--json' a JSON object (RFC 8259) is printed on one line: '{\"ok\":true}' or the fault, such as
 '{\"layer\":1,\"code\":102,\"name\":\"DosHeader\",\"offset\":0}'. Then nothing goes to standard error, unless FILE cannot be
 read or checked. The exit status is the same. '--json' takes one FILE, and no list, '--budget' or '--quiet'.
+
+With '--where' all that is known of the fault goes to standard output: its line, then a line as by 'clim where' for
+each structure that has the byte at OFFSET, and then the text of 'clim explain'. A part of FILE is taken apart only if
+it breaks no rule: the headers of the PE file, then the CLI header, the metadata root, and the table stream. So a
+fault of layer 5 and above has the line of its cell, and one of layer 1 has no lines. The exit status is the same.
+'--where' takes one FILE, and no list, '--budget', '--quiet' or '--json'.
 
 Examples:
   $ clim check one_module.dll

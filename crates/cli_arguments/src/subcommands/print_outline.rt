@@ -4,7 +4,7 @@ ghost use Rattle.clap.specs.Words.{app_of};
 ghost use Rattle.clap.specs.declared.Command.TheViews.{out-Command as fields_of};
 ghost use Rattle.cli_arguments.specs.CommandLine as line;
 
-use crate::subcommands::{part, reader};
+use crate::subcommands::{part, reporter};
 use clap::Command;
 use std::alloc::{AllocError, Global};
 
@@ -13,7 +13,7 @@ pub(crate) fn command<'a>(alloc: Global) -> Result<Command<'a>, AllocError>
     ensures app { IfOk result (λ command. app_of command ≡ line.outline) }
     ensures local { IfOk result (λ command. (fields_of command).has_globals ≡ false) }
 {
-    reader(
+    reporter(
         alloc,
         "outline",
         "Print the declarations of the assembly, or of one type, as ILAsm writes them",
@@ -38,6 +38,9 @@ NAME is the full name of a type: its namespace, a dot and its name, or its name 
 nested type has no namespace. If several types have the same names, the first one is printed. Eight hexadecimal digits
 that begin with 02 are a token instead. Then there are only the lines of that type, its fields, methods, events and
 properties. If FILE has no such type, 'no such type' goes to standard error, and the exit status is 1.
+
+With '--json' each line is a JSON object (RFC 8259) with the 'token' of the row, the 'directive' and the 'text' of the
+declaration. A field, method, event or property has the token of its 'type'.
 
 Examples:
   $ clim outline --bare two_types.root

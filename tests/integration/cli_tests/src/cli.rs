@@ -5,6 +5,7 @@ mod budgets;
 mod comparing;
 mod disks;
 mod escaping;
+mod fault_answers;
 mod hints;
 mod json;
 mod one_type;

@@ -13,17 +13,18 @@ returns-then-met-eq0-clause-table g c = λ model broken shown is.
     let lines = c.args.lines.now.items in
     let rows = rows_before c.args.rows.now.source broken c.args.table in
     let none : rows ≡ 0 = sym (c.met-met.ensures.value broken is) ∙ c.if-met-eq0.true in
-    subst (λ (bytes : List ℕ). Sends known known bytes lines) (sym (append-nil lines) ∙ ap (λ xs. lines ++ xs) (sym (no_table model c.args.table rows none))) (sends_nothing known lines)
+    subst (λ (bytes : List ℕ). Sends known known bytes lines) (sym (append-nil lines) ∙ ap (λ xs. lines ++ xs) (sym (no_table c.args.names model c.args.table rows none))) (sends_nothing known lines)
 
 pub returns-in_err-push_heading-clause-table : goal.returns-in_err-push_heading-clause-table
 returns-in_err-push_heading-clause-table g c = λ model broken shown is.
     let known = g.W.Write.contents c.args.out.now in
-    let text = c.args.lines.now.items ++ table_before c.args.rows.now.source broken model c.args.table in
+    let text = c.args.lines.now.items ++ table_before c.args.names c.args.rows.now.source broken model c.args.table in
     cut_moved c.from_residual.result known known text c.push_heading.new.line.items c.from_residual.ensures.0 (prefix_of_nothing known text)
 
 pub print_first_rows-requires : goal.print_first_rows-requires
 print_first_rows-requires g c = record {
   last = c.met-met.ensures.within;
+  limit = c.met-met.ensures.limit;
   rules = c.met-met.ensures.rules;
 }
 
@@ -35,8 +36,8 @@ returns-clause-table g c = λ model broken shown is.
     let counted = c.count.ensures ∙ sym (shown.count c.args.table) in
     let lines = c.args.lines.now.items in
     subst (λ (bytes : List ℕ). Moves (g.W.Write.contents c.args.out.now) (g.W.Write.contents c.print_first_rows.new.out) c.print_first_rows.result bytes c.print_first_rows.new.lines.items)
-    (ap (λ xs. xs ++ rows_text model c.args.table c.met-met.result) (c.in_ok-push_heading.ensures ∙ ap (λ n. lines ++ heading_text c.args.table n) counted)
-    ∙ append_assoc lines (heading_text c.args.table (count_in model c.args.table)) (rows_text model c.args.table c.met-met.result)
-    ∙ ap (λ n. lines ++ (heading_text c.args.table (count_in model c.args.table) ++ rows_text model c.args.table n)) met
-    ∙ ap (λ xs. lines ++ xs) (sym (some_table model c.args.table rows some)))
+    (ap (λ xs. xs ++ rows_text c.args.names model c.args.table c.met-met.result) (c.in_ok-push_heading.ensures ∙ ap (λ n. lines ++ heading_text c.args.table n) counted)
+    ∙ append_assoc lines (heading_text c.args.table (count_in model c.args.table)) (rows_text c.args.names model c.args.table c.met-met.result)
+    ∙ ap (λ n. lines ++ (heading_text c.args.table (count_in model c.args.table) ++ rows_text c.args.names model c.args.table n)) met
+    ∙ ap (λ xs. lines ++ xs) (sym (some_table c.args.names model c.args.table rows some)))
     (c.print_first_rows.ensures.rows model shown)

@@ -1,5 +1,5 @@
 use crate::runs::{Case, answer, other_answer};
-use sample_roots::{ONE_MODULE, TWO_TYPES, image};
+use sample_roots::{ONE_MODULE, TWO_TYPES, image, write_at};
 use std::fs;
 use std::test::Fail;
 
@@ -84,5 +84,36 @@ fn reports_faults_as_text(rt: HostRuntime) -> Result<(), Fail> {
         assert_eq!(rt; (status, out.as_str(), err.as_str()), (1, "", reported));
     }
     fs::remove_file(&rt, "fault.root")?;
+    Ok(())
+}
+
+/// What differs has its values as JSON; ignored columns are left out as without it.
+#[test]
+fn compares_with_json(rt: HostRuntime) -> Result<(), Fail> {
+    let mut other: Vec<u8> = ONE_MODULE.to_vec(rt.alloc())?;
+    // The first byte of '#GUID'.
+    write_at(&mut other, 128, &[0xFF]);
+    fs::write(&rt, "left.root", &ONE_MODULE)?;
+    fs::write(&rt, "right.root", other.as_slice())?;
+    let mvid = "\
+{\"difference\":\"Cell\",\"token\":\"00000001\",\"column\":\"Mvid\",\
+\"left\":\"03020100-0504-0706-0809-0a0b0c0d0e0f\",\"right\":\"030201ff-0504-0706-0809-0a0b0c0d0e0f\"}\n";
+    let equal = "{\"equal\":true}\n";
+    for (words, wanted, printed) in [
+        (["clim", "compare", "--json", "--bare", "left.root", "right.root"].as_slice(), 1, mvid),
+        (&["clim", "compare", "--bare", "left.root", "left.root", "--json"], 0, equal),
+        (&["clim", "compare", "--json", "--ignore", "Module.Mvid", "--bare", "left.root", "right.root"], 0, equal),
+        (&["clim", "compare", "--json", "--ignore", "Module.Name", "--bare", "left.root", "right.root"], 1, mvid),
+    ] {
+        let (status, out, err) = answer(&rt, words)?;
+        assert_eq!(rt; (status, out.as_str(), err.as_str()), (wanted, printed, ""));
+    }
+    let two: Vec<u8> = TWO_TYPES.to_vec(rt.alloc())?;
+    fs::write(&rt, "right.root", two.as_slice())?;
+    let (status, out, _) = answer(&rt, &["clim", "compare", "--json", "--bare", "left.root", "right.root"])?;
+    assert_eq!(rt; status, 1);
+    assert!(rt; out.starts_with("{\"difference\":\"RowCount\",\"table\":\"Module\",\"left\":1,\"right\":0}\n"));
+    fs::remove_file(&rt, "left.root")?;
+    fs::remove_file(&rt, "right.root")?;
     Ok(())
 }
