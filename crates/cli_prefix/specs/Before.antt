@@ -1,4 +1,4 @@
--- What `clim show --until-fault` prints of bytes that break a rule: the rows before the first broken one (ECMA-335 II.22).
+-- What is printed of bytes that break a rule: the rows before the first broken one (ECMA-335 II.22).
 use Rattle.std.specs.Prelude.{◌≡◌, ℕ, ◌-◌, ◌==◌, nat_lt, ◌⊎◌, if◌then◌else◌, Bool, true, false, List, [], ◌++◌, Option, Some, None}
 use Rattle.std.specs.List.{flat_map}
 use Rattle.std.specs.Io.KnownBytes.{Appends}

@@ -1,4 +1,4 @@
-//! Prints the rows of a file that breaks a rule, up to the first broken one: `clim show --until-fault` (ECMA-335 II.22).
+//! Prints the rows of a file that breaks a rule, up to the first broken one (ECMA-335 II.22). No command calls it.
 //!
 //! [`report_until_fault`] prints what [`cli_reports::print_report`] prints of all tables or of one. If the bytes break a
 //! rule, it prints the rows that come before the first broken rule and returns its fault. It is proved that the lines of
