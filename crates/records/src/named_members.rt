@@ -3,9 +3,10 @@ ghost use Rattle.table_schema.specs.declared.coded.Coded.TheVariants as coded;
 ghost use Rattle.table_schema.specs.declared.table.TableId.TheVariants as table;
 
 use crate::references::ModuleRef;
-use member_records::{MemberRef, MethodDef};
 use table_schema::Coded;
-use type_records::{CodedRow, FromRow, IsSignature, Row, TableId, TypeDef, TypeRef, TypeSpec};
+use type_records::{
+    CodedRow, FromRow, IsSignature, MemberRef, MethodDef, Row, TableId, TypeDef, TypeRef, TypeSpec,
+};
 
 /// The parent of a member of another module, which a MemberRefParent names (II.24.2.6).
 #[derive(Clone, Copy, Debug)]

@@ -1,5 +1,5 @@
 //! The rows of tables as records, whose fields have the names of the columns (ECMA-335 II.22). This crate
-//! has the records of the module, of types, and of generics.
+//! has the records of the module, of types, of their fields and methods, and of generics.
 //!
 //! A record borrows from its source. [`Record::from_cells`] reads it from owned cells, and
 //! [`Record::cells`] makes the cells again. [`FromRow`] reads it from any kind of [`Row`], so that a
@@ -15,9 +15,11 @@
 mod cell_row;
 mod coded_row;
 mod field_value;
+mod fields;
 mod generics;
 mod kinds;
 pub mod laws;
+mod methods;
 mod record;
 mod row;
 mod signature;
@@ -26,8 +28,10 @@ mod types;
 pub use cell_row::CellRow;
 pub use coded_row::{CodedRow, coded_row_of, lists};
 pub use field_value::{FieldValue, owned_cells};
+pub use fields::{Field, FieldLayout, FieldMarshal, FieldRVA, MemberRef};
 pub use generics::{GenericParam, GenericParamConstraint, MethodSpec};
 pub use kinds::is_row_of;
+pub use methods::{MethodDef, MethodImpl, MethodSemantics, Param, StandAloneSig};
 pub use record::{FromRow, Record, record_of};
 pub use row::Row;
 pub use signature::IsSignature;

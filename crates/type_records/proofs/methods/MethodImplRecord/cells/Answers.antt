@@ -1,6 +1,6 @@
 -- Search finds these too. They are written so that a check that refuses an edit of this function ends sooner.
 use Rattle.std.proofs.Common.{rules}
-use Rattle.member_records.proofs.methods.MethodImplRecord.cells.Goals as goal
+use Rattle.type_records.proofs.methods.MethodImplRecord.cells.Goals as goal
 
 pub returns : goal.returns
 returns c = search rules

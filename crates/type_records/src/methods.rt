@@ -4,11 +4,13 @@ ghost use Rattle.table_schema.specs.declared.column.SigKind.TheVariants as colum
 ghost use Rattle.metadata.specs.Cell.{Number, Text, Ref, Start, Sig};
 ghost use Rattle.tables.specs.Said.{all_said};
 
+use crate::field_value::{FieldValue, owned_cells};
+use crate::record::{FromRow, Record};
+use crate::row::Row;
+use crate::signature::IsSignature;
 use std::alloc::{AllocError, Global};
-use type_records::{
-    Cell, FieldValue, FromRow, IsSignature, Record, Row, SigKind, Signature, TableId, Token,
-    owned_cells,
-};
+use table_schema::{SigKind, TableId};
+use tables::{Cell, Signature, Token};
 
 /// A method of a type of this module (II.22.26).
 #[derive(Clone, Copy, Debug, PartialEq, Eq)]
