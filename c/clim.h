@@ -20,7 +20,7 @@
  * A call on a view reads the directory of the root and the row counts again, but no heap. It takes about 3
  * microseconds, for a small file and for one of 5 MB alike; a crafted root of 200 kB with 16,000 stream headers makes
  * it 3 to 6 milliseconds. clim_find_type also scans a table, at 6 nanoseconds per type. In a call of clim_cells a
- * cell takes about 20 nanoseconds. So read whole columns if you need many cells. clim_canonical_root and clim_digest
+ * cell takes about 7 nanoseconds. So read whole columns if you need many cells. clim_canonical_root and clim_digest
  * take some 50 milliseconds for a file of 5 MB, and allocate some 12 MB then.
  *
  * Errors: clim_check, clim_open, clim_read_header and their variants return false and write a clim_fault, or say that a

@@ -19,6 +19,7 @@ impl<'a> ClimCell<'a> {
     ghost use Rattle.c_values.specs.Cells.{HasFields};
 
     /// A cell by its fields.
+    #[inline(always)]
     pub fn new(kind: u8, bytes: &'a [u8], number: u32, table: u8, guid: [u8; 16]) -> ClimCell<'a>
         ensures { HasFields result kind bytes.now number table guid }
     {

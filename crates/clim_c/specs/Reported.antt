@@ -1,9 +1,13 @@
 -- The cell that a C caller receives (II.22).
-use Rattle.std.specs.Prelude.{ℕ, List, [], replicate, Some, None}
+use Rattle.std.specs.Prelude.{◌≡◌, ◌≤◌, ◌<◌, ◌+◌, ◌-◌, ℕ, List, [], replicate, Some, None, length, slice_index_or}
+use Rattle.std.specs.List.{SameFrom}
 use Rattle.table_schema.specs.declared.table.TableId.{TableId}
 use Rattle.table_schema.specs.Tables.{table_number}
-use Rattle.table_schema.specs.CellColumns.{column_of}
+use Rattle.table_schema.specs.declared.column.ColumnKind.{ColumnKind}
+use Rattle.table_schema.specs.Columns.{column_at}
+use Rattle.table_schema.specs.CellColumns.{cell_count, column_of}
 use Rattle.metadata.specs.Metadata.{Metadata, cell_in}
+use Rattle.metadata.specs.Model.{IsModel}
 use Rattle.metadata.specs.Source.{number_of}
 use Rattle.metadata.specs.SourceAt.{source_of}
 use Rattle.reading.specs.declared.cell_ref.CellRef.{CellRef}
@@ -11,6 +15,7 @@ use Rattle.reading.specs.declared.cell_ref.CellRef.TheVariants.{Number, Text, By
 use Rattle.reading.specs.Shown.{ShowsCell, ShowsBlob}
 use Rattle.c_values.specs.declared.cell.ClimCell.{ClimCell}
 use Rattle.c_values.specs.Cells.{HasFields}
+use Rattle.opening.specs.Views.{row_count}
 
 -- the GUID field of a cell that is not a GUID
 abbrev pub no_guid : List ℕ
@@ -35,3 +40,24 @@ ReportsCell root model table row column reported =
     × Reports reported seen
     × ShowsCell table column seen (cell_in model table row column)
     × ShowsBlob (source_of root) (number_of (source_of root) table row (column_of table column)) seen
+
+-- the kind is that of the cells of the column
+abbrev pub IsKind : TableId → ℕ → ColumnKind → Type 0
+IsKind table column kind = kind ≡ (column_at table (column_of table column)).kind
+
+-- the table has the column, and at least `count` rows from the first on; there are at least `count` elements, and a table
+-- has at most 2^24 - 1 rows
+abbrev pub AreThere : List ℕ → TableId → ℕ → ℕ → ℕ → List ClimCell → Type 0
+AreThere root table first column count cells =
+    (1 ≤ first)
+    × (count ≤ row_count root table + 1 - first)
+    × (row_count root table ≤ 0xFFFFFF)
+    × (column < cell_count table)
+    × (count ≤ length cells)
+
+-- the first `count` elements are the cells of the column from a row on; the others are as before
+abbrev pub AreReported : List ℕ → TableId → ℕ → ℕ → ℕ → List ClimCell → List ClimCell → Type 0
+AreReported root table first column count before after =
+    ((model : Metadata) → IsModel root model → (k : ℕ) (d : ClimCell) → k < count
+    → ReportsCell root model table (first + k) column (slice_index_or after k d))
+    × SameFrom before after count

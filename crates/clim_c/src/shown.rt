@@ -1,15 +1,19 @@
 ghost use Rattle.std.specs.Prelude.{◌≡◌, ◌≤◌, ◌<◌, ◌+◌, ◌-◌, ℕ, min, true, false, length, slice_index_or};
 ghost use Rattle.c_values.specs.declared.cell.ClimCell.{ClimCell as Reported};
-ghost use Rattle.clim_c.specs.Reported.{Reports, ReportsCell};
+ghost use Rattle.clim_c.specs.Reported.{AreReported, AreThere, IsKind, Reports, ReportsCell};
 ghost use Rattle.clim_c.specs.Words.{IsModel, Metadata, OnFalse, OnTrue, SameFrom, Table, cell_count, row_count, table_number};
 
 use crate::opened::seen;
 use crate::view::ClimView;
 use c_values::ClimCell;
-use opening::{CellRef, TableId, View};
-use table_schema::cell_count;
+use opening::{CellRef, ColumnKind, TableId, View};
+use table_schema::ColumnKind::{
+    Blob, Coded, Guid, List, Padding, Row, Signature, Text, U8, U16, U32,
+};
+use table_schema::{cell_count, column_of_cell, columns};
 
 /// A value as a C caller receives it.
+#[inline(always)]
 fn reported<'a>(cell: CellRef<'a>) -> ClimCell<'a>
     ensures { Reports result cell.entry }
 {
@@ -26,16 +30,6 @@ fn reported<'a>(cell: CellRef<'a>) -> ClimCell<'a>
         CellRef::Start(number) => ClimCell::new(8, &[], number, 0, [0; 16]),
         CellRef::Sig(bytes) => ClimCell::new(9, bytes, 0, 0, [0; 16]),
     }
-}
-
-/// A cell of a row of a table, as a C caller receives it.
-fn reported_at<'a>(seen: &View<'a>, table: TableId, row: u32, column: usize) -> ClimCell<'a>
-    requires first { 1 ≤ row }
-    requires last { row ≤ row_count seen.now table }
-    requires column { column < cell_count table }
-    ensures { (model : Metadata) → IsModel seen.now model → ReportsCell seen.now model table row column result }
-{
-    reported(seen.cell(table, row, column))
 }
 
 /// A cell of a row, by its index in the row; rows count from 1, cells from 0. `true` if the view is open and has the
@@ -62,8 +56,55 @@ pub extern "C" fn clim_cell_at<'a>(
     if row < 1 || row > seen.count(table) || column >= cell_count(table) {
         return false;
     }
-    *cell = reported_at(&seen, table, row, column);
+    *cell = reported(seen.cell(table, row, column));
     true
+}
+
+/// Writes the cells of a column, whose kind the caller knows, from a row on.
+#[inline(always)]
+fn write_cells<'a>(
+    seen: &View<'a>,
+    kind: ColumnKind,
+    table: TableId,
+    first: u32,
+    column: usize,
+    cells: &mut [ClimCell<'a>],
+    count: usize,
+)
+    requires kind { IsKind table column kind }
+    requires there { AreThere seen.now table first column count cells.old }
+    ensures { AreReported seen.now table first column count cells.old cells.new }
+{
+    for k in 0..count {
+        cells[k] = reported(seen.cell_of_kind(kind, table, first + k as u32, column));
+    }
+}
+
+/// Writes the cells of a column from a row on. The kind is matched before the loop, so each has a loop that knows it.
+fn write_column<'a>(
+    seen: &View<'a>,
+    table: TableId,
+    first: u32,
+    column: usize,
+    cells: &mut [ClimCell<'a>],
+    count: usize,
+)
+    requires { AreThere seen.now table first column count cells.old }
+    ensures { AreReported seen.now table first column count cells.old cells.new }
+{
+    match columns(table)[column_of_cell(table, column)].kind {
+        U8 => write_cells(seen, U8, table, first, column, cells, count),
+        U16 => write_cells(seen, U16, table, first, column, cells, count),
+        U32 => write_cells(seen, U32, table, first, column, cells, count),
+        Padding => write_cells(seen, Padding, table, first, column, cells, count),
+        Text => write_cells(seen, Text, table, first, column, cells, count),
+        Guid => write_cells(seen, Guid, table, first, column, cells, count),
+        Blob => write_cells(seen, Blob, table, first, column, cells, count),
+        Signature(of) => write_cells(seen, Signature(of), table, first, column, cells, count),
+        Row(to) => write_cells(seen, Row(to), table, first, column, cells, count),
+        Coded(to) => write_cells(seen, Coded(to), table, first, column, cells, count),
+        List(of) => write_cells(seen, List(of), table, first, column, cells, count),
+    }
 }
 
 /// Writes the cells of a column from a row on, up to the length of `cells`, and returns the number written. The other
@@ -92,8 +133,6 @@ pub extern "C" fn clim_cells<'a>(
     }
     let left = (seen.count(table) + 1).saturating_sub(first) as usize;
     let count = left.min(cells.len());
-    for k in 0..count {
-        cells[k] = reported_at(&seen, table, first + k as u32, column);
-    }
+    write_column(&seen, table, first, column, cells, count);
     count
 }

@@ -35,5 +35,5 @@ pub use packed::{Fault, FaultCode};
 pub use pe::Pe;
 pub use reading::{CellRef, KeyNumbers, KeyRows, Source, Starts};
 pub use root::Root;
-pub use table_schema::{TableId, Token};
+pub use table_schema::{ColumnKind, TableId, Token};
 pub use view::View;

@@ -25,11 +25,11 @@ ghost use Rattle.opening.specs.Views.{HasModel, AreFound, row_count, user_of};
 
 use crate::found::Found;
 use metadata_source::KeysOf;
-use reading::{CellRef, KeyRows, KnownRuns, Source, Starts, cell_of, starts_of};
+use reading::{CellRef, KeyRows, KnownRuns, Source, Starts, cell_of, cell_of_kind, starts_of};
 use std::alloc::AllocError;
 use std::marker::Model;
 use std::ops::Range;
-use table_schema::{TableId, Token, column_of_cell};
+use table_schema::{ColumnKind, TableId, Token, column_of_cell};
 
 /// The one model of a root, read in place from the caller's bytes (II.22, II.24.2).
 ///
@@ -186,6 +186,28 @@ impl<'a> View<'a> {
             row,
             column_of_cell(table, column),
         )
+    }
+
+    /// The same for a caller that knows the kind of the cell's column, as a loop over the rows of a column does.
+    ///
+    /// It is compiled into its caller. A caller that passes a constant kind runs only what that kind needs.
+    #[inline(always)]
+    pub fn cell_of_kind(
+        &self,
+        kind: ColumnKind,
+        table: TableId,
+        row: u32,
+        column: usize,
+    ) -> CellRef<'a>
+        requires first { 1 ≤ row }
+        requires last { row ≤ row_count self.now table }
+        requires column { column < cell_count table }
+        requires kind { kind ≡ (column_at table (column_of table column)).kind }
+        ensures cell { (model : Metadata) → IsModel self.now model → ShowsCell table column result (cell_in model table row column) }
+        ensures blob { ShowsBlob (source_of self.now) (number_of (source_of self.now) table row (column_of table column)) result }
+    {
+        let table_column = column_of_cell(table, column);
+        cell_of_kind(self.source(), self.known(), kind, table, row, table_column)
     }
 
     /// The fields of a type, as rows of Field (II.22.37).

@@ -38,9 +38,33 @@ pub fn cell_of<'a>(
     ensures cell { (cell : Cell) → StandsIn source.now.source table row column cell → Shows (column_at table column).kind result cell }
     ensures blob { ShowsBlob source.now.source (number_of source.now.source table row column) result }
 {
-    let held = column_at(table, column);
+    let kind = column_at(table, column).kind;
+    cell_of_kind(source, known, kind, table, row, column)
+}
+
+/// The same for a caller that knows the kind of the column, as a loop over its rows does.
+///
+/// It is compiled into its caller. A caller that passes a constant kind runs only what that kind needs.
+#[inline(always)]
+pub fn cell_of_kind<'a>(
+    source: &Source<'a>,
+    known: &KnownRuns,
+    kind: ColumnKind,
+    table: TableId,
+    row: u32,
+    column: usize,
+) -> CellRef<'a>
+    requires known { AreKnown source.now.source known.now }
+    requires first { 1 ≤ row }
+    requires last { row ≤ rows_in source.now.source table }
+    requires column { column < length (columns_of table) }
+    requires kind { kind ≡ (column_at table column).kind }
+    requires stands { ¬ (¬ ((cell : Cell) × StandsIn source.now.source table row column cell)) }
+    ensures cell { (cell : Cell) → StandsIn source.now.source table row column cell → Shows (column_at table column).kind result cell }
+    ensures blob { ShowsBlob source.now.source (number_of source.now.source table row column) result }
+{
     let number = source.number(table, row, column);
-    match held.kind {
+    match kind {
         ColumnKind::U8 | ColumnKind::U16 | ColumnKind::U32 => CellRef::Number(number),
         ColumnKind::Padding => unreachable!(),
         ColumnKind::Text => CellRef::Text(text_at(source.strings(), number)),
@@ -75,15 +99,17 @@ pub fn cell_onward<'a>(
     ensures cell { (cell : Cell) → StandsIn source.now.source table row column cell → Shows (column_at table column).kind result cell }
     ensures blob { ShowsBlob source.now.source (number_of source.now.source table row column) result }
 {
-    match column_at(table, column).kind {
+    let kind = column_at(table, column).kind;
+    match kind {
         ColumnKind::List(member) => {
             CellRef::Start(cursors.start(source, known, table, row, column, member))
         }
-        _ => cell_of(source, known, table, row, column),
+        _ => cell_of_kind(source, known, kind, table, row, column),
     }
 }
 
 /// The string at an index that has one.
+#[inline(always)]
 fn text_at<'a>(heap: &Strings<'a>, index: u32) -> &'a str
     requires { ¬ (¬ ((text : List ℕ) × IsText heap.now index text)) }
     ensures { (text : List ℕ) → IsText heap.now index text → result.now ≡ text }

@@ -27,7 +27,7 @@ mod start_cursor;
 mod starts;
 mod text_tests;
 
-pub use cell::{cell_of, cell_onward};
+pub use cell::{cell_of, cell_of_kind, cell_onward};
 pub use cell_ref::CellRef;
 pub use coded::named_by;
 pub use column::column_at;

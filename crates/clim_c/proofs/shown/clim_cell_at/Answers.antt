@@ -12,6 +12,6 @@ returns-clause-shown c = λ model is known known_is.
     let table : c.in-Some-Some.table ≡ known = same_Some c.in-Some-Some.table known (c.in-Some-Some.ensures.complete known known_is) in
     let root : c.in-Some-Some.seen ≡ c.args.view.now.root.now = c.in-Some-Some.ensures'.sound.0 in
     let P : List ℕ → Type 0 = λ r. IsModel r model in
-    let Q : List ℕ → Type 0 = λ r. ReportsCell r model c.in-Some-Some.table row column c.reported_at.result in
-    let R : TableId → Type 0 = λ t. ReportsCell c.args.view.now.root.now model t row column c.reported_at.result in
-    subst R table (subst Q root (c.reported_at.ensures model (subst P (sym root) is)))
+    let Q : List ℕ → Type 0 = λ r. ReportsCell r model c.in-Some-Some.table row column c.reported.result in
+    let R : TableId → Type 0 = λ t. ReportsCell c.args.view.now.root.now model t row column c.reported.result in
+    subst R table (subst Q root (c.cell.result, c.reported.ensures, c.cell.ensures.cell model (subst P (sym root) is), c.cell.ensures.blob))

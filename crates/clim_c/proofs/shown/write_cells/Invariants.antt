@@ -4,12 +4,12 @@ use Rattle.metadata.specs.Metadata.{Metadata}
 use Rattle.metadata.specs.Model.{IsModel}
 use Rattle.c_values.specs.declared.cell.ClimCell.{ClimCell}
 use Rattle.clim_c.specs.Reported.{ReportsCell}
-use Rattle.clim_c.proofs.shown.clim_cells.Given as goal
+use Rattle.clim_c.proofs.shown.write_cells.Given as goal
 
 abbrev pub invariant-loop-k : goal.invariant-loop-k
 invariant-loop-k l = record {
-  shown : (model : Metadata) → IsModel l.view.root.now model → (j : ℕ) (d : ClimCell) → j < l.k
-      → ReportsCell l.view.root.now model l.table (l.first + j) l.column (slice_index_or l.cells j d);
+  shown : (model : Metadata) → IsModel l.seen model → (j : ℕ) (d : ClimCell) → j < l.k
+      → ReportsCell l.seen model l.table (l.first + j) l.column (slice_index_or l.cells j d);
   same : SameFrom l.fn.cells l.cells l.k;
   long : length l.cells ≡ length l.fn.cells;
 }
