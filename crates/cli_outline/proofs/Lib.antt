@@ -3,6 +3,7 @@ pub mod SentLemmas
 pub mod LayoutLemmas
 pub mod OutlineLemmas
 pub mod PieceLemmas
+pub mod DeclarationLemmas
 pub mod ReferenceLemmas
 pub mod RunLemmas
 pub mod SubjectLemmas

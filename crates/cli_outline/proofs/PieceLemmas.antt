@@ -1,15 +1,16 @@
 -- The program's pieces and words are the parts and words of specs/.
 use Rattle.std.proofs.Common.{◌≡◌, ◌∙◌, ℕ, ◌+◌, ◌<◌, List, ◌++◌, OnOk, Result, Ok, Err, length, get_or, take, map, ap, subst, sym, arith}
+use Rattle.std.specs.Prelude.{if◌then◌else◌, is_ok}
 use Rattle.std.proofs.lemmas.List.{length-map}
 use Rattle.std.proofs.Math.ListN.{get_or-map}
 use Rattle.table_schema.specs.declared.table.TableId.{TableId}
 use Rattle.metadata.specs.Metadata.{Metadata}
 use Rattle.cli_outline.specs.Layouts.{parts_of}
 use Rattle.cli_outline.specs.Parts.{IsPartText, Part}
-use Rattle.cli_outline.specs.Shown.{IsWithin, shown, shown_word}
+use Rattle.cli_outline.specs.Shown.{IsWithin, shown}
 use Rattle.cli_outline.specs.Texts.{AreTexts, Gains}
-use Rattle.cli_outline.specs.Words.{Word, word_text, words_text}
-use Rattle.cli_outline.specs.declared.flag_words.FlagWord.{FlagWord}
+use Rattle.full_names.specs.FlagWords.{Word, shown_word, word_text, words_text}
+use Rattle.full_names.specs.declared.flag_words.FlagWord.{FlagWord}
 use Rattle.cli_outline.specs.declared.layouts.Piece.{Piece}
 use Rattle.cli_outline.proofs.LayoutLemmas.{at_index, parts_within}
 use Rattle.cli_outline.proofs.TextLemmas.{gains_more, items_more}
@@ -17,6 +18,11 @@ use Rattle.cli_outline.proofs.TextLemmas.{gains_more, items_more}
 pub on_ok : {T E P Q : Type 0} (result : Result T E) → OnOk result P → (P → Q) → OnOk result Q
 on_ok (Ok done) is f = f is
 on_ok (Err error) is f = tt
+
+-- what was appended by the last call of a function
+pub extended : {T E : Type 0} (result : Result T E) (before after bytes : List ℕ) → after ≡ (if is_ok result then before ++ bytes else before) → OnOk result (after ≡ before ++ bytes)
+extended (Ok done) before after bytes is = is
+extended (Err error) before after bytes is = tt
 
 -- an item of a list that is a map
 module _ {X Y : Type 0} (f : X → Y) (xs : List X) (ys : List Y) (i : ℕ) (d : X) (same : map f xs ≡ ys) where

@@ -8,10 +8,11 @@ use Rattle.metadata.specs.Lookups.{HasRow, IsFirstType}
 use Rattle.metadata.specs.Metadata.{Metadata, count_in}
 use Rattle.metadata.specs.Model.{IsModel}
 use Rattle.opening.specs.Views.{HasModel, row_count}
+use Rattle.cli_reports.specs.declared.report.Form.{Form}
 use Rattle.cli_outline.specs.declared.subject.Subject.{Subject}
 use Rattle.cli_outline.specs.declared.subject.Subject.TheVariants.{Named, Row}
 use Rattle.cli_outline.specs.declared.subject.Outcome.{Outcome}
-use Rattle.cli_outline.specs.Outline.{IsLine, class_rows}
+use Rattle.cli_outline.specs.Outline.{IsLineIn, class_rows}
 use Rattle.cli_outline.specs.Sent.{SendsFirst}
 use Rattle.cli_outline.specs.Subjects.{IsSubject, PrintsSubject}
 use Rattle.cli_outline.proofs.ReferenceLemmas.{at_most}
@@ -50,7 +51,7 @@ subject_one model (Named namespace name) row other is more = elim (cases_lt row 
 ]
 
 -- nothing or a prefix of the first lines went out, if it fails
-pub subject_cut : {E : Type 0} (model : Metadata) (subject : Subject) (before after : Option (List ℕ)) (result : Result Outcome E) → IsErr result
-    → ((row : ℕ) → IsSubject model subject row → SendsFirst (IsLine model) before after (class_rows model row) []) → PrintsSubject model subject before after result
-subject_cut model subject before after (Ok outcome) is cut = cc
-subject_cut model subject before after (Err error) is cut = cut
+pub subject_cut : {E : Type 0} (form : Form) (model : Metadata) (subject : Subject) (before after : Option (List ℕ)) (result : Result Outcome E) → IsErr result
+    → ((row : ℕ) → IsSubject model subject row → SendsFirst (IsLineIn form model) before after (class_rows model row) []) → PrintsSubject form model subject before after result
+subject_cut form model subject before after (Ok outcome) is cut = cc
+subject_cut form model subject before after (Err error) is cut = cut

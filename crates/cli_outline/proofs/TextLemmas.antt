@@ -1,11 +1,13 @@
 -- Texts one after another, and what a writer that escapes took.
-use Rattle.std.proofs.Common.{◌≡◌, ◌∙◌, ℕ, suc, ◌+◌, ◌<◌, List, [], ◌∷◌, ◌++◌, length, get_or, take, refl, ap, sym, subst, append_assoc, append-nil, arith, map}
+use Rattle.std.proofs.Common.{◌≡◌, ◌∙◌, ℕ, zero, suc, ◌+◌, ◌-◌, ◌<◌, ◌≤◌, Bool, cond, eqb, ltb, List, [], ◌∷◌, ◌++◌, codes, length, get_or, take, refl, ap, sym, subst, append_assoc, append-nil, length-append, arith, map, ⊎_elim}
+use Rattle.std.proofs.lemmas.Bool.{cases_lt, eq-eqb, le-ltb, lt-ltb, ne_eqb}
 use Rattle.std.proofs.lemmas.List.{flat_map_more}
 use Rattle.std.proofs.Math.Seq.{take-suc}
 use Rattle.std.specs.List.{flat_map, FoldsTo, concat}
 use Rattle.std.specs.Fmt.{WritesInCalls}
 use Rattle.std.proofs.lemmas.Grind.{flat_map-append}
 use Rattle.cli_faults.specs.Escaped.{escaped_text}
+use Rattle.cli_outline.specs.Parts.{cut_text, text_limit}
 use Rattle.cli_outline.specs.Texts.{AreTexts, Gains}
 
 module _ {X : Type 0} (is_text : X → List ℕ → Type 0) where
@@ -27,20 +29,58 @@ texts_map is_text f (x ∷ xs) a are = (are.0, are.1, are.2, texts_map is_text f
 pub gains_same : (text before after : List ℕ) → after ≡ before ++ text → Gains (λ (t : List ℕ). t ≡ text) before after
 gains_same text before after is = (text, refl, is)
 
--- a writer that escapes what it takes has the whole text escaped
-module _ {W : Type 0} (bytes : W → List ℕ) where
-  folds_escaped : (before : W) (parts : List (List ℕ)) (after : W) → FoldsTo (λ (v : W) (text : List ℕ) (w : W). bytes w ≡ bytes v ++ escaped_text text) before parts after
-      → bytes after ≡ bytes before ++ escaped_text (concat parts)
-  folds_escaped before [] after is = ap bytes (sym is) ∙ sym (append-nil (bytes before))
-  folds_escaped before (part ∷ parts) after (between, one, more) =
-      folds_escaped between parts after more ∙ ap (λ (t : List ℕ). t ++ escaped_text (concat parts)) one
-      ∙ append_assoc (bytes before) (escaped_text part) (escaped_text (concat parts))
-      ∙ ap (λ (t : List ℕ). bytes before ++ t) (sym (flat_map-append _ part (concat parts)))
+-- the first items of two lists
+take_nothing : {X : Type 0} (n : ℕ) → take {A = X} n [] ≡ []
+take_nothing zero = refl
+take_nothing (suc n) = refl
 
-  pub calls_escaped : (before : W) (text : List ℕ) (after : W) → WritesInCalls (λ (v : W) (t : List ℕ) (w : W). bytes w ≡ bytes v ++ escaped_text t) before text after
-      → bytes after ≡ bytes before ++ escaped_text text
-  calls_escaped before text after calls =
-      folds_escaped before calls.parts after calls.calls ∙ ap (λ (t : List ℕ). bytes before ++ escaped_text t) calls.whole
+take_parts : {X : Type 0} (n : ℕ) (a b : List X) → take n (a ++ b) ≡ take n a ++ take (n - length a) b
+take_parts zero a b = let none : 0 - length a ≡ 0 = omega arith in sym (ap (λ m. take m b) none)
+take_parts (suc n) [] b = let all : suc n ≡ suc n - 0 = omega arith in ap (λ m. take m b) all
+take_parts (suc n) (x ∷ a) b = let less : n - length a ≡ suc n - suc (length a) = omega arith in
+    ap (λ t. x ∷ t) (take_parts n a b ∙ ap (λ m. take n a ++ take m b) less)
+
+-- whether a text is longer than the limit, from what a writer still takes after it
+longer : (left : ℕ) (text : List ℕ) → left ≡ text_limit + 1 - length text → eqb left 0 ≡ ltb text_limit (length text)
+longer left text is = ⊎_elim
+    (λ (lt : text_limit < length text). eq-eqb left 0 (omega (arith, is, lt)) ∙ sym (lt-ltb text_limit (length text) lt))
+    (λ (le : length text ≤ text_limit). ne_eqb left 0 (λ none. let zero_left : left ≡ 0 = none in absurd (omega (arith, zero_left, is, le))) ∙ sym (le-ltb text_limit (length text) le))
+    (cases_lt text_limit (length text))
+
+-- a writer that takes the first bytes of what it is given, escaped, has the first bytes of the whole text, escaped
+module _ {W : Type 0} (bytes : W → List ℕ) (left : W → ℕ) where
+  abbrev pub Takes : W → List ℕ → W → Type 0
+  Takes before text after = (bytes after ≡ bytes before ++ escaped_text (take (left before - 1) text)) × (left after ≡ left before - length text)
+
+  folds_cut : (before : W) (parts : List (List ℕ)) (after : W) → FoldsTo Takes before parts after → Takes before (concat parts) after
+  folds_cut before [] after is =
+      let all : left before ≡ left before - 0 = omega arith in
+      (ap bytes (sym is) ∙ sym (append-nil (bytes before)) ∙ ap (λ (t : List ℕ). bytes before ++ escaped_text t) (sym (take_nothing (left before - 1))), ap left (sym is) ∙ all)
+  folds_cut before (part ∷ parts) after (between, one, more) =
+      let later = folds_cut between parts after more in
+      let room : left between - 1 ≡ left before - 1 - length part = omega (arith, one.1) in (
+        later.0 ∙ ap (λ (t : List ℕ). t ++ escaped_text (take (left between - 1) (concat parts))) one.0
+            ∙ append_assoc (bytes before) (escaped_text (take (left before - 1) part)) (escaped_text (take (left between - 1) (concat parts)))
+            ∙ ap (λ (m : ℕ). bytes before ++ (escaped_text (take (left before - 1) part) ++ escaped_text (take m (concat parts)))) room
+            ∙ ap (λ (t : List ℕ). bytes before ++ t)
+            (sym (flat_map-append _ (take (left before - 1) part) (take (left before - 1 - length part) (concat parts))))
+            ∙ ap (λ (t : List ℕ). bytes before ++ escaped_text t) (sym (take_parts (left before - 1) part (concat parts))),
+        omega (arith, later.1, one.1, length-append part (concat parts)),
+      )
+
+  pub whole_cut : (before : W) (text : List ℕ) (after : W) → WritesInCalls Takes before text after → Takes before text after
+  whole_cut before text after calls = subst (λ (t : List ℕ). Takes before t after) calls.whole (folds_cut before calls.parts after calls.calls)
+
+  -- with `..` after it if it was cut
+  pub text_cut : (before : W) (text : List ℕ) (after : W) (marked : List ℕ) → left before ≡ text_limit + 1 → Takes before text after
+      → marked ≡ bytes after ++ cond (eqb (left after) 0) (codes "..") [] → marked ≡ bytes before ++ cut_text text
+  unfolding cut_text
+  text_cut before text after marked begun takes is =
+      let room : left before - 1 ≡ text_limit = omega (arith, begun) in
+      let gone : left after ≡ text_limit + 1 - length text = omega (arith, begun, takes.1) in
+      is ∙ ap (λ (b : List ℕ). b ++ cond (eqb (left after) 0) (codes "..") []) (takes.0 ∙ ap (λ (m : ℕ). bytes before ++ escaped_text (take m text)) room)
+      ∙ append_assoc (bytes before) (escaped_text (take text_limit text)) (cond (eqb (left after) 0) (codes "..") [])
+      ∙ ap (λ (t : Bool). bytes before ++ (escaped_text (take text_limit text) ++ cond t (codes "..") [])) (longer (left after) text gone)
 
 pub take_more : {X : Type 0} (xs : List X) (i : ℕ) (d : X) → i < length xs → take (i + 1) xs ≡ take i xs ++ get_or xs i d ∷ []
 take_more xs i d lt = let e : i + 1 ≡ suc i = omega arith in ap (λ n. take n xs) e ∙ take-suc xs i d lt

@@ -2,7 +2,7 @@
 use Rattle.std.specs.Prelude.{List, [], ◌∷◌, codes}
 use Rattle.table_schema.specs.declared.table.TableId.{TableId}
 use Rattle.table_schema.specs.declared.table.TableId.TheVariants.{Assembly, AssemblyRef, Module, ModuleRef, File, ManifestResource, TypeDef, Field, MethodDef, InterfaceImpl, GenericParam, GenericParamConstraint, ExportedType, MethodImpl, MethodSemantics, Event, Property, ImplMap, CustomAttribute}
-use Rattle.cli_outline.specs.declared.flag_words.FlagTable.TheVariants as table
+use Rattle.full_names.specs.declared.flag_words.FlagTable.TheVariants as table
 use Rattle.cli_outline.specs.Parts.{Part, word, flags, text, number, quoted_after, bytes_after, key, hex, dotted, token_after, signature, declaration, own_name, name_after}
 
 abbrev pub parts_of : TableId → List Part

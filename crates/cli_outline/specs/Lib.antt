@@ -1,7 +1,7 @@
-pub mod Words
 pub mod Texts
 pub mod Parts
 pub mod Layouts
+pub mod Declarations
 pub mod Outline
 pub mod Sent
 pub mod Shown

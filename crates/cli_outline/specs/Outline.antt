@@ -1,6 +1,7 @@
 -- The outline of a model: which rows have a line, in which order, and the texts of the lines (ECMA-335 II.22).
-use Rattle.std.specs.Prelude.{◌≡◌, ℕ, ◌+◌, ◌-◌, nat_le, if◌then◌else◌, List, [], ◌∷◌, ◌++◌, map}
+use Rattle.std.specs.Prelude.{◌≡◌, ℕ, ◌+◌, ◌-◌, nat_le, if◌then◌else◌, List, [], ◌∷◌, ◌++◌, map, Option}
 use Rattle.std.specs.List.{flat_map, range_with_len}
+use Rattle.std.specs.Str.{IsTrimAsciiStart}
 use Rattle.table_schema.specs.declared.table.TableId.{TableId}
 use Rattle.table_schema.specs.declared.table.TableId.TheVariants.{Assembly, AssemblyRef, Module, ModuleRef, File, ManifestResource, ExportedType, TypeDef, Field, MethodDef, InterfaceImpl, GenericParam, GenericParamConstraint, MethodImpl, MethodSemantics, ImplMap, CustomAttribute}
 use Rattle.table_schema.specs.declared.token.Token.{Token}
@@ -12,16 +13,36 @@ use Rattle.metadata_source.specs.MemberLists.{cell_of, member_of, owner_of}
 use Rattle.navigation.specs.declared.links.Link.{Link}
 use Rattle.navigation.specs.declared.links.Link.TheVariants as linked_by
 use Rattle.navigation.specs.Linked.{in_order, linked}
+use Rattle.full_names.specs.RowNames.{IsMemberOf}
 use Rattle.cli_reports.specs.TypeTexts.{first_member, member_count}
+use Rattle.cli_reports.specs.declared.report.Form.{Form}
+use Rattle.cli_reports.specs.declared.report.Form.TheVariants as form
+use Rattle.cli_json.specs.Values.{line_of}
 use Rattle.cli_outline.specs.declared.mapped.Mapped.{Mapped}
 use Rattle.cli_outline.specs.declared.mapped.Mapped.TheVariants.{Events, Properties}
+use Rattle.cli_outline.specs.Declarations.{declaration_value}
 use Rattle.cli_outline.specs.Layouts.{parts_of}
 use Rattle.cli_outline.specs.Parts.{IsPartText, ending, token_at}
 use Rattle.cli_outline.specs.Texts.{AreTexts}
 
--- the line of a row: its parts, and its token at the end
+-- the declaration of a row: the texts of its parts
+abbrev pub IsDeclared : Metadata → Token → List ℕ → Type 0
+IsDeclared model of text = AreTexts (IsPartText model of.table of.row) (parts_of of.table) text
+
+-- the line of a row: its declaration, and its token at the end
 abbrev pub IsLine : Metadata → Token → List ℕ → Type 0
-IsLine model of line = (text : List ℕ) × AreTexts (IsPartText model of.table of.row) (parts_of of.table) text × (line ≡ text ++ ending of.table of.row)
+IsLine model of line = (text : List ℕ) × IsDeclared model of text × (line ≡ text ++ ending of.table of.row)
+
+-- the line of a row as JSON: the value of its declaration, without the spaces at its start
+abbrev pub IsJsonLine : Metadata → Token → List ℕ → Type 0
+IsJsonLine model of line =
+    (text : List ℕ) × IsDeclared model of text × (unindented : List ℕ) × IsTrimAsciiStart text unindented
+    × (class : Option Token) × IsMemberOf model of.table of.row class × (line ≡ line_of (declaration_value of class unindented))
+
+-- the line of a row in a form
+abbrev pub IsLineIn : Form → Metadata → Token → List ℕ → Type 0
+IsLineIn form.Text model of line = IsLine model of line
+IsLineIn form.JsonLines model of line = IsJsonLine model of line
 
 -- rows of a table, from one on, of which there are this many
 unfoldable pub rows_from : TableId → ℕ → ℕ → List Token

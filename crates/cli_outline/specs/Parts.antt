@@ -1,5 +1,5 @@
 -- The parts of a line, and their texts (ECMA-335 II.5, II.6, II.10).
-use Rattle.std.specs.Prelude.{◌≡◌, ℕ, List, [], ◌∷◌, ◌++◌, codes, Option, None, Some}
+use Rattle.std.specs.Prelude.{◌≡◌, ℕ, nat_lt, if◌then◌else◌, List, [], ◌∷◌, ◌++◌, length, take, codes, Option, None, Some}
 use Rattle.std.specs.Prelude.{decimal as digits}
 use Rattle.table_schema.specs.declared.table.TableId.{TableId}
 use Rattle.table_schema.specs.declared.table.TableId.TheVariants.{MethodDef}
@@ -14,9 +14,9 @@ use Rattle.full_names.specs.Texts.{ArePiecesText, IsDeclaration, IsFullName, IsP
 use Rattle.cli_faults.specs.Escaped.{escaped_text}
 use Rattle.cli_reports.specs.Escaped.{escaped_bytes}
 use Rattle.cli_reports.specs.RowTexts.{line_feed}
-use Rattle.cli_outline.specs.Words.{words_of, words_text}
-use Rattle.cli_outline.specs.declared.flag_words.FlagTable.{FlagTable}
-use Rattle.cli_outline.specs.declared.flag_words.FlagTable.TheVariants as table_of
+use Rattle.full_names.specs.FlagWords.{words_of, words_text}
+use Rattle.full_names.specs.declared.flag_words.FlagTable.{FlagTable}
+use Rattle.full_names.specs.declared.flag_words.FlagTable.TheVariants as table_of
 
 -- a part of the line of a row; numbers are indexes of cells in the row
 pub data Part : Type 0 where
@@ -24,7 +24,7 @@ pub data Part : Type 0 where
   word : List ℕ → Part
   -- the words of the flags in a cell, a space before each
   flags : FlagTable → ℕ → Part
-  -- the text in a cell, escaped
+  -- the text in a cell, escaped, up to the limit
   text : ℕ → Part
   -- the number in a cell, in decimal
   number : ℕ → Part
@@ -66,10 +66,18 @@ abbrev pub reference_of : Cell → Option Token
 reference_of (Ref reference) = reference
 reference_of _ = None
 
+-- the number of bytes of a name, a signature or another text of the file that are printed
+abbrev pub text_limit : ℕ
+text_limit = 0x10000
+
+-- a text, escaped; if it has more bytes, the first ones, escaped, and `..`
+unfoldable pub cut_text : List ℕ → List ℕ
+cut_text whole = escaped_text (take text_limit whole) ++ (if nat_lt text_limit (length whole) then codes ".." else [])
+
 -- a word and a text in quotes, unless the text is empty
 abbrev pub quoted_text : List ℕ → List ℕ → List ℕ
 quoted_text before [] = []
-quoted_text before (first ∷ tail) = before ++ codes "\"" ++ escaped_text (first ∷ tail) ++ codes "\""
+quoted_text before (first ∷ tail) = before ++ codes "\"" ++ cut_text (first ∷ tail) ++ codes "\""
 
 -- a word and bytes in parentheses, unless there are none
 abbrev pub bytes_text : List ℕ → List ℕ → List ℕ
@@ -84,30 +92,30 @@ key_text bits (first ∷ tail) = words_text bits (words_of table_of.Key) ++ byte
 -- a text and a dot, unless the text is empty
 abbrev pub dotted_text : List ℕ → List ℕ
 dotted_text [] = []
-dotted_text (first ∷ tail) = escaped_text (first ∷ tail) ++ codes "."
+dotted_text (first ∷ tail) = cut_text (first ∷ tail) ++ codes "."
 
 -- a word and a token, unless the reference is null
 abbrev pub token_text_after : List ℕ → Option Token → List ℕ
 token_text_after before None = []
 token_text_after before (Some token) = before ++ token_text token
 
--- the name of a row (II.5.3), escaped
+-- the name of a row (II.5.3), escaped, up to the limit
 abbrev pub IsNameText : Metadata → Token → List ℕ → Type 0
-IsNameText model token out = (name : List ℕ) × IsRowName model token name × (out ≡ escaped_text name)
+IsNameText model token out = (name : List ℕ) × IsRowName model token name × (out ≡ cut_text name)
 
--- the text of a signature, with the full names of types, escaped (II.7.1, II.15.3)
+-- the text of a signature, with the full names of types, escaped, up to the limit (II.7.1, II.15.3)
 abbrev pub IsSignatureText : Metadata → Body → List ℕ → Type 0
-IsSignatureText model of out = (plain : List ℕ) × ArePiecesText (IsPieceText (IsFullName model)) (pieces_of_signature of) plain × (out ≡ escaped_text plain)
+IsSignatureText model of out = (plain : List ℕ) × ArePiecesText (IsPieceText (IsFullName model)) (pieces_of_signature of) plain × (out ≡ cut_text plain)
 
 -- the same of a cell, which has no text if it is no signature
 abbrev pub IsSignatureOf : Metadata → Cell → List ℕ → Type 0
 IsSignatureOf model (Sig of) out = IsSignatureText model of out
 IsSignatureOf model _ out = out ≡ []
 
--- the declaration of a method, with its full name and the names of its parameters, escaped (II.15.3)
+-- the declaration of a method, with its full name and the names of its parameters, escaped, up to the limit (II.15.3)
 abbrev pub IsMethodText : Metadata → ℕ → List ℕ → Type 0
 IsMethodText model row out =
-    (method : Method) × (cell_in model MethodDef row 4 ≡ Sig (method_body method)) × (plain : List ℕ) × IsDeclaration model row method plain × (out ≡ escaped_text plain)
+    (method : Method) × (cell_in model MethodDef row 4 ≡ Sig (method_body method)) × (plain : List ℕ) × IsDeclaration model row method plain × (out ≡ cut_text plain)
 
 -- the same of a row, which has no text if it is no method
 abbrev pub IsDeclarationAt : Metadata → TableId → ℕ → List ℕ → Type 0
@@ -127,7 +135,7 @@ token_at table row = record { table = table; row = row }
 abbrev pub IsPartText : Metadata → TableId → ℕ → Part → List ℕ → Type 0
 IsPartText model table row (word of) out = out ≡ of
 IsPartText model table row (flags of cell) out = out ≡ words_text (number_of (cell_in model table row cell)) (words_of of)
-IsPartText model table row (text cell) out = out ≡ escaped_text (text_of (cell_in model table row cell))
+IsPartText model table row (text cell) out = out ≡ cut_text (text_of (cell_in model table row cell))
 IsPartText model table row (number cell) out = out ≡ digits (number_of (cell_in model table row cell))
 IsPartText model table row (quoted_after before cell) out = out ≡ quoted_text before (text_of (cell_in model table row cell))
 IsPartText model table row (bytes_after before cell) out = out ≡ bytes_text before (bytes_of (cell_in model table row cell))

@@ -1,16 +1,11 @@
--- The parts and words of the program, as values of specs/.
+-- The parts of the program, as values of specs/.
 use Rattle.std.specs.Prelude.{◌<◌, ⊤}
 use Rattle.table_schema.specs.declared.table.TableId.{TableId}
 use Rattle.table_schema.specs.CellColumns.{cell_count}
 use Rattle.cli_outline.specs.Parts as part
 use Rattle.cli_outline.specs.Parts.{Part}
-use Rattle.cli_outline.specs.Words.{Word}
-use Rattle.cli_outline.specs.declared.flag_words.FlagWord.{FlagWord}
 use Rattle.cli_outline.specs.declared.layouts.Piece.{Piece}
 use Rattle.cli_outline.specs.declared.layouts.Piece.TheVariants.{Word as PlainWord, Flags, Text, Number, QuotedAfter, BytesAfter, Key, Hex, Dotted, TokenAfter, Signature, Declaration, OwnName, NameAfter}
-
-abbrev pub shown_word : FlagWord → Word
-shown_word of = record { mask = of.mask; value = of.value; text = of.text.now }
 
 abbrev pub shown : Piece → Part
 shown (PlainWord of) = part.word of.now

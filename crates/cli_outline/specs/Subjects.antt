@@ -4,11 +4,12 @@ use Rattle.std.specs.Io.KnownBytes.{Appends}
 use Rattle.table_schema.specs.declared.table.TableId.TheVariants.{TypeDef}
 use Rattle.metadata.specs.Metadata.{Metadata}
 use Rattle.metadata.specs.Lookups.{HasRow, IsFirstType}
+use Rattle.cli_reports.specs.declared.report.Form.{Form}
 use Rattle.cli_outline.specs.declared.subject.Subject.{Subject}
 use Rattle.cli_outline.specs.declared.subject.Subject.TheVariants.{Named, Row}
 use Rattle.cli_outline.specs.declared.subject.Outcome.{Outcome}
 use Rattle.cli_outline.specs.declared.subject.Outcome.TheVariants.{Printed, NoSuchType}
-use Rattle.cli_outline.specs.Outline.{IsLine, class_rows}
+use Rattle.cli_outline.specs.Outline.{IsLineIn, class_rows}
 use Rattle.cli_outline.specs.Sent.{SendsFirst}
 use Rattle.cli_outline.specs.Texts.{AreTexts}
 
@@ -18,13 +19,13 @@ IsSubject model (Named namespace name) row = IsFirstType model namespace.now nam
 IsSubject model (Row of) row = (row ≡ of) × HasRow model TypeDef row
 
 -- the texts of the lines of the subject went out if there is one, else nothing
-abbrev pub PrintsFound : Metadata → Subject → Option (List ℕ) → Option (List ℕ) → Outcome → Type 0
-PrintsFound model subject before after Printed =
-    (row : ℕ) × IsSubject model subject row × (text : List ℕ) × AreTexts (IsLine model) (class_rows model row) text × Appends before after text
-PrintsFound model subject before after NoSuchType = ((row : ℕ) → ¬ IsSubject model subject row) × Appends before after []
+abbrev pub PrintsFound : Form → Metadata → Subject → Option (List ℕ) → Option (List ℕ) → Outcome → Type 0
+PrintsFound form model subject before after Printed =
+    (row : ℕ) × IsSubject model subject row × (text : List ℕ) × AreTexts (IsLineIn form model) (class_rows model row) text × Appends before after text
+PrintsFound form model subject before after NoSuchType = ((row : ℕ) → ¬ IsSubject model subject row) × Appends before after []
 
 -- what went out: that, or nothing or a prefix of the first lines of the subject
-abbrev pub PrintsSubject : {E : Type 0} → Metadata → Subject → Option (List ℕ) → Option (List ℕ) → Result Outcome E → Type 0
-PrintsSubject model subject before after result =
-    MatchResult result (PrintsFound model subject before after)
-    (λ error. (row : ℕ) → IsSubject model subject row → SendsFirst (IsLine model) before after (class_rows model row) [])
+abbrev pub PrintsSubject : {E : Type 0} → Form → Metadata → Subject → Option (List ℕ) → Option (List ℕ) → Result Outcome E → Type 0
+PrintsSubject form model subject before after result =
+    MatchResult result (PrintsFound form model subject before after)
+    (λ error. (row : ℕ) → IsSubject model subject row → SendsFirst (IsLineIn form model) before after (class_rows model row) [])

@@ -3,7 +3,7 @@ ghost use Rattle.std.specs.Prelude.{◌≡◌, map};
 ghost use Rattle.cli_outline.specs.Layouts.{parts_of};
 ghost use Rattle.cli_outline.specs.Shown.{shown};
 
-use crate::flag_words::FlagTable;
+use full_names::FlagTable;
 use opening::TableId;
 
 /// A piece of the line of a row. Numbers are indexes of cells in the row, from 0.
@@ -13,7 +13,7 @@ pub enum Piece {
     Word(&'static str),
     /// The words of the flags in a cell, a space before each (II.23.1).
     Flags(FlagTable, usize),
-    /// The text in a cell, escaped.
+    /// The text in a cell, escaped, up to the limit.
     Text(usize),
     /// The number in a cell, in decimal.
     Number(usize),

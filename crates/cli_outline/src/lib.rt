@@ -1,31 +1,29 @@
 //! The outline of an assembly: its declarations in the notation of ILAsm (ECMA-335 II.5 to II.22), one per line.
 //!
 //! [`print_outline`] prints the outline of a view, [`report_outline`] that of a file, and [`report_outline_of`] that of one
-//! type. `specs/Outline.antt` says which
-//! rows have a line, and in which order. `specs/Layouts.antt` says what the line of a row is, as a list of parts, and
-//! `specs/Parts.antt` what the text of a part is. It is proved that these lines go out and nothing else.
+//! type, as text or as JSON Lines. `specs/Outline.antt` says which rows have a line, and in which order.
+//! `specs/Layouts.antt` says what the line of a row is, as a list of parts, and `specs/Parts.antt` what the text of a part
+//! is. It is proved that these lines go out and nothing else.
 //!
 //! ```text
 //! .assembly Hello { .ver 1:0:0:0 }  // 20000001
 //! .class public auto ansi beforefieldinit Hello.Greeter extends System.Object  // 02000002
 //!   .field private string name  // 04000001
 //!   .method public hidebysig instance string Hello.Greeter::Greet(int32 times) cil managed  // 06000001
+//! {"token":"06000001","type":"02000002","directive":".method","text":".method public .."} // the same as JSON
 //! ```
 #![tactic(auto)]
 
 mod cell_values;
-mod flag_words;
 mod layouts;
 mod lines;
 mod mapped;
-mod methods;
 mod outline;
 mod pieces;
 mod report;
 mod row_line;
 mod signature_sink;
 mod subject;
-mod type_members;
 
 pub use outline::print_outline;
 pub use report::{report_outline, report_outline_of};

@@ -5,14 +5,14 @@ ghost use Rattle.metadata.specs.Metadata.{Metadata};
 ghost use Rattle.metadata.specs.Model.{IsModel};
 ghost use Rattle.metadata_source.specs.MemberLists.{owner_of};
 ghost use Rattle.opening.specs.Views.{row_count};
-ghost use Rattle.cli_outline.specs.Outline.{IsLine, accessed_rows, apart_rows, list_of, mapped_rows, run_start, table_of, type_rows};
+ghost use Rattle.cli_outline.specs.Outline.{IsLineIn, accessed_rows, apart_rows, list_of, mapped_rows, run_start, table_of, type_rows};
 ghost use Rattle.cli_outline.specs.Sent.{MovesLines};
 
 use crate::lines::Lines;
 use crate::outline::{print_line, print_rows};
+use crate::row_line::Printing;
 use navigation::{Link, Neighbours};
 use opening::{CellCursor, MemberList, TableId, Token};
-use std::alloc::Global;
 use std::io;
 use std::io::Write;
 use std::ops::Range;
@@ -68,7 +68,7 @@ impl Mapped {
 
 /// Prints the line of an event or a property, and those of its accessors.
 fn print_accessed<W: Write>(
-    alloc: Global,
+    printing: Printing,
     source: &Neighbours<'_, '_>,
     of: Mapped,
     row: u32,
@@ -79,17 +79,17 @@ fn print_accessed<W: Write>(
     requires last { row ≤ row_count source.now.view.now (table_of of) }
     requires limit { row ≤ 0xFFFFFF }
     ensures { (model : Metadata) → IsModel source.now.view.now model
-        → MovesLines (IsLine model) (W.contents out.old) (W.contents out.new) result (accessed_rows model of row) lines.old.bytes.items lines.new.bytes.items }
+        → MovesLines (IsLineIn printing.form model) (W.contents out.old) (W.contents out.new) result (accessed_rows model of row) lines.old.bytes.items lines.new.bytes.items }
 {
     let table = of.list().member();
-    print_line(alloc, source, Token { table, row }, lines, out)?;
+    print_line(printing, source, Token { table, row }, lines, out)?;
     let rows = source.linked(Link::Accessors, of.accessed(row));
-    print_rows(alloc, source, TableId::MethodSemantics, rows, lines, out)
+    print_rows(printing, source, TableId::MethodSemantics, rows, lines, out)
 }
 
 /// Prints the lines of some events or properties, in ascending order, each with its accessors.
 fn print_all_accessed<W: Write>(
-    alloc: Global,
+    printing: Printing,
     source: &Neighbours<'_, '_>,
     of: Mapped,
     rows: Range<u32>,
@@ -99,14 +99,14 @@ fn print_all_accessed<W: Write>(
     requires first { 1 ≤ rows.start }
     requires last { rows.«end» ≤ row_count source.now.view.now (table_of of) + 1 }
     ensures { (model : Metadata) → IsModel source.now.view.now model
-        → MovesLines (IsLine model) (W.contents out.old) (W.contents out.new) result (flat_map (accessed_rows model of) (range_with_len rows.start (rows.«end» - rows.start)))
+        → MovesLines (IsLineIn printing.form model) (W.contents out.old) (W.contents out.new) result (flat_map (accessed_rows model of) (range_with_len rows.start (rows.«end» - rows.start)))
         lines.old.bytes.items lines.new.bytes.items }
 {
     // The table has at most 0xFFFFFF rows.
     let _count = source.view.count(of.list().member());
     let (first, past) = (rows.start, rows.end);
     for row in first..past {
-        print_accessed(alloc, source, of, row, lines, out)?;
+        print_accessed(printing, source, of, row, lines, out)?;
     }
     Ok(())
 }
@@ -130,7 +130,7 @@ fn mapped_run(cells: &mut CellCursor<'_, '_>, of: Mapped, map: u32) -> Range<u32
 
 /// Prints the lines of the events or the properties of a row of their map.
 fn print_map<W: Write>(
-    alloc: Global,
+    printing: Printing,
     source: &Neighbours<'_, '_>,
     cells: &mut CellCursor<'_, '_>,
     of: Mapped,
@@ -143,15 +143,15 @@ fn print_map<W: Write>(
     requires at { cells.old ≡ source.now.view.now }
     ensures same { cells.new ≡ cells.old }
     ensures lines { (model : Metadata) → IsModel source.now.view.now model
-        → MovesLines (IsLine model) (W.contents out.old) (W.contents out.new) result (mapped_rows model of map) lines.old.bytes.items lines.new.bytes.items }
+        → MovesLines (IsLineIn printing.form model) (W.contents out.old) (W.contents out.new) result (mapped_rows model of map) lines.old.bytes.items lines.new.bytes.items }
 {
     let rows = mapped_run(cells, of, map);
-    print_all_accessed(alloc, source, of, rows, lines, out)
+    print_all_accessed(printing, source, of, rows, lines, out)
 }
 
 /// Prints the lines of the events or the properties of a type.
 pub(crate) fn print_mapped<W: Write>(
-    alloc: Global,
+    printing: Printing,
     source: &Neighbours<'_, '_>,
     cells: &mut CellCursor<'_, '_>,
     of: Mapped,
@@ -162,30 +162,30 @@ pub(crate) fn print_mapped<W: Write>(
     requires at { cells.old ≡ source.now.view.now }
     ensures same { cells.new ≡ cells.old }
     ensures lines { (model : Metadata) → IsModel source.now.view.now model
-        → MovesLines (IsLine model) (W.contents out.old) (W.contents out.new) result (type_rows model of class) lines.old.bytes.items lines.new.bytes.items }
+        → MovesLines (IsLineIn printing.form model) (W.contents out.old) (W.contents out.new) result (type_rows model of class) lines.old.bytes.items lines.new.bytes.items }
 {
     let maps = source.linked(of.link(), class);
     let (first, past) = (maps.start, maps.end);
     for map in first..past {
-        print_map(alloc, source, cells, of, map, lines, out)?;
+        print_map(printing, source, cells, of, map, lines, out)?;
     }
     Ok(())
 }
 
 /// Prints the lines of all events or properties, if the rows of their map are not in the order of types.
 pub(crate) fn print_apart<W: Write>(
-    alloc: Global,
+    printing: Printing,
     source: &Neighbours<'_, '_>,
     of: Mapped,
     lines: &mut Lines,
     out: &mut W,
 ) -> io::Result<()>
     ensures { (model : Metadata) → IsModel source.now.view.now model
-        → MovesLines (IsLine model) (W.contents out.old) (W.contents out.new) result (apart_rows model of) lines.old.bytes.items lines.new.bytes.items }
+        → MovesLines (IsLineIn printing.form model) (W.contents out.old) (W.contents out.new) result (apart_rows model of) lines.old.bytes.items lines.new.bytes.items }
 {
     if source.in_order(of.link()) {
         return Ok(());
     }
     let count = source.view.count(of.list().member());
-    print_all_accessed(alloc, source, of, 1..count + 1, lines, out)
+    print_all_accessed(printing, source, of, 1..count + 1, lines, out)
 }

@@ -3,24 +3,43 @@ ghost use Rattle.std.specs.Prelude.{◌≡◌, ◌≤◌, ◌<◌, ◌++◌, OnO
 ghost use Rattle.table_schema.specs.CellColumns.{cell_count};
 ghost use Rattle.metadata.specs.Metadata.{Metadata, cell_in};
 ghost use Rattle.metadata.specs.Model.{IsModel};
+ghost use Rattle.full_names.specs.FlagWords.{shown_word, word_text, words_of, words_text};
 ghost use Rattle.opening.specs.Views.{row_count};
 ghost use Rattle.cli_reports.specs.Escaped.{escaped_bytes};
-ghost use Rattle.cli_faults.specs.Escaped.{escaped_text};
 ghost use Rattle.cli_outline.specs.Parts.{IsNameAfter, IsNameText, IsPartText, bytes_text, dotted_text, key_text, quoted_text, token_text_after};
 ghost use Rattle.cli_outline.specs.Shown.{IsWithin, shown};
 ghost use Rattle.cli_outline.specs.Texts.{Gains};
 
 use crate::cell_values::{bytes, number, reference, text};
-use crate::flag_words::{FlagTable, push_words};
 use crate::layouts::Piece;
-use crate::lines::{Lines, push_plain};
-use crate::methods::push_declaration;
-use crate::signature_sink::push_signature;
-use cli_reports::{push_decimal, push_escaped, push_hexadecimal, push_token};
-use full_names::write_row_name;
+use crate::lines::{Lines, begin_text, end_text, push_plain, push_text};
+use crate::signature_sink::{push_declaration, push_signature};
+use cli_reports::{push_decimal, push_hexadecimal, push_token};
+use full_names::{FlagTable, FlagWord, words_of, write_row_name};
 use navigation::Neighbours;
 use opening::{TableId, Token};
 use std::alloc::{AllocError, Global};
+
+/// Appends a space and the word, if the flags have its value.
+fn push_word(flags: u32, word: FlagWord, lines: &mut Lines) -> Result<(), AllocError>
+    ensures { OnOk result (lines.new.bytes.items ≡ lines.old.bytes.items ++ word_text flags (shown_word word)) }
+{
+    if flags & word.mask != word.value {
+        return Ok(());
+    }
+    push_plain(" ", lines)?;
+    push_plain(word.text, lines)
+}
+
+/// Appends the words of flags, a space before each.
+fn push_words(flags: u32, of: FlagTable, lines: &mut Lines) -> Result<(), AllocError>
+    ensures { OnOk result (lines.new.bytes.items ≡ lines.old.bytes.items ++ words_text flags (words_of of)) }
+{
+    for word in words_of(of) {
+        push_word(flags, *word, lines)?;
+    }
+    Ok(())
+}
 
 /// Appends a word and a text in quotes, unless the text is empty.
 fn push_quoted(word: &str, text: &str, lines: &mut Lines) -> Result<(), AllocError>
@@ -31,7 +50,7 @@ fn push_quoted(word: &str, text: &str, lines: &mut Lines) -> Result<(), AllocErr
     }
     push_plain(word, lines)?;
     push_plain("\"", lines)?;
-    push_escaped(text.as_bytes(), &mut lines.bytes)?;
+    push_text(text, lines)?;
     push_plain("\"", lines)
 }
 
@@ -69,8 +88,9 @@ fn push_name(
     ensures { (model : Metadata) → IsModel source.now.view.now model
         → OnOk result (Gains (IsNameText model token) lines.old.bytes.items lines.new.bytes.items) }
 {
+    begin_text(lines);
     match write_row_name(alloc, source, token, lines) {
-        Ok(()) => Ok(()),
+        Ok(()) => end_text(lines),
         // The lines refuse a text only if out of memory.
         Err(_) => Err(AllocError),
     }
@@ -103,7 +123,7 @@ fn push_dotted(text: &str, lines: &mut Lines) -> Result<(), AllocError>
     if text.is_empty() {
         return Ok(());
     }
-    push_escaped(text.as_bytes(), &mut lines.bytes)?;
+    push_text(text, lines)?;
     push_plain(".", lines)
 }
 
@@ -143,10 +163,7 @@ pub(crate) fn push_piece(
     match piece {
         Piece::Word(word) => push_plain(word, lines),
         Piece::Flags(of, cell) => push_words(number(source.view, table, row, cell), of, lines),
-        Piece::Text(cell) => {
-            let text = text(source.view, table, row, cell);
-            push_escaped(text.as_bytes(), &mut lines.bytes)
-        }
+        Piece::Text(cell) => push_text(text(source.view, table, row, cell), lines),
         Piece::Number(cell) => {
             let number = number(source.view, table, row, cell);
             push_decimal(u64::from(number), &mut lines.bytes)

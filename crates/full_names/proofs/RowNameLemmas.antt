@@ -1,12 +1,17 @@
 -- The name of a row, from that of its table.
-use Rattle.std.proofs.Common.{◌≡◌, ℕ, ◌≤◌, List, refl}
+use Rattle.std.proofs.Common.{◌≡◌, ℕ, ◌≤◌, ◌<◌, List, None, refl, subst, arith, ⊎_elim}
+use Rattle.std.proofs.lemmas.Bool.{cases_lt}
 use Rattle.table_schema.specs.declared.table.TableId.{TableId}
 use Rattle.table_schema.specs.declared.table.TableId.TheVariants.{TypeDef, TypeRef, TypeSpec, Field, MethodDef, Event, Property, MemberRef, ModuleRef, AssemblyRef, File, ExportedType, GenericParam}
 use Rattle.std.specs.Prelude.{codes}
 use Rattle.table_schema.specs.declared.token.Token.{Token}
+use Rattle.table_schema.specs.CellColumns.{cell_count}
+use Rattle.metadata.specs.Cell.{Cell}
 use Rattle.metadata.specs.Lookups.{HasRow}
-use Rattle.metadata.specs.Metadata.{Metadata}
-use Rattle.full_names.specs.RowNames.{IsNameIn, IsPlainName, IsRowName}
+use Rattle.metadata.specs.Metadata.{Metadata, count_in}
+use Rattle.metadata.specs.Valid.{IsValid, MayRefer, nullable_at}
+use Rattle.navigation.specs.Maps.{IsMapOf}
+use Rattle.full_names.specs.RowNames.{IsMemberOf, IsNameIn, IsPlainName, IsRowName}
 
 -- a row of a table that is none of these has a plain name
 pub plain_name : (model : Metadata) (table : TableId) (row : ℕ) (text : List ℕ) → (table ≡ TypeDef → ⊥) → (table ≡ TypeRef → ⊥) → (table ≡ TypeSpec → ⊥) → (table ≡ Field → ⊥)
@@ -37,3 +42,25 @@ row_named model token text there is = record {
   there = λ _. is;
   missing = λ not. absurd (not there);
 }
+
+-- a type to which a row of a map refers exists
+module _ (model : Metadata) (valid : IsValid model) where
+  pub mapped_there : (map : TableId) (class row : ℕ) → 0 < cell_count map → IsMapOf model map class row → class ≤ count_in model TypeDef
+  mapped_there map class row within is =
+      let P : Cell → Type 0 = λ c. MayRefer model (nullable_at map 0) c in
+      (subst P is.1 (valid.cells map row 0 is.0 within).refers).1
+
+-- what cannot fail holds
+pub at_most : (a b : ℕ) → ¬ (¬ (a ≤ b)) → a ≤ b
+at_most a b h = ⊎_elim
+    (λ (l : b < a). absurd (h (λ (le : a ≤ b). omega arith)))
+    (λ (le : a ≤ b). le)
+    (cases_lt b a)
+
+-- a row of a table that is none of these is no member
+pub no_member : (model : Metadata) (table : TableId) (row : ℕ) → (table ≡ Field → ⊥) → (table ≡ MethodDef → ⊥) → (table ≡ Event → ⊥) → (table ≡ Property → ⊥) → IsMemberOf model table row None
+no_member model Field row a b c d = absurd (a refl)
+no_member model MethodDef row a b c d = absurd (b refl)
+no_member model Event row a b c d = absurd (c refl)
+no_member model Property row a b c d = absurd (d refl)
+no_member model _ row a b c d = refl

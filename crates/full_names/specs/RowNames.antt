@@ -1,5 +1,5 @@
 -- The name of a row of any table (ECMA-335 II.5.3, II.15.3 and II.22).
-use Rattle.std.specs.Prelude.{◌≡◌, ℕ, List, Some, codes}
+use Rattle.std.specs.Prelude.{◌≡◌, ℕ, List, Option, None, Some, codes}
 use Rattle.table_schema.specs.declared.table.TableId.{TableId}
 use Rattle.table_schema.specs.declared.table.TableId.TheVariants.{TypeDef, TypeRef, TypeSpec, Field, MethodDef, Event, EventMap, Property, PropertyMap, MemberRef, ModuleRef, AssemblyRef, File, ExportedType, GenericParam}
 use Rattle.table_schema.specs.declared.token.Token.{Token}
@@ -35,6 +35,14 @@ IsTypeOfProperty model row class = (of : ℕ) × (map : ℕ) × Owns model list.
 
 abbrev pub IsParent : Metadata → ℕ → Token → Type 0
 IsParent model row class = cell_in model MemberRef row 0 ≡ Ref (Some class)
+
+-- the type that has a row as a member; a row of any other table is no member
+abbrev pub IsMemberOf : Metadata → TableId → ℕ → Option Token → Type 0
+IsMemberOf model Field row class = (of : Token) × IsTypeOfField model row of × (class ≡ Some of)
+IsMemberOf model MethodDef row class = (of : Token) × IsTypeOfMethod model row of × (class ≡ Some of)
+IsMemberOf model Event row class = (of : Token) × IsTypeOfEvent model row of × (class ≡ Some of)
+IsMemberOf model Property row class = (of : Token) × IsTypeOfProperty model row of × (class ≡ Some of)
+IsMemberOf model _ row class = class ≡ None
 
 -- the name of a row that is in a cell and stands alone; `..` stands for a row that has no name
 abbrev pub IsPlainName : Metadata → TableId → ℕ → List ℕ → Type 0

@@ -12,6 +12,7 @@
 //! ```
 #![tactic(auto)]
 
+mod flag_words;
 mod inner_names;
 mod method_text;
 mod methods;
@@ -24,10 +25,11 @@ mod signature_text;
 mod specs_named;
 mod text_error;
 
+pub use flag_words::{FlagTable, FlagWord, words_of};
 pub use methods::write_method;
 pub use names::{DEPTH, write_type_def, write_type_ref};
 pub use navigation::{ReadCells, ReadMetadata};
-pub use row_names::write_row_name;
+pub use row_names::{type_of_member, write_row_name};
 pub use signature_text::write_signature_text;
 pub use specs_named::{FullNames, write_full_name};
 pub use table_schema::{TableId, Token};

@@ -1,9 +1,9 @@
-ghost use Rattle.std.specs.Prelude.{◌≡◌, ◌≤◌, OnOk};
-ghost use Rattle.table_schema.specs.declared.table.TableId.TheVariants.{Event, Field, MemberRef, MethodDef, Property};
+ghost use Rattle.std.specs.Prelude.{◌≡◌, ◌≤◌, OnOk, IfSome};
+ghost use Rattle.table_schema.specs.declared.table.TableId.TheVariants.{Event, Field, MemberRef, MethodDef, Property, TypeDef};
 ghost use Rattle.metadata.specs.Metadata.{Metadata};
 ghost use Rattle.navigation.specs.Nesting.{type_token};
 ghost use Rattle.full_names.specs.Names.{Wrote};
-ghost use Rattle.full_names.specs.RowNames.{IsNameIn, IsParent, IsPlainName, IsRowName, IsTypeOfEvent, IsTypeOfField, IsTypeOfMethod, IsTypeOfProperty};
+ghost use Rattle.full_names.specs.RowNames.{IsMemberOf, IsNameIn, IsParent, IsPlainName, IsRowName, IsTypeOfEvent, IsTypeOfField, IsTypeOfMethod, IsTypeOfProperty};
 
 use crate::method_text::write_method_name;
 use crate::parts::{write_left_out, write_text};
@@ -226,5 +226,24 @@ pub fn write_row_name<S: ReadCells, W: fmt::Write>(
         TableId::Property => write_property(alloc, source, token.row, out),
         TableId::MemberRef => write_member_ref(alloc, source, token.row, out),
         _ => Ok(write_plain(source, token, out)?),
+    }
+}
+
+/// The type that has a row as a field, a method, an event or a property, by binary search; `None` for a row of any other
+/// table.
+pub fn type_of_member<S: ReadCells>(source: &S, token: Token) -> Option<Token>
+    requires first { 1 ≤ token.row }
+    requires last { token.row ≤ S.row_count source.now token.table }
+    ensures member { (model : Metadata) → S.shows source.now model → IsMemberOf model token.table token.row result }
+    ensures last { IfSome result (λ class. class.row ≤ S.row_count source.now TypeDef) }
+{
+    // The metadata is valid, so each member has a type.
+    source.holds_one();
+    match token.table {
+        TableId::Field => Some(type_token(type_of_field(source, token.row))),
+        TableId::MethodDef => Some(type_token(type_of_method(source, token.row))),
+        TableId::Event => Some(type_token(type_of_event(source, token.row))),
+        TableId::Property => Some(type_token(type_of_property(source, token.row))),
+        _ => None,
     }
 }

@@ -4,7 +4,7 @@ use Rattle.table_schema.specs.declared.table.TableId.{TableId}
 use Rattle.metadata_source.specs.MemberLists.{member_of}
 use Rattle.opening.specs.Views.{row_count}
 use Rattle.table_schema.specs.declared.token.Token.{Token}
-use Rattle.cli_outline.specs.Outline.{IsLine, accessed_rows, table_of}
+use Rattle.cli_outline.specs.Outline.{IsLineIn, accessed_rows, table_of}
 use Rattle.cli_outline.proofs.OutlineLemmas.{ranges_more, ranges_whole}
 use Rattle.cli_outline.proofs.SentLemmas.{Sent, cut_longer, cut_more, cut_moved, sent_more, sent_none}
 use Rattle.cli_outline.proofs.mapped.print_all_accessed.Goals as goal
@@ -16,7 +16,7 @@ loop-row-init g c = record {
       let none : c.args.rows.start - c.args.rows.start ≡ 0 = omega arith in
       let known = g.W.Write.contents c.args.out.now in
       let waited = c.args.lines.now.bytes.items in
-      subst (λ (n : ℕ). Sent (IsLine model) known known (flat_map (accessed_rows model c.args.of) (range_with_len c.args.rows.start n)) waited waited) (sym none) (sent_none (IsLine model) known waited);
+      subst (λ (n : ℕ). Sent (IsLineIn c.args.printing.form model) known known (flat_map (accessed_rows model c.args.of) (range_with_len c.args.rows.start n)) waited waited) (sym none) (sent_none (IsLineIn c.args.printing.form model) known waited);
 }
 
 pub print_accessed-requires : goal.print_accessed-requires
@@ -45,9 +45,9 @@ returns-in_err-print_accessed g c = λ model is.
     let within : so_far + 1 ≤ count = omega (arith, c.loop-row-test.true, c.loop-row.auto.row) in
     let later = ranges_whole rows first (so_far + 1) count within in
     let whole : all ≡ done ++ rows row ++ later.0 = later.1 ∙ ap (λ xs. xs ++ later.0) (sym (ranges_more rows first so_far row (omega (arith, c.loop-row.auto.row)))) in
-    cut_moved (IsLine model) c.from_residual.result before after all waited c.print_accessed.new.lines.bytes.items c.from_residual.ensures.0
-    (cut_longer (IsLine model) before after (done ++ rows row) later.0 all waited whole
-    (cut_more (IsLine model) before between after done (rows row) waited c.loop-row.lines.bytes.items (c.loop-row.invariant.sent model is)
+    cut_moved (IsLineIn c.args.printing.form model) c.from_residual.result before after all waited c.print_accessed.new.lines.bytes.items c.from_residual.ensures.0
+    (cut_longer (IsLineIn c.args.printing.form model) before after (done ++ rows row) later.0 all waited whole
+    (cut_more (IsLineIn c.args.printing.form model) before between after done (rows row) waited c.loop-row.lines.bytes.items (c.loop-row.invariant.sent model is)
     (c.in_err-print_accessed.ensures model is)))
 
 pub loop-row-preserved : goal.loop-row-preserved
@@ -64,9 +64,9 @@ loop-row-preserved g c = record {
       let row = c.loop-row.row in
       let so_far = row - first in
       let next : so_far + 1 ≡ row + 1 - first = omega (arith, c.loop-row.auto.row) in
-      subst (λ (n : ℕ). Sent (IsLine model) before after (flat_map rows (range_with_len first n)) waited left) next
-      (subst (λ (xs : List Token). Sent (IsLine model) before after xs waited left) (ranges_more rows first so_far row (omega (arith, c.loop-row.auto.row)))
-      (sent_more (IsLine model) before between after (flat_map rows (range_with_len first so_far)) (rows row) waited c.loop-row.lines.bytes.items left
+      subst (λ (n : ℕ). Sent (IsLineIn c.args.printing.form model) before after (flat_map rows (range_with_len first n)) waited left) next
+      (subst (λ (xs : List Token). Sent (IsLineIn c.args.printing.form model) before after xs waited left) (ranges_more rows first so_far row (omega (arith, c.loop-row.auto.row)))
+      (sent_more (IsLineIn c.args.printing.form model) before between after (flat_map rows (range_with_len first so_far)) (rows row) waited c.loop-row.lines.bytes.items left
       (c.loop-row.invariant.sent model is) (c.in_ok-print_accessed.ensures model is)));
 }
 
@@ -74,5 +74,5 @@ pub returns : goal.returns
 returns g c = λ model is.
     let first = c.args.rows.start in
     let all : c.loop-row.row - first ≡ c.args.rows.«end» - first = omega (arith, c.loop-row-test.false, c.loop-row.invariant.bound) in
-    subst (λ (n : ℕ). Sent (IsLine model) (g.W.Write.contents c.args.out.now) (g.W.Write.contents c.loop-row.out) (flat_map (accessed_rows model c.args.of) (range_with_len first n))
+    subst (λ (n : ℕ). Sent (IsLineIn c.args.printing.form model) (g.W.Write.contents c.args.out.now) (g.W.Write.contents c.loop-row.out) (flat_map (accessed_rows model c.args.of) (range_with_len first n))
     c.args.lines.now.bytes.items c.loop-row.lines.bytes.items) all (c.loop-row.invariant.sent model is)

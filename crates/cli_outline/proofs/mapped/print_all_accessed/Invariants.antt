@@ -2,7 +2,7 @@ use Rattle.std.proofs.Common.{◌-◌, ◌≤◌}
 use Rattle.std.specs.List.{flat_map, range_with_len}
 use Rattle.metadata.specs.Metadata.{Metadata}
 use Rattle.metadata.specs.Model.{IsModel}
-use Rattle.cli_outline.specs.Outline.{IsLine, accessed_rows}
+use Rattle.cli_outline.specs.Outline.{IsLineIn, accessed_rows}
 use Rattle.cli_outline.proofs.SentLemmas.{Sent}
 use Rattle.cli_outline.proofs.mapped.print_all_accessed.Given as goal
 
@@ -10,6 +10,6 @@ abbrev pub invariant-loop-row : goal.invariant-loop-row
 invariant-loop-row g l = record {
   bound : l.row - l.fn.rows.start ≤ l.fn.rows.«end» - l.fn.rows.start;
   sent : (model : Metadata) → IsModel l.source.view.now model
-      → Sent (IsLine model) (g.W.Write.contents l.initial.out) (g.W.Write.contents l.out)
+      → Sent (IsLineIn l.printing.form model) (g.W.Write.contents l.initial.out) (g.W.Write.contents l.out)
       (flat_map (accessed_rows model l.of) (range_with_len l.fn.rows.start (l.row - l.fn.rows.start))) l.initial.lines.bytes.items l.lines.bytes.items;
 }

@@ -3,7 +3,7 @@ use Rattle.std.specs.List.{flat_map, range_with_len}
 use Rattle.table_schema.specs.declared.token.Token.{Token}
 use Rattle.metadata.specs.Model.{IsModel}
 use Rattle.opening.specs.Views.{row_count}
-use Rattle.cli_outline.specs.Outline.{IsLine, accessed_rows, list_of, mapped_rows, run_start, table_of}
+use Rattle.cli_outline.specs.Outline.{IsLineIn, accessed_rows, list_of, mapped_rows, run_start, table_of}
 use Rattle.cli_outline.specs.Sent.{MovesLines}
 use Rattle.cli_outline.proofs.mapped.print_map.Goals as goal
 
@@ -19,5 +19,5 @@ returns-clause-lines g c = λ model is.
     let past = c.mapped_run-rows.ensures.past model there in
     let same = ap (λ n. flat_map (accessed_rows model c.args.of) (range_with_len n (rows.«end» - n))) first
     ∙ ap (λ n. flat_map (accessed_rows model c.args.of) (range_with_len (run_start model (list_of c.args.of) c.args.map) (n - run_start model (list_of c.args.of) c.args.map))) past in
-    subst (λ (xs : List Token). MovesLines (IsLine model) (g.W.Write.contents c.args.out.now) (g.W.Write.contents c.print_all_accessed.new.out) c.print_all_accessed.result xs
+    subst (λ (xs : List Token). MovesLines (IsLineIn c.args.printing.form model) (g.W.Write.contents c.args.out.now) (g.W.Write.contents c.print_all_accessed.new.out) c.print_all_accessed.result xs
     c.args.lines.now.bytes.items c.print_all_accessed.new.lines.bytes.items) same (c.print_all_accessed.ensures model is)

@@ -12,7 +12,7 @@ use Rattle.cli_outline.specs.declared.mapped.Mapped.TheVariants.{Events, Propert
 use Rattle.cli_outline.specs.Parts.{token_at}
 use Rattle.table_schema.specs.declared.token.Token.{Token}
 use Rattle.cli_outline.specs.Sent.{SendsFirst}
-use Rattle.cli_outline.specs.Outline.{IsLine, link_of, list_of, mapped_rows, type_rows}
+use Rattle.cli_outline.specs.Outline.{IsLineIn, link_of, list_of, mapped_rows, type_rows}
 use Rattle.cli_outline.proofs.OutlineLemmas.{ranges_more, ranges_whole}
 use Rattle.cli_outline.proofs.SentLemmas.{Sent, cut_longer, cut_more, cut_moved, sent_more, sent_none}
 use Rattle.cli_outline.proofs.mapped.print_mapped.Goals as goal
@@ -36,7 +36,7 @@ loop-map-init g c = record {
       let none : first - first ≡ 0 = omega arith in
       let known = g.W.Write.contents c.args.out.now in
       let waited = c.args.lines.now.bytes.items in
-      subst (λ (n : ℕ). Sent (IsLine model) known known (flat_map (mapped_rows model c.args.of) (range_with_len first n)) waited waited) (sym none) (sent_none (IsLine model) known waited);
+      subst (λ (n : ℕ). Sent (IsLineIn c.args.printing.form model) known known (flat_map (mapped_rows model c.args.of) (range_with_len first n)) waited waited) (sym none) (sent_none (IsLineIn c.args.printing.form model) known waited);
 }
 
 pub print_map-requires : goal.print_map-requires
@@ -70,10 +70,10 @@ returns-in_err-print_map-clause-lines g c = λ model is.
     let whole : all ≡ done ++ rows map ++ later.0 = later.1 ∙ ap (λ xs. xs ++ later.0) (sym (ranges_more rows first so_far map (omega (arith, c.loop-map.auto.map)))) in
     let linked_rows = c.linked-maps.ensures.rows model is (token_at TypeDef c.args.class) (number_of_class c.args.of (c.link.ensures) c.args.class) in
     let same = ap (λ xs. flat_map rows xs) (linked_rows ∙ ap (λ l. linked model l (token_at TypeDef c.args.class)) c.link.ensures) in
-    cut_moved (IsLine model) c.from_residual.result before after (type_rows model c.args.of c.args.class) waited c.print_map.new.lines.bytes.items c.from_residual.ensures.0
-    (subst (λ (xs : List Token). SendsFirst (IsLine model) before after xs waited) same
-    (cut_longer (IsLine model) before after (done ++ rows map) later.0 all waited whole
-    (cut_more (IsLine model) before between after done (rows map) waited c.loop-map.lines.bytes.items (c.loop-map.invariant.sent model is)
+    cut_moved (IsLineIn c.args.printing.form model) c.from_residual.result before after (type_rows model c.args.of c.args.class) waited c.print_map.new.lines.bytes.items c.from_residual.ensures.0
+    (subst (λ (xs : List Token). SendsFirst (IsLineIn c.args.printing.form model) before after xs waited) same
+    (cut_longer (IsLineIn c.args.printing.form model) before after (done ++ rows map) later.0 all waited whole
+    (cut_more (IsLineIn c.args.printing.form model) before between after done (rows map) waited c.loop-map.lines.bytes.items (c.loop-map.invariant.sent model is)
     (c.in_err-print_map.ensures.lines model is))))
 
 pub loop-map-preserved : goal.loop-map-preserved
@@ -91,9 +91,9 @@ loop-map-preserved g c = record {
       let map = c.loop-map.map in
       let so_far = map - first in
       let next : so_far + 1 ≡ map + 1 - first = omega (arith, c.loop-map.auto.map) in
-      subst (λ (n : ℕ). Sent (IsLine model) before after (flat_map rows (range_with_len first n)) waited left) next
-      (subst (λ (xs : List Token). Sent (IsLine model) before after xs waited left) (ranges_more rows first so_far map (omega (arith, c.loop-map.auto.map)))
-      (sent_more (IsLine model) before between after (flat_map rows (range_with_len first so_far)) (rows map) waited c.loop-map.lines.bytes.items left
+      subst (λ (n : ℕ). Sent (IsLineIn c.args.printing.form model) before after (flat_map rows (range_with_len first n)) waited left) next
+      (subst (λ (xs : List Token). Sent (IsLineIn c.args.printing.form model) before after xs waited left) (ranges_more rows first so_far map (omega (arith, c.loop-map.auto.map)))
+      (sent_more (IsLineIn c.args.printing.form model) before between after (flat_map rows (range_with_len first so_far)) (rows map) waited c.loop-map.lines.bytes.items left
       (c.loop-map.invariant.sent model is) (c.in_ok-print_map.ensures.lines model is)));
 }
 
@@ -110,5 +110,5 @@ returns-clause-lines g c = λ model is.
     let after = g.W.Write.contents c.loop-map.out in
     let waited = c.args.lines.now.bytes.items in
     let left = c.loop-map.lines.bytes.items in
-    subst (λ (xs : List Token). Sent (IsLine model) before after xs waited left) same
-    (subst (λ (n : ℕ). Sent (IsLine model) before after (flat_map rows (range_with_len first n)) waited left) all (c.loop-map.invariant.sent model is))
+    subst (λ (xs : List Token). Sent (IsLineIn c.args.printing.form model) before after xs waited left) same
+    (subst (λ (n : ℕ). Sent (IsLineIn c.args.printing.form model) before after (flat_map rows (range_with_len first n)) waited left) all (c.loop-map.invariant.sent model is))

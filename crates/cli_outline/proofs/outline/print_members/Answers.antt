@@ -5,7 +5,7 @@ use Rattle.metadata.specs.Model.{IsModel}
 use Rattle.metadata_source.specs.MemberLists.{cell_of, member_of}
 use Rattle.opening.specs.Views.{row_count}
 use Rattle.cli_reports.specs.TypeTexts.{first_member}
-use Rattle.cli_outline.specs.Outline.{IsLine, members, rows_from}
+use Rattle.cli_outline.specs.Outline.{IsLineIn, members, rows_from}
 use Rattle.cli_outline.specs.Sent.{MovesLines}
 use Rattle.cli_outline.proofs.outline.print_members.Goals as goal
 
@@ -26,5 +26,5 @@ returns-clause-lines g c = λ model is.
     let same = ap (λ t. rows_from t rows.start (rows.«end» - rows.start)) c.member.ensures
     ∙ ap (λ n. rows_from (member_of list) n (rows.«end» - rows.start)) (c.run_of-rows.ensures.begin model there)
     ∙ ap (λ n. rows_from (member_of list) (first_member model (cell_of list) (member_of list) c.args.row) n) (c.run_of-rows.ensures.count model there) in
-    subst (λ (xs : List Token). MovesLines (IsLine model) (g.W.Write.contents c.args.out.now) (g.W.Write.contents c.print_rows.new.out) c.print_rows.result xs
+    subst (λ (xs : List Token). MovesLines (IsLineIn c.args.printing.form model) (g.W.Write.contents c.args.out.now) (g.W.Write.contents c.print_rows.new.out) c.print_rows.result xs
     c.args.lines.now.bytes.items c.print_rows.new.lines.bytes.items) same (c.print_rows.ensures model is)

@@ -3,7 +3,7 @@ use Rattle.table_schema.specs.declared.table.TableId.TheVariants.{TypeDef}
 use Rattle.metadata.specs.Model.{IsModel}
 use Rattle.opening.specs.Views.{row_count}
 use Rattle.cli_reports.specs.Sent.{Prints}
-use Rattle.cli_outline.specs.Outline.{IsLine, class_rows}
+use Rattle.cli_outline.specs.Outline.{IsLineIn, class_rows}
 use Rattle.cli_outline.specs.Sent.{SendsFirst}
 use Rattle.cli_outline.proofs.SentLemmas.{Sent, cut_none, cut_printed, tail_printed}
 use Rattle.cli_outline.proofs.outline.print_type.Goals as goal
@@ -20,13 +20,13 @@ pub returns-in_err-source : goal.returns-in_err-source
 returns-in_err-source g c = λ model is.
     let known = g.W.Write.contents c.args.out.now in
     let all = class_rows model c.args.row in
-    cut_printed (IsLine model) c.from_residual.result known known all c.from_residual.ensures.0 (cut_none (IsLine model) known all [])
+    cut_printed (IsLineIn c.args.form model) c.from_residual.result known known all c.from_residual.ensures.0 (cut_none (IsLineIn c.args.form model) known all [])
 
 pub returns-in_err-with_capacity : goal.returns-in_err-with_capacity
 returns-in_err-with_capacity g c = λ model is.
     let known = g.W.Write.contents c.args.out.now in
     let all = class_rows model c.args.row in
-    cut_printed (IsLine model) c.from_residual-in_err-with_capacity.result known known all c.from_residual-in_err-with_capacity.ensures.0 (cut_none (IsLine model) known all [])
+    cut_printed (IsLineIn c.args.form model) c.from_residual-in_err-with_capacity.result known known all c.from_residual-in_err-with_capacity.ensures.0 (cut_none (IsLineIn c.args.form model) known all [])
 
 pub returns-in_err-print_class : goal.returns-in_err-print_class
 returns-in_err-print_class g c = λ model is.
@@ -34,8 +34,8 @@ returns-in_err-print_class g c = λ model is.
     let before = g.W.Write.contents c.args.out.now in
     let after = g.W.Write.contents c.print_class.new.out in
     let all = class_rows model c.args.row in
-    let cut = subst (λ (bytes : List ℕ). SendsFirst (IsLine model) before after all bytes) c.in_ok-with_capacity.ensures.items (c.in_err-print_class.ensures.lines model there) in
-    cut_printed (IsLine model) c.from_residual-in_err-print_class.result before after all c.from_residual-in_err-print_class.ensures.0 cut
+    let cut = subst (λ (bytes : List ℕ). SendsFirst (IsLineIn c.args.form model) before after all bytes) c.in_ok-with_capacity.ensures.items (c.in_err-print_class.ensures.lines model there) in
+    cut_printed (IsLineIn c.args.form model) c.from_residual-in_err-print_class.result before after all c.from_residual-in_err-print_class.ensures.0 cut
 
 pub returns : goal.returns
 returns g c = λ model is.
@@ -45,6 +45,6 @@ returns g c = λ model is.
     let after = g.W.Write.contents c.finish.new.out in
     let left = c.print_class.new.lines.bytes.items in
     let all = class_rows model c.args.row in
-    let sent = subst (λ (bytes : List ℕ). Sent (IsLine model) before between all bytes left) c.in_ok-with_capacity.ensures.items (c.in_ok-print_class.ensures.lines model there) in
-    tail_printed (IsLine model) c.finish.result before between after all left sent
+    let sent = subst (λ (bytes : List ℕ). Sent (IsLineIn c.args.form model) before between all bytes left) c.in_ok-with_capacity.ensures.items (c.in_ok-print_class.ensures.lines model there) in
+    tail_printed (IsLineIn c.args.form model) c.finish.result before between after all left sent
     (subst (λ (bytes : List ℕ). Prints between after c.finish.result bytes) c.deref.ensures.value c.finish.ensures)

@@ -1,10 +1,20 @@
-use Rattle.std.proofs.Common.{refl}
-use Rattle.cli_faults.specs.Escaped.{escaped_text}
+use Rattle.std.proofs.Common.{◌∙◌, ◌++◌, List, ℕ, ap, refl}
+use Rattle.cli_outline.specs.Parts.{cut_text}
 use Rattle.cli_outline.specs.declared.lines.Lines.{Lines}
-use Rattle.cli_outline.proofs.TextLemmas.{calls_escaped}
+use Rattle.cli_outline.proofs.PieceLemmas.{on_ok}
+use Rattle.cli_outline.proofs.TextLemmas.{text_cut, whole_cut}
 use Rattle.cli_outline.proofs.pieces.push_name.Goals as goal
 
 pub returns-in-Ok : goal.returns-in-Ok
 returns-in-Ok c = λ model is.
+    let bytes : Lines → List ℕ = λ w. w.bytes.items in
+    let left : Lines → ℕ = λ w. w.left in
     let wrote = c.in-Ok.ensures model is in
-    (escaped_text wrote.0, (wrote.0, wrote.1, refl), calls_escaped (λ (w : Lines). w.bytes.items) c.args.lines.now wrote.0 c.write_row_name.new.out wrote.2)
+    let begun = c.begin_text.new.lines in
+    let out = c.write_row_name.new.out in
+    on_ok c.end_text.result c.end_text.ensures
+    (λ e. (
+      cut_text wrote.0,
+      (wrote.0, wrote.1, refl),
+      text_cut bytes left begun wrote.0 out _ c.begin_text.ensures.left (whole_cut bytes left begun wrote.0 out wrote.2) e ∙ ap (λ (b : List ℕ). b ++ cut_text wrote.0) c.begin_text.ensures.same,
+    ))

@@ -2,13 +2,12 @@ use Rattle.std.proofs.Common.{◌++◌, ◌∙◌, Option, refl, ap, subst, sym}
 use Rattle.std.specs.Prelude.{decimal}
 use Rattle.table_schema.specs.declared.token.Token.{Token}
 use Rattle.metadata.specs.Metadata.{cell_in}
-use Rattle.cli_faults.specs.Escaped.{escaped_text}
 use Rattle.cli_reports.specs.Escaped.{escaped_bytes}
 use Rattle.cli_outline.specs.Parts as part
-use Rattle.cli_outline.specs.Parts.{IsNameAfter, IsPartText, Part, bytes_text, key_text, number_of, quoted_text, dotted_text, token_text_after}
+use Rattle.cli_outline.specs.Parts.{IsNameAfter, IsPartText, Part, bytes_text, cut_text, key_text, number_of, quoted_text, dotted_text, token_text_after}
 use Rattle.cli_outline.specs.Shown.{shown}
 use Rattle.cli_outline.specs.Texts.{Gains}
-use Rattle.cli_outline.specs.Words.{words_of, words_text}
+use Rattle.full_names.specs.FlagWords.{words_of, words_text}
 use Rattle.cli_outline.proofs.PieceLemmas.{on_ok, part_gains}
 use Rattle.cli_outline.proofs.pieces.push_piece.Goals as goal
 
@@ -27,9 +26,9 @@ returns-in-Flags c = λ model is.
 pub returns-in-Text : goal.returns-in-Text
 returns-in-Text c = λ model is.
     let before = c.args.lines.now.bytes.items in
-    on_ok c.push_escaped.result c.push_escaped.ensures
+    on_ok c.push_text.result c.push_text.ensures
     (λ e. part_gains model c.args.table c.args.row c.args.piece (part.text c.in-Text.cell) _ _ _ (ap shown c.in-Text.is) refl
-    (e ∙ ap (λ xs. before ++ escaped_text xs) (c.as_bytes.ensures.value ∙ c.text-text.ensures model is)))
+    (e ∙ ap (λ xs. before ++ cut_text xs) (c.text.ensures model is)))
 
 pub returns-in-Number : goal.returns-in-Number
 returns-in-Number c = λ model is.
@@ -44,7 +43,7 @@ returns-in-QuotedAfter c = λ model is.
     let word = c.in-QuotedAfter.word.now in
     on_ok c.push_quoted.result c.push_quoted.ensures
     (λ e. part_gains model c.args.table c.args.row c.args.piece (part.quoted_after word c.in-QuotedAfter.cell) _ _ _ (ap shown c.in-QuotedAfter.is) refl
-    (e ∙ ap (λ xs. before ++ quoted_text word xs) (c.text.ensures model is)))
+    (e ∙ ap (λ xs. before ++ quoted_text word xs) (c.text-in-QuotedAfter.ensures model is)))
 
 pub returns-in-BytesAfter : goal.returns-in-BytesAfter
 returns-in-BytesAfter c = λ model is.

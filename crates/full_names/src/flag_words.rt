@@ -1,17 +1,15 @@
-//! The words that stand for bits of flags (II.23.1).
-ghost use Rattle.std.specs.Prelude.{◌≡◌, ◌++◌, OnOk, map};
-ghost use Rattle.cli_outline.specs.Shown.{shown_word};
-ghost use Rattle.cli_outline.specs.Words.{word_text, words_of, words_text};
+ghost use Rattle.std.specs.Prelude.{◌≡◌, map};
+ghost use Rattle.full_names.specs.FlagWords.{shown_word, words_of};
 
-use crate::lines::{Lines, push_plain};
-use std::alloc::AllocError;
-
-/// A word that is written if the bits of the flags under a mask have a value.
+/// A word of ILAsm for bits of flags (II.23.1).
 #[derive(Clone, Copy)]
 pub struct FlagWord {
-    mask: u32,
-    value: u32,
-    text: &'static str,
+    /// The bits that decide.
+    pub mask: u32,
+    /// Their value if the flags have the word.
+    pub value: u32,
+    /// The word.
+    pub text: &'static str,
 }
 
 macro_rules! words {
@@ -61,7 +59,7 @@ const TYPE: &[FlagWord] = words![
     0x0000_1000 0x0000_1000 "import"; 0x0000_2000 0x0000_2000 "serializable";
     0x0003_0000 0x0000_0000 "ansi"; 0x0003_0000 0x0001_0000 "unicode";
     0x0003_0000 0x0002_0000 "autochar"; 0x0010_0000 0x0010_0000 "beforefieldinit";
-    0x0000_0800 0x0000_0800 "rtspecialname";
+    0x0000_0800 0x0000_0800 "rtspecialname"; 0x0020_0000 0x0020_0000 "forwarder";
 ];
 
 const ASSEMBLY: &[FlagWord] = words![0x0100 0x0100 "retargetable";];
@@ -132,8 +130,9 @@ const IMPLEMENTATION: &[FlagWord] = words![
     0x0008 0x0008 "noinlining"; 0x0040 0x0040 "nooptimization";
 ];
 
-/// The words of a kind of flags, in the order of the standard.
-fn words_of(of: FlagTable) -> &'static [FlagWord]
+/// The words of a kind of flags, in the order of the standard. Flags have a word if their bits under its mask have its
+/// value. Bits that the standard does not name have no word.
+pub fn words_of(of: FlagTable) -> &'static [FlagWord]
     ensures { map shown_word result.now ≡ words_of of }
 {
     match of {
@@ -150,25 +149,4 @@ fn words_of(of: FlagTable) -> &'static [FlagWord]
         FlagTable::Semantics => SEMANTICS,
         FlagTable::Import => IMPORT,
     }
-}
-
-/// Appends a space and the word, if the flags have its value.
-fn push_word(flags: u32, word: FlagWord, lines: &mut Lines) -> Result<(), AllocError>
-    ensures { OnOk result (lines.new.bytes.items ≡ lines.old.bytes.items ++ word_text flags (shown_word word)) }
-{
-    if flags & word.mask != word.value {
-        return Ok(());
-    }
-    push_plain(" ", lines)?;
-    push_plain(word.text, lines)
-}
-
-/// Appends the words of flags, a space before each.
-pub(crate) fn push_words(flags: u32, of: FlagTable, lines: &mut Lines) -> Result<(), AllocError>
-    ensures { OnOk result (lines.new.bytes.items ≡ lines.old.bytes.items ++ words_text flags (words_of of)) }
-{
-    for word in words_of(of) {
-        push_word(flags, *word, lines)?;
-    }
-    Ok(())
 }

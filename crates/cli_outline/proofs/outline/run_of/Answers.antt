@@ -9,7 +9,7 @@ use Rattle.metadata_source.specs.MemberLists.{cell_of, member_of, owner_of}
 use Rattle.opening.specs.Views.{row_count}
 use Rattle.cli_outline.proofs.ReferenceLemmas.{at_most}
 use Rattle.cli_outline.proofs.RunLemmas.{first_of_run, run_bounds, run_counted}
-use Rattle.cli_outline.proofs.type_members.run_of.Goals as goal
+use Rattle.cli_outline.proofs.outline.run_of.Goals as goal
 
 pub run-requires-clause-last : goal.run-requires-clause-last
 run-requires-clause-last c = subst (λ (t : TableId). c.args.row ≤ row_count c.args.cells.now t) (sym c.requires.types) c.requires.last

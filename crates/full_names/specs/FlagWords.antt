@@ -1,14 +1,19 @@
 -- The words that stand for bits of flags (ECMA-335 II.23.1).
 use Rattle.std.specs.Prelude.{ℕ, ◌==◌, if◌then◌else◌, bit_and, List, [], ◌∷◌, ◌++◌, codes}
 use Rattle.std.specs.List.{flat_map}
-use Rattle.cli_outline.specs.declared.flag_words.FlagTable.{FlagTable}
-use Rattle.cli_outline.specs.declared.flag_words.FlagTable.TheVariants as table
+use Rattle.full_names.specs.declared.flag_words.FlagTable.{FlagTable}
+use Rattle.full_names.specs.declared.flag_words.FlagTable.TheVariants as table
+use Rattle.full_names.specs.declared.flag_words.FlagWord.{FlagWord}
 
 -- a word: it is written if the bits of the flags under a mask have this value
 pub record Word : Type 0 where
   pub mask : ℕ
   pub value : ℕ
   pub text : List ℕ
+
+-- a word of the program, as a value of specs/
+abbrev pub shown_word : FlagWord → Word
+shown_word of = record { mask = of.mask; value = of.value; text = of.text.now }
 
 abbrev pub word : ℕ → ℕ → List ℕ → Word
 word mask value text = record { mask = mask; value = value; text = text }
@@ -46,7 +51,8 @@ words_of table.Type =
     word 0x00030000 0x00010000 (codes "unicode") ∷
     word 0x00030000 0x00020000 (codes "autochar") ∷
     word 0x00100000 0x00100000 (codes "beforefieldinit") ∷
-    word 0x00000800 0x00000800 (codes "rtspecialname") ∷ []
+    word 0x00000800 0x00000800 (codes "rtspecialname") ∷
+    word 0x00200000 0x00200000 (codes "forwarder") ∷ []
 -- II.23.1.2
 words_of table.Assembly = word 0x0100 0x0100 (codes "retargetable") ∷ []
 words_of table.Key =

@@ -5,7 +5,7 @@ use Rattle.metadata.specs.Metadata.{Metadata}
 use Rattle.cli_outline.specs.Parts.{IsDeclarationAt}
 use Rattle.cli_outline.specs.Texts.{Gains}
 use Rattle.cli_outline.proofs.PieceLemmas.{on_ok}
-use Rattle.cli_outline.proofs.methods.push_declaration.Goals as goal
+use Rattle.cli_outline.proofs.signature_sink.push_declaration.Goals as goal
 
 other_table : (model : Metadata) (table : TableId) (row : ℕ) → (table ≡ MethodDef → ⊥) → IsDeclarationAt model table row []
 other_table model MethodDef row not = absurd (not refl)

@@ -1,10 +1,9 @@
 use Rattle.std.proofs.Common.{◌≡◌, ◌∙◌, ◌≤◌, ◌++◌, ap, length, sym, arith, append-nil}
 use Rattle.std.proofs.lemmas.List.{length-map}
 use Rattle.std.proofs.lemmas.List.{take_all}
-use Rattle.cli_outline.specs.Shown.{shown_word}
-use Rattle.cli_outline.specs.Words.{words_of, words_text}
+use Rattle.full_names.specs.FlagWords.{shown_word, words_of, words_text}
 use Rattle.cli_outline.proofs.PieceLemmas.{word_more}
-use Rattle.cli_outline.proofs.flag_words.push_words.Goals as goal
+use Rattle.cli_outline.proofs.pieces.push_words.Goals as goal
 
 pub loop-word-init : goal.loop-word-init
 loop-word-init c = sym (append-nil c.args.lines.now.bytes.items)

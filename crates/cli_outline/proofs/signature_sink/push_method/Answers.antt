@@ -1,14 +1,15 @@
-use Rattle.std.proofs.Common.{refl, arith}
+use Rattle.std.proofs.Common.{◌∙◌, ◌++◌, List, ℕ, ap, refl, arith}
 use Rattle.table_schema.specs.declared.table.TableId.TheVariants.{MethodDef}
 use Rattle.table_schema.specs.CellColumns.{cell_columns}
 use Rattle.metadata.specs.Lookups.{HasRow}
 use Rattle.metadata.specs.Metadata.{cell_in}
-use Rattle.cli_faults.specs.Escaped.{escaped_text}
 use Rattle.opening.specs.Views.{row_count}
+use Rattle.cli_outline.specs.Parts.{cut_text}
 use Rattle.cli_outline.specs.declared.lines.Lines.{Lines}
-use Rattle.cli_outline.proofs.TextLemmas.{calls_escaped}
+use Rattle.cli_outline.proofs.PieceLemmas.{on_ok}
+use Rattle.cli_outline.proofs.TextLemmas.{text_cut, whole_cut}
 use Rattle.cli_outline.proofs.WriterLemmas.{signature_in, method_in}
-use Rattle.cli_outline.proofs.methods.push_method.Goals as goal
+use Rattle.cli_outline.proofs.signature_sink.push_method.Goals as goal
 
 pub returns-in-Ok : goal.returns-in-Ok
 unfolding row_count cell_columns
@@ -21,4 +22,13 @@ returns-in-Ok c = λ model is.
     let of = signature_in cell valid.of_kind in
     let method = method_in cell valid.held of.0 of.1 in
     let wrote = c.in-Ok.ensures.text model is method.0 method.1 in
-    (escaped_text wrote.0, (method.0, method.1, wrote.0, wrote.1, refl), calls_escaped (λ (w : Lines). w.bytes.items) c.args.lines.now wrote.0 c.write_method.new.out wrote.2)
+    let bytes : Lines → List ℕ = λ w. w.bytes.items in
+    let left : Lines → ℕ = λ w. w.left in
+    let begun = c.begin_text.new.lines in
+    let out = c.write_method.new.out in
+    on_ok c.end_text.result c.end_text.ensures
+    (λ e. (
+      cut_text wrote.0,
+      (method.0, method.1, wrote.0, wrote.1, refl),
+      text_cut bytes left begun wrote.0 out _ c.begin_text.ensures.left (whole_cut bytes left begun wrote.0 out wrote.2) e ∙ ap (λ (b : List ℕ). b ++ cut_text wrote.0) c.begin_text.ensures.same,
+    ))
