@@ -16,7 +16,7 @@ use Rattle.std.proofs.lemmas.Slice.Eq.{bytes_eq-Decides}
 use Rattle.cli_arguments.specs.Asked.{name_of, subcommand_named}
 use Rattle.cli_arguments.specs.declared.asked.Subcommand.TheVariants.{Root, Check, Show, Types, Outline, Strings, Token, Where, Rewrite, Digest, Compare, Explain}
 use Rattle.cli_arguments.specs.declared.asked.Subcommand.{Subcommand}
-use Rattle.cli_arguments.specs.CommandLine.{bare, budget, check, clim, compare, digest, explain, fault_codes, file, files, files_from, ignore, json, null, outline, part, quiet, reader, reporter, second, several, show, token, tokens}
+use Rattle.cli_arguments.specs.CommandLine.{bare, budget, check, clim, compare, digest, explain, fault_codes, file, files, files_from, ignore, json, locates, names, null, outline, part, quiet, reader, reporter, second, several, show, token, tokens, until_fault, where_is}
 use Rattle.cli_arguments.proofs.NoHelp.{StopsElsewhere, is_help, stops_elsewhere}
 use Rattle.cli_arguments.proofs.Supplied.{AllSupply, Supplies, IsSupplied, below_none, check_none, supplied_with, supplied_without, first_none, given_has_value, level_supplied}
 
@@ -111,6 +111,18 @@ json_value : (values : List Text) → 0 < length (values_or_missing (built_value
 json_value [] = omega arith
 json_value (v ∷ vs) = omega arith
 
+names_value : (values : List Text) → 0 < length (values_or_missing (built_value 3 names) values)
+names_value [] = omega arith
+names_value (v ∷ vs) = omega arith
+
+until_fault_value : (values : List Text) → 0 < length (values_or_missing (built_value 3 until_fault) values)
+until_fault_value [] = omega arith
+until_fault_value (v ∷ vs) = omega arith
+
+locates_value : (values : List Text) → 0 < length (values_or_missing (built_value 2 locates) values)
+locates_value [] = omega arith
+locates_value (v ∷ vs) = omega arith
+
 bare_value : (values : List Text) → 0 < length (values_or_missing built_bare values)
 bare_value [] = omega arith
 bare_value (v ∷ vs) = omega arith
@@ -141,6 +153,15 @@ quiet_supplies = set_supplies (built_value 2 quiet) (λ values rows. refl) (λ a
 
 json_supplies : Supplies (built_value 2 json)
 json_supplies = set_supplies (built_value 2 json) (λ values rows. refl) (λ again values rows none. json_value values)
+
+names_supplies : Supplies (built_value 3 names)
+names_supplies = set_supplies (built_value 3 names) (λ values rows. refl) (λ again values rows none. names_value values)
+
+until_fault_supplies : Supplies (built_value 3 until_fault)
+until_fault_supplies = set_supplies (built_value 3 until_fault) (λ values rows. refl) (λ again values rows none. until_fault_value values)
+
+locates_supplies : Supplies (built_value 2 locates)
+locates_supplies = set_supplies (built_value 2 locates) (λ values rows. refl) (λ again values rows none. locates_value values)
 
 -- a further use adds values to those of an earlier one
 files_supplies : Supplies (built_value 1 files)
@@ -296,7 +317,7 @@ reporter_ready name takes known = record {
 
 check_ready : IsReady (built_leaf (inherited (built clim).top check.top))
 check_ready = record {
-  supplies = (files_supplies, (bare_supplies, (budget_supplies, (files_from_supplies, (null_supplies, (quiet_supplies, (json_supplies, ((λ again values rows none f. f), tt))))))));
+  supplies = (files_supplies, (bare_supplies, (budget_supplies, (files_from_supplies, (null_supplies, (quiet_supplies, (json_supplies, (locates_supplies, ((λ again values rows none f. f), tt)))))))));
   values = [];
   takes = check_takes;
   known = check_known;
@@ -305,7 +326,7 @@ check_ready = record {
 
 show_ready : IsReady (built_leaf (inherited (built clim).top show.top))
 show_ready = record {
-  supplies = (file_supplies, (bare_supplies, (json_supplies, (part_supplies, ((λ again values rows none f. f), tt)))));
+  supplies = (file_supplies, (bare_supplies, (json_supplies, (part_supplies, (names_supplies, (until_fault_supplies, ((λ again values rows none f. f), tt)))))));
   values = codes "FILE" ∷ [];
   takes = show_takes;
   known = show_known;
@@ -314,7 +335,7 @@ show_ready = record {
 
 outline_ready : IsReady (built_leaf (inherited (built clim).top outline.top))
 outline_ready = record {
-  supplies = (file_supplies, (bare_supplies, (part_supplies, ((λ again values rows none f. f), tt))));
+  supplies = (file_supplies, (bare_supplies, (json_supplies, (part_supplies, ((λ again values rows none f. f), tt)))));
   values = codes "FILE" ∷ [];
   takes = outline_takes;
   known = outline_known;
@@ -328,6 +349,18 @@ digest_ready = record {
   takes = digest_takes;
   known = digest_known;
   needs = λ rows all. (needed (is_given (codes "FILE") rows) _ all, tt);
+}
+
+where_ready : IsReady (built_leaf (inherited (built clim).top where_is.top))
+where_ready = record {
+  supplies = (file_supplies, (bare_supplies, (json_supplies, (second_supplies, ((λ again values rows none f. f), tt)))));
+  values = codes "FILE" ∷ codes "second" ∷ [];
+  takes = where_takes;
+  known = where_known;
+  needs = λ rows all. (
+    needed (is_given (codes "FILE") rows) _ all,
+    (needed (is_given (codes "second") rows) _ (not_needed (is_given (codes "FILE") rows) _ all), tt),
+  );
 }
 
 -- one with a second value besides the file
@@ -357,7 +390,7 @@ token_ready = record {
 
 compare_ready : IsReady (built_leaf (inherited (built clim).top compare.top))
 compare_ready = record {
-  supplies = (file_supplies, (bare_supplies, (second_supplies, (ignore_supplies, ((λ again values rows none f. f), tt)))));
+  supplies = (file_supplies, (bare_supplies, (json_supplies, (second_supplies, (ignore_supplies, ((λ again values rows none f. f), tt))))));
   values = codes "FILE" ∷ codes "second" ∷ [];
   takes = compare_takes;
   known = compare_known;
@@ -401,7 +434,7 @@ clim_ready word other = (
             (
               (λ is. token_ready),
               (
-                (λ is. second_ready (codes "where") where_takes where_known),
+                (λ is. where_ready),
                 (
                   (λ is. second_ready (codes "rewrite") rewrite_takes rewrite_known),
                   (

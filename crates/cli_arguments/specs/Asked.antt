@@ -67,6 +67,9 @@ pub record Gives (words : List Text) (ask : Ask) : Type 0 where
   pub files_from : option_map (λ word. word.now) ask.files_from ≡ first_of (codes "files-from") rows
   pub null : IsTrue ask.null ↔ (one_of (codes "null") rows ≡ Some (codes "true"))
   pub quiet : IsTrue ask.quiet ↔ (one_of (codes "quiet") rows ≡ Some (codes "true"))
+  pub names : IsTrue ask.names ↔ (one_of (codes "names") rows ≡ Some (codes "true"))
+  pub until_fault : IsTrue ask.until_fault ↔ (one_of (codes "until-fault") rows ≡ Some (codes "true"))
+  pub locates : IsTrue ask.locates ↔ (one_of (codes "where") rows ≡ Some (codes "true"))
 
 -- there is a file, if the subcommand needs one; `check` may have a list instead
 abbrev pub HasFile : Ask → Type 0

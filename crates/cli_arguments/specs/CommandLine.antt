@@ -50,6 +50,18 @@ quiet = record (new_rule (codes "quiet")) { short = Some 113; long = Some (codes
 abbrev pub json : Rule
 json = record (new_rule (codes "json")) { long = Some (codes "json"); action = Some SetTrue }
 
+-- `--names`, a flag
+abbrev pub names : Rule
+names = record (new_rule (codes "names")) { long = Some (codes "names"); action = Some SetTrue }
+
+-- `--until-fault`, a flag
+abbrev pub until_fault : Rule
+until_fault = record (new_rule (codes "until-fault")) { long = Some (codes "until-fault"); action = Some SetTrue }
+
+-- `--where`, a flag
+abbrev pub locates : Rule
+locates = record (new_rule (codes "where")) { long = Some (codes "where"); action = Some SetTrue }
+
 -- `HEX..`, at least one value
 abbrev pub tokens : Rule
 tokens = record (new_rule (codes "HEX")) { action = Some Append; range = Some (record { start_inclusive = 1; end_inclusive = usize_max }); required = true }
@@ -74,21 +86,23 @@ reporter name = with_rule (reader name) json
 abbrev pub root : App
 root = reporter (codes "root")
 
--- `check [--bare] [--budget N] [--files-from LIST] [-0] [-q] [--json] [FILE]..`
+-- `check [--bare] [--budget N] [--files-from LIST] [-0] [-q] [--json] [--where] [FILE]..`
 abbrev pub check : App
-check = with_rule (with_rule (with_rule (with_rule (with_rule (with_rule (with_rule (new_app (codes "check")) files) bare) budget) files_from) null) quiet) json
+check =
+    with_rule (with_rule (with_rule (with_rule (with_rule (with_rule (with_rule (with_rule (new_app (codes "check")) files) bare) budget) files_from) null) quiet) json)
+    locates
 
--- `show [--bare] [--json] FILE [TABLE]`
+-- `show [--bare] [--json] [--names] [--until-fault] FILE [TABLE]`
 abbrev pub show : App
-show = with_rule (reporter (codes "show")) part
+show = with_rule (with_rule (with_rule (reporter (codes "show")) part) names) until_fault
 
 -- `types [--bare] [--json] FILE`
 abbrev pub types : App
 types = reporter (codes "types")
 
--- `outline [--bare] FILE [NAME]`
+-- `outline [--bare] [--json] FILE [NAME]`
 abbrev pub outline : App
-outline = with_rule (reader (codes "outline")) part
+outline = with_rule (reporter (codes "outline")) part
 
 -- `strings [--bare] FILE`
 abbrev pub strings : App
@@ -98,9 +112,9 @@ strings = reader (codes "strings")
 abbrev pub token : App
 token = with_rule (reporter (codes "token")) tokens
 
--- `where [--bare] FILE OFFSET`
+-- `where [--bare] [--json] FILE OFFSET`
 abbrev pub where_is : App
-where_is = with_rule (reader (codes "where")) second
+where_is = with_rule (reporter (codes "where")) second
 
 -- `rewrite [--bare] FILE OUT`
 abbrev pub rewrite : App
@@ -110,17 +124,17 @@ rewrite = with_rule (reader (codes "rewrite")) second
 abbrev pub digest : App
 digest = with_rule (with_rule (new_app (codes "digest")) several) bare
 
--- `compare [--bare] [--ignore TABLE.COLUMN].. FILE OTHER`
+-- `compare [--bare] [--json] [--ignore TABLE.COLUMN].. FILE OTHER`
 abbrev pub compare : App
-compare = with_rule (with_rule (reader (codes "compare")) second) ignore
+compare = with_rule (with_rule (reporter (codes "compare")) second) ignore
 
 -- `explain [CODE]..`
 abbrev pub explain : App
 explain = with_rule (new_app (codes "explain")) fault_codes
 
--- `clim SUBCOMMAND ..`; the subcommand is required
+-- `clim SUBCOMMAND ..`; the subcommand is required. `-V` and `--version` have texts of their own
 abbrev pub without_subcommands : App
-without_subcommands = on_top (λ s. record s { has_version = true; subcommand_required = true }) (new_app (codes "clim"))
+without_subcommands = on_top (λ s. record s { has_version = true; has_long_version = true; subcommand_required = true }) (new_app (codes "clim"))
 
 -- a command with the subcommands that report on a whole file
 abbrev pub with_reports : App → App

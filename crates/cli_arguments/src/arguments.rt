@@ -14,6 +14,9 @@ use crate::subcommands::{
 use clap::{Command, Error};
 use std::alloc::{AllocError, Global};
 
+/// What `--version` prints after the name of the program: its version, and what it is proved and built with (`rt version`).
+const LONG_VERSION: &str = "0.1.0\nproved and built with rattle-kit-13f logic dac8208d650f15bf";
+
 /// Parses the arguments of a command line, the program name first.
 ///
 /// # Errors
@@ -49,6 +52,9 @@ pub fn ask<'a>(alloc: Global, words: &'a [&'a str]) -> Result<Ask<'a>, Error>
         files_from: given.get_str("files-from"),
         null: given.get_one::<bool>("null") == Some(true),
         quiet: given.get_one::<bool>("quiet") == Some(true),
+        names: given.get_one::<bool>("names") == Some(true),
+        until_fault: given.get_one::<bool>("until-fault") == Some(true),
+        locates: given.get_one::<bool>("where") == Some(true),
     })
 }
 
@@ -58,6 +64,7 @@ fn command<'a>(alloc: Global) -> Result<Command<'a>, AllocError>
 {
     let program = Command::new(alloc, "clim")
         .version("0.1.0")
+        .long_version(LONG_VERSION)
         .override_help(HELP)
         .subcommand_required(true);
     let program = with_reports(alloc, program)?;

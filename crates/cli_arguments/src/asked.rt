@@ -22,6 +22,12 @@ pub struct Ask<'a> {
     pub part: Option<&'a str>,
     /// Whether to print JSON Lines instead of text.
     pub json: bool,
+    /// Whether `show` prints the names of columns.
+    pub names: bool,
+    /// Whether `show` prints the rows of a broken file that come before its first broken rule.
+    pub until_fault: bool,
+    /// Whether `check` prints what has the byte at the offset of a fault, and explains the fault.
+    pub locates: bool,
     /// The faults to `explain`, as they were given; all if there is none.
     pub codes: Vec<&'a str>,
     /// The paths of all files to read, in the order given: several only for `check` and `digest`.

@@ -13,7 +13,7 @@ Look:
   outline  Print the declarations of the assembly, or of one type, as ILAsm writes them
   strings  Print the user strings, with their tokens
   token    Print the row or the user string that each token names
-  where    Print what has the byte at an offset: a header, a stream or a cell
+  where    Print what the byte at an offset belongs to: a header, a stream or a cell
 
 Check:
   check    Check files against the rules of the standard

@@ -4,3 +4,4 @@ pub mod FileErrors
 pub mod Status
 pub mod Texts
 pub mod Stops
+pub mod Explained

@@ -1,26 +1,59 @@
 -- The lines that report failures.
-use Rattle.std.specs.Prelude.{ℕ, List, ◌∷◌, ◌++◌, codes}
-use Rattle.packed.specs.Codes.{fault_text}
+use Rattle.std.specs.Prelude.{ℕ, List, [], ◌∷◌, ◌++◌, codes, Option, None, Some}
+use Rattle.std.specs.Borrow.{Bor}
+use Rattle.packed.specs.Codes.{fault_text, name_of, number_of_code}
+use Rattle.packed.specs.declared.code.FaultCode.{FaultCode}
+use Rattle.table_schema.specs.declared.table.TableId.{TableId}
+use Rattle.table_schema.specs.Tables.{table_name}
 use Rattle.cli_faults.specs.Escaped.{escaped_text}
 use Rattle.cli_faults.specs.FileErrors.{file_error_text}
 use Rattle.cli_faults.specs.declared.failure.Failure.{Failure}
 use Rattle.cli_faults.specs.declared.failure.Failure.TheVariants.{Fault, NoSuchRow, Usage, NotUtf8, CannotRead, CannotWriteOutput, CannotWriteFile, OutOfMemory}
+use Rattle.cli_faults.specs.declared.usage_error.Nearest.{Nearest}
+use Rattle.cli_faults.specs.declared.usage_error.Nearest.TheVariants as nearest
 use Rattle.cli_faults.specs.declared.usage_error.UsageError.{UsageError}
-use Rattle.cli_faults.specs.declared.usage_error.UsageError.TheVariants.{NoToken, NoCode, NoFile, FilesAndList, JsonOfOneFile, NoList, NoTable, NoOffset, NoColumn}
+use Rattle.cli_faults.specs.declared.usage_error.UsageError.TheVariants.{NoToken, NoCode, NoFile, FilesAndList, JsonOfOneFile, WhereOfOneFile, UntilFaultAsJson, NoList, NoTable, NoOffset, NoColumn}
 
--- the line that reports an argument that is wrong, without its line feed; arguments in it are escaped
+-- the line of a hint, after a line feed; nothing without a name
+abbrev pub nearest_text : Nearest → List ℕ
+nearest_text nearest.None = []
+nearest_text (nearest.Name name) = 10 ∷ codes "  hint: the nearest name is '" ++ name.now ++ codes "'"
+nearest_text (nearest.Pair first second) = 10 ∷ codes "  hint: the nearest name is '" ++ first.now ++ codes "." ++ second.now ++ codes "'"
+
+-- the hint with a name
+abbrev hint_with : List ℕ → List ℕ
+hint_with name = 10 ∷ codes "  hint: the nearest name is '" ++ name ++ codes "'"
+
+-- the hint with the name of a rule, of a table, or of a table and its column, if there is one
+abbrev pub hint_of_code : Option FaultCode → List ℕ
+hint_of_code None = []
+hint_of_code (Some code) = hint_with (name_of (number_of_code code))
+
+abbrev pub hint_of_table : Option TableId → List ℕ
+hint_of_table None = []
+hint_of_table (Some table) = hint_with (table_name table)
+
+abbrev pub hint_of_column : Option (TableId × Bor (List ℕ)) → List ℕ
+hint_of_column None = []
+hint_of_column (Some column) = hint_with (table_name column.0 ++ codes "." ++ column.1.now)
+
+-- the line that reports an argument that is wrong, without its line feed; arguments in it are escaped, and a line with a
+-- hint follows if a name is near
 abbrev pub usage_text : UsageError → List ℕ
 usage_text (NoToken word) = codes "error: HEX is one to eight hexadecimal digits, not '" ++ escaped_text word.now ++ codes "'"
-usage_text (NoCode word) =
-    codes "error: CODE is the number or the name of a fault, which 'clim explain' lists, not '" ++ escaped_text word.now ++ codes "'"
+usage_text (NoCode word code) =
+    codes "error: CODE is the number or the name of a fault, which 'clim explain' lists, not '" ++ escaped_text word.now ++ codes "'" ++ hint_of_code code
 usage_text NoFile = codes "error: FILE is missing, and so is '--files-from -'"
 usage_text FilesAndList = codes "error: '--files-from' and FILE exclude each other"
 usage_text JsonOfOneFile = codes "error: '--json' takes one FILE, and no list, '--budget' or '--quiet'"
+usage_text WhereOfOneFile = codes "error: '--where' takes one FILE, and no list, '--budget', '--quiet' or '--json'"
+usage_text UntilFaultAsJson = codes "error: '--until-fault' and '--json' exclude each other"
 usage_text (NoList word) = codes "error: '--files-from' takes '-', the standard input, not '" ++ escaped_text word.now ++ codes "'"
-usage_text (NoTable word) = codes "error: TABLE is a table, which 'clim show --help' lists, not '" ++ escaped_text word.now ++ codes "'"
+usage_text (NoTable word table) =
+    codes "error: TABLE is a table, which 'clim show --help' lists, not '" ++ escaped_text word.now ++ codes "'" ++ hint_of_table table
 usage_text (NoOffset word) = codes "error: OFFSET is a number, decimal or hexadecimal after '0x', not '" ++ escaped_text word.now ++ codes "'"
-usage_text (NoColumn word) =
-    codes "error: no such column: '--ignore' takes a table and one of its columns, as 'Module.Mvid', not '" ++ escaped_text word.now ++ codes "'"
+usage_text (NoColumn word column) =
+    codes "error: no such column: '--ignore' takes a table and one of its columns, as 'Module.Mvid', not '" ++ escaped_text word.now ++ codes "'" ++ hint_of_column column
 
 -- the line that reports a failure, without its last line feed; arguments in it are escaped, and a line with the reason
 -- follows the name of a file

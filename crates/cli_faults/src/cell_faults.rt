@@ -38,7 +38,10 @@ pub(crate) static BAD_GUID: Explanation = Explanation {
     rule: "An index into '#GUID' is 0 for null, or the number of a 16-byte entry within the \
         heap, counted from 1.",
     offset: "The cell with the index.",
-    cause: Some("An index that counts bytes instead of entries."),
+    cause: Some(
+        "An index that counts bytes instead of entries, a missing stream such as '#GUID' or \
+        '#Strings', or a bit of Valid that was cleared.",
+    ),
 };
 
 pub(crate) static BAD_TAG: Explanation = Explanation {
@@ -47,7 +50,7 @@ pub(crate) static BAD_TAG: Explanation = Explanation {
     section: Some("II.24.2.6"),
     rule: "The tag of a coded index, which is its low bits, has a table in the standard.",
     offset: "The cell.",
-    cause: None,
+    cause: Some("Wrong row counts."),
 };
 
 pub(crate) static BAD_INDEX: Explanation = Explanation {
@@ -56,7 +59,7 @@ pub(crate) static BAD_INDEX: Explanation = Explanation {
     section: Some("II.22"),
     rule: "An index into a table is an existing row, or null in a column that may be null.",
     offset: "The cell.",
-    cause: Some("A tool that removed rows but not the references to them."),
+    cause: Some("A tool that removed rows but not the references to them, or wrong row counts."),
 };
 
 pub(crate) static BAD_LIST: Explanation = Explanation {

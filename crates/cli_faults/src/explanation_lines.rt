@@ -1,4 +1,9 @@
 //! Prints what faults mean.
+ghost use Rattle.std.specs.Prelude.{ℕ, List, OnOk};
+ghost use Rattle.std.specs.Io.KnownBytes.{Appends};
+ghost use Rattle.packed.specs.Codes.{number_of_code};
+ghost use Rattle.cli_faults.specs.Explained.{IsExplanationOf};
+
 use crate::explained::explain;
 use crate::numbered::all_codes;
 use packed::{Fault, FaultCode};
@@ -19,7 +24,9 @@ pub fn print_list<W: Write>(out: &mut W) -> io::Result<()> {
 }
 
 /// Prints the number of a rule, its name if it has one, and what is wrong.
-fn print_heading<W: Write>(code: FaultCode, out: &mut W) -> io::Result<()> {
+fn print_heading<W: Write>(code: FaultCode, out: &mut W) -> io::Result<()>
+    ensures { OnOk result ((text : List ℕ) × IsExplanationOf (number_of_code code) text × Appends (W.contents out.old) (W.contents out.new) text) }
+{
     let (number, summary) = (code.number(), explain(code).summary);
     let name = Fault::new(code, 0).name();
     if name.is_empty() {
@@ -34,23 +41,32 @@ fn print_heading<W: Write>(code: FaultCode, out: &mut W) -> io::Result<()> {
 /// unless one word is longer.
 ///
 /// It does not allocate. An error is that of the writer. By then the writer has a prefix of the lines.
-pub fn print_explanation<W: Write>(code: FaultCode, out: &mut W) -> io::Result<()> {
+pub fn print_explanation<W: Write>(code: FaultCode, out: &mut W) -> io::Result<()>
+    ensures { OnOk result ((text : List ℕ) × IsExplanationOf (number_of_code code) text × Appends (W.contents out.old) (W.contents out.new) text) }
+{
     let reported = explain(code);
     print_heading(code, out)?;
     writeln!(out)?;
     print_item("Rule:", reported.rule, out)?;
-    if let Some(section) = reported.section {
-        print_item("Section:", section, out)?;
-    }
+    print_known("Section:", reported.section, out)?;
     print_item("Offset:", reported.offset, out)?;
-    if let Some(cause) = reported.cause {
-        print_item("Usual cause:", cause, out)?;
+    print_known("Usual cause:", reported.cause, out)
+}
+
+/// Prints an item if its text is known.
+fn print_known<W: Write>(label: &str, text: Option<&str>, out: &mut W) -> io::Result<()>
+    ensures { OnOk result ((text : List ℕ) × Appends (W.contents out.old) (W.contents out.new) text) }
+{
+    match text {
+        Some(text) => print_item(label, text, out),
+        None => Ok(()),
     }
-    Ok(())
 }
 
 /// Prints a dash, a label and a text, in lines of at most [`WIDTH`] columns.
-fn print_item<W: Write>(label: &str, text: &str, out: &mut W) -> io::Result<()> {
+fn print_item<W: Write>(label: &str, text: &str, out: &mut W) -> io::Result<()>
+    ensures { OnOk result ((text : List ℕ) × Appends (W.contents out.old) (W.contents out.new) text) }
+{
     write!(out, "- {label}")?;
     let mut room = (WIDTH - 2).saturating_sub(label.len());
     for word in text.split_whitespace() {

@@ -99,7 +99,8 @@ pub(crate) static CLI_ADDRESS: Explanation = Explanation {
         that has all 72 bytes at that address has them within the file.",
     offset: "The data directory CLI Header.",
     cause: Some(
-        "A truncated file, or a packed file whose sections are restored only when it runs.",
+        "A truncated file, a wrong address or raw offset in a section header, no section headers, \
+        or a packed file whose sections are restored only when it runs.",
     ),
 };
 

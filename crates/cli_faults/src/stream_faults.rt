@@ -10,7 +10,7 @@ pub(crate) static ROOT_SIGNATURE: Explanation = Explanation {
     offset: "The root.",
     cause: Some(
         "With '--bare', FILE is a whole PE file. Without it, a packer restores the metadata only \
-        when the program runs.",
+        when the program runs. Or FILE was transferred as text, which changes CR LF.",
     ),
 };
 
@@ -21,7 +21,7 @@ pub(crate) static VERSION: Explanation = Explanation {
     rule: "Length is a multiple of four. The version field after it has that length and ends \
         within the root. It has a NUL. Before the first NUL is a UTF-8 text of at most 254 bytes.",
     offset: "The field Length, 12 bytes into the root.",
-    cause: None,
+    cause: Some("A size of the metadata that is too small."),
 };
 
 pub(crate) static STREAM_COUNT: Explanation = Explanation {
@@ -42,7 +42,10 @@ pub(crate) static STREAM_HEADER: Explanation = Explanation {
         its name: at most 32 ASCII characters, a NUL, and at most three more bytes up to a \
         multiple of four. The header ends within the root.",
     offset: "The stream header.",
-    cause: Some("The number of streams is too large, or the root is truncated."),
+    cause: Some(
+        "The number of streams is too large, Length of the version is wrong, or the root is \
+        truncated.",
+    ),
 };
 
 pub(crate) static STREAM_RANGE: Explanation = Explanation {

@@ -1,9 +1,11 @@
 //! An argument that is wrong, and the line that reports it.
 ghost use Rattle.std.specs.Prelude.{Some};
-ghost use Rattle.cli_faults.specs.Texts.{usage_text};
+ghost use Rattle.cli_faults.specs.Texts.{nearest_text, usage_text};
 
 use crate::escaped::Escaped;
+use packed::{Fault, FaultCode};
 use std::fmt;
+use table_schema::TableId;
 
 /// An argument that `clap` accepts and the subcommand does not. `Display` gives the line for standard error, without
 /// the line feed. Arguments in it are [`Escaped`].
@@ -11,22 +13,86 @@ use std::fmt;
 pub enum UsageError<'a> {
     /// The argument is not a token.
     NoToken(&'a str),
-    /// The argument is not the number or the name of a fault.
-    NoCode(&'a str),
+    /// The argument is not the number or the name of a fault. The rule with the nearest name, if one is near.
+    NoCode(&'a str, Option<FaultCode>),
     /// `check` got no file, and no list of files.
     NoFile,
     /// `check` got both files and a list of files.
     FilesAndList,
     /// `check` got `--json` with several files, a list of files, a budget or `-q`.
     JsonOfOneFile,
+    /// `check` got `--where` with several files, a list of files, a budget, `-q` or `--json`.
+    WhereOfOneFile,
+    /// `show` got `--until-fault` and `--json`.
+    UntilFaultAsJson,
     /// The argument is not where a list of files can come from.
     NoList(&'a str),
-    /// The argument is not the name or the number of a table.
-    NoTable(&'a str),
+    /// The argument is not the name or the number of a table. The table with the nearest name, if one is near.
+    NoTable(&'a str, Option<TableId>),
     /// The argument is not an offset.
     NoOffset(&'a str),
-    /// The argument is not a table and one of its columns.
-    NoColumn(&'a str),
+    /// The argument is not a table and one of its columns. The nearest table and column, if they are near.
+    NoColumn(&'a str, Option<(TableId, &'static str)>),
+}
+
+/// A name that an argument may have meant. `Display` gives a line feed and the line of a hint; nothing if there is none.
+#[derive(Clone, Copy, Debug, PartialEq, Eq)]
+enum Nearest {
+    /// There is none.
+    None,
+    /// This name.
+    Name(&'static str),
+    /// A name of two parts, with a dot between them.
+    Pair(&'static str, &'static str),
+}
+
+impl Nearest {
+    ghost use Rattle.std.specs.Prelude.{◌≡◌};
+    ghost use Rattle.cli_faults.specs.Texts.{hint_of_code, hint_of_column, hint_of_table, nearest_text};
+
+    /// The name of a rule.
+    fn of_code(code: Option<FaultCode>) -> Nearest
+        ensures { nearest_text result ≡ hint_of_code code }
+    {
+        match code {
+            Some(code) => Nearest::Name(Fault::new(code, 0).name()),
+            None => Nearest::None,
+        }
+    }
+
+    /// The name of a table.
+    fn of_table(table: Option<TableId>) -> Nearest
+        ensures { nearest_text result ≡ hint_of_table table }
+    {
+        match table {
+            Some(table) => Nearest::Name(table.name()),
+            None => Nearest::None,
+        }
+    }
+
+    /// The name of a table and of its column.
+    fn of_column(column: Option<(TableId, &'static str)>) -> Nearest
+        ensures { nearest_text result ≡ hint_of_column column.entry }
+    {
+        match column {
+            Some((table, column)) => Nearest::Pair(table.name(), column),
+            None => Nearest::None,
+        }
+    }
+}
+
+impl fmt::Display for Nearest {
+    ghost output = { λ nearest. Some (nearest_text nearest) };
+
+    fn fmt<W: fmt::Write>(&self, f: &mut fmt::Formatter<W>) -> fmt::Result {
+        match self {
+            Nearest::None => Ok(()),
+            Nearest::Name(name) => write!(f, "\n  hint: the nearest name is '{name}'"),
+            Nearest::Pair(first, second) => {
+                write!(f, "\n  hint: the nearest name is '{first}.{second}'")
+            }
+        }
+    }
 }
 
 impl fmt::Display for UsageError<'_> {
@@ -39,10 +105,11 @@ impl fmt::Display for UsageError<'_> {
                 "error: HEX is one to eight hexadecimal digits, not '{}'",
                 Escaped(word)
             ),
-            UsageError::NoCode(word) => write!(
+            UsageError::NoCode(word, nearest) => write!(
                 f,
-                "error: CODE is the number or the name of a fault, which 'clim explain' lists, not '{}'",
-                Escaped(word)
+                "error: CODE is the number or the name of a fault, which 'clim explain' lists, not '{}'{}",
+                Escaped(word),
+                Nearest::of_code(*nearest)
             ),
             UsageError::NoFile => write!(f, "error: FILE is missing, and so is '--files-from -'"),
             UsageError::FilesAndList => {
@@ -52,25 +119,34 @@ impl fmt::Display for UsageError<'_> {
                 f,
                 "error: '--json' takes one FILE, and no list, '--budget' or '--quiet'"
             ),
+            UsageError::WhereOfOneFile => write!(
+                f,
+                "error: '--where' takes one FILE, and no list, '--budget', '--quiet' or '--json'"
+            ),
+            UsageError::UntilFaultAsJson => {
+                write!(f, "error: '--until-fault' and '--json' exclude each other")
+            }
             UsageError::NoList(word) => write!(
                 f,
                 "error: '--files-from' takes '-', the standard input, not '{}'",
                 Escaped(word)
             ),
-            UsageError::NoTable(word) => write!(
+            UsageError::NoTable(word, nearest) => write!(
                 f,
-                "error: TABLE is a table, which 'clim show --help' lists, not '{}'",
-                Escaped(word)
+                "error: TABLE is a table, which 'clim show --help' lists, not '{}'{}",
+                Escaped(word),
+                Nearest::of_table(*nearest)
             ),
             UsageError::NoOffset(word) => write!(
                 f,
                 "error: OFFSET is a number, decimal or hexadecimal after '0x', not '{}'",
                 Escaped(word)
             ),
-            UsageError::NoColumn(word) => write!(
+            UsageError::NoColumn(word, nearest) => write!(
                 f,
-                "error: no such column: '--ignore' takes a table and one of its columns, as 'Module.Mvid', not '{}'",
-                Escaped(word)
+                "error: no such column: '--ignore' takes a table and one of its columns, as 'Module.Mvid', not '{}'{}",
+                Escaped(word),
+                Nearest::of_column(*nearest)
             ),
         }
     }

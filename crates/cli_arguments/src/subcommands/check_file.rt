@@ -22,7 +22,8 @@ pub(crate) fn command<'a>(alloc: Global) -> Result<Command<'a>, AllocError>
         .arg(files_from(alloc))?
         .arg(null(alloc))?
         .arg(quiet(alloc))?
-        .arg(json(alloc))
+        .arg(json(alloc))?
+        .arg(locates(alloc))
 }
 
 /// `FILE..`, the paths of the files to read; none if they are listed.
@@ -84,6 +85,17 @@ fn quiet<'a>(alloc: Global) -> Arg<'a>
         .help("Print nothing about faults; only the exit status reports them")
 }
 
+/// `--where`, the flag to print what has the byte at the offset of a fault.
+fn locates<'a>(alloc: Global) -> Arg<'a>
+    ensures rule { rule_of result ≡ line.locates }
+    ensures local { result.global ≡ false }
+{
+    Arg::new(alloc, "where")
+        .long("where")
+        .action(ArgAction::SetTrue)
+        .help("Print what has the byte at the offset of the fault, and explain the fault")
+}
+
 const OUTPUT: &str = "\
 Prints 'ok' if FILE breaks no rule. Otherwise prints only the first fault, to standard error. The rules are
 those that 'clim explain' lists from 101 to 801, except 508 to 510. OFFSET is an offset in FILE. LAYER is one
@@ -96,7 +108,7 @@ of these, with the sections whose rules it checks:
   6  the order of rows, members and nested types (II.22)
   7  a signature (II.23.2)
   8  the entry point (II.25.3.3)
-'clim explain CODE' explains a fault. 'clim explain' lists all faults.
+'clim explain CODE' explains a fault. 'clim explain' lists all faults. '--where' also prints the row of a fault.
 
 Signature blobs may overlap, so the check of a FILE of a few kilobytes can take long. '--budget N' limits the
 number of signature bytes to check. A check that needs more ends with 'error: budget spent' and exit status 3.
@@ -112,6 +124,12 @@ checked is still reported to standard error.
 With '--json' a JSON object (RFC 8259) is printed on one line: '{\"ok\":true}' or the fault, such as
 '{\"layer\":1,\"code\":102,\"name\":\"DosHeader\",\"offset\":0}'. Then nothing goes to standard error, unless FILE cannot be
 read or checked. The exit status is the same. '--json' takes one FILE, and no list, '--budget' or '--quiet'.
+
+With '--where' all that is known of the fault goes to standard output: its line, then a line as by 'clim where' for
+each structure that has the byte at OFFSET, an empty line, and the text of 'clim explain'. Only what breaks no rule is
+taken apart: the headers of the PE file, then the CLI header, the metadata root and the table stream. So there is the
+line of a cell for layers 5 to 7, and no line of a structure for layer 1. The exit status is the same. '--where' takes
+one FILE, and no list, '--budget', '--quiet' or '--json'.
 
 Examples:
   $ clim check one_module.dll

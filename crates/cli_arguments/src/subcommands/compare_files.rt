@@ -4,7 +4,7 @@ ghost use Rattle.clap.specs.Words.{app_of, rule_of};
 ghost use Rattle.clap.specs.declared.Command.TheViews.{out-Command as fields_of};
 ghost use Rattle.cli_arguments.specs.CommandLine as line;
 
-use crate::subcommands::{reader, second};
+use crate::subcommands::{reporter, second};
 use clap::{Arg, ArgAction, Command};
 use std::alloc::{AllocError, Global};
 
@@ -13,7 +13,7 @@ pub(crate) fn command<'a>(alloc: Global) -> Result<Command<'a>, AllocError>
     ensures app { IfOk result (λ command. app_of command ≡ line.compare) }
     ensures local { IfOk result (λ command. (fields_of command).has_globals ≡ false) }
 {
-    reader(
+    reporter(
         alloc,
         "compare",
         "Compare the metadata of two files",
@@ -49,11 +49,18 @@ of the column (ECMA-335, II.22). The values are printed as by 'clim show'.
 times. Then 'equal' means: the same but for the cells of these columns. '--ignore Module.Mvid' compares two builds
 of the same source, whose module versions differ.
 
-FILE and OTHER are checked first, as by 'clim check'. If OTHER is refused, its name follows the fault.
-'--bare' is for both.
+With '--json' each line is a JSON object (RFC 8259): '{\"equal\":true}', or a 'difference', which is Version,
+UserStrings, RowCount with its 'table', or Cell with its 'token' and 'column'. The value of FILE is 'left' and that of
+OTHER is 'right', as 'clim show --json' prints cells. UserStrings have no values. A fault is printed to standard error
+as without it.
+
+FILE and OTHER are checked first, as by 'clim check'. If one is refused, its name follows the fault. '--bare' is for
+both.
 
 Examples:
   $ clim compare --bare one_module.root one_module.root
   equal
   $ clim compare --bare --ignore Module.Mvid --ignore Module.Name one_module.root one_module.root
-  equal";
+  equal
+  $ clim compare --json --bare one_module.root one_module.root
+  {\"equal\":true}";

@@ -42,4 +42,5 @@ Examples:
     counted from 1.
   - Section: II.24.2.5
   - Offset: The cell with the index.
-  - Usual cause: An index that counts bytes instead of entries.";
+  - Usual cause: An index that counts bytes instead of entries, a missing stream such as '#GUID' or
+    '#Strings', or a bit of Valid that was cleared.";

@@ -4,7 +4,7 @@ ghost use Rattle.clap.specs.Words.{app_of};
 ghost use Rattle.clap.specs.declared.Command.TheViews.{out-Command as fields_of};
 ghost use Rattle.cli_arguments.specs.CommandLine as line;
 
-use crate::subcommands::{part, reader};
+use crate::subcommands::{part, reporter};
 use clap::Command;
 use std::alloc::{AllocError, Global};
 
@@ -13,7 +13,7 @@ pub(crate) fn command<'a>(alloc: Global) -> Result<Command<'a>, AllocError>
     ensures app { IfOk result (λ command. app_of command ≡ line.outline) }
     ensures local { IfOk result (λ command. (fields_of command).has_globals ≡ false) }
 {
-    reader(
+    reporter(
         alloc,
         "outline",
         "Print the declarations of the assembly, or of one type, as ILAsm writes them",
@@ -32,12 +32,17 @@ row in a comment. First come the assembly, what it refers to, the module, files,
 types in the order of their rows, each with its fields, methods, events and properties, and accessors below these; then
 interfaces, generic parameters and their constraints, overrides, imports and custom attributes, table by table. Events,
 properties or accessors that are not in the order of what they belong to come after the types. Texts of FILE are
-escaped like the texts of 'clim show'. FILE is checked first, as by 'clim check'.
+escaped like the texts of 'clim show'. Of a name or signature of more than 65,536 bytes the first ones are printed, and
+'..'. FILE is checked first, as by 'clim check'.
 
 NAME is the full name of a type: its namespace, a dot and its name, or its name alone. It is divided at its last dot. A
 nested type has no namespace. If several types have the same names, the first one is printed. Eight hexadecimal digits
 that begin with 02 are a token instead. Then there are only the lines of that type, its fields, methods, events and
 properties. If FILE has no such type, 'no such type' goes to standard error, and the exit status is 1.
+
+With '--json' each line is a JSON object (RFC 8259) with the 'token' of the row, the 'directive' and the 'text' of the
+declaration. The directive is its first word, and the text is the line without spaces before it and without the comment.
+A field, method, event or property also has the token of its 'type'.
 
 Examples:
   $ clim outline --bare two_types.root

@@ -24,7 +24,7 @@ pub(crate) fn command<'a>(alloc: Global) -> Result<Command<'a>, AllocError>
 const OUTPUT: &str = "\
 There is a line 'TOKEN TEXT' for each entry of '#US' that has bytes (ECMA-335, II.24.2.4), in the order of their
 offsets. 'clim token' prints the entry that TOKEN names. The entries follow one another from offset 1, up to the
-end, to offset 1000000 in hexadecimal, or to bytes that are no user string. In TEXT, a backslash and a unit that
+end, to offset 0x1000000, or to bytes that are no user string. In TEXT, a backslash and a unit that
 is not printable ASCII become \\u and four hexadecimal digits. FILE is checked first, as by 'clim check'.
 
 Examples:

@@ -4,7 +4,7 @@ ghost use Rattle.clap.specs.Words.{app_of};
 ghost use Rattle.clap.specs.declared.Command.TheViews.{out-Command as fields_of};
 ghost use Rattle.cli_arguments.specs.CommandLine as line;
 
-use crate::subcommands::{reader, second};
+use crate::subcommands::{reporter, second};
 use clap::Command;
 use std::alloc::{AllocError, Global};
 
@@ -13,10 +13,10 @@ pub(crate) fn command<'a>(alloc: Global) -> Result<Command<'a>, AllocError>
     ensures app { IfOk result (λ command. app_of command ≡ line.where_is) }
     ensures local { IfOk result (λ command. (fields_of command).has_globals ≡ false) }
 {
-    reader(
+    reporter(
         alloc,
         "where",
-        "Print what has the byte at an offset: a header, a stream or a cell",
+        "Print what the byte at an offset belongs to: a header, a stream or a cell",
         OUTPUT,
     )?
     .arg(second(
@@ -36,6 +36,10 @@ from 1 and its name. A cell has its table, its row from 1, and its column from 0
 blob of a heap has the cell that names it; there are lines of the first ten cells (II.24.2.3 to II.24.2.5). A user
 string has its token. The names of streams and sections are escaped like the texts of 'clim show'. If no structure has
 the byte, the output is 'nothing', and the exit status is 1. FILE is checked first, as by 'clim check'.
+
+With '--json' each line is a JSON object (RFC 8259) with the 'offset', the 'size' and the 'structure' that has the byte.
+A 'cell' also has its 'table', 'row' and 'column'. A 'string', 'guid' or 'blob' has its 'stream' and those of the cell
+that names it, and a 'user string' its 'stream' and 'token'. If no structure has the byte, there is no line.
 
 Examples:
   $ clim where one_module.dll 0x208

@@ -1,11 +1,11 @@
 //! `clim show`: the rows of all tables, or of one.
 ghost use Rattle.std.specs.Prelude.{◌≡◌, IfOk, false};
-ghost use Rattle.clap.specs.Words.{app_of};
+ghost use Rattle.clap.specs.Words.{app_of, rule_of};
 ghost use Rattle.clap.specs.declared.Command.TheViews.{out-Command as fields_of};
 ghost use Rattle.cli_arguments.specs.CommandLine as line;
 
 use crate::subcommands::{part, reporter};
-use clap::Command;
+use clap::{Arg, ArgAction, Command};
 use std::alloc::{AllocError, Global};
 
 /// The arguments of the subcommand and its help.
@@ -23,7 +23,31 @@ pub(crate) fn command<'a>(alloc: Global) -> Result<Command<'a>, AllocError>
         alloc,
         "TABLE",
         "The table to print alone, by its name or number",
-    ))
+    ))?
+    .arg(names(alloc))?
+    .arg(until_fault(alloc))
+}
+
+/// `--names`, the flag to name columns.
+fn names<'a>(alloc: Global) -> Arg<'a>
+    ensures rule { rule_of result ≡ line.names }
+    ensures local { result.global ≡ false }
+{
+    Arg::new(alloc, "names")
+        .long("names")
+        .action(ArgAction::SetTrue)
+        .help("Print the name of each column before its cell")
+}
+
+/// `--until-fault`, the flag to print the rows of a broken file that come before its first broken rule.
+fn until_fault<'a>(alloc: Global) -> Arg<'a>
+    ensures rule { rule_of result ≡ line.until_fault }
+    ensures local { result.global ≡ false }
+{
+    Arg::new(alloc, "until-fault")
+        .long("until-fault")
+        .action(ArgAction::SetTrue)
+        .help("Print the rows before the first fault, too, and then the fault")
 }
 
 const OUTPUT: &str = "\
@@ -36,7 +60,7 @@ table in hexadecimal. Then there is a line for each row: its number and its cell
   +N    the row N where a run of members starts
   null  no GUID, or no row
   a decimal number, or the token of a row in eight hexadecimal digits
-FILE is checked first, as by 'clim check'.
+FILE is checked first, as by 'clim check'. If it breaks a rule, only the fault is printed.
 
 TABLE is the name or the number of a table. Then there is nothing if it has no rows. The tables are:
   00 Module          01 TypeRef         02 TypeDef         04 Field           06 MethodDef
@@ -48,6 +72,15 @@ TABLE is the name or the number of a table. Then there is nothing if it has no r
   24 AssemblyRefProcessor               25 AssemblyRefOS   26 File            27 ExportedType
   28 ManifestResource                   29 NestedClass     2A GenericParam    2B MethodSpec
   2C GenericParamConstraint
+
+With '--names' the line of a row begins with its token instead of its number, and each cell follows the name of its
+column and an equals sign. So a line says by itself which row it is: 'clim show --names FILE | grep TypeName=' finds
+rows that 'clim token' prints.
+
+With '--until-fault' the rows of a broken FILE before its first fault are printed, too. They come before the first row that breaks a
+rule for cells (layer 5 of 'clim check --help'). There are none if a rule of layers 1 to 4 is broken, and all rows are
+printed if only a later rule is. The blob of a broken signature is printed as it is. After the rows the fault goes to
+standard error, and the exit status is 1. '--until-fault' and '--json' exclude each other.
 
 With '--json' there is a line for each row: a JSON object (RFC 8259) with its 'table', 'row' and 'token', and then
 its cells by the names of their columns. A signature is an object with its bytes as 'blob' and its 'text' in the
@@ -61,6 +94,10 @@ Examples:
   table 04 Field 2
   1: 1 \"a\" <0608>
   2: 1 \"b\" <0608>
+  $ clim show --names --bare two_types.root Field
+  table 04 Field 2
+  04000001 Flags=1 Name=\"a\" Signature=<0608>
+  04000002 Flags=1 Name=\"b\" Signature=<0608>
   $ clim show --json --bare two_types.root 06
   {\"table\":\"MethodDef\",\"row\":1,\"token\":\"06000001\",\"RVA\":0,\"ImplFlags\":0,\"Flags\":6,\"Name\":\"M\",\
 \"Signature\":{\"blob\":\"000001\",\"text\":\"method void *()\"},\"ParamList\":1}";

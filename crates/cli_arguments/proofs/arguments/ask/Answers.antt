@@ -92,6 +92,15 @@ returns-clause-given c =
       quiet = flag_is _ (one_of (codes "quiet") rows) c.get_one-5.result c.eq-4.result c.eq-4.ensures
           (λ none. c.get_one-5.ensures.none (one_text-rows found (codes "quiet") ∙ none))
           (λ t is. c.get_one-5.ensures.value t (one_text-rows found (codes "quiet") ∙ is));
+      names = flag_is _ (one_of (codes "names") rows) c.get_one-6.result c.eq-5.result c.eq-5.ensures
+          (λ none. c.get_one-6.ensures.none (one_text-rows found (codes "names") ∙ none))
+          (λ t is. c.get_one-6.ensures.value t (one_text-rows found (codes "names") ∙ is));
+      until_fault = flag_is _ (one_of (codes "until-fault") rows) c.get_one-7.result c.eq-6.result c.eq-6.ensures
+          (λ none. c.get_one-7.ensures.none (one_text-rows found (codes "until-fault") ∙ none))
+          (λ t is. c.get_one-7.ensures.value t (one_text-rows found (codes "until-fault") ∙ is));
+      locates = flag_is _ (one_of (codes "where") rows) c.get_one-8.result c.eq-7.result c.eq-7.ensures
+          (λ none. c.get_one-8.ensures.none (one_text-rows found (codes "where") ∙ none))
+          (λ t is. c.get_one-8.ensures.value t (one_text-rows found (codes "where") ∙ is));
     }
 
 -- each value that the subcommand needs is there

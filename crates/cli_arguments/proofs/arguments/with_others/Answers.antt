@@ -1,5 +1,4 @@
 use Rattle.std.proofs.Common.{Ok, refl}
-use Rattle.clap.specs.Words.{app_of}
 use Rattle.cli_arguments.specs.CommandLine as line
 use Rattle.cli_arguments.proofs.Commands.{with_more}
 use Rattle.cli_arguments.proofs.arguments.with_others.Goals as goal

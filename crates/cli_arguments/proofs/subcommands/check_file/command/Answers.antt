@@ -16,7 +16,8 @@ returns-clause-app c =
     let with_list = c.in_ok-arg-4.ensures.shape c.files_from.ensures.local ∙ ap₂ with_rule with_budget c.files_from.ensures.rule in
     let with_null = c.in_ok-arg-5.ensures.shape c.null.ensures.local ∙ ap₂ with_rule with_list c.null.ensures.rule in
     let with_quiet = c.in_ok-arg-6.ensures.shape c.quiet.ensures.local ∙ ap₂ with_rule with_null c.quiet.ensures.rule in
-    adds_rule _ _ c.json.result _ c.arg-7.result with_quiet c.json.ensures.rule c.json.ensures.local c.arg-7.ensures
+    let with_json = c.in_ok-arg-7.ensures.shape c.json.ensures.local ∙ ap₂ with_rule with_quiet c.json.ensures.rule in
+    adds_rule _ _ c.locates.result _ c.arg-8.result with_json c.locates.ensures.rule c.locates.ensures.local c.arg-8.ensures
 
 pub returns-clause-local : goal.returns-clause-local
 returns-clause-local c =
@@ -27,4 +28,5 @@ returns-clause-local c =
     let with_list : (out-Command c.in_ok-arg-4.field-0).has_globals ≡ false = c.in_ok-arg-4.ensures.globals ∙ ap₂ ◌||◌ with_budget c.files_from.ensures.local in
     let with_null : (out-Command c.in_ok-arg-5.field-0).has_globals ≡ false = c.in_ok-arg-5.ensures.globals ∙ ap₂ ◌||◌ with_list c.null.ensures.local in
     let with_quiet : (out-Command c.in_ok-arg-6.field-0).has_globals ≡ false = c.in_ok-arg-6.ensures.globals ∙ ap₂ ◌||◌ with_null c.quiet.ensures.local in
-    stays_local _ c.json.result c.arg-7.result with_quiet c.json.ensures.local c.arg-7.ensures
+    let with_json : (out-Command c.in_ok-arg-7.field-0).has_globals ≡ false = c.in_ok-arg-7.ensures.globals ∙ ap₂ ◌||◌ with_quiet c.json.ensures.local in
+    stays_local _ c.locates.result c.arg-8.result with_json c.locates.ensures.local c.arg-8.ensures
