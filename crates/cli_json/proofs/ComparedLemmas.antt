@@ -10,7 +10,8 @@ use Rattle.metadata.specs.Metadata.{Metadata}
 use Rattle.comparison.specs.declared.difference.Difference.{Difference}
 use Rattle.comparison.specs.declared.difference.Difference.TheVariants.{Version, UserStrings, RowCount, Cell}
 use Rattle.comparison.specs.Differences.{IsThere}
-use Rattle.cli_reports.specs.Comparisons.{HasRows, column_name}
+use Rattle.cli_reports.specs.Columns.{column_name}
+use Rattle.cli_reports.specs.Comparisons.{HasRows}
 use Rattle.cli_json.specs.Compared.{cells_value, compared_json, counts_value, difference_value, equal_value, user_strings_value, versions_value}
 use Rattle.cli_json.specs.Texts.{difference_line, text_of}
 use Rattle.cli_json.specs.Values.{cell_value, line_of, own_token}

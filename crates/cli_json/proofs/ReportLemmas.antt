@@ -10,6 +10,7 @@ use Rattle.table_schema.specs.declared.table.TableId.TheVariants.{TypeDef}
 use Rattle.table_schema.specs.Tables.{tables}
 use Rattle.metadata.specs.Metadata.{Metadata, count_in}
 use Rattle.cli_reports.specs.declared.report.Report.TheVariants as report
+use Rattle.cli_reports.specs.declared.row_lines.Names.{Names}
 use Rattle.cli_reports.specs.Heads.{AreHeads}
 use Rattle.cli_reports.specs.Printed.{IsModelOf}
 use Rattle.cli_reports.specs.Sent.{Prints}
@@ -50,14 +51,14 @@ module _ {T E : Type 0} (result : Result T E) (before after : Option (List ℕ))
   check_printed prints is =
       shown is.0 (line_of check_value) (sym (append-nil (line_of check_value)) ∙ ap (λ vs. flat_map line_of vs) (sym is.1)) is.2 prints
 
-  pub show_printed : ((model : Metadata) → IsModelOf bare bytes model → Prints before after result (show_lines model))
-      → IsJsonText report.Show bare bytes text → Prints before after result text
-  show_printed prints is =
+  pub show_printed : (names : Names) → ((model : Metadata) → IsModelOf bare bytes model → Prints before after result (show_lines model))
+      → IsJsonText (report.Show names) bare bytes text → Prints before after result text
+  show_printed names prints is =
       shown is.0 (show_lines is.1.0) (tables_are is.1.0 tables ∙ ap (λ vs. flat_map line_of vs) (sym is.1.2)) is.2 (prints is.1.0 is.1.1)
 
-  pub table_printed : (table : TableId) → ((model : Metadata) → IsModelOf bare bytes model → Prints before after result (table_lines model table))
-      → IsJsonText (report.Table table) bare bytes text → Prints before after result text
-  table_printed table prints is =
+  pub table_printed : (table : TableId) (names : Names) → ((model : Metadata) → IsModelOf bare bytes model → Prints before after result (table_lines model table))
+      → IsJsonText (report.Table table names) bare bytes text → Prints before after result text
+  table_printed table names prints is =
       shown is.0 (table_lines is.1.0 table) (rows_are (row_value is.1.0 table) (count_in is.1.0 table) ∙ ap (λ vs. flat_map line_of vs) (sym is.1.2)) is.2
       (prints is.1.0 is.1.1)
 

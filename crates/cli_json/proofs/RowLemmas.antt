@@ -8,7 +8,7 @@ use Rattle.sig_grammar.specs.Syntax.{Body}
 use Rattle.sig_grammar.specs.Encodes.{short}
 use Rattle.metadata.specs.Cell.{Cell, Number}
 use Rattle.metadata.specs.Metadata.{Metadata, row_of}
-use Rattle.cli_reports.specs.Comparisons.{column_name}
+use Rattle.cli_reports.specs.Columns.{column_name}
 use Rattle.cli_reports.specs.Escaped.{escaped_bytes}
 use Rattle.cli_json.specs.Texts.{later_key, members_text, row_start, text_of}
 use Rattle.cli_json.specs.Values.{cell_members, cell_value, line_of, own_token, row_value, signature_text, signature_value}

@@ -6,7 +6,7 @@ use Rattle.table_schema.specs.declared.table.TableId.{TableId}
 use Rattle.table_schema.specs.declared.column.Column.{Column}
 use Rattle.table_schema.specs.Columns.{columns_of}
 use Rattle.table_schema.specs.CellColumns.{cell_columns, cell_count, indexes_from, is_padding}
-use Rattle.cli_reports.specs.Comparisons.{column_name}
+use Rattle.cli_reports.specs.Columns.{column_name}
 use Rattle.cli_json.specs.Texts.{cell_keys, later_key, row_head}
 
 few_indexes : (index : ℕ) (columns : List Column) → length (indexes_from index columns) ≤ length columns

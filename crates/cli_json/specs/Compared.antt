@@ -9,7 +9,7 @@ use Rattle.metadata.specs.Lookups.{HasRow}
 use Rattle.metadata.specs.Metadata.{Metadata, cell_in, count_in}
 use Rattle.comparison.specs.declared.difference.Difference.{Difference}
 use Rattle.comparison.specs.declared.difference.Difference.TheVariants.{Version, UserStrings, RowCount, Cell}
-use Rattle.cli_reports.specs.Comparisons.{column_name}
+use Rattle.cli_reports.specs.Columns.{column_name}
 use Rattle.cli_json.specs.Values.{cell_value, decimal_value, line_of, own_token}
 
 -- nothing differs

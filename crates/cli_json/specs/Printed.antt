@@ -14,8 +14,8 @@ use Rattle.cli_json.specs.Values.{IsTokenValue, check_value, heads_values, line_
 abbrev pub AreValues : Report → Bool → List ℕ → List Json → Type 0
 AreValues report.Root bare bytes values = (header : Option CliHeader) × (root : RootRead) × AreHeads bare bytes header root × (values ≡ heads_values header root)
 AreValues report.Check bare bytes values = values ≡ check_value ∷ []
-AreValues report.Show bare bytes values = (model : Metadata) × IsModelOf bare bytes model × (values ≡ show_values model)
-AreValues (report.Table table) bare bytes values = (model : Metadata) × IsModelOf bare bytes model × (values ≡ table_values model table)
+AreValues (report.Show names) bare bytes values = (model : Metadata) × IsModelOf bare bytes model × (values ≡ show_values model)
+AreValues (report.Table table names) bare bytes values = (model : Metadata) × IsModelOf bare bytes model × (values ≡ table_values model table)
 AreValues report.Types bare bytes values = (model : Metadata) × IsModelOf bare bytes model × (values ≡ types_values model)
 AreValues (report.Token number) bare bytes values =
     (model : Metadata) × IsModelOf bare bytes model × (value : Json) × IsTokenValue model number value × (values ≡ value ∷ [])

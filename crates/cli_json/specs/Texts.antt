@@ -15,7 +15,7 @@ use Rattle.table_schema.specs.Tokens.{hexadecimal}
 use Rattle.table_schema.specs.CellColumns.{cell_count}
 use Rattle.metadata.specs.Metadata.{Metadata, cell_in, count_in}
 use Rattle.comparison.specs.declared.difference.Difference.{Difference}
-use Rattle.cli_reports.specs.Comparisons.{column_name}
+use Rattle.cli_reports.specs.Columns.{column_name}
 use Rattle.cli_reports.specs.TypeTexts.{member_count}
 use Rattle.cli_reports.specs.TypeTexts as types
 use Rattle.cli_json.specs.Compared.{difference_value}

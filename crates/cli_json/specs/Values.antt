@@ -26,7 +26,7 @@ use Rattle.sig_text.specs.PieceText.{piece_text}
 use Rattle.metadata.specs.Cell.{Cell, Number, Text, Bytes, Guid, Ref, Start, Sig}
 use Rattle.metadata.specs.Lookups.{HasRow}
 use Rattle.metadata.specs.Metadata.{Metadata, row_of, cell_in, count_in}
-use Rattle.cli_reports.specs.Comparisons.{column_name}
+use Rattle.cli_reports.specs.Columns.{column_name}
 use Rattle.cli_reports.specs.Escaped.{escaped_bytes}
 use Rattle.cli_reports.specs.RowTexts.{line_feed}
 use Rattle.cli_reports.specs.TypeTexts.{member_count, text_of}

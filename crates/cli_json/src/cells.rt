@@ -34,8 +34,10 @@ fn push_guid(alloc: Global, guid: Option<[u8; 16]>, line: &mut Vec<u8>) -> Resul
     }
 }
 
-/// Appends the digits of a token as a text.
-pub(crate) fn push_token_string(token: Token, line: &mut Vec<u8>) -> Result<(), AllocError>
+/// Appends the eight hexadecimal digits of a token as a string.
+/// # Errors
+/// Out of memory.
+pub fn push_token_string(token: Token, line: &mut Vec<u8>) -> Result<(), AllocError>
     requires { token.row ≤ 0xFFFFFF }
     ensures { OnOk result (line.new.items ≡ line.old.items ++ quoted (token_text token)) }
 {

@@ -32,9 +32,7 @@ fn print_ok<W: Write>(out: &mut W) -> io::Result<()>
 
 /// Prints the line of a fault: `{"layer":5,"code":501,"name":"BadString","offset":2170594}`. The name is empty if no
 /// rule has this code. Its memory is that of the line.
-///
 /// # Errors
-///
 /// Out of memory, or the error of the writer. By then the writer has nothing or a prefix of the line.
 pub fn print_json_fault<W: Write>(alloc: Global, fault: Fault, out: &mut W) -> io::Result<()>
     ensures { Prints (W.contents out.old) (W.contents out.new) result (line_of (fault_value fault)) }

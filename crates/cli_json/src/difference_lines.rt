@@ -7,7 +7,8 @@ ghost use Rattle.metadata.specs.Model.{IsModel};
 ghost use Rattle.opening.specs.Views.{row_count, HasModel};
 ghost use Rattle.comparison.specs.Differences.{IsThere};
 ghost use Rattle.cli_faults.specs.Status.{IsOutput};
-ghost use Rattle.cli_reports.specs.Comparisons.{HasRows, column_name as name_of};
+ghost use Rattle.cli_reports.specs.Columns.{column_name as name_of};
+ghost use Rattle.cli_reports.specs.Comparisons.{HasRows};
 ghost use Rattle.cli_reports.specs.Sent.{Moves, Prints};
 ghost use Rattle.cli_json.specs.Compared.{cells_value, compared_json, counts_value, difference_value, versions_value};
 ghost use Rattle.cli_json.specs.Texts.{difference_line};
@@ -30,9 +31,7 @@ use std::io::{self, Write};
 /// {"difference":"RowCount","table":"MethodDef","left":5,"right":6}
 /// {"difference":"Cell","token":"02000001","column":"Flags","left":1048577,"right":1048576}
 /// ```
-///
 /// # Errors
-///
 /// Out of memory, or the output cannot be written. By then the writer has nothing or a prefix of the lines.
 pub fn print_comparison_json<W: Write>(
     alloc: Global,

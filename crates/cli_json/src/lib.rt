@@ -7,8 +7,6 @@
 //!
 //! ```text
 //! {"table":"TypeDef","row":2,"token":"02000002","Flags":1048577,"TypeName":"C","TypeNamespace":"N",..} // show, token
-//! {"token":"02000002","namespace":"N","name":"C","fields":2,"methods":1} // types
-//! {"ok":true} // check
 //! {"layer":5,"code":501,"name":"BadString","offset":2170594} // a fault
 //! ```
 #![tactic(auto)]
@@ -28,7 +26,9 @@ mod token;
 mod types;
 mod user_string;
 
+pub use cells::push_token_string;
 pub use check::print_json_fault;
 pub use difference_lines::print_comparison_json;
 pub use report::print_json;
+pub use texts::{push_escaped, push_string, push_word_string};
 pub use token::print_json_named;

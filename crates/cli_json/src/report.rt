@@ -12,9 +12,7 @@ use std::io::Write;
 
 /// Prints a report as JSON Lines, on the bytes of a metadata root if they are `bare`, else of a file. Nothing is printed
 /// before all rules that the report needs are checked.
-///
 /// # Errors
-///
 /// The fault of the first rule that fails; `NoSuchRow` if a token names nothing; out of memory, or the output cannot be
 /// written.
 pub fn print_json<W: Write>(
@@ -36,8 +34,8 @@ pub fn print_json<W: Write>(
     match report {
         Report::Root => root_lines::run(alloc, bytes, bare, out),
         Report::Check => check::run(bytes, bare, out),
-        Report::Show => show::run(alloc, bytes, bare, out),
-        Report::Table(table) => show::run_table(alloc, bytes, bare, table, out),
+        Report::Show(_names) => show::run(alloc, bytes, bare, out),
+        Report::Table(table, _names) => show::run_table(alloc, bytes, bare, table, out),
         Report::Types => types::run(alloc, bytes, bare, out),
         Report::Token(number) => token::run(alloc, bytes, bare, number, out),
     }

@@ -6,15 +6,13 @@ ghost use Rattle.root.specs.Views.{view};
 ghost use Rattle.cli_reports.specs.Heads.{AreHeads, HasHeads, rules_of_heads};
 ghost use Rattle.cli_reports.specs.Reported.{LeavesOutput, ReportsFault};
 ghost use Rattle.cli_reports.specs.Sent.{Moves, Prints};
-ghost use Rattle.json.specs.Print.{quoted};
-ghost use Rattle.table_schema.specs.Tokens.{hexadecimal};
 ghost use Rattle.cli_json.specs.Texts.{cli_start, header_lines, heads_lines, stream_line};
 ghost use Rattle.cli_json.specs.Values.{cli_value, line_of, version_value};
 
-use crate::texts::push_string;
+use crate::texts::{push_string, push_word_string};
 use cli_faults::{Failure, printed};
 use cli_header::CliHeader;
-use cli_reports::{finish, heads_of, push_decimal, push_word, send_full};
+use cli_reports::{finish, heads_of, push_decimal, send_full};
 use root::{Headers, Root, StreamHeader};
 use std::alloc::{AllocError, Global};
 use std::io::{self, Write};
@@ -60,15 +58,6 @@ fn push_header(header: &Option<CliHeader>, line: &mut Vec<u8>) -> Result<(), All
         Some(header) => push_cli_header(header, line),
         None => Ok(()),
     }
-}
-
-/// Appends eight hexadecimal digits as a text.
-fn push_word_string(number: u32, line: &mut Vec<u8>) -> Result<(), AllocError>
-    ensures { OnOk result (line.new.items ≡ line.old.items ++ quoted (hexadecimal 8 number)) }
-{
-    line.push(b'"')?;
-    push_word(number, line)?;
-    Ok(line.push(b'"')?)
 }
 
 /// Appends the members of a CLI header before the one of the root: its version, its flags and its entry point.

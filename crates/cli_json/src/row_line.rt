@@ -4,7 +4,7 @@ ghost use Rattle.opening.specs.Views.{row_count, HasModel};
 ghost use Rattle.table_schema.specs.CellColumns.{cell_count};
 ghost use Rattle.metadata.specs.Metadata.{Metadata, row_of, cell_in};
 ghost use Rattle.metadata.specs.Model.{IsModel};
-ghost use Rattle.cli_reports.specs.Comparisons.{column_name as name_of};
+ghost use Rattle.cli_reports.specs.Columns.{column_name as name_of};
 ghost use Rattle.cli_json.specs.Texts.{later_key, members_text, row_start, text_of};
 ghost use Rattle.cli_json.specs.Values.{cell_members, cell_value, line_of, row_value};
 

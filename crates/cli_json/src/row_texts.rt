@@ -1,7 +1,7 @@
 //! The texts of a row that follow from its table alone.
 ghost use Rattle.std.specs.Prelude.{◌≡◌, ◌<◌, ◌∷◌, map};
 ghost use Rattle.table_schema.specs.CellColumns.{cell_count};
-ghost use Rattle.cli_reports.specs.Comparisons.{column_name};
+ghost use Rattle.cli_reports.specs.Columns.{column_name};
 ghost use Rattle.cli_json.specs.Texts.{cell_keys, later_key, row_head};
 
 use table_schema::TableId;

@@ -3,10 +3,10 @@ ghost use Rattle.std.specs.Prelude.{◌≡◌, ◌++◌, ◌∷◌, ◌<◌, ◌
 ghost use Rattle.std.specs.Char.{digit_char};
 ghost use Rattle.json.specs.Print.{escape, escape_byte, escape_letter, quoted};
 ghost use Rattle.json.specs.Run.{is_plain};
-ghost use Rattle.table_schema.specs.Tokens.{token_text};
+ghost use Rattle.table_schema.specs.Tokens.{hexadecimal};
 ghost use Rattle.cli_reports.specs.Escaped.{escaped_bytes};
 
-use cli_reports::push_hexadecimal;
+use cli_reports::{push_hexadecimal, push_word};
 use std::alloc::AllocError;
 
 /// Whether a byte stands for itself in a string (RFC 8259, section 7): it is no quote, backslash or control character.
@@ -53,8 +53,11 @@ fn push_byte(byte: u8, line: &mut Vec<u8>) -> Result<(), AllocError>
     }
 }
 
-/// Appends the content of a string: a quote, a backslash and a control character escaped, any other byte as it is.
-pub(crate) fn push_escaped(text: &[u8], line: &mut Vec<u8>) -> Result<(), AllocError>
+/// Appends the content of a string: a quote, a backslash and a control character escaped, any other byte as it is (RFC
+/// 8259, section 7).
+/// # Errors
+/// Out of memory.
+pub fn push_escaped(text: &[u8], line: &mut Vec<u8>) -> Result<(), AllocError>
     ensures { OnOk result (line.new.items ≡ line.old.items ++ escape text.now) }
 {
     if are_plain(text) {
@@ -66,8 +69,10 @@ pub(crate) fn push_escaped(text: &[u8], line: &mut Vec<u8>) -> Result<(), AllocE
     Ok(())
 }
 
-/// Appends a string.
-pub(crate) fn push_string(text: &str, line: &mut Vec<u8>) -> Result<(), AllocError>
+/// Appends a string, with its quotes.
+/// # Errors
+/// Out of memory.
+pub fn push_string(text: &str, line: &mut Vec<u8>) -> Result<(), AllocError>
     ensures { OnOk result (line.new.items ≡ line.old.items ++ quoted text.now) }
 {
     line.push(b'"')?;
@@ -81,5 +86,16 @@ pub(crate) fn push_hexadecimal_string(bytes: &[u8], line: &mut Vec<u8>) -> Resul
 {
     line.push(b'"')?;
     push_hexadecimal(bytes, line)?;
+    Ok(line.push(b'"')?)
+}
+
+/// Appends a number as a string of eight lower-case hexadecimal digits.
+/// # Errors
+/// Out of memory.
+pub fn push_word_string(number: u32, line: &mut Vec<u8>) -> Result<(), AllocError>
+    ensures { OnOk result (line.new.items ≡ line.old.items ++ quoted (hexadecimal 8 number)) }
+{
+    line.push(b'"')?;
+    push_word(number, line)?;
     Ok(line.push(b'"')?)
 }

@@ -45,9 +45,7 @@ pub(crate) fn run<W: Write>(
 }
 
 /// Prints the row or the user string that a token names in a view as a JSON value.
-///
 /// # Errors
-///
 /// `NoSuchRow` if it names nothing; out of memory, or the output cannot be written.
 #[tactic(auto, using(crate::proofs::Tokens::string_named, crate::proofs::Tokens::string_unnamed, crate::proofs::Tokens::row_named, crate::proofs::Tokens::output_unnamed, crate::proofs::Tokens::none_named))]
 pub fn print_json_named<W: Write>(

@@ -8,7 +8,8 @@ use Rattle.comparison.specs.declared.difference.Difference.{Difference}
 use Rattle.comparison.specs.declared.difference.Difference.TheVariants.{Version, UserStrings, RowCount, Cell}
 use Rattle.comparison.specs.Differences.{IsThere}
 use Rattle.cli_faults.specs.Escaped.{escaped_text}
-use Rattle.cli_reports.specs.Comparisons.{HasRows, column_name, compared_text, difference_text, label_text, value_text}
+use Rattle.cli_reports.specs.Columns.{column_name}
+use Rattle.cli_reports.specs.Comparisons.{HasRows, compared_text, difference_text, label_text, value_text}
 use Rattle.cli_reports.specs.RowTexts.{cell_text, line_feed}
 use Rattle.cli_reports.proofs.LineLemmas.{four_joined, three_joined}
 

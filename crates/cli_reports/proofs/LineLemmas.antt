@@ -80,3 +80,11 @@ pub thirteen_joined : (line a b c d e f g h i j k l m : List ℕ)
 thirteen_joined line a b c d e f g h i j k l m =
     ap (λ xs. (((((xs ++ h) ++ i) ++ j) ++ k) ++ l) ++ m) (seven_joined line a b c d e f g)
     ∙ seven_joined line (a ++ b ++ c ++ d ++ e ++ f ++ g) h i j k l m
+
+-- a cell after a space and its label
+pub cell_joined : (line space label value : List ℕ) → ((line ++ space) ++ label) ++ value ≡ line ++ (space ++ (label ++ value))
+cell_joined line space label value = simp append_assoc
+
+-- a row: its label, its cells and the line feed
+pub row_joined : (line label cells end : List ℕ) → ((line ++ label) ++ cells) ++ end ≡ line ++ ((label ++ cells) ++ end)
+row_joined line label cells end = simp append_assoc

@@ -7,12 +7,24 @@ use Rattle.std.proofs.lemmas.List.{take-append-drop}
 use Rattle.table_schema.specs.declared.table.TableId.{TableId}
 use Rattle.metadata.specs.Metadata.{Metadata, count_in, row_of}
 use Rattle.cli_reports.specs.RowTexts.{heading_text, row_text, rows_text, table_text}
+use Rattle.cli_reports.specs.declared.row_lines.Names.{Names}
 use Rattle.cli_reports.specs.Sent.{SendsPrefix}
 use Rattle.cli_reports.proofs.SentLemmas.{prefix_longer}
 
 range_last : (a n j : ℕ) → a + n ≡ j → range_with_len a (suc n) ≡ range_with_len a n ++ j ∷ []
 range_last a zero j e = let same : a ≡ j = omega arith in ap (λ (k : ℕ). k ∷ []) same
 range_last a (suc n) j e = ap (λ xs. a ∷ xs) (range_last (a + 1) n j (omega arith))
+
+-- one more of the cells of a row
+pub cells_more : (f : ℕ → List ℕ) (line : List ℕ) (n : ℕ)
+    → (line ++ flat_map f (range_with_len 0 n)) ++ f n ≡ line ++ flat_map f (range_with_len 0 (n + 1))
+cells_more f line n =
+    let next : suc n ≡ n + 1 = omega arith in
+    append_assoc line (flat_map f (range_with_len 0 n)) (f n)
+    ∙ ap (λ xs. line ++ (flat_map f (range_with_len 0 n) ++ xs)) (sym (append-nil (f n)))
+    ∙ ap (λ xs. line ++ xs) (sym (flat_map-append f (range_with_len 0 n) (n ∷ [])))
+    ∙ ap (λ xs. line ++ flat_map f xs) (sym (range_last 0 n n (omega arith)))
+    ∙ ap (λ m. line ++ flat_map f (range_with_len 0 m)) next
 
 -- the lines of the first rows of a table
 abbrev pub first_lines : (ℕ → List ℕ) → ℕ → List ℕ
@@ -48,29 +60,29 @@ module _ (f : ℕ → List ℕ) where
       (append_assoc line (first_lines f n) later.0 ∙ ap (λ xs. line ++ xs) (sym later.1) ∙ ap (λ m. line ++ first_lines f m) is)
       (prefix_longer before after (line ++ first_lines f n) later.0 cut)
 
-module _ (model : Metadata) (table : TableId) where
-  pub no_rows : rows_text model table 0 ≡ []
+module _ (names : Names) (model : Metadata) (table : TableId) where
+  pub no_rows : rows_text names model table 0 ≡ []
   unfolding rows_text
   no_rows = refl
 
-  pub rows_more : (line : List ℕ) (n : ℕ) → (line ++ rows_text model table n) ++ row_text (n + 1) (row_of model table (n + 1)) ≡ line ++ rows_text model table (n + 1)
+  pub rows_more : (line : List ℕ) (n : ℕ) → (line ++ rows_text names model table n) ++ row_text names table (n + 1) (row_of model table (n + 1)) ≡ line ++ rows_text names model table (n + 1)
   unfolding rows_text
-  rows_more line n = lines_more (λ row. row_text row (row_of model table row)) line n
+  rows_more line n = lines_more (λ row. row_text names table row (row_of model table row)) line n
 
   pub rows_cut : (before after : Option (List ℕ)) (line : List ℕ) (n more count : ℕ) → n + more ≡ count
-      → SendsPrefix before after (line ++ rows_text model table n) → SendsPrefix before after (line ++ rows_text model table count)
+      → SendsPrefix before after (line ++ rows_text names model table n) → SendsPrefix before after (line ++ rows_text names model table count)
   unfolding rows_text
-  rows_cut before after line n more count is cut = lines_cut (λ row. row_text row (row_of model table row)) before after line n more count is cut
+  rows_cut before after line n more count is cut = lines_cut (λ row. row_text names table row (row_of model table row)) before after line n more count is cut
 
-  pub empty_table : count_in model table ≡ 0 → table_text model table ≡ []
+  pub empty_table : count_in model table ≡ 0 → table_text names model table ≡ []
   unfolding table_text
   empty_table none =
-      ap (λ t. cond t [] (heading_text table (count_in model table) ++ rows_text model table (count_in model table))) (eq-eqb (count_in model table) 0 none)
+      ap (λ t. cond t [] (heading_text table (count_in model table) ++ rows_text names model table (count_in model table))) (eq-eqb (count_in model table) 0 none)
 
-  pub full_table : count_in model table ≢ 0 → table_text model table ≡ heading_text table (count_in model table) ++ rows_text model table (count_in model table)
+  pub full_table : count_in model table ≢ 0 → table_text names model table ≡ heading_text table (count_in model table) ++ rows_text names model table (count_in model table)
   unfolding table_text
   full_table some =
-      ap (λ t. cond t [] (heading_text table (count_in model table) ++ rows_text model table (count_in model table))) (ne_eqb (count_in model table) 0 some)
+      ap (λ t. cond t [] (heading_text table (count_in model table) ++ rows_text names model table (count_in model table))) (ne_eqb (count_in model table) 0 some)
 
 -- all items, after the first ones
 pub items_cut : {X : Type 0} (f : X → List ℕ) (xs : List X) (before after : Option (List ℕ)) (n : ℕ) → SendsPrefix before after (flat_map f (take n xs))

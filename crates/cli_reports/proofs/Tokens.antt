@@ -15,6 +15,7 @@ use Rattle.cli_faults.specs.Status.{IsOutput}
 use Rattle.cli_reports.specs.Reported.{HasString, IsMet, IsNamed, ReportsNone, ReportsNoString, ReportsUnnamed}
 use Rattle.cli_reports.specs.Named.{HasTokenRow}
 use Rattle.cli_reports.specs.RowTexts.{row_text}
+use Rattle.cli_reports.specs.declared.row_lines.Names.TheVariants.{Hidden}
 use Rattle.cli_reports.specs.Sent.{Prints}
 use Rattle.cli_reports.specs.TokenTexts.{IsRowText, IsStringText, IsTokenText, user_text}
 use Rattle.cli_reports.proofs.SentLemmas.{same_printed}
@@ -97,11 +98,11 @@ text_of_string model number text is named = elim named [ inl at ↦ at.1 | inr a
 
 -- the text of any other number is that of the row that its token names
 pub text_of_row : (model : Metadata) (number : ℕ) (text : List ℕ) (token : Token) → number / 16777216 ≢ 112 → ((found : Token) → IsToken number found → found ≡ token)
-    → IsTokenText model number text → row_text token.row (row_of model token.table token.row) ≡ text
+    → IsTokenText model number text → row_text Hidden token.table token.row (row_of model token.table token.row) ≡ text
 text_of_row model number text token other one named =
     elim named [
       | inl at ↦ absurd (other at.0)
-      | inr at ↦ sym (at.1.3 ∙ ap (λ t. row_text t.row (row_of model t.table t.row)) (one at.1.0 at.1.1))
+      | inr at ↦ sym (at.1.3 ∙ ap (λ t. row_text Hidden t.table t.row (row_of model t.table t.row)) (one at.1.0 at.1.1))
     ]
 
 -- the user string that was found is the one at the offset

@@ -1,24 +1,18 @@
 -- What `clim compare` prints of two models (ECMA-335 II.22 and II.24.2).
-use Rattle.std.specs.Prelude.{◌≤◌, ◌<◌, ℕ, List, [], ◌∷◌, ◌++◌, codes, decimal, length, slice_index_or}
+use Rattle.std.specs.Prelude.{◌≤◌, ◌<◌, ℕ, List, [], ◌∷◌, ◌++◌, codes, decimal, length}
 use Rattle.std.specs.List.{flat_map}
-use Rattle.schema.specs.ColumnNames.{column_names_of}
 use Rattle.table_schema.specs.declared.table.TableId.{TableId}
-use Rattle.table_schema.specs.CellColumns.{cell_count, column_of}
+use Rattle.table_schema.specs.CellColumns.{cell_count}
 use Rattle.table_schema.specs.Tables.{table_number, table_name}
 use Rattle.table_schema.specs.Tokens.{token_text}
 use Rattle.metadata.specs.Metadata.{Metadata, cell_in, count_in}
 use Rattle.opening.specs.Views.{row_count}
 use Rattle.comparison.specs.declared.difference.Difference.{Difference}
 use Rattle.comparison.specs.declared.difference.Difference.TheVariants.{Version, UserStrings, RowCount, Cell}
-use Rattle.comparison.specs.Differences.{first_differences_but}
-use Rattle.comparison.specs.declared.ignored.IgnoredColumns.{IgnoredColumns}
 use Rattle.cli_faults.specs.Escaped.{escaped_text}
+use Rattle.cli_reports.specs.Columns.{column_name}
 use Rattle.cli_reports.specs.Escaped.{upper_hexadecimal}
 use Rattle.cli_reports.specs.RowTexts.{cell_text, line_feed}
-
--- the name of a cell's column
-abbrev pub column_name : TableId → ℕ → List ℕ
-column_name table cell_index = slice_index_or (column_names_of table) (column_of table cell_index) []
 
 -- what differs: the version, the user strings, the rows of a table by its number and name, or a cell by its row's token
 -- and its column's name
@@ -44,11 +38,6 @@ difference_text left right difference =
 abbrev pub compared_text : Metadata → Metadata → List Difference → List ℕ
 compared_text left right [] = codes "equal" ++ line_feed
 compared_text left right (difference ∷ differences) = flat_map (difference_text left right) (difference ∷ differences)
-
--- what `clim compare` prints: `equal`, or the first of the version, the user strings and the row counts that differs, and
--- the first 20 cells that differ and whose columns are not ignored
-unfoldable pub compare_text : IgnoredColumns → Metadata → Metadata → List ℕ
-compare_text ignored left right = compared_text left right (first_differences_but ignored left right 20)
 
 -- a cell of the root, if a cell differs (II.24.2.6)
 abbrev pub HasRows : List ℕ → Difference → Type 0

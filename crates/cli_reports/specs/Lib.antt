@@ -1,4 +1,5 @@
 pub mod Escaped
+pub mod Columns
 pub mod Named
 pub mod Checked
 pub mod Heads
@@ -10,5 +11,4 @@ pub mod Sent
 pub mod Values
 pub mod Reported
 pub mod Printed
-pub mod Stops
 pub mod Comparisons

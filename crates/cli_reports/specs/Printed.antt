@@ -25,7 +25,7 @@ check_text = codes "ok" ++ line_feed
 abbrev pub IsReportText : Report → Bool → List ℕ → List ℕ → Type 0
 IsReportText report.Root bare bytes text = (header : Option CliHeader) × (root : RootRead) × AreHeads bare bytes header root × (text ≡ heads_text header root)
 IsReportText report.Check bare bytes text = text ≡ check_text
-IsReportText report.Show bare bytes text = (model : Metadata) × IsModelOf bare bytes model × (text ≡ show_text model)
-IsReportText (report.Table table) bare bytes text = (model : Metadata) × IsModelOf bare bytes model × (text ≡ table_text model table)
+IsReportText (report.Show names) bare bytes text = (model : Metadata) × IsModelOf bare bytes model × (text ≡ show_text names model)
+IsReportText (report.Table table names) bare bytes text = (model : Metadata) × IsModelOf bare bytes model × (text ≡ table_text names model table)
 IsReportText report.Types bare bytes text = (model : Metadata) × IsModelOf bare bytes model × (text ≡ types_text model)
 IsReportText (report.Token number) bare bytes text = (model : Metadata) × IsModelOf bare bytes model × IsTokenText model number text

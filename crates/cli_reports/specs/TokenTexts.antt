@@ -8,6 +8,7 @@ use Rattle.metadata.specs.Lookups.{HasRow}
 use Rattle.metadata.specs.Metadata.{Metadata, row_of}
 use Rattle.cli_faults.specs.Escaped.{escaped_unit}
 use Rattle.cli_reports.specs.RowTexts.{line_feed, row_text}
+use Rattle.cli_reports.specs.declared.row_lines.Names.TheVariants.{Hidden}
 
 -- units after a space, escaped, and a flag after a space; nothing without a flag
 abbrev pub flagged : List ℕ → Option ℕ → List ℕ
@@ -25,7 +26,7 @@ IsStringText model offset text = (string : UserText) × IsUserString model.user 
 -- the line of the row that a number is the token of, as in `clim show`
 abbrev pub IsRowText : Metadata → ℕ → List ℕ → Type 0
 IsRowText model number text =
-    (token : Token) × IsToken number token × HasRow model token.table token.row × (text ≡ row_text token.row (row_of model token.table token.row))
+    (token : Token) × IsToken number token × HasRow model token.table token.row × (text ≡ row_text Hidden token.table token.row (row_of model token.table token.row))
 
 -- what `clim token` prints of a number: a user string if its high byte is 0x70, else a row
 abbrev pub IsTokenText : Metadata → ℕ → List ℕ → Type 0

@@ -8,7 +8,8 @@ ghost use Rattle.metadata.specs.Model.{IsModel};
 ghost use Rattle.comparison.specs.declared.difference.Difference.TheVariants.{RowCount};
 ghost use Rattle.comparison.specs.Differences.{IsThere};
 ghost use Rattle.cli_faults.specs.Status.{IsOutput};
-ghost use Rattle.cli_reports.specs.Comparisons.{HasRows, column_name, compared_text, difference_text, label_text, value_text};
+ghost use Rattle.cli_reports.specs.Columns.{column_name};
+ghost use Rattle.cli_reports.specs.Comparisons.{HasRows, compared_text, difference_text, label_text, value_text};
 ghost use Rattle.cli_reports.specs.Sent.{Moves, Prints};
 
 use crate::line::{push_decimal, push_escaped, push_upper_hexadecimal};
@@ -25,9 +26,7 @@ use table_schema::column_of_cell;
 /// Prints what differs between two views, as `comparison::differences` found it: a line `WHAT: A | B` for each, and `equal` if there
 /// is none. WHAT is `version`, `user strings`, `rows NN NAME`, or the token of a row and the name of a column. A cell is
 /// printed as by `clim show`. Its memory is that of the longest line, and of the lines that wait to be sent.
-///
 /// # Errors
-///
 /// Out of memory, or the output cannot be written. By then the writer has nothing or a prefix of the lines.
 pub fn print_comparison<W: Write>(
     alloc: Global,
@@ -64,9 +63,7 @@ fn print<W: Write>(
 
 /// Prints the lines of what differs between two views, each `WHAT: A | B`.
 /// Its memory is that of the longest line, and of the lines that wait to be sent.
-///
 /// # Errors
-///
 /// Out of memory, or the error of the writer. By then the writer has nothing or a prefix of the lines.
 fn print_differences<W: Write>(
     alloc: Global,

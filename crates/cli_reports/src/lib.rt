@@ -7,7 +7,7 @@
 //!
 //! ```text
 //! print_report(rt.alloc(), Report::Types, false, &file, &mut out)?; // a line for each type of a file
-//! check_within(rt.alloc(), &root, true, 1 << 20, &mut out)?; // checks at most 2^20 bytes of signatures
+//! print_report(rt.alloc(), Report::Check, true, &root, &mut out)?; // `ok`, if the root breaks no rule
 //! ```
 #![tactic(auto)]
 
@@ -25,14 +25,15 @@ pub mod table_lines;
 pub mod type_lines;
 mod user_string_line;
 
-pub use check_file::check_within;
 pub use compare_lines::{column_name, print_comparison};
 pub use existing::existing_row;
 pub use line::{push_decimal, push_escaped, push_hexadecimal, push_upper_hexadecimal, push_word};
-pub use opened::{open, open_within};
+pub use opened::open;
 pub use print_root::heads_of;
 pub use print_token::{padded_copy, print_named};
-pub use report::{Report, print_report};
-pub use row_lines::{kind_of, push_token, push_value, shortest};
+pub use report::{Form, Report, print_report};
+pub use row_lines::{
+    Names, kind_of, push_cell_label, push_row_label, push_token, push_value, shortest,
+};
 pub use sending::{FULL, finish, send_full};
 pub use user_string_line::print_units;

@@ -1,14 +1,13 @@
 //! Opens the bytes that were read.
-ghost use Rattle.std.specs.Prelude.{◌<◌, ◌≤◌, IfOk, IfErr, IsErrOf, IsOk};
-ghost use Rattle.cli_reports.specs.Checked.{IsWhole, IsOpened, rules_of, signature_bytes_of};
+ghost use Rattle.std.specs.Prelude.{IfOk, IfErr, IsOk};
+ghost use Rattle.cli_reports.specs.Checked.{IsWhole, IsOpened, rules_of};
 ghost use Rattle.cli_reports.specs.Printed.{IsModelOf};
 ghost use Rattle.metadata.specs.Metadata.{Metadata};
 ghost use Rattle.metadata.specs.Model.{IsModel};
 ghost use Rattle.opening.specs.Views.{HasModel};
-ghost use Rattle.opening.specs.Within.{HoldBeforeSignatures, ReportsFirst};
 ghost use Rattle.packed.specs.Rule.{FirstBroken};
 
-use opening::{BoundedError, View, open_image, open_image_within, open_root, open_root_within};
+use opening::{View, open_image, open_root};
 use packed::Fault;
 
 /// Opens the metadata of a file, or of a metadata root if the bytes are `bare`. It does not allocate.
@@ -29,24 +28,5 @@ pub fn open(bytes: &[u8], bare: bool) -> Result<View<'_>, Fault>
         return open_root(bytes);
     }
     let (_, view) = open_image(bytes)?;
-    Ok(view)
-}
-
-/// The same, but at most `budget` bytes of signature blobs (II.23.2) are checked.
-///
-/// # Errors
-///
-/// The fault of the first rule that fails, or `BudgetSpent` if more bytes must be checked.
-pub fn open_within(bytes: &[u8], bare: bool, budget: u64) -> Result<View<'_>, BoundedError>
-    ensures sound { IfOk result (λ _. IsWhole bare bytes.now) }
-    ensures complete { IsWhole bare bytes.now → signature_bytes_of bare bytes.now ≤ budget → IsOk result }
-    ensures first_error { IfErr result (ReportsFirst (rules_of bare bytes.now)) }
-    ensures spent { IsErrOf result BoundedError.BudgetSpent → budget < signature_bytes_of bare bytes.now }
-    ensures before { IsErrOf result BoundedError.BudgetSpent → HoldBeforeSignatures (rules_of bare bytes.now) }
-{
-    if bare {
-        return open_root_within(bytes, budget);
-    }
-    let (_, view) = open_image_within(bytes, budget)?;
     Ok(view)
 }

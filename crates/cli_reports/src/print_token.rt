@@ -10,10 +10,11 @@ ghost use Rattle.cli_reports.specs.RowTexts.{row_text};
 ghost use Rattle.cli_reports.specs.Sent.{Prints};
 ghost use Rattle.cli_reports.specs.TokenTexts.{IsStringText, IsTokenText};
 ghost use Rattle.cli_reports.specs.declared.report.Report.TheVariants as report;
+ghost use Rattle.cli_reports.specs.declared.row_lines.Names.TheVariants.{Hidden};
 
 use crate::existing::existing_row;
 use crate::opened::open;
-use crate::row_lines::push_row;
+use crate::row_lines::{Names, push_row};
 use crate::sending::finish;
 use crate::user_string_line::print_user_string;
 use cli_faults::{Failure, printed};
@@ -78,11 +79,18 @@ fn print<W: Write>(alloc: Global, view: &View<'_>, token: Token, out: &mut W) ->
     requires first { 1 ≤ token.row }
     requires last { token.row ≤ row_count view.now token.table }
     ensures { (model : Metadata) → IsModel view.now model
-        → Prints (W.contents out.old) (W.contents out.new) result (row_text token.row (row_of model token.table token.row)) }
+        → Prints (W.contents out.old) (W.contents out.new) result (row_text Hidden token.table token.row (row_of model token.table token.row)) }
 {
     let mut line = Vec::new(alloc);
     let mut cells = CellCursor::new(view);
-    push_row(alloc, &mut cells, token.table, token.row, &mut line)?;
+    push_row(
+        alloc,
+        Names::Hidden,
+        &mut cells,
+        token.table,
+        token.row,
+        &mut line,
+    )?;
     finish(&line, out)
 }
 

@@ -4,6 +4,7 @@ ghost use Rattle.cli_reports.specs.Printed.{IsReportText};
 ghost use Rattle.cli_reports.specs.Reported.{IsMet, LeavesOutput, Reports};
 ghost use Rattle.cli_reports.specs.Sent.{Prints};
 
+use crate::row_lines::Names;
 use crate::{check_file, print_root, print_token, table_lines, type_lines};
 use cli_faults::Failure;
 use opening::TableId;
@@ -18,13 +19,22 @@ pub enum Report {
     /// `ok`, if no rule is broken.
     Check,
     /// The rows of all tables (II.22).
-    Show,
+    Show(Names),
     /// The rows of a table.
-    Table(TableId),
+    Table(TableId, Names),
     /// The types, one per line (II.22.37).
     Types,
     /// The row or the user string that this token names.
     Token(u32),
+}
+
+/// The form in which a report is printed.
+#[derive(Clone, Copy, Debug, PartialEq, Eq)]
+pub enum Form {
+    /// Lines of text.
+    Text,
+    /// A JSON value on each line (RFC 8259).
+    JsonLines,
 }
 
 /// Prints a report on the bytes of a metadata root if they are `bare`, else of a file. Nothing is printed before all
@@ -53,8 +63,10 @@ pub fn print_report<W: Write>(
     match report {
         Report::Root => print_root::run(alloc, bytes, bare, out),
         Report::Check => check_file::run(bytes, bare, out),
-        Report::Show => table_lines::run(alloc, bytes, bare, out),
-        Report::Table(table) => table_lines::run_table(alloc, bytes, bare, table, out),
+        Report::Show(names) => table_lines::run(alloc, names, bytes, bare, TableId::all(), out),
+        Report::Table(table, names) => {
+            table_lines::run(alloc, names, bytes, bare, &[table], out)
+        }
         Report::Types => type_lines::run(alloc, bytes, bare, out),
         Report::Token(number) => print_token::run(alloc, bytes, bare, number, out),
     }

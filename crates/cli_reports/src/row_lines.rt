@@ -10,9 +10,10 @@ ghost use Rattle.metadata.specs.Cell.{Cell};
 ghost use Rattle.metadata.specs.Metadata.{Metadata, row_of, cell_in};
 ghost use Rattle.metadata.specs.Model.{IsModel};
 ghost use Rattle.reading.specs.Shown.{Shows};
-ghost use Rattle.cli_reports.specs.RowTexts.{bracketed, cell_text, guid_or_null, quoted, row_text, token_or_null};
+ghost use Rattle.cli_reports.specs.RowTexts.{bracketed, cell_label, cell_text, guid_or_null, quoted, row_label, row_text, token_or_null};
 ghost use Rattle.cli_reports.specs.Values.{IsOfModel};
 
+use crate::compare_lines::column_name;
 use crate::line::{push_decimal, push_escaped, push_hexadecimal};
 use heap_entries::guid_text;
 use opening::{CellCursor, CellRef, TableId, Token};
@@ -174,7 +175,59 @@ pub(crate) fn push_cell(
     push_value(alloc, kind, value, line)
 }
 
-/// Appends the line of a row: its number, a colon, and after a space each cell of the view's model.
+/// Whether columns are named in the line of a row.
+#[derive(Clone, Copy, Debug, PartialEq, Eq)]
+pub enum Names {
+    /// The line begins with the number of the row and a colon, and a cell is its value alone.
+    Hidden,
+    /// The line begins with the token of the row, and a cell with the name of its column and an equals sign.
+    Shown,
+}
+
+/// Appends what a row begins with: its number and a colon, or its token.
+/// # Errors
+/// Out of memory.
+pub fn push_row_label(
+    names: Names,
+    table: TableId,
+    row: u32,
+    line: &mut Vec<u8>,
+) -> Result<(), AllocError>
+    requires { row ≤ 0xFFFFFF }
+    ensures { OnOk result (line.new.items ≡ line.old.items ++ row_label names table row) }
+{
+    match names {
+        Names::Hidden => {
+            push_decimal(u64::from(row), line)?;
+            Ok(line.push(b':')?)
+        }
+        Names::Shown => push_token(Token { table, row }, line),
+    }
+}
+
+/// Appends what a cell begins with: nothing, or the name of its column and `=`.
+/// # Errors
+/// Out of memory.
+pub fn push_cell_label(
+    names: Names,
+    table: TableId,
+    cell_index: usize,
+    line: &mut Vec<u8>,
+) -> Result<(), AllocError>
+    requires { cell_index < cell_count table }
+    ensures { OnOk result (line.new.items ≡ line.old.items ++ cell_label names table cell_index) }
+{
+    match names {
+        Names::Hidden => Ok(()),
+        Names::Shown => {
+            line.extend_from_slice(column_name(table, cell_index).as_bytes())?;
+            Ok(line.push(b'=')?)
+        }
+    }
+}
+
+/// Appends the line of a row: its number and a colon, or its token if columns are named, and after a space each cell of the
+/// view's model.
 ///
 /// - A number is decimal.
 /// - A text is in quotes. Printable ASCII except `"` and `\` is as it is, any other byte is `\x` and two hexadecimal
@@ -186,6 +239,7 @@ pub(crate) fn push_cell(
 /// Out of memory.
 pub fn push_row(
     alloc: Global,
+    names: Names,
     cells: &mut CellCursor<'_, '_>,
     table: TableId,
     row: u32,
@@ -195,15 +249,17 @@ pub fn push_row(
     requires last { row ≤ row_count cells.old table }
     ensures same { cells.new ≡ cells.old }
     ensures line { OnOk result ((model : Metadata) → IsModel cells.old model
-        → line.new.items ≡ line.old.items ++ row_text row (row_of model table row)) }
+        → line.new.items ≡ line.old.items ++ row_text names table row (row_of model table row)) }
 {
     // The root of a view has a model.
-    let _view = cells.view();
+    let view = cells.view();
+    // A table has fewer than 2^24 rows.
+    let _count = view.count(table);
     metadata::laws::models_are_read();
-    push_decimal(u64::from(row), line)?;
-    line.push(b':')?;
+    push_row_label(names, table, row, line)?;
     for cell_index in 0..cell_count(table) {
         line.push(b' ')?;
+        push_cell_label(names, table, cell_index, line)?;
         push_cell(alloc, cells, table, row, cell_index, line)?;
     }
     Ok(line.push(b'\n')?)

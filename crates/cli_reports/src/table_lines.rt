@@ -1,9 +1,9 @@
 //! Prints all tables of a view.
-ghost use Rattle.std.specs.Prelude.{◌≡◌, ◌≤◌, ◌++◌, OnOk, IfErr};
+ghost use Rattle.std.specs.Prelude.{◌≡◌, ◌≤◌, ◌++◌, OnOk, IfErr, flat_map};
 ghost use Rattle.opening.specs.Views.{row_count};
 ghost use Rattle.metadata.specs.Metadata.{Metadata, count_in, row_of};
 ghost use Rattle.metadata.specs.Model.{IsModel};
-ghost use Rattle.cli_reports.specs.RowTexts.{heading_text, row_text, rows_text, show_text, table_text};
+ghost use Rattle.cli_reports.specs.RowTexts.{heading_text, row_text, rows_text, table_text};
 ghost use Rattle.cli_reports.specs.Sent.{Moves, Prints};
 ghost use Rattle.cli_reports.specs.Checked.{IsWhole, rules_of};
 ghost use Rattle.cli_reports.specs.Printed.{IsModelOf};
@@ -11,75 +11,47 @@ ghost use Rattle.cli_reports.specs.Reported.{LeavesOutput, ReportsFault};
 
 use crate::line::{push_decimal, push_upper_hexadecimal};
 use crate::opened::open;
-use crate::row_lines::push_row;
+use crate::row_lines::{Names, push_row};
 use crate::sending::{FULL, finish, send_full};
 use cli_faults::{Failure, printed};
 use opening::{CellCursor, TableId, View};
 use std::alloc::{AllocError, Global};
 use std::io::{self, Write};
 
-/// Prints each table that has rows.
+/// Prints each of these tables that has rows, one after another: the line `table NN NAME COUNT`, where NN is the table's
+/// number in two upper-case hexadecimal digits (II.22), and then the line of each row, as [`push_row`] makes it.
 pub(crate) fn run<W: Write>(
     alloc: Global,
+    names: Names,
     bytes: &[u8],
     bare: bool,
+    tables: &[TableId],
     out: &mut W,
 ) -> Result<(), Failure<'static>>
     ensures sound { OnOk result (IsWhole bare bytes.now) }
     ensures first_error { IfErr result (ReportsFault (IsWhole bare bytes.now) (rules_of bare bytes.now)) }
     ensures untouched { IfErr result (LeavesOutput out.old out.new) }
     ensures printed { (model : Metadata) → IsModelOf bare bytes.now model
-        → Prints (W.contents out.old) (W.contents out.new) result (show_text model) }
+        → Prints (W.contents out.old) (W.contents out.new) result (flat_map (table_text names model) tables.now) }
 {
     let view = open(bytes, bare)?;
-    printed(print_tables(alloc, &view, out))
+    printed(print_tables(alloc, names, &view, tables, out))
 }
 
-/// Prints a table, unless it has no rows.
-pub(crate) fn run_table<W: Write>(
+/// Prints these tables. Its memory is that of the longest line, and of the lines that wait to be sent.
+fn print_tables<W: Write>(
     alloc: Global,
-    bytes: &[u8],
-    bare: bool,
-    table: TableId,
-    out: &mut W,
-) -> Result<(), Failure<'static>>
-    ensures sound { OnOk result (IsWhole bare bytes.now) }
-    ensures first_error { IfErr result (ReportsFault (IsWhole bare bytes.now) (rules_of bare bytes.now)) }
-    ensures untouched { IfErr result (LeavesOutput out.old out.new) }
-    ensures printed { (model : Metadata) → IsModelOf bare bytes.now model
-        → Prints (W.contents out.old) (W.contents out.new) result (table_text model table) }
-{
-    let view = open(bytes, bare)?;
-    printed(print_one(alloc, &view, table, out))
-}
-
-/// Prints the lines of a table.
-fn print_one<W: Write>(
-    alloc: Global,
+    names: Names,
     view: &View<'_>,
-    table: TableId,
+    tables: &[TableId],
     out: &mut W,
 ) -> io::Result<()>
-    ensures { (model : Metadata) → IsModel view.now model → Prints (W.contents out.old) (W.contents out.new) result (table_text model table) }
+    ensures { (model : Metadata) → IsModel view.now model
+        → Prints (W.contents out.old) (W.contents out.new) result (flat_map (table_text names model) tables.now) }
 {
     let mut lines = Vec::with_capacity(alloc, FULL)?;
-    print_table(alloc, view, table, &mut lines, out)?;
-    finish(&lines, out)
-}
-
-/// Prints each table that has rows, lowest number first: the line `table NN NAME COUNT`, where NN is the table's number
-/// in two upper-case hexadecimal digits (II.22), and then the line of each row, as [`push_row`] makes it.
-/// Its memory is that of the longest line, and of the lines that wait to be sent.
-///
-/// # Errors
-///
-/// Out of memory, or the error of the writer. By then the writer has nothing or a prefix of the lines.
-pub fn print_tables<W: Write>(alloc: Global, view: &View<'_>, out: &mut W) -> io::Result<()>
-    ensures { (model : Metadata) → IsModel view.now model → Prints (W.contents out.old) (W.contents out.new) result (show_text model) }
-{
-    let mut lines = Vec::with_capacity(alloc, FULL)?;
-    for table in TableId::all() {
-        print_table(alloc, view, *table, &mut lines, out)?;
+    for table in tables {
+        print_table(alloc, names, view, *table, &mut lines, out)?;
     }
     finish(&lines, out)
 }
@@ -87,20 +59,21 @@ pub fn print_tables<W: Write>(alloc: Global, view: &View<'_>, out: &mut W) -> io
 /// Prints a table, unless it has no rows.
 fn print_table<W: Write>(
     alloc: Global,
+    names: Names,
     view: &View<'_>,
     table: TableId,
     lines: &mut Vec<u8>,
     out: &mut W,
 ) -> io::Result<()>
     ensures { (model : Metadata) → IsModel view.now model
-        → Moves (W.contents out.old) (W.contents out.new) result (lines.old.items ++ table_text model table) lines.new.items }
+        → Moves (W.contents out.old) (W.contents out.new) result (lines.old.items ++ table_text names model table) lines.new.items }
 {
     let count = view.count(table);
     if count == 0 {
         return Ok(());
     }
     push_heading(table, count, lines)?;
-    print_rows(alloc, view, table, lines, out)
+    print_rows(alloc, names, view, table, lines, out)
 }
 
 /// Appends the line before the rows of a table.
@@ -121,17 +94,18 @@ pub fn push_heading(table: TableId, count: u32, line: &mut Vec<u8>) -> Result<()
 /// Prints the rows of a table.
 fn print_rows<W: Write>(
     alloc: Global,
+    names: Names,
     view: &View<'_>,
     table: TableId,
     lines: &mut Vec<u8>,
     out: &mut W,
 ) -> io::Result<()>
     ensures { (model : Metadata) → IsModel view.now model
-        → Moves (W.contents out.old) (W.contents out.new) result (lines.old.items ++ rows_text model table (count_in model table)) lines.new.items }
+        → Moves (W.contents out.old) (W.contents out.new) result (lines.old.items ++ rows_text names model table (count_in model table)) lines.new.items }
 {
     let mut cells = CellCursor::new(view);
     for earlier in 0..view.count(table) {
-        print_row(alloc, &mut cells, table, earlier + 1, lines, out)?;
+        print_row(alloc, names, &mut cells, table, earlier + 1, lines, out)?;
     }
     Ok(())
 }
@@ -139,6 +113,7 @@ fn print_rows<W: Write>(
 /// Prints a row.
 fn print_row<W: Write>(
     alloc: Global,
+    names: Names,
     cells: &mut CellCursor<'_, '_>,
     table: TableId,
     row: u32,
@@ -149,8 +124,8 @@ fn print_row<W: Write>(
     requires last { row ≤ row_count cells.old table }
     ensures same { cells.new ≡ cells.old }
     ensures row { (model : Metadata) → IsModel cells.old model
-        → Moves (W.contents out.old) (W.contents out.new) result (lines.old.items ++ row_text row (row_of model table row)) lines.new.items }
+        → Moves (W.contents out.old) (W.contents out.new) result (lines.old.items ++ row_text names table row (row_of model table row)) lines.new.items }
 {
-    push_row(alloc, cells, table, row, lines)?;
+    push_row(alloc, names, cells, table, row, lines)?;
     send_full(lines, out)
 }

@@ -1,6 +1,6 @@
 use Rattle.std.proofs.Common.{◌++◌, ◌∙◌, ap, codes}
 use Rattle.json.specs.Print.{quoted}
-use Rattle.cli_reports.specs.Comparisons.{column_name}
+use Rattle.cli_reports.specs.Columns.{column_name}
 use Rattle.cli_json.specs.Values.{own_token}
 use Rattle.cli_json.proofs.LineLemmas.{four_joined, on_ok}
 use Rattle.cli_json.proofs.difference_lines.push_cell_members.Goals as goal

@@ -16,12 +16,12 @@ returns-in-Check-clause-printed g c = λ text is.
 
 pub returns-in-Show-clause-printed : goal.returns-in-Show-clause-printed
 returns-in-Show-clause-printed g c = λ text is.
-    show_printed c.run-in-Show.result (g.W.Write.contents c.args.out.now) (g.W.Write.contents c.run-in-Show.new.out) c.args.bare c.args.bytes.now text c.run-in-Show.ensures.printed
+    show_printed c.run-in-Show.result (g.W.Write.contents c.args.out.now) (g.W.Write.contents c.run-in-Show.new.out) c.args.bare c.args.bytes.now text c.in-Show._names c.run-in-Show.ensures.printed
     (subst (λ (r : Report). IsJsonText r c.args.bare c.args.bytes.now text) c.in-Show.is is)
 
 pub returns-in-Table-clause-printed : goal.returns-in-Table-clause-printed
 returns-in-Table-clause-printed g c = λ text is.
-    table_printed c.run_table.result (g.W.Write.contents c.args.out.now) (g.W.Write.contents c.run_table.new.out) c.args.bare c.args.bytes.now text c.in-Table.table c.run_table.ensures.printed
+    table_printed c.run_table.result (g.W.Write.contents c.args.out.now) (g.W.Write.contents c.run_table.new.out) c.args.bare c.args.bytes.now text c.in-Table.table c.in-Table._names c.run_table.ensures.printed
     (subst (λ (r : Report). IsJsonText r c.args.bare c.args.bytes.now text) c.in-Table.is is)
 
 pub returns-in-Types-clause-printed : goal.returns-in-Types-clause-printed

@@ -1,6 +1,6 @@
 use Rattle.std.proofs.Common.{◌++◌, ◌∙◌, ap, append_assoc}
 use Rattle.metadata.specs.Metadata.{cell_in}
-use Rattle.cli_reports.specs.Comparisons.{column_name}
+use Rattle.cli_reports.specs.Columns.{column_name}
 use Rattle.cli_json.specs.Texts.{later_key, text_of}
 use Rattle.cli_json.specs.Values.{cell_value}
 use Rattle.cli_json.proofs.LineLemmas.{on_ok}

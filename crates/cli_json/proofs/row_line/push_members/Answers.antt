@@ -3,7 +3,7 @@ use Rattle.std.proofs.lemmas.List.{drop_all}
 use Rattle.opening.specs.Views.{row_count, HasModel}
 use Rattle.metadata.specs.Metadata.{cell_in, row_of}
 use Rattle.metadata.specs.Model.{IsModel}
-use Rattle.cli_reports.specs.Comparisons.{column_name}
+use Rattle.cli_reports.specs.Columns.{column_name}
 use Rattle.cli_json.specs.Texts.{later_key, members_text, text_of}
 use Rattle.cli_json.specs.Values.{cell_members, cell_value}
 use Rattle.cli_json.proofs.RowLemmas.{next_member}

@@ -1,6 +1,7 @@
 use Rattle.std.proofs.Common.{◌++◌, ◌∷◌, [], ◌∙◌, ap, sym, codes}
 use Rattle.table_schema.specs.Tokens.{token_text}
-use Rattle.cli_reports.specs.Comparisons.{column_name, label_text}
+use Rattle.cli_reports.specs.Columns.{column_name}
+use Rattle.cli_reports.specs.Comparisons.{label_text}
 use Rattle.cli_reports.proofs.CompareLemmas.{cell_label, count_label, user_label, version_label}
 use Rattle.cli_reports.proofs.LineLemmas.{appended, on_ok, three_joined}
 use Rattle.cli_reports.proofs.compare_lines.push_label.Goals as goal

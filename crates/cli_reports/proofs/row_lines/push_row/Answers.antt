@@ -1,12 +1,11 @@
-use Rattle.std.proofs.Common.{◌++◌, ◌∷◌, [], ◌∙◌, ◌<◌, ◌≤◌, List, ℕ, length, take, ap, sym, subst, rules, arith, append_assoc, decimal}
-use Rattle.std.proofs.lemmas.List.{take_all}
-use Rattle.std.specs.List.{flat_map}
+use Rattle.std.proofs.Common.{◌++◌, ◌∷◌, [], ◌∙◌, ◌<◌, ◌≤◌, ◌≡◌, List, ℕ, length, ap, sym, subst, rules, arith, append_assoc}
+use Rattle.std.specs.List.{flat_map, range_with_len}
 use Rattle.opening.specs.Views.{row_count, HasModel}
-use Rattle.metadata.specs.Cell.{Number}
 use Rattle.metadata.specs.Metadata.{cell_in, row_of}
 use Rattle.metadata.specs.Model.{IsModel}
-use Rattle.cli_reports.specs.RowTexts.{cell_text, row_text, spaced}
-use Rattle.cli_reports.proofs.LineLemmas.{four_joined, items_more}
+use Rattle.cli_reports.specs.RowTexts.{cell_label, cell_text, row_label, row_text, spaced}
+use Rattle.cli_reports.proofs.LineLemmas.{row_joined, cell_joined}
+use Rattle.cli_reports.proofs.TableLemmas.{cells_more}
 use Rattle.cli_reports.proofs.row_lines.push_row.Goals as goal
 
 pub push_cell-requires : goal.push_cell-requires
@@ -25,14 +24,16 @@ loop-cell_index-preserved c = record {
       let here : IsModel c.loop-cell_index.cells model = subst (λ (root : List ℕ). IsModel root model) (sym c.loop-cell_index.invariant.same) is in
       let cells = row_of model c.args.table c.args.row in
       let index = c.loop-cell_index.cell_index in
-      let start = c.push.new.self.items in
-      let long = c.models_are_read.ensures.long c.args.cells.now model is c.args.table c.args.row c.requires.first c.requires.last in
-      let within : index < length cells = omega (arith, long, c.loop-cell_index-test.true, c.cell_count-cell_index-end.ensures) in
+      let start = c.push_row_label.new.line.items in
+      let each = spaced c.args.names c.args.table cells in
+      let label = cell_label c.args.names c.args.table index in
+      let value = cell_text (cell_in model c.args.table c.args.row index) in
       c.in_ok-push_cell.ensures.line model here
-      ∙ ap (λ xs. xs ++ cell_text (cell_in model c.args.table c.args.row index))
-      (c.in_ok-push-2.ensures.items ∙ ap (λ xs. xs ++ 32 ∷ []) (c.loop-cell_index.invariant.line model is))
-      ∙ append_assoc (start ++ flat_map spaced (take index cells)) (32 ∷ []) (cell_text (cell_in model c.args.table c.args.row index))
-      ∙ items_more spaced start cells index (Number 0) within;
+      ∙ ap (λ xs. xs ++ value) (c.in_ok-push_cell_label.ensures
+      ∙ ap (λ xs. xs ++ label) (c.in_ok-push.ensures.items
+      ∙ ap (λ xs. xs ++ 32 ∷ []) (c.loop-cell_index.invariant.line model is)))
+      ∙ cell_joined (start ++ flat_map each (range_with_len 0 index)) (32 ∷ []) label value
+      ∙ cells_more each start index;
 }
 
 pub returns-clause-line : goal.returns-clause-line
@@ -40,10 +41,11 @@ unfolding row_count row_text
 returns-clause-line c = λ model is.
     let cells = row_of model c.args.table c.args.row in
     let index = c.loop-cell_index.cell_index in
+    let each = spaced c.args.names c.args.table cells in
     let long = c.models_are_read.ensures.long c.args.cells.now model is c.args.table c.args.row c.requires.first c.requires.last in
-    let all : length cells ≤ index = omega (arith, long, c.loop-cell_index-test.false, c.cell_count-cell_index-end.ensures) in
-    c.in_ok-push-3.ensures.items
-    ∙ ap (λ xs. xs ++ 10 ∷ []) (c.loop-cell_index.invariant.line model is ∙ ap (λ xs. c.push.new.self.items ++ flat_map spaced xs) (take_all index cells all)
-    ∙ ap (λ xs. xs ++ flat_map spaced cells) (c.in_ok-push.ensures.items ∙ ap (λ xs. xs ++ 58 ∷ []) (c.in_ok-push_decimal.ensures
-    ∙ ap (λ n. c.args.line.now.items ++ decimal n) c.from.ensures)))
-    ∙ four_joined c.args.line.now.items (decimal c.args.row) (58 ∷ []) (flat_map spaced cells) (10 ∷ [])
+    let all : index ≡ length cells = omega (arith, long, c.loop-cell_index-test.false, c.cell_count-cell_index-end.ensures, c.loop-cell_index.auto.cell_index-end) in
+    c.in_ok-push-2.ensures.items
+    ∙ ap (λ xs. xs ++ 10 ∷ []) (c.loop-cell_index.invariant.line model is
+    ∙ ap (λ n. c.push_row_label.new.line.items ++ flat_map each (range_with_len 0 n)) all
+    ∙ ap (λ xs. xs ++ flat_map each (range_with_len 0 (length cells))) c.in_ok-push_row_label.ensures)
+    ∙ row_joined c.args.line.now.items (row_label c.args.names c.args.table c.args.row) (flat_map each (range_with_len 0 (length cells))) (10 ∷ [])

@@ -14,7 +14,7 @@ loop-earlier-init g c = record {
   rows = λ model is.
       let known = g.W.Write.contents c.args.out.now in
       let lines = c.args.lines.now.items in
-      subst (λ (bytes : List ℕ). Sends known known bytes lines) (sym (append-nil lines) ∙ ap (λ xs. lines ++ xs) (sym (no_rows model c.args.table))) (sends_nothing known lines);
+      subst (λ (bytes : List ℕ). Sends known known bytes lines) (sym (append-nil lines) ∙ ap (λ xs. lines ++ xs) (sym (no_rows c.args.names model c.args.table))) (sends_nothing known lines);
 }
 
 pub print_row-requires : goal.print_row-requires
@@ -35,11 +35,11 @@ returns-in_err-print_row g c = λ model is.
     let count = count_in model c.args.table in
     let counted = c.count-earlier-end.ensures.model model is in
     let whole : earlier + 1 + (count - (earlier + 1)) ≡ count = omega (arith, counted, c.loop-earlier-test.true) in
-    cut_moved c.from_residual.result before after (lines ++ rows_text model c.args.table count) c.print_row.new.lines.items c.from_residual.ensures.0
-    (rows_cut model c.args.table before after lines (earlier + 1) (count - (earlier + 1)) count whole
-    (subst (λ (bytes : List ℕ). SendsPrefix before after bytes) (rows_more model c.args.table lines earlier)
-    (prefix_more before between after (lines ++ rows_text model c.args.table earlier) c.loop-earlier.lines.items
-    (row_text (earlier + 1) (row_of model c.args.table (earlier + 1))) (c.loop-earlier.invariant.rows model is) (c.in_err-print_row.ensures.row model here))))
+    cut_moved c.from_residual.result before after (lines ++ rows_text c.args.names model c.args.table count) c.print_row.new.lines.items c.from_residual.ensures.0
+    (rows_cut c.args.names model c.args.table before after lines (earlier + 1) (count - (earlier + 1)) count whole
+    (subst (λ (bytes : List ℕ). SendsPrefix before after bytes) (rows_more c.args.names model c.args.table lines earlier)
+    (prefix_more before between after (lines ++ rows_text c.args.names model c.args.table earlier) c.loop-earlier.lines.items
+    (row_text c.args.names c.args.table (earlier + 1) (row_of model c.args.table (earlier + 1))) (c.loop-earlier.invariant.rows model is) (c.in_err-print_row.ensures.row model here))))
 
 pub loop-earlier-preserved : goal.loop-earlier-preserved
 loop-earlier-preserved g c = record {
@@ -51,14 +51,14 @@ loop-earlier-preserved g c = record {
       let after = g.W.Write.contents c.print_row.new.out in
       let lines = c.args.lines.now.items in
       let earlier = c.loop-earlier.earlier in
-      subst (λ (bytes : List ℕ). Sends before after bytes c.print_row.new.lines.items) (rows_more model c.args.table lines earlier)
-      (sends_more before between after (lines ++ rows_text model c.args.table earlier) c.loop-earlier.lines.items
-      (row_text (earlier + 1) (row_of model c.args.table (earlier + 1))) c.print_row.new.lines.items (c.loop-earlier.invariant.rows model is) (c.in_ok-print_row.ensures.row model here));
+      subst (λ (bytes : List ℕ). Sends before after bytes c.print_row.new.lines.items) (rows_more c.args.names model c.args.table lines earlier)
+      (sends_more before between after (lines ++ rows_text c.args.names model c.args.table earlier) c.loop-earlier.lines.items
+      (row_text c.args.names c.args.table (earlier + 1) (row_of model c.args.table (earlier + 1))) c.print_row.new.lines.items (c.loop-earlier.invariant.rows model is) (c.in_ok-print_row.ensures.row model here));
 }
 
 pub returns : goal.returns
 returns g c = λ model is.
     let counted = c.count-earlier-end.ensures.model model is in
     let all : c.loop-earlier.earlier ≡ count_in model c.args.table = omega (arith, counted, c.loop-earlier-test.false, c.loop-earlier.auto.earlier-end) in
-    subst (λ (n : ℕ). Sends (g.W.Write.contents c.args.out.now) (g.W.Write.contents c.loop-earlier.out) (c.args.lines.now.items ++ rows_text model c.args.table n) c.loop-earlier.lines.items)
+    subst (λ (n : ℕ). Sends (g.W.Write.contents c.args.out.now) (g.W.Write.contents c.loop-earlier.out) (c.args.lines.now.items ++ rows_text c.args.names model c.args.table n) c.loop-earlier.lines.items)
     all (c.loop-earlier.invariant.rows model is)

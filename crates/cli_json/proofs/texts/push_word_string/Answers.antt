@@ -2,7 +2,7 @@ use Rattle.std.proofs.Common.{◌++◌, ◌∷◌, [], ◌∙◌, ap, sym}
 use Rattle.table_schema.specs.Tokens.{hexadecimal}
 use Rattle.cli_json.proofs.LineLemmas.{three_joined}
 use Rattle.cli_json.proofs.PlainLemmas.{hexadecimal_is_plain}
-use Rattle.cli_json.proofs.root_lines.push_word_string.Goals as goal
+use Rattle.cli_json.proofs.texts.push_word_string.Goals as goal
 
 pub returns : goal.returns
 returns c =
