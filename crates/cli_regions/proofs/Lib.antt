@@ -4,3 +4,4 @@ pub mod CountLemmas
 pub mod PeLemmas
 pub mod NulLemmas
 pub mod FileLemmas
+pub mod HeaderLemmas

@@ -44,11 +44,14 @@ named_at image of (Some offset) =
 unfoldable pub named_regions : Image → Named → List Region
 named_regions image of = named_at image of (offset_at image of.directory.rva of.directory.size)
 
+-- the CLI header, and what it names
+abbrev pub cli_regions : Image → CliHeader → List Region
+cli_regions image header = cli_header_regions header ++ flat_map (named_regions image) (named_by header)
+
 -- the PE headers, the sections, the CLI header and what it names; a bare root has none of them
 abbrev pub file_regions : List ℕ → Option CliHeader → List Region
 file_regions file None = []
-file_regions file (Some header) =
-    image_regions file ++ cli_header_regions header ++ flat_map (named_regions (image_of file)) (named_by header)
+file_regions file (Some header) = image_regions file ++ cli_regions (image_of file) header
 
 -- the offset of the metadata root in the file: a bare root begins at 0
 abbrev pub root_start : Option CliHeader → ℕ

@@ -53,10 +53,14 @@ table_stream_regions start stream =
     fields_from (codes "table stream ") start table_stream_fields
     ++ fields_from (codes "row count ") (start + 24) (map row_count_field (filter (has_bit (valid_of stream)) tables))
 
--- a metadata root at an offset of the file: its fields, stream headers and streams, and the header of its table stream
-unfoldable pub root_regions : ℕ → List ℕ → List Region
-root_regions start root =
+-- a metadata root at an offset of the file: its fields, stream headers and streams, and then other structures
+abbrev pub root_regions_with : ℕ → List ℕ → List Region → List Region
+root_regions_with start root tail =
     (region start (length root) (codes "root") ∷ fields_from (codes "root header ") start (root_fields (version_length root)))
     ++ flat_map (stream_header_regions start) (root_read root).headers
     ++ flat_map (stream_regions start (root_read root)) streams
-    ++ table_stream_regions (start + tables_offset root) (tables_in root)
+    ++ tail
+
+-- all that, and the header of its table stream
+unfoldable pub root_regions : ℕ → List ℕ → List Region
+root_regions start root = root_regions_with start root (table_stream_regions (start + tables_offset root) (tables_in root))

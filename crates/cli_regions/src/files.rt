@@ -4,7 +4,7 @@ ghost use Rattle.std.specs.List.{flat_map};
 ghost use Rattle.packed.specs.Rule.{AllHold};
 ghost use Rattle.pe.specs.Headers.{image_of};
 ghost use Rattle.pe.specs.Rules.{rules_of_image};
-ghost use Rattle.cli_regions.specs.Files.{file_regions, named_by, named_regions, seen_named};
+ghost use Rattle.cli_regions.specs.Files.{cli_regions, file_regions, named_by, named_regions, seen_named};
 ghost use Rattle.cli_regions.specs.Kept.{HasHeaders};
 ghost use Rattle.cli_regions.specs.PeHeaders.{image_regions};
 ghost use Rattle.cli_regions.specs.Regions.{lines_at};
@@ -96,6 +96,35 @@ fn push_image(pe: &Pe<'_>, offset: u64, line: &mut Vec<u8>) -> Result<(), AllocE
     push_sections(file, offsets.signature, offsets.sections, offset, line)
 }
 
+/// Appends the lines of the PE headers and their fields, and of the sections, of those that have the byte (II.25.2, II.25.3).
+/// Its time is linear in the number of sections.
+/// # Errors
+/// Out of memory.
+pub fn push_pe(pe: &Pe<'_>, offset: u64, line: &mut Vec<u8>) -> Result<(), AllocError>
+    requires rules { AllHold (rules_of_image pe.now.bytes) }
+    requires image { pe.now ≡ image_of pe.now.bytes }
+    ensures { OnOk result (line.new.items ≡ line.old.items ++ lines_at offset (image_regions pe.now.bytes)) }
+{
+    push_image(pe, offset, line)
+}
+
+/// Appends the lines of the CLI header and its fields, and of what it names, of those that have the byte (II.25.3.3).
+/// # Errors
+/// Out of memory.
+pub fn push_cli(
+    pe: &Pe<'_>,
+    header: &CliHeader,
+    offset: u64,
+    line: &mut Vec<u8>,
+) -> Result<(), AllocError>
+    requires small { length pe.now.bytes ≤ 0x40000000 }
+    requires header { header.now.place ≤ 0x40000000 }
+    ensures { OnOk result (line.new.items ≡ line.old.items ++ lines_at offset (cli_regions pe.now header.now)) }
+{
+    push_cli_header(header, offset, line)?;
+    push_all_named(pe, header, offset, line)
+}
+
 /// Appends the lines of the PE headers and their fields, the sections, the CLI header and its fields, and what the CLI
 /// header names, of those that have the byte (II.25.2, II.25.3). Each section has a line at most, so its time is linear in
 /// the number of sections.
@@ -112,7 +141,6 @@ pub fn push_file(
     requires header { header.now.place ≤ 0x40000000 }
     ensures { OnOk result (line.new.items ≡ line.old.items ++ lines_at offset (file_regions pe.now.bytes (Some header.now))) }
 {
-    push_image(pe, offset, line)?;
-    push_cli_header(header, offset, line)?;
-    push_all_named(pe, header, offset, line)
+    push_pe(pe, offset, line)?;
+    push_cli(pe, header, offset, line)
 }

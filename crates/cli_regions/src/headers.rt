@@ -1,11 +1,13 @@
 //! Appends the lines of headers and streams.
-ghost use Rattle.std.specs.Prelude.{◌≡◌, ◌≤◌, ◌+◌, ◌++◌, ◌∷◌, OnOk, codes, length};
+ghost use Rattle.std.specs.Prelude.{◌≡◌, ◌≤◌, ◌+◌, ◌++◌, ◌∷◌, [], OnOk, codes, length};
 ghost use Rattle.std.specs.List.{All, flat_map};
+ghost use Rattle.packed.specs.Rule.{AllHold};
 ghost use Rattle.root.specs.Fields.{header_length, root_read, version_length};
+ghost use Rattle.root.specs.Rules.{rules_of_root};
 ghost use Rattle.root.specs.Views.{view};
 ghost use Rattle.cli_faults.specs.Escaped.{escaped_text};
 ghost use Rattle.cli_regions.specs.Fields.{fields_from, root_fields};
-ghost use Rattle.cli_regions.specs.Headers.{cli_header_regions, stream_header_regions, stream_regions, streams};
+ghost use Rattle.cli_regions.specs.Headers.{cli_header_regions, root_regions_with, stream_header_regions, stream_regions, streams};
 ghost use Rattle.cli_regions.specs.Regions.{line_at, lines_at, region};
 
 use crate::fields::{cli_header_fields, push_fields, root_fields, stream_header_fields};
@@ -184,4 +186,28 @@ pub fn push_streams(
         push_stream(root, kind, start, offset, line)?;
     }
     Ok(())
+}
+
+/// Appends the lines of a metadata root, of its fields before the table stream, of its stream headers and of its streams,
+/// of those that have the byte. `root` is at offset `start` of the file, and `directory` was read from it.
+///
+/// # Errors
+///
+/// Only if out of memory.
+pub fn push_root_parts(
+    root: &[u8],
+    directory: &Root<'_>,
+    start: u64,
+    offset: u64,
+    line: &mut Vec<u8>,
+) -> Result<(), AllocError>
+    requires start { start ≤ 0x40000000 }
+    requires rules { AllHold (rules_of_root root.now) }
+    requires directory { directory.now ≡ root_read root.now }
+    ensures { OnOk result (line.new.items ≡ line.old.items ++ lines_at offset (root_regions_with start root.now [])) }
+{
+    root::laws::roots_are_read();
+    push_root_header(root, start, offset, line)?;
+    push_stream_headers(directory.headers(), start, offset, line)?;
+    push_streams(directory, start, offset, line)
 }

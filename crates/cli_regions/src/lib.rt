@@ -19,7 +19,7 @@ mod regions;
 mod sections;
 mod table_stream;
 
-pub use files::push_file;
-pub use headers::{push_root_header, push_stream_headers, push_streams};
+pub use files::{push_cli, push_file, push_pe};
+pub use headers::{push_root_header, push_root_parts, push_stream_headers, push_streams};
 pub use regions::{has_byte, push_span};
 pub use table_stream::{push_table, push_table_stream};

@@ -40,9 +40,18 @@ first_left items all i none same within =
 pub three_joined : (line a b c : List ℕ) → ((line ++ a) ++ b) ++ c ≡ line ++ (a ++ b ++ c)
 three_joined line a b c = simp append_assoc
 
+pub four_joined : (line a b c d : List ℕ) → (((line ++ a) ++ b) ++ c) ++ d ≡ line ++ (a ++ b ++ c ++ d)
+four_joined line a b c d = simp append_assoc
+
+pub five_joined : (line a b c d e : List ℕ) → ((((line ++ a) ++ b) ++ c) ++ d) ++ e ≡ line ++ (a ++ b ++ c ++ d ++ e)
+five_joined line a b c d e = simp append_assoc
+
+pub six_joined : (line a b c d e f : List ℕ) → (((((line ++ a) ++ b) ++ c) ++ d) ++ e) ++ f ≡ line ++ (a ++ b ++ c ++ d ++ e ++ f)
+six_joined line a b c d e f = simp append_assoc
+
 pub eight_joined : (line a b c d e f g h : List ℕ)
     → (((((((line ++ a) ++ b) ++ c) ++ d) ++ e) ++ f) ++ g) ++ h ≡ line ++ (a ++ b ++ c ++ d ++ e ++ f ++ g ++ h)
 eight_joined line a b c d e f g h = simp append_assoc
 
-pub inner_joined : (line a b c d : List ℕ) → (((line ++ a) ++ b) ++ c) ++ d ≡ line ++ (a ++ (b ++ (c ++ d)))
-inner_joined line a b c d = simp append_assoc
+pub found_joined : {X : Type 0} (found a b c : List X) → ((found ++ a) ++ b) ++ c ≡ found ++ (a ++ (b ++ c))
+found_joined found a b c = simp append_assoc

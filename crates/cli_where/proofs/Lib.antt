@@ -9,4 +9,8 @@ pub mod NamedLemmas
 pub mod UserLemmas
 pub mod RootLemmas
 pub mod FileLemmas
+pub mod CutLemmas
+pub mod ValueLemmas
+pub mod LineLemmas
+pub mod OneLineLemmas
 pub mod Outcomes

@@ -1,5 +1,5 @@
 -- The possible results, case by case.
-use Rattle.std.proofs.Common.{◌≡◌, ℕ, true, false, List, [], ◌∷◌, ◌++◌, length, Option, None, Some, Result, Ok, Err, refl, subst, sym, append-nil, arith, eqb-true, codes}
+use Rattle.std.proofs.Common.{◌≡◌, ℕ, true, false, List, [], ◌∷◌, ◌++◌, length, Option, None, Some, Result, Ok, Err, refl, subst, sym, append-nil, arith, eqb-true}
 use Rattle.std.specs.Prelude.{IsErr, IsOk, OnOk, ◌↔◌, ◌==◌}
 use Rattle.std.specs.Io.KnownBytes.{Appends}
 use Rattle.packed.specs.declared.fault.Fault.{Fault as First}
@@ -8,9 +8,9 @@ use Rattle.cli_faults.specs.declared.failure.Failure.{Failure}
 use Rattle.cli_faults.specs.declared.failure.Failure.TheVariants.{Fault, NoSuchRow, Usage, NotUtf8, CannotRead, CannotWriteFile, CannotWriteOutput, OutOfMemory}
 use Rattle.cli_faults.specs.Status.{IsOutput}
 use Rattle.cli_reports.specs.Reported.{ReportsFault}
-use Rattle.cli_reports.specs.RowTexts.{line_feed}
 use Rattle.cli_reports.specs.Sent.{Prints, SendsPrefix}
-use Rattle.cli_where.specs.Where.{text_of}
+use Rattle.cli_reports.specs.declared.report.Form.{Form}
+use Rattle.cli_where.specs.Where.{nothing_in, text_of}
 
 -- a failure to write the output is reported only of bytes that meet the rules
 pub reports_output : {met : Type 0} (rules : List (Rule First)) (failure : Failure) → IsOutput failure → met → ReportsFault met rules failure
@@ -54,13 +54,13 @@ module _ {T U E F : Type 0} where
       absurd (not_ok {T = T} {E = E} (Err error) error refl (same.0 (subst (λ (r : Result U F). IsOk r) (sym is) refl)))
 
 -- the text if there is no line, and if there is one
-pub empty_text : (lines : List ℕ) → true ≡ (length lines == 0) → codes "nothing" ++ line_feed ≡ text_of lines
-empty_text [] is = refl
-empty_text (byte ∷ bytes) is = let none = eqb-true (length (byte ∷ bytes)) 0 (sym is) in absurd (omega arith)
+pub empty_text : (form : Form) (lines : List ℕ) → true ≡ (length lines == 0) → nothing_in form ≡ text_of form lines
+empty_text form [] is = refl
+empty_text form (byte ∷ bytes) is = let none = eqb-true (length (byte ∷ bytes)) 0 (sym is) in absurd (omega arith)
 
-pub full_text : (lines : List ℕ) → false ≡ (length lines == 0) → lines ≡ text_of lines
-full_text [] is = cc
-full_text (byte ∷ bytes) is = refl
+pub full_text : (form : Form) (lines : List ℕ) → false ≡ (length lines == 0) → lines ≡ text_of form lines
+full_text form [] is = cc
+full_text form (byte ∷ bytes) is = refl
 
 -- a fact of any result
 pub on_any : {T E P : Type 0} (result : Result T E) → P → OnOk result P

@@ -1,10 +1,11 @@
 -- The user strings that follow one another in a heap.
-use Rattle.std.proofs.Common.{◌≡◌, ◌∙◌, ℕ, ◌+◌, ◌<◌, ◌≤◌, ◌^◌, true, false, List, [], ◌∷◌, ◌++◌, length, ap, sym, subst, inl, inr, arith, length-append}
+use Rattle.std.proofs.Common.{◌≡◌, ◌∙◌, ℕ, ◌+◌, ◌<◌, ◌≤◌, ◌^◌, true, false, List, [], ◌∷◌, ◌++◌, Option, None, Some, length, ap, refl, sym, subst, inl, inr, arith, length-append}
 use Rattle.std.proofs.lemmas.Bool.{both_ways}
 use Rattle.packed.specs.Packed.{IsPacked}
 use Rattle.heap_entries.specs.Entries.{IsBlob, IsCounted, IsUserString, UserText}
 use Rattle.cli_regions.specs.Regions.{has_byte}
-use Rattle.cli_where.specs.UserStrings.{AreUsers, IsUserAt}
+use Rattle.cli_where.specs.Entries.{Heap}
+use Rattle.cli_where.specs.UserStrings.{AreUsers, IsListed, IsUserAt, IsUserFound, user_structure, user_structures}
 use Rattle.cli_where.proofs.EntryLemmas.{has_from}
 
 -- no packed number has no bytes
@@ -82,3 +83,18 @@ module _ (heap : List ℕ) where
 
   pub users_past : (current : ℕ) → length heap < current → (target long : ℕ) → IsUserAt heap target long → (sizes : List ℕ) → AreUsers heap current sizes target → ⊥
   users_past current past target long user sizes are = omega (arith, past, user_within heap target long user, users_forward current sizes target are)
+
+-- the user string that has the byte as a structure, and none
+module _ (heap : Heap) (offset : ℕ) where
+  pub some_user : (index size : ℕ) → IsListed heap.bytes index size → has_byte (heap.start + index) size offset ≡ true
+      → ((other long : ℕ) → IsListed heap.bytes other long → has_byte (heap.start + other) long offset ≡ true → (other ≡ index) × (long ≡ size))
+      → (found : Option (ℕ × ℕ)) → IsUserFound heap offset found → user_structure heap.start index size ∷ [] ≡ user_structures heap.start found
+  some_user index size is has one None none = absurd (none index size is has)
+  some_user index size is has one (Some found) at =
+      let same = one found.0 found.1 at.0 at.1 in
+      sym (ap (λ (i : ℕ). user_structure heap.start i found.1 ∷ []) same.0 ∙ ap (λ (n : ℕ). user_structure heap.start index n ∷ []) same.1)
+
+  pub no_user : ((index size : ℕ) → IsListed heap.bytes index size → has_byte (heap.start + index) size offset ≡ true → ⊥)
+      → (found : Option (ℕ × ℕ)) → IsUserFound heap offset found → [] ≡ user_structures heap.start found
+  no_user none None at = refl
+  no_user none (Some found) at = absurd (none found.0 found.1 at.0 at.1)

@@ -1,5 +1,5 @@
 -- The heap entries that have a byte, and the cells that name them (ECMA-335 II.22 and II.24.2.3 to II.24.2.5).
-use Rattle.std.specs.Prelude.{◌≡◌, ℕ, ◌+◌, ◌-◌, ◌*◌, ◌<◌, true, List, [], ◌∷◌, ◌++◌, codes, length, map, take, Option, None, Some, unwrap_or}
+use Rattle.std.specs.Prelude.{◌≡◌, ℕ, ◌+◌, ◌-◌, ◌*◌, ◌<◌, true, List, [], ◌∷◌, length, map, take, Option, None, Some, unwrap_or}
 use Rattle.std.specs.List.{flat_map, range_with_len}
 use Rattle.std.specs.Option.{option_map}
 use Rattle.root.specs.declared.kind.Kind.{Kind}
@@ -14,8 +14,9 @@ use Rattle.table_schema.specs.Columns.{column_at, columns_of}
 use Rattle.schema.specs.Sizes.{Sizes, count_of}
 use Rattle.schema.specs.Cells.{number_at}
 use Rattle.schema.specs.declared.located_cells.TableCell.{TableCell}
-use Rattle.cli_regions.specs.Regions.{Region, has_byte, region_text}
-use Rattle.cli_where.specs.Cells.{cell_words}
+use Rattle.cli_regions.specs.Regions.{has_byte}
+use Rattle.cli_where.specs.declared.structures.Item.TheVariants.{Entry}
+use Rattle.cli_where.specs.declared.structures.Structure.{Structure}
 
 -- a heap: its bytes, and the offset of the first one in the file
 pub record Heap : Type 0 where
@@ -78,28 +79,29 @@ IsNamed heaps (kind.Row table) index start size = ⊥
 IsNamed heaps (kind.Coded coded) index start size = ⊥
 IsNamed heaps (kind.List table) index start size = ⊥
 
--- what an entry is, by the kind of a column that names it
-abbrev pub entry_word : ColumnKind → List ℕ
-entry_word kind.Text = codes "string of "
-entry_word kind.Guid = codes "guid of "
-entry_word _ = codes "blob of "
+-- the heap that a column of a kind indexes
+abbrev pub heap_named : ColumnKind → Kind
+heap_named kind.Text = Strings
+heap_named kind.Guid = Guids
+heap_named _ = Blobs
 
 abbrev pub kind_of : TableCell → ColumnKind
 kind_of cell = (column_at cell.table cell.column).kind
 
--- what the entry is that a cell names
-abbrev pub entry_words : TableCell → List ℕ
-entry_words cell = entry_word (kind_of cell) ++ cell_words cell
+-- an entry that a cell names, as a structure
+abbrev pub entry_structure : ℕ → ℕ → TableCell → Structure
+entry_structure start size cell = record { start = start; size = size; item = Entry (heap_named (kind_of cell)) cell }
 
 -- the number in a cell of a table stream names an entry
 abbrev pub IsNamedBy : Heaps → List ℕ → Sizes → TableCell → ℕ → ℕ → Type 0
 IsNamedBy heaps stream sizes cell start size = IsNamed heaps (kind_of cell) (number_at stream sizes cell.table cell.row cell.column) start size
 
 -- the entry that a cell names and that has the byte at an offset of the file; or the cell names no entry that has it
-abbrev pub IsEntryOf : Heaps → List ℕ → Sizes → ℕ → TableCell → Option Region → Type 0
+abbrev pub IsEntryOf : Heaps → List ℕ → Sizes → ℕ → TableCell → Option Structure → Type 0
 IsEntryOf heaps stream sizes offset cell None = (start size : ℕ) → IsNamedBy heaps stream sizes cell start size → has_byte start size offset ≡ true → ⊥
 IsEntryOf heaps stream sizes offset cell (Some entry) =
-    IsNamedBy heaps stream sizes cell entry.start entry.size × (has_byte entry.start entry.size offset ≡ true) × (entry.what ≡ entry_words cell)
+    IsNamedBy heaps stream sizes cell entry.start entry.size × (has_byte entry.start entry.size offset ≡ true)
+    × (entry.item ≡ Entry (heap_named (kind_of cell)) cell)
 
 -- the cells of a row, column by column
 abbrev pub cell_of : TableId → ℕ → ℕ → TableCell
@@ -117,19 +119,15 @@ unfoldable pub all_cells : Sizes → List TableCell
 all_cells sizes = flat_map (table_cells sizes) tables
 
 -- the entries that were found, one for each cell at most
-abbrev pub listed : Option Region → List Region
+abbrev pub listed : Option Structure → List Structure
 listed None = []
 listed (Some entry) = entry ∷ []
 
-abbrev pub entries : (TableCell → Option Region) → List TableCell → List Region
+abbrev pub entries : (TableCell → Option Structure) → List TableCell → List Structure
 entries found cells = flat_map (λ cell. listed (found cell)) cells
 
--- the lines of the first structures of a list, at most this number
-unfoldable pub first_lines : ℕ → List Region → List ℕ
-first_lines left regions = flat_map region_text (take left regions)
-
--- The lines of the entries that have the byte at an offset of the file: of the first ten cells that name one.
-abbrev pub AreEntryLines : Heaps → List ℕ → Sizes → ℕ → List ℕ → Type 0
-AreEntryLines heaps stream sizes offset text =
-    (found : TableCell → Option Region) × ((cell : TableCell) → IsEntryOf heaps stream sizes offset cell (found cell))
-    × (text ≡ first_lines 10 (entries found (all_cells sizes)))
+-- The entries that have the byte at an offset of the file: those of the first ten cells that name one.
+abbrev pub AreEntriesAt : Heaps → List ℕ → Sizes → ℕ → List Structure → Type 0
+AreEntriesAt heaps stream sizes offset structures =
+    (found : TableCell → Option Structure) × ((cell : TableCell) → IsEntryOf heaps stream sizes offset cell (found cell))
+    × (structures ≡ take 10 (entries found (all_cells sizes)))

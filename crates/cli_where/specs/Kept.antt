@@ -6,7 +6,8 @@ use Rattle.cli_where.specs.declared.entries.Target.{Target}
 use Rattle.schema.specs.declared.located_cells.TableCell.{TableCell}
 use Rattle.rows.specs.Cells.{Stream}
 use Rattle.cli_where.specs.Entries.{Heap, Heaps, IsEntryOf, IsStringAt}
-use Rattle.cli_regions.specs.Regions.{Region, has_byte}
+use Rattle.cli_where.specs.declared.structures.Structure.{Structure}
+use Rattle.cli_regions.specs.Regions.{has_byte}
 
 abbrev pub heap_of : KeptHeap → Heap
 heap_of heap = record { bytes = heap.bytes.now; start = heap.start }
@@ -55,5 +56,5 @@ pub record AreReady (target : Target) : Type 0 where
   pub run : IsRunOf (heap_of target.texts) target.offset target.run
 
 -- what was found of each cell
-abbrev pub AreFound : Heaps → Stream → ℕ → (TableCell → Option Region) → Type 0
+abbrev pub AreFound : Heaps → Stream → ℕ → (TableCell → Option Structure) → Type 0
 AreFound heaps stream offset found = (cell : TableCell) → IsEntryOf heaps stream.bytes stream.sizes offset cell (found cell)

@@ -1,6 +1,9 @@
 pub mod Strings
+pub mod Structures
 pub mod Cells
 pub mod Entries
 pub mod Kept
 pub mod UserStrings
+pub mod Values
+pub mod JsonTexts
 pub mod Where

@@ -1,14 +1,15 @@
 //! The heap entries that have a byte (II.24.2.3 to II.24.2.5).
 ghost use Rattle.std.specs.Prelude.{◌≡◌, ◌≤◌, ◌<◌, ◌+◌, ℕ, List, IfSome, IfNone, IsSomeAnd, length, true};
 ghost use Rattle.heap_entries.specs.Entries.{IsCounted};
-ghost use Rattle.table_schema.specs.declared.column.ColumnKind.{ColumnKind as Kind};
-ghost use Rattle.cli_where.specs.Entries.{IsBlobAt, IsGuidAt, IsNamed, IsStringAt, entry_word};
+ghost use Rattle.table_schema.specs.declared.column.ColumnKind.{ColumnKind as TheKind};
+ghost use Rattle.cli_where.specs.Entries.{IsBlobAt, IsGuidAt, IsNamed, IsStringAt, heap_named};
 ghost use Rattle.cli_where.specs.Kept.{AreReady, IsLow, IsRunAt, IsRunOf, heap_of, heaps_of, is_in_heap, is_in_heaps};
 ghost use Rattle.cli_regions.specs.Regions.{has_byte};
 
 use cli_regions::has_byte;
 use memchr::{memchr, memrchr};
 use packed::read_unsigned;
+use root::Kind;
 use table_schema::ColumnKind;
 
 /// The number of bytes of a GUID.
@@ -208,14 +209,14 @@ pub(crate) fn entry_at(target: &Target<'_>, kind: ColumnKind, index: u32) -> Opt
     }
 }
 
-/// What an entry is, by the kind of a column that names it.
-pub(crate) fn entry_word(kind: ColumnKind) -> &'static str
-    ensures { result.now ≡ entry_word kind }
+/// The heap that a column of a kind indexes.
+pub(crate) fn heap_named(kind: ColumnKind) -> Kind
+    ensures { result ≡ heap_named kind }
 {
     match kind {
-        ColumnKind::Text => "string of ",
-        ColumnKind::Guid => "guid of ",
-        _ => "blob of ",
+        ColumnKind::Text => Kind::Strings,
+        ColumnKind::Guid => Kind::Guids,
+        _ => Kind::Blobs,
     }
 }
 

@@ -1,22 +1,22 @@
-//! Appends the lines of the heap entries that have a byte, by the cells that name them.
-ghost use Rattle.std.specs.Prelude.{◌≡◌, ◌≤◌, ◌<◌, ◌++◌, ℕ, List, OnOk, IfOk, IfSome, IfNone, Option, length, true};
+//! The heap entries that have a byte, by the cells that name them.
+ghost use Rattle.std.specs.Prelude.{◌≡◌, ◌≤◌, ◌<◌, ◌++◌, ℕ, List, OnOk, IfOk, IfSome, IfNone, Option, length, take, true};
 ghost use Rattle.table_schema.specs.Columns.{columns_of};
 ghost use Rattle.schema.specs.Sizes.{count_of};
 ghost use Rattle.schema.specs.declared.located_cells.TableCell.{TableCell as Cell};
-ghost use Rattle.cli_where.specs.Entries.{AreEntryLines, IsEntryOf, IsNamedBy, all_cells, entries, entry_words, first_lines, kind_of, listed, row_cells, table_cells};
+ghost use Rattle.cli_where.specs.Entries.{AreEntriesAt, IsEntryOf, IsNamedBy, all_cells, entries, entry_structure, kind_of, listed, row_cells, table_cells};
 ghost use Rattle.cli_where.specs.Kept.{AreFound, AreReady, heaps_of};
-ghost use Rattle.cli_regions.specs.Regions.{Region, has_byte, region, region_text};
+ghost use Rattle.cli_regions.specs.Regions.{has_byte};
+ghost use Rattle.cli_where.specs.declared.structures.Structure.{Structure as TheStructure};
 
-use crate::cells::push_cell_words;
-use crate::entries::{Span, Target, entry_at, entry_word, is_in_heaps};
-use cli_regions::push_span;
+use crate::entries::{Span, Target, entry_at, heap_named, is_in_heaps};
+use crate::structures::{Item, Structure};
 use rows::Rows;
 use schema::TableCell;
 use std::alloc::AllocError;
 use table_schema::{ColumnKind, TableId, columns};
 
-/// The greatest number of cells that get a line.
-const LINES: usize = 10;
+/// The greatest number of cells that are named.
+const MOST_CELLS: usize = 10;
 
 /// The kind of the column of a cell.
 fn kind_of(cell: TableCell) -> ColumnKind
@@ -40,124 +40,123 @@ fn entry_of(rows: &Rows<'_>, target: &Target<'_>, cell: TableCell) -> Option<Spa
     entry_at(target, kind_of(cell), number)
 }
 
-/// Appends the line of an entry that a cell names.
-#[tactic(auto, unfolding(cli_regions::specs::Regions::region_text))]
-fn push_entry(span: Span, cell: TableCell, line: &mut Vec<u8>) -> Result<(), AllocError>
+/// The entry that a cell names, as a structure.
+fn entry_structure(span: Span, cell: TableCell) -> Structure
     requires { cell.column < length (columns_of cell.table) }
-    ensures { OnOk result (line.new.items ≡ line.old.items ++ region_text (region span.start span.size (entry_words cell))) }
+    ensures { result ≡ entry_structure span.start span.size cell }
 {
-    push_span(span.start, span.size, line)?;
-    line.extend_from_slice(entry_word(kind_of(cell)).as_bytes())?;
-    push_cell_words(cell, line)?;
-    Ok(line.push(b'\n')?)
+    Structure {
+        start: span.start,
+        size: span.size,
+        item: Item::Entry(heap_named(kind_of(cell)), cell),
+    }
 }
 
-/// Appends the line of the entry that a cell names, if it has the byte, unless the greatest number of lines is 0.
+/// Adds the entry that a cell names, if it has the byte, unless the greatest number of entries is 0.
 /// Returns how many of this number are left.
-fn push_named(
+fn find_named(
     rows: &Rows<'_>,
     target: &Target<'_>,
     cell: TableCell,
     most: usize,
-    line: &mut Vec<u8>,
+    found: &mut Vec<Structure>,
 ) -> Result<usize, AllocError>
     requires ready { AreReady target.now }
     requires first { 1 ≤ cell.row }
     requires last { cell.row ≤ count_of rows.now.sizes cell.table }
     requires column { cell.column < length (columns_of cell.table) }
-    ensures { IfOk result (λ now. (found : Option Region) → IsEntryOf (heaps_of target.now) rows.now.bytes rows.now.sizes target.now.offset cell found → (tail : List Region)
-        → line.new.items ++ first_lines now tail ≡ line.old.items ++ first_lines most (listed found ++ tail)) }
+    ensures { IfOk result (λ now. (entry : Option TheStructure) → IsEntryOf (heaps_of target.now) rows.now.bytes rows.now.sizes target.now.offset cell entry → (tail : List TheStructure)
+        → found.new.items ++ take now tail ≡ found.old.items ++ take most (listed entry ++ tail)) }
 {
     if most == 0 {
         return Ok(0);
     }
     match entry_of(rows, target, cell) {
         Some(span) => {
-            push_entry(span, cell, line)?;
+            found.push(entry_structure(span, cell))?;
             Ok(most - 1)
         }
         None => Ok(most),
     }
 }
 
-/// Appends the lines of the entries that the cells of a row name and that have the byte, at most this number.
+/// Adds the entries that the cells of a row name and that have the byte, at most this number.
 /// Returns how many of this number are left.
-fn push_row_entries(
+fn find_row_entries(
     rows: &Rows<'_>,
     target: &Target<'_>,
     table: TableId,
     row: u32,
     most: usize,
-    line: &mut Vec<u8>,
+    found: &mut Vec<Structure>,
 ) -> Result<usize, AllocError>
     requires ready { AreReady target.now }
     requires first { 1 ≤ row }
     requires last { row ≤ count_of rows.now.sizes table }
-    ensures { IfOk result (λ now. (found : Cell → Option Region) → AreFound (heaps_of target.now) rows.now target.now.offset found → (tail : List Region)
-        → line.new.items ++ first_lines now tail ≡ line.old.items ++ first_lines most (entries found (row_cells table row) ++ tail)) }
+    ensures { IfOk result (λ now. (entry_of : Cell → Option TheStructure) → AreFound (heaps_of target.now) rows.now target.now.offset entry_of → (tail : List TheStructure)
+        → found.new.items ++ take now tail ≡ found.old.items ++ take most (entries entry_of (row_cells table row) ++ tail)) }
 {
     let mut left = most;
     for column in 0..columns(table).len() {
         let cell = TableCell { table, row, column };
-        left = push_named(rows, target, cell, left, line)?;
+        left = find_named(rows, target, cell, left, found)?;
     }
     Ok(left)
 }
 
-/// Appends the lines of the entries that the cells of a table name and that have the byte, at most this number.
+/// Adds the entries that the cells of a table name and that have the byte, at most this number.
 /// Returns how many of this number are left.
-fn push_table_entries(
+fn find_table_entries(
     rows: &Rows<'_>,
     target: &Target<'_>,
     table: TableId,
     most: usize,
-    line: &mut Vec<u8>,
+    found: &mut Vec<Structure>,
 ) -> Result<usize, AllocError>
     requires ready { AreReady target.now }
-    ensures { IfOk result (λ now. (found : Cell → Option Region) → AreFound (heaps_of target.now) rows.now target.now.offset found → (tail : List Region)
-        → line.new.items ++ first_lines now tail ≡ line.old.items ++ first_lines most (entries found (table_cells rows.now.sizes table) ++ tail)) }
+    ensures { IfOk result (λ now. (entry_of : Cell → Option TheStructure) → AreFound (heaps_of target.now) rows.now target.now.offset entry_of → (tail : List TheStructure)
+        → found.new.items ++ take now tail ≡ found.old.items ++ take most (entries entry_of (table_cells rows.now.sizes table) ++ tail)) }
 {
     let mut left = most;
     for row in 1..rows.layout().count(table) + 1 {
         if left == 0 {
             return Ok(0);
         }
-        left = push_row_entries(rows, target, table, row, left, line)?;
+        left = find_row_entries(rows, target, table, row, left, found)?;
     }
     Ok(left)
 }
 
-/// Appends the lines of the entries that have the byte, for the first ten cells that name one. It reads all cells.
+/// Adds the entries that have the byte, for the first ten cells that name one. It reads all cells.
 #[tactic(auto, unfolding(crate::specs::Entries::all_cells))]
-fn push_all_entries(
+fn find_all_entries(
     rows: &Rows<'_>,
     target: &Target<'_>,
-    line: &mut Vec<u8>,
+    found: &mut Vec<Structure>,
 ) -> Result<(), AllocError>
     requires ready { AreReady target.now }
-    ensures { OnOk result ((text : List ℕ) → AreEntryLines (heaps_of target.now) rows.now.bytes rows.now.sizes target.now.offset text
-        → line.new.items ≡ line.old.items ++ text) }
+    ensures { OnOk result ((structures : List TheStructure) → AreEntriesAt (heaps_of target.now) rows.now.bytes rows.now.sizes target.now.offset structures
+        → found.new.items ≡ found.old.items ++ structures) }
 {
-    let mut left = LINES;
+    let mut left = MOST_CELLS;
     for table in TableId::all() {
-        left = push_table_entries(rows, target, *table, left, line)?;
+        left = find_table_entries(rows, target, *table, left, found)?;
     }
     Ok(())
 }
 
-/// Appends the lines of the entries that have the byte, for the first ten cells that name one. It reads no cell if no heap
-/// has the byte.
-pub(crate) fn push_entries(
+/// Adds the entries that have the byte, for the first ten cells that name one. It reads no cell if no heap has the byte.
+pub(crate) fn find_entries(
     rows: &Rows<'_>,
     target: &Target<'_>,
-    line: &mut Vec<u8>,
+    found: &mut Vec<Structure>,
 ) -> Result<(), AllocError>
     requires ready { AreReady target.now }
-    ensures { OnOk result ((text : List ℕ) → AreEntryLines (heaps_of target.now) rows.now.bytes rows.now.sizes target.now.offset text
-        → line.new.items ≡ line.old.items ++ text) }
+    ensures { OnOk result ((structures : List TheStructure) → AreEntriesAt (heaps_of target.now) rows.now.bytes rows.now.sizes target.now.offset structures
+        → found.new.items ≡ found.old.items ++ structures) }
 {
     if is_in_heaps(target) {
-        return push_all_entries(rows, target, line);
+        return find_all_entries(rows, target, found);
     }
     Ok(())
 }

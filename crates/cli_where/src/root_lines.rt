@@ -1,5 +1,5 @@
-//! Appends the lines of a metadata root that has a model.
-ghost use Rattle.std.specs.Prelude.{◌≡◌, ◌≤◌, ◌+◌, ◌++◌, ℕ, List, [], OnOk, length, unwrap_or};
+//! The structures of a metadata root that has a model.
+ghost use Rattle.std.specs.Prelude.{◌≡◌, ◌≤◌, ◌+◌, ◌++◌, ℕ, List, [], IfOk, OnOk, length, unwrap_or};
 ghost use Rattle.std.specs.List.{All};
 ghost use Rattle.std.specs.Option.{option_map};
 ghost use Rattle.root.specs.Fields.{header_length, root_read};
@@ -10,22 +10,24 @@ ghost use Rattle.schema.specs.LaidOut.{IsTableStream};
 ghost use Rattle.schema.specs.Offsets.{tables_end};
 ghost use Rattle.metadata.specs.SourceAt.{tables_in, tables_offset};
 ghost use Rattle.opening.specs.Views.{HasModel};
-ghost use Rattle.cli_where.specs.Entries.{AreEntryLines, heap_at, heaps_at};
+ghost use Rattle.cli_where.specs.Entries.{AreEntriesAt, heap_at, heaps_at};
 ghost use Rattle.cli_where.specs.Kept.{IsLow, heap_of};
-ghost use Rattle.cli_regions.specs.Headers.{root_regions, table_stream_regions};
+ghost use Rattle.cli_regions.specs.Headers.{root_regions};
 ghost use Rattle.cli_regions.specs.Regions.{lines_at};
-ghost use Rattle.cli_where.specs.UserStrings.{IsUserLine};
-ghost use Rattle.cli_where.specs.Where.{AreInnerLines};
+ghost use Rattle.cli_where.specs.UserStrings.{AreUsersAt};
+ghost use Rattle.cli_where.specs.Where.{AreInner};
+ghost use Rattle.cli_where.specs.declared.structures.Structure.{Structure as TheStructure};
 
-use crate::cells::push_cell;
+use crate::cells::find_cell;
 use crate::entries::{Heap, target_of};
-use crate::named_entries::push_entries;
-use crate::user_strings::push_user_string;
+use crate::named_entries::find_entries;
+use crate::structures::Structure;
+use crate::user_strings::find_user_string;
 use cli_regions::{push_root_header, push_stream_headers, push_streams, push_table_stream};
 use root::{Kind, Root, read_root};
 use rows::Rows;
 use schema::Layout;
-use std::alloc::AllocError;
+use std::alloc::{AllocError, Global};
 
 /// The directory of a root that has a model.
 fn directory_of(root: &[u8]) -> Root<'_>
@@ -94,18 +96,18 @@ fn layout_of(root: &[u8], stream: &[u8]) -> Layout
     }
 }
 
-/// Appends the lines of the heap entries that have the byte, for the first ten cells that name one.
-fn push_heap_entries(
+/// Adds the heap entries that have the byte, for the first ten cells that name one.
+fn find_heap_entries(
     directory: &Root<'_>,
     rows: &Rows<'_>,
     start: u64,
     offset: u64,
-    line: &mut Vec<u8>,
+    found: &mut Vec<Structure>,
 ) -> Result<(), AllocError>
     requires small { length directory.now.bytes ≤ 0x40000000 }
     requires start { start ≤ 0x40000000 }
-    ensures { OnOk result ((text : List ℕ) → AreEntryLines (heaps_at start directory.now) rows.now.bytes rows.now.sizes offset text
-        → line.new.items ≡ line.old.items ++ text) }
+    ensures { OnOk result ((structures : List TheStructure) → AreEntriesAt (heaps_at start directory.now) rows.now.bytes rows.now.sizes offset structures
+        → found.new.items ≡ found.old.items ++ structures) }
 {
     let target = target_of(
         heap_in(directory, Kind::Strings, start),
@@ -113,50 +115,62 @@ fn push_heap_entries(
         heap_in(directory, Kind::Blobs, start),
         offset,
     );
-    push_entries(rows, &target, line)
+    find_entries(rows, &target, found)
 }
 
-/// Appends the line of the user string that has the byte, if there is one.
-fn push_user(
+/// Adds the user string that has the byte, if there is one.
+fn find_user(
     directory: &Root<'_>,
     start: u64,
     offset: u64,
-    line: &mut Vec<u8>,
+    found: &mut Vec<Structure>,
 ) -> Result<(), AllocError>
     requires small { length directory.now.bytes ≤ 0x40000000 }
     requires start { start ≤ 0x40000000 }
-    ensures { OnOk result ((text : List ℕ) → IsUserLine (heap_at start directory.now UserStrings) offset text → line.new.items ≡ line.old.items ++ text) }
+    ensures { OnOk result ((structures : List TheStructure) → AreUsersAt (heap_at start directory.now UserStrings) offset structures → found.new.items ≡ found.old.items ++ structures) }
 {
-    push_user_string(&heap_in(directory, Kind::UserStrings, start), offset, line)
+    find_user_string(&heap_in(directory, Kind::UserStrings, start), offset, found)
 }
 
-/// Appends the lines of the table stream that have the byte, those of its header and of the cell, and the lines of the
-/// heap entries that have it.
-fn push_tables(
+/// Adds the cell, the heap entries and the user string that have the byte.
+fn find_inner(
     root: &[u8],
-    directory: &Root<'_>,
     start: u64,
     offset: u64,
-    line: &mut Vec<u8>,
+    found: &mut Vec<Structure>,
 ) -> Result<(), AllocError>
     requires model { HasModel root.now }
-    requires directory { directory.now ≡ root_read root.now }
-    requires small { length root.now ≤ 0x40000000 }
     requires start { start ≤ 0x40000000 }
-    ensures { OnOk result ((inner : List ℕ) → AreInnerLines start root.now offset inner
-        → line.new.items ≡ line.old.items ++ (lines_at offset (table_stream_regions (start + tables_offset root.now) (tables_in root.now)) ++ inner)) }
+    ensures { OnOk result ((inner : List TheStructure) → AreInner start root.now offset inner → found.new.items ≡ found.old.items ++ inner) }
 {
-    let stream = stream_in(directory, Kind::Tables);
+    let directory = directory_of(root);
+    let stream = stream_in(&directory, Kind::Tables);
     let layout = layout_of(root, stream);
-    let tables_start = start + stream_offset(directory, Kind::Tables) as u64;
-    push_table_stream(stream, tables_start, offset, line)?;
-    push_cell(&layout, tables_start, offset, line)?;
-    push_heap_entries(directory, &Rows::new(stream, layout), start, offset, line)?;
-    push_user(directory, start, offset, line)
+    let tables_start = start + stream_offset(&directory, Kind::Tables) as u64;
+    find_cell(&layout, tables_start, offset, found)?;
+    find_heap_entries(&directory, &Rows::new(stream, layout), start, offset, found)?;
+    find_user(&directory, start, offset, found)
 }
 
-/// Appends the lines of the structures of a metadata root that have the byte. The root has a model and is at offset
-/// `start` of the file.
+/// The cell, the heap entries and the user string of a metadata root that have the byte, in this order. The root has a model
+/// and is at offset `start` of the file.
+pub(crate) fn inner_of(
+    alloc: Global,
+    root: &[u8],
+    start: u64,
+    offset: u64,
+) -> Result<Vec<Structure>, AllocError>
+    requires model { HasModel root.now }
+    requires start { start ≤ 0x40000000 }
+    ensures { IfOk result (λ found. (inner : List TheStructure) → AreInner start root.now offset inner → found.items ≡ inner) }
+{
+    let mut found = Vec::new(alloc);
+    find_inner(root, start, offset, &mut found)?;
+    Ok(found)
+}
+
+/// Appends the lines of the headers, streams and row counts of a metadata root that have the byte. The root has a model and
+/// is at offset `start` of the file.
 pub(crate) fn push_root(
     root: &[u8],
     start: u64,
@@ -165,12 +179,19 @@ pub(crate) fn push_root(
 ) -> Result<(), AllocError>
     requires model { HasModel root.now }
     requires start { start ≤ 0x40000000 }
-    ensures { OnOk result ((inner : List ℕ) → AreInnerLines start root.now offset inner
-        → line.new.items ≡ line.old.items ++ (lines_at offset (root_regions start root.now) ++ inner)) }
+    ensures { OnOk result (line.new.items ≡ line.old.items ++ lines_at offset (root_regions start root.now)) }
 {
+    metadata::laws::models_are_read();
+    schema::laws::streams_are_read();
     let directory = directory_of(root);
     push_root_header(root, start, offset, line)?;
     push_stream_headers(directory.headers(), start, offset, line)?;
     push_streams(&directory, start, offset, line)?;
-    push_tables(root, &directory, start, offset, line)
+    let tables_start = start + stream_offset(&directory, Kind::Tables) as u64;
+    push_table_stream(
+        stream_in(&directory, Kind::Tables),
+        tables_start,
+        offset,
+        line,
+    )
 }

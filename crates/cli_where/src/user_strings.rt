@@ -1,12 +1,13 @@
-//! Appends the line of the user string that has a byte (II.24.2.4).
+//! The user string that has a byte (II.24.2.4).
 ghost use Rattle.std.specs.Prelude.{◌≡◌, ◌≤◌, ◌<◌, ◌+◌, ◌++◌, ◌^◌, ℕ, List, OnOk, IfSome, IfNone, IsSomeAnd, length, true};
 ghost use Rattle.cli_where.specs.Kept.{IsLow, heap_of};
-ghost use Rattle.cli_regions.specs.Regions.{has_byte, region_text};
-ghost use Rattle.cli_where.specs.UserStrings.{IsListed, IsUserAt, IsUserLine, user_region};
+ghost use Rattle.cli_regions.specs.Regions.{has_byte};
+ghost use Rattle.cli_where.specs.UserStrings.{AreUsersAt, IsListed, IsUserAt, user_structure};
+ghost use Rattle.cli_where.specs.declared.structures.Structure.{Structure as TheStructure};
 
 use crate::entries::{Heap, blob_size};
-use cli_regions::{has_byte, push_span};
-use cli_reports::push_word;
+use crate::structures::{Item, Structure};
+use cli_regions::has_byte;
 use heap_entries::user_string;
 use std::alloc::AllocError;
 
@@ -64,31 +65,30 @@ fn user_entry(heap: &Heap<'_>, offset: u64) -> Option<UserEntry>
     None
 }
 
-/// Appends the line of a user string of a heap that is at offset `start` of the file.
-#[tactic(auto, unfolding(cli_regions::specs::Regions::region_text))]
-fn push_user_line(start: u64, entry: UserEntry, line: &mut Vec<u8>) -> Result<(), AllocError>
+/// A user string of a heap that is at offset `start` of the file, as a structure.
+fn user_structure(start: u64, entry: UserEntry) -> Structure
     requires start { start ≤ 0x80000000 }
     requires token { entry.index < 2 ^ 24 }
-    ensures { OnOk result (line.new.items ≡ line.old.items ++ region_text (user_region start entry.index entry.size)) }
+    ensures { result ≡ user_structure start entry.index entry.size }
 {
-    push_span(start + entry.index as u64, entry.size as u64, line)?;
-    line.extend_from_slice(b"user string ")?;
-    push_word(USER_STRINGS + entry.index as u32, line)?;
-    Ok(line.push(b'\n')?)
+    Structure {
+        start: start + entry.index as u64,
+        size: entry.size as u64,
+        item: Item::UserString(USER_STRINGS + entry.index as u32),
+    }
 }
 
-/// Appends the line of the user string that has the byte, if there is one.
-#[tactic(auto, unfolding(cli_regions::specs::Regions::region_text))]
-pub(crate) fn push_user_string(
+/// Adds the user string that has the byte, if there is one.
+pub(crate) fn find_user_string(
     heap: &Heap<'_>,
     offset: u64,
-    line: &mut Vec<u8>,
+    found: &mut Vec<Structure>,
 ) -> Result<(), AllocError>
     requires { IsLow heap.now }
-    ensures { OnOk result ((text : List ℕ) → IsUserLine (heap_of heap.now) offset text → line.new.items ≡ line.old.items ++ text) }
+    ensures { OnOk result ((structures : List TheStructure) → AreUsersAt (heap_of heap.now) offset structures → found.new.items ≡ found.old.items ++ structures) }
 {
     match user_entry(heap, offset) {
-        Some(entry) => push_user_line(heap.start, entry, line),
+        Some(entry) => Ok(found.push(user_structure(heap.start, entry))?),
         None => Ok(()),
     }
 }

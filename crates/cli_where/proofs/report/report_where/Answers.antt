@@ -25,15 +25,15 @@ returns-clause-untouched g c = IfErr-weaker c.print_where.result _ _ (λ failure
 pub returns-clause-outcome : goal.returns-clause-outcome
 returns-clause-outcome g c = λ found text is.
     let same = c.in_ok-header.ensures.parts is.0 is.1 is.2 in
-    let there = subst (λ (root : List ℕ). AreLines c.args.bytes.now is.0 root c.args.offset is.3) (sym (c.root.ensures.bytes ∙ same.1)) is.4 in
-    let here = subst (λ (header : Option CliHeader). AreLines c.args.bytes.now header c.root.result.now c.args.offset is.3) (sym same.0) there in
+    let there = subst (λ (root : List ℕ). AreLines c.args.form c.args.bytes.now is.0 root c.args.offset is.3) (sym (c.root.ensures.bytes ∙ same.1)) is.4 in
+    let here = subst (λ (header : Option CliHeader). AreLines c.args.form c.args.bytes.now header c.root.result.now c.args.offset is.3) (sym same.0) there in
     IfOk-weaker c.print_where.result _ _ (λ it equal. equal ∙ sym is.5) (c.print_where.ensures.outcome is.3 here)
 
 pub returns-clause-printed : goal.returns-clause-printed
 returns-clause-printed g c = λ found text is.
     let same = c.in_ok-header.ensures.parts is.0 is.1 is.2 in
-    let there = subst (λ (root : List ℕ). AreLines c.args.bytes.now is.0 root c.args.offset is.3) (sym (c.root.ensures.bytes ∙ same.1)) is.4 in
-    let here = subst (λ (header : Option CliHeader). AreLines c.args.bytes.now header c.root.result.now c.args.offset is.3) (sym same.0) there in
+    let there = subst (λ (root : List ℕ). AreLines c.args.form c.args.bytes.now is.0 root c.args.offset is.3) (sym (c.root.ensures.bytes ∙ same.1)) is.4 in
+    let here = subst (λ (header : Option CliHeader). AreLines c.args.form c.args.bytes.now header c.root.result.now c.args.offset is.3) (sym same.0) there in
     subst (λ (bytes : List ℕ). Prints (g.W.Write.contents c.args.out.now) (g.W.Write.contents c.print_where.new.out) c.print_where.result bytes) (sym is.6)
     (c.print_where.ensures.printed is.3 here)
 
