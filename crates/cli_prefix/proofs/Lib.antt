@@ -5,3 +5,9 @@ pub mod ShownLemmas
 pub mod BrokenLemmas
 pub mod Outcomes
 pub mod ThereLemmas
+pub mod ReadLemmas
+pub mod SomeModel
+pub mod ByteLemmas
+pub mod FirstLemmas
+pub mod TextLemmas
+pub mod OneText

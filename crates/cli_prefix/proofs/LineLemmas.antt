@@ -12,7 +12,10 @@ pub items_more : {X : Type 0} (f : X → List ℕ) (line : List ℕ) (xs : List 
     → (line ++ flat_map f (take i xs)) ++ f (get_or xs i d) ≡ line ++ flat_map f (take (i + 1) xs)
 items_more f line xs i d lt = flat_map_more f line (take i xs) (get_or xs i d) ∙ ap (λ ys. line ++ flat_map f ys) (sym (take_more xs i d lt))
 
--- the parts of a line, one after another
-pub four_joined : (line a b c d : List ℕ) → (((line ++ a) ++ b) ++ c) ++ d ≡ line ++ (a ++ b ++ c ++ d)
-four_joined line a b c d =
-    ap (λ xs. (xs ++ c) ++ d) (append_assoc line a b) ∙ ap (λ xs. xs ++ d) (append_assoc line (a ++ b) c) ∙ append_assoc line (a ++ b ++ c) d
+-- a cell after a space and what it begins with
+pub cell_joined : (line space label value : List ℕ) → ((line ++ space) ++ label) ++ value ≡ line ++ (space ++ (label ++ value))
+cell_joined line space label value = simp append_assoc
+
+-- a row: what it begins with, its cells and the line feed
+pub row_joined : (line label cells end : List ℕ) → ((line ++ label) ++ cells) ++ end ≡ line ++ ((label ++ cells) ++ end)
+row_joined line label cells end = simp append_assoc

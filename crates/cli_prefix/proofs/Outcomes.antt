@@ -1,6 +1,7 @@
 -- The possible results, case by case.
-use Rattle.std.proofs.Common.{◌≡◌, ◌≢◌, ℕ, Bool, true, false, List, [], Option, Some, None, Result, Ok, Err, refl, subst, sym}
-use Rattle.std.specs.Result.{IfErr}
+use Rattle.std.proofs.Common.{◌≡◌, ◌≢◌, ℕ, Bool, true, false, List, Option, Some, None, Result, Ok, Err, refl, subst}
+use Rattle.std.specs.Prelude.{IfErr, OnOk}
+use Rattle.std.proofs.lemmas.Result.{on_ok_weaker}
 use Rattle.std.proofs.lemmas.Grind.{not_there}
 use Rattle.packed.proofs.RuleLemmas.{none_fails}
 use Rattle.packed.specs.declared.fault.Fault.{Fault as First}
@@ -15,9 +16,29 @@ use Rattle.metadata.specs.Model.{IsModel, IsModelOfFile}
 use Rattle.metadata.specs.Rules.{rules_of_file, rules_of_metadata}
 use Rattle.cli_reports.specs.Checked.{IsWhole, rules_of}
 use Rattle.cli_reports.specs.Printed.{IsModelOf, IsReportText}
-use Rattle.cli_reports.specs.Reported.{ReportsFault}
-use Rattle.cli_reports.specs.Sent.{SendsPrefix, Prints}
+use Rattle.cli_reports.specs.Reported.{IsMet, Reports, ReportsFault}
+use Rattle.cli_reports.specs.declared.row_lines.Names.{Names}
+use Rattle.cli_reports.specs.Sent.{SendsPrefix}
 use Rattle.cli_prefix.specs.Before.{ReportsFirst, SendsBefore, report_of}
+
+-- the report of the tables asks for a model, and for the rules of one
+report_met : (names : Names) (table : Option TableId) (bare : Bool) (bytes : List ℕ) → IsMet (report_of names table) bare bytes → IsWhole bare bytes
+report_met names None bare bytes is = is
+report_met names (Some table) bare bytes is = is
+
+report_reports : (names : Names) (table : Option TableId) (bare : Bool) (bytes : List ℕ) (failure : Failure) → Reports (report_of names table) bare bytes failure
+    → ReportsFault (IsWhole bare bytes) (rules_of bare bytes) failure
+report_reports names None bare bytes failure is = is
+report_reports names (Some table) bare bytes failure is = is
+
+module _ {T : Type 0} (names : Names) (table : Option TableId) (bare : Bool) (bytes : List ℕ) where
+  pub printed_whole : (result : Result T Failure) → OnOk result (IsMet (report_of names table) bare bytes) → OnOk result (IsWhole bare bytes)
+  printed_whole result is = on_ok_weaker result (report_met names table bare bytes) is
+
+  pub reported_fault : (result : Result T Failure) → IfErr result (Reports (report_of names table) bare bytes)
+      → IfErr result (ReportsFault (IsWhole bare bytes) (rules_of bare bytes))
+  reported_fault (Ok done) is = cc
+  reported_fault (Err failure) is = report_reports names table bare bytes failure is
 
 -- a failure of the output is no fault
 pub reports_output : (rules : List (Rule First)) (failure : Failure) → IsOutput failure → ReportsFirst rules failure
@@ -78,10 +99,10 @@ module _ (roots : (offset : ℕ) (root : List ℕ) (model : Metadata) → IsMode
   model_holds false bytes model is = files bytes is.0 model is.1
 
   -- bytes that break a rule have no report
-  pub no_text : (bare : Bool) (bytes : List ℕ) (table : Option TableId) (text : List ℕ) (found : First) → FirstBroken (rules_of bare bytes) found
-      → IsReportText (report_of table) bare bytes text → ⊥
-  no_text bare bytes None text found first is = none_fails (rules_of bare bytes) found (model_holds bare bytes is.0 is.1) first
-  no_text bare bytes (Some table) text found first is = none_fails (rules_of bare bytes) found (model_holds bare bytes is.0 is.1) first
+  pub no_text : (names : Names) (bare : Bool) (bytes : List ℕ) (table : Option TableId) (text : List ℕ) (found : First) → FirstBroken (rules_of bare bytes) found
+      → IsReportText (report_of names table) bare bytes text → ⊥
+  no_text names bare bytes None text found first is = none_fails (rules_of bare bytes) found (model_holds bare bytes is.0 is.1) first
+  no_text names bare bytes (Some table) text found first is = none_fails (rules_of bare bytes) found (model_holds bare bytes is.0 is.1) first
 
   -- bytes that break a rule have no model
   pub not_whole : (bare : Bool) (bytes : List ℕ) (found : First) → FirstBroken (rules_of bare bytes) found → IsWhole bare bytes → ⊥

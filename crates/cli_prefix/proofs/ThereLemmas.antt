@@ -1,25 +1,15 @@
--- Some model has the cells that are shown, and the model of a root is one.
-use Rattle.std.proofs.Common.{◌≡◌, ◌∙◌, ℕ, zero, suc, ◌+◌, ◌-◌, ◌<◌, ◌≤◌, Bool, false, List, [], ◌∷◌, length, refl, sym, ap, subst, inl, arith}
-use Rattle.std.specs.Prelude.{slice_index_or}
-use Rattle.packed.specs.Rule.{AllHold}
+-- The model of a root has the cells that are shown.
+use Rattle.std.proofs.Common.{ℕ, Bool, inl}
 use Rattle.table_schema.specs.declared.table.TableId.{TableId}
-use Rattle.table_schema.specs.declared.table.TableId.TheVariants.{Module}
 use Rattle.table_schema.specs.declared.column.ColumnKind.{ColumnKind}
 use Rattle.table_schema.specs.declared.column.ColumnKind.TheVariants as kind
-use Rattle.table_schema.specs.Tables.{tables, table_index_of}
-use Rattle.table_schema.specs.Columns.{column_at, columns_of}
-use Rattle.table_schema.specs.CellColumns.{cell_count, column_of, is_padding}
+use Rattle.table_schema.specs.Columns.{column_at}
 use Rattle.metadata.specs.Cell.{Cell}
-use Rattle.metadata.specs.Cell.{Number}
-use Rattle.metadata.specs.Metadata.{Metadata}
-use Rattle.metadata.specs.Rows.{StandsIn, table_at}
-use Rattle.metadata.specs.Rules.{rules_of_row}
-use Rattle.metadata.specs.Source.{Source, rows_in, number_of}
-use Rattle.metadata.specs.SourceAt.{SourceAt}
+use Rattle.metadata.specs.Rows.{StandsIn}
+use Rattle.metadata.specs.Source.{Source, number_of}
 use Rattle.metadata.specs.Stands.{StandsFor}
 use Rattle.metadata.specs.Starts.{start_of}
-use Rattle.cli_prefix.specs.Shown.{IsShown, IsShownFor, IsShownIn}
-use Rattle.cli_prefix.proofs.ShownLemmas.{cell_of_row, cell_shown}
+use Rattle.cli_prefix.specs.Shown.{IsShownFor, IsShownIn}
 
 -- the cell that a number represents is shown
 pub stands_shown : (source : Source) (kind : ColumnKind) (nullable : Bool) (start : TableId → ℕ) (number : ℕ) (cell : Cell)

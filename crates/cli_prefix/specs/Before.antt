@@ -17,14 +17,15 @@ use Rattle.cli_faults.specs.declared.failure.Failure.TheVariants as failed
 use Rattle.cli_faults.specs.Status.{IsOutput}
 use Rattle.cli_reports.specs.declared.report.Report.{Report}
 use Rattle.cli_reports.specs.declared.report.Report.TheVariants as report
+use Rattle.cli_reports.specs.declared.row_lines.Names.{Names}
 use Rattle.cli_reports.specs.RowTexts.{heading_text, rows_text}
 use Rattle.cli_reports.specs.Sent.{SendsPrefix}
 use Rattle.cli_prefix.specs.Shown.{IsShown}
 
 -- the report of all tables, or of one
-abbrev pub report_of : Option TableId → Report
-report_of None = report.Show
-report_of (Some table) = report.Table table
+abbrev pub report_of : Names → Option TableId → Report
+report_of names None = report.Show names
+report_of names (Some table) = report.Table table names
 
 -- the rules before those for cells: those for a metadata root if the bytes are bare, else for a file
 abbrev pub rules_before : Bool → List ℕ → List (Rule Fault)
@@ -43,27 +44,27 @@ rows_before source (Some at) table =
     if nat_lt (table_index_of table) at.table_index then rows_in source table else (if table_index_of table == at.table_index then at.row - 1 else 0)
 
 -- the first rows of a table after the line of the table; nothing if there are none
-unfoldable pub first_rows_text : Metadata → TableId → ℕ → List ℕ
-first_rows_text model table rows = if rows == 0 then [] else heading_text table (count_in model table) ++ rows_text model table rows
+unfoldable pub first_rows_text : Names → Metadata → TableId → ℕ → List ℕ
+first_rows_text names model table rows = if rows == 0 then [] else heading_text table (count_in model table) ++ rows_text names model table rows
 
 -- the rows of a table before a broken row
-abbrev pub table_before : Source → Option BrokenRow → Metadata → TableId → List ℕ
-table_before source broken model table = first_rows_text model table (rows_before source broken table)
+abbrev pub table_before : Names → Source → Option BrokenRow → Metadata → TableId → List ℕ
+table_before names source broken model table = first_rows_text names model table (rows_before source broken table)
 
 -- the rows of all tables before a broken row, in the order of the tables; or those of one table
-abbrev pub text_before : Source → Option BrokenRow → Metadata → Option TableId → List ℕ
-text_before source broken model None = flat_map (table_before source broken model) tables
-text_before source broken model (Some table) = table_before source broken model table
+abbrev pub text_before : Names → Source → Option BrokenRow → Metadata → Option TableId → List ℕ
+text_before names source broken model None = flat_map (table_before names source broken model) tables
+text_before names source broken model (Some table) = table_before names source broken model table
 
 -- the text is that of the rows before the first row that breaks a rule for cells
-abbrev pub IsRowsText : SourceAt → Option TableId → List ℕ → Type 0
-IsRowsText here table text =
-    (model : Metadata) × (broken : Option BrokenRow) × IsShown here model × IsFirstBroken here broken × (text ≡ text_before here.source broken model table)
+abbrev pub IsRowsText : Names → SourceAt → Option TableId → List ℕ → Type 0
+IsRowsText names here table text =
+    (model : Metadata) × (broken : Option BrokenRow) × IsShown here model × IsFirstBroken here broken × (text ≡ text_before names here.source broken model table)
 
 -- the same of the bytes; no rows if a rule before those for cells is broken
-abbrev pub IsTextBefore : Bool → List ℕ → Option TableId → List ℕ → Type 0
-IsTextBefore bare bytes table text =
-    (AllHold (rules_before bare bytes) × IsRowsText (source_in bare bytes) table text) ⊎ ((¬ AllHold (rules_before bare bytes)) × (text ≡ []))
+abbrev pub IsTextBefore : Names → Bool → List ℕ → Option TableId → List ℕ → Type 0
+IsTextBefore names bare bytes table text =
+    (AllHold (rules_before bare bytes) × IsRowsText names (source_in bare bytes) table text) ⊎ ((¬ AllHold (rules_before bare bytes)) × (text ≡ []))
 
 -- a fault is that of the first rule that fails; any other failure is of the output or memory
 abbrev pub ReportsFirst : List (Rule Fault) → Failure → Type 0

@@ -72,6 +72,7 @@ impl<'s, 'a> MetRows<'s, 'a> {
     pub fn met(&self, table: TableId) -> u32
         ensures value { (broken : Option TheBroken) → IsFirstBroken self.now broken → result ≡ rows_before self.now.source broken table }
         ensures within { result ≤ rows_in self.now.source table }
+        ensures limit { result ≤ 0xFFFFFF }
         ensures rules { HoldBefore (rules_of_row self.now table) 1 (result + 1) }
     {
         table_schema::laws::tables_stand();

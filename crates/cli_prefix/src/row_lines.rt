@@ -15,7 +15,9 @@ ghost use Rattle.cli_prefix.specs.Shown.{IsShown};
 
 use crate::met_rows::MetRows;
 use cli_reports::table_lines::push_heading;
-use cli_reports::{FULL, finish, kind_of, push_decimal, push_value, send_full};
+use cli_reports::{
+    FULL, Names, finish, kind_of, push_cell_label, push_row_label, push_value, send_full,
+};
 use reading::Source;
 use std::alloc::{AllocError, Global};
 use std::io::{self, Write};
@@ -46,6 +48,7 @@ fn push_cell(
 /// Appends the line of a row that follows the rules for cells, as `clim show` prints it.
 fn push_row(
     alloc: Global,
+    names: Names,
     rows: &mut MetRows<'_, '_>,
     table: TableId,
     row: u32,
@@ -53,15 +56,16 @@ fn push_row(
 ) -> Result<(), AllocError>
     requires first { 1 ≤ row }
     requires last { row ≤ rows_in rows.old.source table }
+    requires limit { row ≤ 0xFFFFFF }
     requires rules { AllHold (rules_of_row rows.old table row) }
     ensures same { rows.new ≡ rows.old }
     ensures line { OnOk result ((model : Metadata) → IsShown rows.old model
-        → line.new.items ≡ line.old.items ++ row_text row (row_of model table row)) }
+        → line.new.items ≡ line.old.items ++ row_text names table row (row_of model table row)) }
 {
-    push_decimal(u64::from(row), line)?;
-    line.push(b':')?;
+    push_row_label(names, table, row, line)?;
     for cell_index in 0..cell_count(table) {
         line.push(b' ')?;
+        push_cell_label(names, table, cell_index, line)?;
         push_cell(alloc, rows, table, row, cell_index, line)?;
     }
     Ok(line.push(b'\n')?)
@@ -70,6 +74,7 @@ fn push_row(
 /// Prints a row that follows the rules for cells.
 fn print_row<W: Write>(
     alloc: Global,
+    names: Names,
     rows: &mut MetRows<'_, '_>,
     table: TableId,
     row: u32,
@@ -78,18 +83,20 @@ fn print_row<W: Write>(
 ) -> io::Result<()>
     requires first { 1 ≤ row }
     requires last { row ≤ rows_in rows.old.source table }
+    requires limit { row ≤ 0xFFFFFF }
     requires rules { AllHold (rules_of_row rows.old table row) }
     ensures same { rows.new ≡ rows.old }
     ensures row { (model : Metadata) → IsShown rows.old model
-        → Moves (W.contents out.old) (W.contents out.new) result (lines.old.items ++ row_text row (row_of model table row)) lines.new.items }
+        → Moves (W.contents out.old) (W.contents out.new) result (lines.old.items ++ row_text names table row (row_of model table row)) lines.new.items }
 {
-    push_row(alloc, rows, table, row, lines)?;
+    push_row(alloc, names, rows, table, row, lines)?;
     send_full(lines, out)
 }
 
 /// Prints the first rows of a table, which follow the rules for cells.
 fn print_first_rows<W: Write>(
     alloc: Global,
+    names: Names,
     rows: &mut MetRows<'_, '_>,
     table: TableId,
     count: u32,
@@ -97,13 +104,14 @@ fn print_first_rows<W: Write>(
     out: &mut W,
 ) -> io::Result<()>
     requires last { count ≤ rows_in rows.old.source table }
+    requires limit { count ≤ 0xFFFFFF }
     requires rules { HoldBefore (rules_of_row rows.old table) 1 (count + 1) }
     ensures same { rows.new ≡ rows.old }
     ensures rows { (model : Metadata) → IsShown rows.old model
-        → Moves (W.contents out.old) (W.contents out.new) result (lines.old.items ++ rows_text model table count) lines.new.items }
+        → Moves (W.contents out.old) (W.contents out.new) result (lines.old.items ++ rows_text names model table count) lines.new.items }
 {
     for earlier in 0..count {
-        print_row(alloc, rows, table, earlier + 1, lines, out)?;
+        print_row(alloc, names, rows, table, earlier + 1, lines, out)?;
     }
     Ok(())
 }
@@ -111,6 +119,7 @@ fn print_first_rows<W: Write>(
 /// Prints the rows of a table before the first broken row, after the line of the table.
 fn print_table<W: Write>(
     alloc: Global,
+    names: Names,
     rows: &mut MetRows<'_, '_>,
     table: TableId,
     lines: &mut Vec<u8>,
@@ -118,28 +127,29 @@ fn print_table<W: Write>(
 ) -> io::Result<()>
     ensures same { rows.new ≡ rows.old }
     ensures table { (model : Metadata) (broken : Option BrokenRow) → IsShown rows.old model → IsFirstBroken rows.old broken
-        → Moves (W.contents out.old) (W.contents out.new) result (lines.old.items ++ table_before rows.old.source broken model table) lines.new.items }
+        → Moves (W.contents out.old) (W.contents out.new) result (lines.old.items ++ table_before names rows.old.source broken model table) lines.new.items }
 {
     let met = rows.met(table);
     if met == 0 {
         return Ok(());
     }
     push_heading(table, rows.count(table), lines)?;
-    print_first_rows(alloc, rows, table, met, lines, out)
+    print_first_rows(alloc, names, rows, table, met, lines, out)
 }
 
 /// Prints the rows of all tables before the first broken row.
 fn print_all<W: Write>(
     alloc: Global,
+    names: Names,
     rows: &mut MetRows<'_, '_>,
     lines: &mut Vec<u8>,
     out: &mut W,
 ) -> io::Result<()>
     ensures { (model : Metadata) (broken : Option BrokenRow) → IsShown rows.old model → IsFirstBroken rows.old broken
-        → Moves (W.contents out.old) (W.contents out.new) result (lines.old.items ++ text_before rows.old.source broken model None) lines.new.items }
+        → Moves (W.contents out.old) (W.contents out.new) result (lines.old.items ++ text_before names rows.old.source broken model None) lines.new.items }
 {
     for table in TableId::all() {
-        print_table(alloc, rows, *table, lines, out)?;
+        print_table(alloc, names, rows, *table, lines, out)?;
     }
     Ok(())
 }
@@ -147,17 +157,18 @@ fn print_all<W: Write>(
 /// Prints the rows of all tables, or of one, before the first broken row.
 fn print_tables<W: Write>(
     alloc: Global,
+    names: Names,
     rows: &mut MetRows<'_, '_>,
     table: Option<TableId>,
     lines: &mut Vec<u8>,
     out: &mut W,
 ) -> io::Result<()>
     ensures { (model : Metadata) (broken : Option BrokenRow) → IsShown rows.old model → IsFirstBroken rows.old broken
-        → Moves (W.contents out.old) (W.contents out.new) result (lines.old.items ++ text_before rows.old.source broken model table) lines.new.items }
+        → Moves (W.contents out.old) (W.contents out.new) result (lines.old.items ++ text_before names rows.old.source broken model table) lines.new.items }
 {
     match table {
-        Some(table) => print_table(alloc, rows, table, lines, out),
-        None => print_all(alloc, rows, lines, out),
+        Some(table) => print_table(alloc, names, rows, table, lines, out),
+        None => print_all(alloc, names, rows, lines, out),
     }
 }
 
@@ -165,16 +176,17 @@ fn print_tables<W: Write>(
 /// Its memory is that of the longest line, and of the lines that wait to be sent.
 pub(crate) fn print_before<W: Write>(
     alloc: Global,
+    names: Names,
     source: &Source<'_>,
     table: Option<TableId>,
     out: &mut W,
 ) -> io::Result<()>
     requires { (table : Table) → rows_in source.now.source table ≤ 0xFFFFFF }
     ensures { (model : Metadata) (broken : Option BrokenRow) → IsShown source.now model → IsFirstBroken source.now broken
-        → Prints (W.contents out.old) (W.contents out.new) result (text_before source.now.source broken model table) }
+        → Prints (W.contents out.old) (W.contents out.new) result (text_before names source.now.source broken model table) }
 {
     let mut rows = MetRows::new(source);
     let mut lines = Vec::with_capacity(alloc, FULL)?;
-    print_tables(alloc, &mut rows, table, &mut lines, out)?;
+    print_tables(alloc, names, &mut rows, table, &mut lines, out)?;
     finish(&lines, out)
 }

@@ -1,4 +1,4 @@
-use Rattle.std.proofs.Common.{◌≡◌, List, ℕ, inl, inr, subst, sym}
+use Rattle.std.proofs.Common.{List, ℕ, inl, inr, subst, sym}
 use Rattle.std.specs.Io.KnownBytes.{Appends}
 use Rattle.std.proofs.KnownBytes.{Appends-nil}
 use Rattle.packed.proofs.RuleLemmas.{none_fails}
@@ -20,7 +20,7 @@ returns-in-Ok-clause-printed g c = λ text is.
           let rows = has.1 in
           same_printed c.print_before.result c.printed.result before after text c.printed.ensures.ok
           (subst (λ (xs : List ℕ). Prints before after c.print_before.result xs) (sym rows.4)
-          (subst (λ (h : SourceAt). Prints before after c.print_before.result (text_before h.source rows.1 rows.0 c.args.table)) c.in-Ok.ensures.source
+          (subst (λ (h : SourceAt). Prints before after c.print_before.result (text_before c.args.names h.source rows.1 rows.0 c.args.table)) c.in-Ok.ensures.source
           (c.print_before.ensures rows.0 rows.1 (subst (λ (h : SourceAt). IsShown h rows.0) same rows.2)
           (subst (λ (h : SourceAt). IsFirstBroken h rows.1) same rows.3))))
       | inr none ↦ absurd (none.0 c.in-Ok.ensures.reports)

@@ -1,4 +1,4 @@
-use Rattle.std.proofs.Common.{ℕ, List, subst}
+use Rattle.std.proofs.Common.{subst}
 use Rattle.std.proofs.lemmas.Result.{err_from_is_err_and}
 use Rattle.cli_reports.specs.Checked.{IsWhole, rules_of}
 use Rattle.cli_reports.specs.Sent.{SendsPrefix}
@@ -21,7 +21,7 @@ pub returns-in_err-print_rows-clause-whole : goal.returns-in_err-print_rows-clau
 returns-in_err-print_rows-clause-whole g c = λ text is.
     let bare = c.args.bare in
     let bytes = c.args.bytes.now in
-    absurd (no_text c.roots_have_models.ensures.met c.files_have_models.ensures.met bare bytes c.args.table text c.in-Fault.fault
+    absurd (no_text c.roots_have_models.ensures.met c.files_have_models.ensures.met c.args.names bare bytes c.args.table text c.in-Fault.fault
     (fault_breaks (IsWhole bare bytes) (rules_of bare bytes) c.in-Err.failure c.in-Fault.fault c.in-Fault.is c.in-Err.ensures.first_error) is)
 
 pub returns-in_err-print_rows-clause-before : goal.returns-in_err-print_rows-clause-before
@@ -37,5 +37,5 @@ pub returns-clause-whole : goal.returns-clause-whole
 returns-clause-whole g c = λ text is.
     let bare = c.args.bare in
     let bytes = c.args.bytes.now in
-    absurd (no_text c.roots_have_models.ensures.met c.files_have_models.ensures.met bare bytes c.args.table text c.in-Fault.fault
+    absurd (no_text c.roots_have_models.ensures.met c.files_have_models.ensures.met c.args.names bare bytes c.args.table text c.in-Fault.fault
     (fault_breaks (IsWhole bare bytes) (rules_of bare bytes) c.in-Err.failure c.in-Fault.fault c.in-Fault.is c.in-Err.ensures.first_error) is)

@@ -1,14 +1,12 @@
-use Rattle.std.proofs.Common.{◌++◌, ◌+◌, ◌<◌, ◌≤◌, ◌≡◌, ◌∙◌, [], List, ℕ, Option, length, take, get_or, ap, refl, sym, subst, append-nil, arith}
+use Rattle.std.proofs.Common.{◌++◌, ◌+◌, ◌<◌, ◌≤◌, ◌≡◌, ◌∙◌, List, ℕ, length, take, get_or, ap, refl, sym, subst, append-nil, arith}
 use Rattle.std.specs.List.{flat_map}
 use Rattle.std.proofs.lemmas.List.{take_all}
 use Rattle.table_schema.specs.declared.table.TableId.{TableId}
 use Rattle.table_schema.specs.declared.table.TableId.TheVariants.{Module}
 use Rattle.table_schema.specs.Tables.{tables}
-use Rattle.metadata.specs.Metadata.{Metadata}
 use Rattle.metadata.specs.SourceAt.{SourceAt}
 use Rattle.checks.specs.Broken.{IsFirstBroken}
-use Rattle.checks.specs.declared.cell_checks.BrokenRow.{BrokenRow}
-use Rattle.cli_reports.specs.Sent.{Sends, SendsPrefix, Moves}
+use Rattle.cli_reports.specs.Sent.{Sends, SendsPrefix}
 use Rattle.cli_prefix.specs.Before.{table_before}
 use Rattle.cli_prefix.specs.Shown.{IsShown}
 use Rattle.cli_prefix.proofs.LineLemmas.{items_more}
@@ -35,12 +33,12 @@ returns-in_err-print_table g c = λ model broken shown is.
     let after = g.W.Write.contents c.print_table.new.out in
     let index = c.loop-table.table-index in
     let lines = c.args.lines.now.items in
-    let f : TableId → List ℕ = table_before c.args.rows.now.source broken model in
+    let f : TableId → List ℕ = table_before c.args.names c.args.rows.now.source broken model in
     let many : length c.all-table-items.result.now ≡ length tables = ap length c.all-table-items.ensures.value in
     let within : index < length tables = omega (arith, many, c.loop-table-test.true) in
     let cut : SendsPrefix between after (c.loop-table.lines.items ++ f (get_or tables index Module)) =
     subst (λ (listed : List TableId). SendsPrefix between after (c.loop-table.lines.items ++ f (get_or listed index Module))) c.all-table-items.ensures.value
-    (subst (λ (h : SourceAt). SendsPrefix between after (c.loop-table.lines.items ++ table_before h.source broken model (get_or c.all-table-items.result.now index Module))) same
+    (subst (λ (h : SourceAt). SendsPrefix between after (c.loop-table.lines.items ++ table_before c.args.names h.source broken model (get_or c.all-table-items.result.now index Module))) same
     (c.in_err-print_table.ensures.table model broken here first)) in
     cut_moved c.from_residual.result before after (lines ++ flat_map f tables) c.print_table.new.lines.items c.from_residual.ensures.0
     (items_cut f lines tables before after (index + 1)
@@ -61,12 +59,12 @@ loop-table-preserved g c = record {
       let index = c.loop-table.table-index in
       let lines = c.args.lines.now.items in
       let left = c.print_table.new.lines.items in
-      let f : TableId → List ℕ = table_before c.args.rows.now.source broken model in
+      let f : TableId → List ℕ = table_before c.args.names c.args.rows.now.source broken model in
       let many : length c.all-table-items.result.now ≡ length tables = ap length c.all-table-items.ensures.value in
       let within : index < length tables = omega (arith, many, c.loop-table-test.true) in
       let sent : Sends between after (c.loop-table.lines.items ++ f (get_or tables index Module)) left =
       subst (λ (listed : List TableId). Sends between after (c.loop-table.lines.items ++ f (get_or listed index Module)) left) c.all-table-items.ensures.value
-      (subst (λ (h : SourceAt). Sends between after (c.loop-table.lines.items ++ table_before h.source broken model (get_or c.all-table-items.result.now index Module)) left) same
+      (subst (λ (h : SourceAt). Sends between after (c.loop-table.lines.items ++ table_before c.args.names h.source broken model (get_or c.all-table-items.result.now index Module)) left) same
       (c.in_ok-print_table.ensures.table model broken here first)) in
       subst (λ (bytes : List ℕ). Sends before after bytes left) (items_more f lines tables index Module within)
       (sends_more before between after (lines ++ flat_map f (take index tables)) c.loop-table.lines.items (f (get_or tables index Module)) left
@@ -77,7 +75,7 @@ pub returns : goal.returns
 returns g c = λ model broken shown is.
     let index = c.loop-table.table-index in
     let lines = c.args.lines.now.items in
-    let f : TableId → List ℕ = table_before c.args.rows.now.source broken model in
+    let f : TableId → List ℕ = table_before c.args.names c.args.rows.now.source broken model in
     let many : length c.all-table-items.result.now ≡ length tables = ap length c.all-table-items.ensures.value in
     let all : length tables ≤ index = omega (arith, many, c.loop-table-test.false) in
     subst (λ (listed : List TableId). Sends (g.W.Write.contents c.args.out.now) (g.W.Write.contents c.loop-table.out) (lines ++ flat_map f listed) c.loop-table.lines.items)

@@ -14,5 +14,5 @@ invariant-loop-table g l = record {
   same : l.rows ≡ l.initial.rows;
   sent : (model : Metadata) (broken : Option BrokenRow) → IsShown l.initial.rows model → IsFirstBroken l.initial.rows broken
       → Sends (g.W.Write.contents l.initial.out) (g.W.Write.contents l.out)
-      (l.initial.lines.items ++ flat_map (table_before l.initial.rows.source broken model) (take l.table-index tables)) l.lines.items;
+      (l.initial.lines.items ++ flat_map (table_before l.names l.initial.rows.source broken model) (take l.table-index tables)) l.lines.items;
 }

@@ -17,7 +17,7 @@ loop-earlier-init g c = record {
   sent = λ model is.
       let known = g.W.Write.contents c.args.out.now in
       let lines = c.args.lines.now.items in
-      subst (λ (bytes : List ℕ). Sends known known bytes lines) (sym (append-nil lines) ∙ ap (λ xs. lines ++ xs) (sym (no_rows model c.args.table))) (sends_nothing known lines);
+      subst (λ (bytes : List ℕ). Sends known known bytes lines) (sym (append-nil lines) ∙ ap (λ xs. lines ++ xs) (sym (no_rows c.args.names model c.args.table))) (sends_nothing known lines);
 }
 
 pub print_row-requires : goal.print_row-requires
@@ -26,6 +26,7 @@ print_row-requires g c =
     record {
       first = omega arith;
       last = subst (λ (here : SourceAt). c.loop-earlier.earlier + 1 ≤ rows_in here.source c.args.table) same (omega (arith, c.requires.last, c.loop-earlier-test.true));
+      limit = omega (arith, c.requires.limit, c.loop-earlier-test.true);
       rules = subst (λ (here : SourceAt). AllHold (rules_of_row here c.args.table (c.loop-earlier.earlier + 1))) same
           (c.requires.rules.each (c.loop-earlier.earlier + 1) (omega arith) (omega (arith, c.loop-earlier-test.true)));
     }
@@ -40,11 +41,11 @@ returns-in_err-print_row-clause-rows g c = λ model is.
     let earlier = c.loop-earlier.earlier in
     let count = c.args.count in
     let whole : earlier + 1 + (count - (earlier + 1)) ≡ count = omega (arith, c.loop-earlier-test.true) in
-    cut_moved c.from_residual.result before after (lines ++ rows_text model c.args.table count) c.print_row.new.lines.items c.from_residual.ensures.0
-    (rows_cut model c.args.table before after lines (earlier + 1) (count - (earlier + 1)) count whole
-    (subst (λ (bytes : List ℕ). SendsPrefix before after bytes) (rows_more model c.args.table lines earlier)
-    (prefix_more before between after (lines ++ rows_text model c.args.table earlier) c.loop-earlier.lines.items
-    (row_text (earlier + 1) (row_of model c.args.table (earlier + 1))) (c.loop-earlier.invariant.sent model is) (c.in_err-print_row.ensures.row model here))))
+    cut_moved c.from_residual.result before after (lines ++ rows_text c.args.names model c.args.table count) c.print_row.new.lines.items c.from_residual.ensures.0
+    (rows_cut c.args.names model c.args.table before after lines (earlier + 1) (count - (earlier + 1)) count whole
+    (subst (λ (bytes : List ℕ). SendsPrefix before after bytes) (rows_more c.args.names model c.args.table lines earlier)
+    (prefix_more before between after (lines ++ rows_text c.args.names model c.args.table earlier) c.loop-earlier.lines.items
+    (row_text c.args.names c.args.table (earlier + 1) (row_of model c.args.table (earlier + 1))) (c.loop-earlier.invariant.sent model is) (c.in_err-print_row.ensures.row model here))))
 
 pub loop-earlier-preserved : goal.loop-earlier-preserved
 loop-earlier-preserved g c = record {
@@ -56,13 +57,13 @@ loop-earlier-preserved g c = record {
       let after = g.W.Write.contents c.print_row.new.out in
       let lines = c.args.lines.now.items in
       let earlier = c.loop-earlier.earlier in
-      subst (λ (bytes : List ℕ). Sends before after bytes c.print_row.new.lines.items) (rows_more model c.args.table lines earlier)
-      (sends_more before between after (lines ++ rows_text model c.args.table earlier) c.loop-earlier.lines.items
-      (row_text (earlier + 1) (row_of model c.args.table (earlier + 1))) c.print_row.new.lines.items (c.loop-earlier.invariant.sent model is) (c.in_ok-print_row.ensures.row model here));
+      subst (λ (bytes : List ℕ). Sends before after bytes c.print_row.new.lines.items) (rows_more c.args.names model c.args.table lines earlier)
+      (sends_more before between after (lines ++ rows_text c.args.names model c.args.table earlier) c.loop-earlier.lines.items
+      (row_text c.args.names c.args.table (earlier + 1) (row_of model c.args.table (earlier + 1))) c.print_row.new.lines.items (c.loop-earlier.invariant.sent model is) (c.in_ok-print_row.ensures.row model here));
 }
 
 pub returns-clause-rows : goal.returns-clause-rows
 returns-clause-rows g c = λ model is.
     let all : c.loop-earlier.earlier ≡ c.args.count = omega (arith, c.loop-earlier-test.false, c.loop-earlier.auto.earlier-end) in
-    subst (λ (n : ℕ). Sends (g.W.Write.contents c.args.out.now) (g.W.Write.contents c.loop-earlier.out) (c.args.lines.now.items ++ rows_text model c.args.table n) c.loop-earlier.lines.items)
+    subst (λ (n : ℕ). Sends (g.W.Write.contents c.args.out.now) (g.W.Write.contents c.loop-earlier.out) (c.args.lines.now.items ++ rows_text c.args.names model c.args.table n) c.loop-earlier.lines.items)
     all (c.loop-earlier.invariant.sent model is)

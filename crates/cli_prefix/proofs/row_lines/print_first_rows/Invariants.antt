@@ -9,5 +9,5 @@ abbrev pub invariant-loop-earlier : goal.invariant-loop-earlier
 invariant-loop-earlier g l = record {
   same : l.rows ≡ l.initial.rows;
   sent : (model : Metadata) → IsShown l.initial.rows model
-      → Sends (g.W.Write.contents l.initial.out) (g.W.Write.contents l.out) (l.initial.lines.items ++ rows_text model l.table l.earlier) l.lines.items;
+      → Sends (g.W.Write.contents l.initial.out) (g.W.Write.contents l.out) (l.initial.lines.items ++ rows_text l.names model l.table l.earlier) l.lines.items;
 }

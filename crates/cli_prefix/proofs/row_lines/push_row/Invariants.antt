@@ -1,5 +1,5 @@
-use Rattle.std.proofs.Common.{◌≡◌, ◌++◌, take}
-use Rattle.std.specs.List.{flat_map}
+use Rattle.std.proofs.Common.{◌≡◌, ◌++◌}
+use Rattle.std.specs.List.{flat_map, range_with_len}
 use Rattle.metadata.specs.Metadata.{Metadata, row_of}
 use Rattle.cli_reports.specs.RowTexts.{spaced}
 use Rattle.cli_prefix.specs.Shown.{IsShown}
@@ -9,5 +9,5 @@ abbrev pub invariant-loop-cell_index : goal.invariant-loop-cell_index
 invariant-loop-cell_index l = record {
   same : l.rows ≡ l.initial.rows;
   line : (model : Metadata) → IsShown l.initial.rows model
-      → l.line.items ≡ l.initial.line.items ++ flat_map spaced (take l.cell_index (row_of model l.table l.row));
+      → l.line.items ≡ l.initial.line.items ++ flat_map (spaced l.names l.table (row_of model l.table l.row)) (range_with_len 0 l.cell_index);
 }

@@ -1,13 +1,12 @@
-use Rattle.std.proofs.Common.{◌≡◌, ◌≤◌, ◌<◌, ◌∙◌, ℕ, length, subst, sym}
+use Rattle.std.proofs.Common.{◌≤◌, ℕ, subst, sym}
 use Rattle.packed.specs.Rule.{AllHold}
-use Rattle.table_schema.specs.Columns.{column_at, columns_of}
-use Rattle.table_schema.specs.CellColumns.{column_of, is_padding}
+use Rattle.table_schema.specs.Columns.{column_at}
+use Rattle.table_schema.specs.CellColumns.{column_of}
 use Rattle.metadata.specs.Cell.{Cell}
 use Rattle.metadata.specs.Rules.{rules_of_row}
 use Rattle.metadata.specs.Source.{rows_in}
 use Rattle.metadata.specs.SourceAt.{SourceAt}
 use Rattle.reading.specs.Shown.{Shows}
-use Rattle.cli_reports.specs.Values.{IsOfModel}
 use Rattle.cli_prefix.specs.Shown.{IsShownIn}
 use Rattle.cli_prefix.proofs.ShownLemmas.{cell_of_row, of_shown}
 use Rattle.cli_prefix.proofs.met_rows.MetRows.cell.Goals as goal

@@ -1,4 +1,4 @@
-use Rattle.std.proofs.Common.{◌≡◌, ◌≤◌, ◌+◌, ◌∙◌, ℕ, Option, ap, subst, sym}
+use Rattle.std.proofs.Common.{◌≤◌, ◌+◌, ◌∙◌, ℕ, Option, ap, subst, sym, arith}
 use Rattle.packed.specs.Rule.{HoldBefore}
 use Rattle.metadata.specs.Rules.{rules_of_row}
 use Rattle.metadata.specs.Source.{rows_in}
@@ -24,6 +24,14 @@ returns-clause-within c =
     subst (λ (here : SourceAt). c.rows_before.result ≤ rows_in here.source c.args.table) c.self.view_is
     (subst (λ (n : ℕ). n ≤ rows_in c.self.inside.source.now.source c.args.table) (sym c.rows_before.ensures)
     ((before_met c.self.inside.source.now c.tables_stand.ensures.stand c.tables_stand.ensures.table_index c.self.inside.broken c.self.invariant.broken c.args.table).1))
+
+pub returns-clause-limit : goal.returns-clause-limit
+returns-clause-limit c =
+    let few = c.self.invariant.few c.args.table in
+    let within : c.rows_before.result ≤ rows_in c.self.inside.source.now.source c.args.table =
+    subst (λ (n : ℕ). n ≤ rows_in c.self.inside.source.now.source c.args.table) (sym c.rows_before.ensures)
+    ((before_met c.self.inside.source.now c.tables_stand.ensures.stand c.tables_stand.ensures.table_index c.self.inside.broken c.self.invariant.broken c.args.table).1) in
+    omega (arith, within, few)
 
 pub returns-clause-rules : goal.returns-clause-rules
 returns-clause-rules c =
