@@ -19,8 +19,9 @@ _clim() {
             ;;
         *)
             local flags='--bare --help'
-            if [ "${COMP_WORDS[1]}" = check ]; then flags="$flags --budget --files-from -0 --quiet"; fi
-            case ${COMP_WORDS[1]} in root | check | show | types | token) flags="$flags --json" ;; esac
+            if [ "${COMP_WORDS[1]}" = check ]; then flags="$flags --budget --files-from -0 --quiet --where"; fi
+            case ${COMP_WORDS[1]} in root | check | show | types | outline | token | where | compare) flags="$flags --json" ;; esac
+            if [ "${COMP_WORDS[1]}" = show ]; then flags="$flags --names --until-fault"; fi
             if [ "${COMP_WORDS[1]}" = compare ]; then flags="$flags --ignore"; fi
             # A list of files comes from the standard input alone. The budget is a number, and a column a name.
             if [ "${COMP_WORDS[COMP_CWORD-1]}" = --files-from ]; then COMPREPLY=(-); return; fi

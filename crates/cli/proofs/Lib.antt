@@ -1,4 +1,6 @@
 pub mod TaskFiles
 pub mod Explaining
+pub mod Outlining
+pub mod ShowingUntil
 pub mod ColumnsNamed
 pub mod TokensRead

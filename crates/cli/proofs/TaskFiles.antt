@@ -7,14 +7,14 @@ use Rattle.cli_arguments.specs.declared.asked.Ask.{Ask}
 use Rattle.cli_arguments.specs.declared.asked.Subcommand.{Subcommand}
 use Rattle.cli_arguments.specs.declared.asked.Subcommand.TheVariants as word
 use Rattle.cli_faults.specs.declared.failure.Failure.TheVariants.{Usage}
-use Rattle.cli_faults.specs.declared.usage_error.UsageError.TheVariants.{JsonOfOneFile, NoList}
+use Rattle.cli_faults.specs.declared.usage_error.UsageError.TheVariants.{JsonOfOneFile, NoList, WhereOfOneFile}
 use Rattle.cli.specs.declared.task.Task.{Task}
 use Rattle.cli.specs.declared.task.Task.TheVariants as task
 use Rattle.cli_arguments.specs.Asked.{HasFile, HasFirst}
 use Rattle.cli_commands.specs.Forms.{form_of}
-use Rattle.cli_commands.specs.declared.report_form.Form.{Form}
-use Rattle.cli_commands.specs.declared.report_form.Form.TheVariants.{JsonLines, Text}
-use Rattle.cli.specs.Tasks.{IsCheckTask, IsExplanation, IsTask, json_task_on_files, task_on_files, task_on_list}
+use Rattle.cli_reports.specs.declared.report.Form.{Form}
+use Rattle.cli_reports.specs.declared.report.Form.TheVariants.{JsonLines, Text}
+use Rattle.cli.specs.Tasks.{IsCheckTask, IsExplanation, IsTask, json_task_on_files, task_on_files, task_on_list, where_task_on_files}
 
 abbrev result_or : {T E : Type 0} → Result T E → T → T
 result_or (Ok x) y = x
@@ -31,19 +31,21 @@ IsOnOne _ = Unit {0}
 -- `explain` has no such task
 never_both : (words : List (Bor (List ℕ))) (made : Task) → IsOnOne made → IsExplanation words made → ⊥
 never_both words (task.Print report form) one explains = explains
+never_both words (task.ShowUntilFault table names) one explains = explains
 never_both words (task.Tokens numbers form) one explains = explains
 never_both words task.CheckJson one explains = explains
-never_both words (task.OutlineOf subject) one explains = explains
+never_both words task.CheckWhere one explains = explains
+never_both words (task.OutlineOf subject form) one explains = explains
 never_both words (task.CheckWithin budget) one explains = explains
 never_both words (task.CheckEach budget) one explains = explains
 never_both words (task.CheckListed budget) one explains = explains
 never_both words (task.Rewrite path) one explains = explains
-never_both words task.Outline one explains = explains
+never_both words (task.Outline form) one explains = explains
 never_both words task.Strings one explains = explains
-never_both words (task.Where offset) one explains = explains
+never_both words (task.Where offset form) one explains = explains
 never_both words task.Digest one explains = explains
 never_both words task.DigestEach one explains = explains
-never_both words (task.Compare other ignored) one explains = explains
+never_both words (task.Compare other options) one explains = explains
 never_both words (task.Explain given) one explains = one
 
 module _ (file : Option (Bor (List ℕ))) (made : Task) (one : IsOnOne made) where
@@ -89,9 +91,20 @@ module _ (ask : Ask) (made : Task) (one : IsOnOne made) (first : HasFirst ask) w
       go (x ∷ []) first is = there ask.file made one x.now first
       go (x ∷ y ∷ more) first is = cc
 
-  on_check : (form : Form) → IsCheckTask form ask (Ok made) → IsSome ask.file
-  on_check Text is = by_source ask.file made one ask.files_from ask.null ask.quiet ask.budget ask.files.items first is
-  on_check JsonLines is = of_json _ is
+  -- so has `check --where`
+  of_where : (refused : Bool) → Ok made ≡ (if refused then Err (Usage WhereOfOneFile) else where_task_on_files ask.files.items) → IsSome ask.file
+  of_where true is = cc
+  of_where false is = go ask.files.items first is
+    where
+      go : (files : List (Bor (List ℕ))) → option_map (λ s. s.now) ask.file ≡ slice_get (map (λ s. s.now) files) 0 → Ok made ≡ where_task_on_files files → IsSome ask.file
+      go [] first is = cc
+      go (x ∷ []) first is = there ask.file made one x.now first
+      go (x ∷ y ∷ more) first is = cc
+
+  on_check : (locates : Bool) (form : Form) → IsCheckTask locates form ask (Ok made) → IsSome ask.file
+  on_check true form is = of_where _ is
+  on_check false Text is = by_source ask.file made one ask.files_from ask.null ask.quiet ask.budget ask.files.items first is
+  on_check false JsonLines is = of_json _ is
 
 -- there is a file for a task on one file
 pub file_there : (ask : Ask) (made : Task) → IsOnOne made → HasFile ask → HasFirst ask → IsTask ask.subcommand ask (Ok made) → IsSome ask.file
@@ -99,7 +112,7 @@ file_there ask made one has first is = go ask.subcommand refl is
   where
     go : (s : Subcommand) → ask.subcommand ≡ s → IsTask s ask (Ok made) → IsSome ask.file
     go word.Root same is = has (λ no. let bad = sym same ∙ no in cc) (λ no. let bad = sym same ∙ no in cc)
-    go word.Check same is = on_check ask made one first (form_of ask.json) is
+    go word.Check same is = on_check ask made one first ask.locates (form_of ask.json) is
     go word.Show same is = has (λ no. let bad = sym same ∙ no in cc) (λ no. let bad = sym same ∙ no in cc)
     go word.Types same is = has (λ no. let bad = sym same ∙ no in cc) (λ no. let bad = sym same ∙ no in cc)
     go word.Strings same is = has (λ no. let bad = sym same ∙ no in cc) (λ no. let bad = sym same ∙ no in cc)

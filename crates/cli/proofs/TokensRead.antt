@@ -6,7 +6,7 @@ use Rattle.std.proofs.lemmas.List.{map-append}
 use Rattle.std.proofs.lemmas.List.Elements.{All-nil}
 use Rattle.cli_files.specs.Numbers.{IsHexNumber}
 use Rattle.cli_faults.specs.declared.failure.Failure.{Failure}
-use Rattle.cli_commands.specs.declared.report_form.Form.{Form}
+use Rattle.cli_reports.specs.declared.report.Form.{Form}
 use Rattle.cli.specs.Tasks.{AreTokens, IsSeveralTask, IsTokenTask, IsTokensTask}
 use Rattle.cli.specs.declared.task.Task.{Task}
 use Rattle.std.specs.Prelude.{Result}

@@ -11,15 +11,18 @@ use Rattle.cli_faults.specs.declared.failure.Failure.{Failure}
 use Rattle.cli_faults.specs.Status.{IsOutput, status_of}
 use Rattle.cli.specs.declared.task.Task.{Task}
 use Rattle.cli.specs.declared.task.Task.TheVariants as task
-use Rattle.cli_commands.specs.Commands.{IsChecked, IsDigesting, IsListed, IsLocated, IsMixed, IsOutlined, IsReported, IsRewriting, IsRunOn, IsTypeOutlined, StopsBy}
+use Rattle.cli_commands.specs.Commands.{IsChecked, IsDigesting, IsListed, IsLocated, IsMixed, IsOutlined, IsReported, IsRewriting, IsRunOn, StopsBy}
 use Rattle.cli_commands.specs.Checks.{EndsCheck}
 use Rattle.cli_commands.specs.Compared.{IsComparing}
 use Rattle.cli_commands.specs.Digested.{EndsDigest}
 use Rattle.cli_commands.specs.JsonChecks.{IsCheckedAsJson}
 use Rattle.cli_commands.specs.Several.{IsRunOnEach, IsRunOnList}
 use Rattle.cli_commands.specs.Tokens.{AreReported}
+use Rattle.cli_commands.specs.WhereChecks.{IsCheckedWhere}
 use Rattle.cli_files.specs.Stopped.{Outcome, status_of_outcome}
+use Rattle.cli.specs.Outlined.{IsTypeOutlined}
 use Rattle.cli.specs.Tasks.{IsTask}
+use Rattle.cli.specs.UntilFault.{IsShownUntilFault}
 
 module _ {W : Type 0} (contents : W → Option (List ℕ)) (before after : W) where
   -- a run ends with this exit code
@@ -37,24 +40,27 @@ module _ {W : Type 0} (contents : W → Option (List ℕ)) (before after : W) wh
   -- the run of a task, over files of this kind, ends with this exit code
   abbrev pub IsRunOf : {F : Type 0} → (F → Option (List ℕ)) → Task → Ask → ℕ → Type 0
   IsRunOf file_contents (task.Print report form) ask status = EndsOnRead ask.file status (λ path. IsReported contents before after report form ask.bare)
+  IsRunOf file_contents (task.ShowUntilFault table names) ask status =
+      EndsOnRead ask.file status (λ path. IsShownUntilFault contents before after names table ask.bare)
   IsRunOf file_contents (task.Tokens numbers form) ask status =
       EndsOnRead ask.file status (λ path. AreReported contents before after numbers.items form ask.bare)
   IsRunOf file_contents task.CheckJson ask status = EndsOn ask.file status (λ path. IsCheckedAsJson contents before after ask.bare path)
+  IsRunOf file_contents task.CheckWhere ask status = EndsOnRead ask.file status (λ path. IsCheckedWhere contents before after ask.bare)
   IsRunOf file_contents (task.CheckWithin budget) ask status = EndsOnRead ask.file status (λ path. IsChecked contents before after budget ask.bare)
   IsRunOf file_contents (task.CheckEach budget) ask status =
       IsRunOnEach (EndsCheck budget ask.bare ask.quiet) contents before after (map (λ file. file.now) ask.files.items) status
   IsRunOf file_contents (task.CheckListed budget) ask status = IsRunOnList (EndsCheck budget ask.bare ask.quiet) contents before after status
   IsRunOf file_contents (task.Rewrite out) ask status =
       EndsOn ask.file status (λ path outcome. IsRunOn contents before after path (IsRewriting contents before after file_contents out.now ask.bare) outcome ⊎ IsMixed contents before after out.now outcome)
-  IsRunOf file_contents task.Outline ask status = EndsOnRead ask.file status (λ path. IsOutlined contents before after ask.bare)
-  IsRunOf file_contents (task.OutlineOf subject) ask status = EndsOnRead ask.file status (λ path. IsTypeOutlined contents before after subject ask.bare)
+  IsRunOf file_contents (task.Outline form) ask status = EndsOnRead ask.file status (λ path. IsOutlined contents before after form ask.bare)
+  IsRunOf file_contents (task.OutlineOf subject form) ask status = EndsOnRead ask.file status (λ path. IsTypeOutlined contents before after form subject ask.bare)
   IsRunOf file_contents task.Strings ask status = EndsOnRead ask.file status (λ path. IsListed contents before after ask.bare)
-  IsRunOf file_contents (task.Where offset) ask status = EndsOnRead ask.file status (λ path. IsLocated contents before after offset ask.bare)
+  IsRunOf file_contents (task.Where offset form) ask status = EndsOnRead ask.file status (λ path. IsLocated contents before after form offset ask.bare)
   IsRunOf file_contents task.Digest ask status = EndsOnRead ask.file status (λ path. IsDigesting contents before after path ask.bare)
   IsRunOf file_contents task.DigestEach ask status =
       IsRunOnEach (EndsDigest ask.bare) contents before after (map (λ file. file.now) ask.files.items) status
-  IsRunOf file_contents (task.Compare other ignored) ask status =
-      EndsOnRead ask.file status (λ path left. IsRunOn contents before after other.now (λ right. IsComparing contents before after ignored ask.bare left right path other.now))
+  IsRunOf file_contents (task.Compare other options) ask status =
+      EndsOnRead ask.file status (λ path left. IsRunOn contents before after other.now (λ right. IsComparing contents before after options.form options.ignored options.bare left right path other.now))
   IsRunOf file_contents (task.Explain words) ask status =
       EndsWith (λ outcome. IfErr outcome (λ stopped. (failure : Failure) × StopsBy failure stopped × IsOutput failure)) status
 

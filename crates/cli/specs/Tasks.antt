@@ -1,5 +1,5 @@
 -- What the arguments ask the program to do.
-use Rattle.std.specs.Prelude.{◌≡◌, ℕ, ◌%◌, ◌^◌, ◌||◌, Bool, List, [], ◌∷◌, ◌++◌, Option, Some, None, Result, Ok, Err, IfSome, IsOkAnd, MatchOption, MatchResult, codes, if◌then◌else◌, is_some, map}
+use Rattle.std.specs.Prelude.{◌≡◌, ℕ, ◌%◌, ◌^◌, ◌||◌, Bool, true, false, List, [], ◌∷◌, ◌++◌, Option, Some, None, Result, Ok, Err, IfSome, IsOkAnd, MatchOption, MatchResult, codes, if◌then◌else◌, is_some, map}
 use Rattle.std.specs.List.{All}
 use Rattle.std.specs.Borrow.{Bor}
 use Rattle.std.specs.Str.{bytes_eq}
@@ -19,11 +19,14 @@ use Rattle.cli.specs.declared.task.Task.{Task}
 use Rattle.cli.specs.declared.task.Task.TheVariants as task
 use Rattle.cli_files.specs.Names.{IsFullName, NamesCode, NamesTable}
 use Rattle.cli_files.specs.Numbers.{IsHexNumber, IsOffset, IsTypeToken}
+use Rattle.cli_prefix.specs.Before.{report_of}
 use Rattle.cli_outline.specs.declared.subject.Subject.{Subject}
 use Rattle.cli_outline.specs.declared.subject.Subject.TheVariants as subject
 use Rattle.cli_commands.specs.Forms.{form_of}
-use Rattle.cli_commands.specs.declared.report_form.Form.{Form}
-use Rattle.cli_commands.specs.declared.report_form.Form.TheVariants.{JsonLines, Text}
+use Rattle.cli_reports.specs.declared.row_lines.Names.{Names}
+use Rattle.cli_reports.specs.declared.row_lines.Names.TheVariants.{Hidden, Shown}
+use Rattle.cli_reports.specs.declared.report.Form.{Form}
+use Rattle.cli_reports.specs.declared.report.Form.TheVariants.{JsonLines, Text}
 
 -- the failure says that this argument is not a token
 abbrev pub IsNoToken : List ℕ → Failure → Type 0
@@ -32,17 +35,17 @@ IsNoToken hex _ = ⊥
 
 -- the failure says that this argument names no fault
 abbrev pub IsNoCode : List ℕ → Failure → Type 0
-IsNoCode given (failed.Usage (wrong.NoCode word)) = word.now ≡ given
+IsNoCode given (failed.Usage (wrong.NoCode word nearest)) = word.now ≡ given
 IsNoCode given _ = ⊥
 
 -- the failure says that this argument names no column
 abbrev pub IsNoColumn : List ℕ → Failure → Type 0
-IsNoColumn given (failed.Usage (wrong.NoColumn word)) = word.now ≡ given
+IsNoColumn given (failed.Usage (wrong.NoColumn word nearest)) = word.now ≡ given
 IsNoColumn given _ = ⊥
 
 -- the failure says that this argument names no table
 abbrev pub IsNoTable : List ℕ → Failure → Type 0
-IsNoTable given (failed.Usage (wrong.NoTable word)) = word.now ≡ given
+IsNoTable given (failed.Usage (wrong.NoTable word nearest)) = word.now ≡ given
 IsNoTable given _ = ⊥
 
 -- the failure says that this argument is not an offset
@@ -86,20 +89,33 @@ IsTokensTask form (word ∷ []) result = IsTokenTask form word.now result
 IsTokensTask form words result = IsSeveralTask form words result
 
 -- the task is to print what has the byte if the argument is an offset; else the failure says that it is not
-abbrev pub IsWhereTask : List ℕ → Result Task Failure → Type 0
-IsWhereTask given result =
-    MatchResult result (λ made. (offset : ℕ) × IsOffset given offset × (made ≡ task.Where offset))
+abbrev pub IsWhereTask : Form → List ℕ → Result Task Failure → Type 0
+IsWhereTask form given result =
+    MatchResult result (λ made. (offset : ℕ) × IsOffset given offset × (made ≡ task.Where offset form))
     (λ failure. IsNoOffset given failure × ((offset : ℕ) → ¬ IsOffset given offset))
 
--- the task is to print the table, in this form, if the argument names one; else the failure says that it does not
-abbrev pub IsTableTask : Form → List ℕ → Result Task Failure → Type 0
-IsTableTask form given result =
-    MatchResult result (λ made. (table : TableId) × NamesTable given table × (made ≡ task.Print (report.Table table) form))
-    (λ failure. IsNoTable given failure × ((table : TableId) → ¬ NamesTable given table))
+-- whether columns are named, by whether the arguments have `--names`
+abbrev pub names_of : Bool → Names
+names_of true = Shown
+names_of false = Hidden
 
--- the task is to print a table, or all if there is no argument
-abbrev pub IsShowTask : Form → Option (Bor (List ℕ)) → Result Task Failure → Type 0
-IsShowTask form part result = MatchOption part (result ≡ Ok (task.Print report.Show form)) (λ given. IsTableTask form given.now result)
+-- the table that the argument names; none if there is no argument
+abbrev pub IsTableNamed : Option (Bor (List ℕ)) → Option TableId → Type 0
+IsTableNamed part table = MatchOption part (table ≡ None) (λ given. (named : TableId) × NamesTable given.now named × (table ≡ Some named))
+
+-- the failure says that the argument names no table
+abbrev pub NamesNoTable : Option (Bor (List ℕ)) → Failure → Type 0
+NamesNoTable part failure = MatchOption part ⊥ (λ given. IsNoTable given.now failure × ((table : TableId) → ¬ NamesTable given.now table))
+
+-- the task of the table that the argument names, or of all if there is no argument; else the failure says that it names none
+abbrev pub IsOnTable : (Option TableId → Task) → Option (Bor (List ℕ)) → Result Task Failure → Type 0
+IsOnTable task_on part result = MatchResult result (λ made. (table : Option TableId) × IsTableNamed part table × (made ≡ task_on table)) (NamesNoTable part)
+
+-- the task of `show`, by whether the arguments have `--until-fault`, which prints text alone
+abbrev pub IsShowTask : Bool → Form → Names → Option (Bor (List ℕ)) → Result Task Failure → Type 0
+IsShowTask false form names part result = IsOnTable (λ table. task.Print (report_of names table) form) part result
+IsShowTask true Text names part result = IsOnTable (λ table. task.ShowUntilFault table names) part result
+IsShowTask true JsonLines names part result = result ≡ Err (failed.Usage wrong.UntilFaultAsJson)
 
 -- the argument names this type: by its token, or else by its full name
 abbrev pub NamesType : List ℕ → Subject → Type 0
@@ -107,9 +123,9 @@ NamesType word (subject.Row row) = IsTypeToken word × (row ≡ digits_value 16 
 NamesType word (subject.Named namespace name) = (¬ IsTypeToken word) × IsFullName word namespace.now name.now
 
 -- the task is to print the outline of the type that the argument names, or of all if there is none
-abbrev pub IsOutlineTask : Option (Bor (List ℕ)) → Task → Type 0
-IsOutlineTask part made =
-    MatchOption part (made ≡ task.Outline) (λ given. (named : Subject) × NamesType given.now named × (made ≡ task.OutlineOf named))
+abbrev pub IsOutlineTask : Form → Option (Bor (List ℕ)) → Task → Type 0
+IsOutlineTask form part made =
+    MatchOption part (made ≡ task.Outline form) (λ given. (named : Subject) × NamesType given.now named × (made ≡ task.OutlineOf named form))
 
 -- the argument names a fault
 abbrev pub NamesFault : Bor (List ℕ) → Type 0
@@ -154,6 +170,18 @@ json_task ask =
     if is_some ask.files_from || ask.null || is_some ask.budget || ask.quiet then Err (failed.Usage wrong.JsonOfOneFile)
     else json_task_on_files ask.files.items
 
+-- the task of `check --where` for these files, of which there may be one
+abbrev pub where_task_on_files : List (Bor (List ℕ)) → Result Task Failure
+where_task_on_files [] = Err (failed.Usage wrong.NoFile)
+where_task_on_files (file ∷ []) = Ok task.CheckWhere
+where_task_on_files (file ∷ next ∷ more) = Err (failed.Usage wrong.WhereOfOneFile)
+
+-- the task of `check --where`, beside which there may be no list of files, no budget, no `-q` and no `--json`
+abbrev pub where_task : Ask → Result Task Failure
+where_task ask =
+    if is_some ask.files_from || ask.null || is_some ask.budget || ask.quiet || ask.json then Err (failed.Usage wrong.WhereOfOneFile)
+    else where_task_on_files ask.files.items
+
 -- the task of `check` without `--json`; a list of files comes from the standard input alone
 abbrev pub IsTextCheckTask : Ask → Result Task Failure → Type 0
 IsTextCheckTask ask result =
@@ -161,34 +189,37 @@ IsTextCheckTask ask result =
     (result ≡ (if ask.null then task_on_list ask.budget ask.files.items else task_on_files ask.budget ask.quiet ask.files.items))
     (λ word. result ≡ (if bytes_eq word.now (codes "-") then task_on_list ask.budget ask.files.items else Err (failed.Usage (wrong.NoList word))))
 
--- the task of `check`
-abbrev pub IsCheckTask : Form → Ask → Result Task Failure → Type 0
-IsCheckTask JsonLines ask result = result ≡ json_task ask
-IsCheckTask Text ask result = IsTextCheckTask ask result
+-- the task of `check`, by whether the arguments have `--where`
+abbrev pub IsCheckTask : Bool → Form → Ask → Result Task Failure → Type 0
+IsCheckTask true form ask result = result ≡ where_task ask
+IsCheckTask false JsonLines ask result = result ≡ json_task ask
+IsCheckTask false Text ask result = IsTextCheckTask ask result
 
 -- the task of `digest` for these files, of which there is at least one
 abbrev pub digest_task : List (Bor (List ℕ)) → Task
 digest_task (file ∷ next ∷ more) = task.DigestEach
 digest_task _ = task.Digest
 
--- the task is to compare with this file, besides the columns that the arguments name; else the failure reports the first
--- one that names none
-abbrev pub IsCompareTask : List (Bor (List ℕ)) → Bor (List ℕ) → Result Task Failure → Type 0
-IsCompareTask words other result =
-    MatchResult result (λ made. (ignored : IgnoredColumns) × AreNamed words ignored × (made ≡ task.Compare other ignored))
-    (λ failure. (word : Bor (List ℕ)) × IsFirstUnknown NamesSome words word × IsNoColumn word.now failure)
+-- the task is to compare with this file, besides the columns that the arguments name, in this form; else the failure
+-- reports the first argument that names none
+abbrev pub IsCompareTask : Form → Ask → Bor (List ℕ) → Result Task Failure → Type 0
+IsCompareTask form ask other result =
+    MatchResult result
+    (λ made. (ignored : IgnoredColumns) × AreNamed ask.ignored.items ignored
+    × (made ≡ task.Compare other (record { bare = ask.bare; form = form; ignored = ignored })))
+    (λ failure. (word : Bor (List ℕ)) × IsFirstUnknown NamesSome ask.ignored.items word × IsNoColumn word.now failure)
 
 -- the task of a subcommand
 abbrev pub IsTask : Subcommand → Ask → Result Task Failure → Type 0
 IsTask word.Root ask result = result ≡ Ok (task.Print report.Root (form_of ask.json))
-IsTask word.Check ask result = IsCheckTask (form_of ask.json) ask result
-IsTask word.Show ask result = IsShowTask (form_of ask.json) ask.part result
+IsTask word.Check ask result = IsCheckTask ask.locates (form_of ask.json) ask result
+IsTask word.Show ask result = IsShowTask ask.until_fault (form_of ask.json) (names_of ask.names) ask.part result
 IsTask word.Types ask result = result ≡ Ok (task.Print report.Types (form_of ask.json))
-IsTask word.Outline ask result = IsOkAnd result (IsOutlineTask ask.part)
+IsTask word.Outline ask result = IsOkAnd result (IsOutlineTask (form_of ask.json) ask.part)
 IsTask word.Strings ask result = result ≡ Ok task.Strings
 IsTask word.Token ask result = IsTokensTask (form_of ask.json) ask.tokens.items result
-IsTask word.Where ask result = IfSome ask.second (λ word. IsWhereTask word.now result)
+IsTask word.Where ask result = IfSome ask.second (λ word. IsWhereTask (form_of ask.json) word.now result)
 IsTask word.Rewrite ask result = IfSome ask.second (λ out. result ≡ Ok (task.Rewrite out))
 IsTask word.Digest ask result = result ≡ Ok (digest_task ask.files.items)
-IsTask word.Compare ask result = IfSome ask.second (λ other. IsCompareTask ask.ignored.items other result)
+IsTask word.Compare ask result = IfSome ask.second (λ other. IsCompareTask (form_of ask.json) ask other result)
 IsTask word.Explain ask result = IsExplainTask ask.codes.items result

@@ -7,23 +7,25 @@ ghost use Rattle.cli_faults.specs.declared.failure.Failure.{Failure as Failed};
 ghost use Rattle.cli_faults.specs.Status.{IsOutput};
 ghost use Rattle.cli_commands.specs.Checks.{EndsCheck};
 ghost use Rattle.cli_commands.specs.Commands.{StopsBy};
-ghost use Rattle.cli_commands.specs.Several.{IsRunOnEach};
+ghost use Rattle.cli_commands.specs.Several.{IsRunOnEach, IsRunOnList};
 ghost use Rattle.cli.specs.Runs.{Does, IsUsage, Ran};
 
 use crate::explain_fault::explain;
+use crate::outline_type::outline_type;
 use crate::task::{Task, task_of};
+use crate::until_fault::show_until_fault;
 use crate::usage_text::usage_text;
 use clap::error::ErrorKind;
 use cli_arguments::{Ask, ask};
 use cli_commands::check_files::{CheckOptions, check_files};
 use cli_commands::check_json::check_json;
 use cli_commands::check_listed::check_listed;
+use cli_commands::check_where::check_where;
 use cli_commands::digest_files::digest_files;
 use cli_commands::file_runs::{
     check_file, compare_files, digest_file, list_strings, locate_in, outline_file, print_file,
     rewrite_file,
 };
-use cli_commands::outline_type::outline_type;
 use cli_commands::print_tokens::print_tokens;
 use cli_faults::{Failure, printed};
 use cli_files::{Stopped, status};
@@ -128,36 +130,35 @@ fn run<R: Files + Input + AllocGlobal, W: Write, E: Write>(
                 err,
             )
         }
+        Task::ShowUntilFault(table, names) => status(
+            show_until_fault(rt, table, names, ask.file.unwrap(), bare, out),
+            err,
+        ),
         Task::Tokens(numbers, form) => status(
             print_tokens(rt, numbers.as_slice(), form, ask.file.unwrap(), bare, out),
             err,
         ),
         Task::CheckJson => status(check_json(rt, ask.file.unwrap(), bare, out), err),
+        Task::CheckWhere => status(check_where(rt, ask.file.unwrap(), bare, out), err),
         Task::CheckWithin(budget) => {
             status(check_file(rt, budget, ask.file.unwrap(), bare, out), err)
         }
         Task::CheckEach(budget) => check_named(rt, ask, budget, out, err),
-        Task::CheckListed(budget) => check_listed(
-            rt,
-            CheckOptions {
-                bare,
-                budget,
-                quiet: ask.quiet,
-            },
-            out,
-            err,
-        ),
+        Task::CheckListed(budget) => check_list(rt, ask, budget, out, err),
         Task::Rewrite(path) => status(rewrite_file(rt, path, ask.file.unwrap(), bare, out), err),
-        Task::Outline => status(outline_file(rt, ask.file.unwrap(), bare, out), err),
-        Task::OutlineOf(subject) => {
-            status(outline_type(rt, subject, ask.file.unwrap(), bare, out), err)
+        Task::Outline(form) => status(outline_file(rt, form, ask.file.unwrap(), bare, out), err),
+        Task::OutlineOf(subject, form) => {
+            outline_type(rt, form, subject, ask.file.unwrap(), bare, out, err)
         }
         Task::Strings => status(list_strings(rt, ask.file.unwrap(), bare, out), err),
-        Task::Where(offset) => status(locate_in(rt, offset, ask.file.unwrap(), bare, out), err),
+        Task::Where(offset, form) => status(
+            locate_in(rt, form, offset, ask.file.unwrap(), bare, out),
+            err,
+        ),
         Task::Digest => status(digest_file(rt, ask.file.unwrap(), bare, out), err),
         Task::DigestEach => digest_files(rt, ask.files.as_slice(), bare, out, err),
-        Task::Compare(other, ignored) => status(
-            compare_files(rt, &ignored, other, ask.file.unwrap(), bare, out),
+        Task::Compare(other, options) => status(
+            compare_files(rt, ask.file.unwrap(), other, &options, out),
             err,
         ),
         Task::Explain(words) => status(explain_words(rt.alloc(), words, out), err),
@@ -182,6 +183,26 @@ fn check_named<R: Files + Input + AllocGlobal, W: Write, E: Write>(
         quiet: ask.quiet,
     };
     check_files(rt, ask.files.as_slice(), options, out, err)
+}
+
+/// Checks each of the files that the standard input lists, and returns the exit code.
+fn check_list<R: Files + Input + AllocGlobal, W: Write, E: Write>(
+    rt: &R,
+    ask: &Ask<'_>,
+    budget: Option<u64>,
+    out: &mut W,
+    err: &mut E,
+) -> u8
+    ensures limit { result ≤ 3 }
+    ensures run { IsRunOnList (EndsCheck budget ask.now.bare ask.now.quiet) W.contents out.old out.new result }
+    ensures quiet { result ≡ 0 → err.new ≡ err.old }
+{
+    let options = CheckOptions {
+        bare: ask.bare,
+        budget,
+        quiet: ask.quiet,
+    };
+    check_listed(rt, options, out, err)
 }
 
 /// Explains faults, or lists all.

@@ -1,29 +1,38 @@
 //! What the arguments ask the program to do.
 ghost use Rattle.std.specs.Prelude.{◌≡◌, IfErr, IfOk};
 ghost use Rattle.cli_arguments.specs.Asked.{HasSecond};
-ghost use Rattle.cli.specs.Tasks.{AreTokens, IsCheckTask, IsCompareTask, IsExplainTask, IsOutlineTask, IsShowTask, IsTask, IsFirstNoToken, IsSeveralTask, IsTextCheckTask, IsTokenTask, IsTokensTask, IsWhereTask, NamesType, digest_task, json_task, task_on_files, task_on_list, task_on_one};
+ghost use Rattle.cli_prefix.specs.Before.{report_of};
+ghost use Rattle.cli.specs.declared.task.Task.TheVariants as task;
+ghost use Rattle.cli.specs.Tasks.{AreTokens, IsCheckTask, IsCompareTask, IsExplainTask, IsOutlineTask, IsOnTable, IsShowTask, IsTableNamed, IsTask, IsFirstNoToken, IsSeveralTask, IsTextCheckTask, IsTokenTask, IsTokensTask, IsWhereTask, NamesNoTable, NamesType, digest_task, json_task, names_of, task_on_files, task_on_list, task_on_one, where_task};
 
 use crate::columns::columns_of;
+use crate::nearest::{nearest_code, nearest_column, nearest_table};
 use cli_arguments::{Ask, Subcommand};
-use cli_commands::report_form::{Form, form_of};
+use cli_commands::compare_files::CompareOptions;
+use cli_commands::report_form::form_of;
 use cli_faults::{Failure, UsageError};
 use cli_files::{
     STANDARD_INPUT, code_of, names_of_type, offset_of, table_of, token_of, type_row_of,
 };
 use cli_outline::Subject;
-use cli_reports::Report;
-use comparison::IgnoredColumns;
+use cli_prefix::report_of;
+use cli_reports::{Form, Names, Report};
 use std::alloc::Global;
+use table_schema::TableId;
 
 /// What to do.
 #[derive(Debug, Drop)]
 pub(crate) enum Task<'a> {
     /// Print something of a file, in this form.
     Print(Report, Form),
+    /// Print the rows of a file that come before its first broken rule: those of one table, or of all.
+    ShowUntilFault(Option<TableId>, Names),
     /// Print what each of these tokens names in a file, in this form.
     Tokens(Vec<u32>, Form),
     /// Check a file against the rules, and print a JSON value.
     CheckJson,
+    /// Check a file against the rules, and print what has the byte at the offset of a fault.
+    CheckWhere,
     /// Check a file against the rules. At most this number of signature blob bytes is checked.
     CheckWithin(u64),
     /// Check each of several files against the rules, with at most this number of signature blob bytes for each.
@@ -32,20 +41,20 @@ pub(crate) enum Task<'a> {
     CheckListed(Option<u64>),
     /// Write the canonical root of a file to this path.
     Rewrite(&'a str),
-    /// Print the declarations of a file.
-    Outline,
+    /// Print the declarations of a file, in this form.
+    Outline(Form),
     /// Print those of one type.
-    OutlineOf(Subject<'a>),
+    OutlineOf(Subject<'a>, Form),
     /// Print the user strings of a file.
     Strings,
-    /// Print what has the byte at this offset of a file.
-    Where(u64),
+    /// Print what has the byte at this offset of a file, in this form.
+    Where(u64, Form),
     /// Print the digest of the canonical root of a file.
     Digest,
     /// Print those of several files.
     DigestEach,
-    /// Print what differs between a file and the one at this path, besides the cells of these columns.
-    Compare(&'a str, IgnoredColumns),
+    /// Print what differs between a file and the one at this path.
+    Compare(&'a str, CompareOptions),
     /// Explain the faults that these arguments name, or list all if there is none.
     Explain(&'a [&'a str]),
 }
@@ -59,23 +68,28 @@ pub(crate) fn task_of<'a>(alloc: Global, ask: &'a Ask<'a>) -> Result<Task<'a>, F
     Ok(match ask.subcommand {
         Subcommand::Root => Task::Print(Report::Root, form),
         Subcommand::Check => return check_of(ask, form),
-        Subcommand::Show => return show_of(ask.part, form),
+        Subcommand::Show => return show_of(alloc, ask, form),
         Subcommand::Types => Task::Print(Report::Types, form),
-        Subcommand::Outline => outline_of(ask.part),
+        Subcommand::Outline => outline_of(ask.part, form),
         Subcommand::Strings => Task::Strings,
         Subcommand::Token => return tokens_of(alloc, ask.tokens.as_slice(), form),
-        Subcommand::Where => return where_of(ask.second.unwrap()),
+        Subcommand::Where => return where_of(ask.second.unwrap(), form),
         Subcommand::Rewrite => Task::Rewrite(ask.second.unwrap()),
         Subcommand::Digest => digest_of(ask.files.as_slice()),
-        Subcommand::Compare => return comparison_of(ask.ignored.as_slice(), ask.second.unwrap()),
-        Subcommand::Explain => return explanation_of(ask.codes.as_slice()),
+        Subcommand::Compare => {
+            return comparison_of(alloc, ask, ask.second.unwrap(), form);
+        }
+        Subcommand::Explain => return explanation_of(alloc, ask.codes.as_slice()),
     })
 }
 
 /// The task of `check`.
 fn check_of<'a>(ask: &'a Ask<'a>, form: Form) -> Result<Task<'a>, Failure<'a>>
-    ensures { IsCheckTask form ask.now result }
+    ensures { IsCheckTask ask.now.locates form ask.now result }
 {
+    if ask.locates {
+        return where_check_of(ask);
+    }
     match form {
         Form::Text => text_check_of(ask),
         Form::JsonLines => json_check_of(ask),
@@ -93,6 +107,20 @@ fn json_check_of<'a>(ask: &'a Ask<'a>) -> Result<Task<'a>, Failure<'a>>
         [] => Err(Failure::Usage(UsageError::NoFile)),
         [_] => Ok(Task::CheckJson),
         _ => Err(Failure::Usage(UsageError::JsonOfOneFile)),
+    }
+}
+
+/// The task of `check --where`: it takes one file, and no list, no budget, no `-q` and no `--json`.
+fn where_check_of<'a>(ask: &'a Ask<'a>) -> Result<Task<'a>, Failure<'a>>
+    ensures { result ≡ where_task ask.now }
+{
+    if ask.files_from.is_some() || ask.null || ask.budget.is_some() || ask.quiet || ask.json {
+        return Err(Failure::Usage(UsageError::WhereOfOneFile));
+    }
+    match ask.files.as_slice() {
+        [] => Err(Failure::Usage(UsageError::NoFile)),
+        [_] => Ok(Task::CheckWhere),
+        _ => Err(Failure::Usage(UsageError::WhereOfOneFile)),
     }
 }
 
@@ -144,26 +172,73 @@ fn check_of_list<'a>(budget: Option<u64>, files: &[&'a str]) -> Result<Task<'a>,
     }
 }
 
-/// The task of `show`: print the table with this name or number, or all if there is no argument.
-fn show_of<'a>(part: Option<&'a str>, form: Form) -> Result<Task<'a>, Failure<'a>>
-    ensures { IsShowTask form part.entry result }
+/// Whether columns are named, by whether the arguments have `--names`.
+fn names_of(shown: bool) -> Names
+    ensures { result ≡ names_of shown }
+{
+    if shown { Names::Shown } else { Names::Hidden }
+}
+
+/// The task of `show`.
+fn show_of<'a>(alloc: Global, ask: &'a Ask<'a>, form: Form) -> Result<Task<'a>, Failure<'a>>
+    ensures { IsShowTask ask.now.until_fault form (names_of ask.now.names) ask.now.part result }
+{
+    let names = names_of(ask.names);
+    if !ask.until_fault {
+        return whole_show_of(alloc, ask.part, names, form);
+    }
+    match form {
+        Form::Text => until_fault_of(alloc, ask.part, names),
+        Form::JsonLines => Err(Failure::Usage(UsageError::UntilFaultAsJson)),
+    }
+}
+
+/// The task of `show` without `--until-fault`: print the table that the argument names, or all if there is no argument.
+fn whole_show_of<'a>(
+    alloc: Global,
+    part: Option<&'a str>,
+    names: Names,
+    form: Form,
+) -> Result<Task<'a>, Failure<'a>>
+    ensures { IsOnTable (λ table. task.Print (report_of names table) form) part.entry result }
+{
+    let table = table_named(alloc, part)?;
+    Ok(Task::Print(report_of(table, names), form))
+}
+
+/// The task of `show --until-fault`.
+fn until_fault_of<'a>(
+    alloc: Global,
+    part: Option<&'a str>,
+    names: Names,
+) -> Result<Task<'a>, Failure<'a>>
+    ensures { IsOnTable (λ table. task.ShowUntilFault table names) part.entry result }
+{
+    let table = table_named(alloc, part)?;
+    Ok(Task::ShowUntilFault(table, names))
+}
+
+/// The table that the argument names; `None` if there is no argument.
+fn table_named<'a>(alloc: Global, part: Option<&'a str>) -> Result<Option<TableId>, Failure<'a>>
+    ensures named { IfOk result (IsTableNamed part.entry) }
+    ensures unknown { IfErr result (NamesNoTable part.entry) }
 {
     let Some(word) = part else {
-        return Ok(Task::Print(Report::Show, form));
+        return Ok(None);
     };
     match table_of(word) {
-        Some(table) => Ok(Task::Print(Report::Table(table), form)),
-        None => Err(Failure::Usage(UsageError::NoTable(word))),
+        Some(table) => Ok(Some(table)),
+        None => Err(Failure::Usage(UsageError::NoTable(word, nearest_table(alloc, word)))),
     }
 }
 
 /// The task of `outline`: print the type that the argument names, or all if there is no argument.
-fn outline_of<'a>(part: Option<&'a str>) -> Task<'a>
-    ensures { IsOutlineTask part.entry result }
+fn outline_of<'a>(part: Option<&'a str>, form: Form) -> Task<'a>
+    ensures { IsOutlineTask form part.entry result }
 {
     match part {
-        Some(word) => Task::OutlineOf(type_named(word)),
-        None => Task::Outline,
+        Some(word) => Task::OutlineOf(type_named(word), form),
+        None => Task::Outline(form),
     }
 }
 
@@ -230,11 +305,11 @@ fn numbers_of<'a>(alloc: Global, words: &[&'a str]) -> Result<Vec<u32>, Failure<
 }
 
 /// The task of `where` for this argument.
-fn where_of<'a>(word: &'a str) -> Result<Task<'a>, Failure<'a>>
-    ensures { IsWhereTask word.now result }
+fn where_of<'a>(word: &'a str, form: Form) -> Result<Task<'a>, Failure<'a>>
+    ensures { IsWhereTask form word.now result }
 {
     match offset_of(word) {
-        Some(offset) => Ok(Task::Where(offset)),
+        Some(offset) => Ok(Task::Where(offset, form)),
         None => Err(Failure::Usage(UsageError::NoOffset(word))),
     }
 }
@@ -250,22 +325,35 @@ fn digest_of(files: &[&str]) -> Task<'static>
 }
 
 /// The task of `compare`, which leaves out the columns that arguments name.
-fn comparison_of<'a>(ignored: &[&'a str], other: &'a str) -> Result<Task<'a>, Failure<'a>>
-    ensures { IsCompareTask ignored.now other.entry result }
+fn comparison_of<'a>(
+    alloc: Global,
+    ask: &'a Ask<'a>,
+    other: &'a str,
+    form: Form,
+) -> Result<Task<'a>, Failure<'a>>
+    ensures { IsCompareTask form ask.now other.entry result }
 {
-    match columns_of(ignored) {
-        Ok(ignored) => Ok(Task::Compare(other, ignored)),
-        Err(word) => Err(Failure::Usage(UsageError::NoColumn(word))),
+    match columns_of(ask.ignored.as_slice()) {
+        Ok(ignored) => {
+            let options = CompareOptions {
+                bare: ask.bare,
+                form,
+                ignored,
+            };
+            Ok(Task::Compare(other, options))
+        }
+        Err(word) => Err(Failure::Usage(UsageError::NoColumn(word, nearest_column(alloc, word)))),
     }
 }
 
 /// The task of `explain`: explain the faults that these arguments name, or list all if there is none.
-fn explanation_of<'a>(words: &'a [&'a str]) -> Result<Task<'a>, Failure<'a>>
+fn explanation_of<'a>(alloc: Global, words: &'a [&'a str]) -> Result<Task<'a>, Failure<'a>>
     ensures { IsExplainTask words.now result }
 {
     for word in words {
         let Some(_code) = code_of(word) else {
-            return Err(Failure::Usage(UsageError::NoCode(word)));
+            let nearest = nearest_code(alloc, word);
+            return Err(Failure::Usage(UsageError::NoCode(word, nearest)));
         };
     }
     Ok(Task::Explain(words))

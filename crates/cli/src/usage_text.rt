@@ -3,6 +3,7 @@ ghost use Rattle.std.specs.Prelude.{◌≡◌, IfOk, map};
 ghost use Rattle.std.specs.String.{string_bytes};
 ghost use Rattle.cli_faults.specs.Escaped.{escaped_text};
 
+use crate::nearest::nearest_command;
 use clap::error::ErrorKind;
 use cli_arguments::ask;
 use cli_faults::Escaped;
@@ -24,9 +25,22 @@ pub(crate) fn usage_text(alloc: Global, words: &[&str]) -> Result<String, AllocE
             if error.kind() == ErrorKind::OutOfMemory {
                 return Err(AllocError);
             }
-            format!(in alloc; "{error}")
+            let nearest = match error.kind() {
+                ErrorKind::InvalidSubcommand => command_near(alloc, words),
+                _ => None,
+            };
+            match nearest {
+                Some(name) => format!(in alloc; "{error}  hint: the nearest command is '{name}'\n"),
+                None => format!(in alloc; "{error}"),
+            }
         }
     }
+}
+
+/// The subcommand that the arguments may have meant, the program name first.
+fn command_near(alloc: Global, words: &[&str]) -> Option<&'static str> {
+    let (_, words) = words.split_first()?;
+    nearest_command(alloc, words)
 }
 
 /// The arguments, each escaped.

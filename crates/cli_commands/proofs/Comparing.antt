@@ -8,22 +8,22 @@ use Rattle.cli_faults.specs.declared.failure.Failure.{Failure}
 use Rattle.cli_faults.specs.Status.{IsOutput}
 use Rattle.cli_faults.specs.declared.stop.Stop.TheVariants.{Different}
 use Rattle.cli_reports.specs.Checked.{IsWhole}
-use Rattle.cli_reports.specs.Comparisons.{compare_text, compared_text}
 use Rattle.cli_reports.specs.Printed.{IsModelOf}
+use Rattle.cli_reports.specs.declared.report.Form.{Form}
 use Rattle.cli_reports.specs.Sent.{SendsPrefix}
 use Rattle.comparison.specs.declared.difference.Difference.{Difference}
 use Rattle.comparison.specs.declared.ignored.IgnoredColumns.{IgnoredColumns}
 use Rattle.comparison.specs.Differences.{first_differences_but}
 use Rattle.comparison.specs.EqualBut.{AreEqualBut}
 use Rattle.cli_files.specs.declared.stopped.Stopped.{Stopped}
-use Rattle.cli_commands.specs.Compared.{AreSameBut, AreWhole, IgnoresNone, IsComparing, IsCut, IsDifferent, IsRefusal, IsSame, IsShown, OfModels}
+use Rattle.cli_commands.specs.Compared.{AreSameBut, AreWhole, IgnoresNone, IsComparing, IsCut, IsDifferent, IsRefusal, IsSame, IsShown, OfModels, compare_text, compared_in}
 use Rattle.cli_commands.specs.Commands.{StopsBy}
 use Rattle.cli_files.specs.Stopped.{Outcome}
 
-pub compared : (ignored : IgnoredColumns) (left right : Metadata) (found : List Difference) → found ≡ first_differences_but ignored left right 20
-    → compared_text left right found ≡ compare_text ignored left right
+pub compared : (form : Form) (ignored : IgnoredColumns) (left right : Metadata) (found : List Difference) → found ≡ first_differences_but ignored left right 20
+    → compared_in form left right found ≡ compare_text form ignored left right
 unfolding compare_text
-compared ignored left right found is = ap (λ ds. compared_text left right ds) is
+compared form ignored left right found is = ap (λ ds. compared_in form left right ds) is
 
 pub nothing_found : {X : Type 0} (xs : List X) → length xs ≡ 0 → xs ≡ []
 nothing_found [] is = refl
@@ -36,30 +36,30 @@ pub are_same : (ignored : IgnoredColumns) (model other : Metadata) (found : List
 are_same ignored model other found is none law law_of_none =
     let equal = law.0 (sym is ∙ nothing_found found none) in (equal, (λ nothing. (law_of_none nothing).0 equal))
 
-module _ {W : Type 0} (contents : W → Option (List ℕ)) (before after : W) (ignored : IgnoredColumns) (IsLeft IsRight : Metadata → Type 0) where
-  pub shows_same : IsSame contents before after ignored IsLeft IsRight → IsShown contents before after ignored IsLeft IsRight (Ok tt)
+module _ {W : Type 0} (contents : W → Option (List ℕ)) (before after : W) (form : Form) (ignored : IgnoredColumns) (IsLeft IsRight : Metadata → Type 0) where
+  pub shows_same : IsSame contents before after form ignored IsLeft IsRight → IsShown contents before after form ignored IsLeft IsRight (Ok tt)
   shows_same same = record { same = same; stopped = tt }
 
   pub shows_different : (stopped : Stopped) → stopped.stop ≡ Different
-      → OfModels contents before after ignored IsLeft IsRight (λ model other. (¬ AreEqualBut ignored model other) × Appends (contents before) (contents after) (compare_text ignored model other))
-      → IsShown contents before after ignored IsLeft IsRight (Err stopped)
+      → OfModels contents before after form ignored IsLeft IsRight (λ model other. (¬ AreEqualBut ignored model other) × Appends (contents before) (contents after) (compare_text form ignored model other))
+      → IsShown contents before after form ignored IsLeft IsRight (Err stopped)
   shows_different stopped is differs = record { same = tt; stopped = inl (is, differs) }
 
   -- the output or memory failed
   pub shows_cut : (outcome : Outcome) (failure : Failure) → IsErrAnd outcome (StopsBy failure) → IsOutput failure
-      → OfModels contents before after ignored IsLeft IsRight (λ model other. SendsPrefix (contents before) (contents after) (compare_text ignored model other))
-      → IsShown contents before after ignored IsLeft IsRight outcome
+      → OfModels contents before after form ignored IsLeft IsRight (λ model other. SendsPrefix (contents before) (contents after) (compare_text form ignored model other))
+      → IsShown contents before after form ignored IsLeft IsRight outcome
   shows_cut (Ok done) failure is output cut = absurd is
   shows_cut (Err stopped) failure is output cut = record { same = tt; stopped = inr (failure, is.0, output, cut) }
 
-module _ {W : Type 0} (contents : W → Option (List ℕ)) (before after : W) (ignored : IgnoredColumns) (bare : Bool) (left right : List ℕ) (file other : List ℕ) where
+module _ {W : Type 0} (contents : W → Option (List ℕ)) (before after : W) (form : Form) (ignored : IgnoredColumns) (bare : Bool) (left right : List ℕ) (file other : List ℕ) where
   abbrev Ended : Outcome → Type 0
-  Ended outcome = IsComparing contents before after ignored bare left right file other outcome
+  Ended outcome = IsComparing contents before after form ignored bare left right file other outcome
 
   -- both files were opened, and their models are those of the views
   pub ends_shown : (IsLeft IsRight : Metadata → Type 0) (outcome : Outcome) → ((model : Metadata) → IsModelOf bare left model → IsLeft model)
       → ((model : Metadata) → IsModelOf bare right model → IsRight model) → IsWhole bare left → IsWhole bare right
-      → IsShown contents before after ignored IsLeft IsRight outcome → Ended outcome
+      → IsShown contents before after form ignored IsLeft IsRight outcome → Ended outcome
   ends_shown IsLeft IsRight (Ok done) first second whole also shown =
       record { met = (whole, also); same = λ model another is too. shown.same model another (first model is) (second another too); stopped = tt }
   ends_shown IsLeft IsRight (Err stopped) first second whole also shown = record {

@@ -5,6 +5,7 @@ pub mod SeveralLemmas
 pub mod Checks
 pub mod Digesting
 pub mod Locating
-pub mod Outlining
 pub mod JsonChecking
 pub mod TokenLines
+pub mod FaultLemmas
+pub mod WhereChecking

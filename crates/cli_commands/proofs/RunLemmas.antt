@@ -10,18 +10,18 @@ use Rattle.cli_reports.specs.Checked.{IsWhole, rules_of, signature_bytes_of}
 use Rattle.sha2.specs.Sha256.{sha256}
 use Rattle.cli_commands.specs.Digests.{digest_text}
 use Rattle.cli_where.specs.Strings.{IsStringsText}
-use Rattle.cli_outline.specs.Outline.{IsLine, outline_rows}
+use Rattle.cli_outline.specs.Outline.{IsLineIn, outline_rows}
 use Rattle.cli_outline.specs.Sent.{PrintsLines}
 use Rattle.metadata.specs.Metadata.{Metadata}
 use Rattle.cli_reports.specs.Printed.{IsModelOf, check_text}
 use Rattle.cli_reports.specs.Reported.{IsMet, LeavesOutput, Reports, ReportsFault}
 use Rattle.cli_reports.specs.Sent.{Prints, SendsPrefix}
-use Rattle.cli_reports.specs.Stops.{StopLeavesOutput, StopsWithin}
+use Rattle.cli_commands.specs.Stops.{StopLeavesOutput, StopsWithin}
 use Rattle.cli_files.specs.Hints.{hint_for}
 use Rattle.cli_files.specs.Written.{IsGiven}
 use Rattle.cli_commands.specs.Forms.{IsTextIn}
 use Rattle.cli_commands.specs.Rewritten.{IsRewritten, ReportsUnwritten}
-use Rattle.cli_commands.specs.declared.report_form.Form.{Form}
+use Rattle.cli_reports.specs.declared.report.Form.{Form}
 use Rattle.cli_commands.specs.Commands.{DigestsPart, IsChecked, IsDigesting, IsListed, IsOutlined, IsReported, IsRewriting, PrintsPart, wrote_text}
 use Rattle.cli_files.specs.Stopped.{IsStopOf, Outcome}
 
@@ -47,17 +47,17 @@ module _ {W : Type 0} (contents : W → Option (List ℕ)) (before after : W) (b
     hint = rw hinted.0 hinted.1;
   }
 
-  pub outlined : (first : Result (Unit {0}) Failure) (second : Result (Unit {0}) Stop) (last : Outcome)
+  pub outlined : (form : Form) (first : Result (Unit {0}) Failure) (second : Result (Unit {0}) Stop) (last : Outcome)
       → OnOk first (IsWhole bare bytes) → IfErr first (ReportsFault (IsWhole bare bytes) (rules_of bare bytes)) → IfErr first (LeavesOutput before after)
-      → ((model : Metadata) → IsModelOf bare bytes model → PrintsLines (IsLine model) (contents before) (contents after) first (outline_rows model))
+      → ((model : Metadata) → IsModelOf bare bytes model → PrintsLines (IsLineIn form model) (contents before) (contents after) first (outline_rows model))
       → IsStopOf first second → IsOk last ↔ IsOk second → Hinted bare bytes second last
-      → IsOutlined contents before after bare bytes last
-  outlined (Ok done) (Ok same) (Ok end) met reports leaves printed stops ok hinted = record { met = met; printed = printed; stopped = tt; hint = tt }
-  outlined (Ok done) (Ok same) (Err stopped) met reports leaves printed stops ok hinted = let no = ok.1 refl in cc
-  outlined (Ok done) (Err stop) last met reports leaves printed stops ok hinted = cc
-  outlined (Err failure) (Ok same) last met reports leaves printed stops ok hinted = absurd stops
-  outlined (Err failure) (Err stop) (Ok end) met reports leaves printed stops ok hinted = let no = ok.0 refl in cc
-  outlined (Err failure) (Err stop) (Err stopped) met reports leaves printed stops ok hinted = record {
+      → IsOutlined contents before after form bare bytes last
+  outlined form (Ok done) (Ok same) (Ok end) met reports leaves printed stops ok hinted = record { met = met; printed = printed; stopped = tt; hint = tt }
+  outlined form (Ok done) (Ok same) (Err stopped) met reports leaves printed stops ok hinted = let no = ok.1 refl in cc
+  outlined form (Ok done) (Err stop) last met reports leaves printed stops ok hinted = cc
+  outlined form (Err failure) (Ok same) last met reports leaves printed stops ok hinted = absurd stops
+  outlined form (Err failure) (Err stop) (Ok end) met reports leaves printed stops ok hinted = let no = ok.0 refl in cc
+  outlined form (Err failure) (Err stop) (Err stopped) met reports leaves printed stops ok hinted = record {
     met = tt;
     printed = printed;
     stopped = (failure, rw hinted.0 stops, reports, leaves);

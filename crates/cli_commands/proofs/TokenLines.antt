@@ -21,8 +21,8 @@ use Rattle.cli_reports.specs.Sent.{SendsPrefix}
 use Rattle.cli_reports.specs.TokenTexts.{IsTokenText}
 use Rattle.cli_json.specs.Values.{IsTokenValue, line_of}
 use Rattle.json.specs.Json.{Json}
-use Rattle.cli_commands.specs.declared.report_form.Form.{Form}
-use Rattle.cli_commands.specs.declared.report_form.Form.TheVariants.{JsonLines, Text}
+use Rattle.cli_reports.specs.declared.report.Form.{Form}
+use Rattle.cli_reports.specs.declared.report.Form.TheVariants.{JsonLines, Text}
 use Rattle.cli_commands.specs.Tokens.{AreNamedLines, ArePrinted, AreReported, AreSent, AreSentTo, IsPrintResult, IsNamedIn, IsNamedLine, IsStoppedAt}
 use Rattle.cli_commands.proofs.RunLemmas.{Hinted, appends_nothing}
 use Rattle.cli_commands.proofs.SeveralLemmas.{appends_more, prefix_more}

@@ -4,13 +4,9 @@ use Rattle.std.specs.Io.KnownBytes.{Appends}
 use Rattle.cli_faults.specs.declared.failure.Failure.{Failure}
 use Rattle.cli_faults.specs.Status.{IsOutput, IsUnwritten}
 use Rattle.cli_reports.specs.declared.report.Report.{Report}
-use Rattle.cli_faults.specs.declared.stop.Stop.TheVariants.{Failed, NoSuchType, Nothing}
-use Rattle.cli_outline.specs.Outline.{IsLine, class_rows, outline_rows}
-use Rattle.cli_outline.specs.Sent.{PrintsLines, SendsFirst}
-use Rattle.cli_outline.specs.Subjects.{IsSubject, PrintsFound}
-use Rattle.cli_outline.specs.declared.subject.Outcome.{Outcome as Outlined}
-use Rattle.cli_outline.specs.declared.subject.Outcome.TheVariants as outlined
-use Rattle.cli_outline.specs.declared.subject.Subject.{Subject}
+use Rattle.cli_faults.specs.declared.stop.Stop.TheVariants.{Failed, Nothing}
+use Rattle.cli_outline.specs.Outline.{IsLineIn, outline_rows}
+use Rattle.cli_outline.specs.Sent.{PrintsLines}
 use Rattle.cli_reports.specs.Checked.{IsWhole, rules_of, signature_bytes_of}
 use Rattle.cli_where.specs.Strings.{IsStringsText}
 use Rattle.cli_where.specs.Where.{IsWhere}
@@ -23,10 +19,10 @@ use Rattle.cli_reports.specs.Printed.{IsModelOf, check_text}
 use Rattle.cli_reports.specs.Reported.{IsMet, LeavesOutput, Reports, ReportsFault}
 use Rattle.cli_reports.specs.RowTexts.{line_feed}
 use Rattle.cli_reports.specs.Sent.{Prints, SendsPrefix}
-use Rattle.cli_reports.specs.Stops.{StopLeavesOutput, StopsWithin}
+use Rattle.cli_commands.specs.Stops.{StopLeavesOutput, StopsWithin}
 use Rattle.cli_files.specs.declared.stopped.Stopped.{Stopped}
 use Rattle.cli_commands.specs.Forms.{IsTextIn}
-use Rattle.cli_commands.specs.declared.report_form.Form.{Form}
+use Rattle.cli_reports.specs.declared.report.Form.{Form}
 use Rattle.cli_files.specs.Hints.{hint_for}
 use Rattle.cli_files.specs.Read.{IsRefused}
 use Rattle.cli_files.specs.Written.{IsGiven}
@@ -63,32 +59,11 @@ module _ {W : Type 0} (contents : W → Option (List ℕ)) (before after : W) wh
 
   -- The outline of the bytes' model was printed: the lines of its declarations, and nothing else. If it stopped, the
   -- first broken rule is reported, or what else failed. Only a failure of the output or of memory comes after a prefix.
-  pub record IsOutlined (bare : Bool) (bytes : List ℕ) (outcome : Outcome) : Type 0 where
+  pub record IsOutlined (form : Form) (bare : Bool) (bytes : List ℕ) (outcome : Outcome) : Type 0 where
     pub met : OnOk outcome (IsWhole bare bytes)
-    pub printed : (model : Metadata) → IsModelOf bare bytes model → PrintsLines (IsLine model) (contents before) (contents after) outcome (outline_rows model)
+    pub printed : (model : Metadata) → IsModelOf bare bytes model → PrintsLines (IsLineIn form model) (contents before) (contents after) outcome (outline_rows model)
     pub stopped : IfErr outcome (λ stopped. (failure : Failure) × (stopped.stop ≡ Failed failure)
         × ReportsFault (IsWhole bare bytes) (rules_of bare bytes) failure × LeavesOutput before after failure)
-    pub hint : IfErr outcome (λ stopped. stopped.hint ≡ hint_for bare bytes stopped.stop)
-
-  -- what was printed of the type: its lines, or nothing, and there is no such type
-  abbrev pub IsTypePrinted : Subject → Bool → List ℕ → Outlined → Type 0
-  IsTypePrinted subject bare bytes said = (model : Metadata) → IsModelOf bare bytes model → PrintsFound model subject (contents before) (contents after) said
-
-  -- the first broken rule is reported, or what else failed; only a failure of the output or of memory comes after a prefix
-  -- of the lines
-  abbrev pub IsTypeUnprinted : Subject → Bool → List ℕ → Failure → Type 0
-  IsTypeUnprinted subject bare bytes failure =
-      ReportsFault (IsWhole bare bytes) (rules_of bare bytes) failure × LeavesOutput before after failure
-      × ((model : Metadata) → IsModelOf bare bytes model → (row : ℕ) → IsSubject model subject row
-      → SendsFirst (IsLine model) (contents before) (contents after) (class_rows model row) [])
-
-  -- The outline of one type of the bytes' model was printed, and nothing else. It stopped because there is no such type,
-  -- and nothing was printed, or because of a failure.
-  pub record IsTypeOutlined (subject : Subject) (bare : Bool) (bytes : List ℕ) (outcome : Outcome) : Type 0 where
-    pub met : OnOk outcome (IsWhole bare bytes)
-    pub printed : OnOk outcome (IsTypePrinted subject bare bytes outlined.Printed)
-    pub stopped : IfErr outcome (λ stopped. ((stopped.stop ≡ NoSuchType) × IsWhole bare bytes × IsTypePrinted subject bare bytes outlined.NoSuchType)
-        ⊎ ((failure : Failure) × (stopped.stop ≡ Failed failure) × IsTypeUnprinted subject bare bytes failure))
     pub hint : IfErr outcome (λ stopped. stopped.hint ≡ hint_for bare bytes stopped.stop)
 
   -- The user strings of the bytes' model were printed, and nothing else. If it stopped, the first broken rule is reported,
@@ -101,24 +76,24 @@ module _ {W : Type 0} (contents : W → Option (List ℕ)) (before after : W) wh
     pub hint : IfErr outcome (λ stopped. stopped.hint ≡ hint_for bare bytes stopped.stop)
 
   -- what has the byte at the offset was printed, and this says whether something has it
-  abbrev pub IsFound : ℕ → Bool → List ℕ → Found → Type 0
-  IsFound offset bare bytes said =
-      (it : Found) (text : List ℕ) → IsWhere bare bytes offset it text → (it ≡ said) × Appends (contents before) (contents after) text
+  abbrev pub IsFound : Form → ℕ → Bool → List ℕ → Found → Type 0
+  IsFound form offset bare bytes said =
+      (it : Found) (text : List ℕ) → IsWhere form bare bytes offset it text → (it ≡ said) × Appends (contents before) (contents after) text
 
   -- the first broken rule is reported, or what else failed; only a failure of the output or of memory comes after a prefix
   -- of the text
-  abbrev pub IsUnfound : ℕ → Bool → List ℕ → Failure → Type 0
-  IsUnfound offset bare bytes failure =
+  abbrev pub IsUnfound : Form → ℕ → Bool → List ℕ → Failure → Type 0
+  IsUnfound form offset bare bytes failure =
       ReportsFault (IsWhole bare bytes) (rules_of bare bytes) failure × LeavesOutput before after failure
-      × ((it : Found) (text : List ℕ) → IsWhere bare bytes offset it text → SendsPrefix (contents before) (contents after) text)
+      × ((it : Found) (text : List ℕ) → IsWhere form bare bytes offset it text → SendsPrefix (contents before) (contents after) text)
 
   -- What has the byte at the offset was printed, and nothing else. It stopped because nothing has it, which was printed, or
   -- because of a failure.
-  pub record IsLocated (offset : ℕ) (bare : Bool) (bytes : List ℕ) (outcome : Outcome) : Type 0 where
+  pub record IsLocated (form : Form) (offset : ℕ) (bare : Bool) (bytes : List ℕ) (outcome : Outcome) : Type 0 where
     pub met : OnOk outcome (IsWhole bare bytes)
-    pub printed : OnOk outcome (IsFound offset bare bytes found.Something)
-    pub stopped : IfErr outcome (λ stopped. ((stopped.stop ≡ Nothing) × IsWhole bare bytes × IsFound offset bare bytes found.Nothing)
-        ⊎ ((failure : Failure) × (stopped.stop ≡ Failed failure) × IsUnfound offset bare bytes failure))
+    pub printed : OnOk outcome (IsFound form offset bare bytes found.Something)
+    pub stopped : IfErr outcome (λ stopped. ((stopped.stop ≡ Nothing) × IsWhole bare bytes × IsFound form offset bare bytes found.Nothing)
+        ⊎ ((failure : Failure) × (stopped.stop ≡ Failed failure) × IsUnfound form offset bare bytes failure))
     pub hint : IfErr outcome (λ stopped. stopped.hint ≡ hint_for bare bytes stopped.stop)
 
   -- `check` with a budget printed `ok`; or it stopped, as without a budget or because the budget is spent

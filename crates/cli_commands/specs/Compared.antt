@@ -6,6 +6,8 @@ use Rattle.packed.specs.Rule.{FirstBroken}
 use Rattle.table_schema.specs.declared.table.TableId.{TableId}
 use Rattle.table_schema.specs.CellColumns.{cell_count}
 use Rattle.metadata.specs.Metadata.{Metadata}
+use Rattle.comparison.specs.declared.difference.Difference.{Difference}
+use Rattle.comparison.specs.Differences.{first_differences_but}
 use Rattle.comparison.specs.EqualBut.{AreEqualBut}
 use Rattle.comparison.specs.Ignored.{is_ignored}
 use Rattle.comparison.specs.declared.ignored.IgnoredColumns.{IgnoredColumns}
@@ -14,7 +16,10 @@ use Rattle.cli_faults.specs.declared.failure.Failure.TheVariants as failed
 use Rattle.cli_faults.specs.Status.{IsOutput}
 use Rattle.cli_faults.specs.declared.stop.Stop.TheVariants.{Different, Failed}
 use Rattle.cli_reports.specs.Checked.{IsWhole, rules_of}
-use Rattle.cli_reports.specs.Comparisons.{compare_text}
+use Rattle.cli_json.specs.Compared.{compared_json}
+use Rattle.cli_reports.specs.Comparisons.{compared_text}
+use Rattle.cli_reports.specs.declared.report.Form.{Form}
+use Rattle.cli_reports.specs.declared.report.Form.TheVariants.{JsonLines, Text}
 use Rattle.cli_reports.specs.Printed.{IsModelOf}
 use Rattle.cli_reports.specs.Sent.{SendsPrefix}
 use Rattle.cli_files.specs.declared.stopped.Stopped.{Stopped}
@@ -28,6 +33,16 @@ IgnoresNone ignored = (table : TableId) (cell_index : ℕ) → cell_index < cell
 abbrev pub AreSameBut : IgnoredColumns → Metadata → Metadata → Type 0
 AreSameBut ignored model other = AreEqualBut ignored model other × (IgnoresNone ignored → model ≡ other)
 
+-- the lines of what differs, in this form
+abbrev pub compared_in : Form → Metadata → Metadata → List Difference → List ℕ
+compared_in Text left right found = compared_text left right found
+compared_in JsonLines left right found = compared_json left right found
+
+-- what `clim compare` prints in this form: that nothing differs; or the first of the version, the user strings and the row
+-- counts that differs, and the first 20 cells that differ and whose columns are not ignored
+unfoldable pub compare_text : Form → IgnoredColumns → Metadata → Metadata → List ℕ
+compare_text form ignored left right = compared_in form left right (first_differences_but ignored left right 20)
+
 -- the first broken rule of the bytes is reported, with the path of their file and a hint if there is one
 pub record IsRefusal (path : List ℕ) (bare : Bool) (bytes : List ℕ) (stopped : Stopped) : Type 0 where
   pub fault : Fault
@@ -36,7 +51,7 @@ pub record IsRefusal (path : List ℕ) (bare : Bool) (bytes : List ℕ) (stopped
   pub about : MatchOption stopped.file ⊥ (λ file. file.now ≡ path)
   pub hint : stopped.hint ≡ hint_for bare bytes stopped.stop
 
-module _ {W : Type 0} (contents : W → Option (List ℕ)) (before after : W) (ignored : IgnoredColumns) where
+module _ {W : Type 0} (contents : W → Option (List ℕ)) (before after : W) (form : Form) (ignored : IgnoredColumns) where
   -- two models, given by what is true of each, are compared
   module _ (IsLeft IsRight : Metadata → Type 0) where
     -- a property of both models
@@ -45,19 +60,19 @@ module _ {W : Type 0} (contents : W → Option (List ℕ)) (before after : W) (i
 
     -- the models are equal but for the cells of ignored columns, and that was printed
     abbrev pub IsSame : Type 0
-    IsSame = OfModels (λ model other. AreSameBut ignored model other × Appends (contents before) (contents after) (compare_text ignored model other))
+    IsSame = OfModels (λ model other. AreSameBut ignored model other × Appends (contents before) (contents after) (compare_text form ignored model other))
 
     -- something else differs too, and that was printed
     abbrev pub IsDifferent : Stopped → Type 0
     IsDifferent stopped =
         (stopped.stop ≡ Different)
-        × OfModels (λ model other. (¬ AreEqualBut ignored model other) × Appends (contents before) (contents after) (compare_text ignored model other))
+        × OfModels (λ model other. (¬ AreEqualBut ignored model other) × Appends (contents before) (contents after) (compare_text form ignored model other))
 
     -- the output could not be written or memory ran out, after a prefix of the text
     abbrev pub IsCut : Stopped → Type 0
     IsCut stopped =
         (failure : Failure) × (stopped.stop ≡ Failed failure) × IsOutput failure
-        × OfModels (λ model other. SendsPrefix (contents before) (contents after) (compare_text ignored model other))
+        × OfModels (λ model other. SendsPrefix (contents before) (contents after) (compare_text form ignored model other))
 
     -- the comparison of the models was printed, or a prefix of it
     pub record IsShown (outcome : Result (Unit {0}) Stopped) : Type 0 where

@@ -3,8 +3,8 @@ use Rattle.std.specs.Prelude.{ℕ, Bool, true, false, List}
 use Rattle.cli_json.specs.Printed.{IsJsonText}
 use Rattle.cli_reports.specs.Printed.{IsReportText}
 use Rattle.cli_reports.specs.declared.report.Report.{Report}
-use Rattle.cli_commands.specs.declared.report_form.Form.{Form}
-use Rattle.cli_commands.specs.declared.report_form.Form.TheVariants.{JsonLines, Text}
+use Rattle.cli_reports.specs.declared.report.Form.{Form}
+use Rattle.cli_reports.specs.declared.report.Form.TheVariants.{JsonLines, Text}
 
 -- the form that the arguments ask for, by whether they have `--json`
 abbrev pub form_of : Bool → Form

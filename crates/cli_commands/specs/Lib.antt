@@ -8,5 +8,7 @@ pub mod Rewritten
 pub mod Several
 pub mod Forms
 pub mod JsonChecks
-pub mod Outlined
 pub mod Tokens
+pub mod Stops
+pub mod FaultLines
+pub mod WhereChecks

@@ -18,8 +18,8 @@ use Rattle.cli_reports.specs.TokenTexts.{IsTokenText}
 use Rattle.cli_reports.specs.declared.report.Report.TheVariants as report
 use Rattle.cli_files.specs.Hints.{hint_for}
 use Rattle.cli_files.specs.Stopped.{Outcome}
-use Rattle.cli_commands.specs.declared.report_form.Form.{Form}
-use Rattle.cli_commands.specs.declared.report_form.Form.TheVariants.{JsonLines, Text}
+use Rattle.cli_reports.specs.declared.report.Form.{Form}
+use Rattle.cli_reports.specs.declared.report.Form.TheVariants.{JsonLines, Text}
 
 -- the line of what a number names in a model, in this form
 abbrev pub IsNamedLine : Form → Metadata → ℕ → List ℕ → Type 0

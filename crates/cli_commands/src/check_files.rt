@@ -8,9 +8,10 @@ ghost use Rattle.cli_reports.specs.Sent.{SendsPrefix};
 ghost use Rattle.cli_commands.specs.Checks.{EndsCheck, IsCheckAt, StopsCheck, broken_at, line_text, verdict_line, verdict_status};
 ghost use Rattle.cli_commands.specs.Several.{HasEnded, IsCut, IsRunOnEach};
 
+use crate::budgeted_check::open_within;
 use cli_faults::{EscapedBytes, Failure, Stop, printed};
 use cli_files::{Stopped, out_of_memory, read_into, status};
-use cli_reports::{finish, open, open_within};
+use cli_reports::{finish, open};
 use opening::BoundedError;
 use packed::Fault;
 use std::alloc::{AllocError, Global};

@@ -3,25 +3,23 @@ ghost use Rattle.std.specs.Prelude.{◌⊎◌};
 ghost use Rattle.cli_commands.specs.Commands.{IsChecked, IsDigesting, IsListed, IsLocated, IsMixed, IsOutlined, IsReported, IsRewriting, IsRunOn};
 ghost use Rattle.cli_commands.specs.Compared.{IsComparing};
 
-use crate::compare_files::compare;
+use crate::budgeted_check::check_within;
+use crate::compare_files::{CompareOptions, ReadFile, compare};
 use crate::digest_file::digest_bytes_of;
-use crate::report_form::{Form, print_in};
+use crate::report_form::print_in;
 use crate::rewrite_file::rewrite;
 use crate::where_file::locate;
 use cli_faults::{Failure, FileError, Reason};
 use cli_files::{Stopped, is_standard_output, read_file, stopped_by, with_hint};
 use cli_outline::report_outline;
-use cli_reports::{Report, check_within};
+use cli_reports::{Form, Report};
 use cli_where::report_strings;
-use comparison::IgnoredColumns;
 use std::alloc::Global;
 use std::io::Write;
 use std::rt::Files;
 
 /// Prints a report on a file.
-///
 /// # Errors
-///
 /// The file cannot be read; or as [`cli_reports::print_report`], with the hint for these bytes.
 pub fn print_file<'a, R: Files + Input + AllocGlobal, W: Write>(
     rt: &R,
@@ -40,28 +38,25 @@ pub fn print_file<'a, R: Files + Input + AllocGlobal, W: Write>(
 }
 
 /// Prints the declarations of a file.
-///
 /// # Errors
-///
 /// The file cannot be read; or as [`cli_outline::report_outline`], with the hint for these bytes.
 pub fn outline_file<'a, R: Files + Input + AllocGlobal, W: Write>(
     rt: &R,
+    form: Form,
     file: &'a str,
     bare: bool,
     out: &mut W,
 ) -> Result<(), Stopped<'a>>
-    ensures { IsRunOn W.contents out.old out.new file.now (IsOutlined W.contents out.old out.new bare) result }
+    ensures { IsRunOn W.contents out.old out.new file.now (IsOutlined W.contents out.old out.new form bare) result }
 {
     let read = read_file(rt, file)?;
     let bytes = read.as_slice();
-    let outcome = report_outline(rt.alloc(), bare, bytes, out);
+    let outcome = report_outline(rt.alloc(), form, bare, bytes, out);
     with_hint(stopped_by(outcome), bare, bytes)
 }
 
 /// Prints the user strings of a file.
-///
 /// # Errors
-///
 /// The file cannot be read; or as [`cli_where::report_strings`], with the hint for these bytes.
 pub fn list_strings<'a, R: Files + Input + AllocGlobal, W: Write>(
     rt: &R,
@@ -84,15 +79,16 @@ pub fn list_strings<'a, R: Files + Input + AllocGlobal, W: Write>(
 /// The file cannot be read or breaks a rule; nothing has the byte; out of memory, or the output cannot be written.
 pub fn locate_in<'a, R: Files + Input + AllocGlobal, W: Write>(
     rt: &R,
+    form: Form,
     offset: u64,
     file: &'a str,
     bare: bool,
     out: &mut W,
 ) -> Result<(), Stopped<'a>>
-    ensures { IsRunOn W.contents out.old out.new file.now (IsLocated W.contents out.old out.new offset bare) result }
+    ensures { IsRunOn W.contents out.old out.new file.now (IsLocated W.contents out.old out.new form offset bare) result }
 {
     let bytes = read_file(rt, file)?;
-    locate(rt.alloc(), offset, &bytes, bare, out)
+    locate(rt.alloc(), form, offset, &bytes, bare, out)
 }
 
 /// Checks a file against the rules, within a budget.
@@ -194,16 +190,23 @@ fn digest_bytes<W: Write>(
 /// One of them cannot be read or breaks a rule; they differ; out of memory, or the output cannot be written.
 pub fn compare_files<'a, R: Files + Input + AllocGlobal, W: Write>(
     rt: &R,
-    ignored: &IgnoredColumns,
-    other: &'a str,
     file: &'a str,
-    bare: bool,
+    other: &'a str,
+    options: &CompareOptions,
     out: &mut W,
 ) -> Result<(), Stopped<'a>>
     ensures { IsRunOn W.contents out.old out.new file.now (λ left. IsRunOn W.contents out.old out.new other.now
-        (λ right. IsComparing W.contents out.old out.new ignored.now bare left right file.now other.now)) result }
+        (λ right. IsComparing W.contents out.old out.new options.now.form options.now.ignored options.now.bare left right file.now other.now)) result }
 {
     let left = read_file(rt, file)?;
     let right = read_file(rt, other)?;
-    compare(rt.alloc(), &left, &right, ignored, bare, file, other, out)
+    let left = ReadFile {
+        path: file,
+        bytes: &left,
+    };
+    let right = ReadFile {
+        path: other,
+        bytes: &right,
+    };
+    compare(rt.alloc(), left, right, options, out)
 }

@@ -10,15 +10,17 @@
 //! ```
 #![tactic(auto)]
 
+mod budgeted_check;
 pub mod check_files;
 pub mod check_json;
 pub mod check_listed;
-mod compare_files;
+pub mod check_where;
+pub mod compare_files;
 mod digest_file;
 pub mod digest_files;
 mod digest_line;
+mod fault_lines;
 pub mod file_runs;
-pub mod outline_type;
 pub mod print_tokens;
 pub mod report_form;
 mod rewrite_file;

@@ -7,11 +7,10 @@ ghost use Rattle.cli_reports.specs.Sent.{Prints};
 ghost use Rattle.cli_commands.specs.Commands.{IsRunOn};
 ghost use Rattle.cli_commands.specs.Tokens.{ArePrinted, AreReported, IsPrintResult, IsNamedLine};
 
-use crate::report_form::Form;
 use cli_faults::Failure;
 use cli_files::{Stopped, read_file, stopped_by, with_hint};
 use cli_json::print_json_named;
-use cli_reports::{open, print_named};
+use cli_reports::{Form, open, print_named};
 use opening::View;
 use std::alloc::Global;
 use std::io::Write;

@@ -6,18 +6,9 @@ ghost use Rattle.cli_commands.specs.Forms.{IsTextIn, form_of};
 
 use cli_faults::Failure;
 use cli_json::print_json;
-use cli_reports::{Report, print_report};
+use cli_reports::{Form, Report, print_report};
 use std::alloc::Global;
 use std::io::Write;
-
-/// The form in which a report is printed.
-#[derive(Clone, Copy, Debug)]
-pub enum Form {
-    /// Lines of text.
-    Text,
-    /// A JSON value on each line.
-    JsonLines,
-}
 
 /// The form that the arguments ask for, by whether they have `--json`.
 pub fn form_of(json: bool) -> Form

@@ -5,6 +5,7 @@ ghost use Rattle.cli_commands.specs.Commands.{IsLocated};
 
 use cli_faults::{Failure, Stop};
 use cli_files::{Stopped, with_hint};
+use cli_reports::Form;
 use cli_where::{Found, report_where};
 use std::alloc::Global;
 use std::io::Write;
@@ -12,14 +13,15 @@ use std::io::Write;
 /// Prints what has the byte at an offset.
 pub(crate) fn locate<W: Write>(
     alloc: Global,
+    form: Form,
     offset: u64,
     bytes: &[u8],
     bare: bool,
     out: &mut W,
 ) -> Result<(), Stopped<'static>>
-    ensures { IsLocated W.contents out.old out.new offset bare bytes.now result }
+    ensures { IsLocated W.contents out.old out.new form offset bare bytes.now result }
 {
-    let outcome = report_where(alloc, bare, bytes, offset, out);
+    let outcome = report_where(alloc, form, bare, bytes, offset, out);
     with_hint(stop_of(outcome), bare, bytes)
 }
 

@@ -6,6 +6,10 @@ pub unwrap-requires : goal.unwrap-requires
 unwrap-requires g c =
     file_there c.args.ask.now c.in-Ok.task (is_on_one c.in-Ok.task (task.Print c.in-Print.report c.in-Print.form) c.in-Print.is tt) c.requires.file c.requires.first c.in-Ok.ensures
 
+pub unwrap-requires-in-ShowUntilFault : goal.unwrap-requires-in-ShowUntilFault
+unwrap-requires-in-ShowUntilFault g c =
+    file_there c.args.ask.now c.in-Ok.task (is_on_one c.in-Ok.task (task.ShowUntilFault c.in-ShowUntilFault.table c.in-ShowUntilFault.names) c.in-ShowUntilFault.is tt) c.requires.file c.requires.first c.in-Ok.ensures
+
 pub unwrap-requires-in-Tokens : goal.unwrap-requires-in-Tokens
 unwrap-requires-in-Tokens g c =
     file_there c.args.ask.now c.in-Ok.task (is_on_one c.in-Ok.task (task.Tokens c.in-Tokens.numbers c.in-Tokens.form) c.in-Tokens.is tt) c.requires.file c.requires.first c.in-Ok.ensures
@@ -18,9 +22,13 @@ pub unwrap-requires-in-CheckJson : goal.unwrap-requires-in-CheckJson
 unwrap-requires-in-CheckJson g c =
     file_there c.args.ask.now c.in-Ok.task (is_on_one c.in-Ok.task task.CheckJson c.in-CheckJson.is tt) c.requires.file c.requires.first c.in-Ok.ensures
 
+pub unwrap-requires-in-CheckWhere : goal.unwrap-requires-in-CheckWhere
+unwrap-requires-in-CheckWhere g c =
+    file_there c.args.ask.now c.in-Ok.task (is_on_one c.in-Ok.task task.CheckWhere c.in-CheckWhere.is tt) c.requires.file c.requires.first c.in-Ok.ensures
+
 pub unwrap-requires-in-OutlineOf : goal.unwrap-requires-in-OutlineOf
 unwrap-requires-in-OutlineOf g c =
-    file_there c.args.ask.now c.in-Ok.task (is_on_one c.in-Ok.task (task.OutlineOf c.in-OutlineOf.subject) c.in-OutlineOf.is tt) c.requires.file c.requires.first c.in-Ok.ensures
+    file_there c.args.ask.now c.in-Ok.task (is_on_one c.in-Ok.task (task.OutlineOf c.in-OutlineOf.subject c.in-OutlineOf.form) c.in-OutlineOf.is tt) c.requires.file c.requires.first c.in-Ok.ensures
 
 pub unwrap-requires-in-Rewrite : goal.unwrap-requires-in-Rewrite
 unwrap-requires-in-Rewrite g c =
@@ -28,7 +36,7 @@ unwrap-requires-in-Rewrite g c =
 
 pub unwrap-requires-in-Outline : goal.unwrap-requires-in-Outline
 unwrap-requires-in-Outline g c =
-    file_there c.args.ask.now c.in-Ok.task (is_on_one c.in-Ok.task task.Outline c.in-Outline.is tt) c.requires.file c.requires.first c.in-Ok.ensures
+    file_there c.args.ask.now c.in-Ok.task (is_on_one c.in-Ok.task (task.Outline c.in-Outline.form) c.in-Outline.is tt) c.requires.file c.requires.first c.in-Ok.ensures
 
 pub unwrap-requires-in-Strings : goal.unwrap-requires-in-Strings
 unwrap-requires-in-Strings g c =
@@ -36,7 +44,7 @@ unwrap-requires-in-Strings g c =
 
 pub unwrap-requires-in-Where : goal.unwrap-requires-in-Where
 unwrap-requires-in-Where g c =
-    file_there c.args.ask.now c.in-Ok.task (is_on_one c.in-Ok.task (task.Where c.in-Where.offset) c.in-Where.is tt) c.requires.file c.requires.first c.in-Ok.ensures
+    file_there c.args.ask.now c.in-Ok.task (is_on_one c.in-Ok.task (task.Where c.in-Where.offset c.in-Where.form) c.in-Where.is tt) c.requires.file c.requires.first c.in-Ok.ensures
 
 pub unwrap-requires-in-Digest : goal.unwrap-requires-in-Digest
 unwrap-requires-in-Digest g c =
@@ -44,4 +52,4 @@ unwrap-requires-in-Digest g c =
 
 pub unwrap-requires-in-Compare : goal.unwrap-requires-in-Compare
 unwrap-requires-in-Compare g c =
-    file_there c.args.ask.now c.in-Ok.task (is_on_one c.in-Ok.task (task.Compare c.in-Compare.other c.in-Compare.ignored) c.in-Compare.is tt) c.requires.file c.requires.first c.in-Ok.ensures
+    file_there c.args.ask.now c.in-Ok.task (is_on_one c.in-Ok.task (task.Compare c.in-Compare.other c.in-Compare.options) c.in-Compare.is tt) c.requires.file c.requires.first c.in-Ok.ensures

@@ -5,33 +5,33 @@ use Rattle.metadata.specs.Model.{IsModel}
 use Rattle.comparison.specs.declared.difference.Difference.{Difference}
 use Rattle.comparison.specs.Differences.{IsThere}
 use Rattle.cli_faults.specs.declared.failure.Failure.TheVariants.{OutOfMemory}
-use Rattle.cli_reports.specs.Comparisons.{compare_text}
 use Rattle.cli_reports.specs.Sent.{SendsPrefix}
+use Rattle.cli_commands.specs.Compared.{compare_text}
 use Rattle.cli_commands.proofs.Comparing.{are_same, compared, prefix_of_none, shows_cut, shows_different, shows_same}
 use Rattle.cli_commands.proofs.compare_files.compare_views.Goals as goal
 
 pub returns-in_default : goal.returns-in_default
 returns-in_default g c =
-    shows_cut g.W.Write.contents c.args.out.now c.args.out.now c.args.ignored.now (IsModel c.args.left.now) (IsModel c.args.right.now)
+    shows_cut g.W.Write.contents c.args.out.now c.args.out.now c.args.form c.args.ignored.now (IsModel c.args.left.now) (IsModel c.args.right.now)
     (Err c.from.result) OutOfMemory c.from.ensures tt
-    (λ model another is also. prefix_of_none (g.W.Write.contents c.args.out.now) (compare_text c.args.ignored.now model another))
+    (λ model another is also. prefix_of_none (g.W.Write.contents c.args.out.now) (compare_text c.args.form c.args.ignored.now model another))
 
-pub print_comparison-requires : goal.print_comparison-requires
-print_comparison-requires g c =
+pub print_in-requires : goal.print_in-requires
+print_in-requires g c =
     subst (λ (ds : List Difference). All (IsThere c.args.left.now c.args.right.now) ds) (sym c.deref.ensures.value) c.in-Ok.ensures.there
 
-pub returns-in_err-print_comparison : goal.returns-in_err-print_comparison
-returns-in_err-print_comparison g c =
-    shows_cut g.W.Write.contents c.args.out.now c.print_comparison.new.out c.args.ignored.now (IsModel c.args.left.now) (IsModel c.args.right.now)
-    c.from_residual.result c.in_err-print_comparison.field-0.0 c.from_residual.ensures.1 c.in_err-print_comparison.ensures.failed
+pub returns-in_err-print_in : goal.returns-in_err-print_in
+returns-in_err-print_in g c =
+    shows_cut g.W.Write.contents c.args.out.now c.print_in.new.out c.args.form c.args.ignored.now (IsModel c.args.left.now) (IsModel c.args.right.now)
+    c.from_residual.result c.in_err-print_in.field-0.0 c.from_residual.ensures.1 c.in_err-print_in.ensures.failed
     (λ model another is also.
-    subst (λ (text : List ℕ). SendsPrefix (g.W.Write.contents c.args.out.now) (g.W.Write.contents c.print_comparison.new.out) text)
-    (compared c.args.ignored.now model another c.deref.result.now (c.deref.ensures.value ∙ c.in-Ok.ensures.sound model another is also))
-    (c.in_err-print_comparison.ensures.printed model another is also))
+    subst (λ (text : List ℕ). SendsPrefix (g.W.Write.contents c.args.out.now) (g.W.Write.contents c.print_in.new.out) text)
+    (compared c.args.form c.args.ignored.now model another c.deref.result.now (c.deref.ensures.value ∙ c.in-Ok.ensures.sound model another is also))
+    (c.in_err-print_in.ensures.printed model another is also))
 
 pub returns-then-is_empty : goal.returns-then-is_empty
 returns-then-is_empty g c =
-    shows_same g.W.Write.contents c.args.out.now c.print_comparison.new.out c.args.ignored.now (IsModel c.args.left.now) (IsModel c.args.right.now)
+    shows_same g.W.Write.contents c.args.out.now c.print_in.new.out c.args.form c.args.ignored.now (IsModel c.args.left.now) (IsModel c.args.right.now)
     (λ model another is also.
     let found = c.in-Ok.ensures.sound model another is also in
     let valid = c.models_of_roots_are_valid.ensures c.args.left.now model is in
@@ -40,14 +40,14 @@ returns-then-is_empty g c =
     let zero = (Decides-eqb c.in-Ok.found.len 0).0 (sym c.is_empty.ensures ∙ c.if-is_empty.true) in (
       are_same c.args.ignored.now model another c.in-Ok.found.items found (sym c.in-Ok.found.ok.0 ∙ zero) law
           (λ none. c.models_equal_but_for_no_columns_are_equal.ensures.equal c.args.ignored.now model another valid also_valid none),
-      subst (λ (text : List ℕ). Appends (g.W.Write.contents c.args.out.now) (g.W.Write.contents c.print_comparison.new.out) text)
-          (compared c.args.ignored.now model another c.deref.result.now (c.deref.ensures.value ∙ found))
-          (c.in_ok-print_comparison.ensures.printed model another is also),
+      subst (λ (text : List ℕ). Appends (g.W.Write.contents c.args.out.now) (g.W.Write.contents c.print_in.new.out) text)
+          (compared c.args.form c.args.ignored.now model another c.deref.result.now (c.deref.ensures.value ∙ found))
+          (c.in_ok-print_in.ensures.printed model another is also),
     ))
 
 pub returns : goal.returns
 returns g c =
-    shows_different g.W.Write.contents c.args.out.now c.print_comparison.new.out c.args.ignored.now (IsModel c.args.left.now) (IsModel c.args.right.now)
+    shows_different g.W.Write.contents c.args.out.now c.print_in.new.out c.args.form c.args.ignored.now (IsModel c.args.left.now) (IsModel c.args.right.now)
     c.from-2.result c.from-2.ensures.0
     (λ model another is also.
     let found = c.in-Ok.ensures.sound model another is also in
@@ -57,7 +57,7 @@ returns g c =
       (λ same.
           let none = found ∙ law.1 same in
           let test = sym c.if-is_empty.false ∙ c.is_empty.ensures ∙ (Decides-eqb c.in-Ok.found.len 0).1 (c.in-Ok.found.ok.0 ∙ ap length none) in cc),
-      subst (λ (text : List ℕ). Appends (g.W.Write.contents c.args.out.now) (g.W.Write.contents c.print_comparison.new.out) text)
-          (compared c.args.ignored.now model another c.deref.result.now (c.deref.ensures.value ∙ found))
-          (c.in_ok-print_comparison.ensures.printed model another is also),
+      subst (λ (text : List ℕ). Appends (g.W.Write.contents c.args.out.now) (g.W.Write.contents c.print_in.new.out) text)
+          (compared c.args.form c.args.ignored.now model another c.deref.result.now (c.deref.ensures.value ∙ found))
+          (c.in_ok-print_in.ensures.printed model another is also),
     ))

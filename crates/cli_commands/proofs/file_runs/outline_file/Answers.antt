@@ -8,7 +8,7 @@ returns-in_err-read g c = (Err c.in_err-read.field-0.0, (c.in_err-read.ensures, 
 pub returns : goal.returns
 returns g c = (
   Ok c.as_slice-bytes.result.now,
-  outlined g.W.Write.contents c.args.out.now c.report_outline-outcome.new.out c.args.bare c.as_slice-bytes.result.now c.report_outline-outcome.result c.stopped_by.result c.with_hint.result
+  outlined g.W.Write.contents c.args.out.now c.report_outline-outcome.new.out c.args.bare c.as_slice-bytes.result.now c.args.form c.report_outline-outcome.result c.stopped_by.result c.with_hint.result
       c.report_outline-outcome.ensures.sound c.report_outline-outcome.ensures.first_error c.report_outline-outcome.ensures.untouched c.report_outline-outcome.ensures.printed c.stopped_by.ensures
       c.with_hint.ensures.ok c.with_hint.ensures.stopped,
 )

@@ -9,19 +9,23 @@ use Rattle.cli_outline.specs.Subjects.{PrintsSubject}
 use Rattle.cli_outline.specs.declared.subject.Outcome.{Outcome as Outlined}
 use Rattle.cli_outline.specs.declared.subject.Outcome.TheVariants as outlined
 use Rattle.cli_outline.specs.declared.subject.Subject.{Subject}
+use Rattle.cli_reports.specs.declared.report.Form.{Form}
 use Rattle.cli_reports.specs.Checked.{IsWhole, rules_of}
 use Rattle.cli_reports.specs.Printed.{IsModelOf}
 use Rattle.cli_reports.specs.Reported.{LeavesOutput, ReportsFault}
-use Rattle.cli_commands.specs.Outlined.{stop_of_outlined}
-use Rattle.cli_commands.specs.Commands.{IsTypeOutlined}
-use Rattle.cli_commands.proofs.RunLemmas.{Hinted}
+use Rattle.cli_files.specs.Hints.{hint_for}
+use Rattle.cli.specs.Outlined.{IsTypeOutlined, stop_of_outlined}
 
-module _ {W : Type 0} (contents : W → Option (List ℕ)) (before after : W) (subject : Subject) (bare : Bool) (bytes : List ℕ) where
+-- a hint for a result that stopped
+abbrev pub Hinted : Bool → List ℕ → Result (Unit {0}) Stop → Outcome → Type 0
+Hinted bare bytes stops outcome = IfErr stops (λ stop. IfErr outcome (λ stopped. (stopped.stop ≡ stop) × (stopped.hint ≡ hint_for bare bytes stop)))
+
+module _ {W : Type 0} (contents : W → Option (List ℕ)) (before after : W) (form : Form) (subject : Subject) (bare : Bool) (bytes : List ℕ) where
   by_cases : (first : Result Outlined Failure) (last : Outcome)
       → OnOk first (IsWhole bare bytes) → IfErr first (ReportsFault (IsWhole bare bytes) (rules_of bare bytes)) → IfErr first (LeavesOutput before after)
-      → ((model : Metadata) → IsModelOf bare bytes model → PrintsSubject model subject (contents before) (contents after) first)
+      → ((model : Metadata) → IsModelOf bare bytes model → PrintsSubject form model subject (contents before) (contents after) first)
       → IsOk last ↔ IsOk (stop_of_outlined first) → Hinted bare bytes (stop_of_outlined first) last
-      → IsTypeOutlined contents before after subject bare bytes last
+      → IsTypeOutlined contents before after form subject bare bytes last
   by_cases (Ok outlined.Printed) (Ok end) met reports leaves printed ok hinted = record { met = met; printed = printed; stopped = tt; hint = tt }
   by_cases (Ok outlined.Printed) (Err stopped) met reports leaves printed ok hinted = let no = ok.1 refl in cc
   by_cases (Ok outlined.NoSuchType) (Ok end) met reports leaves printed ok hinted = let no = ok.0 refl in cc
@@ -41,9 +45,9 @@ module _ {W : Type 0} (contents : W → Option (List ℕ)) (before after : W) (s
 
   pub outlined_type : (first : Result Outlined Failure) (second : Result (Unit {0}) Stop) (last : Outcome)
       → OnOk first (IsWhole bare bytes) → IfErr first (ReportsFault (IsWhole bare bytes) (rules_of bare bytes)) → IfErr first (LeavesOutput before after)
-      → ((model : Metadata) → IsModelOf bare bytes model → PrintsSubject model subject (contents before) (contents after) first)
+      → ((model : Metadata) → IsModelOf bare bytes model → PrintsSubject form model subject (contents before) (contents after) first)
       → second ≡ stop_of_outlined first → IsOk last ↔ IsOk second → Hinted bare bytes second last
-      → IsTypeOutlined contents before after subject bare bytes last
+      → IsTypeOutlined contents before after form subject bare bytes last
   outlined_type first second last met reports leaves printed is ok hinted =
       by_cases first last met reports leaves printed (subst (λ (s : Result (Unit {0}) Stop). IsOk last ↔ IsOk s) is ok)
       (subst (λ (s : Result (Unit {0}) Stop). Hinted bare bytes s last) is hinted)

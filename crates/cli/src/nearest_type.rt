@@ -1,0 +1,116 @@
+//! The type whose name is nearest to one that no type has.
+ghost use Rattle.std.specs.Prelude.{◌≤◌};
+ghost use Rattle.table_schema.specs.declared.table.TableId.TheVariants.{TypeDef};
+ghost use Rattle.opening.specs.Views.{HasModel, row_count};
+
+use crate::nearest::{edits_below, limit_of};
+use cli_faults::Escaped;
+use cli_outline::Subject;
+use cli_reports::open;
+use cli_reports::type_lines::{NAME, NAMESPACE, text_of};
+use opening::{TableId, View};
+use std::alloc::Global;
+use std::fmt;
+use std::io::{self, Write};
+
+/// The names of a type (II.22.37). `Display` gives its full name, escaped.
+#[derive(Clone, Copy, Debug, PartialEq, Eq)]
+struct TypeName<'a> {
+    /// Its namespace, or the empty text.
+    namespace: &'a str,
+    /// Its own name.
+    name: &'a str,
+}
+
+impl fmt::Display for TypeName<'_> {
+    fn fmt<W: fmt::Write>(&self, f: &mut fmt::Formatter<W>) -> fmt::Result {
+        if !self.namespace.is_empty() {
+            write!(f, "{}.", Escaped(self.namespace))?;
+        }
+        write!(f, "{}", Escaped(self.name))
+    }
+}
+
+/// The names of the type in a row of TypeDef.
+fn names_at<'a>(view: &View<'a>, row: u32) -> TypeName<'a>
+    requires model { HasModel view.now }
+    requires first { 1 ≤ row }
+    requires last { row ≤ row_count view.now TypeDef }
+{
+    TypeName {
+        namespace: text_of(view, row, NAMESPACE),
+        name: text_of(view, row, NAME),
+    }
+}
+
+/// The number of edits that lead from the names that are wanted to those of a type, if it is below a limit. If no
+/// namespace is wanted, only the own names count.
+fn edits_to(
+    alloc: Global,
+    wanted: TypeName<'_>,
+    found: TypeName<'_>,
+    limit: usize,
+) -> Option<usize> {
+    let of_name = edits_below(alloc, wanted.name, found.name, limit)?;
+    if wanted.namespace.is_empty() {
+        return Some(of_name);
+    }
+    let remainder = limit.saturating_sub(of_name);
+    let of_namespace = edits_below(alloc, wanted.namespace, found.namespace, remainder)?;
+    Some(of_name.saturating_add(of_namespace))
+}
+
+/// The names of the type that are nearest to those that are wanted; `None` if all are far. Of several the first ones.
+fn nearest_type<'a>(alloc: Global, view: &View<'a>, wanted: TypeName<'_>) -> Option<TypeName<'a>>
+    requires model { HasModel view.now }
+{
+    let mut limit = limit_of(wanted.name);
+    let mut nearest = None;
+    for earlier in 0..view.count(TableId::TypeDef) {
+        let found = names_at(view, earlier + 1);
+        if let Some(edits) = edits_to(alloc, wanted, found, limit) {
+            limit = edits;
+            nearest = Some(found);
+        }
+    }
+    nearest
+}
+
+/// The names that are wanted of a subject: of a nested type, written after the type that encloses it and a slash, its own.
+fn wanted_names<'a>(subject: Subject<'a>) -> Option<TypeName<'a>> {
+    let Subject::Named { namespace, name } = subject else {
+        return None;
+    };
+    Some(match name.rsplit_once('/') {
+        Some((_, name)) => TypeName {
+            namespace: "",
+            name,
+        },
+        None => TypeName { namespace, name },
+    })
+}
+
+/// Prints a hint with the full name of the type that is nearest to the subject; nothing if all are far, or if the subject is
+/// a row. It looks at each type once.
+///
+/// # Errors
+///
+/// The error of the writer.
+pub(crate) fn print_nearest_type<E: Write>(
+    alloc: Global,
+    bytes: &[u8],
+    bare: bool,
+    subject: Subject<'_>,
+    err: &mut E,
+) -> io::Result<()> {
+    let Some(wanted) = wanted_names(subject) else {
+        return Ok(());
+    };
+    let Ok(view) = open(bytes, bare) else {
+        return Ok(());
+    };
+    match nearest_type(alloc, &view, wanted) {
+        Some(nearest) => writeln!(err, "  hint: the nearest name is '{nearest}'"),
+        None => Ok(()),
+    }
+}
