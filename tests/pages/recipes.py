@@ -27,7 +27,7 @@ README_LINES = 100
 MODEL = ["Rattle.metadata.specs.Model"]
 RULES = ["Rattle.metadata.specs.Rules"]
 # The crates of cells that own their content, and those that are above them.
-OWNERS = {"tables", "owned_model", "type_records", "member_records", "records"}
+OWNERS = {"tables", "owned_model", "type_records", "records"}
 # The modules of c_values that make tables of the rows of a C caller.
 TABLE_MAKERS = {"made_root", "read_cell", "read_rows"}
 # How far a count on a page may be from the count of the files.

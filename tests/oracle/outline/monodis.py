@@ -213,7 +213,9 @@ class Reader:
             text = self.assembly(text)
         elif kind == "class extern":
             of = re.search(r"\.(?:assembly extern|class extern|file) (\S+)", self.until("", "}"))[1]
-            text = f"{self.quoted.show(flags_of(text.removeprefix('forwarder '))[1])} in {self.quoted.show(of).rpartition('.')[2]}"
+            flags, name = flags_of(text)
+            is_forwarder = "forwarder " if "forwarder" in flags.split() else ""
+            text = f"{is_forwarder}{self.quoted.show(name)} in {self.quoted.show(of).rpartition('.')[2]}"
         elif word == ".mresource":
             self.until("", "}")
         elif word == ".file":

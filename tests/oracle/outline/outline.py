@@ -110,8 +110,10 @@ class Reader:
             key = re.search(r"\.(publickey\w*) = \((\w+)\)", tail)
             self.add(kind, " ".join([name, version, culture[1] if culture else "", *(key.groups() if key else [])]))
         elif line.startswith(".class extern"):
-            name, _, of = flags_of(line.removeprefix(".class extern "))[1].partition(" in ")
-            self.add("class extern", f"{name} in {re.split(r'[. ]', of)[-1]}")
+            flags, name = flags_of(line.removeprefix(".class extern "))
+            name, _, of = name.partition(" in ")
+            is_forwarder = "forwarder " if "forwarder" in flags.split() else ""
+            self.add("class extern", f"{is_forwarder}{name} in {re.split(r'[. ]', of)[-1]}")
         else:
             kind, text = re.match(r"\.(\w+(?: extern)?) (.*)", line).groups()
             self.add(kind, text)

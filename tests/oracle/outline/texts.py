@@ -5,7 +5,7 @@ import re
 # Words of flags (II.23.1). What follows them is a type or a name.
 FLAGS = set(
     "private public family assembly famandassem famorassem compilercontrolled nested auto sequential explicit interface abstract "
-    "sealed specialname import serializable ansi unicode autochar beforefieldinit rtspecialname static initonly literal "
+    "sealed specialname import serializable ansi unicode autochar beforefieldinit rtspecialname forwarder static initonly literal "
     "notserialized pinvokeimpl final virtual hidebysig newslot strict unmanagedexp reqsecobj".split()
 )
 ACCESSORS = (".get", ".set", ".addon", ".removeon", ".fire", ".other")

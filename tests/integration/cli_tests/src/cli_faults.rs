@@ -12,7 +12,8 @@ fn explains_a_fault(rt: HostRuntime) -> Result<(), Fail> {
   counted from 1.
 - Section: II.24.2.5
 - Offset: The cell with the index.
-- Usual cause: An index that counts bytes instead of entries.
+- Usual cause: An index that counts bytes instead of entries, a missing stream such as '#GUID' or
+  '#Strings', or a bit of Valid that was cleared.
 ";
     let limit = "\
 101 TooLong: the input has more than 2^30 bytes

@@ -1,6 +1,8 @@
 //! Tests of `cli_outline`: the lines that `clim outline` prints.
 
 use crate::runs::answer;
+use cli_outline::report_outline;
+use cli_reports::Form;
 use sample_roots::RootBuilder;
 use std::alloc::Global;
 use std::fs;
@@ -73,6 +75,55 @@ fn prints_events_and_properties_below_their_type(rt: HostRuntime) -> Result<(), 
 .custom N.C::.ctor = (0100) of 02000002  // 0c000001
 ";
     assert_eq!(rt; outline_of(&rt, root.as_slice())?.as_str(), lines);
+    Ok(())
+}
+
+/// The outline of a root as JSON Lines.
+fn json_of(alloc: Global, root: &[u8]) -> Result<String, Fail> {
+    let mut out = Vec::new(alloc);
+    if report_outline(alloc, Form::JsonLines, true, root, &mut out).is_err() {
+        return Err("no outline".into());
+    }
+    Ok(String::from_utf8(out).ok().ok_or("no text")?)
+}
+
+#[test]
+fn prints_each_declaration_as_an_object(rt: HostRuntime) -> Result<(), Fail> {
+    let root = root_of_properties(rt.alloc(), [[2, 0, 1, 0], [3, 0, 2, 0]])?;
+    let lines = r#"{"token":"1a000001","directive":".module","text":".module extern k.dll"}
+{"token":"02000001","directive":".class","text":".class private auto ansi <M>"}
+{"token":"02000002","directive":".class","text":".class public auto ansi beforefieldinit N.C"}
+{"token":"06000001","type":"02000002","directive":".method","text":".method public hidebysig specialname instance int32 N.C::get_P() cil managed"}
+{"token":"06000002","type":"02000002","directive":".method","text":".method public static pinvokeimpl void N.C::M() cil managed"}
+{"token":"14000001","type":"02000002","directive":".event","text":".event N.C N.C::E"}
+{"token":"17000001","type":"02000002","directive":".property","text":".property specialname instance int32 () N.C::P"}
+{"token":"18000001","directive":".get","text":".get N.C::get_P of N.C::P"}
+{"token":"02000003","directive":".class","text":".class private auto ansi \\x1bD extends N.C"}
+{"token":"17000002","type":"02000003","directive":".property","text":".property instance int32 () \\x1bD::M"}
+{"token":"1c000001","directive":".pinvokeimpl","text":".pinvokeimpl(\"k.dll\" as \"M\" platformapi) of N.C::M"}
+{"token":"0c000001","directive":".custom","text":".custom N.C::.ctor = (0100) of 02000002"}
+"#;
+    assert_eq!(rt; json_of(rt.alloc(), root.as_slice())?.as_str(), lines);
+    Ok(())
+}
+
+/// A name of 65,536 bytes is printed whole. Of a longer one, `..` stands for the bytes after these.
+#[test]
+fn cuts_long_names(rt: HostRuntime) -> Result<(), Fail> {
+    for (len, end) in [(65_535, "aa  // 1a000001\n"), (65_536, "aa  // 1a000001\n"), (65_537, "aa..  // 1a000001\n")] {
+        let mut heap = vec![in rt.alloc(); 0]?;
+        for _ in 0..len {
+            heap.push(b'a')?;
+        }
+        heap.push(0)?;
+        let mut root = RootBuilder::new(rt.alloc());
+        root.row(0x1A, b"\x01\0")?;
+        root.heap("#Strings", heap.as_slice())?;
+        let root = root.finish()?;
+        let out = outline_of(&rt, root.as_slice())?;
+        assert!(rt; out.as_str().ends_with(end), "{len}");
+        assert!(rt; out.len() <= 65_600, "{len}");
+    }
     Ok(())
 }
 

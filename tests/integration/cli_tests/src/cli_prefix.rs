@@ -2,6 +2,7 @@
 
 use cli_faults::Failure;
 use cli_prefix::report_until_fault;
+use cli_reports::Names;
 use sample_roots::{TWO_TYPES, changed};
 use std::alloc::Global;
 use std::test::Fail;
@@ -32,7 +33,7 @@ fn until_fault(
 ) -> Result<(String, Option<(u16, u64)>), Fail> {
     let root = changed(alloc, &TWO_TYPES, changes)?;
     let mut out = Vec::new(alloc);
-    let fault = match report_until_fault(alloc, true, &root, table, &mut out) {
+    let fault = match report_until_fault(alloc, true, &root, table, Names::Hidden, &mut out) {
         Ok(()) => None,
         Err(Failure::Fault(fault)) => Some((fault.code, fault.offset)),
         Err(_) => return Err("no output".into()),

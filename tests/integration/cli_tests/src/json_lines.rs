@@ -2,7 +2,7 @@
 
 use crate::samples::USER_STRINGS;
 use cli_json::{print_json, print_json_fault};
-use cli_reports::Report;
+use cli_reports::{Names, Report};
 use packed::{Fault, FaultCode};
 use sample_roots::{ONE_MODULE, TWO_TYPES, image, write_at};
 use std::test::Fail;
@@ -22,7 +22,7 @@ fn shows_each_row(rt: HostRuntime) -> Result<(), Fail> {
     let module = "\
 {\"table\":\"Module\",\"row\":1,\"token\":\"00000001\",\"Generation\":0,\"Name\":\"a.dll\",\
 \"Mvid\":\"03020100-0504-0706-0809-0a0b0c0d0e0f\",\"EncId\":null,\"EncBaseId\":null}\n";
-    assert_eq!(rt; lines_of(&rt, Report::Show, &ONE_MODULE)?.as_str(), module);
+    assert_eq!(rt; lines_of(&rt, Report::Show(Names::Hidden), &ONE_MODULE)?.as_str(), module);
     let types = "\
 {\"table\":\"TypeDef\",\"row\":1,\"token\":\"02000001\",\"Flags\":0,\"TypeName\":\"<Module>\",\"TypeNamespace\":\"\",\
 \"Extends\":null,\"FieldList\":1,\"MethodList\":1}
@@ -35,8 +35,8 @@ fn shows_each_row(rt: HostRuntime) -> Result<(), Fail> {
 {\"table\":\"MethodDef\",\"row\":1,\"token\":\"06000001\",\"RVA\":0,\"ImplFlags\":0,\"Flags\":6,\"Name\":\"M\",\
 \"Signature\":{\"blob\":\"000001\",\"text\":\"method void *()\"},\"ParamList\":1}
 ";
-    assert_eq!(rt; lines_of(&rt, Report::Show, &TWO_TYPES)?.as_str(), types);
-    assert_eq!(rt; lines_of(&rt, Report::Show, b"")?.as_str(), "");
+    assert_eq!(rt; lines_of(&rt, Report::Show(Names::Hidden), &TWO_TYPES)?.as_str(), types);
+    assert_eq!(rt; lines_of(&rt, Report::Show(Names::Hidden), b"")?.as_str(), "");
     Ok(())
 }
 

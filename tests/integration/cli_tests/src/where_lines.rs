@@ -2,6 +2,7 @@
 
 use crate::runs::answer;
 use crate::where_files::plain_lines;
+use cli_reports::Form;
 use cli_where::{Found, report_where};
 use sample_roots::{NAMES_SHARED, ONE_MODULE, RootBuilder, TWO_TYPES, image};
 use std::alloc::Global;
@@ -166,7 +167,7 @@ fn push_lines(alloc: Global, structures: &[Structure], base: usize, offset: usiz
 /// What is printed of a byte, and whether a structure has it.
 pub fn printed(rt: &HostRuntime, bare: bool, file: &[u8], offset: u64) -> Result<(Found, String), Fail> {
     let mut out = Vec::new(rt.alloc());
-    let Ok(found) = report_where(rt.alloc(), bare, file, offset, &mut out) else {
+    let Ok(found) = report_where(rt.alloc(), Form::Text, bare, file, offset, &mut out) else {
         return Err(Fail::from("a failure"));
     };
     Ok((found, String::from_utf8(out).ok().ok_or("no text")?))

@@ -99,3 +99,45 @@ fn escapes_usage_errors(rt: HostRuntime) -> Result<(), Fail> {
     }
     Ok(())
 }
+
+/// The line of a hint has no byte of an argument, also if the argument is near a name.
+#[test]
+fn escapes_beside_hints(rt: HostRuntime) -> Result<(), Fail> {
+    for (words, escaped, hint) in [
+        (["clim", "show", "lacks", "TypeDef\u{1b}"].as_slice(), "'TypeDef\\x1b'\n", "TypeDef"),
+        (&["clim", "show", "lacks", "Type\u{7}Def"], "'Type\\x07Def'\n", "TypeDef"),
+        (&["clim", "explain", "Bad\nString"], "'Bad\\x0aString'\n", "BadString"),
+        (&["clim", "explain", "BadGuid\u{9b}"], "'BadGuid\\xc2\\x9b'\n", "BadGuid"),
+        (&["clim", "compare", "--ignore", "Module\r.Mvid", "lacks", "lacks"], "'Module\\x0d.Mvid'\n", "Module.Mvid"),
+        (&["clim", "compare", "--ignore", "Module.Mvid\u{7f}", "lacks", "lacks"], "'Module.Mvid\\x7f'\n", "Module.Mvid"),
+    ] {
+        assert!(rt; ends(&rt, words, 2, escaped)?, "{escaped}");
+        let last = format!(in rt.alloc(); "\n  hint: the nearest name is '{hint}'\n")?;
+        assert!(rt; answer(&rt, words)?.2.ends_with(last.as_str()), "{escaped}");
+    }
+    Ok(())
+}
+
+/// No name is looked for of a word of 100 kB, which is printed whole.
+#[test]
+fn looks_for_no_name_of_a_long_word(rt: HostRuntime) -> Result<(), Fail> {
+    let alloc = rt.alloc();
+    let mut long = String::new(alloc);
+    for _ in 0..10_000 {
+        long.push_str("0123456789")?;
+    }
+    let column = format!(in alloc; "Module.{long}")?;
+    let table = format!(in alloc; "{long}.Mvid")?;
+    for words in [
+        ["clim", long.as_str()].as_slice(),
+        &["clim", "help", long.as_str()],
+        &["clim", "show", "lacks", long.as_str()],
+        &["clim", "explain", long.as_str()],
+        &["clim", "compare", "--ignore", column.as_str(), "lacks", "lacks"],
+        &["clim", "compare", "--ignore", table.as_str(), "lacks", "lacks"],
+    ] {
+        let (status, out, err) = answer(&rt, words)?;
+        assert!(rt; status == 2 && out.is_empty() && err.contains(long.as_str()) && !err.contains("hint"));
+    }
+    Ok(())
+}

@@ -1,5 +1,5 @@
 use crate::runs::{Case, answer, other_answer};
-use sample_roots::{ONE_MODULE, TWO_TYPES, image};
+use sample_roots::{ONE_MODULE, TWO_TYPES, image, write_at};
 use std::fs;
 use std::test::Fail;
 
@@ -78,11 +78,91 @@ fn checks_with_json(rt: HostRuntime) -> Result<(), Fail> {
 #[test]
 fn reports_faults_as_text(rt: HostRuntime) -> Result<(), Fail> {
     fs::write(&rt, "fault.root", &ONE_MODULE[..20])?;
-    for name in ["root", "show", "types"] {
-        let (status, out, err) = answer(&rt, &["clim", name, "--json", "--bare", "fault.root"])?;
-        let reported = "fault 3 302 at 12: Version\n";
+    let reported = "fault 3 302 at 12: Version\n";
+    for words in [
+        ["clim", "root", "--json", "--bare", "fault.root"].as_slice(),
+        &["clim", "show", "--json", "--bare", "fault.root"],
+        &["clim", "types", "--json", "--bare", "fault.root"],
+        &["clim", "outline", "--json", "--bare", "fault.root"],
+        &["clim", "outline", "--json", "--bare", "fault.root", "N.C"],
+        &["clim", "where", "--json", "--bare", "fault.root", "12"],
+    ] {
+        let (status, out, err) = answer(&rt, words)?;
         assert_eq!(rt; (status, out.as_str(), err.as_str()), (1, "", reported));
     }
+    fs::write(&rt, "whole.root", &ONE_MODULE)?;
+    for (left, right) in [("fault.root", "whole.root"), ("whole.root", "fault.root")] {
+        let (status, out, err) = answer(&rt, &["clim", "compare", "--json", "--bare", left, right])?;
+        let wanted = format!(in rt.alloc(); "{reported}  file: fault.root\n")?;
+        assert_eq!(rt; (status, out.as_str(), err.as_str()), (1, "", wanted.as_str()));
+    }
+    fs::remove_file(&rt, "whole.root")?;
     fs::remove_file(&rt, "fault.root")?;
+    Ok(())
+}
+
+/// What differs has its values as JSON; ignored columns are left out as without it.
+#[test]
+fn compares_with_json(rt: HostRuntime) -> Result<(), Fail> {
+    let mut other: Vec<u8> = ONE_MODULE.to_vec(rt.alloc())?;
+    // The first byte of '#GUID'.
+    write_at(&mut other, 128, &[0xFF]);
+    fs::write(&rt, "left.root", &ONE_MODULE)?;
+    fs::write(&rt, "right.root", other.as_slice())?;
+    let mvid = "\
+{\"difference\":\"Cell\",\"token\":\"00000001\",\"column\":\"Mvid\",\
+\"left\":\"03020100-0504-0706-0809-0a0b0c0d0e0f\",\"right\":\"030201ff-0504-0706-0809-0a0b0c0d0e0f\"}\n";
+    let equal = "{\"equal\":true}\n";
+    for (words, wanted, printed) in [
+        (["clim", "compare", "--json", "--bare", "left.root", "right.root"].as_slice(), 1, mvid),
+        (&["clim", "compare", "--bare", "left.root", "left.root", "--json"], 0, equal),
+        (&["clim", "compare", "--json", "--ignore", "Module.Mvid", "--bare", "left.root", "right.root"], 0, equal),
+        (&["clim", "compare", "--json", "--ignore", "Module.Name", "--bare", "left.root", "right.root"], 1, mvid),
+    ] {
+        let (status, out, err) = answer(&rt, words)?;
+        assert_eq!(rt; (status, out.as_str(), err.as_str()), (wanted, printed, ""));
+    }
+    let two: Vec<u8> = TWO_TYPES.to_vec(rt.alloc())?;
+    fs::write(&rt, "right.root", two.as_slice())?;
+    let (status, out, _) = answer(&rt, &["clim", "compare", "--json", "--bare", "left.root", "right.root"])?;
+    assert_eq!(rt; status, 1);
+    assert!(rt; out.starts_with("{\"difference\":\"RowCount\",\"table\":\"Module\",\"left\":1,\"right\":0}\n"));
+    fs::remove_file(&rt, "left.root")?;
+    fs::remove_file(&rt, "right.root")?;
+    Ok(())
+}
+
+/// The type of an outline, and what it says if there is none; the structures that have a byte, and none.
+#[test]
+fn prints_json_of_one_type_and_of_one_byte(rt: HostRuntime) -> Result<(), Fail> {
+    fs::write(&rt, "parts.root", TWO_TYPES.as_slice())?;
+    let class = r#"{"token":"02000002","directive":".class","text":".class public auto ansi beforefieldinit N.C"}
+{"token":"04000001","type":"02000002","directive":".field","text":".field private int32 a"}
+{"token":"04000002","type":"02000002","directive":".field","text":".field private int32 b"}
+{"token":"06000001","type":"02000002","directive":".method","text":".method public void N.C::M() cil managed"}
+"#;
+    let cell = r##"{"offset":0,"size":200,"structure":"root"}
+{"offset":80,"size":92,"structure":"stream #~"}
+{"offset":148,"size":2,"structure":"cell","table":"Field","row":1,"column":"Signature"}
+"##;
+    let blob = r##"{"offset":0,"size":200,"structure":"root"}
+{"offset":192,"size":8,"structure":"stream #Blob"}
+{"offset":193,"size":3,"structure":"blob","stream":"#Blob","table":"Field","row":1,"column":"Signature"}
+{"offset":193,"size":3,"structure":"blob","stream":"#Blob","table":"Field","row":2,"column":"Signature"}
+"##;
+    const NEAR: &str = "no such type\n  hint: the nearest name is 'N.C'\n";
+    for (words, wanted, printed, reported) in [
+        (["clim", "outline", "--json", "--bare", "parts.root", "N.C"].as_slice(), 0, class, ""),
+        (&["clim", "outline", "--bare", "--json", "parts.root", "02000002"], 0, class, ""),
+        (&["clim", "outline", "--json", "--bare", "parts.root", "N.D"], 1, "", NEAR),
+        (&["clim", "where", "--json", "--bare", "parts.root", "149"], 0, cell, ""),
+        (&["clim", "where", "--bare", "parts.root", "0xc1", "--json"], 0, blob, ""),
+        (&["clim", "where", "--json", "--bare", "parts.root", "200"], 1, "", ""),
+        (&["clim", "where", "--json", "--bare", "parts.root", "18446744073709551615"], 1, "", ""),
+    ] {
+        let (status, out, err) = answer(&rt, words)?;
+        assert_eq!(rt; (status, out.as_str(), err.as_str()), (wanted, printed, reported));
+    }
+    fs::remove_file(&rt, "parts.root")?;
     Ok(())
 }

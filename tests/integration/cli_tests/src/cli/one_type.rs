@@ -14,12 +14,18 @@ const CLASS: &str = "\
 
 const NONE: &str = "no such type\n";
 
+/// The same with the type whose name is nearest.
+const NEAR: &str = "no such type\n  hint: the nearest name is 'N.C'\n";
+
 /// Whether the outline of a type of the file has this exit code, and these texts on the output and on standard error.
 fn is_outlined(rt: &HostRuntime, name: &str, want: (u8, &str, &str)) -> Result<bool, Fail> {
     let words = ["clim", "outline", "--bare", "one_type.root", name];
     let (status, out, err) = answer(rt, &words)?;
     Ok((status, out.as_str(), err.as_str()) == want)
 }
+
+/// The same near to the type of the module.
+const MODULE_NEAR: &str = "no such type\n  hint: the nearest name is '<Module>'\n";
 
 #[test]
 fn outlines_one_type(rt: HostRuntime) -> Result<(), Fail> {
@@ -29,11 +35,16 @@ fn outlines_one_type(rt: HostRuntime) -> Result<(), Fail> {
         ("02000002", (0, CLASS, "")),
         ("<Module>", (0, MODULE, "")),
         ("02000001", (0, MODULE, "")),
-        ("C", (1, "", NONE)),
-        ("n.c", (1, "", NONE)),
+        ("C", (1, "", NEAR)),
+        ("n.c", (1, "", NEAR)),
+        ("X.c", (1, "", NEAR)),
+        ("M.D", (1, "", NONE)),
+        ("N/C", (1, "", NEAR)),
+        ("Other.Outer/c", (1, "", NEAR)),
+        ("<module", (1, "", MODULE_NEAR)),
         ("N.C.", (1, "", NONE)),
-        (".N.C", (1, "", NONE)),
-        ("", (1, "", NONE)),
+        (".N.C", (1, "", NEAR)),
+        ("", (1, "", NEAR)),
         ("02000003", (1, "", NONE)),
         ("02000000", (1, "", NONE)),
         ("2000002", (1, "", NONE)),

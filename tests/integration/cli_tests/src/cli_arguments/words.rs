@@ -14,7 +14,7 @@ const LINES_IN_HELP: &str = "\
 ";
 
 /// Arguments that are a usage error, and what the program prints for them.
-const REFUSED: [(&[&str], &str); 78] = [
+const REFUSED: [(&[&str], &str); 92] = [
     (&[], "Usage: clim <COMMAND>"),
     (&["clim"], "Usage: clim <COMMAND>"),
     (&["clim", "lacks"], "unrecognized subcommand 'lacks'"),
@@ -74,7 +74,7 @@ const REFUSED: [(&[&str], &str); 78] = [
     ),
     (
         &["clim", "show", "lacks", "typedef"],
-        "error: TABLE is a table, which 'clim show --help' lists, not 'typedef'\n",
+        "error: TABLE is a table, which 'clim show --help' lists, not 'typedef'\n  hint: the nearest name is 'TypeDef'\n",
     ),
     (&["clim", "show", "lacks", "2"], "error: TABLE is a table"),
     (&["clim", "show", "lacks", "03"], "error: TABLE is a table"),
@@ -97,7 +97,6 @@ const REFUSED: [(&[&str], &str); 78] = [
     (&["clim", "types"], "Usage: clim types <FILE>"),
     (&["clim", "outline"], "Usage: clim outline <FILE>"),
     (&["clim", "outline", "lacks", "A", "B"], "unexpected argument 'B'"),
-    (&["clim", "outline", "--json", "lacks"], "unexpected argument '--json'"),
     (&["clim", "check", "--json"], "error: FILE is missing"),
     (
         &["clim", "check", "--json", "lacks", "more"],
@@ -116,6 +115,20 @@ const REFUSED: [(&[&str], &str); 78] = [
         &["clim", "check", "--json", "--budget", "9", "lacks"],
         "error: '--json' takes one FILE",
     ),
+    (&["clim", "check", "--where"], "error: FILE is missing"),
+    (
+        &["clim", "check", "--where", "lacks", "more"],
+        "error: '--where' takes one FILE, and no list, '--budget', '--quiet' or '--json'\n",
+    ),
+    (&["clim", "check", "--where", "-0"], "error: '--where' takes one FILE"),
+    (&["clim", "check", "--where", "--json", "lacks"], "error: '--where' takes one FILE"),
+    (&["clim", "check", "lacks", "-q", "--where"], "error: '--where' takes one FILE"),
+    (
+        &["clim", "check", "--where", "--budget", "9", "lacks"],
+        "error: '--where' takes one FILE",
+    ),
+    (&["clim", "types", "--names", "lacks"], "unexpected argument '--names'"),
+    (&["clim", "show", "--where", "lacks"], "unexpected argument '--where'"),
     (
         &["clim", "show", "--json", "lacks", "2"],
         "error: TABLE is a table",
@@ -163,15 +176,15 @@ const REFUSED: [(&[&str], &str); 78] = [
     ),
     (
         &["clim", "compare", "--ignore", "Module.Mvid", "--ignore=module.mvid", "lacks", "lacks"],
-        "as 'Module.Mvid', not 'module.mvid'\n",
+        "as 'Module.Mvid', not 'module.mvid'\n  hint: the nearest name is 'Module.Mvid'\n",
     ),
     (
         &["clim", "compare", "--ignore", "Constant.padding", "lacks", "lacks"],
-        "as 'Module.Mvid', not 'Constant.padding'\n",
+        "as 'Module.Mvid', not 'Constant.padding'",
     ),
     (
         &["clim", "compare", "--ignore", "TypeRef.Mvid", "lacks", "lacks"],
-        "as 'Module.Mvid', not 'TypeRef.Mvid'\n",
+        "as 'Module.Mvid', not 'TypeRef.Mvid'",
     ),
     (&["clim", "compare", "--ignore", "", "lacks", "lacks"], "as 'Module.Mvid', not ''\n"),
     (
@@ -180,12 +193,20 @@ const REFUSED: [(&[&str], &str); 78] = [
     ),
     (
         &["clim", "compare", "--ignore", "Module.Mvid\u{1b}", "lacks", "lacks"],
-        "as 'Module.Mvid', not 'Module.Mvid\\x1b'\n",
+        "as 'Module.Mvid', not 'Module.Mvid\\x1b'\n  hint: the nearest name is 'Module.Mvid'\n",
     ),
     (
         &["clim", "explain", "501", "BadText"],
-        "error: CODE is the number or the name of a fault, which 'clim explain' lists, not 'BadText'\n",
+        "error: CODE is the number or the name of a fault, which 'clim explain' lists, not 'BadText'\n  hint: the nearest name is 'BadTag'\n",
     ),
+    (&["clim", "explain", "BadSignatur"], "not 'BadSignatur'\n  hint: the nearest name is 'BadSignature'\n"),
+    // Capital letters are no difference.
+    (&["clim", "explain", "badstring"], "not 'badstring'\n  hint: the nearest name is 'BadString'\n"),
+    (&["clim", "show", "lacks", "METHODDEF"], "not 'METHODDEF'\n  hint: the nearest name is 'MethodDef'\n"),
+    (&["clim", "show", "lacks", "typeref"], "not 'typeref'\n  hint: the nearest name is 'TypeRef'\n"),
+    (&["clim", "show", "lacks", "MethodDfe"], "not 'MethodDfe'\n  hint: the nearest name is 'MethodDef'\n"),
+    (&["clim", "shwo", "lacks"], "'show'\n"),
+    (&["clim", "help", "outlin"], "'outline'\n"),
     (
         &["clim", "explain", "--bare"],
         "unexpected argument '--bare'",
@@ -223,6 +244,42 @@ fn reports_what_the_words_lack(rt: HostRuntime) -> Result<(), Fail> {
         assert_eq!(rt; status, 2, "{reported}");
         assert!(rt; out.is_empty());
         assert!(rt; err.contains(reported), "{err}");
+    }
+    Ok(())
+}
+
+/// A word that is near to no name has no hint. Two faults have no name, which is near to no word.
+#[test]
+fn hints_at_no_name_far_away(rt: HostRuntime) -> Result<(), Fail> {
+    for words in [
+        ["clim", "explain", ""].as_slice(),
+        &["clim", "explain", "x"],
+        &["clim", "explain", "50"],
+        &["clim", "explain", "nothing like it"],
+        &["clim", "show", "lacks", ""],
+        &["clim", "show", "lacks", "x"],
+        &["clim", "show", "lacks", "2"],
+        &["clim", "compare", "--ignore", "Module.", "lacks", "lacks"],
+        &["clim", "compare", "--ignore", ".Mvid", "lacks", "lacks"],
+        &["clim", "compare", "--ignore", "Mvid", "lacks", "lacks"],
+        &["clim", "compare", "--ignore", ".", "lacks", "lacks"],
+    ] {
+        let (status, out, err) = answer(&rt, words)?;
+        assert!(rt; status == 2 && out.is_empty() && !err.contains("hint"), "{err}");
+    }
+    Ok(())
+}
+
+/// Of a subcommand that is near a name, one line names it.
+#[test]
+fn hints_once_at_a_subcommand(rt: HostRuntime) -> Result<(), Fail> {
+    for (words, name) in [
+        (["clim", "shwo", "lacks"].as_slice(), "'show'"),
+        (&["clim", "ceck"], "'check'"),
+        (&["clim", "help", "outlin"], "'outline'"),
+    ] {
+        let (_, _, err) = answer(&rt, words)?;
+        assert_eq!(rt; err.split(name).count(), 2, "{err}");
     }
     Ok(())
 }
@@ -281,9 +338,12 @@ fn helps_with_the_same_words(rt: HostRuntime) -> Result<(), Fail> {
 
 #[test]
 fn prints_a_version_of_three_numbers(rt: HostRuntime) -> Result<(), Fail> {
+    let (_, short, _) = answer(&rt, &["clim", "-V"])?;
     let (status, out, err) = answer(&rt, &["clim", "--version"])?;
     assert!(rt; status == 0 && err.is_empty());
-    let version = out.trim().strip_prefix("clim ").expect(&rt, "clim and its version");
+    let (first, toolchain) = out.split_once('\n').ok_or("no line")?;
+    assert!(rt; short.trim() == first && toolchain.starts_with("proved and built with rattle-kit-"));
+    let version = first.trim().strip_prefix("clim ").expect(&rt, "clim and its version");
     assert!(rt; version.split('.').count() == 3);
     for number in version.split('.') {
         assert!(rt; number.parse::<u32>().is_ok());
@@ -518,10 +578,29 @@ fn asks_for_json(rt: HostRuntime) -> Result<(), Fail> {
         (&["clim", "show", "--json", "a", "02"], true),
         (&["clim", "types", "--json", "a"], true),
         (&["clim", "token", "a", "--json", "1"], true),
+        (&["clim", "outline", "--json", "a", "N.C"], true),
+        (&["clim", "where", "a", "1", "--json"], true),
+        (&["clim", "compare", "--json", "a", "b"], true),
         (&["clim", "show", "a", "--", "--json"], false),
         (&["clim", "check", "a"], false),
     ] {
         assert_eq!(rt; ask(rt.alloc(), words)?.json, json);
+    }
+    Ok(())
+}
+
+#[test]
+fn asks_for_names_and_for_what_has_the_fault(rt: HostRuntime) -> Result<(), Fail> {
+    for (words, names, locates) in [
+        (["clim", "show", "--names", "a"].as_slice(), true, false),
+        (&["clim", "show", "a", "02", "--names", "--json"], true, false),
+        (&["clim", "show", "a", "--", "--names"], false, false),
+        (&["clim", "check", "--where", "a"], false, true),
+        (&["clim", "check", "--", "--where"], false, false),
+        (&["clim", "where", "a", "1"], false, false),
+    ] {
+        let asked = ask(rt.alloc(), words)?;
+        assert_eq!(rt; (asked.names, asked.locates), (names, locates));
     }
     Ok(())
 }

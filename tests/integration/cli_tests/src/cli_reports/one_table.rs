@@ -36,3 +36,29 @@ fn prints_one_table(rt: HostRuntime) -> Result<(), Fail> {
     fs::remove_file(&rt, "show.root")?;
     Ok(())
 }
+
+/// With names, a line says by itself which row and which columns it has.
+#[test]
+fn names_columns(rt: HostRuntime) -> Result<(), Fail> {
+    fs::write(&rt, "named.root", TWO_TYPES.as_slice())?;
+    let fields = "\
+table 04 Field 2
+04000001 Flags=1 Name=\"a\" Signature=<0608>
+04000002 Flags=1 Name=\"b\" Signature=<0608>
+";
+    for words in [
+        ["clim", "show", "--names", "--bare", "named.root", "Field"].as_slice(),
+        &["clim", "show", "--bare", "named.root", "04", "--names"],
+    ] {
+        let (status, out, err) = answer(&rt, words)?;
+        assert_eq!(rt; (status, out.as_str(), err.as_str()), (0, fields, ""));
+    }
+    let (status, out, err) = answer(&rt, &["clim", "show", "--names", "--bare", "named.root"])?;
+    assert!(rt; status == 0 && err.is_empty() && out.contains(fields));
+    assert!(rt; out.contains("\n06000001 RVA=0 ImplFlags=0 Flags=6 Name=\"M\" Signature=<000001> ParamList=+1\n"));
+    let (_, plain, _) = answer(&rt, &["clim", "show", "--json", "--bare", "named.root"])?;
+    let (_, named, _) = answer(&rt, &["clim", "show", "--json", "--names", "--bare", "named.root"])?;
+    assert_eq!(rt; named.as_str(), plain.as_str());
+    fs::remove_file(&rt, "named.root")?;
+    Ok(())
+}

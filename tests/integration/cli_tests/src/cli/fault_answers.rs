@@ -1,0 +1,100 @@
+//! Tests of `clim check --where`.
+
+use crate::runs::answer;
+use sample_roots::{ONE_MODULE, TWO_TYPES, image, write_at};
+use std::fs;
+use std::test::Fail;
+
+/// Whether a check of this file prints these lines of a fault, an empty line and the explanation of the fault, ends with 1,
+/// and leaves standard error empty.
+fn answers(rt: &HostRuntime, words: &[&str], bytes: &[u8], code: &str, lines: &str) -> Result<bool, Fail> {
+    fs::write(rt, "where.file", bytes)?;
+    let (status, out, err) = answer(rt, words)?;
+    let (_, explanation, _) = answer(rt, &["clim", "explain", code])?;
+    fs::remove_file(rt, "where.file")?;
+    let wanted = format!(in rt.alloc(); "{lines}\n{explanation}")?;
+    Ok(status == 1 && out.as_str() == wanted.as_str() && err.is_empty())
+}
+
+const CHECK: [&str; 4] = ["clim", "check", "--where", "where.file"];
+const CHECK_BARE: [&str; 5] = ["clim", "check", "--bare", "--where", "where.file"];
+
+/// The layers up to the one of the fault are taken apart: the cell of a fault in a cell has a line.
+#[test]
+fn answers_about_a_root(rt: HostRuntime) -> Result<(), Fail> {
+    let mut root: Vec<u8> = ONE_MODULE.to_vec(rt.alloc())?;
+    // Name of the row of Module, which follows Generation and the 28 bytes of the header of '#~' at 80.
+    write_at(&mut root, 110, &[0xFF, 0xFF]);
+    let lines = "\
+fault 5 501 at 110: BadString
+0 144 root
+80 40 stream #~
+110 2 table 00 Module row 1 column 1 Name
+";
+    assert!(rt; answers(&rt, &CHECK_BARE, &root, "501", lines)?);
+    let mut root: Vec<u8> = ONE_MODULE.to_vec(rt.alloc())?;
+    // MajorVersion of the table stream.
+    write_at(&mut root, 84, &[9]);
+    let lines = "fault 4 402 at 84: TablesVersion\n0 144 root\n80 40 stream #~\n";
+    assert!(rt; answers(&rt, &CHECK_BARE, &root, "402", lines)?);
+    assert!(rt; answers(&rt, &CHECK_BARE, &ONE_MODULE[..20], "302", "fault 3 302 at 12: Version\n")?);
+    Ok(())
+}
+
+#[test]
+fn answers_about_a_file(rt: HostRuntime) -> Result<(), Fail> {
+    let mut file: Vec<u8> = image().to_vec(rt.alloc())?;
+    // Cb of the CLI header.
+    write_at(&mut file, 520, &[0]);
+    let lines = "fault 2 203 at 520: CliSize\n512 512 section 1\n";
+    assert!(rt; answers(&rt, &CHECK, &file, "203", lines)?);
+    assert!(rt; answers(&rt, &CHECK, &ONE_MODULE, "102", "fault 1 102 at 0: DosHeader\n")?);
+    fs::write(&rt, "where.dll", image().as_slice())?;
+    let (status, out, err) = answer(&rt, &["clim", "check", "--where", "where.dll"])?;
+    fs::remove_file(&rt, "where.dll")?;
+    assert_eq!(rt; (status, out.as_str(), err.as_str()), (0, "ok\n", ""));
+    let (status, out, err) = answer(&rt, &["clim", "check", "--where", "where.dll"])?;
+    assert!(rt; status == 3 && out.is_empty() && err.starts_with("error: cannot read where.dll"));
+    Ok(())
+}
+
+/// Each layer from the cells on has the line of its cell; the entry point is a field of the CLI header.
+#[test]
+fn answers_about_cells_runs_and_signatures(rt: HostRuntime) -> Result<(), Fail> {
+    for (offset, byte, code, lines) in [
+        // Name of the second type, and its Extends with an unused tag.
+        (134, 0xFF, "501", "fault 5 501 at 134: BadString\n0 200 root\n80 92 stream #~\n134 2 table 02 TypeDef row 2 column 1 TypeName\n"),
+        (124, 3, "505", "fault 5 505 at 124: BadTag\n0 200 root\n80 92 stream #~\n124 2 table 02 TypeDef row 1 column 3 Extends\n"),
+        // FieldList of the first type: its run begins after row 1.
+        (126, 2, "602", "fault 6 602 at 126: BadRun\n0 200 root\n80 92 stream #~\n126 2 table 02 TypeDef row 1 column 4 FieldList\n"),
+        // The first byte of the blob that both fields name.
+        (194, 7, "701", "fault 7 701 at 148: BadSignature\n0 200 root\n80 92 stream #~\n148 2 table 04 Field row 1 column 2 Signature\n"),
+    ] {
+        let mut root: Vec<u8> = TWO_TYPES.to_vec(rt.alloc())?;
+        write_at(&mut root, offset, &[byte]);
+        assert!(rt; answers(&rt, &CHECK_BARE, &root, code, lines)?, "{code}");
+    }
+    let mut file: Vec<u8> = image().to_vec(rt.alloc())?;
+    // EntryPointToken of the CLI header: a row of MethodDef that is not there.
+    write_at(&mut file, 540, &[1, 0, 0, 6]);
+    let lines = "\
+fault 8 801 at 540: EntryPoint
+512 512 section 1
+520 72 cli header
+540 4 cli header EntryPointToken
+";
+    assert!(rt; answers(&rt, &CHECK, &file, "801", lines)?);
+    Ok(())
+}
+
+/// Names of the file reach no terminal, and begin no line: the fault is the same as without `--where`.
+#[test]
+fn escapes_names_of_a_broken_file(rt: HostRuntime) -> Result<(), Fail> {
+    let mut file: Vec<u8> = image().to_vec(rt.alloc())?;
+    // The name of the section, and Cb of the CLI header.
+    write_at(&mut file, 0x178, b"\x1b]0;\nok");
+    write_at(&mut file, 520, &[0]);
+    let lines = "fault 2 203 at 520: CliSize\n512 512 section 1 \\x1b]0;\\x0aok\n";
+    assert!(rt; answers(&rt, &CHECK, &file, "203", lines)?);
+    Ok(())
+}
