@@ -14,7 +14,7 @@ use Rattle.cli_files.specs.Stopped.{Outcome, status_of_outcome}
 use Rattle.cli_faults.specs.declared.failure.Failure.{Failure}
 use Rattle.cli_faults.specs.declared.failure.Failure.TheVariants.{Fault, NoSuchRow, Usage, NotUtf8, CannotRead, CannotWriteOutput, CannotWriteFile, OutOfMemory}
 use Rattle.cli_faults.specs.declared.stop.Stop.{Stop}
-use Rattle.cli_faults.specs.declared.stop.Stop.TheVariants.{BudgetSpent, Different, Failed, NoSuchType, Nothing}
+use Rattle.cli_faults.specs.declared.stop.Stop.TheVariants.{BudgetSpent, Different, Failed, NoSuchType, NothingAt}
 use Rattle.cli_faults.specs.declared.stop.Stop.TheVariants as stop
 use Rattle.cli_faults.specs.Status.{IsOutput}
 use Rattle.cli_faults.specs.Stops.{status_of_stop}
@@ -39,7 +39,7 @@ broken_code (Failed (CannotWriteFile error)) found is = cc
 broken_code (Failed OutOfMemory) found is = cc
 broken_code BudgetSpent found is = cc
 broken_code Different found is = cc
-broken_code Nothing found is = cc
+broken_code (NothingAt offset) found is = cc
 broken_code stop.Broken found is = cc
 broken_code NoSuchType found is = cc
 

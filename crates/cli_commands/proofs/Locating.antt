@@ -20,7 +20,7 @@ module _ {W : Type 0} (contents : W → Option (List ℕ)) (before after : W) (f
       → OnOk first (IsWhole bare bytes) → IfErr first (ReportsFault (IsWhole bare bytes) (rules_of bare bytes)) → IfErr first (LeavesOutput before after)
       → ((it : Found) (text : List ℕ) → IsWhere form bare bytes offset it text → IfOk first (λ said. said ≡ it))
       → ((it : Found) (text : List ℕ) → IsWhere form bare bytes offset it text → Prints (contents before) (contents after) first text)
-      → IsOk last ↔ IsOk (stop_of_found first) → Hinted bare bytes (stop_of_found first) last
+      → IsOk last ↔ IsOk (stop_of_found offset first) → Hinted bare bytes (stop_of_found offset first) last
       → IsLocated contents before after form offset bare bytes last
   by_cases (Ok found.Something) (Ok end) met reports leaves said printed ok hinted = record {
     met = met;
@@ -48,7 +48,7 @@ module _ {W : Type 0} (contents : W → Option (List ℕ)) (before after : W) (f
       → OnOk first (IsWhole bare bytes) → IfErr first (ReportsFault (IsWhole bare bytes) (rules_of bare bytes)) → IfErr first (LeavesOutput before after)
       → ((it : Found) (text : List ℕ) → IsWhere form bare bytes offset it text → IfOk first (λ said. said ≡ it))
       → ((it : Found) (text : List ℕ) → IsWhere form bare bytes offset it text → Prints (contents before) (contents after) first text)
-      → second ≡ stop_of_found first → IsOk last ↔ IsOk second → Hinted bare bytes second last
+      → second ≡ stop_of_found offset first → IsOk last ↔ IsOk second → Hinted bare bytes second last
       → IsLocated contents before after form offset bare bytes last
   located first second last met reports leaves said printed is ok hinted =
       by_cases first last met reports leaves said printed (subst (λ (s : Result (Unit {0}) Stop). IsOk last ↔ IsOk s) is ok)

@@ -4,7 +4,7 @@ use Rattle.std.specs.Io.KnownBytes.{Appends}
 use Rattle.cli_faults.specs.declared.failure.Failure.{Failure}
 use Rattle.cli_faults.specs.Status.{IsOutput, IsUnwritten}
 use Rattle.cli_reports.specs.declared.report.Report.{Report}
-use Rattle.cli_faults.specs.declared.stop.Stop.TheVariants.{Failed, Nothing}
+use Rattle.cli_faults.specs.declared.stop.Stop.TheVariants.{Failed, NothingAt}
 use Rattle.cli_outline.specs.Outline.{IsLineIn, outline_rows}
 use Rattle.cli_outline.specs.Sent.{PrintsLines}
 use Rattle.cli_reports.specs.Checked.{IsWhole, rules_of, signature_bytes_of}
@@ -88,11 +88,11 @@ module _ {W : Type 0} (contents : W → Option (List ℕ)) (before after : W) wh
       × ((it : Found) (text : List ℕ) → IsWhere form bare bytes offset it text → SendsPrefix (contents before) (contents after) text)
 
   -- What has the byte at the offset was printed, and nothing else. It stopped because nothing has it, which was printed, or
-  -- because of a failure.
+  -- because of a failure. For an offset past the end, the hint has the length of the file.
   pub record IsLocated (form : Form) (offset : ℕ) (bare : Bool) (bytes : List ℕ) (outcome : Outcome) : Type 0 where
     pub met : OnOk outcome (IsWhole bare bytes)
     pub printed : OnOk outcome (IsFound form offset bare bytes found.Something)
-    pub stopped : IfErr outcome (λ stopped. ((stopped.stop ≡ Nothing) × IsWhole bare bytes × IsFound form offset bare bytes found.Nothing)
+    pub stopped : IfErr outcome (λ stopped. ((stopped.stop ≡ NothingAt offset) × IsWhole bare bytes × IsFound form offset bare bytes found.Nothing)
         ⊎ ((failure : Failure) × (stopped.stop ≡ Failed failure) × IsUnfound form offset bare bytes failure))
     pub hint : IfErr outcome (λ stopped. stopped.hint ≡ hint_for bare bytes stopped.stop)
 

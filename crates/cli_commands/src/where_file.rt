@@ -22,16 +22,16 @@ pub(crate) fn locate<W: Write>(
     ensures { IsLocated W.contents out.old out.new form offset bare bytes.now result }
 {
     let outcome = report_where(alloc, form, bare, bytes, offset, out);
-    with_hint(stop_of(outcome), bare, bytes)
+    with_hint(stop_of(offset, outcome), bare, bytes)
 }
 
 /// The result of a run that found something; else why it stopped.
-fn stop_of(outcome: Result<Found, Failure<'static>>) -> Result<(), Stop<'static>>
-    ensures { result ≡ stop_of_found outcome.entry }
+fn stop_of(offset: u64, outcome: Result<Found, Failure<'static>>) -> Result<(), Stop<'static>>
+    ensures { result ≡ stop_of_found offset outcome.entry }
 {
     match outcome {
         Ok(Found::Something) => Ok(()),
-        Ok(Found::Nothing) => Err(Stop::Nothing),
+        Ok(Found::Nothing) => Err(Stop::NothingAt(offset)),
         Err(failure) => Err(Stop::Failed(failure)),
     }
 }

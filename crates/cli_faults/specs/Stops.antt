@@ -3,14 +3,14 @@ use Rattle.std.specs.Prelude.{ℕ, List, codes}
 use Rattle.cli_faults.specs.Status.{status_of}
 use Rattle.cli_faults.specs.Texts.{failure_text}
 use Rattle.cli_faults.specs.declared.stop.Stop.{Stop}
-use Rattle.cli_faults.specs.declared.stop.Stop.TheVariants.{Failed, BudgetSpent, Different, Nothing, Broken, NoSuchType}
+use Rattle.cli_faults.specs.declared.stop.Stop.TheVariants.{Failed, BudgetSpent, Different, NothingAt, Broken, NoSuchType}
 
 -- the exit code of a stop
 abbrev pub status_of_stop : Stop → ℕ
 status_of_stop (Failed failure) = status_of failure
 status_of_stop BudgetSpent = 3
 status_of_stop Different = 1
-status_of_stop Nothing = 1
+status_of_stop (NothingAt offset) = 1
 status_of_stop Broken = 1
 status_of_stop NoSuchType = 1
 
@@ -19,6 +19,6 @@ abbrev pub stop_text : Stop → List ℕ
 stop_text (Failed failure) = failure_text failure
 stop_text BudgetSpent = codes "error: budget spent"
 stop_text Different = codes "the files differ"
-stop_text Nothing = codes "nothing is at the offset"
+stop_text (NothingAt offset) = codes "nothing is at the offset"
 stop_text Broken = codes "the file breaks a rule"
 stop_text NoSuchType = codes "no such type"

@@ -15,8 +15,8 @@ pub enum Stop<'a> {
     BudgetSpent,
     /// Two files that were compared differ. What differs was printed.
     Different,
-    /// The file has nothing at an offset. That was printed.
-    Nothing,
+    /// The file has nothing at this offset, in bytes. That was printed.
+    NothingAt(u64),
     /// The file breaks a rule. The fault was printed.
     Broken,
     /// No type of the file is the one that was asked for.
@@ -35,7 +35,7 @@ impl Stop<'_> {
         match self {
             Stop::Failed(failure) => failure.status(),
             Stop::BudgetSpent => 3,
-            Stop::Different | Stop::Nothing | Stop::Broken | Stop::NoSuchType => 1,
+            Stop::Different | Stop::NothingAt(_) | Stop::Broken | Stop::NoSuchType => 1,
         }
     }
 }
@@ -56,7 +56,7 @@ impl fmt::Display for Stop<'_> {
             Stop::Failed(failure) => write!(f, "{failure}"),
             Stop::BudgetSpent => f.write_str("error: budget spent"),
             Stop::Different => f.write_str("the files differ"),
-            Stop::Nothing => f.write_str("nothing is at the offset"),
+            Stop::NothingAt(_) => f.write_str("nothing is at the offset"),
             Stop::Broken => f.write_str("the file breaks a rule"),
             Stop::NoSuchType => f.write_str("no such type"),
         }

@@ -2,4 +2,3 @@ pub mod Finding
 pub mod NumbersRead
 pub mod TypeNames
 pub mod Reading
-pub mod Statuses

@@ -1,13 +1,13 @@
--- What the user may have meant, by the first bytes of the file and its fault.
-use Rattle.std.specs.Prelude.{◌==◌, ◌&&◌, ℕ, Bool, List, Option, Some, None, codes, length, take, if◌then◌else◌}
+-- What the user may have meant: by the first bytes of the file and its fault, or by an offset past its end.
+use Rattle.std.specs.Prelude.{◌==◌, ◌&&◌, ℕ, Bool, List, ◌++◌, nat_le, decimal, Option, Some, None, codes, length, take, if◌then◌else◌}
 use Rattle.std.specs.Str.{bytes_eq}
 use Rattle.packed.specs.Codes.{number_of_code}
 use Rattle.packed.specs.declared.code.FaultCode.TheVariants.{DosHeader, RootSignature}
 use Rattle.cli_faults.specs.declared.failure.Failure.TheVariants.{Fault}
 use Rattle.cli_faults.specs.declared.stop.Stop.{Stop}
-use Rattle.cli_faults.specs.declared.stop.Stop.TheVariants.{Failed}
+use Rattle.cli_faults.specs.declared.stop.Stop.TheVariants.{Failed, NothingAt}
 use Rattle.cli_files.specs.declared.hint.Hint.{Hint}
-use Rattle.cli_files.specs.declared.hint.Hint.TheVariants.{AddBare, DropBare}
+use Rattle.cli_files.specs.declared.hint.Hint.TheVariants.{AddBare, DropBare, Length}
 
 -- the bytes begin with these
 abbrev pub begin_with : List ℕ → List ℕ → Bool
@@ -19,12 +19,18 @@ hint_for_fault bare bytes code =
     if bare then (if (code == number_of_code RootSignature) && begin_with (codes "MZ") bytes then Some DropBare else None)
     else (if (code == number_of_code DosHeader) && begin_with (codes "BSJB") bytes then Some AddBare else None)
 
--- only a fault has a hint
+-- for an offset past the end of the file: the length of the file
+abbrev pub hint_for_offset : ℕ → List ℕ → Option Hint
+hint_for_offset offset bytes = if nat_le (length bytes) offset then Some (Length (length bytes)) else None
+
+-- only a fault, and an offset at which there is nothing, can have a hint
 abbrev pub hint_for : Bool → List ℕ → Stop → Option Hint
 hint_for bare bytes (Failed (Fault found)) = hint_for_fault bare bytes found.code
+hint_for bare bytes (NothingAt offset) = hint_for_offset offset bytes
 hint_for bare bytes _ = None
 
 -- the line of a hint, without its line feed
 abbrev pub hint_text : Hint → List ℕ
 hint_text AddBare = codes "  hint: FILE begins like a metadata root; try it with '--bare'"
 hint_text DropBare = codes "  hint: FILE begins like a PE file; try it without '--bare'"
+hint_text (Length count) = codes "  hint: FILE has " ++ decimal count ++ codes " bytes"

@@ -1,10 +1,10 @@
 -- The lines that report why a run stopped early.
-use Rattle.std.specs.Prelude.{◌≡◌, ℕ, List, ◌∷◌, [], ◌++◌, codes, IsErrAnd, IsOk, MatchResult, Option, Some, None, Result, Ok, Err}
+use Rattle.std.specs.Prelude.{◌≡◌, ℕ, Bool, true, false, if◌then◌else◌, List, ◌∷◌, [], ◌++◌, codes, IsErrAnd, IsOk, MatchResult, Option, Some, None, Result, Ok, Err}
 use Rattle.std.specs.Borrow.{Bor}
 use Rattle.cli_faults.specs.Escaped.{escaped_text}
 use Rattle.cli_faults.specs.declared.failure.Failure.{Failure}
 use Rattle.cli_faults.specs.declared.stop.Stop.{Stop}
-use Rattle.cli_faults.specs.declared.stop.Stop.TheVariants.{Failed}
+use Rattle.cli_faults.specs.declared.stop.Stop.TheVariants.{Failed, Different, NothingAt, Broken}
 use Rattle.cli_faults.specs.Stops.{status_of_stop, stop_text}
 use Rattle.cli_files.specs.Hints.{hint_text}
 use Rattle.cli_files.specs.declared.hint.Hint.{Hint}
@@ -23,6 +23,23 @@ file_line None = []
 -- the line of the stop, and then those of the file and the hint if there are, without the last line feed
 abbrev pub stopped_text : Stopped → List ℕ
 stopped_text stopped = stop_text stopped.stop ++ file_line stopped.file ++ hint_line stopped.hint
+
+-- standard output says why it stopped; for private clauses
+abbrev pub is_printed : Stop → Bool
+is_printed Different = true
+is_printed (NothingAt offset) = true
+is_printed Broken = true
+is_printed _ = false
+
+-- a hint as a line of its own, if there is one
+abbrev lone_hint : Option Hint → List ℕ
+lone_hint (Some hint) = hint_text hint ++ 10 ∷ []
+lone_hint None = []
+
+-- what goes to standard error: the lines of the stop, or only that of the hint if standard output says why it stopped; for
+-- private clauses
+abbrev pub reported_text : Stopped → List ℕ
+reported_text stopped = if is_printed stopped.stop then lone_hint stopped.hint else stopped_text stopped ++ 10 ∷ []
 
 -- the same result, with its failure as why it stopped
 abbrev pub IsStopOf : {T : Type 0} → Result T Failure → Result T Stop → Type 0

@@ -1,6 +1,6 @@
 //! What the user may have meant.
 ghost use Rattle.std.specs.Prelude.{◌≡◌, Some};
-ghost use Rattle.cli_files.specs.Hints.{hint_for, hint_for_fault, hint_text};
+ghost use Rattle.cli_files.specs.Hints.{hint_for, hint_for_fault, hint_for_offset, hint_text};
 
 use cli_faults::{Failure, Stop};
 use packed::{Fault, FaultCode};
@@ -19,16 +19,23 @@ pub enum Hint {
     AddBare,
     /// The file looks like a PE file, so `--bare` is wrong.
     DropBare,
+    /// The offset is past the end of the file, which has this number of bytes.
+    Length(usize),
 }
 
 impl fmt::Display for Hint {
     ghost output = { λ hint. Some (hint_text hint) };
 
     fn fmt<W: fmt::Write>(&self, f: &mut fmt::Formatter<W>) -> fmt::Result {
-        f.write_str(match self {
-            Hint::AddBare => "  hint: FILE begins like a metadata root; try it with '--bare'",
-            Hint::DropBare => "  hint: FILE begins like a PE file; try it without '--bare'",
-        })
+        match self {
+            Hint::AddBare => {
+                f.write_str("  hint: FILE begins like a metadata root; try it with '--bare'")
+            }
+            Hint::DropBare => {
+                f.write_str("  hint: FILE begins like a PE file; try it without '--bare'")
+            }
+            Hint::Length(length) => write!(f, "  hint: FILE has {length} bytes"),
+        }
     }
 }
 
@@ -38,6 +45,7 @@ pub fn hint_of(stop: &Stop<'_>, bare: bool, bytes: &[u8]) -> Option<Hint>
 {
     match stop {
         Stop::Failed(Failure::Fault(fault)) => hint_of_fault(fault, bare, bytes),
+        Stop::NothingAt(offset) => hint_of_offset(*offset, bytes),
         _ => None,
     }
 }
@@ -54,4 +62,11 @@ fn hint_of_fault(fault: &Fault, bare: bool, bytes: &[u8]) -> Option<Hint>
         return Some(Hint::AddBare);
     }
     None
+}
+
+/// The hint for an offset at which there is nothing: the length of the file, if the offset is past its end.
+fn hint_of_offset(offset: u64, bytes: &[u8]) -> Option<Hint>
+    ensures { result ≡ hint_for_offset offset bytes.now }
+{
+    (bytes.len() as u64 <= offset).then_some(Hint::Length(bytes.len()))
 }

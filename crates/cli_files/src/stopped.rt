@@ -2,7 +2,7 @@
 ghost use Rattle.std.specs.Prelude.{◌≡◌, ◌↔◌, ◌≤◌, ◌++◌, ◌∷◌, [], IfErr, IfOk, IsOk, None, OnOk, Some};
 ghost use Rattle.std.specs.Io.KnownBytes.{Appends};
 ghost use Rattle.cli_files.specs.Hints.{hint_for};
-ghost use Rattle.cli_files.specs.Stopped.{IsStopOf, status_of_outcome, stopped_text};
+ghost use Rattle.cli_files.specs.Stopped.{IsStopOf, is_printed, reported_text, status_of_outcome, stopped_text};
 ghost use Rattle.cli_faults.specs.Stops.{status_of_stop};
 ghost use Rattle.cli_faults.specs.declared.stop.Stop.TheVariants.{Failed};
 
@@ -57,7 +57,8 @@ pub fn stopped_by<'a>(outcome: Result<(), Failure<'a>>) -> Result<(), Stop<'a>>
     Ok(outcome?)
 }
 
-/// The exit code of a run. If the program stopped early, it reports that first, unless the output says why.
+/// The exit code of a run. If the program stopped early, it reports that first. If the output says why, it reports only what
+/// the user may have meant.
 pub fn status<E: Write>(outcome: Result<(), Stopped<'_>>, err: &mut E) -> u8
     ensures done { IfOk outcome.entry (λ _. result ≡ 0) }
     ensures stopped { IfErr outcome.entry (λ stopped. result ≡ status_of_stop stopped.stop) }
@@ -68,17 +69,18 @@ pub fn status<E: Write>(outcome: Result<(), Stopped<'_>>, err: &mut E) -> u8
     match outcome {
         Ok(()) => 0,
         Err(stopped) => {
-            if !is_printed(&stopped.stop) {
-                let _ = report(&stopped, err);
-            }
+            // A report that cannot be written changes nothing.
+            let _ = report(&stopped, err);
             stopped.stop.status()
         }
     }
 }
 
 /// Whether the output says why the run stopped.
-fn is_printed(stop: &Stop<'_>) -> bool {
-    *stop == Stop::Different || *stop == Stop::Nothing || *stop == Stop::Broken
+fn is_printed(stop: &Stop<'_>) -> bool
+    ensures { result ≡ is_printed stop.now }
+{
+    matches!(stop, Stop::Different | Stop::NothingAt(_) | Stop::Broken)
 }
 
 /// Reports that memory ran out, and returns the exit code for that.
@@ -88,11 +90,17 @@ pub fn out_of_memory<E: Write>(err: &mut E) -> u8
     status(Err(Stopped::from(Failure::OutOfMemory)), err)
 }
 
-/// Prints why a run stopped early.
+/// Prints why a run stopped early, unless the output says that, and what the user may have meant.
 fn report<E: Write>(stopped: &Stopped<'_>, err: &mut E) -> io::Result<()>
-    ensures { OnOk result (Appends (E.contents err.old) (E.contents err.new) (stopped_text stopped.now ++ 10 ∷ [])) }
+    ensures { OnOk result (Appends (E.contents err.old) (E.contents err.new) (reported_text stopped.now)) }
 {
-    writeln!(err, "{stopped}")
+    if !is_printed(&stopped.stop) {
+        return writeln!(err, "{stopped}");
+    }
+    match &stopped.hint {
+        Some(hint) => writeln!(err, "{hint}"),
+        None => Ok(()),
+    }
 }
 
 impl<'a> From<Stop<'a>> for Stopped<'a> {

@@ -336,25 +336,33 @@ fn prints_nothing_past_the_end(rt: HostRuntime) -> Result<(), Fail> {
     Ok(())
 }
 
-/// The exit code is 0 if a structure has the byte. It is 1 if none has it, which only the output says.
+/// The exit code is 0 if a structure has the byte. It is 1 if none has it, which the output says. For an offset past the end,
+/// a hint has the length of the file.
 #[test]
 fn ends_with_1_if_nothing_has_the_byte(rt: HostRuntime) -> Result<(), Fail> {
     fs::write(&rt, "where.dll", image().as_slice())?;
-    for (offset, status, lines) in [
-        ("520", 0, "512 512 section 1\n520 72 cli header\n520 4 cli header Cb\n"),
-        ("00520", 0, "512 512 section 1\n520 72 cli header\n520 4 cli header Cb\n"),
-        ("0x208", 0, "512 512 section 1\n520 72 cli header\n520 4 cli header Cb\n"),
-        ("0x000000000000000000208", 0, "512 512 section 1\n520 72 cli header\n520 4 cli header Cb\n"),
-        ("0", 0, "0 64 ms-dos header\n0 2 ms-dos header Signature\n"),
-        ("0x7f", 1, "nothing\n"),
-        ("1024", 1, "nothing\n"),
-        ("0xfFfFfFfFfFfFfFfF", 1, "nothing\n"),
-        ("18446744073709551615", 1, "nothing\n"),
+    let hint = "  hint: FILE has 1024 bytes\n";
+    for (offset, status, lines, hints) in [
+        ("520", 0, "512 512 section 1\n520 72 cli header\n520 4 cli header Cb\n", ""),
+        ("00520", 0, "512 512 section 1\n520 72 cli header\n520 4 cli header Cb\n", ""),
+        ("0x208", 0, "512 512 section 1\n520 72 cli header\n520 4 cli header Cb\n", ""),
+        (
+            "0x000000000000000000208",
+            0,
+            "512 512 section 1\n520 72 cli header\n520 4 cli header Cb\n",
+            "",
+        ),
+        ("0", 0, "0 64 ms-dos header\n0 2 ms-dos header Signature\n", ""),
+        ("0x7f", 1, "nothing\n", ""),
+        ("1023", 0, "512 512 section 1\n", ""),
+        ("1024", 1, "nothing\n", hint),
+        ("0xfFfFfFfFfFfFfFfF", 1, "nothing\n", hint),
+        ("18446744073709551615", 1, "nothing\n", hint),
     ] {
         let (code, out, err) = answer(&rt, &["clim", "where", "where.dll", offset])?;
         assert_eq!(rt; code, status, "{offset}");
         assert_eq!(rt; out.as_str(), lines, "{offset}");
-        assert_eq!(rt; err.as_str(), "", "{offset}");
+        assert_eq!(rt; err.as_str(), hints, "{offset}");
     }
     fs::remove_file(&rt, "where.dll")?;
     Ok(())

@@ -151,14 +151,15 @@ fn prints_json_of_one_type_and_of_one_byte(rt: HostRuntime) -> Result<(), Fail> 
 {"offset":193,"size":3,"structure":"blob","stream":"#Blob","table":"Field","row":2,"column":"Signature"}
 "##;
     const NEAR: &str = "no such type\n  hint: the nearest name is 'N.C'\n";
+    const LENGTH: &str = "  hint: FILE has 200 bytes\n";
     for (words, wanted, printed, reported) in [
         (["clim", "outline", "--json", "--bare", "parts.root", "N.C"].as_slice(), 0, class, ""),
         (&["clim", "outline", "--bare", "--json", "parts.root", "02000002"], 0, class, ""),
         (&["clim", "outline", "--json", "--bare", "parts.root", "N.D"], 1, "", NEAR),
         (&["clim", "where", "--json", "--bare", "parts.root", "149"], 0, cell, ""),
         (&["clim", "where", "--bare", "parts.root", "0xc1", "--json"], 0, blob, ""),
-        (&["clim", "where", "--json", "--bare", "parts.root", "200"], 1, "", ""),
-        (&["clim", "where", "--json", "--bare", "parts.root", "18446744073709551615"], 1, "", ""),
+        (&["clim", "where", "--json", "--bare", "parts.root", "200"], 1, "", LENGTH),
+        (&["clim", "where", "--json", "--bare", "parts.root", "18446744073709551615"], 1, "", LENGTH),
     ] {
         let (status, out, err) = answer(&rt, words)?;
         assert_eq!(rt; (status, out.as_str(), err.as_str()), (wanted, printed, reported));
