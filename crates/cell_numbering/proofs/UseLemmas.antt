@@ -22,11 +22,10 @@ use Rattle.cell_numbering.specs.declared.blob_use.BlobUse.{BlobUse}
 use Rattle.cell_numbering.specs.declared.blob_uses.BlobUses.{BlobUses}
 use Rattle.cell_numbering.specs.declared.heap_uses.HeapUses.{HeapUses}
 use Rattle.cell_numbering.specs.declared.text_uses.TextUses.{TextUses}
-use Rattle.cell_numbering.specs.BlobGroups.{AreGroups}
-use Rattle.cell_numbering.specs.BlobUses.{AreBlobUses, IsAtIndex}
-use Rattle.cell_numbering.specs.HeapUses.{AreUsesIn, AreUsesOf, AreUsesOfAll, GivesBlob, HaveOneIndex, IsUseIn, IsUseOf, all_cells, guid_of}
+use Rattle.cell_numbering.specs.BlobUses.{AreBlobUses, IsAtIndex, ReferTo}
+use Rattle.cell_numbering.specs.HeapUses.{AreUsesIn, GivesBlob, IsUseIn, IsUseOf, all_cells, guid_of}
 use Rattle.cell_numbering.specs.TextUses.{AreTextUses}
-use Rattle.cell_numbering.proofs.BlobLemmas.{AreLaws, known_group, new_group, no_groups}
+use Rattle.cell_numbering.proofs.BlobLemmas.{AreLaws, kept_use, known_use, no_kept}
 use Rattle.cell_numbering.proofs.KindLemmas.{IsNoText}
 
 -- ---- related lists
@@ -202,43 +201,19 @@ guids_are (cell ∷ cells) =
     flat_map-append given (guid_of cell) (flat_map guid_of cells) ∙ ap (λ list. list ++ flat_map given (flat_map guid_of cells)) (cell_guids cell)
     ∙ ap (λ list. guids_of cell ++ list) (guids_are cells)
 
--- ---- uses with one index have one blob
+-- ---- uses of blobs that are written
 
+pub uses_of : (index_of : CellId → Option ℕ) (model : Metadata) (uses : BlobUses) (blobs : List (List ℕ))
+    → AreBlobUses (IsUseIn index_of model) uses blobs → AreBlobUses IsUseOf uses blobs
+uses_of index_of model uses blobs are = record {
+  kept = are.kept;
+  each = zip_weaker (IsUseIn index_of model) IsUseOf (λ found blob is. is.of) uses.kept.items are.kept are.each;
+  refer = are.refer;
+}
+
+-- cells with one index have one blob
 abbrev pub AreShared : (CellId → Option ℕ) → Metadata → Type 0
 AreShared index_of model = (first second : CellId) → HasCell model first → HasCell model second → ShareBlob index_of first second → cell_by_id model first ≡ cell_by_id model second
-
-same_head : (first second : List ℕ) → first ∷ [] ≡ second ∷ [] → first ≡ second
-same_head first second same = ap (λ (list : List (List ℕ)). get_or list 0 []) same
-
-one_blob : (index_of : CellId → Option ℕ) (model : Metadata) → AreShared index_of model → (first second : BlobUse) (blob other : List ℕ) → IsUseIn index_of model first blob
-    → IsUseIn index_of model second other → HaveOneIndex first second → blob ≡ other
-one_blob index_of model shared first second blob other is also one =
-    let here = is.indexed one.index one.first_index in
-    let there = also.indexed one.index one.second_index in
-    let share : ShareBlob index_of here.id there.id = record {
-      blobs = here.blobs;
-      kind = here.kind ∙ one.kind ∙ sym there.kind;
-      index = one.index;
-      first_index = here.at;
-      second_index = there.at;
-    } in
-    same_head blob other (sym here.has ∙ ap blobs_of (shared here.id there.id here.there there.there share) ∙ there.has)
-
-pub uses_of_blobs : (index_of : CellId → Option ℕ) (model : Metadata) → AreShared index_of model → (uses : List BlobUse) (blobs : List (List ℕ))
-    → AllZip (IsUseIn index_of model) uses blobs → AreUsesOf uses blobs
-uses_of_blobs index_of model shared uses blobs all = record {
-  each = zip_weaker (IsUseIn index_of model) IsUseOf (λ found blob is. is.of) uses blobs all;
-  shared = λ j k d e below within one. one_blob index_of model shared (get_or uses j d) (get_or uses k e) (get_or blobs j []) (get_or blobs k [])
-      (zip_at (IsUseIn index_of model) uses blobs j d [] all below) (zip_at (IsUseIn index_of model) uses blobs k e [] all within) one;
-}
-
-pub uses_of_all : (index_of : CellId → Option ℕ) (model : Metadata) → AreShared index_of model → (uses : BlobUses) (blobs : List (List ℕ))
-    → AreBlobUses (IsUseIn index_of model) uses blobs → AreUsesOfAll uses blobs
-uses_of_all index_of model shared uses blobs are = record {
-  kept = are.kept;
-  uses_of = uses_of_blobs index_of model shared uses.kept.items are.kept are.each;
-  groups = are.groups;
-}
 
 -- ---- one more use of a blob
 
@@ -275,9 +250,9 @@ module _ (index_of : CellId → Option ℕ) (model : Metadata) (laws : AreLaws) 
         kept = known ++ one.blob ∷ [];
         each = subst (λ (list : List BlobUse). AllZip (IsUseIn index_of model) list (known ++ one.blob ∷ [])) (sym kept)
             (zip_append (IsUseIn index_of model) before.blobs.kept.items known (found ∷ []) (one.blob ∷ []) are.blobs.each (one.is, tt));
-        groups = subst (λ (list : List ℕ). AreGroups (known ++ one.blob ∷ []) list (blobs ++ one.blob ∷ []))
+        refer = subst (λ (list : List ℕ). ReferTo (known ++ one.blob ∷ []) list (blobs ++ one.blob ∷ []))
             (sym (of_use ∙ ap (λ (n : ℕ). before.blobs.of_use.items ++ n ∷ []) long))
-            (new_group laws known before.blobs.of_use.items blobs are.blobs.groups one.blob one.is.of.short);
+            (kept_use laws known before.blobs.of_use.items blobs are.blobs.refer one.blob one.is.of.short);
       } in
       added_blob index_of model before after cells cell are
       (subst (λ list. AreBlobUses (IsUseIn index_of model) after.blobs (blobs ++ list)) (sym one.has) more) none.texts none.guids texts guids
@@ -307,8 +282,8 @@ module _ (index_of : CellId → Option ℕ) (model : Metadata) (laws : AreLaws) 
       let more : AreBlobUses (IsUseIn index_of model) after.blobs (blobs ++ blob ∷ []) = record {
         kept = list;
         each = subst (λ (uses : List BlobUse). AllZip (IsUseIn index_of model) uses list) (sym kept) are.blobs.each;
-        groups = subst (λ (uses : List ℕ). AreGroups list uses (blobs ++ blob ∷ [])) (sym of_use)
-            (known_group laws list before.blobs.of_use.items blobs are.blobs.groups known blob (omega (arith, below, long)) refl);
+        refer = subst (λ (uses : List ℕ). ReferTo list uses (blobs ++ blob ∷ [])) (sym of_use)
+            (known_use laws list before.blobs.of_use.items blobs are.blobs.refer known blob (omega (arith, below, long)) refl);
       } in
       added_blob index_of model before after cells cell are
       (subst (λ uses. AreBlobUses (IsUseIn index_of model) after.blobs (blobs ++ uses)) (sym has) more) none.texts none.guids texts guids
@@ -327,6 +302,6 @@ no_uses index_of model uses texts guids kept of_use = record {
   blobs = record {
     kept = [];
     each = subst (λ (list : List BlobUse). AllZip (IsUseIn index_of model) list []) (sym kept) tt;
-    groups = no_groups [] uses.blobs.of_use.items [] refl of_use refl;
+    refer = no_kept [] uses.blobs.of_use.items [] refl of_use refl;
   };
 }

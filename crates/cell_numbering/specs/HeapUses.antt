@@ -1,6 +1,5 @@
 -- The values that cells use, in order of use, and their indexes (ECMA-335 II.24.2.3 to II.24.2.5).
-use Rattle.std.specs.Prelude.{◌≡◌, ℕ, ◌^◌, ◌<◌, List, [], ◌∷◌, length, map, flat_map, slice_index_or, Option, Some}
-use Rattle.std.specs.List.{AllZip}
+use Rattle.std.specs.Prelude.{◌≡◌, ℕ, ◌^◌, ◌<◌, List, [], ◌∷◌, length, map, flat_map, Option, Some}
 use Rattle.table_schema.specs.declared.column.ColumnKind.{ColumnKind}
 use Rattle.table_schema.specs.declared.column.ColumnKind.TheVariants as kind
 use Rattle.heap_pools.specs.BlobHeap.{blob_index}
@@ -18,8 +17,6 @@ use Rattle.root_writer.specs.Pools.{texts_of, blobs_of, pools_of}
 use Rattle.cell_numbering.specs.declared.blob_use.BlobUse.{BlobUse}
 use Rattle.cell_numbering.specs.declared.heap_uses.HeapUses.{HeapUses}
 use Rattle.cell_numbering.specs.declared.numbers_so_far.Indexes.{Indexes}
-use Rattle.cell_numbering.specs.declared.blob_uses.BlobUses.{BlobUses}
-use Rattle.cell_numbering.specs.BlobGroups.{AreGroups}
 use Rattle.cell_numbering.specs.BlobUses.{AreBlobUses}
 use Rattle.cell_numbering.specs.TextUses.{AreTextUses}
 
@@ -50,25 +47,6 @@ GivesBlob column (Canonical bytes) blob = blob ≡ bytes.items
 pub record IsUseOf (found : BlobUse) (blob : List ℕ) : Type 0 where
   pub gives : GivesBlob found.kind found.bytes blob
   pub short : length blob < 2 ^ 29
-
--- the two uses are in columns of one kind, and at one index of a heap
-pub record HaveOneIndex (first second : BlobUse) : Type 0 where
-  pub kind : first.kind ≡ second.kind
-  pub index : ℕ
-  pub first_index : first.index ≡ Some index
-  pub second_index : second.index ≡ Some index
-
--- the uses are those of the blobs that are written; two uses with one index are of one blob
-pub record AreUsesOf (uses : List BlobUse) (blobs : List (List ℕ)) : Type 0 where
-  pub each : AllZip IsUseOf uses blobs
-  pub shared : (j k : ℕ) (d e : BlobUse) → j < length uses → k < length uses → HaveOneIndex (slice_index_or uses j d) (slice_index_or uses k e)
-      → slice_index_or blobs j [] ≡ slice_index_or blobs k []
-
--- the kept uses are those of some blobs that are written, and each use refers to one with its blob
-pub record AreUsesOfAll (uses : BlobUses) (blobs : List (List ℕ)) : Type 0 where
-  pub kept : List (List ℕ)
-  pub uses_of : AreUsesOf uses.kept.items kept
-  pub groups : AreGroups kept uses.of_use.items blobs
 
 -- the index of the use is that of some cell with this blob, in a column of this kind
 pub record IsIndexed (index_of : CellId → Option ℕ) (model : Metadata) (column : ColumnKind) (index : ℕ) (blob : List ℕ) : Type 0 where

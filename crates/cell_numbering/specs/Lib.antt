@@ -1,4 +1,4 @@
-pub mod BlobGroups
+pub mod BlobBytes
 pub mod BlobUses
 pub mod CellIndexes
 pub mod HeapUses

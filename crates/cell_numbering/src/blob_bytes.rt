@@ -1,8 +1,10 @@
-ghost use Rattle.std.specs.Prelude.{◌≡◌, ◌^◌, ◌<◌, ℕ, List, IfOk, length};
+ghost use Rattle.std.specs.Prelude.{◌≡◌, ℕ, List, IfOk};
+ghost use Rattle.std.specs.List.{AllZip};
 ghost use Rattle.sig_grammar.specs.Syntax.{Body};
 ghost use Rattle.sig_grammar.specs.Encodes.{Encodes, short};
+ghost use Rattle.heap_pools.specs.Uses.{bytes_of};
 ghost use Rattle.cell_numbering.specs.HeapUses.{IsUseOf};
-ghost use Rattle.cell_numbering.specs.BlobGroups.{bytes_in};
+ghost use Rattle.cell_numbering.specs.BlobBytes.{all_bytes, bytes_in};
 
 use crate::blob_use::BlobUse;
 use metadata_source::SignatureBytes;
@@ -65,7 +67,7 @@ fn canonical_bytes<'u>(
 }
 
 /// The bytes that are written for the use of a blob.
-pub fn written_bytes<'u>(alloc: Global, found: &'u BlobUse<'_>) -> Result<BlobBytes<'u>, AllocError>
+fn written_bytes<'u>(alloc: Global, found: &'u BlobUse<'_>) -> Result<BlobBytes<'u>, AllocError>
     requires { ¬ (¬ ((blob : List ℕ) × IsUseOf found.now blob)) }
     ensures { (blob : List ℕ) → IsUseOf found.now blob → IfOk result (λ bytes. bytes_in bytes ≡ blob) }
 {
@@ -76,4 +78,33 @@ pub fn written_bytes<'u>(alloc: Global, found: &'u BlobUse<'_>) -> Result<BlobBy
             _ => Ok(BlobBytes::Found(bytes)),
         },
     }
+}
+
+/// The bytes that are written for these uses.
+pub fn written_blobs<'u>(
+    alloc: Global,
+    uses: &'u [BlobUse<'_>],
+) -> Result<Vec<BlobBytes<'u>>, AllocError>
+    requires { ¬ (¬ ((blobs : List (List ℕ)) × AllZip IsUseOf uses.now blobs)) }
+    ensures { (blobs : List (List ℕ)) → AllZip IsUseOf uses.now blobs → IfOk result (λ written. all_bytes written.items ≡ blobs) }
+{
+    let mut written = Vec::with_capacity(alloc, uses.len())?;
+    for found in uses {
+        written.push(written_bytes(alloc, found)?)?;
+    }
+    Ok(written)
+}
+
+/// The bytes of each blob.
+pub fn slices_of<'w>(
+    alloc: Global,
+    written: &'w [BlobBytes<'_>],
+) -> Result<Vec<&'w [u8]>, AllocError>
+    ensures { IfOk result (λ slices. bytes_of slices.items ≡ all_bytes written.now) }
+{
+    let mut slices = Vec::with_capacity(alloc, written.len())?;
+    for bytes in written {
+        slices.push(bytes.as_slice())?;
+    }
+    Ok(slices)
 }

@@ -1,23 +1,21 @@
-ghost use Rattle.std.specs.Prelude.{◌≡◌, ◌<◌, ◌++◌, ◌∷◌, [], IsTrue, OnOk, IfOk, IfSome, length, slice_index_or};
+ghost use Rattle.std.specs.Prelude.{◌≡◌, ◌<◌, ◌++◌, ◌∷◌, [], IsTrue, OnOk, IfSome, length, slice_index_or};
 ghost use Rattle.cell_numbering.specs.declared.blob_use.BlobUse.{BlobUse as Use};
 ghost use Rattle.cell_numbering.specs.BlobUses.{IsAtIndex};
 
 use crate::blob_use::BlobUse;
+use crate::last_uses::LastUses;
 use std::alloc::{AllocError, Global};
 use table_schema::ColumnKind;
 
-/// The number of indexes that are remembered.
-const RECENT_COUNT: usize = 1 << 15;
-
-/// The uses of blobs. A use at an index that is remembered is not kept: it refers to one that is.
+/// The uses of blobs. A use at the index of a kept one in a column of its kind is not kept, too: it refers to that one.
 #[derive(Drop)]
 pub struct BlobUses<'a> {
-    /// Uses of all blobs, in order of use. Two of them may have the same blob, too.
+    /// Uses of all blobs, in order of use. Two of them may have the same blob.
     pub kept: Vec<BlobUse<'a>>,
     /// For each use the kept one that has its blob.
     pub of_use: Vec<usize>,
-    /// The kept uses at some indexes. Only the time depends on it.
-    recent: Vec<usize>,
+    /// The last kept use at each index.
+    last: LastUses,
 }
 
 /// Whether a use is in a column of a kind, and at an index of a heap.
@@ -32,22 +30,22 @@ fn is_at(found: &BlobUse<'_>, kind: &ColumnKind, index: Option<u32>) -> bool
 
 impl<'a> BlobUses<'a> {
     /// No uses yet.
-    pub fn new(alloc: Global) -> Result<BlobUses<'a>, AllocError>
-        ensures kept { IfOk result (λ uses. uses.kept.items ≡ []) }
-        ensures of_use { IfOk result (λ uses. uses.of_use.items ≡ []) }
+    pub fn new(alloc: Global) -> BlobUses<'a>
+        ensures kept { result.kept.items ≡ [] }
+        ensures of_use { result.of_use.items ≡ [] }
     {
-        Ok(BlobUses {
+        BlobUses {
             kept: Vec::new(alloc),
             of_use: Vec::new(alloc),
-            recent: vec![in alloc; 0usize; RECENT_COUNT]?,
-        })
+            last: LastUses::new(alloc),
+        }
     }
 
-    /// The kept use that is remembered for an index, if it is in a column of this kind.
+    /// The last kept use at an index, if it is in a column of this kind.
     pub fn known(&self, kind: ColumnKind, index: Option<u32>) -> Option<usize>
         ensures { IfSome result (λ known. (known < length self.now.kept.items) × ((d : Use) → IsAtIndex (slice_index_or self.now.kept.items known d) kind index)) }
     {
-        let known = *self.recent.get(index? as usize % RECENT_COUNT)?;
+        let known = self.last.get(index?)?;
         if is_at(self.kept.get(known)?, &kind, index) {
             Some(known)
         } else {
@@ -63,26 +61,16 @@ impl<'a> BlobUses<'a> {
         Ok(self.of_use.push(known)?)
     }
 
-    /// Adds a use that is kept, and remembers it.
+    /// Adds a use that is kept.
     pub fn add(&mut self, found: BlobUse<'a>) -> Result<(), AllocError>
         ensures kept { OnOk result (self.new.kept.items ≡ self.old.kept.items ++ found.entry ∷ []) }
         ensures of_use { OnOk result (self.new.of_use.items ≡ self.old.of_use.items ++ length self.old.kept.items ∷ []) }
     {
         let kept = self.kept.len();
-        self.remember(found.index, kept);
+        if let Some(index) = found.index {
+            self.last.note(index, kept)?;
+        }
         self.of_use.push(kept)?;
         Ok(self.kept.push(found)?)
-    }
-
-    /// Remembers a kept use for its index.
-    fn remember(&mut self, index: Option<u32>, kept: usize)
-        ensures kept { self.new.kept.items ≡ self.old.kept.items }
-        ensures of_use { self.new.of_use.items ≡ self.old.of_use.items }
-    {
-        if let Some(index) = index {
-            if let Some(slot) = self.recent.get_mut(index as usize % RECENT_COUNT) {
-                *slot = kept;
-            }
-        }
     }
 }

@@ -187,7 +187,7 @@ pub fn heap_uses<'a, S: ReadCells>(alloc: Global, source: &'a S) -> Result<HeapU
     let mut uses = HeapUses {
         texts: TextUses::new(alloc, source),
         guids: Vec::new(alloc),
-        blobs: BlobUses::new(alloc)?,
+        blobs: BlobUses::new(alloc),
     };
     for table in TableId::all() {
         add_rows(alloc, &mut uses, source, *table)?;

@@ -7,8 +7,8 @@
 //! its plan.
 //!
 //! No value is hashed, and none is copied, except a signature whose blob is not its canonical encoding. Values that are
-//! read from a heap are grouped by their index there. So a text that many rows name is read once. A blob that many rows
-//! name is read, decoded and compared a few times at most, once for each kind of column.
+//! read from a heap are taken once for each index there. So a text that many rows name is read once. A blob that many rows
+//! name is read and decoded once for each kind of column. To know the indexes takes four bytes for each byte of a heap.
 //!
 //! ```text
 //! let (texts, numbering) = pools_of(alloc, &source)?;
@@ -17,18 +17,17 @@
 #![tactic(auto)]
 
 mod blob_bytes;
-mod blob_groups;
 mod blob_use;
 mod blob_uses;
-mod earlier_uses;
-mod group_indexes;
 mod heap_uses;
 mod index_columns;
+mod last_uses;
 mod numbers;
 mod numbers_so_far;
 mod plain_columns;
 mod pools;
 mod start_groups;
 mod text_uses;
+mod use_indexes;
 
 pub use pools::pools_of;

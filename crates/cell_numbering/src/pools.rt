@@ -7,14 +7,15 @@ ghost use Rattle.heap_pools.specs.TextHeap.{text_heap};
 ghost use Rattle.metadata.specs.Metadata.{Metadata};
 ghost use Rattle.root_writer.specs.Pools.{pools_of as pools_in};
 ghost use Rattle.root_writer.specs.Numbered.{IsNumbering, IsTooLong};
-ghost use Rattle.cell_numbering.specs.HeapUses.{AreUsesOfAll};
+ghost use Rattle.cell_numbering.specs.BlobUses.{AreBlobUses};
+ghost use Rattle.cell_numbering.specs.HeapUses.{IsUseOf};
 
-use crate::blob_groups::BlobGroups;
+use crate::blob_bytes::{slices_of, written_blobs};
 use crate::blob_uses::BlobUses;
-use crate::group_indexes::indexes_of_uses;
 use crate::heap_uses::heap_uses;
 use crate::numbers::numbers_of;
 use crate::numbers_so_far::Indexes;
+use crate::use_indexes::indexes_of_uses;
 use heap_pools::{PoolError, TextPool};
 use heaps::{HeapPlan, SortedBlobs, SortedGuids};
 use metadata_source::ReadCells;
@@ -32,18 +33,17 @@ fn guid_plan(alloc: Global, guids: &[Option<[u8; 16]>]) -> Result<HeapPlan, Pool
 
 /// The blob heap of the canonical root, planned from all blobs, and the index of each use (II.24.2.4).
 fn blob_plan(alloc: Global, uses: &BlobUses<'_>) -> Result<(HeapPlan, Vec<u32>), PoolError>
-    requires { ¬ (¬ ((blobs : List (List ℕ)) × AreUsesOfAll uses.now blobs)) }
-    ensures heap { (blobs : List (List ℕ)) → AreUsesOfAll uses.now blobs → IfOk result (λ plan. plan.0.heap ≡ blob_heap (distinct blobs)) }
-    ensures indexes { (blobs : List (List ℕ)) → AreUsesOfAll uses.now blobs
+    requires { ¬ (¬ ((blobs : List (List ℕ)) × AreBlobUses IsUseOf uses.now blobs)) }
+    ensures heap { (blobs : List (List ℕ)) → AreBlobUses IsUseOf uses.now blobs → IfOk result (λ plan. plan.0.heap ≡ blob_heap (distinct blobs)) }
+    ensures indexes { (blobs : List (List ℕ)) → AreBlobUses IsUseOf uses.now blobs
         → IfOk result (λ plan. plan.1.items ≡ map (blob_index (distinct blobs)) blobs) }
-    ensures full { (blobs : List (List ℕ)) → AreUsesOfAll uses.now blobs → result ≡ Err PoolError.Full
+    ensures full { (blobs : List (List ℕ)) → AreBlobUses IsUseOf uses.now blobs → result ≡ Err PoolError.Full
         → 2 ^ 30 < length (blob_heap (distinct blobs)) }
 {
-    let groups = BlobGroups::of(alloc, &uses.kept)?;
-    let blobs = groups.slices(alloc)?;
+    let written = written_blobs(alloc, &uses.kept)?;
+    let blobs = slices_of(alloc, &written)?;
     let plan = SortedBlobs::sort(alloc, &blobs)?.lay_out(alloc)?;
-    let of_kept = indexes_of_uses(alloc, &groups.of_use, plan.indexes())?;
-    let indexes = indexes_of_uses(alloc, &uses.of_use, &of_kept)?;
+    let indexes = indexes_of_uses(alloc, &uses.of_use, plan.indexes())?;
     Ok((plan, indexes))
 }
 
@@ -64,7 +64,6 @@ pub fn pools_of<S: ReadCells>(alloc: Global, source: &S) -> Result<(TextPool, Nu
 {
     root_writer::laws::cells_can_be_numbered();
     source.holds_one();
-    source.shared_blobs_are_one();
     let uses = heap_uses(alloc, source)?;
     let (texts, text_indexes) = uses.texts.plan(alloc)?;
     let guids = guid_plan(alloc, &uses.guids)?;

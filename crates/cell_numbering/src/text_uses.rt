@@ -10,8 +10,8 @@ ghost use Rattle.metadata.specs.Valid.{kind_at};
 ghost use Rattle.root_writer.specs.Pools.{texts_of};
 ghost use Rattle.cell_numbering.specs.TextUses.{AreTextUses, used_texts};
 
-use crate::group_indexes::indexes_of_uses;
 use crate::start_groups::StartGroups;
+use crate::use_indexes::indexes_of_uses;
 use heap_pools::{PoolError, TextPool};
 use metadata_source::ReadCells;
 use reading::CellRef;

@@ -10,7 +10,7 @@ use Rattle.cell_numbering.proofs.UseLemmas.{next_part, all_parts, no_uses}
 use Rattle.cell_numbering.proofs.heap_uses.heap_uses.Goals as goal
 
 pub loop-table-init : goal.loop-table-init
-loop-table-init g c = λ model is. no_uses _ model _ (c.new.ensures model is) c.new-2.ensures.items c.in_ok-new.ensures.kept c.in_ok-new.ensures.of_use
+loop-table-init g c = λ model is. no_uses _ model _ (c.new.ensures model is) c.new-2.ensures.items c.new-3.ensures.kept c.new-3.ensures.of_use
 
 pub loop-table-preserved : goal.loop-table-preserved
 loop-table-preserved g c = λ model is.

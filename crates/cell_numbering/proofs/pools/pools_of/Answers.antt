@@ -12,7 +12,7 @@ use Rattle.root_writer.specs.Pools.{blobs_of, guids_of, texts_of, used}
 use Rattle.cell_numbering.specs.declared.numbers_so_far.Indexes.{Indexes}
 use Rattle.cell_numbering.specs.HeapUses.{AreIndexes, all_cells, guid_of}
 use Rattle.cell_numbering.specs.TextUses.{used_texts}
-use Rattle.cell_numbering.proofs.UseLemmas.{guids_are, used_is, uses_of_all}
+use Rattle.cell_numbering.proofs.UseLemmas.{guids_are, used_is, uses_of}
 use Rattle.cell_numbering.proofs.pools.pools_of.Goals as goal
 
 pub plan-requires : goal.plan-requires
@@ -43,14 +43,14 @@ blob_plan-requires g c = λ none. not_there c.holds_one.ensures.shown (λ some.
     let blobs = flat_map blobs_of (all_cells some.0) in
     none (
       blobs,
-      uses_of_all (g.S.ReadCells.heap_index c.args.source.now) some.0 (c.shared_blobs_are_one.ensures some.0 some.1) c.in_ok-uses.uses.blobs blobs (c.in_ok-uses.ensures some.0 some.1).blobs,
+      uses_of (g.S.ReadCells.heap_index c.args.source.now) some.0 c.in_ok-uses.uses.blobs blobs (c.in_ok-uses.ensures some.0 some.1).blobs,
     ))
 
 pub returns-in_err-blobs-clause-full : goal.returns-in_err-blobs-clause-full
 returns-in_err-blobs-clause-full g c = λ model is e.
     let full : c.blob_plan.result ≡ Err Full = search rules in
     let blobs = flat_map blobs_of (all_cells model) in
-    let uses = uses_of_all (g.S.ReadCells.heap_index c.args.source.now) model (c.shared_blobs_are_one.ensures model is) c.in_ok-uses.uses.blobs blobs (c.in_ok-uses.ensures model is).blobs in
+    let uses = uses_of (g.S.ReadCells.heap_index c.args.source.now) model c.in_ok-uses.uses.blobs blobs (c.in_ok-uses.ensures model is).blobs in
     inr (inl (subst (λ (l : List (List ℕ)). 2 ^ 30 < length (blob_heap (distinct l))) (sym (used_is blobs_of model)) (c.blob_plan.ensures.full blobs uses full)))
 
 pub returns-clause-pools : goal.returns-clause-pools
@@ -59,7 +59,7 @@ returns-clause-pools g c = λ model is.
     let guids = flat_map guid_of (all_cells model) in
     let blobs = flat_map blobs_of (all_cells model) in
     let in_uses = c.in_ok-uses.ensures model is in
-    let uses = uses_of_all (g.S.ReadCells.heap_index c.args.source.now) model (c.shared_blobs_are_one.ensures model is) c.in_ok-uses.uses.blobs blobs in_uses.blobs in
+    let uses = uses_of (g.S.ReadCells.heap_index c.args.source.now) model c.in_ok-uses.uses.blobs blobs in_uses.blobs in
     let texts_are : used_texts c.in_ok-uses.uses.texts ≡ texts = in_uses.texts.texts in
     let guids_given : flat_map given guids ≡ used guids_of model = guids_are (all_cells model) ∙ sym (used_is guids_of model) in
     let guids_is = c.deref.ensures.value ∙ in_uses.guids in
