@@ -3,6 +3,7 @@ ghost use Rattle.std.specs.Prelude.{◌≡◌, ◌==◌, ◌+◌, ◌++◌, if�
 ghost use Rattle.cli_outline.specs.Parts.{cut_text, text_limit};
 
 use cli_reports::push_escaped;
+use full_names::Limit;
 use std::alloc::AllocError;
 use std::fmt::{self, Write};
 
@@ -10,7 +11,7 @@ use std::fmt::{self, Write};
 const LIMIT: usize = 1 << 16;
 
 /// The lines that wait to be sent, as a writer of texts: it escapes what it takes. Of a text that [`begin_text`] begins it
-/// takes the first bytes, and passes over the others.
+/// takes the first bytes, and passes over the others. It refuses a text only if out of memory.
 #[derive(Drop)]
 pub struct Lines {
     /// Their bytes.
@@ -39,6 +40,15 @@ impl fmt::Write for Lines {
             Ok(()) => Ok(()),
             Err(_) => Err(fmt::Error),
         }
+    }
+}
+
+/// The limit of a text of the file.
+pub(crate) struct TextLimit;
+
+impl Limit<Lines> for TextLimit {
+    fn is_reached(&self, lines: &Lines) -> bool {
+        lines.left == 0
     }
 }
 

@@ -268,21 +268,18 @@ fn print_all<W: Write>(
 /// Prints the outline of a view: its declarations in the notation of ILAsm (II.5 to II.22), one per line. Each line ends
 /// with the token of its row in a comment, as eight hexadecimal digits. Texts of the file are escaped: printable ASCII
 /// except `"` and `\` is as it is, any other byte is `\x` and two hexadecimal digits. Of a name, a signature or another
-/// text that is longer than 65,536 bytes the first ones are printed, and `..`.
+/// text that is longer than 65,536 bytes the first ones are printed, and `..`. As JSON Lines a line is an object: `token`,
+/// of a member `type` (the token of its type), `directive` (the first word), and `text` (the declaration).
 ///
-/// As JSON Lines a line is an object: `token`, of a member `type` (the token of its type), `directive` (the first word),
-/// and `text` (the declaration, with the same escapes).
+/// First come the assembly, the references to others, the module, files, resources and exported types. Then come the types
+/// in the order of their rows, each with its fields, methods, events and properties below it. Below an event and a
+/// property come its accessors. Then come the rows of other tables, such as the interfaces of types. The events of a type
+/// are found by binary search over EventMap. If its rows are not in the order of types, all events come after the types
+/// instead. So it is with properties, and with accessors that are not in the order of their key.
 ///
-/// - First come the assembly, the references to others, the module, files, resources and exported types.
-/// - Then come the types in the order of their rows, each with its fields, methods, events and properties below it. Below
-///   an event and a property come its accessors.
-/// - Then come the rows of other tables, such as the interfaces of types.
-///
-/// The events of a type are found by binary search over EventMap. If its rows are not in the order of types, all events
-/// come after the types instead. So it is with properties, and with accessors that are not in the order of their key.
-///
-/// Its time is that of the lines, and at most log n for each name in them. A name has the types that enclose it, at most
-/// 64, each found by binary search. If NestedClass is not in the order of its key (II.22), names have none of them.
+/// Its time is that of the lines, of the blobs in them, and at most log n for each name of a type. A name has the types
+/// that enclose it, at most 64, each found by binary search. If NestedClass is not in the order of its key (II.22), names
+/// have none of them. Names in what is cut are not looked up.
 ///
 /// Its memory is that of the longest line, and of the lines that wait to be sent. If a list of members has a null start,
 /// its starts take four bytes for each owner.

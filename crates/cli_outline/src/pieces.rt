@@ -12,7 +12,7 @@ ghost use Rattle.cli_outline.specs.Texts.{Gains};
 
 use crate::cell_values::{bytes, number, reference, text};
 use crate::layouts::Piece;
-use crate::lines::{Lines, begin_text, end_text, push_plain, push_text};
+use crate::lines::{Lines, TextLimit, begin_text, end_text, push_plain, push_text};
 use crate::signature_sink::{push_declaration, push_signature};
 use cli_reports::{push_decimal, push_hexadecimal, push_token};
 use full_names::{FlagTable, FlagWord, words_of, write_row_name};
@@ -89,9 +89,8 @@ fn push_name(
         → OnOk result (Gains (IsNameText model token) lines.old.bytes.items lines.new.bytes.items) }
 {
     begin_text(lines);
-    match write_row_name(alloc, source, token, lines) {
+    match write_row_name(alloc, source, token, &TextLimit, lines) {
         Ok(()) => end_text(lines),
-        // The lines refuse a text only if out of memory.
         Err(_) => Err(AllocError),
     }
 }

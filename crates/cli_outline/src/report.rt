@@ -17,9 +17,7 @@ use std::io::Write;
 
 /// Prints the outline of a file, or of a metadata root if the bytes are `bare`, in a form, as [`print_outline`] does.
 /// Nothing is printed before all rules are checked.
-///
 /// # Errors
-///
 /// The fault of the first rule that fails; out of memory, or the output cannot be written.
 pub fn report_outline<W: Write>(
     alloc: Global,
@@ -41,9 +39,7 @@ pub fn report_outline<W: Write>(
 /// Prints the outline of one type of a file, or of a metadata root if the bytes are `bare`: the line of the type, and below
 /// it those of its fields, methods, events and properties, as [`print_outline`] does. Nothing is printed before all rules
 /// are checked.
-///
 /// # Errors
-///
 /// The fault of the first rule that fails; out of memory, or the output cannot be written.
 pub fn report_outline_of<W: Write>(
     alloc: Global,

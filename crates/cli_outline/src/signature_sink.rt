@@ -12,8 +12,8 @@ ghost use Rattle.opening.specs.Views.{row_count};
 ghost use Rattle.cli_outline.specs.Parts.{IsDeclarationAt, IsMethodText, IsSignatureOf, IsSignatureText};
 ghost use Rattle.cli_outline.specs.Texts.{Gains};
 
-use crate::lines::{Lines, begin_text, end_text};
-use full_names::{write_method, write_signature_text};
+use crate::lines::{Lines, TextLimit, begin_text, end_text};
+use full_names::{write_method_within, write_signature_text};
 use metadata_source::kind_of;
 use navigation::Neighbours;
 use opening::{CellRef, TableId, View};
@@ -32,9 +32,8 @@ fn push_blob(
         → OnOk result (Gains (IsSignatureText model signature) lines.old.bytes.items lines.new.bytes.items) }
 {
     begin_text(lines);
-    match write_signature_text(alloc, view, blob, kind, lines) {
+    match write_signature_text(alloc, view, blob, kind, &TextLimit, lines) {
         Ok(()) => end_text(lines),
-        // The lines refuse a text only if out of memory.
         Err(_) => Err(AllocError),
     }
 }
@@ -92,9 +91,8 @@ fn push_method(
     metadata::laws::models_are_read();
     metadata::laws::models_of_roots_are_valid();
     begin_text(lines);
-    match write_method(alloc, source, row, lines) {
+    match write_method_within(alloc, source, row, &TextLimit, lines) {
         Ok(()) => end_text(lines),
-        // The lines refuse a text only if out of memory.
         Err(_) => Err(AllocError),
     }
 }

@@ -2,3 +2,4 @@ mod ParamLemmas
 mod RowNameLemmas
 mod PieceLemmas
 mod TextLemmas
+mod NameExists

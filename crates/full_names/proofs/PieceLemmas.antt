@@ -22,7 +22,7 @@ use Rattle.full_names.specs.Names.{Wrote}
 use Rattle.full_names.specs.SignatureBytes.{bytes_in}
 use Rattle.full_names.specs.Texts.{ArePiecesText, IsFullName, IsTypeSpecText}
 use Rattle.full_names.specs.declared.text_error.TextError.{TextError}
-use Rattle.full_names.proofs.TextLemmas.{writes_append, writes_nothing}
+use Rattle.full_names.proofs.TextLemmas.{writes_append, writes_nothing, writes_once}
 
 -- a sink that keeps a fact, and writes the text of each piece, writes the texts of all pieces that it takes
 module _ {K W : Type 0} (gives : K → Piece → Bool → K → Type 0) (took : W → List ℕ → W → Type 0) (writer : K → W) (keeps : K → Type 0) (is_text : Piece → List ℕ → Type 0)
@@ -39,6 +39,10 @@ module _ {K W : Type 0} (gives : K → Piece → Bool → K → Type 0) (took : 
 signature_in : Body → Cell → Body
 signature_in other (Sig signature) = signature
 signature_in other cell = other
+
+pub same_signature : (signature other : Body) → Sig signature ≡ Sig other → signature ≡ other
+unfolding signature_in
+same_signature signature other is = ap (signature_in signature) is
 
 -- the bytes of a cell's signature encode it
 pub encoded_in : (kind : SigKind) (bytes : SignatureBytes) (cell : Cell) (signature : Body) → ((other : Body) → Holds kind other → IsEncodable other → Encodes kind other (short other))
@@ -116,3 +120,7 @@ on_some P Q (Some x) is f = f x is
 pub on_none : {X P Q : Type 0} (o : Option X) → IfNone o P → (P → Q) → IfNone o Q
 on_none None is f = f is
 on_none (Some x) is f = tt
+
+-- a writer that passes over each text wrote any text that there is
+pub passed_over : {W : Type 0} (took : W → List ℕ → W → Type 0) (w : W) (P : List ℕ → Type 0) → ((text : List ℕ) → took w text w) → (text : List ℕ) × P text → Wrote took w P w
+passed_over took w P same some = (some.0, some.1, writes_once took w some.0 w (same some.0))

@@ -1,5 +1,5 @@
 -- The text of a chain of types, from the texts that were written one after another.
-use Rattle.std.proofs.Common.{◌≡◌, length, ℕ, zero, suc, ◌-◌, List, [], ◌∷◌, ◌++◌, inl, inr, OnOk, Ok, Err, Result, refl, sym, ◌∙◌, ap, subst, arith}
+use Rattle.std.proofs.Common.{◌≡◌, length, ℕ, zero, suc, ◌-◌, List, [], ◌∷◌, ◌++◌, append-nil, inl, inr, OnOk, Ok, Err, Result, refl, sym, ◌∙◌, ap, subst, arith}
 use Rattle.std.proofs.lemmas.List.Folds.{concat-append}
 use Rattle.std.specs.List.{FoldsTo, concat}
 use Rattle.std.specs.Prelude.{codes}
@@ -15,6 +15,9 @@ module _ {W : Type 0} (took : W → List ℕ → W → Type 0) where
 
   pub writes_nothing : (w : W) → WritesInCalls took w [] w
   writes_nothing w = record { parts = []; calls = refl; whole = refl }
+
+  pub writes_once : (w : W) (text : List ℕ) (v : W) → took w text v → WritesInCalls took w text v
+  writes_once w text v call = record { parts = text ∷ []; calls = (v, call, refl); whole = append-nil text }
 
   pub writes_append : (w : W) (a : List ℕ) (v : W) (b : List ℕ) (u : W) → WritesInCalls took w a v → WritesInCalls took v b u → WritesInCalls took w (a ++ b) u
   writes_append w a v b u p q = record {

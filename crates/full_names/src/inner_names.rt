@@ -7,6 +7,7 @@ ghost use Rattle.metadata.specs.Metadata.{Metadata};
 ghost use Rattle.full_names.specs.Names.{Wrote};
 ghost use Rattle.full_names.specs.Texts.{IsInnerName, IsTypeSpecText};
 
+use crate::limit::Limit;
 use crate::names::{DEPTH, write_type_def, write_type_ref};
 use crate::parts::{write_left_out, write_number, write_signed, write_text};
 use navigation::ReadCells;
@@ -37,11 +38,13 @@ fn write_inner_name<S: ReadCells, W: fmt::Write>(
 
 /// A sink for the text of a TypeSpec.
 #[derive(Drop)]
-pub struct TypeSpecText<'s, 'w, S, W> {
+pub struct TypeSpecText<'s, 'w, S, W, L> {
     /// The metadata of the types.
     pub source: &'s S,
     /// The target of the text.
     pub writer: &'w mut W,
+    /// Up to where the text is needed.
+    pub limit: &'s L,
     /// Whether the writer refused a part.
     pub refused: bool,
 }
@@ -58,7 +61,7 @@ fn answer(refused: &mut bool, written: fmt::Result) -> Option<()>
     Some(())
 }
 
-impl<S: ReadCells, W: fmt::Write> TextSink for TypeSpecText<'_, '_, S, W> {
+impl<S: ReadCells, W: fmt::Write, L: Limit<W>> TextSink for TypeSpecText<'_, '_, S, W, L> {
     ghost use Rattle.std.specs.Prelude.{◌≡◌, true};
     ghost use Rattle.metadata.specs.Metadata.{Metadata};
     ghost use Rattle.full_names.specs.Names.{Wrote};
@@ -86,14 +89,18 @@ impl<S: ReadCells, W: fmt::Write> TextSink for TypeSpecText<'_, '_, S, W> {
     }
 
     fn name(&mut self, token: Token) -> Option<()> {
+        self.source.holds_one();
+        if self.limit.is_reached(self.writer) {
+            return Some(());
+        }
         let written = write_inner_name(self.source, token, self.writer);
         answer(&mut self.refused, written)
     }
 }
 
 /// Puts the text of a TypeSpec into its sink, from the bytes of its signature.
-pub fn put_type_spec<S: ReadCells, W: fmt::Write>(
-    sink: &mut TypeSpecText<'_, '_, S, W>,
+pub fn put_type_spec<S: ReadCells, W: fmt::Write, L: Limit<W>>(
+    sink: &mut TypeSpecText<'_, '_, S, W, L>,
     bytes: &[u8],
 ) -> Option<()>
     ensures { (model : Metadata) → S.shows sink.old.source.now model → (signature : Body) → Encodes kind.TypeSpec signature bytes.now

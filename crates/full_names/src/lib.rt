@@ -14,6 +14,7 @@
 
 mod flag_words;
 mod inner_names;
+mod limit;
 mod method_text;
 mod methods;
 mod names;
@@ -26,11 +27,12 @@ mod specs_named;
 mod text_error;
 
 pub use flag_words::{FlagTable, FlagWord, words_of};
-pub use methods::write_method;
+pub use limit::{Limit, NoLimit};
+pub use methods::{write_method, write_method_within};
 pub use names::{DEPTH, write_type_def, write_type_ref};
 pub use navigation::{ReadCells, ReadMetadata};
 pub use row_names::{type_of_member, write_row_name};
 pub use signature_text::write_signature_text;
-pub use specs_named::{FullNames, write_full_name};
+pub use specs_named::{FullNames, write_full_name, write_full_name_within};
 pub use table_schema::{TableId, Token};
 pub use text_error::TextError;

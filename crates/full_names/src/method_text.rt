@@ -8,9 +8,10 @@ ghost use Rattle.metadata.specs.Metadata.{Metadata};
 ghost use Rattle.full_names.specs.Names.{Wrote};
 ghost use Rattle.full_names.specs.Texts.{ArePiecesText, IsDeclaredPiece, IsMethodName};
 
+use crate::limit::Limit;
 use crate::params::{begin, param_at};
 use crate::parts::{write_number, write_signed, write_spaced, write_text};
-use crate::specs_named::write_full_name;
+use crate::specs_named::write_full_name_within;
 use crate::text_error::TextError;
 use navigation::ReadCells;
 use sig_text::{MethodSink, TextSink, write_method};
@@ -33,10 +34,11 @@ pub struct Declared<'s> {
 
 /// A sink for the declaration of a method.
 #[derive(Drop)]
-pub struct MethodText<'s, 'w, S, W> {
+pub struct MethodText<'s, 'w, S, W, L> {
     alloc: Global,
     source: &'s S,
     writer: &'w mut W,
+    limit: &'s L,
     of: Declared<'s>,
     // Each row of its parameters before `next` has a position before `last`, the one that was asked for last.
     next: u32,
@@ -45,14 +47,15 @@ pub struct MethodText<'s, 'w, S, W> {
     pub error: Option<TextError>,
 }
 
-impl<'s, 'w, S: ReadCells, W: fmt::Write> MethodText<'s, 'w, S, W> {
+impl<'s, 'w, S: ReadCells, W: fmt::Write, L: Limit<W>> MethodText<'s, 'w, S, W, L> {
     /// A sink that has not yet received a piece.
     pub fn new(
         alloc: Global,
         source: &'s S,
         of: Declared<'s>,
+        limit: &'s L,
         writer: &'w mut W,
-    ) -> MethodText<'s, 'w, S, W>
+    ) -> MethodText<'s, 'w, S, W, L>
         ensures source { result.source.now ≡ source.now }
         ensures same { result.writer.ghost_name ≡ writer.entry.ghost_name }
         ensures writer { result.writer.now ≡ writer.old }
@@ -64,6 +67,7 @@ impl<'s, 'w, S: ReadCells, W: fmt::Write> MethodText<'s, 'w, S, W> {
             alloc,
             source,
             writer,
+            limit,
             of,
             next: of.first,
             last: 0,
@@ -98,22 +102,23 @@ pub fn keep_refusal(error: &mut Option<TextError>, written: fmt::Result) -> Opti
 }
 
 /// Writes the name of a method after that of its type.
-pub fn write_method_name<S: ReadCells, W: fmt::Write>(
+pub fn write_method_name<S: ReadCells, W: fmt::Write, L: Limit<W>>(
     alloc: Global,
     source: &S,
     class: Token,
     name: &str,
+    limit: &L,
     out: &mut W,
 ) -> Result<(), TextError>
     ensures { (model : Metadata) → S.shows source.now model
         → OnOk result (Wrote W.write_str_gives out.old (IsMethodName model class name.now) out.new) }
 {
-    write_full_name(alloc, source, class, out)?;
+    write_full_name_within(alloc, source, class, limit, out)?;
     write_text(out, "::")?;
     Ok(write_text(out, name)?)
 }
 
-impl<S: ReadCells, W: fmt::Write> TextSink for MethodText<'_, '_, S, W> {
+impl<S: ReadCells, W: fmt::Write, L: Limit<W>> TextSink for MethodText<'_, '_, S, W, L> {
     ghost use Rattle.std.specs.Prelude.{◌≡◌, true, is_some};
     ghost use Rattle.metadata.specs.Metadata.{Metadata};
     ghost use Rattle.full_names.specs.Names.{Wrote};
@@ -142,15 +147,32 @@ impl<S: ReadCells, W: fmt::Write> TextSink for MethodText<'_, '_, S, W> {
     }
 
     fn name(&mut self, token: Token) -> Option<()> {
-        let written = write_full_name(self.alloc, self.source, token, self.writer);
+        self.source.holds_one();
+        if self.limit.is_reached(self.writer) {
+            return Some(());
+        }
+        let written = write_full_name_within(
+            self.alloc,
+            self.source,
+            token,
+            self.limit,
+            self.writer,
+        );
         keep(&mut self.error, written)
     }
 }
 
-impl<S: ReadCells, W: fmt::Write> MethodSink for MethodText<'_, '_, S, W> {
+impl<S: ReadCells, W: fmt::Write, L: Limit<W>> MethodSink for MethodText<'_, '_, S, W, L> {
     fn method_name(&mut self) -> Option<()> {
         let of = self.of;
-        let written = write_method_name(self.alloc, self.source, of.class, of.name, self.writer);
+        let written = write_method_name(
+            self.alloc,
+            self.source,
+            of.class,
+            of.name,
+            self.limit,
+            self.writer,
+        );
         keep(&mut self.error, written)
     }
 
@@ -165,8 +187,8 @@ impl<S: ReadCells, W: fmt::Write> MethodSink for MethodText<'_, '_, S, W> {
 }
 
 /// Puts the declaration of a method into its sink, from the bytes of its signature.
-pub fn put_declaration<S: ReadCells, W: fmt::Write>(
-    sink: &mut MethodText<'_, '_, S, W>,
+pub fn put_declaration<S: ReadCells, W: fmt::Write, L: Limit<W>>(
+    sink: &mut MethodText<'_, '_, S, W, L>,
     bytes: &[u8],
 ) -> Option<()>
     ensures { (model : Metadata) → S.shows sink.old.source.now model → (method : Method) → Encodes MethodDef (method_body method) bytes.now

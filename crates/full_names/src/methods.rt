@@ -6,6 +6,7 @@ ghost use Rattle.metadata.specs.Metadata.{Metadata, cell_in};
 ghost use Rattle.full_names.specs.Names.{Wrote};
 ghost use Rattle.full_names.specs.Texts.{IsDeclaration};
 
+use crate::limit::{Limit, NoLimit};
 use crate::method_text::{Declared, MethodText, put_declaration};
 use crate::signature_bytes::bytes_of;
 use crate::text_error::TextError;
@@ -32,11 +33,31 @@ const METHOD_SIGNATURE: usize = 4;
 /// # Errors
 ///
 /// `Writer` if the writer refused a part of the text. `Memory` if out of memory.
-#[tactic(auto, unfolding(table_schema::specs::CellColumns::cell_columns))]
 pub fn write_method<S: ReadCells, W: fmt::Write>(
     alloc: Global,
     source: &S,
     row: u32,
+    out: &mut W,
+) -> Result<(), TextError>
+    requires first { 1 ≤ row }
+    requires last { row ≤ S.row_count source.now MethodDef }
+    ensures text { (model : Metadata) → S.shows source.now model → (method : Method) → cell_in model MethodDef row 4 ≡ Sig (method_body method)
+        → OnOk result (Wrote W.write_str_gives out.old (IsDeclaration model row method) out.new) }
+{
+    write_method_within(alloc, source, row, &NoLimit, out)
+}
+
+/// Writes a method as [`write_method`] does, up to a limit: when it is reached, the names of types are passed over.
+///
+/// # Errors
+///
+/// `Writer` if the writer refused a part of the text. `Memory` if out of memory.
+#[tactic(auto, unfolding(table_schema::specs::CellColumns::cell_columns))]
+pub fn write_method_within<S: ReadCells, W: fmt::Write, L: Limit<W>>(
+    alloc: Global,
+    source: &S,
+    row: u32,
+    limit: &L,
     out: &mut W,
 ) -> Result<(), TextError>
     requires first { 1 ≤ row }
@@ -58,7 +79,7 @@ pub fn write_method<S: ReadCells, W: fmt::Write>(
         first: params.start,
         past: params.end,
     };
-    let mut sink = MethodText::new(alloc, source, of, out);
+    let mut sink = MethodText::new(alloc, source, of, limit, out);
     match put_declaration(&mut sink, bytes_of(&bytes)) {
         Some(()) => Ok(()),
         None => Err(sink.error.unwrap_or(TextError::Writer)),

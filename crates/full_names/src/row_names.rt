@@ -5,9 +5,10 @@ ghost use Rattle.navigation.specs.Nesting.{type_token};
 ghost use Rattle.full_names.specs.Names.{Wrote};
 ghost use Rattle.full_names.specs.RowNames.{IsMemberOf, IsNameIn, IsParent, IsPlainName, IsRowName, IsTypeOfEvent, IsTypeOfField, IsTypeOfMethod, IsTypeOfProperty};
 
+use crate::limit::Limit;
 use crate::method_text::write_method_name;
 use crate::parts::{write_left_out, write_text};
-use crate::specs_named::write_full_name;
+use crate::specs_named::write_full_name_within;
 use crate::text_error::TextError;
 use navigation::{
     ReadCells, cells, type_of_event, type_of_field, type_of_method, type_of_property,
@@ -69,10 +70,11 @@ fn parent<S: ReadCells>(source: &S, row: u32) -> Token
 
 /// Writes the name of a field after that of its type.
 #[tactic(auto, unfolding(table_schema::specs::CellColumns::cell_columns))]
-fn write_field<S: ReadCells, W: fmt::Write>(
+fn write_field<S: ReadCells, W: fmt::Write, L: Limit<W>>(
     alloc: Global,
     source: &S,
     row: u32,
+    limit: &L,
     out: &mut W,
 ) -> Result<(), TextError>
     requires first { 1 ≤ row }
@@ -81,15 +83,16 @@ fn write_field<S: ReadCells, W: fmt::Write>(
 {
     let class = type_token(type_of_field(source, row));
     let name = cells::text(source, TableId::Field, row, FIELD_NAME);
-    write_method_name(alloc, source, class, name, out)
+    write_method_name(alloc, source, class, name, limit, out)
 }
 
 /// Writes the name of a method after that of its type.
 #[tactic(auto, unfolding(table_schema::specs::CellColumns::cell_columns))]
-fn write_method_row<S: ReadCells, W: fmt::Write>(
+fn write_method_row<S: ReadCells, W: fmt::Write, L: Limit<W>>(
     alloc: Global,
     source: &S,
     row: u32,
+    limit: &L,
     out: &mut W,
 ) -> Result<(), TextError>
     requires first { 1 ≤ row }
@@ -98,15 +101,16 @@ fn write_method_row<S: ReadCells, W: fmt::Write>(
 {
     let class = type_token(type_of_method(source, row));
     let name = cells::text(source, TableId::MethodDef, row, METHOD_NAME);
-    write_method_name(alloc, source, class, name, out)
+    write_method_name(alloc, source, class, name, limit, out)
 }
 
 /// Writes the name of an event after that of its type.
 #[tactic(auto, unfolding(table_schema::specs::CellColumns::cell_columns))]
-fn write_event<S: ReadCells, W: fmt::Write>(
+fn write_event<S: ReadCells, W: fmt::Write, L: Limit<W>>(
     alloc: Global,
     source: &S,
     row: u32,
+    limit: &L,
     out: &mut W,
 ) -> Result<(), TextError>
     requires first { 1 ≤ row }
@@ -115,15 +119,16 @@ fn write_event<S: ReadCells, W: fmt::Write>(
 {
     let class = type_token(type_of_event(source, row));
     let name = cells::text(source, TableId::Event, row, MEMBER_NAME);
-    write_method_name(alloc, source, class, name, out)
+    write_method_name(alloc, source, class, name, limit, out)
 }
 
 /// Writes the name of a property after that of its type.
 #[tactic(auto, unfolding(table_schema::specs::CellColumns::cell_columns))]
-fn write_property<S: ReadCells, W: fmt::Write>(
+fn write_property<S: ReadCells, W: fmt::Write, L: Limit<W>>(
     alloc: Global,
     source: &S,
     row: u32,
+    limit: &L,
     out: &mut W,
 ) -> Result<(), TextError>
     requires first { 1 ≤ row }
@@ -132,15 +137,16 @@ fn write_property<S: ReadCells, W: fmt::Write>(
 {
     let class = type_token(type_of_property(source, row));
     let name = cells::text(source, TableId::Property, row, MEMBER_NAME);
-    write_method_name(alloc, source, class, name, out)
+    write_method_name(alloc, source, class, name, limit, out)
 }
 
 /// Writes the name of a MemberRef after that of its parent.
 #[tactic(auto, unfolding(table_schema::specs::CellColumns::cell_columns))]
-fn write_member_ref<S: ReadCells, W: fmt::Write>(
+fn write_member_ref<S: ReadCells, W: fmt::Write, L: Limit<W>>(
     alloc: Global,
     source: &S,
     row: u32,
+    limit: &L,
     out: &mut W,
 ) -> Result<(), TextError>
     requires first { 1 ≤ row }
@@ -149,7 +155,7 @@ fn write_member_ref<S: ReadCells, W: fmt::Write>(
 {
     let class = parent(source, row);
     let name = cells::text(source, TableId::MemberRef, row, MEMBER_NAME);
-    write_method_name(alloc, source, class, name, out)
+    write_method_name(alloc, source, class, name, limit, out)
 }
 
 /// Writes the name of a row of ModuleRef, AssemblyRef, File, ExportedType or GenericParam, and `..` for any other.
@@ -193,21 +199,23 @@ fn write_plain<S: ReadCells, W: fmt::Write>(source: &S, token: Token, out: &mut 
 ///
 /// | row | name |
 /// |---|---|
-/// | a type | as [`write_full_name`] writes it |
+/// | a type | as [`write_full_name`](crate::write_full_name) writes it |
 /// | a field, a method, an event or a property | that of its type, two colons, and its own |
 /// | a MemberRef | that of its parent if it is a type, else `..`; two colons, and its own |
 /// | a module, an assembly or a file that is referred to; an exported type; a generic parameter | its own |
 /// | any other row, and one that does not exist | `..` |
 ///
-/// Names are written unchanged: they may have control characters. The type of a member is found by binary search.
+/// Names are written unchanged: they may have control characters. The type of a member is found by binary search. When the
+/// limit is reached, the names in a TypeSpec are passed over.
 ///
 /// # Errors
 ///
 /// `Writer` if the writer refused a part of the name. `Memory` if out of memory.
-pub fn write_row_name<S: ReadCells, W: fmt::Write>(
+pub fn write_row_name<S: ReadCells, W: fmt::Write, L: Limit<W>>(
     alloc: Global,
     source: &S,
     token: Token,
+    limit: &L,
     out: &mut W,
 ) -> Result<(), TextError>
     ensures { (model : Metadata) → S.shows source.now model → OnOk result (Wrote W.write_str_gives out.old (IsRowName model token) out.new) }
@@ -218,13 +226,13 @@ pub fn write_row_name<S: ReadCells, W: fmt::Write>(
     }
     match token.table {
         TableId::TypeDef | TableId::TypeRef | TableId::TypeSpec => {
-            write_full_name(alloc, source, token, out)
+            write_full_name_within(alloc, source, token, limit, out)
         }
-        TableId::Field => write_field(alloc, source, token.row, out),
-        TableId::MethodDef => write_method_row(alloc, source, token.row, out),
-        TableId::Event => write_event(alloc, source, token.row, out),
-        TableId::Property => write_property(alloc, source, token.row, out),
-        TableId::MemberRef => write_member_ref(alloc, source, token.row, out),
+        TableId::Field => write_field(alloc, source, token.row, limit, out),
+        TableId::MethodDef => write_method_row(alloc, source, token.row, limit, out),
+        TableId::Event => write_event(alloc, source, token.row, limit, out),
+        TableId::Property => write_property(alloc, source, token.row, limit, out),
+        TableId::MemberRef => write_member_ref(alloc, source, token.row, limit, out),
         _ => Ok(write_plain(source, token, out)?),
     }
 }

@@ -6,9 +6,10 @@ ghost use Rattle.metadata.specs.Metadata.{Metadata};
 ghost use Rattle.full_names.specs.Names.{Wrote};
 ghost use Rattle.full_names.specs.Texts.{ArePiecesText, IsFullName, IsPieceText};
 
+use crate::limit::Limit;
 use crate::method_text::{keep, keep_refusal};
 use crate::parts::{write_number, write_signed, write_text};
-use crate::specs_named::write_full_name;
+use crate::specs_named::write_full_name_within;
 use crate::text_error::TextError;
 use navigation::ReadCells;
 use sig_text::{TextSink, write_signature};
@@ -18,18 +19,20 @@ use table_schema::{SigKind, Token};
 
 /// A sink for the text of a signature.
 #[derive(Drop)]
-pub struct SignatureText<'s, 'w, S, W> {
+pub struct SignatureText<'s, 'w, S, W, L> {
     /// For the bytes of TypeSpecs that are held as values.
     pub alloc: Global,
     /// The metadata of the types.
     pub source: &'s S,
     /// The target of the text.
     pub writer: &'w mut W,
+    /// Up to where the text is needed.
+    pub limit: &'s L,
     /// Why a part was refused, if one was.
     pub error: Option<TextError>,
 }
 
-impl<S: ReadCells, W: fmt::Write> TextSink for SignatureText<'_, '_, S, W> {
+impl<S: ReadCells, W: fmt::Write, L: Limit<W>> TextSink for SignatureText<'_, '_, S, W, L> {
     ghost use Rattle.std.specs.Prelude.{◌≡◌, true, is_some};
     ghost use Rattle.metadata.specs.Metadata.{Metadata};
     ghost use Rattle.full_names.specs.Names.{Wrote};
@@ -57,14 +60,24 @@ impl<S: ReadCells, W: fmt::Write> TextSink for SignatureText<'_, '_, S, W> {
     }
 
     fn name(&mut self, token: Token) -> Option<()> {
-        let written = write_full_name(self.alloc, self.source, token, self.writer);
+        self.source.holds_one();
+        if self.limit.is_reached(self.writer) {
+            return Some(());
+        }
+        let written = write_full_name_within(
+            self.alloc,
+            self.source,
+            token,
+            self.limit,
+            self.writer,
+        );
         keep(&mut self.error, written)
     }
 }
 
 /// Puts the text of a signature into its sink, from its bytes in a column of a kind.
-fn put_signature<S: ReadCells, W: fmt::Write>(
-    sink: &mut SignatureText<'_, '_, S, W>,
+fn put_signature<S: ReadCells, W: fmt::Write, L: Limit<W>>(
+    sink: &mut SignatureText<'_, '_, S, W, L>,
     bytes: &[u8],
     kind: SigKind,
 ) -> Option<()>
@@ -76,16 +89,17 @@ fn put_signature<S: ReadCells, W: fmt::Write>(
 }
 
 /// Writes a signature in the notation of ILAsm (II.7.1, II.15.3), from its bytes in a column of a kind, with the names of
-/// types as [`write_full_name`] writes them.
+/// types as [`write_full_name`](crate::write_full_name) writes them. When the limit is reached, it passes over the names.
 ///
 /// # Errors
 ///
 /// `Writer` if the writer refused a part of the text. `Memory` if out of memory.
-pub fn write_signature_text<S: ReadCells, W: fmt::Write>(
+pub fn write_signature_text<S: ReadCells, W: fmt::Write, L: Limit<W>>(
     alloc: Global,
     source: &S,
     bytes: &[u8],
     kind: SigKind,
+    limit: &L,
     out: &mut W,
 ) -> Result<(), TextError>
     ensures { (model : Metadata) → S.shows source.now model → (signature : Body) → Encodes kind signature bytes.now
@@ -95,6 +109,7 @@ pub fn write_signature_text<S: ReadCells, W: fmt::Write>(
         alloc,
         source,
         writer: out,
+        limit,
         error: None,
     };
     match put_signature(&mut sink, bytes, kind) {

@@ -7,6 +7,7 @@ ghost use Rattle.full_names.specs.Names.{IsTypeDefText, IsTypeRefText, Wrote};
 ghost use Rattle.full_names.specs.Texts.{IsFullName, IsTypeSpecText};
 
 use crate::inner_names::{TypeSpecText, put_type_spec};
+use crate::limit::{Limit, NoLimit};
 use crate::names::{DEPTH, write_type_def, write_type_ref};
 use crate::parts::write_left_out;
 use crate::signature_bytes::bytes_of;
@@ -70,6 +71,28 @@ pub fn write_full_name<S: ReadCells, W: fmt::Write>(
     // The text of each token, also of a TypeSpec.
     ensures name { (model : Metadata) → S.shows source.now model → OnOk result (Wrote W.write_str_gives out.old (IsFullName model token) out.new) }
 {
+    write_full_name_within(alloc, source, token, &NoLimit, out)
+}
+
+/// Writes the name of a type as [`write_full_name`] does, up to a limit: when it is reached, the names in a TypeSpec are
+/// passed over.
+///
+/// # Errors
+///
+/// `Writer` if the writer refused a part of the name. `Memory` if out of memory.
+pub fn write_full_name_within<S: ReadCells, W: fmt::Write, L: Limit<W>>(
+    alloc: Global,
+    source: &S,
+    token: Token,
+    limit: &L,
+    out: &mut W,
+) -> Result<(), TextError>
+    ensures type_def { (model : Metadata) → S.shows source.now model → token.table ≡ TypeDef → 1 ≤ token.row → token.row ≤ S.row_count source.now TypeDef
+        → OnOk result (Wrote W.write_str_gives out.old (IsTypeDefText model 64 token.row) out.new) }
+    ensures type_ref { (model : Metadata) → S.shows source.now model → token.table ≡ TypeRef → 1 ≤ token.row → token.row ≤ S.row_count source.now TypeRef
+        → OnOk result (Wrote W.write_str_gives out.old (IsTypeRefText model 64 token.row) out.new) }
+    ensures name { (model : Metadata) → S.shows source.now model → OnOk result (Wrote W.write_str_gives out.old (IsFullName model token) out.new) }
+{
     source.holds_one();
     if token.row == 0 || token.row > source.count(token.table) {
         return Ok(write_left_out(out)?);
@@ -77,17 +100,18 @@ pub fn write_full_name<S: ReadCells, W: fmt::Write>(
     match token.table {
         TableId::TypeDef => Ok(write_type_def(source, token.row, out, DEPTH)?),
         TableId::TypeRef => Ok(write_type_ref(source, token.row, out, DEPTH)?),
-        TableId::TypeSpec => write_type_spec(alloc, source, token.row, out),
+        TableId::TypeSpec => write_type_spec(alloc, source, token.row, limit, out),
         _ => Ok(write_left_out(out)?),
     }
 }
 
 /// Writes the type that a TypeSpec is (II.22.39).
 #[tactic(auto, unfolding(table_schema::specs::CellColumns::cell_columns))]
-fn write_type_spec<S: ReadCells, W: fmt::Write>(
+fn write_type_spec<S: ReadCells, W: fmt::Write, L: Limit<W>>(
     alloc: Global,
     source: &S,
     row: u32,
+    limit: &L,
     out: &mut W,
 ) -> Result<(), TextError>
     requires first { 1 ≤ row }
@@ -102,6 +126,7 @@ fn write_type_spec<S: ReadCells, W: fmt::Write>(
     let mut sink = TypeSpecText {
         source,
         writer: out,
+        limit,
         refused: false,
     };
     let written = put_type_spec(&mut sink, bytes_of(&bytes));

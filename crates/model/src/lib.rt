@@ -109,7 +109,8 @@ pub use navigation::{
 
 // Names of types and signatures of methods as text.
 pub use full_names::{
-    DEPTH, FullNames, TextError, write_full_name, write_method, write_type_def, write_type_ref,
+    DEPTH, FullNames, Limit, NoLimit, TextError, write_full_name, write_full_name_within,
+    write_method, write_method_within, write_type_def, write_type_ref,
 };
 
 // Whether two views have the same model, what differs, and the digest of a canonical root.

@@ -25,7 +25,7 @@ returns-in-Ok c = λ model is.
     let bytes : Lines → List ℕ = λ w. w.bytes.items in
     let left : Lines → ℕ = λ w. w.left in
     let begun = c.begin_text.new.lines in
-    let out = c.write_method.new.out in
+    let out = c.write_method_within.new.out in
     on_ok c.end_text.result c.end_text.ensures
     (λ e. (
       cut_text wrote.0,

@@ -6,7 +6,7 @@ use Rattle.table_schema.specs.CellColumns.{cell_columns}
 use Rattle.metadata.specs.Lookups.{HasRow}
 use Rattle.metadata.specs.Metadata.{cell_in}
 use Rattle.full_names.proofs.PieceLemmas.{signature_of, spec_name}
-use Rattle.full_names.proofs.specs_named.write_full_name.Goals as goal
+use Rattle.full_names.proofs.specs_named.write_full_name_within.Goals as goal
 
 pub returns-in-TypeSpec-clause-name : goal.returns-in-TypeSpec-clause-name
 unfolding cell_columns

@@ -15,7 +15,7 @@ use Rattle.full_names.specs.declared.method_text.Declared.{Declared}
 use Rattle.full_names.specs.Names.{Wrote}
 use Rattle.full_names.specs.Texts.{ArePiecesText, IsDeclaredPiece}
 use Rattle.full_names.proofs.PieceLemmas.{encoded_in, held_in}
-use Rattle.full_names.proofs.methods.write_method.Goals as goal
+use Rattle.full_names.proofs.methods.write_method_within.Goals as goal
 
 pub returns-in-Some : goal.returns-in-Some
 unfolding cell_columns

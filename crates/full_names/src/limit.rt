@@ -1,0 +1,23 @@
+use std::fmt;
+
+/// Says when a writer needs no more of a text. Then the names of types in the text are passed over, and not looked up.
+///
+/// A signature of some kilobytes may name a long type many thousand times. So its text may be thousands of times longer
+/// than the file.
+pub trait Limit<W: fmt::Write> {
+    ghost use Rattle.std.specs.Prelude.{ℕ, List, IsTrue};
+
+    /// Whether the writer has all that it needs: whatever it is given does not change it.
+    fn is_reached(&self, writer: &W) -> bool
+        ensures { IsTrue result → (text : List ℕ) → W.write_str_gives writer.now text writer.now };
+}
+
+/// The limit of a writer that needs the whole text.
+#[derive(Clone, Copy)]
+pub struct NoLimit;
+
+impl<W: fmt::Write> Limit<W> for NoLimit {
+    fn is_reached(&self, _writer: &W) -> bool {
+        false
+    }
+}
