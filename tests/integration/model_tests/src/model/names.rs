@@ -1,10 +1,12 @@
 use model::{
-    ReadCells, TableId, Token, open_root, write_full_name, write_method, write_type_def,
+    Limit, ReadCells, TableId, Token, open_root, write_full_name, write_full_name_within,
+    write_method, write_type_def,
 };
 use sample_roots::{
     NAMES_APART, NAMES_SHARED, NO_ROWS, ONE_MODULE, RootBuilder, THREE_TYPES, TWO_TYPES,
 };
 use std::alloc::Global;
+use std::fmt;
 use std::process::Abort;
 use std::test::Fail;
 
@@ -130,6 +132,58 @@ fn methods_have_the_names_of_their_parameters(rt: HostRuntime) -> Result<(), Fai
         assert_eq!(rt; text.as_str(), expected, "of {row}");
         let owned = declared(rt.alloc(), &model, row).expect(&rt, "a text");
         assert_eq!(rt; owned.as_str(), expected, "of {row} of a model");
+    }
+    Ok(())
+}
+
+/// A writer that needs some bytes, and keeps all that it is given.
+#[derive(Drop)]
+struct Given {
+    text: String,
+    needed: usize,
+}
+
+impl fmt::Write for Given {
+    fn write_str(&mut self, text: &str) -> fmt::Result {
+        match self.text.push_str(text) {
+            Ok(()) => Ok(()),
+            Err(_) => Err(fmt::Error),
+        }
+    }
+}
+
+/// The limit of a writer that needs some bytes.
+struct Needed;
+
+impl Limit<Given> for Needed {
+    fn is_reached(&self, writer: &Given) -> bool {
+        writer.text.len() >= writer.needed
+    }
+}
+
+#[test]
+fn names_after_the_limit_are_passed_over(rt: HostRuntime) -> Result<(), Fail> {
+    let mut root = nested_types(rt.alloc())?;
+    root.row(0x1B, b"\x01\0")?;
+    root.heap("#Strings", STRINGS)?;
+    root.heap("#Blob", b"\0\x08\x15\x12\x04\x02\x12\x04\x12\x04")?;
+    let root = root.finish()?;
+    let view = open_root(root.as_slice()).expect(&rt, "a root");
+    let spec = Token {
+        table: TableId::TypeSpec,
+        row: 1,
+    };
+    for (needed, expected) in [
+        (100, "class Space.Outer<class Space.Outer, class Space.Outer>"),
+        (7, "class Space.Outer<class , class >"),
+        (0, "class <class , class >"),
+    ] {
+        let mut given = Given {
+            text: String::new(rt.alloc()),
+            needed,
+        };
+        assert!(rt; write_full_name_within(rt.alloc(), &view, spec, &Needed, &mut given).is_ok());
+        assert_eq!(rt; given.text.as_str(), expected, "of {needed} bytes");
     }
     Ok(())
 }
