@@ -3,3 +3,4 @@ mod RowNameLemmas
 mod PieceLemmas
 mod TextLemmas
 mod NameExists
+mod PlainPieces

@@ -27,6 +27,7 @@ use Rattle.navigation.specs.Nesting.{IsEnclosed, IsFirstNesting, IsNesting, IsSc
 use Rattle.full_names.specs.Names.{IsChainText, IsOuter, IsOwnText, IsTypeDefText, IsTypeRefText}
 use Rattle.full_names.specs.Texts.{ArePiecesText, IsFullName, IsInnerName, IsNamed, IsPieceText, IsTypeSpecText}
 use Rattle.full_names.proofs.PieceLemmas.{same_signature, signature_of}
+use Rattle.full_names.proofs.PlainPieces.{ArePlain, IsPlain, text_is_plain}
 
 -- some text has a property
 abbrev pub HasText : (List ℕ → Type 0) → Type 0
@@ -242,14 +243,14 @@ exists_in model valid table row cell_index there within token is =
     let P : Cell → Type 0 = λ c. MayRefer model (nullable_at table cell_index) c in
     subst P is (valid.cells table row cell_index there within).refers
 
--- the text of a piece, if each token has a name
-piece_text : (is_name : Token → List ℕ → Type 0) → ((token : Token) → HasText (is_name token)) → (piece : Piece) → HasText (IsPieceText is_name piece)
-piece_text is_name named (word of) = (of, refl)
-piece_text is_name named (number of) = (decimal of, refl)
-piece_text is_name named (signed of) = (signed_decimal of, refl)
-piece_text is_name named (name token) = named token
-piece_text is_name named method_name = ([], refl)
-piece_text is_name named (param_name position) = ([], refl)
+-- the text of a piece that a signature may have, if each token has a name
+piece_text : (is_name : Token → List ℕ → Type 0) → ((token : Token) → HasText (is_name token)) → (piece : Piece) → IsPlain piece → HasText (IsPieceText is_name piece)
+piece_text is_name named (word of) is = (of, refl)
+piece_text is_name named (number of) is = (decimal of, refl)
+piece_text is_name named (signed of) is = (signed_decimal of, refl)
+piece_text is_name named (name token) is = named token
+piece_text is_name named method_name is = absurd is
+piece_text is_name named (param_name position) is = absurd is
 
 module _ (model : Metadata) (valid : IsValid model) where
   stays_def : (row outer : ℕ) → HasRow model TypeDef row → IsOuter model row outer → HasRow model TypeDef outer
@@ -282,15 +283,15 @@ module _ (model : Metadata) (valid : IsValid model) where
     ]
   ]
 
-  pieces_text : (is_name : Token → List ℕ → Type 0) → ((token : Token) → HasText (is_name token)) → (pieces : List Piece) → HasText (ArePiecesText (IsPieceText is_name) pieces)
-  pieces_text is_name named [] = ([], refl)
-  pieces_text is_name named (piece ∷ pieces) =
-      let first = piece_text is_name named piece in
-      let tail = pieces_text is_name named pieces in
+  pieces_text : (is_name : Token → List ℕ → Type 0) → ((token : Token) → HasText (is_name token)) → (pieces : List Piece) → ArePlain pieces → HasText (ArePiecesText (IsPieceText is_name) pieces)
+  pieces_text is_name named [] are = ([], refl)
+  pieces_text is_name named (piece ∷ pieces) are =
+      let first = piece_text is_name named piece are.0 in
+      let tail = pieces_text is_name named pieces are.1 in
       (first.0 ++ tail.0, (first.0, first.1, tail.0, tail.1, refl))
 
   type_spec_text : (signature : Body) → HasText (IsTypeSpecText model signature)
-  type_spec_text signature = pieces_text (IsInnerName model) inner_name (text_of signature)
+  type_spec_text signature = pieces_text (IsInnerName model) inner_name (text_of signature) (text_is_plain signature)
 
   pub any_name : (token : Token) → HasText (IsFullName model token)
   unfolding cell_columns

@@ -19,14 +19,14 @@ abbrev pub ArePiecesText : (Piece → List ℕ → Type 0) → List Piece → Li
 ArePiecesText is_text [] text = text ≡ []
 ArePiecesText is_text (piece ∷ pieces) text = (first : List ℕ) × is_text piece first × (tail : List ℕ) × ArePiecesText is_text pieces tail × (text ≡ first ++ tail)
 
--- A word, a number in decimal digits, and the name of a token. Only a declaration has other pieces; they have no text here.
+-- a word, a number in decimal digits, and the name of a token. Only a declaration has other pieces.
 abbrev pub IsPieceText : (Token → List ℕ → Type 0) → Piece → List ℕ → Type 0
 IsPieceText is_name (word of) text = text ≡ of
 IsPieceText is_name (number of) text = text ≡ decimal of
 IsPieceText is_name (signed of) text = text ≡ signed_decimal of
 IsPieceText is_name (name token) text = is_name token text
-IsPieceText is_name method_name text = text ≡ []
-IsPieceText is_name (param_name position) text = text ≡ []
+IsPieceText is_name method_name text = ⊥
+IsPieceText is_name (param_name position) text = ⊥
 
 -- ---- the names of tokens
 
