@@ -26,9 +26,13 @@ second = record (new_rule (codes "second")) { action = Some Set; value_names = 1
 abbrev pub part : Rule
 part = record (new_rule (codes "part")) { action = Some Set; value_names = 1 }
 
+-- `--NAME`, a flag
+abbrev pub flag : Text → Rule
+flag name = record (new_rule name) { long = Some name; action = Some SetTrue }
+
 -- `--bare`, a flag
 abbrev pub bare : Rule
-bare = record (new_rule (codes "bare")) { long = Some (codes "bare"); action = Some SetTrue }
+bare = flag (codes "bare")
 
 -- `--budget N`, a number of 64 bits
 abbrev pub budget : Rule
@@ -48,19 +52,19 @@ quiet = record (new_rule (codes "quiet")) { short = Some 113; long = Some (codes
 
 -- `--json`, a flag
 abbrev pub json : Rule
-json = record (new_rule (codes "json")) { long = Some (codes "json"); action = Some SetTrue }
+json = flag (codes "json")
 
 -- `--names`, a flag
 abbrev pub names : Rule
-names = record (new_rule (codes "names")) { long = Some (codes "names"); action = Some SetTrue }
+names = flag (codes "names")
 
 -- `--until-fault`, a flag
 abbrev pub until_fault : Rule
-until_fault = record (new_rule (codes "until-fault")) { long = Some (codes "until-fault"); action = Some SetTrue }
+until_fault = flag (codes "until-fault")
 
 -- `--where`, a flag
 abbrev pub locates : Rule
-locates = record (new_rule (codes "where")) { long = Some (codes "where"); action = Some SetTrue }
+locates = flag (codes "where")
 
 -- `HEX..`, at least one value
 abbrev pub tokens : Rule
@@ -86,11 +90,17 @@ reporter name = with_rule (reader name) json
 abbrev pub root : App
 root = reporter (codes "root")
 
+-- those arguments of `check` that say what to check: `[--bare] [--budget N] [--files-from LIST] [-0] [FILE]..`
+abbrev pub check_input : App → App
+check_input base = with_rule (with_rule (with_rule (with_rule (with_rule base files) bare) budget) files_from) null
+
+-- those that say what to print: `[-q] [--json] [--where]`
+abbrev pub check_output : App → App
+check_output base = with_rule (with_rule (with_rule base quiet) json) locates
+
 -- `check [--bare] [--budget N] [--files-from LIST] [-0] [-q] [--json] [--where] [FILE]..`
 abbrev pub check : App
-check =
-    with_rule (with_rule (with_rule (with_rule (with_rule (with_rule (with_rule (with_rule (new_app (codes "check")) files) bare) budget) files_from) null) quiet) json)
-    locates
+check = check_output (check_input (new_app (codes "check")))
 
 -- `show [--bare] [--json] [--names] [--until-fault] FILE [TABLE]`
 abbrev pub show : App

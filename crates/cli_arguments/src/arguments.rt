@@ -1,6 +1,6 @@
 //! The command line, and what its arguments ask for.
-ghost use Rattle.std.specs.Prelude.{◌≡◌, IfOk, IsOkAnd, map};
-ghost use Rattle.clap.specs.Words.{AddsSubcommand, FailsBy, app_of, fault_of};
+ghost use Rattle.std.specs.Prelude.{◌≡◌, ◌↔◌, IfOk, IsOkAnd, IsTrue, Some, [], codes, map, unwrap_or};
+ghost use Rattle.clap.specs.Words.{AddsSubcommand, FailsBy, all_of, app_of, fault_of, found_of, one_of, rows_of};
 ghost use Rattle.cli_arguments.specs.Asked.{Gives, HasFile, HasFirst, HasSecond};
 ghost use Rattle.cli_arguments.specs.CommandLine as line;
 ghost use Rattle.cli_arguments.specs.CommandLine.{clim};
@@ -11,7 +11,7 @@ use crate::subcommands::{
     check_file, compare_files, digest_file, explain_fault, print_outline, print_root,
     print_strings, print_token, print_types, print_where, rewrite_file, show_tables,
 };
-use clap::{Command, Error};
+use clap::{ArgMatches, Command, Error};
 use std::alloc::{AllocError, Global};
 
 /// What `--version` prints after the name of the program: its version, and what it is proved and built with (`rt version`).
@@ -33,29 +33,39 @@ pub fn ask<'a>(alloc: Global, words: &'a [&'a str]) -> Result<Ask<'a>, Error>
 {
     let matches = command(alloc)?.try_get_matches_from(words)?;
     let (name, given) = matches.subcommand().unwrap();
-    let files = Vec::from_slice(alloc, given.get_raw("FILE").unwrap_or(&[]))?;
-    let codes = Vec::from_slice(alloc, given.get_raw("CODE").unwrap_or(&[]))?;
-    let tokens = Vec::from_slice(alloc, given.get_raw("HEX").unwrap_or(&[]))?;
-    let ignored = Vec::from_slice(alloc, given.get_raw("ignore").unwrap_or(&[]))?;
     Ok(Ask {
         subcommand: Subcommand::named(name).unwrap(),
-        bare: given.get_one::<bool>("bare") == Some(true),
+        bare: flag(given, "bare"),
         file: given.get_str("FILE"),
         second: given.get_str("second"),
-        tokens,
-        ignored,
+        tokens: list(alloc, given, "HEX")?,
+        ignored: list(alloc, given, "ignore")?,
         budget: given.get_one::<u64>("budget"),
         part: given.get_str("part"),
-        json: given.get_one::<bool>("json") == Some(true),
-        codes,
-        files,
+        json: flag(given, "json"),
+        codes: list(alloc, given, "CODE")?,
+        files: list(alloc, given, "FILE")?,
         files_from: given.get_str("files-from"),
-        null: given.get_one::<bool>("null") == Some(true),
-        quiet: given.get_one::<bool>("quiet") == Some(true),
-        names: given.get_one::<bool>("names") == Some(true),
-        until_fault: given.get_one::<bool>("until-fault") == Some(true),
-        locates: given.get_one::<bool>("where") == Some(true),
+        null: flag(given, "null"),
+        quiet: flag(given, "quiet"),
+        names: flag(given, "names"),
+        until_fault: flag(given, "until-fault"),
+        locates: flag(given, "where"),
     })
+}
+
+/// Whether the flag was given.
+fn flag(given: &ArgMatches<'_>, id: &str) -> bool
+    ensures { IsTrue result ↔ (one_of id.now (rows_of (found_of given.now)) ≡ Some (codes "true")) }
+{
+    given.get_one::<bool>(id) == Some(true)
+}
+
+/// All values of the argument, in the order given; none if it was not used. Fails only if out of memory.
+fn list<'a>(alloc: Global, given: &ArgMatches<'a>, id: &str) -> Result<Vec<&'a str>, AllocError>
+    ensures { IfOk result (λ values. map (λ word. word.now) values.items ≡ unwrap_or (all_of id.now (rows_of (found_of given.now))) []) }
+{
+    Vec::from_slice(alloc, given.get_raw(id).unwrap_or(&[]))
 }
 
 /// The command line as `clap` parses it and shows it in help.
@@ -109,8 +119,5 @@ fn with<'a>(
 ) -> Result<Command<'a>, AllocError>
     ensures { IfOk result (λ made. IsOkAnd command.entry (λ base. IsOkAnd subcommand.entry (λ added. AddsSubcommand base added made))) }
 {
-    match (command, subcommand) {
-        (Ok(command), Ok(subcommand)) => command.subcommand(subcommand),
-        _ => Err(AllocError),
-    }
+    command?.subcommand(subcommand?)
 }

@@ -66,10 +66,7 @@ fn bare<'a>(alloc: Global) -> Arg<'a>
     ensures rule { rule_of result ≡ line.bare }
     ensures local { result.global ≡ false }
 {
-    Arg::new(alloc, "bare")
-        .long("bare")
-        .action(ArgAction::SetTrue)
-        .help("FILE is a metadata root, not a PE file")
+    flag(alloc, "bare", "FILE is a metadata root, not a PE file")
 }
 
 /// `--json`, the flag for JSON Lines.
@@ -77,10 +74,18 @@ fn json<'a>(alloc: Global) -> Arg<'a>
     ensures rule { rule_of result ≡ line.json }
     ensures local { result.global ≡ false }
 {
-    Arg::new(alloc, "json")
-        .long("json")
+    flag(alloc, "json", "Print a JSON value on each line")
+}
+
+/// `--NAME`, a flag.
+fn flag<'a>(alloc: Global, name: &'a str, about: &'a str) -> Arg<'a>
+    ensures rule { rule_of result ≡ line.flag name.now }
+    ensures local { result.global ≡ false }
+{
+    Arg::new(alloc, name)
+        .long(name)
         .action(ArgAction::SetTrue)
-        .help("Print a JSON value on each line")
+        .help(about)
 }
 
 /// The value after the file; help shows it with this name.

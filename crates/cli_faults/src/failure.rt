@@ -133,7 +133,7 @@ impl fmt::Display for Failure<'_> {
     fn fmt<W: fmt::Write>(&self, f: &mut fmt::Formatter<W>) -> fmt::Result {
         match self {
             Failure::Fault(fault) => write!(f, "{fault}"),
-            Failure::NoSuchRow => write!(f, "no such row"),
+            Failure::NoSuchRow => f.write_str("no such row"),
             Failure::Usage(usage_error) => write!(f, "{usage_error}"),
             Failure::NotUtf8(name) => write!(
                 f,
@@ -141,9 +141,9 @@ impl fmt::Display for Failure<'_> {
                 EscapedBytes(name)
             ),
             Failure::CannotRead(error) => write!(f, "error: cannot read {error}"),
-            Failure::CannotWriteOutput => write!(f, "error: cannot write output"),
+            Failure::CannotWriteOutput => f.write_str("error: cannot write output"),
             Failure::CannotWriteFile(error) => write!(f, "error: cannot write {error}"),
-            Failure::OutOfMemory => write!(f, "error: out of memory"),
+            Failure::OutOfMemory => f.write_str("error: out of memory"),
         }
     }
 }

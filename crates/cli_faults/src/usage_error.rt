@@ -36,7 +36,7 @@ pub enum UsageError<'a> {
 }
 
 /// A name that an argument may have meant. `Display` gives a line feed and the line of a hint; nothing if there is none.
-#[derive(Clone, Copy, Debug, PartialEq, Eq)]
+#[derive(Clone, Copy)]
 enum Nearest {
     /// There is none.
     None,
@@ -111,20 +111,20 @@ impl fmt::Display for UsageError<'_> {
                 Escaped(word),
                 Nearest::of_code(*nearest)
             ),
-            UsageError::NoFile => write!(f, "error: FILE is missing, and so is '--files-from -'"),
-            UsageError::FilesAndList => {
-                write!(f, "error: '--files-from' and FILE exclude each other")
+            UsageError::NoFile => {
+                f.write_str("error: FILE is missing, and so is '--files-from -'")
             }
-            UsageError::JsonOfOneFile => write!(
-                f,
-                "error: '--json' takes one FILE, and no list, '--budget' or '--quiet'"
+            UsageError::FilesAndList => {
+                f.write_str("error: '--files-from' and FILE exclude each other")
+            }
+            UsageError::JsonOfOneFile => f.write_str(
+                "error: '--json' takes one FILE, and no list, '--budget' or '--quiet'",
             ),
-            UsageError::WhereOfOneFile => write!(
-                f,
-                "error: '--where' takes one FILE, and no list, '--budget', '--quiet' or '--json'"
+            UsageError::WhereOfOneFile => f.write_str(
+                "error: '--where' takes one FILE, and no list, '--budget', '--quiet' or '--json'",
             ),
             UsageError::UntilFaultAsJson => {
-                write!(f, "error: '--until-fault' and '--json' exclude each other")
+                f.write_str("error: '--until-fault' and '--json' exclude each other")
             }
             UsageError::NoList(word) => write!(
                 f,

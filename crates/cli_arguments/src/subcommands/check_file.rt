@@ -4,7 +4,7 @@ ghost use Rattle.clap.specs.Words.{app_of, rule_of};
 ghost use Rattle.clap.specs.declared.Command.TheViews.{out-Command as fields_of};
 ghost use Rattle.cli_arguments.specs.CommandLine as line;
 
-use crate::subcommands::{bare, json};
+use crate::subcommands::{bare, flag, json};
 use clap::{Arg, ArgAction, Command, value_parser};
 use std::alloc::{AllocError, Global};
 
@@ -13,17 +13,35 @@ pub(crate) fn command<'a>(alloc: Global) -> Result<Command<'a>, AllocError>
     ensures app { IfOk result (λ command. app_of command ≡ line.check) }
     ensures local { IfOk result (λ command. (fields_of command).has_globals ≡ false) }
 {
-    Command::new(alloc, "check")
+    let command = Command::new(alloc, "check")
         .about("Check files against the rules of the standard")
-        .after_help(OUTPUT)
+        .after_help(OUTPUT);
+    with_output(alloc, with_input(alloc, command)?)
+}
+
+/// The command with the arguments that say what to check.
+fn with_input<'a>(alloc: Global, command: Command<'a>) -> Result<Command<'a>, AllocError>
+    ensures app { IfOk result (λ made. app_of made ≡ line.check_input (app_of command.entry)) }
+    ensures local { (fields_of command.entry).has_globals ≡ false → IfOk result (λ made. (fields_of made).has_globals ≡ false) }
+{
+    command
         .arg(files(alloc))?
         .arg(bare(alloc))?
         .arg(budget(alloc))?
         .arg(files_from(alloc))?
-        .arg(null(alloc))?
-        .arg(quiet(alloc))?
-        .arg(json(alloc))?
-        .arg(locates(alloc))
+        .arg(null(alloc))
+}
+
+/// The command with the arguments that say what to print.
+fn with_output<'a>(alloc: Global, command: Command<'a>) -> Result<Command<'a>, AllocError>
+    ensures app { IfOk result (λ made. app_of made ≡ line.check_output (app_of command.entry)) }
+    ensures local { (fields_of command.entry).has_globals ≡ false → IfOk result (λ made. (fields_of made).has_globals ≡ false) }
+{
+    command.arg(quiet(alloc))?.arg(json(alloc))?.arg(flag(
+        alloc,
+        "where",
+        "Print what has the byte at the offset of the fault, and explain the fault",
+    ))
 }
 
 /// `FILE..`, the paths of the files to read; none if they are listed.
@@ -83,17 +101,6 @@ fn quiet<'a>(alloc: Global) -> Arg<'a>
         .long("quiet")
         .action(ArgAction::SetTrue)
         .help("Print nothing about faults; only the exit status reports them")
-}
-
-/// `--where`, the flag to print what has the byte at the offset of a fault.
-fn locates<'a>(alloc: Global) -> Arg<'a>
-    ensures rule { rule_of result ≡ line.locates }
-    ensures local { result.global ≡ false }
-{
-    Arg::new(alloc, "where")
-        .long("where")
-        .action(ArgAction::SetTrue)
-        .help("Print what has the byte at the offset of the fault, and explain the fault")
 }
 
 const OUTPUT: &str = "\

@@ -1,11 +1,11 @@
 //! `clim show`: the rows of all tables, or of one.
 ghost use Rattle.std.specs.Prelude.{◌≡◌, IfOk, false};
-ghost use Rattle.clap.specs.Words.{app_of, rule_of};
+ghost use Rattle.clap.specs.Words.{app_of};
 ghost use Rattle.clap.specs.declared.Command.TheViews.{out-Command as fields_of};
 ghost use Rattle.cli_arguments.specs.CommandLine as line;
 
-use crate::subcommands::{part, reporter};
-use clap::{Arg, ArgAction, Command};
+use crate::subcommands::{flag, part, reporter};
+use clap::Command;
 use std::alloc::{AllocError, Global};
 
 /// The arguments of the subcommand and its help.
@@ -24,30 +24,16 @@ pub(crate) fn command<'a>(alloc: Global) -> Result<Command<'a>, AllocError>
         "TABLE",
         "The table to print alone, by its name or number",
     ))?
-    .arg(names(alloc))?
-    .arg(until_fault(alloc))
-}
-
-/// `--names`, the flag to name columns.
-fn names<'a>(alloc: Global) -> Arg<'a>
-    ensures rule { rule_of result ≡ line.names }
-    ensures local { result.global ≡ false }
-{
-    Arg::new(alloc, "names")
-        .long("names")
-        .action(ArgAction::SetTrue)
-        .help("Print the name of each column before its cell")
-}
-
-/// `--until-fault`, the flag to print the rows of a broken file that come before its first broken rule.
-fn until_fault<'a>(alloc: Global) -> Arg<'a>
-    ensures rule { rule_of result ≡ line.until_fault }
-    ensures local { result.global ≡ false }
-{
-    Arg::new(alloc, "until-fault")
-        .long("until-fault")
-        .action(ArgAction::SetTrue)
-        .help("Print the rows before the first fault, too, and then the fault")
+    .arg(flag(
+        alloc,
+        "names",
+        "Print the name of each column before its cell",
+    ))?
+    .arg(flag(
+        alloc,
+        "until-fault",
+        "Print the rows before the first fault, too, and then the fault",
+    ))
 }
 
 const OUTPUT: &str = "\

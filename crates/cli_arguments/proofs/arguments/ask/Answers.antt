@@ -68,39 +68,25 @@ returns-clause-given c =
     record {
       rows = rows;
       subcommand = entered c ∙ ap (λ (n : Text). Some (n, rows)) word;
-      bare = flag_is _ (one_of (codes "bare") rows) c.get_one.result c.eq.result c.eq.ensures
-          (λ none. c.get_one.ensures.none (one_text-rows found (codes "bare") ∙ none))
-          (λ t is. c.get_one.ensures.value t (one_text-rows found (codes "bare") ∙ is));
+      bare = c.flag.ensures;
       file = c.get_str.ensures ∙ first_value-rows found (codes "FILE");
       second = c.get_str-2.ensures ∙ first_value-rows found (codes "second");
-      tokens = files_read _ _ _ refl (ap (λ (s : List (Bor Text)). map (λ word. word.now) s) c.in_ok-tokens.ensures.items) c.unwrap_or-3.ensures (c.get_raw-3.ensures ∙ raw_values-rows found (codes "HEX"));
-      ignored = files_read _ _ _ refl (ap (λ (s : List (Bor Text)). map (λ word. word.now) s) c.in_ok-ignored.ensures.items) c.unwrap_or-4.ensures (c.get_raw-4.ensures ∙ raw_values-rows found (codes "ignore"));
+      tokens = c.in_ok-list.ensures;
+      ignored = c.in_ok-list-2.ensures;
       budget = count_is ParseIntError
-          (λ t r. ParsesUnsigned 64 10 t r × ExplainsUnsignedError 10 t r × HasUnsignedDigitsIfOk t r) (λ t r gives. gives.0) (one_of (codes "budget") rows) c.get_one-2.result
-          (λ none. c.get_one-2.ensures.none (one_text-rows found (codes "budget") ∙ none))
-          (λ t is. c.get_one-2.ensures.value t (one_text-rows found (codes "budget") ∙ is));
+          (λ t r. ParsesUnsigned 64 10 t r × ExplainsUnsignedError 10 t r × HasUnsignedDigitsIfOk t r) (λ t r gives. gives.0) (one_of (codes "budget") rows) c.get_one.result
+          (λ none. c.get_one.ensures.none (one_text-rows found (codes "budget") ∙ none))
+          (λ t is. c.get_one.ensures.value t (one_text-rows found (codes "budget") ∙ is));
       part = c.get_str-3.ensures ∙ first_value-rows found (codes "part");
-      json = flag_is _ (one_of (codes "json") rows) c.get_one-3.result c.eq-2.result c.eq-2.ensures
-          (λ none. c.get_one-3.ensures.none (one_text-rows found (codes "json") ∙ none))
-          (λ t is. c.get_one-3.ensures.value t (one_text-rows found (codes "json") ∙ is));
-      faults = files_read _ _ _ refl (ap (λ (s : List (Bor Text)). map (λ word. word.now) s) c.in_ok-codes.ensures.items) c.unwrap_or-2.ensures (c.get_raw-2.ensures ∙ raw_values-rows found (codes "CODE"));
-      files = files_read _ _ _ refl (ap (λ (s : List (Bor Text)). map (λ word. word.now) s) c.in_ok-files.ensures.items) c.unwrap_or.ensures (c.get_raw.ensures ∙ raw_values-rows found (codes "FILE"));
+      json = c.flag-2.ensures;
+      faults = c.in_ok-list-3.ensures;
+      files = c.in_ok-list-4.ensures;
       files_from = c.get_str-4.ensures ∙ first_value-rows found (codes "files-from");
-      null = flag_is _ (one_of (codes "null") rows) c.get_one-4.result c.eq-3.result c.eq-3.ensures
-          (λ none. c.get_one-4.ensures.none (one_text-rows found (codes "null") ∙ none))
-          (λ t is. c.get_one-4.ensures.value t (one_text-rows found (codes "null") ∙ is));
-      quiet = flag_is _ (one_of (codes "quiet") rows) c.get_one-5.result c.eq-4.result c.eq-4.ensures
-          (λ none. c.get_one-5.ensures.none (one_text-rows found (codes "quiet") ∙ none))
-          (λ t is. c.get_one-5.ensures.value t (one_text-rows found (codes "quiet") ∙ is));
-      names = flag_is _ (one_of (codes "names") rows) c.get_one-6.result c.eq-5.result c.eq-5.ensures
-          (λ none. c.get_one-6.ensures.none (one_text-rows found (codes "names") ∙ none))
-          (λ t is. c.get_one-6.ensures.value t (one_text-rows found (codes "names") ∙ is));
-      until_fault = flag_is _ (one_of (codes "until-fault") rows) c.get_one-7.result c.eq-6.result c.eq-6.ensures
-          (λ none. c.get_one-7.ensures.none (one_text-rows found (codes "until-fault") ∙ none))
-          (λ t is. c.get_one-7.ensures.value t (one_text-rows found (codes "until-fault") ∙ is));
-      locates = flag_is _ (one_of (codes "where") rows) c.get_one-8.result c.eq-7.result c.eq-7.ensures
-          (λ none. c.get_one-8.ensures.none (one_text-rows found (codes "where") ∙ none))
-          (λ t is. c.get_one-8.ensures.value t (one_text-rows found (codes "where") ∙ is));
+      null = c.flag-3.ensures;
+      quiet = c.flag-4.ensures;
+      names = c.flag-5.ensures;
+      until_fault = c.flag-6.ensures;
+      locates = c.flag-7.ensures;
     }
 
 -- each value that the subcommand needs is there
@@ -136,4 +122,4 @@ pub returns-clause-first : goal.returns-clause-first
 returns-clause-first c =
     let found = found_of c.unwrap.result.1.now in
     first_read (codes "FILE") (rows_of found) _ _ (c.get_str.ensures ∙ first_value-rows found (codes "FILE"))
-    (files_read _ _ _ refl (ap (λ (s : List (Bor Text)). map (λ word. word.now) s) c.in_ok-files.ensures.items) c.unwrap_or.ensures (c.get_raw.ensures ∙ raw_values-rows found (codes "FILE")))
+    c.in_ok-list-4.ensures

@@ -7,11 +7,11 @@ use Rattle.cli_arguments.proofs.subcommands.show_tables.command.Goals as goal
 pub returns-clause-app : goal.returns-clause-app
 returns-clause-app c =
     let with_part = c.in_ok-arg.ensures.shape c.part.ensures.local ∙ ap₂ with_rule c.in_ok-reporter.ensures.app c.part.ensures.rule in
-    let with_names = c.in_ok-arg-2.ensures.shape c.names.ensures.local ∙ ap₂ with_rule with_part c.names.ensures.rule in
-    adds_rule _ _ c.until_fault.result _ c.arg-3.result with_names c.until_fault.ensures.rule c.until_fault.ensures.local c.arg-3.ensures
+    let with_names = c.in_ok-arg-2.ensures.shape c.flag.ensures.local ∙ ap₂ with_rule with_part c.flag.ensures.rule in
+    adds_rule _ _ c.flag-2.result _ c.arg-3.result with_names c.flag-2.ensures.rule c.flag-2.ensures.local c.arg-3.ensures
 
 pub returns-clause-local : goal.returns-clause-local
 returns-clause-local c =
     let with_part : (out-Command c.in_ok-arg.field-0).has_globals ≡ false = c.in_ok-arg.ensures.globals ∙ ap₂ ◌||◌ c.in_ok-reporter.ensures.local c.part.ensures.local in
-    let with_names : (out-Command c.in_ok-arg-2.field-0).has_globals ≡ false = c.in_ok-arg-2.ensures.globals ∙ ap₂ ◌||◌ with_part c.names.ensures.local in
-    stays_local _ c.until_fault.result c.arg-3.result with_names c.until_fault.ensures.local c.arg-3.ensures
+    let with_names : (out-Command c.in_ok-arg-2.field-0).has_globals ≡ false = c.in_ok-arg-2.ensures.globals ∙ ap₂ ◌||◌ with_part c.flag.ensures.local in
+    stays_local _ c.flag-2.result c.arg-3.result with_names c.flag-2.ensures.local c.arg-3.ensures
