@@ -123,7 +123,7 @@ fn escapes_beside_hints(rt: HostRuntime) -> Result<(), Fail> {
 fn looks_for_no_name_of_a_long_word(rt: HostRuntime) -> Result<(), Fail> {
     let alloc = rt.alloc();
     let mut long = String::new(alloc);
-    for _ in 0..10_000 {
+    for _ in 0..1_000 {
         long.push_str("0123456789")?;
     }
     let column = format!(in alloc; "Module.{long}")?;
