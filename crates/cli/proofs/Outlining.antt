@@ -1,10 +1,12 @@
 -- How `clim outline` of one type ends, case by case.
-use Rattle.std.proofs.Common.{◌≡◌, ℕ, Bool, List, Option, Result, Ok, Err, refl, subst, inl, inr}
+use Rattle.std.proofs.Common.{◌≡◌, ◌∙◌, ℕ, Bool, List, Option, Result, Ok, Err, ap, refl, subst, inl, inr}
 use Rattle.std.specs.Prelude.{IfErr, IsOk, OnOk, ◌↔◌}
 use Rattle.metadata.specs.Metadata.{Metadata}
 use Rattle.cli_faults.specs.declared.failure.Failure.{Failure}
 use Rattle.cli_faults.specs.declared.stop.Stop.{Stop}
-use Rattle.cli_files.specs.Stopped.{Outcome}
+use Rattle.cli_faults.specs.declared.stop.Stop.TheVariants.{NoSuchType}
+use Rattle.cli_faults.specs.Stops.{status_of_stop}
+use Rattle.cli_files.specs.Stopped.{Outcome, status_of_outcome}
 use Rattle.cli_outline.specs.Subjects.{PrintsSubject}
 use Rattle.cli_outline.specs.declared.subject.Outcome.{Outcome as Outlined}
 use Rattle.cli_outline.specs.declared.subject.Outcome.TheVariants as outlined
@@ -51,3 +53,11 @@ module _ {W : Type 0} (contents : W → Option (List ℕ)) (before after : W) (f
   outlined_type first second last met reports leaves printed is ok hinted =
       by_cases first last met reports leaves printed (subst (λ (s : Result (Unit {0}) Stop). IsOk last ↔ IsOk s) is ok)
       (subst (λ (s : Result (Unit {0}) Stop). Hinted bare bytes s last) is hinted)
+
+-- a run that found no type ends with 1
+pub missing_status : (bare : Bool) (bytes : List ℕ) (first : Result Outlined Failure) (second : Result (Unit {0}) Stop) (last : Outcome) → first ≡ Ok outlined.NoSuchType
+    → second ≡ stop_of_outlined first → IsOk last ↔ IsOk second → Hinted bare bytes second last → status_of_outcome last ≡ 1
+missing_status bare bytes first second (Ok end) missing is ok hinted = let no = ok.0 refl in cc
+missing_status bare bytes first second (Err stopped) missing is ok hinted =
+    let stop : stopped.stop ≡ NoSuchType = (subst (λ (s : Result (Unit {0}) Stop). Hinted bare bytes s (Err stopped)) (is ∙ ap stop_of_outlined missing) hinted).0 in
+    ap status_of_stop stop

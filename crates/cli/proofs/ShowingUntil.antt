@@ -1,5 +1,5 @@
 -- The run of `show --until-fault` on what reading a file gave, case by case.
-use Rattle.std.proofs.Common.{◌≡◌, ℕ, Bool, List, Option, Result, Ok, Err, refl}
+use Rattle.std.proofs.Common.{ℕ, Bool, List, Option, Result, Ok, Err, refl}
 use Rattle.std.specs.Prelude.{IfErr, IsOk, OnOk, ◌↔◌}
 use Rattle.packed.specs.declared.fault.Fault.{Fault}
 use Rattle.packed.specs.Rule.{FirstBroken}

@@ -195,6 +195,10 @@ IsCheckTask true form ask result = result ≡ where_task ask
 IsCheckTask false JsonLines ask result = result ≡ json_task ask
 IsCheckTask false Text ask result = IsTextCheckTask ask result
 
+-- the task of `rewrite`, whose OUT may not be `-`
+abbrev pub rewrite_task : Bor (List ℕ) → Result Task Failure
+rewrite_task out = if bytes_eq out.now (codes "-") then Err (failed.Usage wrong.OutputIsDash) else Ok (task.Rewrite out)
+
 -- the task of `digest` for these files, of which there is at least one
 abbrev pub digest_task : List (Bor (List ℕ)) → Task
 digest_task (file ∷ next ∷ more) = task.DigestEach
@@ -219,7 +223,7 @@ IsTask word.Outline ask result = IsOkAnd result (IsOutlineTask (form_of ask.json
 IsTask word.Strings ask result = result ≡ Ok task.Strings
 IsTask word.Token ask result = IsTokensTask (form_of ask.json) ask.tokens.items result
 IsTask word.Where ask result = IfSome ask.second (λ word. IsWhereTask (form_of ask.json) word.now result)
-IsTask word.Rewrite ask result = IfSome ask.second (λ out. result ≡ Ok (task.Rewrite out))
+IsTask word.Rewrite ask result = IfSome ask.second (λ out. result ≡ rewrite_task out)
 IsTask word.Digest ask result = result ≡ Ok (digest_task ask.files.items)
 IsTask word.Compare ask result = IfSome ask.second (λ other. IsCompareTask (form_of ask.json) ask other result)
 IsTask word.Explain ask result = IsExplainTask ask.codes.items result

@@ -4,14 +4,15 @@ ghost use Rattle.table_schema.specs.declared.table.TableId.TheVariants.{TypeDef}
 ghost use Rattle.opening.specs.Views.{HasModel, row_count};
 
 use crate::nearest::{edits_below, limit_of};
-use cli_faults::Escaped;
+use cli_faults::{Escaped, Stop};
+use cli_files::send_message;
 use cli_outline::Subject;
 use cli_reports::open;
 use cli_reports::type_lines::{NAME, NAMESPACE, text_of};
 use opening::{TableId, View};
 use std::alloc::Global;
 use std::fmt;
-use std::io::{self, Write};
+use std::io::Write;
 
 /// The names of a type (II.22.37). `Display` gives its full name, escaped.
 #[derive(Clone, Copy, Debug, PartialEq, Eq)]
@@ -28,6 +29,23 @@ impl fmt::Display for TypeName<'_> {
             write!(f, "{}.", Escaped(self.namespace))?;
         }
         write!(f, "{}", Escaped(self.name))
+    }
+}
+
+/// Why nothing of a type was printed. `Display` gives the lines for standard error.
+#[derive(Clone, Copy, Debug, PartialEq, Eq)]
+struct MissingType<'a> {
+    /// The type whose name is nearest, if one is near.
+    nearest: Option<TypeName<'a>>,
+}
+
+impl fmt::Display for MissingType<'_> {
+    fn fmt<W: fmt::Write>(&self, f: &mut fmt::Formatter<W>) -> fmt::Result {
+        write!(f, "{}\n", Stop::NoSuchType)?;
+        match &self.nearest {
+            Some(nearest) => write!(f, "  hint: the nearest name is '{nearest}'\n"),
+            None => Ok(()),
+        }
     }
 }
 
@@ -90,27 +108,20 @@ fn wanted_names<'a>(subject: Subject<'a>) -> Option<TypeName<'a>> {
     })
 }
 
-/// Prints a hint with the full name of the type that is nearest to the subject; nothing if all are far, or if the subject is
-/// a row. It looks at each type once.
-///
-/// # Errors
-///
-/// The error of the writer.
-pub(crate) fn print_nearest_type<E: Write>(
+/// Reports that no type is the subject, with a hint that has the full name of the nearest type; without the hint if all are
+/// far, or if the subject is a row. It looks at each type once. If the report cannot be written, nothing else changes.
+pub(crate) fn report_missing_type<E: Write>(
     alloc: Global,
     bytes: &[u8],
     bare: bool,
     subject: Subject<'_>,
     err: &mut E,
-) -> io::Result<()> {
-    let Some(wanted) = wanted_names(subject) else {
-        return Ok(());
+) {
+    let missing = match (wanted_names(subject), open(bytes, bare)) {
+        (Some(wanted), Ok(view)) => MissingType {
+            nearest: nearest_type(alloc, &view, wanted),
+        },
+        _ => MissingType { nearest: None },
     };
-    let Ok(view) = open(bytes, bare) else {
-        return Ok(());
-    };
-    match nearest_type(alloc, &view, wanted) {
-        Some(nearest) => writeln!(err, "  hint: the nearest name is '{nearest}'"),
-        None => Ok(()),
-    }
+    let _ = send_message(alloc, &missing, err);
 }

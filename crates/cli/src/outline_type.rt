@@ -5,7 +5,7 @@ ghost use Rattle.cli_commands.specs.Commands.{IsRunOn};
 ghost use Rattle.cli.specs.Outlined.{IsTypeOutlined, stop_of_outlined};
 ghost use Rattle.cli.specs.Runs.{EndsWith};
 
-use crate::nearest_type::print_nearest_type;
+use crate::nearest_type::report_missing_type;
 use cli_faults::{Failure, Stop};
 use cli_files::{Stopped, read_file, status, with_hint};
 use cli_outline::{Outcome, Subject, report_outline_of};
@@ -30,17 +30,17 @@ pub(crate) fn outline_type<R: Files + Input + AllocGlobal, W: Write, E: Write>(
 {
     let read = match read_file(rt, file) {
         Ok(read) => read,
-        Err(failure) => return status(Err(Stopped::from(failure)), err),
+        Err(failure) => return status(rt.alloc(), Err(Stopped::from(failure)), err),
     };
     let bytes = read.as_slice();
     let outcome = report_outline_of(rt.alloc(), form, bare, bytes, subject, out);
     let is_missing = is_missing(&outcome);
-    let code = status(with_hint(stop_of(outcome), bare, bytes), err);
+    let ended = with_hint(stop_of(outcome), bare, bytes);
     if is_missing {
-        // A hint that cannot be written changes nothing.
-        let _ = print_nearest_type(rt.alloc(), bytes, bare, subject, err);
+        report_missing_type(rt.alloc(), bytes, bare, subject, err);
+        return Stop::NoSuchType.status();
     }
-    code
+    status(rt.alloc(), ended, err)
 }
 
 /// Whether there is no such type.

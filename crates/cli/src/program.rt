@@ -1,4 +1,4 @@
-ghost use Rattle.std.specs.Prelude.{◌≡◌, ◌≢◌, ◌≤◌, IfErr, map};
+ghost use Rattle.std.specs.Prelude.{◌≡◌, ◌≢◌, ◌≤◌, IfErr, Ok, map};
 ghost use Rattle.std.specs.IoError.{error_kind};
 ghost use Rattle.std.specs.declared.io.ErrorKind.TheVariants as cause;
 ghost use Rattle.clap.specs.Words.{kind_of};
@@ -8,7 +8,8 @@ ghost use Rattle.cli_faults.specs.Status.{IsOutput};
 ghost use Rattle.cli_commands.specs.Checks.{EndsCheck};
 ghost use Rattle.cli_commands.specs.Commands.{StopsBy};
 ghost use Rattle.cli_commands.specs.Several.{IsRunOnEach, IsRunOnList};
-ghost use Rattle.cli.specs.Runs.{Does, IsUsage, Ran};
+ghost use Rattle.cli.specs.Runs.{Does, IsRunOf, IsUsage, Ran};
+ghost use Rattle.cli.specs.Tasks.{IsTask};
 
 use crate::explain_fault::explain;
 use crate::outline_type::outline_type;
@@ -28,7 +29,7 @@ use cli_commands::file_runs::{
 };
 use cli_commands::print_tokens::print_tokens;
 use cli_faults::{Failure, printed};
-use cli_files::{Stopped, status};
+use cli_files::{Stopped, out_of_memory, status};
 use cli_reports::finish;
 use std::alloc::Global;
 use std::io::{self, Write};
@@ -67,14 +68,14 @@ pub fn go<R: Files + Input + AllocGlobal, W: Write, E: Write>(
 
 /// Reports why the arguments could not be collected, and returns the exit code: 2 if one is not UTF-8, 3 if out of
 /// memory.
-pub fn refuse_words<E: Write>(error: &io::Error, err: &mut E) -> u8
+pub fn refuse_words<E: Write>(alloc: Global, error: &io::Error, err: &mut E) -> u8
     ensures memory { error_kind error.now ≡ cause.OutOfMemory → result ≡ 3 }
     ensures words { error_kind error.now ≢ cause.OutOfMemory → result ≡ 2 }
 {
     if error.kind() == io::ErrorKind::OutOfMemory {
-        return status(Err(Stopped::from(Failure::OutOfMemory)), err);
+        return out_of_memory(alloc, err);
     }
-    let _ = writeln!(err, "error: an argument is not UTF-8");
+    let _ = err.write_all(b"error: an argument is not UTF-8\n");
     2
 }
 
@@ -91,16 +92,16 @@ fn report_usage_error<W: Write, E: Write>(
     ensures quiet { result ≡ 0 → err.new ≡ err.old }
 {
     if usage_error.kind() == ErrorKind::OutOfMemory {
-        return status(Err(Stopped::from(Failure::OutOfMemory)), err);
+        return out_of_memory(alloc, err);
     }
     let Ok(text) = usage_text(alloc, words) else {
-        return status(Err(Stopped::from(Failure::OutOfMemory)), err);
+        return out_of_memory(alloc, err);
     };
     if usage_error.use_stderr() {
-        let _ = write!(err, "{text}");
+        let _ = err.write_all(text.as_bytes());
         return 2;
     }
-    status(print_text(text.as_str(), out), err)
+    status(alloc, print_text(text.as_str(), out), err)
 }
 
 /// Runs the task of the arguments, reports why it stopped early, and returns the exit code. All arguments are checked
@@ -118,50 +119,70 @@ fn run<R: Files + Input + AllocGlobal, W: Write, E: Write>(
     ensures does { Does W.contents out.old out.new R.File.contents ask.now result }
     ensures quiet { result ≡ 0 → err.new ≡ err.old }
 {
-    let task = match task_of(rt.alloc(), ask) {
-        Ok(task) => task,
-        Err(failure) => return status(Err(Stopped::from(failure)), err),
-    };
-    let bare = ask.bare;
+    match task_of(rt.alloc(), ask) {
+        Ok(task) => run_task(rt, task, ask, out, err),
+        Err(failure) => status(rt.alloc(), Err(Stopped::from(failure)), err),
+    }
+}
+
+/// Runs the task that these arguments ask for, reports why it stopped early, and returns the exit code.
+fn run_task<R: Files + Input + AllocGlobal, W: Write, E: Write>(
+    rt: &R,
+    task: Task<'_>,
+    ask: &Ask<'_>,
+    out: &mut W,
+    err: &mut E,
+) -> u8
+    requires asked { IsTask ask.now.subcommand ask.now (Ok task) }
+    requires file { HasFile ask.now }
+    requires first { HasFirst ask.now }
+    ensures limit { result ≤ 3 }
+    ensures run { IsRunOf W.contents out.old out.new R.File.contents task.entry ask.now result }
+    ensures quiet { result ≡ 0 → err.new ≡ err.old }
+{
+    let (alloc, file, bare) = (rt.alloc(), ask.file, ask.bare);
     match task {
-        Task::Print(report, form) => {
-            status(
-                print_file(rt, report, form, ask.file.unwrap(), bare, out),
-                err,
-            )
-        }
+        Task::Print(report, form) => status(
+            alloc,
+            print_file(rt, report, form, file.unwrap(), bare, out),
+            err,
+        ),
         Task::ShowUntilFault(table, names) => status(
-            show_until_fault(rt, table, names, ask.file.unwrap(), bare, out),
+            alloc,
+            show_until_fault(rt, table, names, file.unwrap(), bare, out),
             err,
         ),
         Task::Tokens(numbers, form) => status(
-            print_tokens(rt, numbers.as_slice(), form, ask.file.unwrap(), bare, out),
+            alloc,
+            print_tokens(rt, numbers.as_slice(), form, file.unwrap(), bare, out),
             err,
         ),
-        Task::CheckJson => status(check_json(rt, ask.file.unwrap(), bare, out), err),
-        Task::CheckWhere => status(check_where(rt, ask.file.unwrap(), bare, out), err),
+        Task::CheckJson => status(alloc, check_json(rt, file.unwrap(), bare, out), err),
+        Task::CheckWhere => status(alloc, check_where(rt, file.unwrap(), bare, out), err),
         Task::CheckWithin(budget) => {
-            status(check_file(rt, budget, ask.file.unwrap(), bare, out), err)
+            status(alloc, check_file(rt, budget, file.unwrap(), bare, out), err)
         }
         Task::CheckEach(budget) => check_named(rt, ask, budget, out, err),
         Task::CheckListed(budget) => check_list(rt, ask, budget, out, err),
-        Task::Rewrite(path) => status(rewrite_file(rt, path, ask.file.unwrap(), bare, out), err),
-        Task::Outline(form) => status(outline_file(rt, form, ask.file.unwrap(), bare, out), err),
+        Task::Rewrite(path) => status(alloc, rewrite_file(rt, path, file.unwrap(), bare, out), err),
+        Task::Outline(form) => status(alloc, outline_file(rt, form, file.unwrap(), bare, out), err),
         Task::OutlineOf(subject, form) => {
-            outline_type(rt, form, subject, ask.file.unwrap(), bare, out, err)
+            outline_type(rt, form, subject, file.unwrap(), bare, out, err)
         }
-        Task::Strings => status(list_strings(rt, ask.file.unwrap(), bare, out), err),
+        Task::Strings => status(alloc, list_strings(rt, file.unwrap(), bare, out), err),
         Task::Where(offset, form) => status(
-            locate_in(rt, form, offset, ask.file.unwrap(), bare, out),
+            alloc,
+            locate_in(rt, form, offset, file.unwrap(), bare, out),
             err,
         ),
-        Task::Digest => status(digest_file(rt, ask.file.unwrap(), bare, out), err),
+        Task::Digest => status(alloc, digest_file(rt, file.unwrap(), bare, out), err),
         Task::DigestEach => digest_files(rt, ask.files.as_slice(), bare, out, err),
         Task::Compare(other, options) => status(
-            compare_files(rt, ask.file.unwrap(), other, &options, out),
+            alloc,
+            compare_files(rt, file.unwrap(), other, &options, out),
             err,
         ),
-        Task::Explain(words) => status(explain_words(rt.alloc(), words, out), err),
+        Task::Explain(words) => status(alloc, explain_words(alloc, words, out), err),
     }
 }
 

@@ -3,7 +3,7 @@ ghost use Rattle.std.specs.Prelude.{◌≡◌, IfErr, IfOk};
 ghost use Rattle.cli_arguments.specs.Asked.{HasSecond};
 ghost use Rattle.cli_prefix.specs.Before.{report_of};
 ghost use Rattle.cli.specs.declared.task.Task.TheVariants as task;
-ghost use Rattle.cli.specs.Tasks.{AreTokens, IsCheckTask, IsCompareTask, IsExplainTask, IsOutlineTask, IsOnTable, IsShowTask, IsTableNamed, IsTask, IsFirstNoToken, IsSeveralTask, IsTextCheckTask, IsTokenTask, IsTokensTask, IsWhereTask, NamesNoTable, NamesType, digest_task, json_task, names_of, task_on_files, task_on_list, task_on_one, where_task};
+ghost use Rattle.cli.specs.Tasks.{AreTokens, IsCheckTask, IsCompareTask, IsExplainTask, IsOutlineTask, IsOnTable, IsShowTask, IsTableNamed, IsTask, IsFirstNoToken, IsSeveralTask, IsTextCheckTask, IsTokenTask, IsTokensTask, IsWhereTask, NamesNoTable, NamesType, digest_task, json_task, names_of, rewrite_task, task_on_files, task_on_list, task_on_one, where_task};
 
 use crate::columns::columns_of;
 use crate::nearest::{nearest_code, nearest_column, nearest_table};
@@ -19,6 +19,9 @@ use cli_prefix::report_of;
 use cli_reports::{Form, Names, Report};
 use std::alloc::Global;
 use table_schema::TableId;
+
+/// What stands for the standard output in the place of OUT.
+const STANDARD_OUTPUT: &str = "-";
 
 /// What to do.
 #[derive(Debug, Drop)]
@@ -74,7 +77,7 @@ pub(crate) fn task_of<'a>(alloc: Global, ask: &'a Ask<'a>) -> Result<Task<'a>, F
         Subcommand::Strings => Task::Strings,
         Subcommand::Token => return tokens_of(alloc, ask.tokens.as_slice(), form),
         Subcommand::Where => return where_of(ask.second.unwrap(), form),
-        Subcommand::Rewrite => Task::Rewrite(ask.second.unwrap()),
+        Subcommand::Rewrite => return rewrite_of(ask.second.unwrap()),
         Subcommand::Digest => digest_of(ask.files.as_slice()),
         Subcommand::Compare => {
             return comparison_of(alloc, ask, ask.second.unwrap(), form);
@@ -311,6 +314,17 @@ fn where_of<'a>(word: &'a str, form: Form) -> Result<Task<'a>, Failure<'a>>
     match offset_of(word) {
         Some(offset) => Ok(Task::Where(offset, form)),
         None => Err(Failure::Usage(UsageError::NoOffset(word))),
+    }
+}
+
+/// The task of `rewrite`. The standard output takes the line with the length, so it cannot be OUT.
+fn rewrite_of<'a>(out: &'a str) -> Result<Task<'a>, Failure<'a>>
+    ensures { result ≡ rewrite_task out.entry }
+{
+    if out == STANDARD_OUTPUT {
+        Err(Failure::Usage(UsageError::OutputIsDash))
+    } else {
+        Ok(Task::Rewrite(out))
     }
 }
 

@@ -1,9 +1,8 @@
 -- How comparing two files ends, case by case.
-use Rattle.std.proofs.Common.{◌≡◌, ◌≢◌, ◌∙◌, ◌≤◌, ℕ, Bool, List, [], ◌∷◌, Option, None, Some, Ok, Err, append-nil, refl, ap, sym, subst, length, inl, inr, arith}
+use Rattle.std.proofs.Common.{◌≡◌, ◌∙◌, ℕ, Bool, List, [], ◌∷◌, Option, None, Some, Ok, Err, append-nil, refl, ap, sym, subst, length, inl, inr, arith}
 use Rattle.std.specs.Prelude.{◌↔◌, IsErrAnd}
 use Rattle.std.specs.Io.KnownBytes.{Appends}
 use Rattle.metadata.specs.Metadata.{Metadata}
-use Rattle.metadata.specs.Valid.{IsValid}
 use Rattle.cli_faults.specs.declared.failure.Failure.{Failure}
 use Rattle.cli_faults.specs.Status.{IsOutput}
 use Rattle.cli_faults.specs.declared.stop.Stop.TheVariants.{Different}
@@ -16,7 +15,7 @@ use Rattle.comparison.specs.declared.ignored.IgnoredColumns.{IgnoredColumns}
 use Rattle.comparison.specs.Differences.{first_differences_but}
 use Rattle.comparison.specs.EqualBut.{AreEqualBut}
 use Rattle.cli_files.specs.declared.stopped.Stopped.{Stopped}
-use Rattle.cli_commands.specs.Compared.{AreSameBut, AreWhole, IgnoresNone, IsComparing, IsCut, IsDifferent, IsRefusal, IsSame, IsShown, OfModels, compare_text, compared_in}
+use Rattle.cli_commands.specs.Compared.{AreSameBut, IgnoresNone, IsComparing, IsRefusal, IsSame, IsShown, OfModels, compare_text, compared_in}
 use Rattle.cli_commands.specs.Commands.{StopsBy}
 use Rattle.cli_files.specs.Stopped.{Outcome}
 

@@ -1,5 +1,5 @@
 -- How `clim check --where` ends, case by case.
-use Rattle.std.proofs.Common.{◌≡◌, ◌∙◌, ℕ, Bool, List, [], ◌∷◌, ◌++◌, Option, Result, Ok, Err, append_assoc, decimal, refl, subst, sym, inl, inr}
+use Rattle.std.proofs.Common.{◌≡◌, ℕ, Bool, List, [], ◌∷◌, ◌++◌, Option, Result, Ok, Err, append_assoc, decimal, refl, subst, inl, inr}
 use Rattle.std.specs.Prelude.{◌↔◌, IfErr, IsErr, IsErrAnd, IsOk, OnOk}
 use Rattle.std.specs.Io.KnownBytes.{Appends}
 use Rattle.packed.specs.declared.fault.Fault.{Fault}

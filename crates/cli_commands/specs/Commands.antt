@@ -1,5 +1,5 @@
 -- What each subcommand does with what reading FILE gave.
-use Rattle.std.specs.Prelude.{◌≡◌, ℕ, Bool, List, [], ◌++◌, ◌⊎◌, codes, decimal, length, IfErr, IsErrAnd, OnOk, Option, None, Result, MatchResult}
+use Rattle.std.specs.Prelude.{◌≡◌, ℕ, Bool, List, ◌++◌, ◌⊎◌, codes, decimal, length, IfErr, IsErrAnd, OnOk, Option, None, Result, MatchResult}
 use Rattle.std.specs.Io.KnownBytes.{Appends}
 use Rattle.cli_faults.specs.declared.failure.Failure.{Failure}
 use Rattle.cli_faults.specs.Status.{IsOutput, IsUnwritten}

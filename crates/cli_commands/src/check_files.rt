@@ -65,7 +65,7 @@ pub fn check_files<R: Files + Input + AllocGlobal, W: Write, E: Write>(
 {
     match names_of(rt.alloc(), files) {
         Ok(names) => check_each(rt, names.as_slice(), options, out, err),
-        Err(AllocError) => out_of_memory(err),
+        Err(AllocError) => out_of_memory(rt.alloc(), err),
     }
 }
 
@@ -101,7 +101,7 @@ pub(crate) fn check_each<R: Files + Input + AllocGlobal, W: Write, E: Write>(
     for name in names {
         match check_next(rt, name, options, &mut bytes, out, err) {
             Ok(next) => greatest = greater(greatest, next),
-            Err(failure) => return status(Err(Stopped::from(failure)), err),
+            Err(failure) => return status(rt.alloc(), Err(Stopped::from(failure)), err),
         }
     }
     greatest
@@ -137,7 +137,7 @@ fn check_next<R: Files + Input + AllocGlobal, W: Write, E: Write>(
         Ok(()) => print_verdict(rt.alloc(), name, None, options.quiet, out, err),
         Err(stopped) => match fault_of(&stopped.stop) {
             Some(fault) => print_verdict(rt.alloc(), name, Some(fault), options.quiet, out, err),
-            None => Ok(status(Err(stopped), err)),
+            None => Ok(status(rt.alloc(), Err(stopped), err)),
         },
     }
 }
@@ -271,7 +271,7 @@ fn print_line<W: Write, E: Write>(
     ensures quiet { IfOk result (λ next. next ≡ 0 → err.new ≡ err.old) }
 {
     let Ok(line) = line_of(alloc, name, fault) else {
-        return Ok(out_of_memory(err));
+        return Ok(out_of_memory(alloc, err));
     };
     printed(finish(line.as_bytes(), out))?;
     Ok(exit_code(fault))

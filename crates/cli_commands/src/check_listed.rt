@@ -25,11 +25,11 @@ pub fn check_listed<R: Files + Input + AllocGlobal, W: Write, E: Write>(
 {
     let list = match read_list(rt) {
         Ok(list) => list,
-        Err(failure) => return status(Err(Stopped::from(failure)), err),
+        Err(failure) => return status(rt.alloc(), Err(Stopped::from(failure)), err),
     };
     match names_in(rt.alloc(), list.as_slice()) {
         Ok(names) => check_each(rt, &names, options, out, err),
-        Err(AllocError) => out_of_memory(err),
+        Err(AllocError) => out_of_memory(rt.alloc(), err),
     }
 }
 

@@ -33,7 +33,7 @@ pub fn digest_files<R: Files + Input + AllocGlobal, W: Write, E: Write>(
     for file in files {
         match digest_next(rt, file, bare, out, err) {
             Ok(next) => greatest = greater(greatest, next),
-            Err(failure) => return status(Err(Stopped::from(failure)), err),
+            Err(failure) => return status(rt.alloc(), Err(Stopped::from(failure)), err),
         }
     }
     greatest
@@ -58,7 +58,7 @@ fn digest_next<R: Files + Input + AllocGlobal, W: Write, E: Write>(
 {
     let digest = match digest_at(rt, file, bare) {
         Ok(digest) => digest,
-        Err(stopped) => return Ok(status(Err(stopped), err)),
+        Err(stopped) => return Ok(status(rt.alloc(), Err(stopped), err)),
     };
     printed(print_digest(rt.alloc(), &digest, file, out))?;
     Ok(0)

@@ -3,7 +3,7 @@ use Rattle.std.specs.Prelude.{ℕ, List, ◌∷◌, ◌++◌, codes}
 use Rattle.std.specs.declared.io.ErrorKind.{ErrorKind}
 use Rattle.std.specs.declared.io.ErrorKind.TheVariants as cause
 use Rattle.cli_faults.specs.declared.file_error.Reason.{Reason}
-use Rattle.cli_faults.specs.declared.file_error.Reason.TheVariants.{NoSuchFile, Directory, PermissionDenied, NoSpace, Leftover, StandardOutput, Other}
+use Rattle.cli_faults.specs.declared.file_error.Reason.TheVariants.{NoSuchFile, Directory, PermissionDenied, NoSpace, Leftover, StandardOutput, Input, Other}
 use Rattle.cli_faults.specs.declared.file_error.FileError.{FileError}
 use Rattle.cli_faults.specs.Escaped.{escaped_text}
 
@@ -23,8 +23,9 @@ reason_text NoSuchFile = codes "no such file"
 reason_text Directory = codes "a directory"
 reason_text PermissionDenied = codes "permission denied"
 reason_text NoSpace = codes "no space left"
-reason_text Leftover = codes "the file OUT.clim-new exists"
+reason_text Leftover = codes "too many files OUT.clim-new, OUT.clim-new2 .. exist"
 reason_text StandardOutput = codes "the standard output, which takes the line 'wrote N bytes'"
+reason_text Input = codes "FILE itself, which cannot be replaced"
 reason_text Other = codes "another error of the system"
 
 -- the path, and then a line with the reason

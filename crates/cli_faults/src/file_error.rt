@@ -51,10 +51,12 @@ pub enum Reason {
     PermissionDenied,
     /// The disk is full, or a quota is used up.
     NoSpace,
-    /// The file that should be written first, and then renamed, is there already.
+    /// All files that could be written first, and then renamed, are there already.
     Leftover,
     /// The file to write is the standard output, so that two outputs would be mixed.
     StandardOutput,
+    /// The file to write is what was read, and cannot be replaced by another: a device, or a file that was removed.
+    Input,
     /// Any other error.
     Other,
 }
@@ -88,8 +90,9 @@ impl fmt::Display for Reason {
             Reason::Directory => "a directory",
             Reason::PermissionDenied => "permission denied",
             Reason::NoSpace => "no space left",
-            Reason::Leftover => "the file OUT.clim-new exists",
+            Reason::Leftover => "too many files OUT.clim-new, OUT.clim-new2 .. exist",
             Reason::StandardOutput => "the standard output, which takes the line 'wrote N bytes'",
+            Reason::Input => "FILE itself, which cannot be replaced",
             Reason::Other => "another error of the system",
         })
     }

@@ -25,6 +25,8 @@ pub enum UsageError<'a> {
     WhereOfOneFile,
     /// `show` got `--until-fault` and `--json`.
     UntilFaultAsJson,
+    /// `rewrite` got `-` as OUT.
+    OutputIsDash,
     /// The argument is not where a list of files can come from.
     NoList(&'a str),
     /// The argument is not the name or the number of a table. The table with the nearest name, if one is near.
@@ -126,6 +128,9 @@ impl fmt::Display for UsageError<'_> {
             UsageError::UntilFaultAsJson => {
                 f.write_str("error: '--until-fault' and '--json' exclude each other")
             }
+            UsageError::OutputIsDash => f.write_str(
+                "error: OUT is a file, and '-' is none\n  hint: './-' is the file with that name",
+            ),
             UsageError::NoList(word) => write!(
                 f,
                 "error: '--files-from' takes '-', the standard input, not '{}'",

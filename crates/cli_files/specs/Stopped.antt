@@ -10,20 +10,6 @@ use Rattle.cli_files.specs.Hints.{hint_text}
 use Rattle.cli_files.specs.declared.hint.Hint.{Hint}
 use Rattle.cli_files.specs.declared.stopped.Stopped.{Stopped}
 
--- a line feed and the line of a hint, if there is one
-abbrev hint_line : Option Hint → List ℕ
-hint_line (Some hint) = 10 ∷ hint_text hint
-hint_line None = []
-
--- a line feed and the line that names the file, if two are read
-abbrev file_line : Option (Bor (List ℕ)) → List ℕ
-file_line (Some path) = 10 ∷ codes "  file: " ++ escaped_text path.now
-file_line None = []
-
--- the line of the stop, and then those of the file and the hint if there are, without the last line feed
-abbrev pub stopped_text : Stopped → List ℕ
-stopped_text stopped = stop_text stopped.stop ++ file_line stopped.file ++ hint_line stopped.hint
-
 -- standard output says why it stopped; for private clauses
 abbrev pub is_printed : Stop → Bool
 is_printed Different = true
@@ -31,15 +17,23 @@ is_printed (NothingAt offset) = true
 is_printed Broken = true
 is_printed _ = false
 
--- a hint as a line of its own, if there is one
-abbrev lone_hint : Option Hint → List ℕ
-lone_hint (Some hint) = hint_text hint ++ 10 ∷ []
-lone_hint None = []
+-- the line of a stop, unless standard output says why it stopped
+abbrev pub stop_line : Stop → List ℕ
+stop_line stop = if is_printed stop then [] else stop_text stop ++ 10 ∷ []
 
--- what goes to standard error: the lines of the stop, or only that of the hint if standard output says why it stopped; for
--- private clauses
-abbrev pub reported_text : Stopped → List ℕ
-reported_text stopped = if is_printed stopped.stop then lone_hint stopped.hint else stopped_text stopped ++ 10 ∷ []
+-- the line that names the file, if several are read
+abbrev pub file_line : Option (Bor (List ℕ)) → List ℕ
+file_line (Some path) = codes "  file: " ++ escaped_text path.now ++ 10 ∷ []
+file_line None = []
+
+-- the line of a hint, if there is one
+abbrev pub hint_line : Option Hint → List ℕ
+hint_line (Some hint) = hint_text hint ++ 10 ∷ []
+hint_line None = []
+
+-- what goes to standard error: the lines of the stop, of the file and of the hint, as far as there are
+abbrev pub stopped_text : Stopped → List ℕ
+stopped_text stopped = stop_line stopped.stop ++ file_line stopped.file ++ hint_line stopped.hint
 
 -- the same result, with its failure as why it stopped
 abbrev pub IsStopOf : {T : Type 0} → Result T Failure → Result T Stop → Type 0

@@ -1,9 +1,8 @@
 //! Reads the files to work on.
-ghost use Rattle.std.specs.Prelude.{◌≡◌, ◌+◌, ◌^◌, IfErr, IfSome, OnOk, take};
-ghost use Rattle.cli_files.specs.Read.{IsRefused};
+ghost use Rattle.std.specs.Prelude.{IfErr, IfOk, OnOk};
+ghost use Rattle.cli_files.specs.Read.{IsRead, IsReadOf, IsRefused};
 
 use cli_faults::Failure;
-use packed::{Fault, FaultCode};
 use std::fs::OpenFile;
 use std::io::Read;
 use std::rt::Files;
@@ -19,13 +18,13 @@ pub const STANDARD_INPUT: &str = "-";
 ///
 /// # Errors
 ///
-/// Fault 101 if it is a regular file that reports more than 2^30 bytes: it is not read. Else the error of opening or
-/// reading it.
+/// The error of opening or reading it.
 pub fn read_file<'a, R: Files + Input + AllocGlobal>(
     rt: &R,
     file: &'a str,
 ) -> Result<Vec<u8>, Failure<'a>>
-    ensures { IfErr result (IsRefused file.now) }
+    ensures read { IfOk result (λ bytes. IsRead R.File.remaining R.Reader.remaining file.now bytes.items) }
+    ensures refused { IfErr result (IsRefused file.now) }
 {
     let mut bytes = Vec::new(rt.alloc());
     read_into(rt, file, &mut bytes)?;
@@ -42,41 +41,37 @@ pub fn read_into<'a, R: Files + Input>(
     file: &'a str,
     bytes: &mut Vec<u8>,
 ) -> Result<(), Failure<'a>>
-    ensures { IfErr result (IsRefused file.now) }
+    ensures read { OnOk result (IsRead R.File.remaining R.Reader.remaining file.now bytes.new.items) }
+    ensures refused { IfErr result (IsRefused file.now) }
 {
     match read_prefix(rt, file, bytes) {
-        Ok(Some(_)) => Ok(()),
-        Ok(None) => Err(Failure::Fault(Fault::new(FaultCode::TooLong, 0))),
+        Ok(_) => Ok(()),
         Err(error) => Err(Failure::of_reading(&error, file)),
     }
 }
 
-/// Reads a file, or its first 2^30 + 1 bytes if it has more, and returns the number of bytes; `None` if it is a regular
-/// file that reports more.
-fn read_prefix<R: Files + Input>(
-    rt: &R,
-    path: &str,
-    bytes: &mut Vec<u8>,
-) -> io::Result<Option<usize>> {
+/// Reads a file, or its first 2^30 + 1 bytes if it has more, and returns the number of bytes.
+fn read_prefix<R: Files + Input>(rt: &R, path: &str, bytes: &mut Vec<u8>) -> io::Result<usize>
+    ensures { OnOk result (IsRead R.File.remaining R.Reader.remaining path.now bytes.new.items) }
+{
     if path == STANDARD_INPUT {
-        return Ok(Some(read_first(rt.reader(), 0, bytes)?));
+        return read_first(rt.reader(), 0, bytes);
     }
     let file = fs::open(rt, path)?;
     let reported = match file.metadata() {
-        Ok(metadata) if metadata.is_file() && metadata.len() > LIMIT => return Ok(None),
         Ok(metadata) => metadata.len(),
         Err(_) => 0,
     };
-    Ok(Some(read_first(file, reported, bytes)?))
+    read_first(file, reported, bytes)
 }
 
 /// Reads all bytes of a reader, or the first 2^30 + 1 if it has more, and returns their number. It is expected to have
 /// `reported` bytes.
 fn read_first<F: Read + Drop>(reader: F, reported: u64, bytes: &mut Vec<u8>) -> io::Result<usize>
-    ensures { OnOk result (IfSome (F.remaining reader) (λ all. bytes.new.items ≡ take (2 ^ 30 + 1) all)) }
+    ensures { OnOk result (IsReadOf F.remaining reader bytes.new.items) }
 {
-    // One byte more than a file may have is read. So a file that grows is refused for its length, and reading an endless
-    // one stops.
+    // One byte more than a file may have is read. So a file that is too long is refused for its length, and reading an
+    // endless one stops.
     let most = LIMIT + 1;
     // Room for the reported size and one byte more, to see the end. Some files report 0, and others grow.
     bytes.clear();

@@ -6,13 +6,14 @@
 //!
 //! ```text
 //! let bytes = read_file(&rt, "one_module.dll")?;
-//! status(with_hint(outcome, false, &bytes), &mut err) // 1 if `outcome` is a fault, which `err` then has
+//! status(rt.alloc(), with_hint(outcome, false, &bytes), &mut err) // 1 if `outcome` is a fault, which `err` then has
 //! ```
 #![tactic(auto)]
 
 mod hint;
 mod input;
 mod kind_keeper;
+mod message;
 mod names;
 mod numbers;
 mod output_file;
@@ -20,6 +21,7 @@ mod stopped;
 
 pub use hint::{Hint, hint_of};
 pub use input::{LIMIT, STANDARD_INPUT, read_file, read_into};
+pub use message::send_message;
 pub use names::{code_of, names_of_type, table_of};
 pub use numbers::{offset_of, token_of, type_row_of};
 pub use output_file::{is_standard_output, write_root};

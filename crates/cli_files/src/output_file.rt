@@ -4,8 +4,10 @@ ghost use Rattle.std.specs.Io.KnownBytes.{Appends};
 ghost use Rattle.cli_faults.specs.Status.{IsUnwritten};
 ghost use Rattle.cli_files.specs.Written.{WasGiven};
 
+use crate::input::STANDARD_INPUT;
 use crate::kind_keeper::KindKeeper;
-use cli_faults::{Failure, FileError};
+use cli_faults::{Failure, FileError, Reason};
+use std::alloc::{AllocError, Global};
 use std::fs::{Metadata, OpenFile, OpenOptions, Permissions};
 use std::io::{ErrorKind, Write};
 use std::os::unix::fs::{MetadataExt, OpenOptionsExt, PermissionsExt};
@@ -13,8 +15,11 @@ use std::rt::Files;
 use std::{fs, io};
 use writer::{Counted, Prepared};
 
+/// The standard input of this process, by its path.
+const INPUT_PATH: &str = "/dev/stdin";
+
 /// The standard output of this process, by its path.
-const STANDARD_OUTPUT: &str = "/dev/stdout";
+const OUTPUT_PATH: &str = "/dev/stdout";
 
 /// The device that takes everything and keeps nothing.
 const NULL_DEVICE: &str = "/dev/null";
@@ -22,34 +27,67 @@ const NULL_DEVICE: &str = "/dev/null";
 /// What is appended to the path of a file that is replaced, for the file that is written first.
 const SUFFIX: &str = ".clim-new";
 
+/// The number of such files that are tried. Runs that were killed may have left the first ones.
+const ATTEMPTS: u32 = 100;
+
 /// The permissions of that file until it is written: its owner may read and write it.
 const PRIVATE: u32 = 0o600;
 
 /// The bits of a mode for reading, writing and executing a file.
 const ACCESS: u32 = 0o777;
 
+/// Whether two files are one, as far as the system reports it.
+#[derive(Clone, Copy, PartialEq, Eq)]
+enum Relation {
+    /// They are one file.
+    Same,
+    /// They are two files.
+    Different,
+    /// It is not known.
+    Unknown,
+}
+
+impl Relation {
+    /// Compares two files by their device and number.
+    fn of(left: &Metadata, right: &Metadata) -> Relation {
+        // A file system that numbers no files reports 0.
+        if left.dev() != right.dev() || left.ino() != right.ino() {
+            Relation::Different
+        } else if left.ino() == 0 {
+            Relation::Unknown
+        } else {
+            Relation::Same
+        }
+    }
+
+    /// Compares the file that a path leads to with another.
+    fn at<R: Files>(rt: &R, path: &str, other: &Metadata) -> Relation {
+        match fs::metadata(rt, path) {
+            Ok(found) => Relation::of(&found, other),
+            Err(_) => Relation::Unknown,
+        }
+    }
+}
+
 /// Whether a path is that of the standard output: a terminal, a pipe or a file that the shell opened. `/dev/null` keeps
 /// nothing, so there two outputs do not mix.
 pub fn is_standard_output<R: Files>(rt: &R, path: &str) -> bool {
-    path != NULL_DEVICE && file_at_both(rt, STANDARD_OUTPUT, path).is_some()
-}
-
-/// The metadata of the file that both paths lead to, if they lead to one file.
-fn file_at_both<R: Files>(rt: &R, left: &str, right: &str) -> Option<Metadata> {
-    let left = fs::metadata(rt, left).ok()?;
-    let right = fs::metadata(rt, right).ok()?;
-    // A file system that numbers no files reports 0.
-    let is_same = right.ino() != 0 && left.ino() == right.ino() && left.dev() == right.dev();
-    if is_same { Some(right) } else { None }
+    if path == NULL_DEVICE {
+        return false;
+    }
+    match fs::metadata(rt, path) {
+        Ok(found) => Relation::at(rt, OUTPUT_PATH, &found) == Relation::Same,
+        Err(_) => false,
+    }
 }
 
 /// Writes a root to the file at `path`, and returns the file. The file is created or truncated first. But if it is the
-/// file that was read, the root is written beside it and then takes its place, so that nothing is lost if the disk is
-/// full.
+/// file that was read, or may be it, the root is written beside it and then takes its place, so that nothing is lost if
+/// the disk is full. The path `-` was read as that of the standard input.
 ///
 /// # Errors
 ///
-/// Out of memory, or the file cannot be written.
+/// Out of memory, or the file cannot be written; or it is what was read, and cannot be replaced, as a device.
 pub fn write_root<'a, R: Files + AllocGlobal>(
     rt: &R,
     root: &Prepared,
@@ -59,10 +97,34 @@ pub fn write_root<'a, R: Files + AllocGlobal>(
     ensures given { IfOk result (WasGiven R.File.contents root.now) }
     ensures unwritten { IfErr result (IsUnwritten path.now) }
 {
-    match file_at_both(rt, read, path) {
-        Some(metadata) if metadata.is_file() => replace(rt, root, &metadata, path),
-        _ => overwrite(rt, root, path),
+    // Of a file that cannot be found, creating it says why.
+    let Ok(found) = fs::metadata(rt, path) else {
+        return overwrite(rt, root, path);
+    };
+    match (Relation::at(rt, path_of(read), &found), found.is_file()) {
+        (Relation::Same | Relation::Unknown, true) => replace(rt, root, &found, path),
+        (Relation::Same, false) => Err(not_replaced(path)),
+        (Relation::Different, _) | (Relation::Unknown, false) => overwrite(rt, root, path),
     }
+}
+
+/// The path that leads to what was read from a file.
+fn path_of<'a>(file: &'a str) -> &'a str {
+    if file == STANDARD_INPUT {
+        INPUT_PATH
+    } else {
+        file
+    }
+}
+
+/// The failure for a path that leads to what was read, which cannot be replaced.
+fn not_replaced<'a>(path: &'a str) -> Failure<'a>
+    ensures { IsUnwritten path.now result }
+{
+    Failure::CannotWriteFile(FileError {
+        path,
+        reason: Reason::Input,
+    })
 }
 
 /// Writes a root to a file, which is created or truncated first, and returns it.
@@ -92,11 +154,12 @@ fn replace<'a, R: Files + AllocGlobal>(
         Ok(target) => target,
         Err(error) => return Err(Failure::of_opening(&error, path)),
     };
-    let Ok(beside) = format!(in rt.alloc(); "{}{SUFFIX}", target.as_str()) else {
-        return Err(Failure::OutOfMemory);
-    };
-    let file = match create_private(rt, beside.as_str()) {
-        Ok(file) => file,
+    // An open file that was removed leads to a path of which another file may have been made.
+    if Relation::at(rt, target.as_str(), replaced) == Relation::Different {
+        return Err(not_replaced(path));
+    }
+    let (file, beside) = match create_beside(rt, target.as_str()) {
+        Ok(created) => created,
         Err(error) => return Err(Failure::of_opening(&error, path)),
     };
     let outcome = match send(root, file, path) {
@@ -110,6 +173,29 @@ fn replace<'a, R: Files + AllocGlobal>(
         let _ = fs::remove_file(rt, beside.as_str());
     }
     outcome
+}
+
+/// Creates a file beside the one at a path, and returns it with its own path. No file that is there is touched, and no link
+/// is followed.
+fn create_beside<R: Files + AllocGlobal>(rt: &R, target: &str) -> io::Result<(R::File, String)> {
+    for number in 1..=ATTEMPTS {
+        let beside = path_beside(rt.alloc(), target, number)?;
+        match create_private(rt, beside.as_str()) {
+            Ok(file) => return Ok((file, beside)),
+            Err(error) if error.kind() == ErrorKind::AlreadyExists => {}
+            Err(error) => return Err(error),
+        }
+    }
+    Err(io::Error::from(ErrorKind::AlreadyExists))
+}
+
+/// The path of the file with this number beside a file: PATH.clim-new, PATH.clim-new2, PATH.clim-new3 ..
+fn path_beside(alloc: Global, target: &str, number: u32) -> Result<String, AllocError> {
+    if number == 1 {
+        format!(in alloc; "{target}{SUFFIX}")
+    } else {
+        format!(in alloc; "{target}{SUFFIX}{number}")
+    }
 }
 
 /// A new file that only its owner may use.

@@ -1,18 +1,21 @@
 //! Why a run stopped early, and what the user may have meant.
 ghost use Rattle.std.specs.Prelude.{◌≡◌, ◌↔◌, ◌≤◌, ◌++◌, ◌∷◌, [], IfErr, IfOk, IsOk, None, OnOk, Some};
+ghost use Rattle.std.specs.Fmt.{WritesOnOk};
 ghost use Rattle.std.specs.Io.KnownBytes.{Appends};
 ghost use Rattle.cli_files.specs.Hints.{hint_for};
-ghost use Rattle.cli_files.specs.Stopped.{IsStopOf, is_printed, reported_text, status_of_outcome, stopped_text};
+ghost use Rattle.cli_files.specs.Stopped.{IsStopOf, file_line, hint_line, is_printed, status_of_outcome, stop_line, stopped_text};
 ghost use Rattle.cli_faults.specs.Stops.{status_of_stop};
 ghost use Rattle.cli_faults.specs.declared.stop.Stop.TheVariants.{Failed};
 
 use crate::hint::{Hint, hint_of};
+use crate::message::send_message;
 use cli_faults::{Escaped, Failure, Stop};
+use std::alloc::Global;
 use std::io::Write;
 use std::{fmt, io};
 
-/// Why a run stopped early, and what the user may have meant. `Display` gives the lines for standard error, without the
-/// last line feed: first that of the stop, then that of the file, then that of the hint.
+/// Why a run stopped early, and what the user may have meant. `Display` gives the lines for standard error: that of the
+/// stop, unless standard output says why it stopped, then that of the file, then that of the hint.
 #[derive(Clone, Copy, Debug, PartialEq, Eq)]
 pub struct Stopped<'a> {
     /// Why it stopped.
@@ -57,9 +60,8 @@ pub fn stopped_by<'a>(outcome: Result<(), Failure<'a>>) -> Result<(), Stop<'a>>
     Ok(outcome?)
 }
 
-/// The exit code of a run. If the program stopped early, it reports that first. If the output says why, it reports only what
-/// the user may have meant.
-pub fn status<E: Write>(outcome: Result<(), Stopped<'_>>, err: &mut E) -> u8
+/// The exit code of a run. If the program stopped early, it reports that first.
+pub fn status<E: Write>(alloc: Global, outcome: Result<(), Stopped<'_>>, err: &mut E) -> u8
     ensures done { IfOk outcome.entry (λ _. result ≡ 0) }
     ensures stopped { IfErr outcome.entry (λ stopped. result ≡ status_of_stop stopped.stop) }
     ensures status { result ≡ status_of_outcome outcome.entry }
@@ -70,10 +72,24 @@ pub fn status<E: Write>(outcome: Result<(), Stopped<'_>>, err: &mut E) -> u8
         Ok(()) => 0,
         Err(stopped) => {
             // A report that cannot be written changes nothing.
-            let _ = report(&stopped, err);
+            let _ = report(alloc, &stopped, err);
             stopped.stop.status()
         }
     }
+}
+
+/// Reports that memory ran out, and returns the exit code for that.
+pub fn out_of_memory<E: Write>(alloc: Global, err: &mut E) -> u8
+    ensures { result ≡ 3 }
+{
+    status(alloc, Err(Stopped::from(Failure::OutOfMemory)), err)
+}
+
+/// Reports why a run stopped early.
+fn report<E: Write>(alloc: Global, stopped: &Stopped<'_>, err: &mut E) -> io::Result<()>
+    ensures { OnOk result (Appends (E.contents err.old) (E.contents err.new) (stopped_text stopped.now)) }
+{
+    send_message(alloc, stopped, err)
 }
 
 /// Whether the output says why the run stopped.
@@ -81,26 +97,6 @@ fn is_printed(stop: &Stop<'_>) -> bool
     ensures { result ≡ is_printed stop.now }
 {
     matches!(stop, Stop::Different | Stop::NothingAt(_) | Stop::Broken)
-}
-
-/// Reports that memory ran out, and returns the exit code for that.
-pub fn out_of_memory<E: Write>(err: &mut E) -> u8
-    ensures { result ≡ 3 }
-{
-    status(Err(Stopped::from(Failure::OutOfMemory)), err)
-}
-
-/// Prints why a run stopped early, unless the output says that, and what the user may have meant.
-fn report<E: Write>(stopped: &Stopped<'_>, err: &mut E) -> io::Result<()>
-    ensures { OnOk result (Appends (E.contents err.old) (E.contents err.new) (reported_text stopped.now)) }
-{
-    if !is_printed(&stopped.stop) {
-        return writeln!(err, "{stopped}");
-    }
-    match &stopped.hint {
-        Some(hint) => writeln!(err, "{hint}"),
-        None => Ok(()),
-    }
 }
 
 impl<'a> From<Stop<'a>> for Stopped<'a> {
@@ -131,13 +127,38 @@ impl fmt::Display for Stopped<'_> {
     ghost output = { λ stopped. Some (stopped_text stopped) };
 
     fn fmt<W: fmt::Write>(&self, f: &mut fmt::Formatter<W>) -> fmt::Result {
-        match (self.file, &self.hint) {
-            (Some(file), Some(hint)) => {
-                write!(f, "{}\n  file: {}\n{hint}", self.stop, Escaped(file))
-            }
-            (Some(file), None) => write!(f, "{}\n  file: {}", self.stop, Escaped(file)),
-            (None, Some(hint)) => write!(f, "{}\n{hint}", self.stop),
-            (None, None) => write!(f, "{}", self.stop),
-        }
+        write_stop(&self.stop, f)?;
+        write_file(self.file, f)?;
+        write_hint(self.hint, f)
+    }
+}
+
+/// Writes the line of a stop, unless standard output says why the run stopped.
+fn write_stop<W: fmt::Write>(stop: &Stop<'_>, f: &mut fmt::Formatter<W>) -> fmt::Result
+    ensures { WritesOnOk W.write_str_gives f.old result (stop_line stop.now) f.new }
+{
+    if is_printed(stop) {
+        return Ok(());
+    }
+    write!(f, "{stop}\n")
+}
+
+/// Writes the line with the name of a file, if there is one.
+fn write_file<W: fmt::Write>(file: Option<&str>, f: &mut fmt::Formatter<W>) -> fmt::Result
+    ensures { WritesOnOk W.write_str_gives f.old result (file_line file.entry) f.new }
+{
+    match file {
+        Some(file) => write!(f, "  file: {}\n", Escaped(file)),
+        None => Ok(()),
+    }
+}
+
+/// Writes the line of a hint, if there is one.
+fn write_hint<W: fmt::Write>(hint: Option<Hint>, f: &mut fmt::Formatter<W>) -> fmt::Result
+    ensures { WritesOnOk W.write_str_gives f.old result (hint_line hint) f.new }
+{
+    match hint {
+        Some(hint) => write!(f, "{hint}\n"),
+        None => Ok(()),
     }
 }

@@ -32,8 +32,8 @@ is refused or the root is too long (fault 901), OUT is not changed. If writing O
 root.
 
 OUT may be FILE. Then the root is written to a new file beside it, with '.clim-new' added to its name, which
-replaces FILE when it is whole: if the disk is full, FILE is kept. OUT must not be the standard output, which
-takes the line 'wrote N bytes'.
+replaces FILE when it is whole: if the disk is full, FILE is kept. OUT must not be '-' or the standard output,
+which takes the line 'wrote N bytes'.
 
 Examples:
   $ clim rewrite one_module.dll out.root

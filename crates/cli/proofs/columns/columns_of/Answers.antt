@@ -1,4 +1,4 @@
-use Rattle.std.proofs.Common.{◌+◌, ℕ, List, [], All, drop, get_or, subst, sym, take}
+use Rattle.std.proofs.Common.{◌+◌, ℕ, List, [], All, drop, subst, sym, take}
 use Rattle.std.specs.List.{Any}
 use Rattle.std.specs.Borrow.{Bor}
 use Rattle.std.proofs.lemmas.List.{take_all}

@@ -8,7 +8,7 @@ returns-in_default g c =
 
 pub returns-in-Err : goal.returns-in-Err
 returns-in-Err g c =
-    not_read c.args.options.budget c.args.options.bare c.args.name.now c.in-Ok.file.now c.in-Err.failure _ c.about.result c.in-Ok.ensures.cases.0 c.in-Err.ensures refl c.about.ensures
+    not_read c.args.options.budget c.args.options.bare c.args.name.now c.in-Ok.file.now c.in-Err.failure _ c.about.result c.in-Ok.ensures.cases.0 c.in-Err.ensures.refused refl c.about.ensures
 
 pub returns-in-Ok-check_bytes : goal.returns-in-Ok-check_bytes
 returns-in-Ok-check_bytes g c = read_whole c.args.options.budget c.args.options.bare c.args.name.now c.as_slice.result.now c.in-Ok-check_bytes.ensures.whole

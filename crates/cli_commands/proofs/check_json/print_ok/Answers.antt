@@ -6,7 +6,7 @@ use Rattle.cli_commands.proofs.check_json.print_ok.Goals as goal
 
 pub returns-in_err-bytes : goal.returns-in_err-bytes
 returns-in_err-bytes g c =
-    not_read g.W.Write.contents c.args.out.now c.args.out.now c.args.bare c.args.file.now c.from_residual.result c.in_err-bytes.field-0.0 c.in_err-bytes.ensures refl c.from_residual.ensures.1
+    not_read g.W.Write.contents c.args.out.now c.args.out.now c.args.bare c.args.file.now c.from_residual.result c.in_err-bytes.field-0.0 c.in_err-bytes.ensures.refused refl c.from_residual.ensures.1
 
 pub returns : goal.returns
 returns g c =

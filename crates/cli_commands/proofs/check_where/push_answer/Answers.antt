@@ -1,4 +1,4 @@
-use Rattle.std.proofs.Common.{List, ℕ, ◌++◌, ◌∙◌, ◌∷◌, [], ap}
+use Rattle.std.proofs.Common.{◌++◌, ◌∙◌, ◌∷◌, [], ap}
 use Rattle.packed.specs.Codes.{fault_text}
 use Rattle.cli_commands.proofs.FaultLemmas.{on_ok}
 use Rattle.cli_commands.proofs.WhereChecking.{answer_joined}

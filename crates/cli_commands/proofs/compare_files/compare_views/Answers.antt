@@ -1,4 +1,4 @@
-use Rattle.std.proofs.Common.{◌∙◌, ℕ, List, All, Err, ap, length, refl, subst, sym, arith}
+use Rattle.std.proofs.Common.{◌∙◌, ℕ, List, All, Err, ap, length, subst, sym, arith}
 use Rattle.std.specs.Io.KnownBytes.{Appends}
 use Rattle.std.proofs.lemmas.Bool.Decides.{Decides-eqb}
 use Rattle.metadata.specs.Model.{IsModel}

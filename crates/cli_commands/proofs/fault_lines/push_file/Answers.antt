@@ -1,4 +1,4 @@
-use Rattle.std.proofs.Common.{◌≡◌, ◌++◌, ◌∙◌, List, ℕ, ap, subst, sym}
+use Rattle.std.proofs.Common.{◌++◌, ◌∙◌, ap, subst, sym}
 use Rattle.packed.specs.Rule.{AllHold}
 use Rattle.pe.specs.Headers.{image_of}
 use Rattle.pe.specs.Image.{Image}

@@ -1,4 +1,4 @@
-use Rattle.std.proofs.Common.{◌≡◌, ◌++◌, ◌≤◌, ◌∙◌, List, ℕ, ap, arith, subst, sym}
+use Rattle.std.proofs.Common.{◌++◌, ◌∙◌, List, ℕ, ap, arith, subst, sym}
 use Rattle.cli_header.specs.Rules.{rules_of_cli_header}
 use Rattle.cli_header.specs.Said.{header_of}
 use Rattle.cli_header.specs.declared.header.CliHeader.{CliHeader}

@@ -1,4 +1,4 @@
-use Rattle.std.proofs.Common.{◌≡◌, ◌++◌, ◌+◌, ◌∙◌, [], List, ℕ, ap, arith, subst, sym, unwrap_or}
+use Rattle.std.proofs.Common.{◌+◌, ◌∙◌, [], List, ℕ, ap, subst, sym, unwrap_or}
 use Rattle.std.specs.Option.{option_map}
 use Rattle.root.specs.Rules.{rules_of_root}
 use Rattle.root.specs.Streams.{range_of, stream_of}

@@ -1,4 +1,4 @@
-use Rattle.std.proofs.Common.{◌≡◌, ◌++◌, List, ℕ, arith, subst, sym}
+use Rattle.std.proofs.Common.{◌≡◌, arith, subst, sym}
 use Rattle.schema.specs.Header.{sizes_of}
 use Rattle.schema.specs.Rules.{rules_of_stream}
 use Rattle.schema.specs.Sizes.{Sizes}

@@ -3,7 +3,7 @@ use Rattle.cli_commands.proofs.TokenLines.{reported_lines}
 use Rattle.cli_commands.proofs.print_tokens.print_tokens.Goals as goal
 
 pub returns-in_err-read : goal.returns-in_err-read
-returns-in_err-read g c = (Err c.in_err-read.field-0.0, (c.in_err-read.ensures, c.from_residual.ensures.1, refl))
+returns-in_err-read g c = (Err c.in_err-read.field-0.0, (c.in_err-read.ensures.refused, c.from_residual.ensures.1, refl))
 
 pub returns : goal.returns
 returns g c = (

@@ -67,22 +67,71 @@ fn replaces_its_file(rt: HostRuntime) -> Result<(), Fail> {
     Ok(())
 }
 
-/// A file that somebody left beside is not overwritten.
+/// A file that was left beside is not overwritten, a link there is not followed, and neither is in the way.
 #[test]
 fn keeps_what_is_beside(rt: HostRuntime) -> Result<(), Fail> {
-    fs::write(&rt, "left.dll", image().as_slice())?;
+    fs::write(&rt, "other", b"other".as_slice())?;
     fs::write(&rt, "left.dll.clim-new", b"left".as_slice())?;
+    symlink(&rt, "other", "left.dll.clim-new2")?;
+    symlink(&rt, "lacks", "left.dll.clim-new3")?;
+    fs::write(&rt, "left.dll", image().as_slice())?;
     let (status, out, err) = answer(&rt, &["clim", "rewrite", "left.dll", "left.dll"])?;
+    assert_eq!(rt; status, 0, "{err}");
+    assert_eq!(rt; out.as_str(), "wrote 144 bytes\n");
+    assert_eq!(rt; fs::read(&rt, "left.dll")?.as_slice(), ONE_MODULE.as_slice());
+    assert_eq!(rt; fs::read(&rt, "left.dll.clim-new")?.as_slice(), b"left".as_slice());
+    assert_eq!(rt; fs::read(&rt, "other")?.as_slice(), b"other".as_slice());
+    assert!(rt; fs::read(&rt, "lacks").is_err());
+    assert!(rt; fs::read(&rt, "left.dll.clim-new4").is_err());
+    for file in ["left.dll", "left.dll.clim-new", "left.dll.clim-new2", "left.dll.clim-new3", "other"] {
+        fs::remove_file(&rt, file)?;
+    }
+    Ok(())
+}
+
+/// If a hundred files were left beside, FILE stays as it is.
+#[test]
+fn gives_up_after_a_hundred_names(rt: HostRuntime) -> Result<(), Fail> {
+    fs::write(&rt, "many.dll", image().as_slice())?;
+    fs::write(&rt, "many.dll.clim-new", b"left".as_slice())?;
+    for number in 2..=100 {
+        let left = format!(in rt.alloc(); "many.dll.clim-new{number}")?;
+        fs::write(&rt, left.as_str(), b"left".as_slice())?;
+    }
+    let (status, out, err) = answer(&rt, &["clim", "rewrite", "many.dll", "many.dll"])?;
     assert_eq!(rt; status, 3);
     assert!(rt; out.is_empty());
     assert_eq!(rt;
         err.as_str(),
-        "error: cannot write left.dll\n  reason: the file OUT.clim-new exists\n"
+        "error: cannot write many.dll\n  reason: too many files OUT.clim-new, OUT.clim-new2 .. exist\n"
     );
-    assert_eq!(rt; fs::read(&rt, "left.dll")?.as_slice(), image().as_slice());
-    assert_eq!(rt; fs::read(&rt, "left.dll.clim-new")?.as_slice(), b"left".as_slice());
-    fs::remove_file(&rt, "left.dll")?;
-    fs::remove_file(&rt, "left.dll.clim-new")?;
+    assert_eq!(rt; fs::read(&rt, "many.dll")?.as_slice(), image().as_slice());
+    fs::remove_file(&rt, "many.dll")?;
+    fs::remove_file(&rt, "many.dll.clim-new")?;
+    for number in 2..=100 {
+        let left = format!(in rt.alloc(); "many.dll.clim-new{number}")?;
+        fs::remove_file(&rt, left.as_str())?;
+    }
+    Ok(())
+}
+
+/// `-` is no OUT, whatever FILE is. A file of that name is written by its path.
+#[test]
+fn refuses_a_dash(rt: HostRuntime) -> Result<(), Fail> {
+    let (status, out, err) = answer(&rt, &["clim", "rewrite", "lacks", "-"])?;
+    assert_eq!(rt; status, 2);
+    assert!(rt; out.is_empty());
+    assert_eq!(rt;
+        err.as_str(),
+        "error: OUT is a file, and '-' is none\n  hint: './-' is the file with that name\n"
+    );
+    assert!(rt; fs::read(&rt, "./-").is_err());
+    fs::write(&rt, "dash.dll", image().as_slice())?;
+    let (status, out, err) = answer(&rt, &["clim", "rewrite", "dash.dll", "./-"])?;
+    assert_eq!(rt; status, 0, "{err}");
+    assert_eq!(rt; out.as_str(), "wrote 144 bytes\n");
+    fs::remove_file(&rt, "./-")?;
+    fs::remove_file(&rt, "dash.dll")?;
     Ok(())
 }
 
@@ -101,9 +150,9 @@ fn refuses_the_standard_output(rt: HostRuntime) -> Result<(), Fail> {
     Ok(())
 }
 
-/// A regular file that reports more than 2^30 bytes is not read. One that reports too few is read to its end.
+/// A file that reports another length than it has is read to its end, and a long one that cannot be read has no fault.
 #[test]
-fn goes_by_the_reported_length(rt: HostRuntime) -> Result<(), Fail> {
+fn reads_whatever_length_is_reported(rt: HostRuntime) -> Result<(), Fail> {
     fs::write(&rt, "grows.root", ONE_MODULE.as_slice())?;
     let words = ["clim", "check", "--bare", "grows.root"];
     let long = Disk {
@@ -112,9 +161,12 @@ fn goes_by_the_reported_length(rt: HostRuntime) -> Result<(), Fail> {
         ..disk(&rt, 0)
     };
     let (status, out, err) = answer_on(long, &words)?;
-    assert_eq!(rt; status, 1);
+    assert_eq!(rt; status, 3);
     assert!(rt; out.is_empty());
-    assert_eq!(rt; err.as_str(), "fault 1 101 at 0: TooLong\n");
+    assert_eq!(rt;
+        err.as_str(),
+        "error: cannot read grows.root\n  reason: another error of the system\n"
+    );
     for reported in [0, 1, 143, 145, 5000] {
         let short = Disk {
             reported: Some(reported),
