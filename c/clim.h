@@ -45,7 +45,7 @@
  *     CLIM_NO_HEADER, CLIM_NO_STREAM, CLIM_NO_LOCATION, CLIM_NO_DIFFERENCE and CLIM_NO_REFUSAL.
  *   - A clim_view is copied as a whole. Only calls write its fields.
  *   - The bytes that were opened do not change and do not move, while a view of them, or a text or a blob from
- *     that view, is in use.
+ *     that view, is in use. So they are no map of a file that another process can write.
  */
 #ifndef CLIM_H
 #define CLIM_H

@@ -15,6 +15,7 @@ using System;
 using System.Collections.Generic;
 using System.Runtime.InteropServices;
 using System.Text;
+using System.Threading;
 
 namespace Clim
 {
@@ -422,6 +423,9 @@ namespace Clim
 
         public IntPtr Bytes { get { return handle + Size; } }
 
+        /// <summary>The root, as the view has it. A caller holds the memory.</summary>
+        public NativeBytes Root { get { return (NativeBytes)Marshal.PtrToStructure(handle, typeof(NativeBytes)); } }
+
         public override bool IsInvalid { get { return handle == IntPtr.Zero; } }
 
         protected override bool ReleaseHandle()
@@ -631,9 +635,15 @@ namespace Clim
 
         public static UIntPtr Length(byte[] bytes)
         {
+            return (UIntPtr)bytes.Length;
+        }
+
+        /// <summary>A copy of bytes for a call: another thread may change those of the caller meanwhile.</summary>
+        public static byte[] CopyOf(byte[] bytes)
+        {
             if (bytes == null)
                 throw new ArgumentNullException("bytes");
-            return (UIntPtr)bytes.Length;
+            return (byte[])bytes.Clone();
         }
     }
 
@@ -664,8 +674,8 @@ namespace Clim
         internal uint Number() { return Next(CellKind.Number, CellKind.Number).Number; }
         internal int Start() { return (int)Next(CellKind.Start, CellKind.Start).Number; }
         internal string Text() { return assembly.TextOf(Next(CellKind.Text, CellKind.Text).Bytes); }
-        internal byte[] Blob() { return Assembly.BytesOf(Next(CellKind.Blob, CellKind.Blob).Bytes); }
-        internal byte[] Signature() { return Assembly.BytesOf(Next(CellKind.Signature, CellKind.Signature).Bytes); }
+        internal byte[] Blob() { return assembly.BytesOf(Next(CellKind.Blob, CellKind.Blob).Bytes); }
+        internal byte[] Signature() { return assembly.BytesOf(Next(CellKind.Signature, CellKind.Signature).Bytes); }
 
         internal Guid? Guid()
         {
@@ -710,17 +720,22 @@ namespace Clim
     /// </summary>
     public sealed class Assembly : IDisposable
     {
-        // The number of rows that are read at a time.
-        const int Chunk = 256;
+        // The numbers of rows whose cells are read at a time, at first and at most.
+        const int FirstPiece = 256;
+        const int LargestPiece = 1 << 14;
         // The number of rows that a look-up by key expects.
         const int Expected = 16;
         // The number of types in one full name.
         const int Depth = 64;
-        // The number of bytes of a text that is kept for other rows.
-        const int Kept = 256;
 
         readonly Memory memory;
+        // Texts by their addresses, for other rows that name them, and the number of characters that may be kept still. Texts
+        // of a crafted file can overlap, and then have much more bytes than the file.
         readonly Dictionary<IntPtr, string> texts = new Dictionary<IntPtr, string>();
+        int unused;
+        // The type that encloses each type, by their rows; 0 if none does. A look-up for each type would walk the whole table,
+        // if its rows are not in order.
+        readonly Lazy<int[]> enclosing;
 
         delegate bool Opening(IntPtr bytes, UIntPtr length, Memory view, ref NativeFault fault);
 
@@ -731,6 +746,8 @@ namespace Clim
             Native.CheckVersion();
             var fault = new NativeFault();
             memory = new Memory(bytes);
+            unused = memory.Length;
+            enclosing = new Lazy<int[]>(ReadEnclosing, LazyThreadSafetyMode.PublicationOnly);
             bool opened = false;
             try
             {
@@ -800,14 +817,16 @@ namespace Clim
         public static ClimFault Check(byte[] file)
         {
             var fault = new NativeFault();
-            return Native.clim_check(file, Native.Length(file), ref fault) ? null : FaultOf(fault);
+            var copy = Native.CopyOf(file);
+            return Native.clim_check(copy, Native.Length(copy), ref fault) ? null : FaultOf(fault);
         }
 
         /// <summary>The same for a bare metadata root.</summary>
         public static ClimFault CheckRoot(byte[] root)
         {
             var fault = new NativeFault();
-            return Native.clim_check_root(root, Native.Length(root), ref fault) ? null : FaultOf(fault);
+            var copy = Native.CopyOf(root);
+            return Native.clim_check_root(copy, Native.Length(copy), ref fault) ? null : FaultOf(fault);
         }
 
         /// <summary>The same as <see cref="Check(byte[])"/>, within a budget as that of <see cref="Open(byte[], ulong)"/>.</summary>
@@ -817,8 +836,9 @@ namespace Clim
         {
             byte spent = 0;
             var fault = new NativeFault();
+            var copy = Native.CopyOf(file);
             bool isWhole = Native.Newer(
-                () => Native.clim_check_within(file, Native.Length(file), budget, ref fault, ref spent));
+                () => Native.clim_check_within(copy, Native.Length(copy), budget, ref fault, ref spent));
             return Checked(isWhole, fault, spent);
         }
 
@@ -829,8 +849,9 @@ namespace Clim
         {
             byte spent = 0;
             var fault = new NativeFault();
+            var copy = Native.CopyOf(root);
             bool isWhole = Native.Newer(
-                () => Native.clim_check_root_within(root, Native.Length(root), budget, ref fault, ref spent));
+                () => Native.clim_check_root_within(copy, Native.Length(copy), budget, ref fault, ref spent));
             return Checked(isWhole, fault, spent);
         }
 
@@ -847,7 +868,8 @@ namespace Clim
         {
             var header = new CliHeader();
             var fault = new NativeFault();
-            if (!Native.clim_read_header(file, Native.Length(file), ref header, ref fault))
+            var copy = Native.CopyOf(file);
+            if (!Native.clim_read_header(copy, Native.Length(copy), ref header, ref fault))
                 throw FaultOf(fault);
             return header;
         }
@@ -857,7 +879,7 @@ namespace Clim
         {
             var name = NoBytes;
             Native.clim_table_name(table, ref name);
-            return Encoding.UTF8.GetString(BytesOf(name));
+            return NameOf(name);
         }
 
         /// <summary>The names of the columns of a table.</summary>
@@ -868,7 +890,7 @@ namespace Clim
             {
                 var name = NoBytes;
                 Native.clim_column_name(table, (UIntPtr)column, ref name);
-                names[column] = Encoding.UTF8.GetString(BytesOf(name));
+                names[column] = NameOf(name);
             }
             return names;
         }
@@ -877,7 +899,14 @@ namespace Clim
         public void Dispose()
         {
             memory.Dispose();
-            texts.Clear();
+            lock (texts)
+                texts.Clear();
+        }
+
+        void CheckOpen()
+        {
+            if (memory.IsClosed)
+                throw new ObjectDisposedException(typeof(Assembly).FullName);
         }
 
         /// <summary>The version string of the root, for example <c>v4.0.30319</c> (II.24.2.1).</summary>
@@ -887,7 +916,7 @@ namespace Clim
             {
                 var version = NoBytes;
                 Native.clim_version(memory, ref version);
-                return Held(() => Encoding.UTF8.GetString(BytesOf(version)));
+                return Encoding.UTF8.GetString(BytesOf(version));
             }
         }
 
@@ -898,7 +927,7 @@ namespace Clim
             {
                 var user = NoBytes;
                 Native.clim_user(memory, ref user);
-                return Held(() => BytesOf(user));
+                return BytesOf(user);
             }
         }
 
@@ -918,10 +947,12 @@ namespace Clim
         public IEnumerable<T> Rows<T>(RowRange range) where T : struct, IRow
         {
             var table = default(T).Table;
-            int past = Math.Min(range.Past, Count(table) + 1);
-            for (int first = Math.Max(range.First, 1); first < past; first += Chunk)
-                foreach (var row in Read<T>(table, first, Math.Min(Chunk, past - first)))
-                    yield return row;
+            foreach (var piece in Pieces(table, range))
+            {
+                var cells = new CellReader(this, ReadColumns(table, piece));
+                for (int row = piece.First; row < piece.Past; row++)
+                    yield return Read<T>(cells, row - piece.First, new Token(table, row));
+            }
         }
 
         /// <summary>A row, counted from 1.</summary>
@@ -931,7 +962,8 @@ namespace Clim
             var table = default(T).Table;
             if (number < 1 || number > Count(table))
                 throw new ArgumentOutOfRangeException("number", table + " has no row " + number);
-            return Read<T>(table, number, 1)[0];
+            var cells = new CellReader(this, ReadColumns(table, new RowRange(number, number + 1)));
+            return Read<T>(cells, 0, new Token(table, number));
         }
 
         /// <summary>The rows of a table that a row owns (II.22). It is empty if the row owns none of that table.</summary>
@@ -972,15 +1004,29 @@ namespace Clim
         /// <summary>The rows of a table whose key is a row, in ascending order; none if the table has no key.</summary>
         public T[] ByKey<T>(Token key) where T : struct, IRow
         {
+            var numbers = NumbersByKey(default(T).Table, key);
+            var rows = new List<T>(numbers.Length);
+            for (int first = 0, past; first < numbers.Length; first = past)
+            {
+                past = first + 1;
+                // Rows that follow one another are read together.
+                while (past < numbers.Length && numbers[past] == numbers[past - 1] + 1)
+                    past++;
+                rows.AddRange(Rows<T>(new RowRange((int)numbers[first], (int)numbers[past - 1] + 1)));
+            }
+            return rows.ToArray();
+        }
+
+        uint[] NumbersByKey(TableId table, Token key)
+        {
             for (int room = Expected; ; room *= Expected)
             {
                 var rows = new uint[room];
-                int count = (int)Native.clim_rows_by_key(
-                    memory, default(T).Table, key.Table, (uint)key.Row, rows, (UIntPtr)room);
+                int count = (int)Native.clim_rows_by_key(memory, table, key.Table, (uint)key.Row, rows, (UIntPtr)room);
                 if (count < room)
                 {
                     Array.Resize(ref rows, count);
-                    return Array.ConvertAll(rows, row => Row<T>((int)row));
+                    return rows;
                 }
             }
         }
@@ -1099,17 +1145,36 @@ namespace Clim
         /// </summary>
         public string FullName(TypeDefRow type)
         {
-            string name = OwnName(type);
-            for (int depth = 1; ; depth++)
+            CheckOpen();
+            var names = new List<string> { OwnName(type) };
+            for (int outer = EnclosingType(type.Token); outer > 0; outer = EnclosingType(type.Token))
             {
-                var nested = ByKey<NestedClassRow>(type.Token);
-                if (nested.Length == 0)
-                    return name;
-                if (depth == Depth)
-                    return "../" + name;
-                type = Row<TypeDefRow>(nested[0].EnclosingClass.Row);
-                name = OwnName(type) + "/" + name;
+                if (names.Count == Depth)
+                {
+                    names.Add("..");
+                    break;
+                }
+                type = Row<TypeDefRow>(outer);
+                names.Add(OwnName(type));
             }
+            names.Reverse();
+            return string.Join("/", names);
+        }
+
+        int EnclosingType(Token type)
+        {
+            bool isThere = type.Table == TableId.TypeDef && type.Row > 0 && type.Row < enclosing.Value.Length;
+            return isThere ? enclosing.Value[type.Row] : 0;
+        }
+
+        // If several rows have one nested type, the first counts.
+        int[] ReadEnclosing()
+        {
+            var outer = new int[Count(TableId.TypeDef) + 1];
+            foreach (var row in Rows<NestedClassRow>())
+                if (outer[row.NestedClass.Row] == 0)
+                    outer[row.NestedClass.Row] = row.EnclosingClass.Row;
+            return outer;
         }
 
         static string OwnName(TypeDefRow type)
@@ -1117,62 +1182,46 @@ namespace Clim
             return type.TypeNamespace.Length == 0 ? type.TypeName : type.TypeNamespace + "." + type.TypeName;
         }
 
-        /// <summary>Reads rows that are there.</summary>
-        T[] Read<T>(TableId table, int first, int count) where T : struct, IRow
+        /// <summary>Reads a row, whose cells were read.</summary>
+        T Read<T>(CellReader cells, int index, Token token) where T : struct, IRow
         {
-            return Held(() =>
-            {
-                var columns = new NativeCell[(int)Native.clim_cell_count(table)][];
-                for (int column = 0; column < columns.Length; column++)
-                    columns[column] = ReadColumn(table, first, column, count);
-                var cells = new CellReader(this, columns);
-                var rows = new T[count];
-                for (int index = 0; index < count; index++)
-                {
-                    cells.MoveTo(index, new Token(table, first + index));
-                    rows[index].Read(cells);
-                }
-                return rows;
-            });
+            CheckOpen();
+            var row = default(T);
+            cells.MoveTo(index, token);
+            row.Read(cells);
+            return row;
         }
 
-        /// <summary>The values of all cells of a table, row by row, as <see cref="Tables.Add"/> takes them.</summary>
-        internal IEnumerable<object[]> Values(TableId table)
+        /// <summary>The cells of all rows of a table, row by row.</summary>
+        internal IEnumerable<NativeCell[]> Cells(TableId table)
         {
-            int width = (int)Native.clim_cell_count(table), past = Count(table) + 1;
-            for (int first = 1; first < past; first += Chunk)
-                foreach (var row in Values(table, width, first, Math.Min(Chunk, past - first)))
-                    yield return row;
-        }
-
-        object[][] Values(TableId table, int width, int first, int count)
-        {
-            return Held(() =>
+            foreach (var piece in Pieces(table, new RowRange(1, int.MaxValue)))
             {
-                var rows = new object[count][];
-                for (int index = 0; index < count; index++)
-                    rows[index] = new object[width];
-                for (int column = 0; column < width; column++)
-                {
-                    var cells = ReadColumn(table, first, column, count);
-                    for (int index = 0; index < count; index++)
-                        rows[index][column] = ValueOf(cells[index]);
-                }
-                return rows;
-            });
-        }
-
-        object ValueOf(NativeCell cell)
-        {
-            switch (cell.Kind)
-            {
-                case CellKind.Number: case CellKind.Start: return cell.Number;
-                case CellKind.Text: return TextOf(cell.Bytes);
-                case CellKind.Blob: case CellKind.Signature: return BytesOf(cell.Bytes);
-                case CellKind.Guid: return cell.Guid;
-                case CellKind.Row: return new Token(cell.Table, (int)cell.Number);
-                default: return null;
+                var columns = ReadColumns(table, piece);
+                for (int index = 0; index < piece.Count; index++)
+                    yield return Array.ConvertAll(columns, column => column[index]);
             }
+        }
+
+        /// <summary>The rows of a range that a table has, in pieces: small ones first, for callers that need few rows.</summary>
+        IEnumerable<RowRange> Pieces(TableId table, RowRange range)
+        {
+            int first = Math.Max(range.First, 1), past = Math.Min(range.Past, Count(table) + 1);
+            for (int size = FirstPiece; first < past; size = Math.Min(2 * size, LargestPiece))
+            {
+                int end = first + Math.Min(size, past - first);
+                yield return new RowRange(first, end);
+                first = end;
+            }
+        }
+
+        /// <summary>The cells of rows that are there, column by column.</summary>
+        NativeCell[][] ReadColumns(TableId table, RowRange rows)
+        {
+            var columns = new NativeCell[(int)Native.clim_cell_count(table)][];
+            for (int column = 0; column < columns.Length; column++)
+                columns[column] = ReadColumn(table, rows.First, column, rows.Count);
+            return columns;
         }
 
         NativeCell[] ReadColumn(TableId table, int first, int column, int count)
@@ -1204,27 +1253,49 @@ namespace Clim
 
         internal string TextOf(NativeBytes bytes)
         {
-            // Texts of a crafted file can overlap, and then have much more bytes than the file. So long ones are not kept.
-            if (bytes.Length == UIntPtr.Zero || (ulong)bytes.Length > Kept)
-                return Encoding.UTF8.GetString(BytesOf(bytes));
+            if (bytes.Length == UIntPtr.Zero)
+                return "";
             string text;
             lock (texts)
             {
-                if (!texts.TryGetValue(bytes.At, out text))
+                if (texts.TryGetValue(bytes.At, out text))
+                    return text;
+                text = Encoding.UTF8.GetString(BytesOf(bytes));
+                if (text.Length <= unused)
                 {
-                    text = Encoding.UTF8.GetString(BytesOf(bytes));
+                    unused -= text.Length;
                     texts.Add(bytes.At, text);
                 }
             }
             return text;
         }
 
-        internal static byte[] BytesOf(NativeBytes bytes)
+        /// <summary>A copy of bytes of the root.</summary>
+        internal byte[] BytesOf(NativeBytes bytes)
+        {
+            return Held(() => Copied(bytes));
+        }
+
+        /// <summary>A copy of the root, and where the root itself is.</summary>
+        internal byte[] CopyRoot(out IntPtr start)
+        {
+            var root = Held(() => memory.Root);
+            start = root.At;
+            return BytesOf(root);
+        }
+
+        static byte[] Copied(NativeBytes bytes)
         {
             var copy = new byte[(int)bytes.Length];
             if (copy.Length > 0)
                 Marshal.Copy(bytes.At, copy, 0, copy.Length);
             return copy;
+        }
+
+        /// <summary>A name that belongs to the library.</summary>
+        static string NameOf(NativeBytes name)
+        {
+            return Encoding.UTF8.GetString(Copied(name));
         }
 
         static readonly IntPtr empty = Marshal.AllocHGlobal(1);
@@ -1244,7 +1315,7 @@ namespace Clim
                 return code == 509 ? "BadCell" : "UserBytes";
             var name = NoBytes;
             Native.clim_fault_name(code, ref name);
-            return Encoding.UTF8.GetString(BytesOf(name));
+            return NameOf(name);
         }
     }
 
@@ -1273,11 +1344,18 @@ namespace Clim
         const int OffsetLimit = 1 << 24;
         const int LengthLimit = 1 << 29;
 
-        /// <summary>A cell of a row that was added, and its text, blob or signature.</summary>
-        struct Kept
+        /// <summary>A cell of a row. Its bytes are at an offset in the content: a copy of a root, or of them alone.</summary>
+        sealed class Kept
         {
-            public NativeCell Cell;
-            public byte[] Content;
+            public readonly NativeCell Cell;
+            public readonly byte[] Content;
+
+            public Kept(NativeCell cell, byte[] content, long offset, UIntPtr length)
+            {
+                cell.Bytes = new NativeBytes { At = (IntPtr)offset, Length = length };
+                Cell = cell;
+                Content = content;
+            }
         }
 
         // It throws if a text has a surrogate without a partner.
@@ -1285,6 +1363,8 @@ namespace Clim
         static readonly byte[] none = new byte[0];
 
         readonly SortedDictionary<TableId, List<Kept[]>> rows = new SortedDictionary<TableId, List<Kept[]>>();
+        // The copy of a root that cells are parts of.
+        byte[] source = none;
 
         /// <summary>Empty tables with a version string (II.24.2.1).</summary>
         public Tables(string version = "v4.0.30319")
@@ -1296,11 +1376,27 @@ namespace Clim
         /// <summary>The tables of an assembly, copied: its version, its user strings and all rows.</summary>
         public static Tables Of(Assembly assembly)
         {
-            var tables = new Tables(assembly.Version) { UserStrings = assembly.UserStrings };
+            IntPtr start;
+            var source = assembly.CopyRoot(out start);
+            var tables = new Tables(assembly.Version) { UserStrings = assembly.UserStrings, source = source };
             foreach (TableId table in Enum.GetValues(typeof(TableId)))
-                foreach (var row in assembly.Values(table))
-                    tables.Add(table, row);
+                foreach (var row in assembly.Cells(table))
+                    tables.RowsOf(table).Add(Array.ConvertAll(row, cell => PartOf(source, start, cell)));
             return tables;
+        }
+
+        static Kept PartOf(byte[] source, IntPtr start, NativeCell cell)
+        {
+            var length = cell.Bytes.Length;
+            return new Kept(cell, source, length == UIntPtr.Zero ? 0 : (long)cell.Bytes.At - (long)start, length);
+        }
+
+        List<Kept[]> RowsOf(TableId table)
+        {
+            List<Kept[]> found;
+            if (!rows.TryGetValue(table, out found))
+                rows.Add(table, found = new List<Kept[]>());
+            return found;
         }
 
         /// <summary>The version string of the root.</summary>
@@ -1338,9 +1434,7 @@ namespace Clim
             var row = new Kept[cells.Length];
             for (int column = 0; column < row.Length; column++)
                 row[column] = Keep(table, names[column], column, cells[column]);
-            if (!rows.ContainsKey(table))
-                rows.Add(table, new List<Kept[]>());
-            rows[table].Add(row);
+            RowsOf(table).Add(row);
             return new Token(table, Count(table));
         }
 
@@ -1407,25 +1501,23 @@ namespace Clim
         public byte[] Root()
         {
             Native.CheckVersion();
-            var cells = new List<NativeCell>();
-            var contents = new List<byte[]>();
-            foreach (var kept in rows.Values)
-                foreach (var row in kept)
-                    foreach (var cell in row)
-                    {
-                        cells.Add(cell.Cell);
-                        contents.Add(cell.Content);
-                    }
-            long length = 0;
-            foreach (var content in contents)
-                length += content.Length;
-            var heap = new byte[length + 1];
-            var given = cells.ToArray();
-            GCHandle heapPin = GCHandle.Alloc(heap, GCHandleType.Pinned), cellsPin = GCHandle.Alloc(given, GCHandleType.Pinned);
+            var given = new List<NativeRow>();
+            var cells = new List<Kept>();
+            foreach (var table in rows)
+                foreach (var row in table.Value)
+                {
+                    given.Add(new NativeRow { Count = (UIntPtr)row.Length, Table = table.Key });
+                    cells.AddRange(row);
+                }
+            // There is room for one row at least.
+            given.Add(new NativeRow());
+            var heap = HeapOf(cells);
+            var placed = new NativeCell[cells.Count + 1];
+            GCHandle heapPin = GCHandle.Alloc(heap, GCHandleType.Pinned), cellsPin = GCHandle.Alloc(placed, GCHandleType.Pinned);
             try
             {
-                Place(given, contents, heap, heapPin.AddrOfPinnedObject());
-                return Made(GivenRows(cellsPin.AddrOfPinnedObject()), Heads + heap.Length + (long)CellSize * given.Length);
+                Place(cells, heapPin.AddrOfPinnedObject(), placed);
+                return Made(Joined(given, cellsPin.AddrOfPinnedObject()), Heads + heap.Length + (long)CellSize * cells.Count);
             }
             finally
             {
@@ -1434,37 +1526,54 @@ namespace Clim
             }
         }
 
-        /// <summary>Copies the contents of all cells into a heap, and lets each cell point to its own.</summary>
-        static void Place(NativeCell[] cells, List<byte[]> contents, byte[] heap, IntPtr start)
+        /// <summary>The source, and the contents of all cells that are no parts of it. There is one byte at least.</summary>
+        byte[] HeapOf(List<Kept> cells)
         {
-            int at = 0;
-            for (int index = 0; index < cells.Length; index++)
+            long length = source.Length;
+            foreach (var cell in cells)
+                length += cell.Content == source ? 0 : cell.Content.Length;
+            var heap = new byte[length + 1];
+            Buffer.BlockCopy(source, 0, heap, 0, source.Length);
+            int end = source.Length;
+            foreach (var cell in cells)
+                if (cell.Content != source)
+                {
+                    Buffer.BlockCopy(cell.Content, 0, heap, end, cell.Content.Length);
+                    end += cell.Content.Length;
+                }
+            return heap;
+        }
+
+        /// <summary>The cells, each of which points to its bytes in the heap.</summary>
+        void Place(List<Kept> cells, IntPtr heap, NativeCell[] placed)
+        {
+            long end = source.Length;
+            for (int index = 0; index < cells.Count; index++)
             {
-                var content = contents[index];
-                Buffer.BlockCopy(content, 0, heap, at, content.Length);
-                cells[index].Bytes = new NativeBytes { At = start + at, Length = (UIntPtr)content.Length };
-                at += content.Length;
+                var cell = cells[index];
+                placed[index] = cell.Cell;
+                long start = cell.Content == source ? 0 : end;
+                placed[index].Bytes.At = (IntPtr)((long)heap + start + (long)cell.Cell.Bytes.At);
+                end += cell.Content == source ? 0 : cell.Content.Length;
             }
         }
 
-        /// <summary>The rows, whose cells follow one another. There is room for one at least.</summary>
-        NativeRow[] GivenRows(IntPtr cells)
+        /// <summary>The rows, whose cells follow one another.</summary>
+        static NativeRow[] Joined(List<NativeRow> rows, IntPtr cells)
         {
-            var given = new List<NativeRow>();
-            foreach (var table in rows)
-                foreach (var row in table.Value)
-                {
-                    given.Add(new NativeRow { Cells = cells, Count = (UIntPtr)row.Length, Table = table.Key });
-                    cells += row.Length * Marshal.SizeOf(typeof(NativeCell));
-                }
-            given.Add(new NativeRow());
-            return given.ToArray();
+            var joined = rows.ToArray();
+            for (int index = 0; index < joined.Length; index++)
+            {
+                joined[index].Cells = cells;
+                cells += (int)joined[index].Count * Marshal.SizeOf(typeof(NativeCell));
+            }
+            return joined;
         }
 
         byte[] Made(NativeRow[] given, long usual)
         {
             var version = utf8.GetBytes(Version);
-            var user = UserStrings;
+            var user = Native.CopyOf(UserStrings);
             Array.Resize(ref user, (user.Length + Alignment - 1) / Alignment * Alignment);
             for (var root = new byte[usual + user.Length]; ;)
             {
@@ -1516,7 +1625,7 @@ namespace Clim
             }
             else
                 throw new ArgumentException(table + " " + name + ": no cell is of the type " + value.GetType(), "cells");
-            return new Kept { Cell = cell, Content = content };
+            return new Kept(cell, content, 0, (UIntPtr)content.Length);
         }
 
         // The columns of GUIDs are those of Module.

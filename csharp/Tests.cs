@@ -56,6 +56,8 @@ static class Tests
         Throws<ClimFault>(() => Assembly.OpenRoot(new byte[0]));
         Throws<ClimFault>(() => Assembly.ReadHeader(new byte[0]));
         Throws<ArgumentNullException>(() => Assembly.Open(null));
+        Throws<ArgumentNullException>(() => Assembly.Check(null));
+        Throws<ArgumentNullException>(() => Assembly.ReadHeader(null));
     }
 
     static void Greeter(byte[] root)
@@ -96,6 +98,18 @@ static class Tests
         Throws<ObjectDisposedException>(() => assembly.FindType("", "a"));
         Throws<ObjectDisposedException>(() => assembly.Members(module.Token, TableId.Field));
         Throws<ObjectDisposedException>(() => assembly.ByKey<CustomAttributeRow>(module.Token));
+        Throws<ObjectDisposedException>(() => assembly.FullName(new TypeDefRow { TypeName = "a", TypeNamespace = "" }));
+        Throws<ObjectDisposedException>(() => Tables.Of(assembly));
+    }
+
+    // Rows whose cells were read before are not read any more.
+    static void ClosedHalfway(byte[] root)
+    {
+        var assembly = Assembly.OpenRoot(root);
+        var methods = assembly.Rows<MethodDefRow>().GetEnumerator();
+        Check(methods.MoveNext() && methods.Current.Name == ".ctor", "the first row");
+        assembly.Dispose();
+        Throws<ObjectDisposedException>(() => methods.MoveNext());
     }
 
     // Runs tests of a function that the library may lack. Then a call of it says so.
@@ -408,6 +422,7 @@ static class Tests
         string samples = arguments[0];
         Faults();
         Greeter(File.ReadAllBytes(Path.Combine(samples, "greeter.root")));
+        ClosedHalfway(File.ReadAllBytes(Path.Combine(samples, "greeter.root")));
         Closed(File.ReadAllBytes(Path.Combine(samples, "one_module.dll")));
         NewerFunctions(File.ReadAllBytes(Path.Combine(samples, "greeter.root")));
         Header(File.ReadAllBytes(Path.Combine(samples, "one_module.dll")));

@@ -20,12 +20,11 @@ else the one that is installed.
 
 from __future__ import annotations
 
-import ctypes
 from typing import Optional
 
 from . import rows
-from ._library import FaultStruct, Unsupported, library, supports
-from .assembly import Assembly, Source, Table, address_of, fault_of, header_of, read_source
+from ._library import Unsupported, supports
+from .assembly import Assembly, Source, Table, fault_in, fault_of, header_of, read_source
 from .rows import Row
 from .tables import Tables
 from .values import BudgetSpent, Difference, Directory, Fault, Header, Location, Refusal, Signature, Start, Token
@@ -64,17 +63,17 @@ def open(source: Source, bare: bool = False, *, mmap: bool = False, budget: Opti
         source: The path of a file, as a `str` or a path object; or its content, as `bytes` or another object of bytes.
             `bytes` are read in place. All others may change, so they are copied.
         bare: Whether it is a bare metadata root, without the file around it (II.24.2.1).
-        mmap: Whether to map the file of a path, instead of reading it. Nothing may change the file while it is open: if
-            it becomes shorter, the process ends with a bus error.
+        mmap: Has no effect. The file of a path is read, and not mapped, since others could change it while it is open.
         budget: The number of bytes of signatures that may be checked at most. Without it a crafted file can take long.
 
     Raises:
         Fault: The bytes break a rule of the standard. It has the number, name and offset of the first one.
         BudgetSpent: The budget is spent.
         OSError: The file cannot be read.
+        ValueError: The budget is negative, or has more than 64 bits.
         Unsupported: There is a budget, and the library is too old for it.
     """
-    return Assembly(read_source(source, mmap), bare, budget)
+    return Assembly(read_source(source), bare, budget)
 
 
 def check(source: Source, bare: bool = False, *, budget: Optional[int] = None) -> Optional[Fault]:
@@ -85,19 +84,11 @@ def check(source: Source, bare: bool = False, *, budget: Optional[int] = None) -
     Raises:
         BudgetSpent: The budget is spent.
         OSError: The file cannot be read.
+        ValueError: The budget is negative, or has more than 64 bits.
         Unsupported: There is a budget, and the library is too old for it.
     """
-    data, fault, spent = read_source(source), FaultStruct(), ctypes.c_bool()
-    bytes_ = address_of(data)[0], len(data)
-    if budget is None:
-        call = library.clim_check_root if bare else library.clim_check
-        is_whole = call(*bytes_, ctypes.byref(fault))
-    else:
-        call = library.clim_check_root_within if bare else library.clim_check_within
-        is_whole = call(*bytes_, budget, ctypes.byref(fault), ctypes.byref(spent))
-    if spent.value:
-        raise BudgetSpent("the budget is spent")
-    return None if is_whole else fault_of(fault)
+    fault = fault_in("clim_check", read_source(source), bare, budget)
+    return None if fault is None else fault_of(fault)
 
 
 def compare(left: Assembly, right: Assembly) -> Optional[Difference]:

@@ -109,8 +109,8 @@ class ViewStruct(ctypes.Structure):
     """A `clim_view`. `closed_view` makes one that is not open.
 
     Attributes:
-        kept: What has the bytes of the view. So they stay as long as a call has the view, also if another thread closes
-            the assembly during the call.
+        kept: The bytes of the view. So they stay as long as a call has the view, also if another thread closes the
+            assembly during the call.
     """
 
     kept: Any = None
@@ -147,6 +147,8 @@ EQUAL = 1
 VERSION_DIFFERS, USER_DIFFERS, COUNT_DIFFERS, CELL_DIFFERS = range(1, 5)
 # The length that the texts of most signatures and user strings have at most.
 _USUAL = 256
+# The largest number of a rule that a call takes.
+_LARGEST_CODE = 0xFFFF
 #: `CLIM_NO_CELL`.
 NO_CELL = CELL.pack(EMPTY_AT, 0, 0, 0, 0, bytes(16))
 
@@ -276,6 +278,11 @@ def written_text(call: Callable[..., int], *arguments: Any) -> Optional[str]:
         if length == TOO_LONG:
             return None
         room = length
+
+
+def explanation(code: int) -> str:
+    """What `clim explain` prints of a rule, in lines that are not broken; empty if no rule has the number."""
+    return written_text(library.clim_explain, code) or "" if 0 <= code <= _LARGEST_CODE else ""
 
 
 def canonical_length(length: int) -> int:

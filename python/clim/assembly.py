@@ -2,10 +2,10 @@
 
 from __future__ import annotations
 
-import contextlib
 import ctypes
 import io
 import mmap as _mmap
+import operator
 import os
 import struct
 import sys
@@ -48,19 +48,22 @@ _MOST = 4
 _ROWS = 16
 # The streams that the standard names (II.24.2.2).
 _STREAMS = ("#~", "#Strings", "#US", "#GUID", "#Blob")
+# The largest token, and the largest budget.
+_LARGEST_TOKEN, _LARGEST_BUDGET = (1 << 32) - 1, (1 << 64) - 1
 
 
-def read_source(source: Source, mmap: bool = False) -> Union[bytes, _mmap.mmap]:
-    """The bytes of a source. Bytes that may change are copied, and a file is read, or mapped for `mmap`."""
-    if isinstance(source, bytes):
-        return source
-    if isinstance(source, (bytearray, memoryview, _mmap.mmap)):
-        return bytes(source)
+def bytes_of(data: Union[bytes, bytearray, memoryview, _mmap.mmap]) -> bytes:
+    """The bytes of an object, which no longer change: a copy, unless it is of the type `bytes` itself."""
+    return data if type(data) is bytes else memoryview(data).tobytes()
+
+
+def read_source(source: Source) -> bytes:
+    """The bytes of a source. Bytes that may change are copied, and a file is read."""
+    if isinstance(source, (bytes, bytearray, memoryview, _mmap.mmap)):
+        return bytes_of(source)
     # The number of a file descriptor is no path.
     with io.open(os.fspath(source), "rb") as file:
         size = os.fstat(file.fileno()).st_size
-        if mmap and size > 0:
-            return _mmap.mmap(file.fileno(), 0, access=_mmap.ACCESS_COPY)
         data = file.read(min(size, _LIMIT) + 1)
         if len(data) <= size:
             return data
@@ -71,12 +74,9 @@ def read_source(source: Source, mmap: bool = False) -> Union[bytes, _mmap.mmap]:
         return bytes(parts)
 
 
-def address_of(data: Union[bytes, _mmap.mmap]) -> Tuple[int, Any]:
-    """The address of bytes, and an object to keep while it is in use."""
-    if isinstance(data, bytes):
-        return cast(int, ctypes.cast(ctypes.c_char_p(data), ctypes.c_void_p).value), data
-    exported = ctypes.c_char.from_buffer(data)
-    return ctypes.addressof(exported), exported
+def address_of(data: bytes) -> int:
+    """The address of bytes. It may be used as long as they live."""
+    return cast(int, ctypes.cast(ctypes.c_char_p(data), ctypes.c_void_p).value)
 
 
 def fault_of(found: _c.FaultStruct) -> Fault:
@@ -84,19 +84,36 @@ def fault_of(found: _c.FaultStruct) -> Fault:
     return Fault(found.layer, found.code, found.offset, _c.text_of(library.clim_fault_name, found.code).decode())
 
 
-def header_of(data: Union[bytes, _mmap.mmap]) -> Header:
+def fault_in(call: str, data: bytes, bare: bool, budget: Optional[int], *out: Any) -> Optional[_c.FaultStruct]:
+    """What `clim_check` or `clim_open` says of bytes: the fault, or `None`. `out` is the view that the call writes."""
+    fault, spent = _c.FaultStruct(), ctypes.c_bool()
+    name, bytes_ = f"{call}_root" if bare else call, (address_of(data), len(data))
+    if budget is None:
+        is_whole = getattr(library, name)(*bytes_, *out, ctypes.byref(fault))
+    else:
+        most = operator.index(budget)
+        if not 0 <= most <= _LARGEST_BUDGET:
+            raise ValueError(f"the budget {most} is not from 0 to {_LARGEST_BUDGET}")
+        is_whole = getattr(library, f"{name}_within")(*bytes_, most, *out, ctypes.byref(fault), ctypes.byref(spent))
+    if spent.value:
+        raise BudgetSpent("the budget is spent")
+    return None if is_whole else fault
+
+
+def header_of(data: bytes) -> Header:
     """The CLI header of a file; or raises a `Fault`."""
-    (at, kept), header, fault = address_of(data), _c.HeaderStruct(), _c.FaultStruct()
-    opened = library.clim_read_header(at, len(data), ctypes.byref(header), ctypes.byref(fault))
-    del kept
-    if not opened:
+    header, fault = _c.HeaderStruct(), _c.FaultStruct()
+    if not library.clim_read_header(address_of(data), len(data), ctypes.byref(header), ctypes.byref(fault)):
         raise fault_of(fault)
     fields = [getattr(header, name) for name in Header._fields]
     return Header(*(Directory(it.rva, it.size) if isinstance(it, _c.DirectoryStruct) else it for it in fields))
 
 
-def _read_streams(data: Union[bytes, _mmap.mmap], root: int) -> Iterator[Tuple[str, int, int]]:
-    """What `Assembly._streams` gives, of a root that was opened, with an older library."""
+def _read_streams(data: bytes, root: int) -> Iterator[Tuple[str, int, int]]:
+    """The stream headers of a root that was opened: the name of each stream, its offset in the root, and its size.
+
+    A call of `clim_stream` for each header would take time that grows with the square of their number.
+    """
     at = root + 16 + struct.unpack_from("<I", data, root + 12)[0]
     (count,) = struct.unpack_from("<H", data, at + 2)
     at += 4
@@ -132,56 +149,38 @@ class Assembly:
         Fault: The bytes break a rule of the standard. It is the first one in the order of docs/FAULTS.md.
     """
 
-    def __init__(self, data: Union[bytes, _mmap.mmap], bare: bool = False, budget: Optional[int] = None) -> None:
+    def __init__(self, data: bytes, bare: bool = False, budget: Optional[int] = None) -> None:
         self._is_closed = False
-        # Other objects of bytes may change.
-        self._data = data if isinstance(data, (bytes, _mmap.mmap)) else bytes(data)
+        self._data = bytes_of(data)
         self._bare = bare
-        self._at, self._kept = address_of(self._data)
+        self._at = address_of(self._data)
         self._struct = _c.closed_view()
-        self._struct.kept = self._data, self._kept
+        self._struct.kept = self._data
         # The texts that were read, by their addresses. Many names in a file are the same text of its heap.
         self._texts: Dict[int, str] = {}
+        # The texts of long signatures, by the table and by the address and length of the blob, and the number of bytes
+        # that may be kept of them still.
+        self._signature_texts: Dict[Tuple[int, int, int], Optional[str]] = {}
+        self._unused = _MOST * len(self._data)
         self._groups: Dict[Tuple[str, str], Dict[Token, List[Any]]] = {}
         self._tables: Dict[int, Table[Any]] = {}
-        try:
-            self._open(budget)
-        except BaseException:
-            self.close()
-            raise
-
-    def _open(self, budget: Optional[int]) -> None:
-        """Opens the bytes."""
-        fault, spent = _c.FaultStruct(), ctypes.c_bool()
-        bytes_, out = (self._at, len(self._data)), (self._view(), ctypes.byref(fault))
-        if budget is None:
-            call = library.clim_open_root if self._bare else library.clim_open
-            opened = call(*bytes_, *out)
-        else:
-            call = library.clim_open_root_within if self._bare else library.clim_open_within
-            opened = call(*bytes_, budget, *out, ctypes.byref(spent))
-        if spent.value:
-            raise BudgetSpent("the budget is spent")
-        if not opened:
+        fault = fault_in("clim_open", self._data, bare, budget, self._view())
+        if fault is not None:
             raise fault_of(fault)
 
     # -- opening and closing
 
     def close(self) -> None:
-        """Closes the assembly, and the map of the file if there is one. Another call does nothing."""
+        """Closes the assembly. Another call does nothing."""
         if self._is_closed:
             return
         self._is_closed = True
         for table in self._tables.values():
             table._columns_read.clear()
         # Another thread may still use these.
-        self._texts, self._groups = {}, {}
+        self._texts, self._signature_texts, self._groups = {}, {}, {}
         self._struct = _c.closed_view()
-        data, self._data, self._kept, self._at = self._data, b"", None, 0
-        if isinstance(data, _mmap.mmap):
-            # If another thread reads the map just now, it is closed when the last call has ended.
-            with contextlib.suppress(BufferError):
-                data.close()
+        self._data, self._at = b"", 0
 
     @property
     def closed(self) -> bool:
@@ -199,6 +198,13 @@ class Assembly:
 
     def __repr__(self) -> str:
         return "<closed assembly>" if self._is_closed else f"<assembly of {len(self._data)} bytes>"
+
+    def _shared(self) -> Assembly:
+        """The same assembly as an object of its own, which stays open if this one is closed. Both have the same bytes."""
+        shared = object.__new__(Assembly)
+        shared.__dict__.update(self.__dict__, _texts={}, _signature_texts={}, _groups={}, _tables={})
+        shared._view()
+        return shared
 
     def _view(self) -> Any:
         """The view, as an argument of a call."""
@@ -304,24 +310,16 @@ class Assembly:
         data = self._data
         self._view()
         root = 0 if self._bare else header_of(data).root_start
-        streams = self._streams() if _c.supports("clim_stream") else _read_streams(data, root)
-        found = {name: data[root + offset : root + offset + size] for name, offset, size in streams}
-        return {name: found[name] for name in _STREAMS if name in found}
-
-    def _streams(self) -> Iterator[Tuple[str, int, int]]:
-        """The stream headers: the name of each stream, its offset in the root, and its size."""
-        view = self._view()
-        for index in range(library.clim_stream_count(view)):
-            stream = _c.StreamStruct(name=_c.Bytes(_c.EMPTY_AT, 0))
-            library.clim_stream(view, index, ctypes.byref(stream))
-            yield ctypes.string_at(stream.name.at, stream.name.len).decode("ascii"), stream.offset, stream.size
+        # A crafted root can have thousands of other streams, each as long as the root.
+        spans = {name: (root + offset, size) for name, offset, size in _read_streams(data, root) if name in _STREAMS}
+        return {name: data[at : at + size] for name in _STREAMS if name in spans for at, size in [spans[name]]}
 
     # -- look-ups
 
     def find_type(self, namespace: str, name: str) -> Optional[TypeDef]:
         """The first type with a namespace and a name, or `None`. A nested type has its own name and namespace."""
-        space, own = namespace.encode(), name.encode()
-        row = library.clim_find_type(self._view(), address_of(space)[0], len(space), address_of(own)[0], len(own))
+        space, own = str.encode(namespace), str.encode(name)
+        row = library.clim_find_type(self._view(), address_of(space), len(space), address_of(own), len(own))
         return self.types.row(row) if row else None
 
     def user_string(self, token: int) -> str:
@@ -333,7 +331,8 @@ class Assembly:
             KeyError: The token is another one, or `#US` has no user string there.
             Unsupported: The library is older than this package.
         """
-        units = _c.written_units(self._view(), token)
+        view = self._view()
+        units = _c.written_units(view, token) if 0 <= token <= _LARGEST_TOKEN else None
         if units is None:
             raise KeyError(f"no user string has the token {token:#010x}")
         return units.decode(f"utf-16-{sys.byteorder[0]}e", "surrogatepass")
@@ -389,8 +388,8 @@ class Assembly:
 
     def _members(self, row: Row, table: Union[str, int]) -> List[Any]:
         first, past, number = ctypes.c_uint32(), ctypes.c_uint32(), table_number(table)
-        ends = ctypes.byref(first), ctypes.byref(past)
-        if not library.clim_members(self._view(), row.table.number, row.number, number, *ends):
+        ends, its = (ctypes.byref(first), ctypes.byref(past)), row.table.row(row.number)
+        if not library.clim_members(self._view(), row.table.number, its.number, number, *ends):
             raise KeyError(f"rows of {row.table.name} own no rows of {_c.TABLE_NAMES[number]}")
         return self._table(number)._rows(range(first.value, past.value))
 
@@ -416,6 +415,23 @@ class Assembly:
                 groups.setdefault(token, []).append(row)
             self._groups[table, column] = groups
         return groups
+
+    def _signature_text(self, row: Row, column: str, is_long: bool) -> Optional[str]:
+        """The text of a signature; `None` if it is too long. Rows with the same long signature share its text."""
+        table = row.table
+        where = self._view(), table.number, table.row(row.number).number, table.columns.index(column)
+        if not is_long:
+            return _c.written_text(library.clim_signature_text, *where)
+        cell, texts = bytearray(_c.NO_CELL), self._signature_texts
+        library.clim_cell_at(*where, ctypes.addressof(ctypes.c_char.from_buffer(cell)))
+        key = table.number, *_c.CELL_BYTES.unpack_from(cell)
+        if key in texts:
+            return texts[key]
+        text = _c.written_text(library.clim_signature_text, *where)
+        if len(text or "") <= self._unused:
+            self._unused -= len(text or "")
+            texts[key] = text
+        return text
 
     # -- cells
 
@@ -447,7 +463,7 @@ class Assembly:
         if distinct <= {_c.TEXT} or distinct <= {_c.BLOB, _c.SIGNATURE}:
             units = shown.cast("Q")
             spans = units[:: _c.CELL.size // 8].tolist(), units[1 :: _c.CELL.size // 8].tolist()
-            return _Texts(self, *spans).read() if distinct == {_c.TEXT} else _Blobs(self, *spans).read()
+            return Texts(self, *spans).read() if distinct == {_c.TEXT} else Blobs(self, *spans).read()
         numbers = shown.cast("I")[_c.NUMBER_AT :: _c.CELL.size // 4].tolist()
         if distinct == {_c.NUMBER}:
             return tuple(numbers)
@@ -467,7 +483,7 @@ class Assembly:
         raise RuntimeError(f"{_c.path} wrote cells of the kinds {sorted(distinct)} into one column")
 
 
-class _Blobs(Sequence[Any]):
+class Blobs(Sequence[Any]):
     """The blobs of a column, each read when it is used.
 
     Blobs and texts of a crafted file can overlap, and then have much more bytes than the file.
@@ -484,16 +500,27 @@ class _Blobs(Sequence[Any]):
             return tuple(self[number] for number in range(len(self))[index])
         return self._assembly._bytes(self._addresses[index], self._lengths[index])
 
+    def span(self, index: int) -> Tuple[int, int]:
+        """The address and the length of a blob."""
+        return self._addresses[index], self._lengths[index]
+
     def read(self) -> Sequence[Any]:
         """All values, unless they have much more bytes than the file."""
         data, base = self._assembly._data, self._assembly._at
-        if sum(self._lengths) > _MOST * len(data):
+        most = _MOST * len(data)
+        if sum(self._lengths) <= most:
+            starts = (at - base for at in self._addresses)
+            return tuple([data[start : start + length] if length else b"" for start, length in zip(starts, self._lengths)])
+        # Rows with the same blob share it.
+        spans = list(zip(self._addresses, self._lengths))
+        distinct = set(spans)
+        if sum(length for _, length in distinct) > most:
             return self
-        starts = (at - base for at in self._addresses)
-        return tuple([data[start : start + length] if length else b"" for start, length in zip(starts, self._lengths)])
+        blobs = {(at, length): data[at - base : at - base + length] for at, length in distinct}
+        return tuple(map(blobs.__getitem__, spans))
 
 
-class _Texts(_Blobs):
+class Texts(Blobs):
     """The same for texts. Many names of a file are one text of its heap, so it is read once, for all columns."""
 
     def __getitem__(self, index: Any) -> Any:
@@ -575,7 +602,13 @@ class Table(Generic[R]):
         return found
 
     def by_key(self, token: int) -> List[R]:
-        """The rows whose key is the row of a token, in ascending order; none if the table has no key (II.22)."""
+        """The rows whose key is the row of a token, in ascending order; none if the table has no key (II.22).
+
+        Raises:
+            ValueError: The number is negative, or has more than 32 bits.
+        """
+        if not 0 <= token <= _LARGEST_TOKEN:
+            raise ValueError(f"{int(token)} is no token")
         room = _ROWS
         while True:
             rows = (ctypes.c_uint32 * room)()

@@ -7,11 +7,11 @@ import operator
 import typing
 import uuid
 from functools import lru_cache
-from typing import Any, Dict, List, NamedTuple, Optional, Tuple, Union
+from typing import Any, Dict, Iterator, List, MutableMapping, NamedTuple, Optional, Sequence, Set, Tuple, Union
 
 from . import _library as _c
 from ._library import library
-from .assembly import Assembly, address_of, table_number
+from .assembly import Assembly, Blobs, Table, Texts, address_of, bytes_of, table_number
 from .rows import Row
 from .values import Refusal, Signature, Start, Token
 
@@ -39,6 +39,8 @@ _MEMBERS = {
     "EventList": "Event",
     "PropertyList": "Property",
 }
+# The types of columns whose cells are read when they are used, by the kinds of these.
+_COLUMNS: Dict[int, type] = {_c.TEXT: Texts, _c.BLOB: Blobs, _c.SIGNATURE: Blobs}
 # The largest number of a cell, and of a row in a token.
 _LARGEST, _LARGEST_ROW = 0xFFFFFFFF, 0xFFFFFF
 # The rules that are about no table.
@@ -50,13 +52,79 @@ _HEADS, _CELL = 1000, 4 + 5 + 16
 
 
 class _Cell(NamedTuple):
-    """The fields of a `clim_cell`."""
+    """The fields of a `clim_cell`. Its bytes are at an offset in the heap, or else at an address."""
 
     kind: int
-    content: bytes = b""
+    offset: int = 0
+    length: int = 0
     number: int = 0
     table: int = 0
     guid: bytes = bytes(16)
+    address: int = 0
+
+
+class _Heap:
+    """The texts and blobs that cells point to, each once.
+
+    Attributes:
+        parts: The texts and blobs that are in the heap, one after another.
+        length: The number of their bytes.
+        owners: What has those that are at an address instead.
+    """
+
+    def __init__(self) -> None:
+        self.parts: List[bytes] = []
+        self.length = 0
+        self.owners: Set[Blobs] = set()
+        self._spans: Dict[type, Dict[Any, Tuple[int, int]]] = {str: {}, bytes: {}}
+
+    def add(self, content: Union[str, bytes]) -> Tuple[int, int]:
+        """The offset and the length of a text or a blob, which is added if it is new."""
+        spans = self._spans[type(content)]
+        if content not in spans:
+            part = content.encode() if isinstance(content, str) else content
+            spans[content] = self.length, len(part)
+            self.parts.append(part)
+            self.length += len(part)
+        return spans[content]
+
+
+class _SharedRow(MutableMapping[str, Any]):
+    """A row of an assembly whose names or blobs have much more bytes than the file. Each is read when it is used."""
+
+    __slots__ = ("_columns", "_index", "_own")
+
+    def __init__(self, columns: Dict[str, Sequence[Any]], index: int) -> None:
+        self._columns, self._index = columns, index
+        self._own: Dict[str, Any] = {}
+
+    def __getitem__(self, column: str) -> Any:
+        return self._own[column] if column in self._own else self._columns[column][self._index]
+
+    def __setitem__(self, column: str, value: Any) -> None:
+        self._own[column] = value
+
+    def __delitem__(self, column: str) -> None:
+        self._own, self._columns = dict(self), {}
+        del self._own[column]
+
+    def __iter__(self) -> Iterator[str]:
+        return iter({**self._columns, **self._own})
+
+    def __len__(self) -> int:
+        return len({**self._columns, **self._own})
+
+    def __repr__(self) -> str:
+        return repr(dict(self))
+
+    def cell(self, kind: int, column: str, heap: _Heap) -> Optional[_Cell]:
+        """The cell of a column, in the bytes of the assembly; `None` if it was changed, or the column has no such cells."""
+        its = None if column in self._own else self._columns.get(column)
+        if not isinstance(its, Blobs) or type(its) is not _COLUMNS.get(kind):
+            return None
+        heap.owners.add(its)
+        address, length = its.span(self._index)
+        return _Cell(kind, length=length, address=address)
 
 
 @lru_cache(maxsize=None)
@@ -88,18 +156,18 @@ def _token(value: Any) -> Token:
     return Token(operator.index(value))
 
 
-def _encoded(kind: int, value: Any) -> _Cell:
+def _encoded(kind: int, value: Any, heap: _Heap) -> _Cell:
     """A cell of a column of a kind; raises `TypeError` or `ValueError` if no such cell has the value."""
     if kind in (_c.NUMBER, _c.START):
         return _Cell(kind, number=_number(value))
     if kind == _c.TEXT:
         if not isinstance(value, str):
             raise TypeError(f"a text is wanted, and not {value!r}")
-        return _Cell(kind, value.encode())
+        return _Cell(kind, *heap.add(value if type(value) is str else str.encode(value)))
     if kind in (_c.BLOB, _c.SIGNATURE):
         if not isinstance(value, (bytes, bytearray, memoryview)):
             raise TypeError(f"bytes are wanted, and not {value!r}")
-        return _Cell(kind, bytes(value))
+        return _Cell(kind, *heap.add(bytes_of(value)))
     if kind == _c.GUID:
         if not isinstance(value, (uuid.UUID, type(None))):
             raise TypeError(f"a UUID or None is wanted, and not {value!r}")
@@ -121,6 +189,14 @@ def _refusal_of(found: _c.RefusalStruct) -> Refusal:
     if found.row == 0:
         return Refusal(found.code, name, table)
     return Refusal(found.code, name, table, found.row, _c.COLUMN_NAMES[found.table][found.column])
+
+
+def _rows_of(table: Table[Any]) -> List[MutableMapping[str, Any]]:
+    """The rows of a table, with cells that may be changed."""
+    columns = {name: table.column(name) for name in table.columns}
+    if any(isinstance(it, Blobs) for it in columns.values()):
+        return [_SharedRow(columns, index) for index in range(len(table))]
+    return [dict(zip(columns, cells)) for cells in zip(*columns.values())]
 
 
 class Tables:
@@ -153,19 +229,23 @@ class Tables:
     def __init__(self, version: str = "v4.0.30319") -> None:
         self.version = version
         self.user = b""
-        self._rows: Dict[int, List[Dict[str, Any]]] = {number: [] for number in _c.TABLE_NAMES}
+        self._rows: Dict[int, List[MutableMapping[str, Any]]] = {number: [] for number in _c.TABLE_NAMES}
 
     @classmethod
     def of(cls, assembly: Assembly) -> Tables:
-        """The tables of an assembly, copied: its version, its user strings and all rows."""
-        tables = cls(assembly.version)
-        tables.user = assembly.user
-        for table in assembly:
-            columns = zip(*(table.column(name) for name in table.columns))
-            tables._rows[table.number] = [dict(zip(table.columns, cells)) for cells in columns]
+        """The tables of an assembly, copied: its version, its user strings and all rows.
+
+        Each row is a `dict`. If the names or blobs of a crafted assembly have much more bytes than the file, the rows are
+        other mappings, whose cells are read when they are used.
+        """
+        shared = assembly._shared()
+        tables = cls(shared.version)
+        tables.user = shared.user
+        for table in shared:
+            tables._rows[table.number] = _rows_of(table)
         return tables
 
-    def __getitem__(self, table: Union[str, int]) -> List[Dict[str, Any]]:
+    def __getitem__(self, table: Union[str, int]) -> List[MutableMapping[str, Any]]:
         """The rows of a table, by its name or its number; raises `KeyError` if there is none."""
         return self._rows[table_number(table)]
 
@@ -196,7 +276,7 @@ class Tables:
         row = {it: columns[it] if it in columns else self._default(it, kinds[it]) for it in names}
         rows = self._rows[number]
         for column in columns:
-            cell = self._cell(number, len(rows) + 1, row, column)
+            cell = self._cell(number, len(rows) + 1, row, column, _Heap())
             if cell.kind == _c.ROW:
                 row[column] = Token.of(cell.table, cell.number)
         rows.append(row)
@@ -240,8 +320,8 @@ class Tables:
             MemoryError: Memory ran out.
             Unsupported: The library is older than this package.
         """
-        heap = bytearray(1)
-        cells: List[Tuple[Any, ...]] = []
+        heap = _Heap()
+        cells: List[_Cell] = []
         rows: List[Tuple[int, int, int]] = []
         for number, its in self._rows.items():
             names = _c.COLUMN_NAMES[number]
@@ -249,43 +329,42 @@ class Tables:
                 if len(row) > len(names):
                     raise KeyError(next(it for it in row if it not in names))
                 rows.append((len(cells), len(names), number))
-                for column in names:
-                    cell = self._cell(number, index, row, column)
-                    cells.append((len(heap), len(cell.content), cell.number, cell.kind, cell.table, cell.guid))
-                    heap += cell.content
+                cells += [self._cell(number, index, row, column, heap) for column in names]
         return self._made(heap, cells, rows)
 
-    def _cell(self, table: int, row: int, cells: Dict[str, Any], column: str) -> _Cell:
+    def _cell(self, table: int, row: int, cells: Any, column: str, heap: _Heap) -> _Cell:
         """A cell of a row; an error has the name of its column."""
+        kind = _kinds_of(table)[column]
+        found = cells.cell(kind, column, heap) if isinstance(cells, _SharedRow) else None
         try:
-            return _encoded(_kinds_of(table)[column], cells[column])
+            return found or _encoded(kind, cells[column], heap)
         except (TypeError, ValueError) as error:
-            kind = TypeError if isinstance(error, TypeError) else ValueError
-            raise kind(f"{_c.TABLE_NAMES[table]} {row} {column}: {error}") from error
+            its_type = TypeError if isinstance(error, TypeError) else ValueError
+            raise its_type(f"{_c.TABLE_NAMES[table]} {row} {column}: {error}") from error
 
-    def _made(self, heap: bytearray, cells: List[Tuple[Any, ...]], rows: List[Tuple[int, int, int]]) -> bytes:
-        """The root of rows. The first field of a cell is an offset in the heap, and that of a row the index of a cell."""
-        start = _address(heap)
-        packed = bytearray().join([_c.CELL.pack(start + at, *fields) for at, *fields in cells])
-        first = _address(packed)
+    def _made(self, heap: _Heap, cells: List[_Cell], rows: List[Tuple[int, int, int]]) -> bytes:
+        """The root of rows. The first field of a row is the index of a cell."""
+        content = b"".join(heap.parts)
+        start = address_of(content)
+        pack = _c.CELL.pack
+        packed = b"".join(
+            [pack(it.address or start + it.offset, it.length, it.number, it.kind, it.table, it.guid) for it in cells]
+        )
+        first = address_of(packed)
         given = b"".join([_c.GIVEN_ROW.pack(first + at * _c.CELL.size, *fields) for at, *fields in rows])
-        version, user = self.version.encode(), self.user + bytes(-len(self.user) % 4)
-        texts = address_of(version)[0], len(version), address_of(user)[0], len(user)
-        room = _HEADS + len(heap) + len(user) + _CELL * len(cells)
+        user = bytes_of(self.user)
+        version, user = str.encode(self.version), user + bytes(-len(user) % 4)
+        texts = address_of(version), len(version), address_of(user), len(user)
+        room = _HEADS + heap.length + len(user) + _CELL * len(cells)
         while True:
             root, refusal = ctypes.create_string_buffer(room), _c.RefusalStruct()
-            arguments = *texts, address_of(given)[0], len(rows), root, room, ctypes.byref(refusal)
+            arguments = *texts, address_of(given), len(rows), root, room, ctypes.byref(refusal)
             length = _c.canonical_length(library.clim_tables(*arguments))
             if length == 0:
                 raise _refusal_of(refusal)
             if length <= room:
                 return ctypes.string_at(root, length)
             room = length
-
-
-def _address(data: bytearray) -> int:
-    """The address of bytes that do not move: nothing is added to them any more."""
-    return ctypes.addressof(ctypes.c_char.from_buffer(data)) if data else _c.EMPTY_AT
 
 
 def _needs_more(units: bytes) -> bool:

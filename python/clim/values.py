@@ -2,12 +2,15 @@
 
 from __future__ import annotations
 
-from typing import TYPE_CHECKING, NamedTuple, Optional, Tuple, cast
+from typing import TYPE_CHECKING, NamedTuple, Optional, Tuple
 
-from ._library import library, written_text
+from ._library import explanation
 
 if TYPE_CHECKING:
     from .rows import Row
+
+# The number of bytes from which on a signature is long.
+_LONG = 256
 
 
 class Fault(Exception):
@@ -34,7 +37,7 @@ class Fault(Exception):
         Raises:
             Unsupported: The library is older than this package.
         """
-        return cast(str, written_text(library.clim_explain, self.code))
+        return explanation(self.code)
 
 
 class Refusal(Exception):
@@ -75,7 +78,7 @@ class Refusal(Exception):
         Raises:
             Unsupported: The library is older than this package.
         """
-        return cast(str, written_text(library.clim_explain, self.code))
+        return explanation(self.code)
 
 
 class BudgetSpent(Exception):
@@ -167,9 +170,7 @@ class Signature(bytes):
         """
         if self.row is None:
             raise ValueError("the signature was not read from a row")
-        table, view = self.row.table, self.row.assembly._view()
-        cell = view, table.number, self.row.number, table.columns.index(self._column)
-        text = written_text(library.clim_signature_text, *cell)
+        text = self.row.assembly._signature_text(self.row, self._column, len(self) >= _LONG)
         if text is None:
             raise OverflowError("the text of the signature has more than 65,536 bytes")
         return text

@@ -87,16 +87,44 @@ class Opening(unittest.TestCase):
 
     def test_bytes_that_change_are_copied(self):
         data = bytearray((SAMPLES / "one_module.dll").read_bytes())
-        assembly = clim.open(data)
-        data[:] = bytes(len(data))
-        self.assertEqual(assembly.module.Name, "a.dll")
+        for source in (data, memoryview(data)):
+            kept = bytes(data)
+            assembly, other = clim.open(source), clim.Assembly(source)
+            data[:] = bytes(len(data))
+            self.assertEqual((assembly.module.Name, other.module.Name), ("a.dll", "a.dll"))
+            data[:] = kept
 
-    def test_a_map_that_is_open_cannot_be_closed(self):
-        assembly = clim.open(SAMPLES / "one_module.dll", mmap=True)
-        with self.assertRaises(BufferError):
-            assembly._data.close()
-        self.assertEqual(assembly.module.Name, "a.dll")
-        assembly.close()
+    def test_a_file_that_changes_is_read(self):
+        with tempfile.NamedTemporaryFile() as file:
+            file.write((SAMPLES / "one_module.dll").read_bytes())
+            file.flush()
+            for mapped in (False, True):
+                assembly = clim.open(file.name, mmap=mapped)
+                self.assertIs(type(assembly._data), bytes)
+            os.truncate(file.name, 0)
+            self.assertEqual(assembly.module.Name, "a.dll")
+
+    def test_bytes_of_other_types_say_nothing_of_their_length(self):
+        class Long(bytes):
+            def __len__(self):
+                return 1 << 40
+
+            def __bytes__(self):
+                return self
+
+        path = SAMPLES / "one_module.dll"
+        data = Long(path.read_bytes())
+        self.assertIsNone(clim.check(data))
+        self.assertEqual(clim.read_header(data), clim.read_header(path))
+        self.assertEqual((clim.open(data).module.Name, clim.Assembly(data).module.Name), ("a.dll", "a.dll"))
+        self.assertEqual(len(clim.open(data)._data), path.stat().st_size)
+
+        class Other(str):
+            def encode(self, *_):
+                return Long(b"a")
+
+        with clim.open(SAMPLES / "greeter.root", bare=True) as assembly:
+            self.assertEqual(assembly.find_type(Other("Hello"), Other("Greeter")), assembly.types[1])
 
     def test_an_empty_file_is_a_fault(self):
         with tempfile.NamedTemporaryFile() as file:
@@ -442,10 +470,60 @@ class Reading(unittest.TestCase):
             streams = list(clim.assembly._read_streams(assembly._data, assembly.header.root_start if assembly.header else 0))
             self.assertEqual(set(heaps), {name for name, _, _ in streams} & set(clim.assembly._STREAMS))
             if clim.supports("clim_stream"):
-                self.assertEqual(list(assembly._streams()), streams)
+                self.assertEqual(list(self.streams_of(assembly)), streams)
             self.assertTrue(all(it in root for it in heaps.values()))
             names = set(heaps["#Strings"].split(b"\0"))
             self.assertIn((assembly.module or assembly.types[1]).name.encode(), names)
+
+
+    def streams_of(self, assembly):
+        """The stream headers, by calls of clim_stream."""
+        for index in range(_library.library.clim_stream_count(assembly._view())):
+            it = _library.StreamStruct(name=_library.Bytes(_library.EMPTY_AT, 0))
+            self.assertTrue(_library.library.clim_stream(assembly._view(), index, _library.byref(it)))
+            yield _library.ctypes.string_at(it.name.at, it.name.len).decode("ascii"), it.offset, it.size
+
+
+class Numbers(unittest.TestCase):
+    """Numbers that a call of the library would cut."""
+
+    def test_budgets(self):
+        path = SAMPLES / "greeter.root"
+        for call in (clim.open, clim.check):
+            for budget in (-1, 1 << 64, -(1 << 64), 1 << 100):
+                self.assertRaises(ValueError, call, path, True, budget=budget)
+            self.assertRaises(TypeError, call, path, True, budget=1.0)
+            self.assertRaises(TypeError, call, path, True, budget="1")
+            if clim.supports("clim_check_within"):
+                call(path, True, budget=(1 << 64) - 1)
+
+    def test_tokens(self):
+        with clim.open(SAMPLES / "greeter.root", bare=True) as assembly:
+            for token in (-1, 1 << 32, 0x1_0200_0002, 1 << 64 | 0x02000002, -(1 << 32) | 0x02000002):
+                self.assertRaises(KeyError, assembly.row, token)
+                self.assertRaises(ValueError, assembly.custom_attributes.by_key, token)
+                self.assertRaises(KeyError, assembly.user_string, token)
+            self.assertRaises(KeyError, assembly.user_string, 0x1_7000_0000)
+            self.assertRaises(KeyError, lambda: assembly[0x102])
+            self.assertEqual(assembly.custom_attributes.by_key(0xFF000001), [])
+            for offset in (-1, 1 << 64, 1 << 64 | 116):
+                if clim.supports("clim_where"):
+                    self.assertIsNone(assembly.where(offset))
+
+    def test_rows(self):
+        with clim.open(SAMPLES / "greeter.root", bare=True) as assembly:
+            for number in (0, -1, 3, 1 << 32 | 1):
+                row = rows.TypeDef(assembly.types, number)
+                self.assertRaises(IndexError, row.members, "Field")
+                self.assertRaises(IndexError, assembly.types.row, number)
+                signature = clim.Signature._of(b"", rows.MethodDef(assembly.methods, number), "Signature")
+                self.assertRaises(IndexError, lambda: signature.text)
+
+    def test_codes(self):
+        if clim.supports("clim_explain"):
+            for code in (-1, 0x10066, 1 << 64 | 102):
+                self.assertEqual(clim.Fault(1, code, 0, "").explanation, "")
+                self.assertEqual(clim.Refusal(code, "").explanation, "")
 
 
 class Overlapping(unittest.TestCase):
@@ -465,7 +543,7 @@ class Overlapping(unittest.TestCase):
         self.assertEqual(len(root), 31096)
         with clim.open(root, bare=True) as assembly:
             names = assembly.type_refs.column("TypeName")
-            self.assertIsInstance(names, clim.assembly._Texts)
+            self.assertIsInstance(names, clim.assembly.Texts)
             self.assertEqual(assembly._texts, {})
             self.assertEqual((len(names), len(names[0]), len(names[-1])), (4000, 7000, 3001))
             self.assertEqual([len(it) for it in names[1:4]], [6999, 6998, 6997])
@@ -473,6 +551,39 @@ class Overlapping(unittest.TestCase):
             self.assertRaises(IndexError, lambda: names[4000])
             self.assertEqual(assembly.type_refs.column("TypeNamespace"), ("",) * 4000)
         self.assertRaises(ValueError, lambda: names[0])
+
+    def test_tables_read_their_cells_when_they_are_used(self):
+        with clim.open(self.root(), bare=True) as assembly:
+            tables, names = clim.Tables.of(assembly), list(assembly.type_refs.column("TypeName"))
+            cells = [row.cells() for row in assembly.type_refs]
+        its = tables["TypeRef"]
+        self.assertEqual([row["TypeName"] for row in its], names)
+        self.assertEqual((its, dict(its[0]), repr(its[0])), (cells, cells[0], repr(cells[0])))
+        self.assertEqual((len(its[0]), list(its[0]), "TypeName" in its[0], its[0].get("Title")), (3, [*cells[0]], True, None))
+        if clim.supports("clim_tables"):
+            self.check_root(tables, names)
+
+    def check_root(self, tables, names):
+        its, others = tables["TypeRef"], clim.Tables()
+        its[3]["TypeName"] = names[3] = "changed"
+        its[4].update(TypeNamespace=names[5])
+        # Rows may be moved to other tables, even if their cells do not fit there.
+        others["TypeRef"].append(its[0])
+        with clim.open(tables.root(), bare=True) as assembly:
+            self.assertEqual(list(assembly.type_refs.column("TypeName")), names)
+            self.assertEqual(assembly.type_refs[4].namespace, names[5])
+        del its[:]
+        with clim.open(others.root(), bare=True) as assembly:
+            self.assertEqual(assembly.type_refs.column("TypeName"), (names[0],))
+        del others["TypeRef"][0]["TypeName"]
+        self.assertEqual(list(others["TypeRef"][0]), ["ResolutionScope", "TypeNamespace"])
+        self.assertRaises(KeyError, others.root)
+
+    def test_a_blob_is_no_number(self):
+        with clim.open(self.root(), bare=True) as assembly:
+            blobs, tables = clim.assembly.Blobs(assembly, [assembly._at], [4]), clim.Tables()
+            tables["Constant"].append(clim.tables._SharedRow({"Type": blobs, "Parent": [None], "Value": blobs}, 0))
+            self.assertRaisesRegex(TypeError, "^Constant 1 Type: ", tables.root)
 
 
 class Features(unittest.TestCase):

@@ -55,7 +55,7 @@ const ALIGNMENT: usize = 4;
 pub struct Tables {
     version: String,
     user: Vec<u8>,
-    /// The texts, blobs and signatures of all cells, one after another.
+    /// A copy of the root of a view, if there is one, and then the texts, blobs and signatures of cells that were added.
     content: Vec<u8>,
     rows: BTreeMap<Table, Vec<Vec<KeptCell>>>,
 }
@@ -77,16 +77,19 @@ impl Tables {
         Tables { version: version.into(), user: Vec::new(), content: Vec::new(), rows: BTreeMap::new() }
     }
 
-    /// The tables of a view, copied: its version, its user strings and all rows.
+    /// The tables of a view, copied: its version, its user strings and all rows. Their texts and blobs are parts of one
+    /// copy of the root.
     pub fn of(view: &View) -> Tables {
         let mut tables = Tables::new(view.version());
         tables.set_user(view.user());
+        let root = view.root();
+        tables.content = root.to_vec();
         for table in Table::ALL {
             let mut columns: Vec<_> = (0..table.columns().count()).map(|it| view.column(table, it)).collect();
-            for _ in 0..view.count(table) {
-                let cells: Vec<_> = columns.iter_mut().filter_map(Iterator::next).collect();
-                tables.push(table, &cells);
-            }
+            let rows = (0..view.count(table)).map(|_| {
+                columns.iter_mut().filter_map(Iterator::next).map(|cell| kept(&cell, |part| range_of(part, root))).collect()
+            });
+            tables.rows.insert(table, rows.collect());
         }
         tables
     }
@@ -174,26 +177,11 @@ impl Tables {
 
     /// Keeps what a cell has.
     fn keep(&mut self, cell: &Cell) -> KeptCell {
-        let start = self.content.len();
-        let kept = KeptCell { content: start..start, number: 0, kind: 0, table: 0, guid: [0; 16] };
-        match *cell {
-            Cell::Number(number) => KeptCell { kind: CLIM_NUMBER, number, ..kept },
-            Cell::Start(number) => KeptCell { kind: CLIM_START, number, ..kept },
-            Cell::Text(text) => self.keep_bytes(CLIM_TEXT, text.as_bytes(), kept),
-            Cell::Blob(bytes) => self.keep_bytes(CLIM_BLOB, bytes, kept),
-            Cell::Signature(signature) => self.keep_bytes(CLIM_SIGNATURE, signature.0, kept),
-            Cell::Guid(None) => KeptCell { kind: CLIM_NULL_GUID, ..kept },
-            Cell::Guid(Some(guid)) => KeptCell { kind: CLIM_GUID, guid: guid.0, ..kept },
-            Cell::Row(None) => KeptCell { kind: CLIM_NULL_ROW, ..kept },
-            Cell::Row(Some(Token { table, row })) => {
-                KeptCell { kind: CLIM_ROW, table: table.number(), number: row, ..kept }
-            }
-        }
-    }
-
-    fn keep_bytes(&mut self, kind: u8, bytes: &[u8], kept: KeptCell) -> KeptCell {
-        self.content.extend_from_slice(bytes);
-        KeptCell { kind, content: kept.content.start..self.content.len(), ..kept }
+        kept(cell, |bytes| {
+            let start = self.content.len();
+            self.content.extend_from_slice(bytes);
+            start..self.content.len()
+        })
     }
 
     /// A cell, as the library takes it.
@@ -213,6 +201,31 @@ impl Tables {
             clim_row { cells: its.as_ptr(), count, table }
         })
         .collect()
+    }
+}
+
+/// The range of a part in the root that has it.
+fn range_of(part: &[u8], root: &[u8]) -> Range<usize> {
+    if part.is_empty() {
+        return 0..0;
+    }
+    let start = part.as_ptr() as usize - root.as_ptr() as usize;
+    start..start + part.len()
+}
+
+/// What a cell has. Its text, blob or signature is kept by `keep`, which returns where that is.
+fn kept(cell: &Cell, keep: impl FnOnce(&[u8]) -> Range<usize>) -> KeptCell {
+    let kept = KeptCell { content: 0..0, number: 0, kind: 0, table: 0, guid: [0; 16] };
+    match *cell {
+        Cell::Number(number) => KeptCell { kind: CLIM_NUMBER, number, ..kept },
+        Cell::Start(number) => KeptCell { kind: CLIM_START, number, ..kept },
+        Cell::Text(text) => KeptCell { kind: CLIM_TEXT, content: keep(text.as_bytes()), ..kept },
+        Cell::Blob(bytes) => KeptCell { kind: CLIM_BLOB, content: keep(bytes), ..kept },
+        Cell::Signature(signature) => KeptCell { kind: CLIM_SIGNATURE, content: keep(signature.0), ..kept },
+        Cell::Guid(None) => KeptCell { kind: CLIM_NULL_GUID, ..kept },
+        Cell::Guid(Some(guid)) => KeptCell { kind: CLIM_GUID, guid: guid.0, ..kept },
+        Cell::Row(None) => KeptCell { kind: CLIM_NULL_ROW, ..kept },
+        Cell::Row(Some(Token { table, row })) => KeptCell { kind: CLIM_ROW, table: table.number(), number: row, ..kept },
     }
 }
 

@@ -8,8 +8,11 @@ use clim_sys::{clim_cell, CLIM_NO_CELL};
 use std::marker::PhantomData;
 use std::ops::Range;
 
-/// The number of rows that are read at a time.
-const ROWS: usize = 128;
+/// The number of rows that are read at first.
+const FIRST_ROWS: usize = 128;
+
+/// The greatest number of rows that are read at a time. Each time this number doubles.
+const MOST_ROWS: usize = 1 << 14;
 
 /// The cells of some columns, row by row.
 #[derive(Clone)]
@@ -34,7 +37,7 @@ impl<'v, 'a> Chunks<'v, 'a> {
 
     /// Reads the next rows.
     fn read_rows(&mut self) {
-        self.room = self.unread.len().min(ROWS);
+        self.room = self.unread.len().min((2 * self.room).clamp(FIRST_ROWS, MOST_ROWS));
         self.cells.resize(self.room * self.columns.len(), CLIM_NO_CELL);
         let mut count = self.room;
         for (column, cells) in self.columns.clone().zip(self.cells.chunks_mut(self.room.max(1))) {

@@ -44,9 +44,9 @@
 //! drop(file);
 //! ```
 //!
-//! To open and to read, the library allocates nothing. This crate allocates the cells of some rows at a time, and what
-//! `by_key` and `full_name` return. Rows of a valid file may still form circles, and names may be any text: see
-//! `docs/CLIENTS.md`.
+//! To open and to read, the library allocates nothing. This crate allocates the cells of some rows at a time, what
+//! `by_key` and `full_name` return, and four bytes for each type once an enclosing type is asked for. Rows of a valid file
+//! may still form circles, and names may be any text: see `docs/CLIENTS.md`.
 //!
 //! [`Tables`] has rows that a program adds, or those of a view, which may be changed. [`Tables::root`] checks them against
 //! all rules, and makes a metadata root of them.

@@ -14,6 +14,7 @@ use clim_sys::{
 use std::fmt;
 use std::marker::PhantomData;
 use std::ops::Range;
+use std::sync::OnceLock;
 
 /// The number of types in one full name, from the innermost outwards. `..` stands for those that are left out.
 pub const DEPTH: usize = 64;
@@ -109,9 +110,16 @@ pub fn read_header(file: &[u8]) -> Result<Header, Fault> {
 /// be used after the view is dropped.
 ///
 /// Opening checks all rules and allocates nothing. Rows count from 1.
+///
+/// Nothing copies the bytes, so nothing may change them while they are borrowed, as for any `&[u8]`. A map of a file does
+/// not promise that: if another process writes the file, each call is undefined behaviour. Whoever makes such a slice by
+/// `unsafe` code is responsible for that. Read the file instead, or copy the map.
 #[derive(Clone)]
 pub struct View<'a> {
     view: clim_view,
+    /// The type that encloses each type, once it was asked for. A look-up for each type would walk the whole table, if its
+    /// rows are not in order.
+    enclosing: OnceLock<Vec<u32>>,
     bytes: PhantomData<&'a [u8]>,
 }
 
@@ -189,7 +197,13 @@ impl<'a> View<'a> {
 
     /// A view that the library opened of bytes that are borrowed for `'a`.
     fn of(view: clim_view) -> View<'a> {
-        View { view, bytes: PhantomData }
+        View { view, enclosing: OnceLock::new(), bytes: PhantomData }
+    }
+
+    /// The bytes of the root.
+    pub(crate) fn root(&self) -> &'a [u8] {
+        // SAFETY: The view is open, and its root is a part of the bytes that were opened.
+        unsafe { library::bytes(&self.view.root) }
     }
 
     /// The version string of the root, for example `"v4.0.30319"` (II.24.2.1).
@@ -445,7 +459,19 @@ impl<'a> View<'a> {
 
     /// The type that directly encloses a type, by its row (II.22.32).
     pub fn enclosing_type(&self, type_row: u32) -> Option<u32> {
-        let rows = self.by_key(Table::NestedClass, Token { table: Table::TypeDef, row: type_row });
-        self.row::<NestedClass>(*rows.first()?).map(|it| it.enclosing_class.row)
+        let enclosing = self.enclosing.get_or_init(|| self.read_enclosing());
+        enclosing.get(type_row as usize).copied().filter(|&row| row > 0)
+    }
+
+    /// The type that encloses each type, by their rows; 0 if none does. If several rows have one nested type, the first
+    /// counts.
+    fn read_enclosing(&self) -> Vec<u32> {
+        let mut enclosing = vec![0; self.count(Table::TypeDef) as usize + 1];
+        for its in self.rows::<NestedClass>() {
+            if let Some(outer @ 0) = enclosing.get_mut(its.nested_class.row as usize) {
+                *outer = its.enclosing_class.row;
+            }
+        }
+        enclosing
     }
 }

@@ -1,0 +1,262 @@
+// Tests of Clim.cs that keep it busy. The last line is 'N passed, M failed'.
+//
+//     Stress.exe threads FILE SECONDS     two threads for this time in each call: one calls, and another writes the bytes
+//                                         that were given, closes the assembly, or changes the tables
+//     Stress.exe growth FOLDER            calls on the roots of python/tests/hostile_roots.py. The time and the memory for
+//                                         twice the bytes may be 2.3 times those for the bytes
+
+using System;
+using System.Collections.Generic;
+using System.Diagnostics;
+using System.IO;
+using System.Linq;
+using System.Reflection;
+using System.Threading;
+using Clim;
+using Assembly = Clim.Assembly;
+
+static class Stress
+{
+    // How often the time or the memory for half the bytes those for all may be.
+    const double MostGrowth = 2.3;
+    // A call is measured this number of times at most, until the least of each size show that it grows as it may.
+    const int Runs = 5;
+    // The longest time after which an assembly is closed, in milliseconds.
+    const int Longest = 3;
+
+    static int passed, failed;
+
+    static void Report(bool fact, string text)
+    {
+        if (fact)
+            passed++;
+        else if (failed++ < 20)
+            Console.WriteLine("Stress.cs: not so: " + text);
+    }
+
+    // ---- two threads
+
+    // The calls that take an array of bytes.
+    static readonly Dictionary<string, Action<byte[]>> given = new Dictionary<string, Action<byte[]>>
+    {
+        { "Check", file => Assembly.Check(file) },
+        { "Check within a budget", file => Assembly.Check(file, 1000) },
+        { "ReadHeader", file => Assembly.ReadHeader(file) },
+        { "Open", file => Assembly.Open(file).Dispose() },
+        { "Open within a budget", file => Assembly.Open(file, 1000).Dispose() },
+    };
+
+    // The same of a bare root.
+    static readonly Dictionary<string, Action<byte[]>> givenRoot = new Dictionary<string, Action<byte[]>>
+    {
+        { "CheckRoot", root => Assembly.CheckRoot(root) },
+        { "CheckRoot within a budget", root => Assembly.CheckRoot(root, 1000) },
+        { "OpenRoot", root => Assembly.OpenRoot(root).Dispose() },
+        { "OpenRoot within a budget", root => Assembly.OpenRoot(root, 1000).Dispose() },
+        { "Root, of user strings", user => new Tables { UserStrings = user }.Root() },
+        { "Add, of a blob", blob => new Tables().Add(TableId.File, 0, "a", blob) },
+    };
+
+    static readonly Token type = new Token(TableId.TypeDef, 2);
+
+    // The calls of an assembly.
+    static readonly Dictionary<string, Action<Assembly>> read = new Dictionary<string, Action<Assembly>>
+    {
+        { "Version", it => it.Version.ToString() },
+        { "UserStrings", it => it.UserStrings.ToString() },
+        { "Count", it => it.Count(TableId.TypeDef) },
+        { "Rows", it => it.Rows<MethodDefRow>().Count() },
+        { "Rows of numbers", it => it.Rows<NestedClassRow>().Count() },
+        { "Row", it => it.Row<TypeDefRow>(2) },
+        { "Members", it => it.Members(type, TableId.Field) },
+        { "Fields", it => it.Fields(it.Row<TypeDefRow>(2)).Count() },
+        { "Methods", it => it.Methods(it.Row<TypeDefRow>(2)).Count() },
+        { "Params", it => it.Params(it.Row<MethodDefRow>(2)).Count() },
+        { "FindType", it => it.FindType("Hello", "Greeter") },
+        { "ByKey", it => it.ByKey<NestedClassRow>(type) },
+        { "SignatureText", it => it.SignatureText(new Token(TableId.MethodDef, 2)) },
+        { "UserString", it => it.UserString(0x70000001) },
+        { "CanonicalRoot", it => it.CanonicalRoot() },
+        { "Digest", it => it.Digest() },
+        { "Where", it => it.Where(116) },
+        { "Compare", it => Assembly.Compare(it, it) },
+        { "FullName", it => it.FullName(new TypeDefRow { Token = type, TypeName = "a", TypeNamespace = "" }) },
+        { "Tables.Of", it => Tables.Of(it) },
+    };
+
+    // Makes a call again and again while another thread changes what it uses.
+    static void Beside(double seconds, Action call, Action change)
+    {
+        bool ends = false;
+        var other = new Thread(() => { while (!Volatile.Read(ref ends)) change(); });
+        other.Start();
+        for (var time = Stopwatch.StartNew(); time.Elapsed.TotalSeconds < seconds;)
+            call();
+        Volatile.Write(ref ends, true);
+        other.Join();
+    }
+
+    // The bytes change during the call. It finds a fault in what it has, or none.
+    static void WriteBeside(string name, double seconds, Action<byte[]> call, byte[] bytes)
+    {
+        var shared = (byte[])bytes.Clone();
+        var random = new Random(7);
+        string other = null;
+        Beside(seconds, () => other = Ends(() => call(shared), typeof(ClimFault), typeof(ClimRefusal)) ?? other, () =>
+        {
+            int at = random.Next(shared.Length);
+            shared[at] = (byte)random.Next(256);
+            shared[at] = bytes[at];
+        });
+        Report(other == null, name + " ends by " + other);
+    }
+
+    // How a call ends, if not by a result or by an exception of these types.
+    static string Ends(Action call, params Type[] expected)
+    {
+        try
+        {
+            call();
+            return null;
+        }
+        catch (Exception caught)
+        {
+            return expected.Contains(caught.GetType()) ? null : caught.ToString();
+        }
+    }
+
+    // The assembly is closed during a call of two threads. Both get ObjectDisposedException.
+    static void CloseBeside(string name, double seconds, Action<Assembly> call, byte[] root)
+    {
+        var random = new Random(7);
+        string other = null;
+        for (var time = Stopwatch.StartNew(); time.Elapsed.TotalSeconds < seconds;)
+        {
+            var assembly = Assembly.OpenRoot(root);
+            var threads = Enumerable.Range(0, 2).Select(_ => new Thread(
+                () => other = Ends(() => { for (;;) call(assembly); }, typeof(ObjectDisposedException)) ?? other)).ToArray();
+            foreach (var thread in threads)
+                thread.Start();
+            Thread.Sleep(random.Next(Longest));
+            assembly.Dispose();
+            foreach (var thread in threads)
+                thread.Join();
+        }
+        Report(other == null, name + " ends by " + other);
+    }
+
+    // Another thread adds and sets rows. No two threads may use tables, but no call reads what is not there.
+    static void ChangeBeside(double seconds, Assembly assembly)
+    {
+        var tables = Tables.Of(assembly);
+        int added = 0;
+        Beside(seconds, () => Ends(() => tables.Root()), () => Ends(() =>
+        {
+            if (++added % 1000 == 0)
+                tables = Tables.Of(assembly);
+            tables.Add(TableId.ModuleRef, new string('a', added % 100));
+            tables.Set(new Token(TableId.TypeDef, 2), "TypeName", new string('b', added % 50));
+        }));
+        Report(true, "Root");
+    }
+
+    static void Threads(byte[] file, double seconds)
+    {
+        var header = Assembly.ReadHeader(file);
+        var root = file.Skip((int)header.RootStart).Take((int)header.Metadata.Size).ToArray();
+        foreach (var it in given)
+            WriteBeside(it.Key, seconds, it.Value, file);
+        foreach (var it in givenRoot)
+            WriteBeside(it.Key, seconds, it.Value, root);
+        foreach (var it in read)
+            CloseBeside(it.Key, seconds, it.Value, root);
+        using (var assembly = Assembly.OpenRoot(root))
+            ChangeBeside(seconds, assembly);
+    }
+
+    // ---- growth
+
+    static readonly MethodInfo allocated = typeof(GC).GetMethod("GetAllocatedBytesForCurrentThread");
+
+    // The number of bytes that this thread has allocated in the managed heap.
+    static double Allocated() { return (long)allocated.Invoke(null, null); }
+
+    // The processor time of this thread, in nanoseconds.
+    static double Now() { return double.Parse(File.ReadAllText("/proc/thread-self/schedstat").Split(' ')[0]); }
+
+    // What a call adds to a measure, on an assembly that was opened before.
+    static double Added(Func<double> measure, byte[] root, Action<Assembly> call)
+    {
+        using (var assembly = Assembly.OpenRoot(root))
+        {
+            double before = measure();
+            call(assembly);
+            return measure() - before;
+        }
+    }
+
+    static void Measure(string folder, string text, string name, Func<double> measure, Action<Assembly> call)
+    {
+        var roots = new[] { 1, 2, 4 }.Select(times => File.ReadAllBytes(Path.Combine(folder, name + "." + times)));
+        double[] least = null;
+        for (int run = 0; run < Runs && (least == null || Grows(least)); run++)
+        {
+            var found = roots.Select(root => Added(measure, root, call)).ToArray();
+            least = least == null ? found : found.Zip(least, Math.Min).ToArray();
+        }
+        string unit = measure == Now ? " ms" : " MB";
+        string shown = text + " of " + name + ": " + string.Join(", ", least.Select(it => (it / 1e6).ToString("F2") + unit));
+        Console.WriteLine(shown);
+        Report(!Grows(least), shown);
+    }
+
+    static bool Grows(double[] least) { return least[2] > MostGrowth * MostGrowth * least[0]; }
+
+    // The root of the tables of an assembly, with another name in the first row.
+    static void Change(Assembly assembly)
+    {
+        var tables = Tables.Of(assembly);
+        foreach (var table in new[] { TableId.ModuleRef, TableId.File }.Where(it => tables.Count(it) > 0))
+            tables.Set(new Token(table, 1), "Name", "changed");
+        tables.Root();
+    }
+
+    static void Growth(string folder)
+    {
+        foreach (var name in new[] { "nested_in_one", "nested_out_of_order" })
+            Measure(folder, "FullName", name, Now, assembly =>
+            {
+                foreach (var row in assembly.Rows<TypeDefRow>())
+                    assembly.FullName(row);
+            });
+        if (allocated == null)
+            Console.WriteLine("this runtime does not count what it allocates: memory is not measured");
+        else
+            foreach (var name in new[] { "one_text", "endings", "one_plain_blob", "overlapping_blobs" })
+            {
+                Measure(folder, "the first row", name, Allocated, First);
+                Measure(folder, "Tables.Of", name, Allocated, assembly => Tables.Of(assembly));
+                // The canonical root of blobs that overlap has each of them, so that its length grows with the square.
+                if (name != "overlapping_blobs")
+                    Measure(folder, "Root", name, Allocated, Change);
+            }
+        if (allocated != null)
+            Measure(folder, "Rows", "one_text", Allocated, assembly => assembly.Rows<ModuleRefRow>().Count());
+    }
+
+    static void First(Assembly assembly)
+    {
+        if (assembly.Rows<ModuleRefRow>().Take(1).Count() + assembly.Rows<FileRow>().Take(1).Count() != 1)
+            Report(false, "one table has rows");
+    }
+
+    static int Main(string[] arguments)
+    {
+        if (arguments[0] == "threads")
+            Threads(File.ReadAllBytes(arguments[1]), double.Parse(arguments[2]));
+        else
+            Growth(arguments[1]);
+        Console.WriteLine("{0} passed, {1} failed", passed, failed);
+        return failed > 0 ? 1 : 0;
+    }
+}

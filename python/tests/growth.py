@@ -1,0 +1,106 @@
+"""Measures calls on roots that strangers could make, each of twice the bytes of the one before: growth.py FOLDER.
+
+The roots are those of hostile_roots.py. The time or the memory of a call may be at most 2.3 times what it is for half the
+bytes. Memory is what Python allocates. What the library allocates is not counted, and c/clim.h says how much it is.
+The last line is 'N passed, M failed'.
+"""
+
+import gc
+import pathlib
+import sys
+import time
+import tracemalloc
+
+import clim
+
+MOST_GROWTH = 2.3
+# A call is measured this number of times at most, until the least of each size show that it grows as it may.
+RUNS = 5
+# The number of signatures whose texts are read.
+SIGNATURES = 2000
+
+
+def opened(root):
+    return clim.open(root, bare=True)
+
+
+def read_texts(assembly):
+    """The texts of some signatures. Those that are too long are errors."""
+    for row in assembly["StandAloneSig"][:SIGNATURES]:
+        try:
+            row.Signature.text
+        except OverflowError:
+            pass
+
+
+def read_names(assembly):
+    return [row.full_name for row in assembly.types]
+
+
+def read_heaps(assembly):
+    return assembly.heaps
+
+
+def change(assembly):
+    """Tables whose first row is changed, and their root."""
+    tables = clim.Tables.of(assembly)
+    for table in assembly:
+        row = tables[table.name][0]
+        row.update({"Name": "changed"} if "Name" in row else {})
+    return tables.root()
+
+
+def seconds(call, root):
+    """The processor time of a call on an assembly that was opened before."""
+    with opened(root) as assembly:
+        gc.collect()
+        begun = time.process_time()
+        call(assembly)
+        return time.process_time() - begun
+
+
+def peak(call, root):
+    """The largest number of bytes that Python has allocated during a call."""
+    with opened(root) as assembly:
+        tracemalloc.start()
+        call(assembly)
+        found = tracemalloc.get_traced_memory()[1]
+        tracemalloc.stop()
+    return found
+
+
+# The canonical root of blobs that overlap has each of them, so that its length grows with the square.
+CASES = [
+    *[(peak, clim.Tables.of, name) for name in ("one_text", "endings", "one_plain_blob", "overlapping_blobs")],
+    *[(peak, change, name) for name in ("one_text", "endings", "one_plain_blob")],
+    (peak, read_heaps, "many_streams"),
+    (seconds, read_heaps, "many_streams"),
+    (seconds, read_names, "nested_in_one"),
+    (seconds, read_names, "nested_out_of_order"),
+    (seconds, read_texts, "one_signature"),
+]
+
+
+def judge(measure, call, name, folder):
+    """Whether a call grows as it may. It prints what was measured."""
+    roots = [(folder / f"{name}.{times}").read_bytes() for times in (1, 2, 4)]
+    least = [float("inf")] * len(roots)
+    for _ in range(RUNS):
+        least = [min(it, measure(call, root)) for it, root in zip(least, roots)]
+        if least[2] <= MOST_GROWTH**2 * least[0]:
+            break
+    shown = ", ".join(f"{it:.3f} s" if measure is seconds else f"{it / 1e6:.2f} MB" for it in least)
+    grows = least[2] > MOST_GROWTH**2 * least[0]
+    print(f"{call.__qualname__} of {name}: {shown}{', which grows too much' if grows else ''}")
+    return not grows
+
+
+def main():
+    folder = pathlib.Path(sys.argv[1])
+    passed = sum(judge(*it, folder) for it in CASES)
+    print(f"{passed} passed, {len(CASES) - passed} failed")
+    return passed < len(CASES)
+
+
+if __name__ == "__main__":
+    sys.exit(main())
