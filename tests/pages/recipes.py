@@ -10,6 +10,7 @@
 - CHANGELOG.md begins with the version of the program, which is in one place, in cli_arguments.
 - docs/TRUST.md: its files are there, and its counts of lines are those of the definitions.
 - edits/README.md: each edit that its tables name is there.
+- edits/each.txt says what each of its edits does, and each is there. Each crate with edits has one there or in must-fail/.
 - Each relative link of these pages leads to a file.
 
 With --lines it only prints the definitions that docs/TRUST.md counts, with their lines. The last line is otherwise
@@ -199,6 +200,19 @@ def check_edits(counts):
         counts.expect(text_of(path) is not None, f"edits/README.md: {path} is not there")
 
 
+def check_each(counts):
+    """Each edit of edits/each.txt is there, with a text. Each crate with edits has one that is tried each time."""
+    tried = {it for it in os.listdir(f"{TOP}/crates") if os.path.isdir(f"{TOP}/crates/{it}/must-fail")}
+    for line in text_of("edits/each.txt").splitlines():
+        if line.strip() and not line.startswith("#"):
+            name, _, text = line.partition(" ")
+            counts.expect(text.strip() and text_of(f"edits/{name}.edit"), f"edits/each.txt: {name} is not there, or has no text")
+            tried.add(name.partition("/")[0])
+    for crate in sorted(os.listdir(f"{TOP}/edits")):
+        if os.path.isdir(f"{TOP}/edits/{crate}"):
+            counts.expect(crate in tried, f"edits/each.txt: {crate} has no edit that is tried each time")
+
+
 def check_links(counts):
     """Each relative link of a page leads to a file."""
     for page in PAGES:
@@ -226,7 +240,7 @@ def main():
             return 1
     checks = [
         check_recipes, check_contract, check_commands, check_crates, check_readme, check_version, check_trust, check_edits,
-        check_links,
+        check_each, check_links,
     ]
     for check in checks:
         check(counts)

@@ -4,6 +4,7 @@ import contextlib
 import os
 import signal
 import subprocess
+import sys
 import tempfile
 
 
@@ -19,6 +20,13 @@ def text_of(file):
     return file.read().decode(errors="replace")
 
 
+class Ran:
+    """What a program came to: its status, its output and its errors, and the processor seconds that it took."""
+
+    def __init__(self, status, printed, log, seconds):
+        self.status, self.printed, self.log, self.seconds = status, printed, log, seconds
+
+
 class Processes:
     """Starts programs, each in a group of its own."""
 
@@ -26,20 +34,29 @@ class Processes:
         self.running, self.stopped = set(), False
 
     def run(self, words, **how):
-        """Runs a program to its end, and returns its status, its output and its errors.
+        """Runs a program to its end.
 
-        Both go to files: a program that it has left running could hold a pipe open. It is ended.
+        What it prints goes to files: a program that it has left running could hold a pipe open. It is ended.
         """
         if self.stopped:
-            return 130, "", ""
+            return Ran(130, "", "", 0)
         with tempfile.TemporaryFile() as printed, tempfile.TemporaryFile() as log:
             pipes = {"stdin": subprocess.DEVNULL, "stdout": printed, "stderr": log}
             with subprocess.Popen(words, start_new_session=True, **pipes, **how) as it:
                 self.running.add(it)
-                status = it.wait()
+                _, status, used = os.wait4(it.pid, 0)
+                it.returncode = os.waitstatus_to_exitcode(status)
                 self.running.discard(it)
             end_group(it)
-            return status, text_of(printed), text_of(log)
+            return Ran(it.returncode, text_of(printed), text_of(log), used.ru_utime + used.ru_stime)
+
+    def show(self, words):
+        """Runs a program that says what it does, and returns its status."""
+        with subprocess.Popen(words, start_new_session=True, stdin=subprocess.DEVNULL, stdout=sys.stderr) as it:
+            self.running.add(it)
+            it.wait()
+            self.running.discard(it)
+        return it.returncode
 
     def stop(self):
         """Ends the programs that still run, and starts no more."""

@@ -38,20 +38,39 @@ fn judge_model(alloc: Global, model: &Model) -> Result<(), &'static str> {
     Ok(())
 }
 
+/// What is not as it has to be of a file, if it loads. A model whose canonical root is one that was judged is not
+/// judged again.
+fn judge_loaded(
+    alloc: Global,
+    bytes: &[u8],
+    is_root: bool,
+    judged: &[u8],
+) -> Result<(), &'static str> {
+    let Some(model) = loaded(alloc, bytes, is_root) else {
+        return Ok(());
+    };
+    let root = write_root(alloc, &model).map_err(|_| "its root is not written")?;
+    if root.as_slice() == judged {
+        return Ok(());
+    }
+    judge_model(alloc, &model)
+}
+
 /// What is not as it has to be of what loads among the prefixes of a file, and among the files that have one byte
 /// 00 or FF in its place.
-fn judge_changed(alloc: Global, bytes: &[u8], is_root: bool) -> Result<(), &'static str> {
+fn judge_changed(
+    alloc: Global,
+    bytes: &[u8],
+    is_root: bool,
+    judged: &[u8],
+) -> Result<(), &'static str> {
     for end in 0..bytes.len() {
-        if let Some(model) = loaded(alloc, &bytes[..end], is_root) {
-            judge_model(alloc, &model)?;
-        }
+        judge_loaded(alloc, &bytes[..end], is_root, judged)?;
     }
     for offset in 0..bytes.len() {
         for byte in [0, 0xFF] {
             let changed = with_byte(alloc, bytes, offset, byte).map_err(|_| "out of memory")?;
-            if let Some(model) = loaded(alloc, &changed, is_root) {
-                judge_model(alloc, &model)?;
-            }
+            judge_loaded(alloc, &changed, is_root, judged)?;
         }
     }
     Ok(())
@@ -72,5 +91,6 @@ pub fn judged(alloc: Global, bytes: &[u8]) -> Result<(), &'static str> {
     if bytes.len() > SMALL {
         return Ok(());
     }
-    judge_changed(alloc, bytes, is_root)
+    let root = write_root(alloc, &model).map_err(|_| "its root is not written")?;
+    judge_changed(alloc, bytes, is_root, &root)
 }

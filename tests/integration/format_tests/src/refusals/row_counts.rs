@@ -1,5 +1,6 @@
 use crate::zero_padded::refusal;
 use owned_model::{Refusal, TableId, Tables};
+use std::mem;
 use std::test::Fail;
 
 /// How many rows are one too many for a table.
@@ -21,5 +22,7 @@ fn a_table_with_a_row_too_many_is_reported_before_its_cells(rt: HostRuntime) -> 
     let (refused, tables) = refusal(tables).ok_or("a model")?;
     assert_eq!(rt; refused, reported);
     assert_eq!(rt; tables.count(TableId::File), TOO_MANY);
+    // A drop goes over all rows, one by one where each step is checked.
+    mem::forget(tables);
     Ok(())
 }
