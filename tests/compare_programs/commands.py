@@ -84,8 +84,8 @@ ONCE = [
 ]
 # Values of options and arguments, of which some are wrong.
 BUDGETS = ["0", "1", "5", "30", "100", "1000", "18446744073709551615", "18446744073709551616", "+5", "-1", "x", "", "0x10", "05"]
-OFFSETS = ["-1", "+5", "x", "", "0x", "0xg", "0X10", "010", "18446744073709551615", "18446744073709551616", "0xffffffffffffffff", "0x10000000000000000", "\u0661"]
-TOKENS = ["0", "1", "01", "2000001", "70000000", "70000001", "7000000", "00000000", "05000001", "ffffffff", "700000000", "", "x", "0x1", "+1", "-1", "02000001 "]
+OFFSETS = ["-1", "+5", "x", "", "0x", "0xg", "0X10", "010", "0xffffffffffffffff", "0x10000000000000000", "18446744073709551616", "\u0661"]
+TOKENS = ["0", "1", "01", "2000001", "70000000", "70000001", "7000000", "05000001", "ffffffff", "700000000", "", "x", "0x1", "+1", "-1", "02000001 "]
 CODES = ["101", "508", "510", "901", "999", "0501", "+501", "1010", "badutf8", "BadGuidd", "Bad", "", "x" * 65, "\x1b", "é"]
 OUTPUTS = ["out", "there", "in", "link", "other", "folder", "folder/out", "missing/out", "/dev/null", "/dev/stdout", "-", "", "loop", "é\n"]
 # Words of any command line.
@@ -95,11 +95,16 @@ WORDS = [
     "--", "", "-x", "--bar", "--bare=1", "--bare=", "-q0", "-0q", "-qq", "-hq", "-b", "---", "TypeDef", "02", "02000001", "0x10", "504", "BadGuid", "chekc",
     "--jsn", "in", "in", "in", "in", "other", "out", "missing", "folder", "\x1b[31m", "a\nfault 3 307 at 0: Forged", "x" * 200, "é", "'", '"', "\udcff",
 ]
-NAMES = ["N.C", "C", "", ".", "..", "A.", ".A", "A/B", "A.B/C", "<Module>", "System.Object", "02000001", "02000000", "2000001", "02FFFFFF", "06000001", "x" * 300, "é", "\x1b"]
+NAMES = [
+    "N.C", "C", "", ".", "..", "A.", ".A", "A/B", "A.B/C", "<Module>", "System.Object", "02000001", "02000000", "2000001", "02FFFFFF", "06000001",
+    "x" * 300, "é", "\x1b",
+]
 OPTIONS = re.compile(r"-")
-# How often something happens: one of these many.
+# How often something happens: one time of this number.
 MOVED, ENDED, FROM_INPUT, PIPED, TOGETHER, FULL_OUTPUT, FULL_ERRORS, WRONG_BARE, MISSING = 4, 30, 25, 3, 12, 60, 80, 30, 40
 MOST_ARGUMENTS = 6
+# The characters of the longest argument: the system takes 128 kB.
+LONGEST_ARGUMENT = 30_000
 # The types and the user strings of a file that are remembered.
 KNOWN = 200
 
@@ -140,7 +145,7 @@ class Commands:
         if found and self.one_of(3):
             at = chance.randrange(len(found))
             found = found[:at] + chance.choice(("", "x", found[at].swapcase())) + found[at + 1:]
-        return found
+        return found[:LONGEST_ARGUMENT]
 
     def token(self, it):
         chance = self.chance

@@ -30,15 +30,20 @@ def lines_of(text):
     return lines
 
 
-def value_of(line, exact=False):
-    """The value of a line of JSON. Numbers are taken as they are written, if this is asked for."""
-    how = {"parse_int": lambda it: (it,), "parse_float": lambda it: (it,)} if exact else {}
-    return json.loads(line.decode(), object_pairs_hook=members, parse_constant=refuse_constant, **how)
+HOW = {"object_pairs_hook": members, "parse_constant": refuse_constant}
+READER = json.JSONDecoder(**HOW)
+# It takes numbers as they are written.
+EXACT_READER = json.JSONDecoder(parse_int=lambda it: (it,), parse_float=lambda it: (it,), **HOW)
+
+
+def value_of(line, reader=READER):
+    """The value of a line of JSON; a ValueError if it is none."""
+    return reader.decode(line.decode())
 
 
 def values_of(text):
-    """The values of JSON Lines; a ValueError if a line is none."""
-    return [value_of(line, True) for line in lines_of(text)]
+    """The values of JSON Lines."""
+    return [value_of(line, EXACT_READER) for line in lines_of(text)]
 
 
 def invalid_line(text):
@@ -65,7 +70,7 @@ def compare_json(old, new):
         left, right = lines_of(old), lines_of(new)
         if len(left) == len(right):
             pairs = [it for it in zip(left, right) if it[0] != it[1]]
-            if all(value_of(one, True) == value_of(other, True) for one, other in pairs):
+            if all(value_of(one, EXACT_READER) == value_of(other, EXACT_READER) for one, other in pairs):
                 return ORDER if all(sorted(one) == sorted(other) for one, other in pairs) else FORM
     except ValueError:
         pass

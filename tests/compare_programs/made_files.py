@@ -235,7 +235,8 @@ def rename_stream(data, ranges, chance):
         return data
     old, new = chance.choice(names), chance.choice(BROKEN_NAMES)
     at = data.find(old + b"\0")
-    return data[:at] + new + data[at + len(new):] if len(new) > len(old) or chance.randrange(2) else data[:at] + new.ljust(len(old), b"\0") + data[at + len(old):]
+    field = new if chance.randrange(2) else new.ljust(len(old), b"\0")
+    return data[:at] + field + data[at + len(field):]
 
 
 class File:

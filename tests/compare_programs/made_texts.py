@@ -21,7 +21,7 @@ ODD = [
 ]
 # A text that is longer than what `outline` prints of a name, and the lengths of others.
 LONGEST, LENGTHS = 70_000, (100, 127, 128, 129, 300, 4_096)
-# One of these many texts is long, and one of these many long ones is longer than the limit.
+# One of this number of texts is long, and one of this number of long ones is longer than the limit.
 LONG, VERY_LONG = 60, 8
 
 
