@@ -86,7 +86,7 @@ static clim_bytes part_of(guarded file) {
 
 /* ---- buffers */
 
-/* The last bytes of the buffer: this number of them. */
+/* The end of the buffer, with room for this number of bytes. */
 static uint8_t *with_room(size_t room) {
     memset(buffer.at, UNWRITTEN, buffer.len);
     return buffer.at + buffer.len - room;

@@ -102,7 +102,8 @@ static class Stress
         var shared = (byte[])bytes.Clone();
         var random = new Random(7);
         string other = null;
-        Beside(seconds, () => other = Ends(() => call(shared), typeof(ClimFault), typeof(ClimRefusal)) ?? other, () =>
+        var expected = new[] { typeof(ClimFault), typeof(ClimRefusal), typeof(BudgetSpentException) };
+        Beside(seconds, () => other = Ends(() => call(shared), expected) ?? other, () =>
         {
             int at = random.Next(shared.Length);
             shared[at] = (byte)random.Next(256);

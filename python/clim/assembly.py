@@ -311,8 +311,9 @@ class Assembly:
         self._view()
         root = 0 if self._bare else header_of(data).root_start
         # A crafted root can have thousands of other streams, each as long as the root.
-        spans = {name: (root + offset, size) for name, offset, size in _read_streams(data, root) if name in _STREAMS}
-        return {name: data[at : at + size] for name in _STREAMS if name in spans for at, size in [spans[name]]}
+        streams = ((name, root + offset, size) for name, offset, size in _read_streams(data, root) if name in _STREAMS)
+        found = {name: data[at : at + size] for name, at, size in streams}
+        return {name: found[name] for name in _STREAMS if name in found}
 
     # -- look-ups
 

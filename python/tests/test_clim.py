@@ -128,10 +128,9 @@ class Opening(unittest.TestCase):
 
     def test_an_empty_file_is_a_fault(self):
         with tempfile.NamedTemporaryFile() as file:
-            for mapped in (False, True):
-                with self.assertRaises(clim.Fault) as caught:
-                    clim.open(file.name, mmap=mapped)
-                self.assertEqual(str(caught.exception), "fault 1 102 at 0: DosHeader")
+            with self.assertRaises(clim.Fault) as caught:
+                clim.open(file.name)
+            self.assertEqual(str(caught.exception), "fault 1 102 at 0: DosHeader")
 
     def test_a_pipe_is_read_to_its_end(self):
         data = (SAMPLES / "one_module.dll").read_bytes() + bytes(3 << 20)
@@ -196,30 +195,29 @@ class Opening(unittest.TestCase):
 
 class Closed(unittest.TestCase):
     def test_each_access_is_an_error(self):
-        for mapped in (False, True):
-            with clim.open(SAMPLES / "greeter.root", bare=True, mmap=mapped) as assembly:
-                table, row = assembly.types, assembly.types[1]
-                name = row.TypeName
-                self.assertFalse(assembly.closed)
-            self.assertTrue(assembly.closed)
-            assembly.close()
-            self.assertEqual(name, "Greeter")
-            calls = [
-                lambda: row.TypeName, lambda: row["TypeName"], lambda: row.methods, lambda: row.properties, row.cells,
-                row.to_dict, lambda: row.custom_attributes, lambda: row.full_name, lambda: row.enclosing_type,
-                lambda: row.members("Field"), lambda: len(table), lambda: table[0], lambda: list(table),
-                lambda: table.row(1), lambda: table.column("TypeName"), lambda: table.column("Flags"),
-                lambda: table.by_key(0x02000001), lambda: assembly["TypeDef"], lambda: assembly.types,
-                lambda: list(assembly), lambda: assembly.version, lambda: assembly.user, lambda: assembly.heaps,
-                lambda: assembly.header, lambda: assembly.find_type("", "a"), lambda: assembly.row(0x02000001),
-                lambda: assembly.module, assembly.to_dict, assembly.__enter__, assembly.canonical_root, assembly.digest,
-                lambda: assembly.where(0), lambda: assembly.user_string(0x70000001), lambda: assembly.difference(assembly),
-                lambda: clim.compare(assembly, assembly), lambda: clim.Tables.of(assembly), lambda: name and row.Flags,
-            ]
-            for number, call in enumerate(calls):
-                with self.subTest(call=number), self.assertRaisesRegex(ValueError, "the assembly is closed"):
-                    call()
-            self.assertEqual((row.token, repr(row), repr(assembly)), (0x02000002, "<TypeDef 2>", "<closed assembly>"))
+        with clim.open(SAMPLES / "greeter.root", bare=True) as assembly:
+            table, row = assembly.types, assembly.types[1]
+            name = row.TypeName
+            self.assertFalse(assembly.closed)
+        self.assertTrue(assembly.closed)
+        assembly.close()
+        self.assertEqual(name, "Greeter")
+        calls = [
+            lambda: row.TypeName, lambda: row["TypeName"], lambda: row.methods, lambda: row.properties, row.cells,
+            row.to_dict, lambda: row.custom_attributes, lambda: row.full_name, lambda: row.enclosing_type,
+            lambda: row.members("Field"), lambda: len(table), lambda: table[0], lambda: list(table),
+            lambda: table.row(1), lambda: table.column("TypeName"), lambda: table.column("Flags"),
+            lambda: table.by_key(0x02000001), lambda: assembly["TypeDef"], lambda: assembly.types,
+            lambda: list(assembly), lambda: assembly.version, lambda: assembly.user, lambda: assembly.heaps,
+            lambda: assembly.header, lambda: assembly.find_type("", "a"), lambda: assembly.row(0x02000001),
+            lambda: assembly.module, assembly.to_dict, assembly.__enter__, assembly.canonical_root, assembly.digest,
+            lambda: assembly.where(0), lambda: assembly.user_string(0x70000001), lambda: assembly.difference(assembly),
+            lambda: clim.compare(assembly, assembly), lambda: clim.Tables.of(assembly), lambda: name and row.Flags,
+        ]
+        for number, call in enumerate(calls):
+            with self.subTest(call=number), self.assertRaisesRegex(ValueError, "the assembly is closed"):
+                call()
+        self.assertEqual((row.token, repr(row), repr(assembly)), (0x02000002, "<TypeDef 2>", "<closed assembly>"))
 
 
 class ClosedByAnother(unittest.TestCase):
@@ -227,13 +225,12 @@ class ClosedByAnother(unittest.TestCase):
 
     def test_all_cells(self):
         for path, bare in FILES:
-            for mapped in (False, True):
-                with clim.open(path, bare) as assembly:
-                    wanted = {(table.name, it): tuple(table.column(it)) for table in assembly for it in table.columns}
-                for delay in range(10):
-                    # A copy of the bytes, which nothing else keeps.
-                    source = path if mapped else memoryview(path.read_bytes())
-                    self.close_while_reading(clim.open(source, bare, mmap=mapped), delay / 2000, wanted)
+            with clim.open(path, bare) as assembly:
+                wanted = {(table.name, it): tuple(table.column(it)) for table in assembly for it in table.columns}
+            for delay in range(20):
+                # A copy of the bytes, which nothing else keeps.
+                source = memoryview(path.read_bytes())
+                self.close_while_reading(clim.open(source, bare), delay / 4000, wanted)
 
     def close_while_reading(self, assembly, delay, wanted):
         others = []
@@ -567,7 +564,7 @@ class Overlapping(unittest.TestCase):
         its, others = tables["TypeRef"], clim.Tables()
         its[3]["TypeName"] = names[3] = "changed"
         its[4].update(TypeNamespace=names[5])
-        # Rows may be moved to other tables, even if their cells do not fit there.
+        # A row may be moved to other tables.
         others["TypeRef"].append(its[0])
         with clim.open(tables.root(), bare=True) as assembly:
             self.assertEqual(list(assembly.type_refs.column("TypeName")), names)

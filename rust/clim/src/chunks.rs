@@ -11,7 +11,7 @@ use std::ops::Range;
 /// The number of rows that are read at first.
 const FIRST_ROWS: usize = 128;
 
-/// The greatest number of rows that are read at a time. Each time this number doubles.
+/// The number of rows that are read at a time at most. Each time the number doubles.
 const MOST_ROWS: usize = 1 << 14;
 
 /// The cells of some columns, row by row.

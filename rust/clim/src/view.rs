@@ -112,8 +112,8 @@ pub fn read_header(file: &[u8]) -> Result<Header, Fault> {
 /// Opening checks all rules and allocates nothing. Rows count from 1.
 ///
 /// Nothing copies the bytes, so nothing may change them while they are borrowed, as for any `&[u8]`. A map of a file does
-/// not promise that: if another process writes the file, each call is undefined behaviour. Whoever makes such a slice by
-/// `unsafe` code is responsible for that. Read the file instead, or copy the map.
+/// not ensure that: if another process writes the file, each call is undefined behaviour. The `unsafe` code that makes such
+/// a slice is responsible for it. Read the file instead, or copy the map.
 #[derive(Clone)]
 pub struct View<'a> {
     view: clim_view,
