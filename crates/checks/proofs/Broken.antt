@@ -1,5 +1,5 @@
 -- The first row that breaks a rule for cells, and its fault.
-use Rattle.std.proofs.Common.{◌≡◌, ℕ, false, true, List, Result, Ok, Err, is_err, sym, subst, arith}
+use Rattle.std.proofs.Common.{◌≡◌, false, true, List, Result, Ok, Err, is_err, sym, subst, arith}
 use Rattle.std.proofs.lemmas.Bool.{false≢true}
 use Rattle.packed.specs.declared.fault.Fault.{Fault}
 use Rattle.packed.specs.Rule.{Rule, AllHold, FirstBroken, Reports}

@@ -1,5 +1,4 @@
 pub mod AsciiTexts
-pub mod Apart
 pub mod Before
 pub mod Broken
 pub mod BlobLemmas

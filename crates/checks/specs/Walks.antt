@@ -22,11 +22,6 @@ unfoldable pub walk_over : ℕ → (ℕ → ℕ) → (ℕ → ℕ) → ℕ → W
 walk_over heap long number zero = record { slots = no_slots heap; bytes = 0 }
 walk_over heap long number (suc before) = walk_one long (walk_over heap long number before) (number before)
 
--- the blobs of the first numbers of a column end within the heap, and none of them overlaps another
-pub record LieApart (heap : ℕ) (long number : ℕ → ℕ) (rows : ℕ) : Type 0 where
-  pub within : (k : ℕ) → k < rows → number k + long (number k) ≤ heap
-  pub apart : (j k : ℕ) → j < rows → k < rows → number j < number k → number j + long (number j) < number k
-
 -- the number of a column in the row after this number of rows
 abbrev pub number_after : Source → TableId → ℕ → ℕ → ℕ
 number_after source table column before = number_of source table (before + 1) column

@@ -18,7 +18,6 @@ mod cell_checks;
 mod coded_limits;
 mod column;
 mod key_order;
-pub mod laws;
 mod nesting;
 mod order;
 mod passed;

@@ -2,7 +2,6 @@ pub mod Arms
 pub mod BodiesRead
 pub mod Calls
 pub mod Chains
-pub mod Lengths
 pub mod Loops
 pub mod MarksRead
 pub mod MarksShown

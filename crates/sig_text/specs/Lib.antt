@@ -3,4 +3,3 @@ pub mod Receives
 pub mod Refused
 pub mod Shown
 pub mod SignatureText
-pub mod TextLength

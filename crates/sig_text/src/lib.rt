@@ -7,7 +7,7 @@
 //!
 //! The text of a signature is the definition `text_of` in `specs/SignatureText.antt`. It is proved that a sink receives
 //! its pieces and nothing else, until it refuses one (`specs/Receives.antt`). It is linear in the bytes of the blob and
-//! the names (`laws`): of an array of rank more than 32 the rank is written, and only the dimensions with a size or a bound.
+//! the names: of an array of rank more than 32 the rank is written, and only the dimensions with a size or a bound.
 //!
 //! ```text
 //! // 20 02 01 08 1D 0E: an instance method without result; its parameters are an integer and a vector of strings
@@ -21,7 +21,6 @@
 
 mod declared;
 mod head;
-pub mod laws;
 mod marks;
 mod named;
 mod shape;

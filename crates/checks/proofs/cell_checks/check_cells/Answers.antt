@@ -1,4 +1,4 @@
-use Rattle.std.proofs.Common.{List, get_or, ap, arith}
+use Rattle.std.proofs.Common.{List, get_or, ap}
 use Rattle.table_schema.specs.declared.table.TableId.{TableId}
 use Rattle.table_schema.specs.declared.table.TableId.TheVariants.{Module}
 use Rattle.checks.proofs.Broken.{row_reports}

@@ -1,9 +1,8 @@
-use Rattle.std.proofs.Common.{◌≡◌, ℕ, List, Option, get_or, ap, subst, ◌∙◌, arith}
+use Rattle.std.proofs.Common.{List, get_or, ap, ◌∙◌, arith}
 use Rattle.packed.proofs.RuleLemmas.{before_none, before_more, before_all}
 use Rattle.table_schema.specs.declared.table.TableId.{TableId}
 use Rattle.table_schema.specs.declared.table.TableId.TheVariants.{Module}
 use Rattle.metadata.specs.Rules.{rules_of_cells, rules_of_table_at}
-use Rattle.checks.specs.Broken.{IsFirstBrokenIn}
 use Rattle.checks.proofs.cell_checks.first_broken_row.Goals as goal
 
 pub loop-table_index-init : goal.loop-table_index-init

@@ -1,4 +1,4 @@
-use Rattle.std.proofs.Common.{◌≡◌, ◌≤◌, arith}
+use Rattle.std.proofs.Common.{arith}
 use Rattle.checks.proofs.column.greatest_number.Goals as goal
 
 pub returns : goal.returns
