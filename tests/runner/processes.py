@@ -33,15 +33,17 @@ class Processes:
     def __init__(self):
         self.running, self.stopped = set(), False
 
-    def run(self, words, **how):
-        """Runs a program to its end.
+    def run(self, words, given=None, **how):
+        """Runs a program to its end, on an input if one is given.
 
         What it prints goes to files: a program that it has left running could hold a pipe open. It is ended.
         """
         if self.stopped:
             return Ran(130, "", "", 0)
-        with tempfile.TemporaryFile() as printed, tempfile.TemporaryFile() as log:
-            pipes = {"stdin": subprocess.DEVNULL, "stdout": printed, "stderr": log}
+        with tempfile.TemporaryFile() as read, tempfile.TemporaryFile() as printed, tempfile.TemporaryFile() as log:
+            read.write(given or b"")
+            read.seek(0)
+            pipes = {"stdin": subprocess.DEVNULL if given is None else read, "stdout": printed, "stderr": log}
             with subprocess.Popen(words, start_new_session=True, **pipes, **how) as it:
                 self.running.add(it)
                 _, status, used = os.wait4(it.pid, 0)
