@@ -425,7 +425,8 @@ class Assembly:
             return _c.written_text(library.clim_signature_text, *where)
         cell, texts = bytearray(_c.NO_CELL), self._signature_texts
         library.clim_cell_at(*where, ctypes.addressof(ctypes.c_char.from_buffer(cell)))
-        key = table.number, *_c.CELL_BYTES.unpack_from(cell)
+        at, length = _c.CELL_BYTES.unpack_from(cell)
+        key = table.number, at, length
         if key in texts:
             return texts[key]
         text = _c.written_text(library.clim_signature_text, *where)

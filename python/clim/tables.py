@@ -52,15 +52,15 @@ _HEADS, _CELL = 1000, 4 + 5 + 16
 
 
 class _Cell(NamedTuple):
-    """The fields of a `clim_cell`. Its bytes are at an offset in the heap, or else at an address."""
+    """The fields of a `clim_cell`, in their order. Its bytes are at an address, or at an offset in the heap if that is 0."""
 
-    kind: int
     offset: int = 0
+    address: int = 0
     length: int = 0
     number: int = 0
+    kind: int = 0
     table: int = 0
     guid: bytes = bytes(16)
-    address: int = 0
 
 
 class _Heap:
@@ -123,8 +123,7 @@ class _SharedRow(MutableMapping[str, Any]):
         if not isinstance(its, Blobs) or type(its) is not _COLUMNS.get(kind):
             return None
         heap.owners.add(its)
-        address, length = its.span(self._index)
-        return _Cell(kind, length=length, address=address)
+        return _Cell(0, *its.span(self._index), kind=kind)
 
 
 @lru_cache(maxsize=None)
@@ -159,25 +158,27 @@ def _token(value: Any) -> Token:
 def _encoded(kind: int, value: Any, heap: _Heap) -> _Cell:
     """A cell of a column of a kind; raises `TypeError` or `ValueError` if no such cell has the value."""
     if kind in (_c.NUMBER, _c.START):
-        return _Cell(kind, number=_number(value))
+        return _Cell(number=_number(value), kind=kind)
     if kind == _c.TEXT:
         if not isinstance(value, str):
             raise TypeError(f"a text is wanted, and not {value!r}")
-        return _Cell(kind, *heap.add(value if type(value) is str else str.encode(value)))
+        offset, length = heap.add(value if type(value) is str else str.encode(value))
+        return _Cell(offset, length=length, kind=kind)
     if kind in (_c.BLOB, _c.SIGNATURE):
         if not isinstance(value, (bytes, bytearray, memoryview)):
             raise TypeError(f"bytes are wanted, and not {value!r}")
-        return _Cell(kind, *heap.add(bytes_of(value)))
+        offset, length = heap.add(bytes_of(value))
+        return _Cell(offset, length=length, kind=kind)
     if kind == _c.GUID:
         if not isinstance(value, (uuid.UUID, type(None))):
             raise TypeError(f"a UUID or None is wanted, and not {value!r}")
-        return _Cell(_c.NULL_GUID) if value is None else _Cell(kind, guid=value.bytes_le)
+        return _Cell(kind=_c.NULL_GUID) if value is None else _Cell(kind=kind, guid=value.bytes_le)
     if value is None:
-        return _Cell(_c.NULL_ROW)
+        return _Cell(kind=_c.NULL_ROW)
     token = _token(value)
     if not 0 <= token <= _LARGEST:
         raise ValueError(f"{int(token)} is no token")
-    return _Cell(kind, number=token.row, table=token.table)
+    return _Cell(number=token.row, kind=kind, table=token.table)
 
 
 def _refusal_of(found: _c.RefusalStruct) -> Refusal:
@@ -276,7 +277,7 @@ class Tables:
         row = {it: columns[it] if it in columns else self._default(it, kinds[it]) for it in names}
         rows = self._rows[number]
         for column in columns:
-            cell = self._cell(number, len(rows) + 1, row, column, _Heap())
+            cell = self._cell(number, len(rows) + 1, kinds[column], row, column, _Heap())
             if cell.kind == _c.ROW:
                 row[column] = Token.of(cell.table, cell.number)
         rows.append(row)
@@ -324,20 +325,20 @@ class Tables:
         cells: List[_Cell] = []
         rows: List[Tuple[int, int, int]] = []
         for number, its in self._rows.items():
-            names = _c.COLUMN_NAMES[number]
+            kinds = _kinds_of(number)
             for index, row in enumerate(its, 1):
-                if len(row) > len(names):
-                    raise KeyError(next(it for it in row if it not in names))
-                rows.append((len(cells), len(names), number))
-                cells += [self._cell(number, index, row, column, heap) for column in names]
+                if len(row) > len(kinds):
+                    raise KeyError(next(it for it in row if it not in kinds))
+                rows.append((len(cells), len(kinds), number))
+                for column, kind in kinds.items():
+                    cell = row.cell(kind, column, heap) if isinstance(row, _SharedRow) else None
+                    cells.append(cell or self._cell(number, index, kind, row, column, heap))
         return self._made(heap, cells, rows)
 
-    def _cell(self, table: int, row: int, cells: Any, column: str, heap: _Heap) -> _Cell:
+    def _cell(self, table: int, row: int, kind: int, cells: Any, column: str, heap: _Heap) -> _Cell:
         """A cell of a row; an error has the name of its column."""
-        kind = _kinds_of(table)[column]
-        found = cells.cell(kind, column, heap) if isinstance(cells, _SharedRow) else None
         try:
-            return found or _encoded(kind, cells[column], heap)
+            return _encoded(kind, cells[column], heap)
         except (TypeError, ValueError) as error:
             its_type = TypeError if isinstance(error, TypeError) else ValueError
             raise its_type(f"{_c.TABLE_NAMES[table]} {row} {column}: {error}") from error
@@ -347,9 +348,7 @@ class Tables:
         content = b"".join(heap.parts)
         start = address_of(content)
         pack = _c.CELL.pack
-        packed = b"".join(
-            [pack(it.address or start + it.offset, it.length, it.number, it.kind, it.table, it.guid) for it in cells]
-        )
+        packed = b"".join([pack(at or start + offset, *fields) for offset, at, *fields in cells])
         first = address_of(packed)
         given = b"".join([_c.GIVEN_ROW.pack(first + at * _c.CELL.size, *fields) for at, *fields in rows])
         user = bytes_of(self.user)
