@@ -1,12 +1,7 @@
 pub mod Arms
-pub mod BodiesRead
+pub mod Bodies
 pub mod Calls
 pub mod Chains
-pub mod Loops
-pub mod MarksRead
+pub mod Encoded
 pub mod MarksShown
-pub mod Options
-pub mod ShapeRead
 pub mod ShapeShown
-pub mod TypesRead
-pub mod WholeRead

@@ -27,7 +27,7 @@ mark_none (c ∷ b) h = of_tests (eqb c 0x45) (eqb c 0x1F) (eqb c 0x20) h
 
 -- ---- one after another
 
-none_in : (k : ℕ) (b : List ℕ) → mark_at b ≡ None → marks_in k b ≡ ([], b)
+pub none_in : (k : ℕ) (b : List ℕ) → mark_at b ≡ None → marks_in k b ≡ ([], b)
 unfolding marks_in
 none_in zero b e = refl
 none_in (suc k) b e = rw e refl

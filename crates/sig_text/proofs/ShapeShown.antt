@@ -1,10 +1,9 @@
 -- The shape of an array, step by step.
 use Rattle.std.proofs.Common.{◌≡◌, ℕ, zero, suc, ◌+◌, ◌-◌, ◌<◌, false, eqb, Some, None, List, [], ◌∷◌, ◌++◌, refl, arith}
 use Rattle.std.specs.Prelude.{codes}
-use Rattle.std.proofs.lemmas.Bool.{ne_eqb}
+use Rattle.std.proofs.lemmas.Bool.{lt-ltb}
 use Rattle.sig_text.specs.SignatureText.{Piece, word, dimension_text}
 use Rattle.sig_text.specs.Shown.{CoreShown, number_or, signed_or, numbers_behind, next_of, before, dimensions_shown, slot_shown, is_marked, behind_mark, listed_shown, named_slots_shown}
-use Rattle.std.proofs.Common.{◌⊎◌, inl, inr}
 use Rattle.sig_text.specs.SignatureText.{flag_text, param_name, mark_text}
 
 pub behind_more : (n : ℕ) (b : List ℕ) → 0 < n → numbers_behind n b ≡ numbers_behind (n - 1) (number_or b).1
@@ -30,7 +29,7 @@ next_some read (suc n) b h = let less : suc n - 1 ≡ n = omega arith in rw less
 -- ---- the pieces that remain of a loop
 
 before_next : (separator : List ℕ) (done : ℕ) → before separator (done + 1) ≡ word separator ∷ []
-before_next separator done = let e : eqb (done + 1) 0 ≡ false = ne_eqb (done + 1) 0 (λ h. omega arith) in rw e refl
+before_next separator done = rw (lt-ltb 0 (done + 1) (omega arith)) refl
 
 pub dimensions_end : (start : List Piece) (n : ℕ) (s l : ℕ × List ℕ) → n ≡ 0 → dimensions_shown start n s l ≡ ([], l.1)
 unfolding dimensions_shown
@@ -70,8 +69,3 @@ pub named_more : (core : CoreShown) (start : List Piece) (position n done : ℕ)
 unfolding named_slots_shown
 named_more core start position zero done b h = absurd (omega arith)
 named_more core start position (suc n) done b h = let less : suc n - 1 ≡ n = omega arith in rw (less, before_next (codes ", ") done) refl
-
-pub mark_none : (r s l : ℕ) → (((r ≡ 1) × (s ≡ 0) × (l ≡ 0 → ⊥)) ⊎ (((r ≡ 1) × (s ≡ 0 → ⊥)) ⊎ (r ≡ 1 → ⊥))) → mark_text r s l ≡ []
-mark_none r s l (inl p) = let e = ne_eqb l 0 p.2 in rw (p.0, p.1, e) refl
-mark_none r s l (inr (inl p)) = let e = ne_eqb s 0 p.1 in rw (p.0, e) refl
-mark_none r s l (inr (inr p)) = let e = ne_eqb r 1 p in rw e refl

@@ -3,3 +3,4 @@ pub mod Receives
 pub mod Refused
 pub mod Shown
 pub mod SignatureText
+pub mod Wrote

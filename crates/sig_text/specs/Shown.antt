@@ -1,6 +1,6 @@
 -- What the private functions pass to a sink, and the bytes that they leave, for bytes of any kind. There is nothing to
 -- believe here: it is proved that for the bytes of a signature this is the text of the signature.
-use Rattle.std.specs.Prelude.{ℕ, zero, suc, ◌+◌, ◌/◌, ◌%◌, ◌==◌, ◌||◌, ℤ, pos, Bool, if◌then◌else◌, Option, Some, None, drop, length, List, [], ◌∷◌, ◌++◌, codes}
+use Rattle.std.specs.Prelude.{ℕ, zero, suc, ◌+◌, ◌/◌, ◌%◌, ◌==◌, ◌||◌, nat_lt, ℤ, pos, Bool, if◌then◌else◌, Option, Some, None, drop, length, List, [], ◌∷◌, ◌++◌, codes}
 use Rattle.std.specs.Option.{unwrap_or}
 use Rattle.table_schema.specs.declared.token.Token.{Token}
 use Rattle.table_schema.specs.declared.table.TableId.TheVariants.{TypeDef}
@@ -113,7 +113,7 @@ slot_shown core b =
 
 -- the separator before all values but the first
 abbrev pub before : List ℕ → ℕ → List Piece
-before separator done = if done == 0 then [] else word separator ∷ []
+before separator done = flag_text (nat_lt 0 done) separator
 
 abbrev pub is_marked : List ℕ → Bool
 is_marked b = head_is SENTINEL b

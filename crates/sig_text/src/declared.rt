@@ -1,16 +1,17 @@
-ghost use Rattle.std.specs.Prelude.{◌≡◌, [], is_some};
+ghost use Rattle.std.specs.Prelude.{◌≡◌, ◌∷◌, [], is_some};
 ghost use Rattle.table_schema.specs.declared.column.SigKind.TheVariants.{MethodDef};
 ghost use Rattle.sig_grammar.specs.Syntax.{Body, Method, method_body};
 ghost use Rattle.sig_grammar.specs.Encodes.{Encodes};
 ghost use Rattle.sig_text.specs.Receives.{Receives};
 ghost use Rattle.sig_text.specs.Refused.{refused_after};
 ghost use Rattle.sig_text.specs.Shown.{core_shown, named_slots_shown, declared_shown};
-ghost use Rattle.sig_text.specs.SignatureText.{declared_text};
+ghost use Rattle.sig_text.specs.SignatureText.{method_name, param_name, declared_text};
+ghost use Rattle.sig_text.specs.Wrote.{Wrote};
 
 use crate::head::{byte, generic, number};
-use crate::shape::before;
 use crate::sink::TextSink;
 use crate::types::{arity, convention, slot};
+use crate::words::{put_if, put_text, result_of};
 use sig_grammar::DEPTH_LIMIT;
 use sig_recogniser::recognise;
 use table_schema::SigKind;
@@ -33,36 +34,53 @@ pub trait MethodSink: TextSink {
         ensures piece { Self.gives self.old (param_piece position) (is_some result) self.new };
 }
 
+/// Writes the name of the method.
+#[tactic(auto, using(crate::proofs::Chains::one, crate::proofs::Chains::shut))]
+fn put_method_name<S: MethodSink>(sink: &mut S, taken: &mut bool)
+    ensures { Wrote S.refused S.gives sink.old taken.old (method_name ∷ []) sink.new taken.new }
+{
+    if *taken {
+        *taken = sink.method_name().is_some();
+    }
+}
+
+/// Writes the name of a parameter.
+#[tactic(auto, using(crate::proofs::Chains::one, crate::proofs::Chains::shut))]
+fn put_param_name<S: MethodSink>(sink: &mut S, taken: &mut bool, position: u32)
+    ensures { Wrote S.refused S.gives sink.old taken.old (param_name position ∷ []) sink.new taken.new }
+{
+    if *taken {
+        *taken = sink.param_name(position).is_some();
+    }
+}
+
 /// Writes `count` parameters, each with its name.
-fn params<S: MethodSink>(sink: &mut S, bytes: &[u8], count: u32) -> Option<()>
-    ensures words { S.refused sink.new ≡ refused_after result (S.refused sink.old) }
-    ensures pieces { Receives S.gives sink.old (named_slots_shown (core_shown 128) [] 1 count bytes.now) (is_some result) sink.new }
+fn params<S: MethodSink>(sink: &mut S, taken: &mut bool, bytes: &[u8], count: u32)
+    ensures { Wrote S.refused S.gives sink.old taken.old (named_slots_shown (core_shown 128) [] 1 count bytes.now) sink.new taken.new }
 {
     let mut tail = bytes;
     for done in 0..count {
-        before(sink, ", ", done)?;
-        tail = slot(sink, tail, DEPTH_LIMIT)?;
-        sink.param_name(done + 1)?;
+        put_if(sink, taken, done > 0, ", ");
+        tail = slot(sink, taken, tail, DEPTH_LIMIT);
+        put_param_name(sink, taken, done + 1);
     }
-    Some(())
 }
 
 /// Writes the bytes of a method as it is declared.
-fn declaration<S: MethodSink>(sink: &mut S, bytes: &[u8]) -> Option<()>
-    ensures words { S.refused sink.new ≡ refused_after result (S.refused sink.old) }
-    ensures pieces { Receives S.gives sink.old (declared_shown (core_shown 128) bytes.now) (is_some result) sink.new }
+fn declaration<S: MethodSink>(sink: &mut S, taken: &mut bool, bytes: &[u8])
+    ensures { Wrote S.refused S.gives sink.old taken.old (declared_shown (core_shown 128) bytes.now) sink.new taken.new }
 {
     let (code, tail) = byte(bytes);
     let (generic, tail) = generic(code, tail);
     let (count, tail) = number(tail);
-    convention(sink, code)?;
-    let tail = slot(sink, tail, DEPTH_LIMIT)?;
-    sink.text(" ")?;
-    sink.method_name()?;
-    arity(sink, generic)?;
-    sink.text("(")?;
-    params(sink, tail, count)?;
-    sink.text(")")
+    convention(sink, taken, code);
+    let tail = slot(sink, taken, tail, DEPTH_LIMIT);
+    put_text(sink, taken, " ");
+    put_method_name(sink, taken);
+    arity(sink, taken, generic);
+    put_text(sink, taken, "(");
+    params(sink, taken, tail, count);
+    put_text(sink, taken, ")");
 }
 
 /// Writes the method that all the bytes together encode (II.23.2.1) as it is declared (II.15.3): its calling convention,
@@ -79,9 +97,12 @@ pub fn write_method<S: MethodSink>(sink: &mut S, bytes: &[u8]) -> Option<()>
     ensures text { (method : Method) → Encodes MethodDef (method_body method) bytes.now → Receives S.gives sink.old (declared_text method) (is_some result) sink.new }
     ensures nothing { ¬ ((signature : Body) × Encodes MethodDef signature bytes.now) → sink.new ≡ sink.old }
 {
-    sig_values::laws::signatures_are_read();
+    packed::laws::numbers_are_read();
+    sig_grammar::laws::indexes_are_read();
     if !recognise(bytes, SigKind::MethodDef) {
         return Some(());
     }
-    declaration(sink, bytes)
+    let mut taken = true;
+    declaration(sink, &mut taken, bytes);
+    result_of(taken)
 }

@@ -27,6 +27,7 @@ mod shape;
 mod sink;
 mod types;
 mod whole;
+mod words;
 
 pub use declared::{MethodSink, write_method};
 pub use named::{NamedText, TokenNames};

@@ -1,10 +1,10 @@
-ghost use Rattle.std.specs.Prelude.{◌≡◌, is_some, option_map, codes, if◌then◌else◌};
-ghost use Rattle.sig_text.specs.Receives.{Receives};
-ghost use Rattle.sig_text.specs.Refused.{refused_after};
+ghost use Rattle.std.specs.Prelude.{◌≡◌, option_map, codes, if◌then◌else◌};
 ghost use Rattle.sig_text.specs.Shown.{mark_at, marks_in, marks_of};
 ghost use Rattle.sig_text.specs.SignatureText.{following, modifier_text, prefix_text};
+ghost use Rattle.sig_text.specs.Wrote.{Wrote};
 
 use crate::sink::TextSink;
+use crate::words::{put_name, put_text};
 use sig_grammar::{Modifier, Prefix};
 use sig_recogniser::{has_prefix, prefix};
 
@@ -55,40 +55,37 @@ fn modifier_word(required: bool) -> &'static str
 }
 
 /// Writes a modifier (II.7.1.1). In the text it follows the type that it precedes in the bytes.
-fn modifier<S: TextSink>(sink: &mut S, modifier: Modifier) -> Option<()>
-    ensures words { S.refused sink.new ≡ refused_after result (S.refused sink.old) }
-    ensures pieces { Receives S.gives sink.old (modifier_text modifier) (is_some result) sink.new }
+fn modifier<S: TextSink>(sink: &mut S, taken: &mut bool, modifier: Modifier)
+    ensures { Wrote S.refused S.gives sink.old taken.old (modifier_text modifier) sink.new taken.new }
 {
-    sink.text(modifier_word(modifier.required))?;
-    sink.name(modifier.of)?;
-    sink.text(")")
+    put_text(sink, taken, modifier_word(modifier.required));
+    put_name(sink, taken, modifier.of);
+    put_text(sink, taken, ")");
 }
 
 /// Writes the modifier or PINNED at the start, if there is one.
-fn one_mark<S: TextSink>(sink: &mut S, bytes: &[u8]) -> Option<()>
-    ensures words { S.refused sink.new ≡ refused_after result (S.refused sink.old) }
-    ensures pieces { Receives S.gives sink.old (following prefix_text (marks_in 1 bytes.now).0) (is_some result) sink.new }
+fn one_mark<S: TextSink>(sink: &mut S, taken: &mut bool, bytes: &[u8])
+    ensures { Wrote S.refused S.gives sink.old taken.old (following prefix_text (marks_in 1 bytes.now).0) sink.new taken.new }
 {
     match mark(bytes) {
-        Some((Prefix::Mod(of), _)) => modifier(sink, of),
-        Some((Prefix::Pinned, _)) => sink.text(" pinned"),
-        None => Some(()),
+        Some((Prefix::Mod(of), _)) => modifier(sink, taken, of),
+        Some((Prefix::Pinned, _)) => put_text(sink, taken, " pinned"),
+        None => {}
     }
 }
 
 /// Writes `count` modifiers and PINNED at the start, the last one first. Each follows what it precedes in the
 /// bytes. The list is split in halves, so that the recursion depth is logarithmic in `count`.
-pub fn marks<S: TextSink>(sink: &mut S, bytes: &[u8], count: usize) -> Option<()>
-    ensures words { S.refused sink.new ≡ refused_after result (S.refused sink.old) }
-    ensures pieces { Receives S.gives sink.old (following prefix_text (marks_in count bytes.now).0) (is_some result) sink.new }
+pub fn marks<S: TextSink>(sink: &mut S, taken: &mut bool, bytes: &[u8], count: usize)
+    ensures { Wrote S.refused S.gives sink.old taken.old (following prefix_text (marks_in count bytes.now).0) sink.new taken.new }
 {
     match count {
-        0 => Some(()),
-        1 => one_mark(sink, bytes),
+        0 => {}
+        1 => one_mark(sink, taken, bytes),
         _ => {
             let half = count / 2;
-            marks(sink, behind(bytes, half), count - half)?;
-            marks(sink, bytes, half)
+            marks(sink, taken, behind(bytes, half), count - half);
+            marks(sink, taken, bytes, half);
         }
     }
 }

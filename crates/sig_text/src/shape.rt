@@ -1,11 +1,11 @@
-ghost use Rattle.std.specs.Prelude.{◌≡◌, [], is_some, IfSome, pos, ◌+ℤ◌, ◌-ℤ◌};
-ghost use Rattle.sig_text.specs.Receives.{Receives};
-ghost use Rattle.sig_text.specs.Refused.{refused_after};
-ghost use Rattle.sig_text.specs.Shown.{number_or, signed_or, numbers_behind, next_of, before as before_piece, dimensions_shown, shape_shown};
-ghost use Rattle.sig_text.specs.SignatureText.{dimension_text, mark_text, rank_text, written_dimensions as dimensions_to_write};
+ghost use Rattle.std.specs.Prelude.{◌≡◌, ◌==◌, ◌&&◌, [], pos, ◌+ℤ◌, ◌-ℤ◌};
+ghost use Rattle.sig_text.specs.Shown.{number_or, signed_or, numbers_behind, next_of, dimensions_shown, shape_shown};
+ghost use Rattle.sig_text.specs.SignatureText.{dimension_text, rank_text, written_dimensions as dimensions_to_write};
+ghost use Rattle.sig_text.specs.Wrote.{Wrote, Passes};
 
 use crate::head::{number, signed};
 use crate::sink::TextSink;
+use crate::words::{put_if, put_number, put_signed, put_text};
 
 /// The greatest rank of which each dimension is written.
 const FULL_RANK: u32 = 32;
@@ -52,34 +52,22 @@ fn upper_bound(low: i32, size: u32) -> i64
 }
 
 /// Writes a dimension (II.14.2): its lower bound and its size, if they are given.
-fn dimension<S: TextSink>(sink: &mut S, low: Option<i32>, size: Option<u32>) -> Option<()>
-    ensures words { S.refused sink.new ≡ refused_after result (S.refused sink.old) }
-    ensures pieces { Receives S.gives sink.old (dimension_text low size) (is_some result) sink.new }
+fn dimension<S: TextSink>(sink: &mut S, taken: &mut bool, low: Option<i32>, size: Option<u32>)
+    ensures { Wrote S.refused S.gives sink.old taken.old (dimension_text low size) sink.new taken.new }
 {
     match (low, size) {
-        (None, None) => Some(()),
-        (None, Some(size)) => sink.number(size),
+        (None, None) => {}
+        (None, Some(size)) => put_number(sink, taken, size),
         (Some(low), None) => {
-            sink.signed(i64::from(low))?;
-            sink.text("...")
+            put_signed(sink, taken, i64::from(low));
+            put_text(sink, taken, "...");
         }
         (Some(low), Some(size)) => {
-            sink.signed(i64::from(low))?;
-            sink.text("...")?;
-            sink.signed(upper_bound(low, size))
+            put_signed(sink, taken, i64::from(low));
+            put_text(sink, taken, "...");
+            put_signed(sink, taken, upper_bound(low, size));
         }
     }
-}
-
-/// Writes a separator before all values but the first. `done` is the number of those written.
-pub fn before<S: TextSink>(sink: &mut S, separator: &str, done: u32) -> Option<()>
-    ensures words { S.refused sink.new ≡ refused_after result (S.refused sink.old) }
-    ensures pieces { Receives S.gives sink.old (before_piece separator.now done) (is_some result) sink.new }
-{
-    if done == 0 {
-        return Some(());
-    }
-    sink.text(separator)
 }
 
 /// The number of dimensions that are written one by one, from the rank and the numbers of sizes and of lower bounds.
@@ -96,70 +84,67 @@ fn written_dimensions(rank: u32, sizes: u32, low: u32) -> u32
 /// start of the first bytes, and the lower bounds at the start of the second.
 fn dimensions<'a, S: TextSink>(
     sink: &mut S,
+    taken: &mut bool,
     count: u32,
     size_count: u32,
     sizes: &[u8],
     low_count: u32,
     bounds: &'a [u8],
-) -> Option<&'a [u8]>
-    ensures words { S.refused sink.new ≡ refused_after result (S.refused sink.old) }
-    ensures pieces { Receives S.gives sink.old (dimensions_shown [] count (size_count, sizes.now) (low_count, bounds.now)).0 (is_some result) sink.new }
-    ensures tail { IfSome result (λ tail. tail.now ≡ (dimensions_shown [] count (size_count, sizes.now) (low_count, bounds.now)).1) }
+) -> &'a [u8]
+    ensures { Passes S.refused S.gives sink.old taken.old (dimensions_shown [] count (size_count, sizes.now) (low_count, bounds.now)) sink.new taken.new result.now }
 {
     let mut sizes_left = size_count;
     let mut size_bytes = sizes;
     let mut low_left = low_count;
     let mut low_bytes = bounds;
     for done in 0..count {
-        before(sink, ",", done)?;
+        put_if(sink, taken, done > 0, ",");
         let (size, left, tail) = next_size(sizes_left, size_bytes);
         sizes_left = left;
         size_bytes = tail;
         let (low, left, tail) = next_low(low_left, low_bytes);
         low_left = left;
         low_bytes = tail;
-        dimension(sink, low, size)?;
+        dimension(sink, taken, low, size);
     }
-    Some(low_bytes)
+    low_bytes
 }
 
-/// Marks a single dimension without bounds, because a vector is written without one.
-fn mark<S: TextSink>(sink: &mut S, rank: u32, sizes: u32, low: u32) -> Option<()>
-    ensures words { S.refused sink.new ≡ refused_after result (S.refused sink.old) }
-    ensures pieces { Receives S.gives sink.old (mark_text rank sizes low) (is_some result) sink.new }
+/// Whether an array has a single dimension without bounds. It is marked, because a vector is written without a dimension.
+fn is_unbounded(rank: u32, sizes: u32, low: u32) -> bool
+    ensures { result ≡ (rank == 1 && sizes == 0 && low == 0) }
 {
-    if rank == 1 && sizes == 0 && low == 0 {
-        return sink.text("...");
-    }
-    Some(())
+    rank == 1 && sizes == 0 && low == 0
 }
 
 /// Writes the rank, if not all dimensions were written.
-fn unwritten<S: TextSink>(sink: &mut S, rank: u32, written: u32) -> Option<()>
-    ensures words { S.refused sink.new ≡ refused_after result (S.refused sink.old) }
-    ensures pieces { Receives S.gives sink.old (rank_text rank written) (is_some result) sink.new }
+fn unwritten<S: TextSink>(sink: &mut S, taken: &mut bool, rank: u32, written: u32)
+    ensures { Wrote S.refused S.gives sink.old taken.old (rank_text rank written) sink.new taken.new }
 {
     if written == rank {
-        return Some(());
+        return;
     }
-    sink.text(",... rank ")?;
-    sink.number(rank)
+    put_text(sink, taken, ",... rank ");
+    put_number(sink, taken, rank);
 }
 
 /// Writes the shape of an array (II.23.2.13), and returns the bytes after it.
-pub fn shape<'a, S: TextSink>(sink: &mut S, bytes: &'a [u8]) -> Option<&'a [u8]>
-    ensures words { S.refused sink.new ≡ refused_after result (S.refused sink.old) }
-    ensures pieces { Receives S.gives sink.old (shape_shown bytes.now).0 (is_some result) sink.new }
-    ensures tail { IfSome result (λ tail. tail.now ≡ (shape_shown bytes.now).1) }
+pub fn shape<'a, S: TextSink>(sink: &mut S, taken: &mut bool, bytes: &'a [u8]) -> &'a [u8]
+    ensures { Passes S.refused S.gives sink.old taken.old (shape_shown bytes.now) sink.new taken.new result.now }
 {
     let (rank, tail) = number(bytes);
     let (size_count, sizes) = number(tail);
     let (low_count, low) = number(behind_numbers(sizes, size_count));
     let written = written_dimensions(rank, size_count, low_count);
-    sink.text("[")?;
-    mark(sink, rank, size_count, low_count)?;
-    let tail = dimensions(sink, written, size_count, sizes, low_count, low)?;
-    unwritten(sink, rank, written)?;
-    sink.text("]")?;
-    Some(tail)
+    put_text(sink, taken, "[");
+    put_if(
+        sink,
+        taken,
+        is_unbounded(rank, size_count, low_count),
+        "...",
+    );
+    let tail = dimensions(sink, taken, written, size_count, sizes, low_count, low);
+    unwritten(sink, taken, rank, written);
+    put_text(sink, taken, "]");
+    tail
 }

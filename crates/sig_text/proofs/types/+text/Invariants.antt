@@ -1,7 +1,7 @@
-use Rattle.std.proofs.Common.{◌≡◌, ◌+◌, ◌*◌, ◌-◌, []}
+use Rattle.std.proofs.Common.{◌+◌, ◌*◌, ◌-◌, []}
 use Rattle.std.specs.Prelude.{codes}
 use Rattle.sig_text.specs.Shown.{before, core_shown, listed_shown}
-use Rattle.sig_text.proofs.Loops.{Left}
+use Rattle.sig_text.proofs.Chains.{Left}
 use Rattle.sig_text.proofs.types.+text.Given as goal
 
 abbrev pub decreases-core : goal.decreases-core
@@ -35,8 +35,4 @@ abbrev pub decreases-method : goal.decreases-method
 decreases-method g l = 8 * l.depth + 6
 
 abbrev pub invariant-listed-loop-done : goal.invariant-listed-loop-done
-invariant-listed-loop-done g l = record {
-  words : g.S.TextSink.refused l.sink ≡ g.S.TextSink.refused l.fn.sink;
-  left : Left g.S.TextSink.gives l.fn.sink (listed_shown (core_shown l.depth) [] l.count l.bytes).0 l.sink (listed_shown (core_shown l.depth) (before (codes ", ") l.done) (l.count - l.done) l.tail).0;
-  tail : (listed_shown (core_shown l.depth) (before (codes ", ") l.done) (l.count - l.done) l.tail).1 ≡ (listed_shown (core_shown l.depth) [] l.count l.bytes).1;
-}
+invariant-listed-loop-done g l = Left g.S.TextSink.refused g.S.TextSink.gives l.fn.sink l.fn.taken (listed_shown (core_shown l.depth) [] l.count l.bytes) l.sink l.taken (listed_shown (core_shown l.depth) (before (codes ", ") l.done) (l.count - l.done) l.tail)
