@@ -584,7 +584,8 @@ size_t clim_cells(const clim_view *view, uint8_t table, uint32_t first, size_t c
  * the length of the whole text, which can be more than room: so ask with room 0 for the length. No NUL follows the
  * text. Returns 0 if the view is not open, or has no such table, row or column, or the column has no signatures; the
  * buffer is then unchanged. Returns CLIM_TOO_LONG for a text of more than 65,536 bytes, which a crafted file can ask
- * for; the buffer then has the first 65,536 bytes of it, or those that fit. Reads *view and the root. */
+ * for; the buffer then has the first 65,536 bytes of it, or those that fit. It checks the entire blob first. So its time
+ * is linear in the blob, also for a text that is too long. Reads *view and the root. */
 size_t clim_signature_text(const clim_view *view, uint8_t table, uint32_t row, size_t column, uint8_t *buffer,
                            size_t room);
 

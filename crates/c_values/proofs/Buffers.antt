@@ -1,94 +1,101 @@
 -- Texts that are written into a buffer.
-use Rattle.std.proofs.Common.{◌≡◌, ℕ, suc, ◌+◌, ◌-◌, ◌^◌, ◌<◌, ◌≤◌, ◌⊎◌, inl, inr, List, [], ◌∷◌, ◌++◌, length, take, drop, get_or, refl, sym, ◌∙◌, ap, ⊎_elim, arith}
+use Rattle.std.proofs.Common.{◌≡◌, ℕ, ◌+◌, ◌<◌, ◌≤◌, List, [], ◌∷◌, ◌++◌, length, take, drop, get_or, zero, suc, ◌-◌, min, append_assoc, Bor, refl, sym, ◌∙◌, ap, ⊎_elim, arith}
 use Rattle.std.proofs.lemmas.Bool.{cases_lt}
-use Rattle.std.proofs.lemmas.List.{append-nil, length-append, length-take, length-drop, take_all, take_at, take-append-le, drop-drop, drop_at, drop_all, take_more}
+use Rattle.std.proofs.lemmas.List.{append-nil, length-append, length-drop, take-append-drop, take_all, take_min, take_more, drop-drop, drop_all, drop_min}
 use Rattle.std.proofs.lemmas.List.Concat.{flat_map-append}
-use Rattle.std.specs.Borrow.{Bor}
-use Rattle.c_values.specs.Texts.{with_text, overwritten, counted, joined}
+use Rattle.c_values.specs.Texts.{Extends, HasText, joined, overwritten, with_text}
 
-take_none : (text : List ℕ) → take 0 text ≡ []
-take_none [] = refl
-take_none (x ∷ text) = refl
+-- a buffer after a text was written to its start, byte by byte
+abbrev over : List ℕ → List ℕ → List ℕ
+over [] text = []
+over (old ∷ buffer) [] = old ∷ buffer
+over (old ∷ buffer) (new ∷ text) = new ∷ over buffer text
 
--- nothing is written after the end of a buffer
-pub no_room : (buffer : List ℕ) (at : ℕ) (text : List ℕ) → length buffer ≤ at → overwritten buffer at text ≡ buffer
-no_room buffer at text past =
-    let none : length buffer - at ≡ 0 = omega (arith, past) in
-    let behind : length buffer ≤ at + length text = omega (arith, past) in
-    rw (take_all at buffer past, none, drop_all (at + length text) buffer behind, take_none text) (append-nil (buffer ++ []) ∙ append-nil buffer)
+over_is : (buffer text : List ℕ) → with_text buffer text ≡ over buffer text
+over_is [] [] = refl
+over_is [] (new ∷ text) = refl
+over_is (old ∷ buffer) [] = refl
+over_is (old ∷ buffer) (new ∷ text) = ap (λ (l : List ℕ). new ∷ l) (over_is buffer text)
 
--- bytes of two parts, the second cut
-pub take_past : (text more : List ℕ) (k : ℕ) → take (length text + k) (text ++ more) ≡ text ++ take k more
-take_past [] more k = let e : 0 + k ≡ k = omega arith in ap (λ (n : ℕ). take n more) e
-take_past (x ∷ text) more k =
-    let e : suc (length text) + k ≡ suc (length text + k) = omega arith in
-    rw e (ap (λ (l : List ℕ). x ∷ l) (take_past text more k))
+over_long : (buffer text : List ℕ) → length (over buffer text) ≡ length buffer
+over_long [] text = refl
+over_long (old ∷ buffer) [] = refl
+over_long (old ∷ buffer) (new ∷ text) = omega (arith, over_long buffer text)
 
--- a text that fits, and more after it
-short_text : (buffer text more : List ℕ) (at : ℕ) → at ≡ length text → length text ≤ length buffer
-    → overwritten (with_text buffer text) at more ≡ with_text buffer (text ++ more)
-short_text buffer text more at at_is fits =
-    let whole : with_text buffer text ≡ text ++ drop (length text) buffer = ap (λ (l : List ℕ). l ++ drop (length text) buffer) (take_all (length buffer) text fits) in
-    let long : length (text ++ drop (length text) buffer) ≡ length buffer = simp (length-append, length-drop) (omega (arith, fits)) in
-    let last : drop (length text + length more) (text ++ drop (length text) buffer) ≡ drop (length text + length more) buffer =
-    sym (drop-drop (length more) (length text) (text ++ drop (length text) buffer))
-    ∙ ap (drop (length more)) (drop_at text (drop (length text) buffer) (length text) refl)
-    ∙ drop-drop (length more) (length text) buffer in
-    let e : length buffer ≡ length text + (length buffer - length text) = omega (arith, fits) in
-    let prefix : take (length buffer) (text ++ more) ≡ text ++ take (length buffer - length text) more =
-    ap (λ (n : ℕ). take n (text ++ more)) e ∙ take_past text more (length buffer - length text) in
-    rw (whole, at_is, take_at text (drop (length text) buffer) (length text) refl, long, last, prefix, length-append text more) refl
+-- more after a text, and after one that fills the buffer
+over_more : (buffer text more : List ℕ) → take (length text) (over buffer text) ++ over (drop (length text) (over buffer text)) more ≡ over buffer (text ++ more)
+over_more [] [] more = refl
+over_more [] (new ∷ text) more = refl
+over_more (old ∷ buffer) [] more = refl
+over_more (old ∷ buffer) (new ∷ text) more = ap (λ (l : List ℕ). new ∷ l) (over_more buffer text more)
 
--- a text that is longer than the buffer, and more after it
-long_text : (buffer text more : List ℕ) (at : ℕ) → length buffer ≤ at → length buffer ≤ length text
-    → overwritten (with_text buffer text) at more ≡ with_text buffer (text ++ more)
-long_text buffer text more at past full =
-    let none : drop (length text) buffer ≡ [] = drop_all (length text) buffer full in
-    let behind : length buffer ≤ length (text ++ more) = simp length-append (omega (arith, full)) in
-    let whole : with_text buffer text ≡ take (length buffer) text = ap (λ (l : List ℕ). take (length buffer) text ++ l) none ∙ append-nil _ in
-    let long : length (take (length buffer) text) ≤ at = simp length-take (omega (arith, past)) in
-    ap (λ (l : List ℕ). overwritten l at more) whole ∙ no_room (take (length buffer) text) at more long
-    ∙ sym (ap (λ (l : List ℕ). take (length buffer) (text ++ more) ++ l) (drop_all (length (text ++ more)) buffer behind)
-    ∙ append-nil _ ∙ take-append-le (length buffer) text more full)
+over_full : (buffer text more : List ℕ) → length buffer ≤ length text → over buffer (text ++ more) ≡ over buffer text
+over_full [] text more full = refl
+over_full (old ∷ buffer) [] more full = absurd (omega (arith, full))
+over_full (old ∷ buffer) (new ∷ text) more full = ap (λ (l : List ℕ). new ∷ l) (over_full buffer text more (omega (arith, full)))
 
-by_room : (buffer text more : List ℕ) (at : ℕ) → at ≡ counted (length text) → length buffer < 2 ^ 64
-    → (length text < length buffer) ⊎ (length buffer ≤ length text) → overwritten (with_text buffer text) at more ≡ with_text buffer (text ++ more)
-by_room buffer text more at at_is small (inl fits) =
-    let e : at ≡ length text = omega (arith, at_is, small, fits) in
-    short_text buffer text more at e (omega (arith, fits))
-by_room buffer text more at at_is small (inr full) = long_text buffer text more at (omega (arith, at_is, small, full)) full
+-- only the first bytes of a buffer are written
+over_first : (n : ℕ) (buffer text : List ℕ) → over (take n buffer) text ++ drop n buffer ≡ over buffer (take n text)
+over_first zero [] [] = refl
+over_first zero [] (new ∷ text) = refl
+over_first zero (old ∷ buffer) [] = refl
+over_first zero (old ∷ buffer) (new ∷ text) = refl
+over_first (suc n) [] [] = refl
+over_first (suc n) [] (new ∷ text) = refl
+over_first (suc n) (old ∷ buffer) [] = ap (λ (l : List ℕ). old ∷ l) (take-append-drop n buffer)
+over_first (suc n) (old ∷ buffer) (new ∷ text) = ap (λ (l : List ℕ). new ∷ l) (over_first n buffer text)
+
+pub first_written : (most n k : ℕ) (buffer text first tail new : List ℕ) (len : ℕ) → k ≡ min (length buffer) n → first ≡ take k buffer → tail ≡ drop k buffer
+    → HasText most first text new len → new ++ tail ≡ with_text buffer (take n text)
+first_written most n k buffer text first tail new len count first_is tail_is has =
+    let turned : k ≡ min n (length buffer) = omega (arith, count) in
+    let start = first_is ∙ ap (λ (m : ℕ). take m buffer) turned ∙ take_min n buffer in
+    let end = tail_is ∙ ap (λ (m : ℕ). drop m buffer) turned ∙ drop_min n buffer in
+    let is = has.0 ∙ over_is first text in
+    (λ i. is i ++ end i) ∙ ap (λ (l : List ℕ). over l text ++ drop n buffer) start ∙ over_first n buffer text ∙ sym (over_is buffer (take n text))
+
+-- bytes are written from an offset on
+over_at : (buffer : List ℕ) (at : ℕ) (text : List ℕ) → overwritten buffer at text ≡ take at buffer ++ over (drop at buffer) text
+over_at buffer at text =
+    append_assoc (take at buffer) (take (length buffer - at) text) (drop (at + length text) buffer)
+    ∙ (λ i. take at buffer ++ (take (sym (length-drop at buffer) i) text ++ sym (drop-drop (length text) at buffer) i))
+    ∙ ap (λ (l : List ℕ). take at buffer ++ l) (over_is (drop at buffer) text)
+
+no_room : (buffer : List ℕ) (at : ℕ) (text : List ℕ) → length buffer ≤ at → overwritten buffer at text ≡ buffer
+no_room buffer at text past = over_at buffer at text ∙ (λ i. take_all at buffer past i ++ over (drop_all at buffer past i) text) ∙ append-nil buffer
 
 -- more of a text is written after what is there
-pub put_after : (buffer text more : List ℕ) (at : ℕ) → at ≡ counted (length text) → length buffer < 2 ^ 64
-    → overwritten (with_text buffer text) at more ≡ with_text buffer (text ++ more)
-put_after buffer text more at at_is small = by_room buffer text more at at_is small (cases_lt (length text) (length buffer))
+pub written : (most : ℕ) (initial text more buffer : List ℕ) (at : ℕ) → length initial ≤ most → HasText most initial text buffer at
+    → overwritten buffer at more ≡ with_text initial (text ++ more)
+written most initial text more buffer at fits is =
+    let has = is.0 ∙ over_is initial text in
+    ap (λ (l : List ℕ). overwritten l at more) has ∙ ⊎_elim
+    (λ (short : length text < most).
+    let e : at ≡ length text = omega (arith, is.1, short) in
+    ap (λ (n : ℕ). overwritten (over initial text) n more) e ∙ over_at (over initial text) (length text) more ∙ over_more initial text more)
+    (λ (long : most ≤ length text).
+    let full : length initial ≤ length text = omega (arith, fits, long) in
+    let past : length (over initial text) ≤ at = omega (arith, is.1, long, fits, over_long initial text) in
+    no_room (over initial text) at more past ∙ sym (over_full initial text more full))
+    (cases_lt (length text) most)
+    ∙ sym (over_is initial (text ++ more))
 
--- more of a text is written at its end
-pub put_at_end : (buffer text more : List ℕ) (at : ℕ) → at ≡ length text → overwritten (with_text buffer text) at more ≡ with_text buffer (text ++ more)
-put_at_end buffer text more at is = ⊎_elim
-    (λ fits. short_text buffer text more at is (omega (arith, fits)))
-    (λ full. long_text buffer text more at (omega (arith, is, full)) full)
-    (cases_lt (length text) (length buffer))
+-- nothing is written
+pub none_written : (most : ℕ) (buffer : List ℕ) → HasText most buffer [] buffer 0
+none_written most [] = (refl, omega arith)
+none_written most (old ∷ buffer) = (refl, omega arith)
+
+-- more of a text that is longer than is counted: all of the buffer is written
+pub stays : (most len : ℕ) (buffer more : List ℕ) → most ≤ len → Extends most buffer len more buffer len
+stays most len buffer more past initial text fits is = (
+  is.0 ∙ over_is initial text ∙ sym (over_full initial text more (omega (arith, is.1, past, fits))) ∙ sym (over_is initial (text ++ more)),
+  omega (arith, is.1, past, length-append text more),
+)
 
 -- one more part
-joined_more : (parts : List (Bor (List ℕ))) (k : ℕ) (d : Bor (List ℕ)) → k < length parts
-    → joined (take (k + 1) parts) ≡ joined (take k parts) ++ (get_or parts k d).now
+pub joined_more : (parts : List (Bor (List ℕ))) (k : ℕ) (d : Bor (List ℕ)) → k < length parts
+    → joined (take k parts) ++ (get_or parts k d).now ≡ joined (take (k + 1) parts)
 joined_more parts k d within =
     let bytes_of : Bor (List ℕ) → List ℕ = λ part. part.now in
-    ap joined (take_more parts k d within) ∙ flat_map-append bytes_of (take k parts) (get_or parts k d ∷ [])
-    ∙ ap (λ (l : List ℕ). joined (take k parts) ++ l) (append-nil (get_or parts k d).now)
-
-pub part_written : (initial buffer new : List ℕ) (parts : List (Bor (List ℕ))) (k len : ℕ) (d : Bor (List ℕ)) → k < length parts → length initial < 2 ^ 64
-    → buffer ≡ with_text initial (joined (take k parts)) → len ≡ counted (length (joined (take k parts))) → new ≡ overwritten buffer len (get_or parts k d).now
-    → new ≡ with_text initial (joined (take (k + 1) parts))
-part_written initial buffer new parts k len d within small buffer_is len_is new_is =
-    new_is ∙ ap (λ (l : List ℕ). overwritten l len (get_or parts k d).now) buffer_is
-    ∙ put_after initial (joined (take k parts)) (get_or parts k d).now len len_is small ∙ ap (with_text initial) (sym (joined_more parts k d within))
-
-pub part_counted : (parts : List (Bor (List ℕ))) (k len more : ℕ) (d : Bor (List ℕ)) → k < length parts
-    → len ≡ counted (length (joined (take k parts))) → more ≡ length (get_or parts k d).now
-    → counted (len + more) ≡ counted (length (joined (take (k + 1) parts)))
-part_counted parts k len more d within len_is more_is =
-    let long = length-append (joined (take k parts)) (get_or parts k d).now in
-    let all = ap length (joined_more parts k d within) in
-    omega (arith, long, all, len_is, more_is)
+    sym (ap joined (take_more parts k d within) ∙ flat_map-append bytes_of (take k parts) (get_or parts k d ∷ [])
+    ∙ ap (λ (l : List ℕ). joined (take k parts) ++ l) (append-nil (get_or parts k d).now))

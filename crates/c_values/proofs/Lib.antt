@@ -1,10 +1,8 @@
 pub mod Buffers
-pub mod ExplainedLemmas
 pub mod GuidLemmas
 pub mod HexLemmas
-pub mod PaddedLemmas
 pub mod SinkLemmas
-pub mod UnitLemmas
+pub mod UserLemmas
 pub mod CellLemmas
 pub mod RowLemmas
 pub mod OneLemmas

@@ -1,5 +1,5 @@
 -- Texts in a caller's buffer.
-use Rattle.std.specs.Prelude.{◌≡◌, ◌↔◌, ℕ, ◌+◌, ◌-◌, ◌^◌, ◌<◌, ◌≤◌, Bool, IsTrue, min, List, ◌++◌, length, take, drop, flat_map}
+use Rattle.std.specs.Prelude.{◌≡◌, ℕ, ◌+◌, ◌-◌, ◌^◌, ◌<◌, ◌≤◌, min, List, ◌++◌, length, take, drop, flat_map}
 use Rattle.std.specs.Borrow.{Bor}
 
 -- a buffer after a text was written to its start, or the first bytes of the text if there is no room for more; the bytes
@@ -27,11 +27,11 @@ text_limit = 2 ^ 16
 abbrev pub IsLenWithin : ℕ → List ℕ → Type 0
 IsLenWithin len text = (length text ≤ text_limit → len ≡ length text) × (text_limit < length text → len ≡ 2 ^ 64 - 1)
 
--- the buffer has the text, up to the limit and to its own end, and this many bytes of the text are within the limit
-abbrev pub HasText : List ℕ → List ℕ → List ℕ → ℕ → Type 0
-HasText initial text buffer len = (buffer ≡ with_text initial (take text_limit text)) × (len ≡ min text_limit (length text))
+-- a text was written into the buffer so far, up to its end, and its length is counted up to `most`
+abbrev pub HasText : ℕ → List ℕ → List ℕ → List ℕ → ℕ → Type 0
+HasText most initial text buffer len = (buffer ≡ with_text initial text) × (len ≡ min most (length text))
 
--- bytes are written after a text that is within the limit, up to the limit: all of them if and only if `taken`
-abbrev pub Extends : List ℕ → ℕ → List ℕ → Bool → List ℕ → ℕ → Type 0
-Extends buffer len bytes taken new_buffer new_len = (initial text : List ℕ) → length text ≤ text_limit → HasText initial text buffer len
-    → HasText initial (text ++ bytes) new_buffer new_len × (IsTrue taken ↔ (length (text ++ bytes) ≤ text_limit))
+-- bytes are written after such a text, whatever it is
+abbrev pub Extends : ℕ → List ℕ → ℕ → List ℕ → List ℕ → ℕ → Type 0
+Extends most buffer len bytes new_buffer new_len =
+    (initial text : List ℕ) → length initial ≤ most → HasText most initial text buffer len → HasText most initial (text ++ bytes) new_buffer new_len

@@ -1,5 +1,5 @@
 /// The kind of a cell that a C caller gives: `CLIM_NUMBER` to `CLIM_SIGNATURE` of `clim.h`.
-#[derive(Clone, Copy, Debug, PartialEq, Eq)]
+#[derive(Clone, Copy)]
 pub enum CellKind {
     /// A number.
     Number,

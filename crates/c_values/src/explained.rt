@@ -1,5 +1,5 @@
-ghost use Rattle.std.specs.Prelude.{◌≡◌, ◌++◌, length};
-ghost use Rattle.c_values.specs.Explained.{explanation_text, item_text, spaced, three_digits};
+ghost use Rattle.std.specs.Prelude.{◌≡◌, length};
+ghost use Rattle.c_values.specs.Explained.{explanation_text, label_before, space_before, text_in, three_digits};
 ghost use Rattle.c_values.specs.Texts.{counted, with_text};
 
 use crate::parts::write_parts;
@@ -19,7 +19,7 @@ fn digits(number: u16) -> [u8; 3]
 
 /// A text and the label before it; two empty texts if there is none.
 fn item(label: &'static str, text: Option<&'static str>) -> (&'static str, &'static str)
-    ensures { result.0.now ++ result.1.now ≡ item_text label.now text.entry }
+    ensures { (result.0.now ≡ label_before label.now text.entry) × (result.1.now ≡ text_in text.entry) }
 {
     match text {
         Some(text) => (label, text),
@@ -29,7 +29,7 @@ fn item(label: &'static str, text: Option<&'static str>) -> (&'static str, &'sta
 
 /// What is between the number of a rule and its name.
 fn space_before(name: &str) -> &'static str
-    ensures { result.now ++ name.now ≡ spaced name.now }
+    ensures { result.now ≡ space_before name.now }
 {
     if name.is_empty() { "" } else { " " }
 }

@@ -3,7 +3,7 @@ use std::alloc::{AllocError, AllocFailed};
 use writer::WriteError;
 
 /// Why no root is made of what a C caller gives.
-#[derive(Clone, Copy, Debug, PartialEq, Eq)]
+#[derive(Clone, Copy)]
 pub enum NoRoot {
     /// The first rule that is broken.
     Refused(Refusal),

@@ -1,6 +1,6 @@
 //! Bytes in a caller's buffer.
 ghost use Rattle.std.specs.Prelude.{◌≡◌, length};
-ghost use Rattle.c_values.specs.Texts.{counted, joined, overwritten, with_text};
+ghost use Rattle.c_values.specs.Texts.{Extends, counted, joined, overwritten, with_text};
 
 /// What is returned instead of the length of what is too long.
 pub const TOO_LONG: usize = usize::MAX;
@@ -17,15 +17,23 @@ pub fn copy_at(buffer: &mut [u8], at: usize, bytes: &[u8])
     buffer[at..at + count].copy_from_slice(fits);
 }
 
+/// Writes bytes after the first `len` bytes of a text, up to the end of the buffer. Returns the length of the text with
+/// them, or `most` if it is longer.
+pub(crate) fn append(buffer: &mut [u8], len: usize, bytes: &[u8], most: usize) -> usize
+    ensures { Extends most buffer.old len bytes.now buffer.new result }
+{
+    copy_at(buffer, len, bytes);
+    len.saturating_add(bytes.len()).min(most)
+}
+
 /// Writes the parts of a text into a buffer, up to its length, and returns the length of the whole text.
 pub(crate) fn write_parts(buffer: &mut [u8], parts: &[&[u8]]) -> usize
     ensures bytes { buffer.new ≡ with_text buffer.old (joined parts.now) }
     ensures length { result ≡ counted (length (joined parts.now)) }
 {
-    let mut len = 0usize;
+    let mut len = 0;
     for part in parts {
-        copy_at(buffer, len, part);
-        len = len.saturating_add(part.len());
+        len = append(buffer, len, part, usize::MAX);
     }
     len
 }

@@ -1,13 +1,13 @@
 //! The text of a signature in a caller's buffer.
-ghost use Rattle.std.specs.Prelude.{◌≡◌, ◌≤◌, ◌⊎◌, ◌^◌, ◌-◌, ◌%◌, drop, false, take};
+ghost use Rattle.std.specs.Prelude.{◌≡◌, ◌≤◌, ◌⊎◌, ◌^◌, ◌+◌, ◌-◌, ◌%◌, drop, false, length, take};
 ghost use Rattle.std.specs.Fmt.{digit_glyph};
 ghost use Rattle.table_schema.specs.Tokens.{hexadecimal};
 ghost use Rattle.sig_grammar.specs.Syntax.{Body};
 ghost use Rattle.sig_grammar.specs.Encodes.{Encodes};
 ghost use Rattle.c_values.specs.SignatureTexts.{signature_text};
-ghost use Rattle.c_values.specs.Texts.{IsLenWithin, text_limit, with_text};
+ghost use Rattle.c_values.specs.Texts.{HasText, IsLenWithin, text_limit, with_text};
 
-use crate::parts::{TOO_LONG, copy_at};
+use crate::parts::{TOO_LONG, append};
 use itoa::Buffer;
 use sig_text::{SigKind, TextSink, Token, write_signature};
 
@@ -17,30 +17,29 @@ const TEXT_LIMIT: usize = 1 << 16;
 /// The number of zeros of the eight digits of a table's number that a token leaves out.
 const TABLE_ZEROS: usize = 6;
 
-/// A text in a caller's buffer: the bytes of it for which there is room. All of its bytes are counted, up to the limit.
+/// A text in a buffer that is not longer than the limit.
 #[derive(Drop)]
 pub(crate) struct SignatureSink<'a> {
     pub(crate) buffer: &'a mut [u8],
+    /// The length of the text so far, or one more than the limit if it is longer than that.
     pub(crate) len: usize,
     pub(crate) refused: bool,
-    ghost short: { len ≤ 2 ^ 16 },
 }
 
 impl SignatureSink<'_> {
-    ghost use Rattle.std.specs.Prelude.{◌≡◌, is_some};
-    ghost use Rattle.c_values.specs.Texts.{Extends};
+    ghost use Rattle.std.specs.Prelude.{◌≡◌, ◌+◌, ◌≤◌, false, is_some};
+    ghost use Rattle.c_values.specs.Texts.{Extends, text_limit};
     ghost use Rattle.sig_text.specs.Refused.{refused_after};
 
-    /// Writes bytes after the text, up to the limit. `None` if the text would be longer than the limit.
+    /// Writes bytes after the text. `None` if the text is then longer than the limit.
     fn push(&mut self, bytes: &[u8]) -> Option<()>
         ensures refusal { self.new.refused ≡ refused_after result self.old.refused }
         ensures same_buffer { self.new.buffer.ghost_name ≡ self.old.buffer.ghost_name }
-        ensures written { Extends self.old.buffer.now self.old.len bytes.now (is_some result) self.new.buffer.now self.new.len }
+        ensures written { Extends (text_limit + 1) self.old.buffer.now self.old.len bytes.now self.new.buffer.now self.new.len }
+        ensures past { is_some result ≡ false → text_limit + 1 ≤ self.new.len }
     {
-        let (within, past) = bytes.split_at(bytes.len().min(TEXT_LIMIT - self.len));
-        copy_at(self.buffer, self.len, within);
-        self.len += within.len();
-        if past.is_empty() {
+        self.len = append(self.buffer, self.len, bytes, TEXT_LIMIT + 1);
+        if self.len <= TEXT_LIMIT {
             return Some(());
         }
         self.refused = true;
@@ -91,14 +90,14 @@ fn left_out(row: u32) -> usize
 }
 
 impl TextSink for SignatureSink<'_> {
-    ghost use Rattle.std.specs.Prelude.{◌≡◌};
-    ghost use Rattle.c_values.specs.Texts.{Extends};
+    ghost use Rattle.std.specs.Prelude.{◌≡◌, ◌+◌, ◌≤◌, false};
+    ghost use Rattle.c_values.specs.Texts.{Extends, text_limit};
     ghost use Rattle.c_values.specs.SignatureTexts.{piece_bytes};
 
     ghost refused = { λ s. s.refused };
 
     ghost gives = { λ s piece taken t. (t.buffer.ghost_name ≡ s.buffer.ghost_name)
-        × Extends s.buffer.now s.len (piece_bytes piece) taken t.buffer.now t.len };
+        × Extends (text_limit + 1) s.buffer.now s.len (piece_bytes piece) t.buffer.now t.len × (taken ≡ false → text_limit + 1 ≤ t.len) };
 
     fn text(&mut self, text: &str) -> Option<()> {
         self.push(text.as_bytes())
@@ -123,6 +122,22 @@ impl TextSink for SignatureSink<'_> {
     }
 }
 
+/// Writes the text of the signature in a blob into a buffer that is not longer than the limit, up to its length. Returns
+/// the length of the text, or one more than the limit if it is longer than that.
+fn write_first(blob: &[u8], kind: SigKind, buffer: &mut [u8]) -> usize
+    requires { length buffer.old ≤ text_limit }
+    ensures { (signature : Body) → Encodes kind signature blob.now
+        → HasText (text_limit + 1) buffer.old (signature_text signature) buffer.new result }
+{
+    let mut text = SignatureSink {
+        buffer,
+        len: 0,
+        refused: false,
+    };
+    let _ = write_signature(&mut text, blob, kind);
+    text.len
+}
+
 /// Writes the signature in a blob in the notation of ILAsm into a buffer, up to its length, with tokens as the names of
 /// types (II.7.1, II.15.3). Returns the length of the whole text, or [`TOO_LONG`] if it is more than 65,536 bytes; the
 /// buffer then has the first 65,536 of them, or those that fit.
@@ -131,13 +146,7 @@ pub fn write_signature_text(blob: &[u8], kind: SigKind, buffer: &mut [u8]) -> us
         → (buffer.new ≡ with_text buffer.old (take text_limit (signature_text signature))) × IsLenWithin result (signature_text signature) }
     ensures within { (result ≤ 2 ^ 16) ⊎ (result ≡ 2 ^ 64 - 1) }
 {
-    let mut text = SignatureSink {
-        buffer,
-        len: 0,
-        refused: false,
-    };
-    match write_signature(&mut text, blob, kind) {
-        Some(()) => text.len,
-        None => TOO_LONG,
-    }
+    let (first, _) = buffer.split_at_mut(buffer.len().min(TEXT_LIMIT));
+    let len = write_first(blob, kind, first);
+    if len > TEXT_LIMIT { TOO_LONG } else { len }
 }

@@ -7,6 +7,7 @@
 #![tactic(auto)]
 
 pub mod canonical_root;
+pub mod cells;
 pub mod compared;
 pub mod difference;
 pub mod explained;
@@ -18,7 +19,6 @@ pub mod look_ups;
 pub mod names;
 pub mod opened;
 pub mod read_header;
-pub mod shown;
 pub mod signature_text;
 pub mod streams;
 pub mod text_parts;

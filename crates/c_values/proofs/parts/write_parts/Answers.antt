@@ -1,14 +1,15 @@
-use Rattle.std.proofs.Common.{refl, arith, ◌∙◌}
-use Rattle.c_values.proofs.Buffers.{part_written, part_counted}
+use Rattle.std.proofs.Common.{◌-◌, ◌^◌, List, ℕ, take, subst, arith}
+use Rattle.c_values.specs.Texts.{HasText, joined}
+use Rattle.c_values.proofs.Buffers.{joined_more, none_written}
 use Rattle.c_values.proofs.parts.write_parts.Goals as goal
+
+pub loop-part-init : goal.loop-part-init
+loop-part-init c = none_written (2 ^ 64 - 1) c.args.buffer.now
 
 pub loop-part-preserved : goal.loop-part-preserved
 loop-part-preserved c =
-    let invariant = c.loop-part.invariant in
-    record {
-      bytes =
-          part_written c.args.buffer.now c.loop-part.buffer c.copy_at.new.buffer c.args.parts.now c.loop-part.part-index c.loop-part.len _ c.loop-part-test.true
-          (omega arith) invariant.bytes invariant.len c.copy_at.ensures;
-      len =
-          c.saturating_add-len.ensures ∙ part_counted c.args.parts.now c.loop-part.part-index c.loop-part.len _ _ c.loop-part-test.true invariant.len refl;
-    }
+    let k = c.loop-part.part-index in
+    let parts = c.args.parts.now in
+    let P : List ℕ → Type 0 = λ text. HasText (2 ^ 64 - 1) c.args.buffer.now text c.append-len.new.buffer c.append-len.result in
+    subst P (joined_more parts k _ c.loop-part-test.true)
+    (c.append-len.ensures c.args.buffer.now (joined (take k parts)) (omega arith) c.loop-part.invariant)

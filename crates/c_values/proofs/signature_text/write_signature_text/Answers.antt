@@ -1,18 +1,23 @@
-use Rattle.std.proofs.Common.{rules, [], true≢false, refl, sym, ◌∙◌, arith}
-use Rattle.c_values.proofs.SinkLemmas.{received, none_written}
+use Rattle.std.proofs.Common.{◌+◌, arith}
+use Rattle.c_values.specs.SignatureTexts.{signature_text}
+use Rattle.c_values.specs.Texts.{text_limit}
+use Rattle.c_values.proofs.Buffers.{first_written}
 use Rattle.c_values.proofs.signature_text.write_signature_text.Goals as goal
 
-pub returns-in-Some-clause-text : goal.returns-in-Some-clause-text
-returns-in-Some-clause-text c = λ signature is.
-    let ends = received (λ s. s.buffer.ghost_name) (λ s. s.buffer.now) (λ s. s.len) (c.in-Some.ensures.text signature is) c.args.buffer.now [] (omega arith) (none_written c.args.buffer.now) in
-    let within = ends.2.0 refl in
-    let same_buffer = sym ends.0 in
-    let written = ends.1.0 in
-    (search rules ∙ written, (λ fits. omega (arith, ends.1.1, within), λ long. absurd (omega (arith, within, long))))
+pub returns-then-len-gt-TEXT_LIMIT-clause-text : goal.returns-then-len-gt-TEXT_LIMIT-clause-text
+returns-then-len-gt-TEXT_LIMIT-clause-text c = λ signature is.
+    let has = c.write_first-len.ensures signature is in
+    let long = c.if-len-gt-TEXT_LIMIT.true in (
+      first_written (text_limit + 1) text_limit c.min.result c.args.buffer.now (signature_text signature) c.split_at_mut-first.result.0.now c.split_at_mut-first.result.1.now
+          c.write_first-len.new.buffer c.write_first-len.result (omega arith) c.split_at_mut-first.ensures.front c.split_at_mut-first.ensures.back has,
+      (λ fits. omega (arith, long, has.1, fits), λ past. omega arith),
+    )
 
-pub returns-in-None-clause-text : goal.returns-in-None-clause-text
-returns-in-None-clause-text c = λ signature is.
-    let ends = received (λ s. s.buffer.ghost_name) (λ s. s.buffer.now) (λ s. s.len) (c.in-None.ensures.text signature is) c.args.buffer.now [] (omega arith) (none_written c.args.buffer.now) in
-    let same_buffer = sym ends.0 in
-    let written = ends.1.0 in
-    (search rules ∙ written, (λ fits. absurd (true≢false (sym (ends.2.1 fits))), λ long. refl))
+pub returns-else-len-gt-TEXT_LIMIT-clause-text : goal.returns-else-len-gt-TEXT_LIMIT-clause-text
+returns-else-len-gt-TEXT_LIMIT-clause-text c = λ signature is.
+    let has = c.write_first-len.ensures signature is in
+    let short = c.if-len-gt-TEXT_LIMIT.false in (
+      first_written (text_limit + 1) text_limit c.min.result c.args.buffer.now (signature_text signature) c.split_at_mut-first.result.0.now c.split_at_mut-first.result.1.now
+          c.write_first-len.new.buffer c.write_first-len.result (omega arith) c.split_at_mut-first.ensures.front c.split_at_mut-first.ensures.back has,
+      (λ fits. omega (arith, short, has.1, fits), λ past. omega (arith, short, has.1, past)),
+    )

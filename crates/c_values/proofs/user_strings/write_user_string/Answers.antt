@@ -1,52 +1,47 @@
-use Rattle.std.proofs.Common.{◌≡◌, ℕ, ◌<◌, ◌%◌, IfNone, List, length, take, unwrap_or, Option, true≢false, refl, sym, subst, ◌∙◌, ap, arith}
-use Rattle.std.proofs.lemmas.List.{length-take-le}
-use Rattle.heap_entries.specs.Entries.{IsBlob, IsUserString, UserText}
+use Rattle.std.proofs.Common.{◌≡◌, ℕ, ◌<◌, ◌%◌, IfNone, length, unwrap_or, true≢false, refl, sym, subst, ◌∙◌, ap, arith}
+use Rattle.heap_entries.specs.Entries.{IsUserString, UserText}
 use Rattle.heap_entries.specs.Padding.{zero_padded}
 use Rattle.heap_entries.specs.UserView.{user_text}
 use Rattle.c_values.specs.Texts.{with_text}
-use Rattle.c_values.proofs.UnitLemmas.{encodes_from, encodes_odd, blob_bytes, string_is}
+use Rattle.c_values.proofs.UserLemmas.{encodes_odd, part, part_long, string_at, units_long}
 use Rattle.c_values.proofs.user_strings.write_user_string.Goals as goal
 
-pub returns-in_err-bytes-clause-none : goal.returns-in_err-bytes-clause-none
-returns-in_err-bytes-clause-none c =
-    let none : (string : UserText) → IsUserString (zero_padded c.args.user.now) c.args.offset string → ⊥ = λ string is.
-    let P : List ℕ → Type 0 = λ l. IsBlob l c.args.offset is.blob in
-    absurd (c.in_err-bytes.ensures.complete is.blob (subst P (sym c.new-heap.ensures.value) is.stands)) in
+pub returns-in_err-start-clause-none : goal.returns-in_err-start-clause-none
+returns-in_err-start-clause-none c =
+    let none : (string : UserText) → IsUserString (zero_padded c.args.user.now) c.args.offset string → ⊥ = λ string is. true≢false (sym (c.in_err-start.ensures.complete is.blob is.stands)) in
     subst (λ r. IfNone r ((string : UserText) → IsUserString (zero_padded c.args.user.now) c.args.offset string → ⊥)) (sym c.from_residual.ensures) none
 
 pub returns-then-not-is_string-clause-none : goal.returns-then-not-is_string-clause-none
 returns-then-not-is_string-clause-none c = λ string is.
-    let P : List ℕ → Type 0 = λ l. IsBlob l c.args.offset is.blob in
-    let same = c.in_ok-bytes.ensures.complete is.blob (subst P (sym c.new-heap.ensures.value) is.stands) in
-    let long = length-take-le c.in_ok-bytes.len c.in_ok-bytes.bytes c.in_ok-bytes.ensures.sound.0 in
+    let heap = zero_padded c.args.user.now in
+    let start = c.in_ok-start.start in
+    let count = c.in_ok-start.count in
+    let sound = c.in_ok-start.ensures.sound in
+    let same = c.entries_are_one.ensures.blob heap c.args.offset is.blob (part heap start count) is.stands sound.1 in
+    let long : length is.blob ≡ count = ap length same ∙ part_long heap start count sound.0 in
     let odd = encodes_odd is.blob string is.encodes in
-    let len : length is.blob ≡ c.in_ok-bytes.len = sym (ap length same) ∙ long in
-    let is_odd : 0 < c.in_ok-bytes.len → c.in_ok-bytes.len % 2 ≡ 1 = λ some. subst (λ (n : ℕ). n % 2 ≡ 1) len (odd (omega (arith, len, some))) in
+    let is_odd : 0 < count → count % 2 ≡ 1 = λ some. subst (λ (n : ℕ). n % 2 ≡ 1) long (odd (omega (arith, long, some))) in
     absurd (true≢false (sym (c.if-not-is_string.ensures.1 is_odd)))
 
 pub returns-clause-sound : goal.returns-clause-sound
 returns-clause-sound c = λ string is.
-    let P : List ℕ → Type 0 = λ l. IsBlob l c.args.offset is.blob in
-    let same = c.in_ok-bytes.ensures.complete is.blob (subst P (sym c.new-heap.ensures.value) is.stands) in
-    let long = length-take-le c.in_ok-bytes.len c.in_ok-bytes.bytes c.in_ok-bytes.ensures.sound.0 in
-    let parts = string_is is.blob (take c.in_ok-bytes.len c.in_ok-bytes.bytes) c.in_ok-bytes.len string same long is.encodes in (
-      c.write_units.ensures ∙ ap (with_text c.args.units.now) (sym parts.0),
-      parts.1,
-      c.flag_of.ensures ∙ sym (ap (λ (f : Option ℕ). unwrap_or f 256) parts.2),
+    let heap = zero_padded c.args.user.now in
+    let start = c.in_ok-start.start in
+    let count = c.in_ok-start.count in
+    let sound = c.in_ok-start.ensures.sound in
+    let own = string_at c.args.user.now c.args.offset start count (λ i. (c.type_inv.user i).fits) sound.0 sound.1 (c.if-not-is_string.ensures.0 refl) in
+    let same = c.entries_are_one.ensures.user heap c.args.offset string (user_text (part heap start count)) is own in
+    let units = ap (λ (s : UserText). s.units) same in (
+      c.write_units.ensures ∙ ap (with_text c.args.units.now) (sym units),
+      omega (arith, ap length units, units_long (part heap start count), part_long heap start count sound.0),
+      c.flag_of.ensures ∙ sym (ap (λ (s : UserText). unwrap_or s.flag 256) same),
     )
 
 pub returns-clause-there : goal.returns-clause-there
 returns-clause-there c =
-    let all = take c.in_ok-bytes.len c.in_ok-bytes.bytes in
-    let long = length-take-le c.in_ok-bytes.len c.in_ok-bytes.bytes c.in_ok-bytes.ensures.sound.0 in
-    let stands = c.in_ok-bytes.ensures.sound.1 in
-    let odd = c.if-not-is_string.ensures.0 refl in
-    let is_odd : 0 < length all → length all % 2 ≡ 1 = λ some. subst (λ (n : ℕ). n % 2 ≡ 1) (sym long) (odd (omega (arith, long, some))) in
-    let P : List ℕ → Type 0 = λ l. IsBlob l c.args.offset all in (
-      user_text all,
-      record {
-        blob = all;
-        stands = subst P c.new-heap.ensures.value stands;
-        encodes = encodes_from all (blob_bytes c.new-heap.result c.args.offset all stands c.new-heap.ensures.bytes) is_odd;
-      },
+    let start = c.in_ok-start.start in
+    let count = c.in_ok-start.count in
+    let sound = c.in_ok-start.ensures.sound in (
+      user_text (part (zero_padded c.args.user.now) start count),
+      string_at c.args.user.now c.args.offset start count (λ i. (c.type_inv.user i).fits) sound.0 sound.1 (c.if-not-is_string.ensures.0 refl),
     )

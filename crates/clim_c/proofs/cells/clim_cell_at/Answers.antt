@@ -3,7 +3,7 @@ use Rattle.std.proofs.lemmas.Option.{same_Some}
 use Rattle.table_schema.specs.declared.table.TableId.{TableId}
 use Rattle.metadata.specs.Model.{IsModel}
 use Rattle.clim_c.specs.Reported.{ReportsCell}
-use Rattle.clim_c.proofs.shown.clim_cell_at.Goals as goal
+use Rattle.clim_c.proofs.cells.clim_cell_at.Goals as goal
 
 pub returns-clause-shown : goal.returns-clause-shown
 returns-clause-shown c = λ model is known known_is.

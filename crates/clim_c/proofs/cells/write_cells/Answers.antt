@@ -2,7 +2,7 @@ use Rattle.std.proofs.Common.{◌<◌, ◌+◌, length, ◌∙◌, arith}
 use Rattle.std.proofs.lemmas.List.{length-set}
 use Rattle.clim_c.specs.Reported.{ReportsCell}
 use Rattle.clim_c.proofs.Written.{one_more, tail_stays}
-use Rattle.clim_c.proofs.shown.write_cells.Goals as goal
+use Rattle.clim_c.proofs.cells.write_cells.Goals as goal
 
 pub loop-k-preserved : goal.loop-k-preserved
 loop-k-preserved c =

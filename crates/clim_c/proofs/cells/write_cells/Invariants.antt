@@ -4,7 +4,7 @@ use Rattle.metadata.specs.Metadata.{Metadata}
 use Rattle.metadata.specs.Model.{IsModel}
 use Rattle.c_values.specs.declared.cell.ClimCell.{ClimCell}
 use Rattle.clim_c.specs.Reported.{ReportsCell}
-use Rattle.clim_c.proofs.shown.write_cells.Given as goal
+use Rattle.clim_c.proofs.cells.write_cells.Given as goal
 
 abbrev pub invariant-loop-k : goal.invariant-loop-k
 invariant-loop-k l = record {
