@@ -1,7 +1,7 @@
 -- Rows of the same bytes have the same numbers, and equal numbers that are read alike stand for equal cells.
-use Rattle.std.proofs.Common.{◌≡◌, ◌≢◌, ◌↔◌, ◌∙◌, ◌<◌, ◌≤◌, ◌⊎◌, inl, inr, ℕ, zero, suc, ◌+◌, ◌-◌, ◌*◌, ◌==◌, ◌||◌, Bool, true, false, IsTrue, List, [], ◌∷◌, length, take, min, refl, ap, ap₂, sym, subst, cond, arith}
+use Rattle.std.proofs.Common.{◌≡◌, ◌≢◌, ◌↔◌, ◌∙◌, ◌<◌, ◌≤◌, inl, inr, ℕ, zero, suc, ◌+◌, ◌-◌, ◌*◌, ◌==◌, ◌||◌, Bool, true, false, IsTrue, List, [], ◌∷◌, length, take, min, refl, ap, ap₂, sym, subst, cond, arith}
 use Rattle.std.specs.Bool.{Decides}
-use Rattle.std.specs.List.{AllByRecursion, flat_map, range_with_len}
+use Rattle.std.specs.List.{AllByRecursion}
 use Rattle.std.proofs.lemmas.Bool.Decides.{Decides-eqb}
 use Rattle.std.proofs.lemmas.List.Sums.{sum_by-le-sum_by}
 use Rattle.packed.specs.Number.{little_endian}
@@ -14,7 +14,7 @@ use Rattle.table_schema.specs.declared.column.ColumnKind.TheVariants as kind
 use Rattle.table_schema.specs.Columns.{column_at, columns_of}
 use Rattle.table_schema.specs.CellColumns.{cell_count, column_of}
 use Rattle.heap_entries.specs.Entries.{IsText, IsBlob, IsGuid}
-use Rattle.sig_grammar.specs.Encodes.{Encodes, tokens}
+use Rattle.sig_grammar.specs.Encodes.{tokens}
 use Rattle.schema.specs.Sizes.{Sizes, SameCounts, width_of}
 use Rattle.schema.specs.Offsets.{columns_width, offset_in_row, row_width}
 use Rattle.schema.specs.Cells.{cell_width}
@@ -24,10 +24,9 @@ use Rattle.metadata.specs.Cell.{Start}
 use Rattle.metadata.specs.Metadata.{Metadata, cell_in, count_in}
 use Rattle.metadata.specs.Source.{Source, IsThere, number_of, rows_in}
 use Rattle.metadata.specs.Starts.{start_from, start_of}
-use Rattle.metadata.specs.Stands.{HasRows, Refers, StandsFor}
+use Rattle.metadata.specs.Stands.{Refers, StandsFor}
 use Rattle.metadata.specs.Rows.{IsCell}
 use Rattle.reading.specs.RowBytes.{AreRowBytes}
-use Rattle.comparison.specs.declared.difference.Difference.{Difference}
 use Rattle.comparison.specs.declared.difference.Difference.TheVariants as difference
 use Rattle.comparison.specs.declared.ignored.IgnoredColumns.{IgnoredColumns}
 use Rattle.comparison.specs.declared.same_bytes.SameParts.{SameParts}

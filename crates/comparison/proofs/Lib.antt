@@ -1,5 +1,6 @@
 pub mod AlikeLemmas
 pub mod CellTests
+pub mod ComparedLemmas
 pub mod GrowthLemmas
 pub mod SignatureLemmas
 pub mod CellSteps

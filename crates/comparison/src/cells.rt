@@ -6,13 +6,14 @@ ghost use Rattle.metadata.specs.Model.{IsModel};
 ghost use Rattle.metadata.specs.SourceAt.{source_of};
 ghost use Rattle.opening.specs.Views.{row_count};
 ghost use Rattle.comparison.specs.Alike.{AreAlike, AreSameParts};
+ghost use Rattle.comparison.specs.ComparedCells.{AreOutcomes};
 ghost use Rattle.comparison.specs.Differences.{Grows, IsThere, cell_difference, cell_differences, cell_differences_but, row_differences, table_differences};
 
+use crate::compared_cells::ComparedCells;
 use crate::difference::Difference;
 use crate::ignored::IgnoredColumns;
 use crate::same_bytes::{SameParts, have_same_root, is_same_row, is_same_table};
-use crate::same_cells::same_cell;
-use metadata_source::kind_of;
+use crate::same_in_row::is_same_in_row;
 use opening::{CellCursor, TableId, View};
 use std::alloc::{AllocError, Global};
 use table_schema::cell_count;
@@ -22,7 +23,7 @@ use table_schema::cell_count;
 ///
 /// If the roots have the same bytes, no cell is read. Otherwise each cell is read at most once, until `limit` are found,
 /// and none of a table or a row whose bytes show that it is the same. A signature is decoded only if its blobs have other
-/// bytes.
+/// bytes. Values that rows of a table name again are compared once, unless they are short.
 ///
 /// # Errors
 ///
@@ -105,6 +106,7 @@ fn find_in_table(
         return Ok(());
     }
     let count = left_view.count(table).min(right_view.count(table));
+    let mut compared = ComparedCells::new(alloc);
     for earlier in 0..count {
         find_in_row(
             alloc,
@@ -115,6 +117,7 @@ fn find_in_table(
             alike,
             ignored,
             limit,
+            &mut compared,
             found,
         )?;
     }
@@ -132,15 +135,18 @@ fn find_in_row(
     alike: bool,
     ignored: &IgnoredColumns,
     limit: usize,
+    compared: &mut ComparedCells,
     found: &mut Vec<Difference>,
 ) -> Result<(), AllocError>
     requires alike { IsTrue alike → AreAlike (source_of left.old) (source_of right.old) table }
     requires first { 1 ≤ row }
     requires left { row ≤ row_count left.old table }
     requires right { row ≤ row_count right.old table }
+    requires compared { AreOutcomes left.old right.old table compared.old }
     requires few { length found.old.items ≤ limit }
     ensures left { left.new ≡ left.old }
     ensures right { right.new ≡ right.old }
+    ensures compared { OnOk result (AreOutcomes left.old right.old table compared.new) }
     ensures few { OnOk result (length found.new.items ≤ limit) }
     ensures there { OnOk result (All (IsThere left.old right.old) found.old.items → All (IsThere left.old right.old) found.new.items) }
     ensures sound { (first second : Metadata) → IsModel left.old first → IsModel right.old second
@@ -154,7 +160,7 @@ fn find_in_row(
     }
     for cell_index in 0..cell_count(table) {
         find_in_cell(
-            alloc, left, right, table, row, cell_index, ignored, limit, found,
+            alloc, left, right, table, row, cell_index, ignored, limit, compared, found,
         )?;
     }
     Ok(())
@@ -170,15 +176,18 @@ fn find_in_cell(
     cell_index: usize,
     ignored: &IgnoredColumns,
     limit: usize,
+    compared: &mut ComparedCells,
     found: &mut Vec<Difference>,
 ) -> Result<(), AllocError>
     requires first { 1 ≤ row }
     requires left { row ≤ row_count left.old table }
     requires right { row ≤ row_count right.old table }
     requires cell_index { cell_index < cell_count table }
+    requires compared { AreOutcomes left.old right.old table compared.old }
     requires few { length found.old.items ≤ limit }
     ensures left { left.new ≡ left.old }
     ensures right { right.new ≡ right.old }
+    ensures compared { OnOk result (AreOutcomes left.old right.old table compared.new) }
     ensures few { OnOk result (length found.new.items ≤ limit) }
     ensures there { OnOk result (All (IsThere left.old right.old) found.old.items → All (IsThere left.old right.old) found.new.items) }
     ensures sound { (first second : Metadata) → IsModel left.old first → IsModel right.old second
@@ -187,10 +196,7 @@ fn find_in_cell(
     if ignored.contains(table, cell_index) {
         return Ok(());
     }
-    let kind = kind_of(table, cell_index);
-    let left_value = left.cell(table, row, cell_index);
-    let right_value = right.cell(table, row, cell_index);
-    let same = same_cell(alloc, kind, left_value, right_value)?;
+    let same = is_same_in_row(alloc, left, right, table, row, cell_index, compared)?;
     if same {
         return Ok(());
     }

@@ -16,6 +16,7 @@
 
 mod all;
 mod cells;
+mod compared_cells;
 mod difference;
 mod equal;
 mod ignored;
@@ -24,6 +25,7 @@ mod outlines;
 mod root_digest;
 mod same_bytes;
 mod same_cells;
+mod same_in_row;
 mod user_strings;
 
 pub use all::{differences, differences_but};

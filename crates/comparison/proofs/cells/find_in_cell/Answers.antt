@@ -1,7 +1,4 @@
-use Rattle.std.proofs.Common.{◌≢◌, ◌∙◌, length, sym, subst, arith}
-use Rattle.table_schema.specs.declared.column.ColumnKind.{ColumnKind}
-use Rattle.metadata.specs.Metadata.{cell_in}
-use Rattle.reading.specs.Shown.{Shows}
+use Rattle.std.proofs.Common.{◌≢◌, ◌∙◌, length, sym, arith}
 use Rattle.comparison.proofs.CellSteps.{cell_differs, cell_ignored, cell_same}
 use Rattle.comparison.proofs.GrowthLemmas.{grows_full}
 use Rattle.comparison.proofs.cells.find_in_cell.Goals as goal
@@ -12,11 +9,7 @@ returns-then-contains-clause-sound c = λ first second is also.
 
 pub returns-then-same-clause-sound : goal.returns-then-same-clause-sound
 returns-then-same-clause-sound c = λ first second is also.
-    let left = cell_in first c.args.table c.args.row c.args.cell_index in
-    let right = cell_in second c.args.table c.args.row c.args.cell_index in
-    let tested = c.in_ok-same.ensures left right
-    (subst (λ (kind : ColumnKind). Shows kind c.cell-left_value.result left) (sym c.kind_of-kind.ensures) (c.cell-left_value.ensures.cell first is))
-    (subst (λ (kind : ColumnKind). Shows kind c.cell-right_value.result right) (sym c.kind_of-kind.ensures) (c.cell-right_value.ensures.cell second also)) in
+    let tested = c.in_ok-same.ensures.same first second is also in
     cell_same c.args.ignored.now first second c.args.table c.args.row c.args.cell_index c.in_ok-same.same (sym c.contains.ensures ∙ c.if-contains.false) tested c.args.limit c.args.found.now.items c.requires.few c.if-same.true
 
 pub returns-then-len-limit-clause-sound : goal.returns-then-len-limit-clause-sound
@@ -24,11 +17,7 @@ returns-then-len-limit-clause-sound c = λ first second is also. grows_full c.ar
 
 pub returns-clause-sound : goal.returns-clause-sound
 returns-clause-sound c = λ first second is also.
-    let left = cell_in first c.args.table c.args.row c.args.cell_index in
-    let right = cell_in second c.args.table c.args.row c.args.cell_index in
-    let tested = c.in_ok-same.ensures left right
-    (subst (λ (kind : ColumnKind). Shows kind c.cell-left_value.result left) (sym c.kind_of-kind.ensures) (c.cell-left_value.ensures.cell first is))
-    (subst (λ (kind : ColumnKind). Shows kind c.cell-right_value.result right) (sym c.kind_of-kind.ensures) (c.cell-right_value.ensures.cell second also)) in
+    let tested = c.in_ok-same.ensures.same first second is also in
     let room : length c.args.found.now.items ≢ c.args.limit = λ full. c.if-len-limit.false (omega (arith, c.len.ensures, full)) in
     cell_differs c.args.ignored.now first second c.args.table c.args.row c.args.cell_index c.in_ok-same.same (sym c.contains.ensures ∙ c.if-contains.false) tested c.args.limit c.args.found.now.items c.push.new.self.items c.requires.few room c.if-same.false
     c.in_ok-push.ensures.items

@@ -7,6 +7,7 @@ use Rattle.comparison.specs.declared.difference.Difference.{Difference}
 use Rattle.comparison.specs.Differences.{Grows, cell_difference}
 use Rattle.comparison.proofs.GrowthLemmas.{grows_nothing}
 use Rattle.comparison.proofs.CellSteps.{number_found, row_is, there_kept}
+use Rattle.comparison.proofs.ComparedLemmas.{outcomes_kept}
 use Rattle.comparison.proofs.cells.find_in_row.Goals as goal
 
 pub is_same_row-requires-clause-alike : goal.is_same_row-requires-clause-alike
@@ -22,12 +23,19 @@ returns-then-is_same_row-clause-sound c = λ first second is also.
     subst (λ (more : List Difference). Grows c.args.limit c.args.found.now.items c.args.found.now.items more) (sym none)
     (grows_nothing c.args.limit c.args.found.now.items c.requires.few)
 
+pub find_in_cell-requires-clause-compared : goal.find_in_cell-requires-clause-compared
+find_in_cell-requires-clause-compared c =
+    let loop = c.loop-cell_index.invariant in
+    outcomes_kept c.loop-cell_index.left c.args.left.now c.loop-cell_index.right c.args.right.now c.args.table c.loop-cell_index.compared (sym loop.left) (sym loop.right) loop.compared
+
 pub loop-cell_index-preserved : goal.loop-cell_index-preserved
 loop-cell_index-preserved c =
     let loop = c.loop-cell_index.invariant in
     record {
       left = c.find_in_cell.ensures.left ∙ loop.left;
       right = c.find_in_cell.ensures.right ∙ loop.right;
+      compared = outcomes_kept c.args.left.now c.loop-cell_index.left c.args.right.now c.loop-cell_index.right c.args.table c.find_in_cell.new.compared loop.left loop.right
+          c.in_ok-find_in_cell.ensures.compared;
       few = c.in_ok-find_in_cell.ensures.few;
       there = λ all. there_kept c.args.left.now c.loop-cell_index.left c.args.right.now c.loop-cell_index.right c.loop-cell_index.found.items c.find_in_cell.new.found.items loop.left loop.right
           c.in_ok-find_in_cell.ensures.there (loop.there all);

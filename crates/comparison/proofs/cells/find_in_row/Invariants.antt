@@ -2,6 +2,7 @@ use Rattle.std.proofs.Common.{◌≡◌, ◌≤◌, All, length}
 use Rattle.std.specs.List.{flat_map, range_with_len}
 use Rattle.metadata.specs.Metadata.{Metadata}
 use Rattle.metadata.specs.Model.{IsModel}
+use Rattle.comparison.specs.ComparedCells.{AreOutcomes}
 use Rattle.comparison.specs.Differences.{Grows, IsThere, cell_difference}
 use Rattle.comparison.proofs.cells.find_in_row.Given as goal
 
@@ -9,6 +10,7 @@ abbrev pub invariant-loop-cell_index : goal.invariant-loop-cell_index
 invariant-loop-cell_index l = record {
   left : l.left ≡ l.initial.left;
   right : l.right ≡ l.initial.right;
+  compared : AreOutcomes l.initial.left l.initial.right l.table l.compared;
   few : length l.found.items ≤ l.limit;
   there : All (IsThere l.initial.left l.initial.right) l.initial.found.items → All (IsThere l.initial.left l.initial.right) l.found.items;
   found : (first second : Metadata) → IsModel l.initial.left first → IsModel l.initial.right second

@@ -1,12 +1,13 @@
-use Rattle.std.proofs.Common.{◌≡◌, ◌∙◌, ◌+◌, ℕ, List, ap₂, min, subst, sym, arith}
+use Rattle.std.proofs.Common.{◌≡◌, ◌∙◌, ◌+◌, ℕ, List, refl, ap₂, min, subst, sym, arith}
 use Rattle.metadata.specs.Metadata.{count_in}
 use Rattle.metadata.specs.Model.{IsModel}
 use Rattle.metadata.specs.SourceAt.{source_of}
 use Rattle.comparison.specs.Alike.{AreAlike}
 use Rattle.comparison.specs.declared.difference.Difference.{Difference}
-use Rattle.comparison.specs.Differences.{Grows, row_differences, table_differences}
+use Rattle.comparison.specs.Differences.{Grows, row_differences}
 use Rattle.comparison.proofs.GrowthLemmas.{grows_nothing}
 use Rattle.comparison.proofs.CellSteps.{number_found, table_is, there_kept}
+use Rattle.comparison.proofs.ComparedLemmas.{outcomes_kept}
 use Rattle.comparison.proofs.cells.find_in_table.Goals as goal
 
 pub is_same_table-requires : goal.is_same_table-requires
@@ -23,6 +24,21 @@ returns-then-is_same_table-clause-sound c = λ first second is also.
     subst (λ (more : List Difference). Grows c.args.limit c.args.found.now.items c.args.found.now.items more) (sym none)
     (grows_nothing c.args.limit c.args.found.now.items c.requires.few)
 
+pub loop-earlier-init : goal.loop-earlier-init
+loop-earlier-init c = record {
+  left = refl;
+  right = refl;
+  compared = c.new-compared.ensures c.args.left.now c.args.right.now c.args.table;
+  few = c.requires.few;
+  there = λ all. all;
+  found = λ first second is also. grows_nothing c.args.limit c.args.found.now.items c.requires.few;
+}
+
+pub find_in_row-requires-clause-compared : goal.find_in_row-requires-clause-compared
+find_in_row-requires-clause-compared c =
+    let loop = c.loop-earlier.invariant in
+    outcomes_kept c.loop-earlier.left c.args.left.now c.loop-earlier.right c.args.right.now c.args.table c.loop-earlier.compared (sym loop.left) (sym loop.right) loop.compared
+
 pub find_in_row-requires-clause-alike : goal.find_in_row-requires-clause-alike
 find_in_row-requires-clause-alike c = λ true.
     let loop = c.loop-earlier.invariant in
@@ -36,6 +52,8 @@ loop-earlier-preserved c =
     record {
       left = c.find_in_row.ensures.left ∙ loop.left;
       right = c.find_in_row.ensures.right ∙ loop.right;
+      compared = outcomes_kept c.args.left.now c.loop-earlier.left c.args.right.now c.loop-earlier.right c.args.table c.find_in_row.new.compared loop.left loop.right
+          c.in_ok-find_in_row.ensures.compared;
       few = c.in_ok-find_in_row.ensures.few;
       there = λ all. there_kept c.args.left.now c.loop-earlier.left c.args.right.now c.loop-earlier.right c.loop-earlier.found.items c.find_in_row.new.found.items loop.left loop.right
           c.in_ok-find_in_row.ensures.there (loop.there all);

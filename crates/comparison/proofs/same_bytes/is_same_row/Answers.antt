@@ -1,4 +1,4 @@
-use Rattle.std.proofs.Common.{◌≡◌, ◌≢◌, ◌≤◌, ◌+◌, ◌∙◌, ℕ, ap, subst, sym, arith}
+use Rattle.std.proofs.Common.{◌≢◌, ◌≤◌, ◌+◌, subst, sym, arith}
 use Rattle.schema.specs.Sizes.{SameCounts}
 use Rattle.metadata.specs.Source.{Source, number_of, rows_in}
 use Rattle.metadata.specs.SourceAt.{source_of}

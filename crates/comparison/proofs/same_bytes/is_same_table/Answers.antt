@@ -1,6 +1,6 @@
-use Rattle.std.proofs.Common.{◌≡◌, ◌≤◌, ◌+◌, ◌∙◌, ℕ, ap, subst, sym, arith}
+use Rattle.std.proofs.Common.{◌+◌, ◌∙◌, ℕ, ap, subst, sym, arith}
 use Rattle.schema.specs.Sizes.{SameCounts}
-use Rattle.metadata.specs.Source.{Source, rows_in}
+use Rattle.metadata.specs.Source.{Source}
 use Rattle.metadata.specs.SourceAt.{source_of}
 use Rattle.comparison.specs.Alike.{HaveSameNumbers}
 use Rattle.comparison.proofs.AlikeLemmas.{table_decided}

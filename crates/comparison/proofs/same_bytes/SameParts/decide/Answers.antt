@@ -1,4 +1,4 @@
-use Rattle.std.proofs.Common.{◌≡◌, ◌<◌, ℕ, List, ap, length, sym, subst, arith, below_more}
+use Rattle.std.proofs.Common.{◌<◌, ℕ, List, ap, length, sym, subst, arith, below_more}
 use Rattle.table_schema.specs.declared.column.Column.{Column}
 use Rattle.table_schema.specs.Columns.{column_at, columns_of}
 use Rattle.comparison.specs.Alike.{HaveSameHeap}

@@ -1,0 +1,128 @@
+//! Whether a cell is equal in a row of two views.
+ghost use Rattle.std.specs.Prelude.{◌≡◌, ◌≤◌, ◌<◌, IfOk, IfSome, IsTrue, OnOk};
+ghost use Rattle.table_schema.specs.CellColumns.{cell_count, column_of};
+ghost use Rattle.metadata.specs.Metadata.{Metadata, cell_in};
+ghost use Rattle.metadata.specs.Model.{IsModel};
+ghost use Rattle.metadata.specs.Source.{number_of};
+ghost use Rattle.metadata.specs.SourceAt.{source_of};
+ghost use Rattle.opening.specs.Views.{row_count};
+ghost use Rattle.comparison.specs.ComparedCells.{AreOutcomes, IsInHeap};
+ghost use Rattle.comparison.specs.SameCells.{is_same_cell};
+
+use crate::compared_cells::ComparedCells;
+use crate::same_cells::same_cell;
+use metadata_source::kind_of;
+use opening::{CellCursor, CellRef, TableId};
+use std::alloc::{AllocError, Global};
+use table_schema::{ColumnKind, column_of_cell};
+
+/// The least length of a text or a blob that is long. A shorter one is soon compared again.
+const LONG: usize = 256;
+
+/// Whether the numbers of a column are indexes of texts or blobs.
+fn is_in_heap(kind: ColumnKind) -> bool
+    ensures { IsTrue result → IsInHeap kind }
+{
+    matches!(
+        kind,
+        ColumnKind::Text | ColumnKind::Blob | ColumnKind::Signature(_)
+    )
+}
+
+/// Whether it takes long to compare two values: one of them is long, or they are encodings of signatures that differ.
+fn takes_long(left: CellRef<'_>, right: CellRef<'_>) -> bool {
+    match (left, right) {
+        (CellRef::Text(left), CellRef::Text(right)) => left.len().max(right.len()) >= LONG,
+        (CellRef::Bytes(left), CellRef::Bytes(right)) => left.len().max(right.len()) >= LONG,
+        (CellRef::Sig(left), CellRef::Sig(right)) => left.len() >= LONG || left != right,
+        _ => false,
+    }
+}
+
+/// The numbers in the column of a cell, in a row of two views.
+fn numbers_of(
+    left: &CellCursor<'_, '_>,
+    right: &CellCursor<'_, '_>,
+    table: TableId,
+    row: u32,
+    cell_index: usize,
+) -> (u32, u32)
+    requires first { 1 ≤ row }
+    requires left { row ≤ row_count left.now table }
+    requires right { row ≤ row_count right.now table }
+    requires cell_index { cell_index < cell_count table }
+    ensures left { result.0 ≡ number_of (source_of left.now) table row (column_of table cell_index) }
+    ensures right { result.1 ≡ number_of (source_of right.now) table row (column_of table cell_index) }
+{
+    table_schema::laws::cells_have_columns();
+    let column = column_of_cell(table, cell_index);
+    let left_number = left.view().source().number(table, row, column);
+    let right_number = right.view().source().number(table, row, column);
+    (left_number, right_number)
+}
+
+/// Whether a cell of a row is equal in two views, if that was noted of an earlier row with the same numbers.
+fn known_in_row(
+    left: &CellCursor<'_, '_>,
+    right: &CellCursor<'_, '_>,
+    table: TableId,
+    row: u32,
+    cell_index: usize,
+    compared: &ComparedCells,
+) -> Option<bool>
+    requires first { 1 ≤ row }
+    requires left { row ≤ row_count left.now table }
+    requires right { row ≤ row_count right.now table }
+    requires cell_index { cell_index < cell_count table }
+    requires compared { AreOutcomes left.now right.now table compared.now }
+    ensures { (first second : Metadata) → IsModel left.now first → IsModel right.now second
+        → IfSome result (λ same. same ≡ is_same_cell (cell_in first table row cell_index) (cell_in second table row cell_index)) }
+{
+    if compared.is_empty() {
+        return None;
+    }
+    let (left_number, right_number) = numbers_of(left, right, table, row, cell_index);
+    compared.known(cell_index, left_number, right_number)
+}
+
+/// Whether a cell of a row is equal in two views. What it takes long to compare is noted, and known in a later row with the
+/// same numbers.
+///
+/// # Errors
+///
+/// Only if out of memory.
+pub(crate) fn is_same_in_row(
+    alloc: Global,
+    left: &mut CellCursor<'_, '_>,
+    right: &mut CellCursor<'_, '_>,
+    table: TableId,
+    row: u32,
+    cell_index: usize,
+    compared: &mut ComparedCells,
+) -> Result<bool, AllocError>
+    requires first { 1 ≤ row }
+    requires left { row ≤ row_count left.old table }
+    requires right { row ≤ row_count right.old table }
+    requires cell_index { cell_index < cell_count table }
+    requires compared { AreOutcomes left.old right.old table compared.old }
+    ensures left { left.new ≡ left.old }
+    ensures right { right.new ≡ right.old }
+    ensures compared { OnOk result (AreOutcomes left.old right.old table compared.new) }
+    ensures same { (first second : Metadata) → IsModel left.old first → IsModel right.old second
+        → IfOk result (λ same. same ≡ is_same_cell (cell_in first table row cell_index) (cell_in second table row cell_index)) }
+{
+    metadata::laws::models_are_read();
+    metadata::laws::cells_are_one();
+    if let Some(same) = known_in_row(left, right, table, row, cell_index, compared) {
+        return Ok(same);
+    }
+    let kind = kind_of(table, cell_index);
+    let left_value = left.cell(table, row, cell_index);
+    let right_value = right.cell(table, row, cell_index);
+    let same = same_cell(alloc, kind, left_value, right_value)?;
+    if is_in_heap(kind) && takes_long(left_value, right_value) {
+        let (left_number, right_number) = numbers_of(left, right, table, row, cell_index);
+        compared.note(cell_index, left_number, right_number, same)?;
+    }
+    Ok(same)
+}
