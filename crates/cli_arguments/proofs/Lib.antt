@@ -1,5 +1,3 @@
-pub mod Supplied
 pub mod NoHelp
-pub mod ValuesGiven
+pub mod KnownNames
 pub mod Readings
-pub mod Commands

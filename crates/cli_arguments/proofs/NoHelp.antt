@@ -8,7 +8,14 @@ use Rattle.clap.specs.Simple.{Shape}
 use Rattle.clap.specs.Kinds.{Kinds, or_else}
 use Rattle.clap.specs.Faults.{other_fault, step_fault, turn_fault, walk_fault, word_fault}
 use Rattle.clap.specs.declared.error.ErrorKind.TheVariants as kind
-use Rattle.cli_arguments.proofs.Supplied.{first_none, second_none}
+
+pub first_none : (a b : Kinds) → or_else a b ≡ [] → a ≡ []
+first_none [] b e = refl
+first_none (k ∷ ks) b e = e
+
+pub second_none : (a b : Kinds) → or_else a b ≡ [] → b ≡ []
+second_none [] b e = e
+second_none (k ∷ ks) b e = cc
 
 abbrev pub is_help : Text → Bool
 is_help name = bytes_eq name (codes "help")

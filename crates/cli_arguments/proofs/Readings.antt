@@ -1,16 +1,17 @@
 -- What the getters of `clap`'s matches return, if the matches are those of the arguments.
-use Rattle.std.proofs.Common.{◌≡◌, ◌↔◌, ◌∙◌, ℕ, Result, Ok, Err, Bool, true, false, IsTrue, List, [], ap, ap₂, sym, Option, Some, None, refl, codes, is_some, subst}
-use Rattle.std.specs.Prelude.{if◌then◌else◌, find, map, option_and_then, option_map, slice_get, unwrap_or, IsSome}
+use Rattle.std.proofs.Common.{◌≡◌, ◌↔◌, ◌∙◌, ℕ, Result, Ok, Err, Bool, true, false, IsTrue, List, [], ap, ap₂, sym, Option, Some, None, refl, codes, subst}
+use Rattle.std.specs.Prelude.{if◌then◌else◌, map, option_map, unwrap_or}
 use Rattle.std.specs.Borrow.{Bor}
 use Rattle.std.specs.Option.{option_eq}
 use mathlib.Core.Bool.{beq}
 use Rattle.std.specs.Str.{bytes_eq}
 use Rattle.std.specs.Str.Parse.{ParsesBool, ParsesUnsigned}
 use Rattle.std.proofs.lemmas.Slice.Eq.{bytes_eq-Decides}
-use Rattle.clap.specs.Words.{Row, Text, ReadsOne, all_of, first_of, subcommand_name_of, subcommand_rows_of}
+use Rattle.clap.specs.Words.{Row, Text, ReadsOne, subcommand_name_of, subcommand_rows_of}
 use Rattle.clap.specs.declared.ArgMatches.{ArgMatches}
 use Rattle.clap.specs.declared.ArgMatches.TheViews.{out-ArgMatches}
-use Rattle.cli_arguments.specs.Asked.{IsCountOf, name_of, subcommand_named}
+use Rattle.cli_arguments.specs.Asked.{IsCountOf, subcommand_named}
+use Rattle.cli_arguments.specs.CommandLine.{name_of}
 use Rattle.cli_arguments.specs.declared.asked.Subcommand.{Subcommand}
 use Rattle.cli_arguments.specs.declared.asked.Subcommand.TheVariants.{Root, Check, Show, Types, Outline, Strings, Token, Where, Rewrite, Digest, Compare, Explain}
 
@@ -81,10 +82,6 @@ flag_is E o r b is none value =
     let reads = flag_reads E o r none value in
     ((λ h. reads.0 (eq.0 (subst IsTrue is h))), (λ h. subst IsTrue (sym is) (eq.1 (reads.1 h))))
 
-pub some_mapped : {A B : Type 0} (f : A → B) (o : Option A) (p : Option B) → option_map f o ≡ p → is_some p ≡ true → IsSome o
-some_mapped f None p e h = let nothing : is_some p ≡ false = ap is_some (sym e) in cc
-some_mapped f (Some x) p e h = refl
-
 files_there : (o : Option (Bor (List (Bor Text)))) (default : Bor (List (Bor Text))) → default.now ≡ []
     → map (λ word. word.now) (unwrap_or o default).now ≡ unwrap_or (option_map (λ s. map (λ word. word.now) s.now) o) []
 files_there None default empty = ap (λ (s : List (Bor Text)). map (λ word. word.now) s) empty
@@ -96,13 +93,3 @@ pub files_read : {files : List Text} {slice : Bor (List (Bor Text))} (o : Option
 files_read o default p empty copied is given =
     copied ∙ ap (λ (s : Bor (List (Bor Text))). map (λ word. word.now) s.now) is ∙ files_there o default empty
     ∙ ap (λ (q : Option (List Text)). unwrap_or q []) given
-
-first_at : (o : Option Row) → option_and_then (λ r. slice_get r.values 0) o ≡ slice_get (unwrap_or (option_map (λ r. r.values) o) []) 0
-first_at None = refl
-first_at (Some r) = refl
-
--- the first value of an argument is the first of all
-pub first_read : (id : Text) (rows : List Row) (file : Option Text) (files : List Text) → file ≡ first_of id rows → files ≡ unwrap_or (all_of id rows) []
-    → file ≡ slice_get files 0
-first_read id rows file files first all =
-    first ∙ first_at (find (λ r. bytes_eq r.id id) rows) ∙ ap (λ (s : List Text). slice_get s 0) (sym all)

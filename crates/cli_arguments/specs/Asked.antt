@@ -1,28 +1,13 @@
 -- What the arguments of a command line ask for, by what `clap` gives for them.
-use Rattle.std.specs.Prelude.{◌≡◌, ◌≢◌, ◌↔◌, ℕ, ◌<◌, ◌^◌, IsTrue, IsSome, MatchOption, List, [], map, slice_get, Option, Some, None, codes, if◌then◌else◌, option_map, unwrap_or}
+use Rattle.std.specs.Prelude.{◌≡◌, ◌↔◌, ℕ, ◌<◌, ◌^◌, IsTrue, MatchOption, List, [], map, Option, Some, None, codes, if◌then◌else◌, option_map, unwrap_or}
 use Rattle.std.specs.Str.{bytes_eq}
 use Rattle.std.specs.Option.{SomeIff}
 use Rattle.std.specs.Str.Parse.{IsNumeral, digits_value, without_leading_plus}
 use Rattle.clap.specs.Words.{Row, Text, all_of, first_of, one_of, subcommand_of}
-use Rattle.cli_arguments.specs.CommandLine.{clim}
+use Rattle.cli_arguments.specs.CommandLine.{clim, name_of}
 use Rattle.cli_arguments.specs.declared.asked.Ask.{Ask}
 use Rattle.cli_arguments.specs.declared.asked.Subcommand.{Subcommand}
 use Rattle.cli_arguments.specs.declared.asked.Subcommand.TheVariants.{Root, Check, Show, Types, Outline, Strings, Token, Where, Rewrite, Digest, Compare, Explain}
-
--- the name of a subcommand
-abbrev pub name_of : Subcommand → Text
-name_of Root = codes "root"
-name_of Check = codes "check"
-name_of Show = codes "show"
-name_of Types = codes "types"
-name_of Outline = codes "outline"
-name_of Strings = codes "strings"
-name_of Token = codes "token"
-name_of Where = codes "where"
-name_of Rewrite = codes "rewrite"
-name_of Digest = codes "digest"
-name_of Compare = codes "compare"
-name_of Explain = codes "explain"
 
 -- the subcommand with this name
 abbrev pub subcommand_named : Text → Option Subcommand
@@ -70,16 +55,3 @@ pub record Gives (words : List Text) (ask : Ask) : Type 0 where
   pub names : IsTrue ask.names ↔ (one_of (codes "names") rows ≡ Some (codes "true"))
   pub until_fault : IsTrue ask.until_fault ↔ (one_of (codes "until-fault") rows ≡ Some (codes "true"))
   pub locates : IsTrue ask.locates ↔ (one_of (codes "where") rows ≡ Some (codes "true"))
-
--- there is a file, if the subcommand needs one; `check` may have a list instead
-abbrev pub HasFile : Ask → Type 0
-HasFile ask = ask.subcommand ≢ Explain → ask.subcommand ≢ Check → IsSome ask.file
-
--- the file is the first of the files
-abbrev pub HasFirst : Ask → Type 0
-HasFirst ask = option_map (λ word. word.now) ask.file ≡ slice_get (map (λ word. word.now) ask.files.items) 0
-
--- there is a second value, if the subcommand has one
-abbrev pub HasSecond : Ask → Type 0
-HasSecond ask =
-    (ask.subcommand ≡ Where → IsSome ask.second) × (ask.subcommand ≡ Rewrite → IsSome ask.second) × (ask.subcommand ≡ Compare → IsSome ask.second)

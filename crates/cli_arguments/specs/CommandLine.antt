@@ -1,164 +1,137 @@
--- The command line of the program as `clap` sees it: the name of each command, and the arguments that it takes.
-use Rattle.std.specs.Prelude.{Some, true, codes}
-use Rattle.clap.specs.Words.{App, Rule, Text, new_app, new_rule, with_rule, with_subcommand}
-use Rattle.clap.specs.Simple.{on_top}
+-- The command line of the program as `clap` sees it: the name of each subcommand, and the arguments that it takes.
+use Rattle.std.specs.Prelude.{List, [], ◌∷◌, Some, true, codes, map}
+use Rattle.std.specs.List.{fold}
+use Rattle.clap.specs.Words.{App, Rule, Shape, Text, new_app, new_rule, with_subcommand}
+use Rattle.clap.specs.Simple.{new_shape, on_top}
 use Rattle.clap.specs.Lexer.{usize_max}
 use Rattle.clap.specs.declared.builder.action.ArgAction.TheVariants.{Append, Set, SetTrue}
 use Rattle.clap.specs.declared.builder.value_parser.ValueParser.TheVariants.{Unsigned}
+use Rattle.cli_arguments.specs.declared.argument.Argument.{Argument}
+use Rattle.cli_arguments.specs.declared.argument.Kind.{Kind}
+use Rattle.cli_arguments.specs.declared.argument.Kind.TheVariants as kind
+use Rattle.cli_arguments.specs.declared.asked.Subcommand.{Subcommand}
+use Rattle.cli_arguments.specs.declared.asked.Subcommand.TheVariants.{Root, Check, Show, Types, Outline, Strings, Token, Where, Rewrite, Digest, Compare, Explain}
+use Rattle.cli_arguments.specs.declared.subcommands.Usage.{Usage}
 
--- `FILE`, one value, required
-abbrev pub file : Rule
-file = record (new_rule (codes "FILE")) { action = Some Set; required = true }
+-- `NAME`, one value
+abbrev pub value : Text → Rule
+value id = record (new_rule id) { action = Some Set; value_names = 1 }
 
--- `FILE..`, any number of values
-abbrev pub files : Rule
-files = record (new_rule (codes "FILE")) { action = Some Append; range = Some (record { start_inclusive = 1; end_inclusive = usize_max }) }
+-- `ID..`, any number of values
+abbrev pub values : Text → Rule
+values id = record (new_rule id) { action = Some Append; range = Some (record { start_inclusive = 1; end_inclusive = usize_max }) }
 
--- `FILE..`, at least one value
-abbrev pub several : Rule
-several = record (new_rule (codes "FILE")) { action = Some Append; range = Some (record { start_inclusive = 1; end_inclusive = usize_max }); required = true }
+abbrev pub required : Rule → Rule
+required of = record of { required = true }
 
--- a second value, required; help shows it with this name
-abbrev pub second : Rule
-second = record (new_rule (codes "second")) { action = Some Set; value_names = 1; required = true }
-
--- a second value, optional; help shows it with this name
-abbrev pub part : Rule
-part = record (new_rule (codes "part")) { action = Some Set; value_names = 1 }
-
--- `--NAME`, a flag
+-- `--ID`, a flag
 abbrev pub flag : Text → Rule
-flag name = record (new_rule name) { long = Some name; action = Some SetTrue }
+flag id = record (new_rule id) { long = Some id; action = Some SetTrue }
 
--- `--bare`, a flag
+-- `--ID NAME`, one value
+abbrev pub option : Text → Rule
+option id = record (value id) { long = Some id }
+
+-- `--ID NAME`, a number of 64 bits
+abbrev pub number : Text → Rule
+number id = record (option id) { parser = Some (Unsigned 0 0xFFFF_FFFF_FFFF_FFFF) }
+
+-- an argument of this kind
+abbrev pub rule_of_kind : Text → Kind → Rule
+rule_of_kind id (kind.Required name) = required (value id)
+rule_of_kind id (kind.Optional name) = value id
+rule_of_kind id kind.Several = required (values id)
+rule_of_kind id kind.AnyNumber = values id
+rule_of_kind id kind.Flag = flag id
+rule_of_kind id (kind.ShortFlag letter) = record (new_rule id) { short = Some letter; action = Some SetTrue }
+rule_of_kind id (kind.EitherFlag letter) = record (flag id) { short = Some letter }
+rule_of_kind id (kind.Option name) = option id
+rule_of_kind id (kind.Number name) = number id
+rule_of_kind id (kind.Repeated name) = record (option id) { action = Some Append }
+
+-- an argument of the program, as `clap` sees it
+abbrev pub rule : Argument → Rule
+rule of = rule_of_kind of.id.now of.kind
+
+-- a subcommand with these arguments
+abbrev pub shape_with : Text → List Rule → Shape
+shape_with name rules = record (new_shape name) { rules = rules }
+
+-- a subcommand of the program, as `clap` sees it
+abbrev pub shape : Usage → Shape
+shape of = shape_with of.name.now (map rule of.arguments.now)
+
+-- the arguments of several subcommands: the file, and the flags `--bare` and `--json`
+abbrev pub file : Rule
+file = required (value (codes "FILE"))
+
 abbrev pub bare : Rule
 bare = flag (codes "bare")
 
--- `--budget N`, a number of 64 bits
-abbrev pub budget : Rule
-budget = record (new_rule (codes "budget")) { long = Some (codes "budget"); action = Some Set; value_names = 1; parser = Some (Unsigned 0 0xFFFF_FFFF_FFFF_FFFF) }
-
--- `--files-from LIST`, one value
-abbrev pub files_from : Rule
-files_from = record (new_rule (codes "files-from")) { long = Some (codes "files-from"); action = Some Set; value_names = 1 }
-
--- `-0`, a flag; the ASCII code of `0` is 48
-abbrev pub null : Rule
-null = record (new_rule (codes "null")) { short = Some 48; action = Some SetTrue }
-
--- `-q` or `--quiet`, a flag; the ASCII code of `q` is 113
-abbrev pub quiet : Rule
-quiet = record (new_rule (codes "quiet")) { short = Some 113; long = Some (codes "quiet"); action = Some SetTrue }
-
--- `--json`, a flag
 abbrev pub json : Rule
 json = flag (codes "json")
 
--- `--names`, a flag
-abbrev pub names : Rule
-names = flag (codes "names")
-
--- `--until-fault`, a flag
-abbrev pub until_fault : Rule
-until_fault = flag (codes "until-fault")
-
--- `--where`, a flag
-abbrev pub locates : Rule
-locates = flag (codes "where")
-
--- `HEX..`, at least one value
-abbrev pub tokens : Rule
-tokens = record (new_rule (codes "HEX")) { action = Some Append; range = Some (record { start_inclusive = 1; end_inclusive = usize_max }); required = true }
-
--- `--ignore TABLE.COLUMN`, one value, any number of times
-abbrev pub ignore : Rule
-ignore = record (new_rule (codes "ignore")) { long = Some (codes "ignore"); action = Some Append; value_names = 1 }
-
--- `CODE..`, any number of values
-abbrev pub fault_codes : Rule
-fault_codes = record (new_rule (codes "CODE")) { action = Some Append; range = Some (record { start_inclusive = 1; end_inclusive = usize_max }) }
-
--- a subcommand that reads a file: `NAME [--bare] FILE`
-abbrev pub reader : Text → App
-reader name = with_rule (with_rule (new_app name) file) bare
-
--- one that prints a report: `NAME [--bare] [--json] FILE`
-abbrev pub reporter : Text → App
-reporter name = with_rule (reader name) json
-
--- `root [--bare] [--json] FILE`
-abbrev pub root : App
-root = reporter (codes "root")
-
--- those arguments of `check` that say what to check: `[--bare] [--budget N] [--files-from LIST] [-0] [FILE]..`
-abbrev pub check_input : App → App
-check_input base = with_rule (with_rule (with_rule (with_rule (with_rule base files) bare) budget) files_from) null
-
--- those that say what to print: `[-q] [--json] [--where]`
-abbrev pub check_output : App → App
-check_output base = with_rule (with_rule (with_rule base quiet) json) locates
-
--- `check [--bare] [--budget N] [--files-from LIST] [-0] [-q] [--json] [--where] [FILE]..`
-abbrev pub check : App
-check = check_output (check_input (new_app (codes "check")))
-
--- `show [--bare] [--json] [--names] [--until-fault] FILE [TABLE]`
-abbrev pub show : App
-show = with_rule (with_rule (with_rule (reporter (codes "show")) part) names) until_fault
-
--- `types [--bare] [--json] FILE`
-abbrev pub types : App
-types = reporter (codes "types")
-
--- `outline [--bare] [--json] FILE [NAME]`
-abbrev pub outline : App
-outline = with_rule (reporter (codes "outline")) part
-
--- `strings [--bare] FILE`
-abbrev pub strings : App
-strings = reader (codes "strings")
-
--- `token [--bare] [--json] FILE HEX..`
-abbrev pub token : App
-token = with_rule (reporter (codes "token")) tokens
-
--- `where [--bare] [--json] FILE OFFSET`
-abbrev pub where_is : App
-where_is = with_rule (reporter (codes "where")) second
-
--- `rewrite [--bare] FILE OUT`
-abbrev pub rewrite : App
-rewrite = with_rule (reader (codes "rewrite")) second
-
--- `digest [--bare] FILE..`
-abbrev pub digest : App
-digest = with_rule (with_rule (new_app (codes "digest")) several) bare
-
--- `compare [--bare] [--json] [--ignore TABLE.COLUMN].. FILE OTHER`
-abbrev pub compare : App
-compare = with_rule (with_rule (reporter (codes "compare")) second) ignore
-
--- `explain [CODE]..`
-abbrev pub explain : App
-explain = with_rule (new_app (codes "explain")) fault_codes
+-- the value after the file
+abbrev pub second : Rule
+second = required (value (codes "second"))
 
 -- `clim SUBCOMMAND ..`; the subcommand is required. `-V` and `--version` have texts of their own
 abbrev pub without_subcommands : App
 without_subcommands = on_top (λ s. record s { has_version = true; has_long_version = true; subcommand_required = true }) (new_app (codes "clim"))
 
--- a command with the subcommands that report on a whole file
-abbrev pub with_reports : App → App
-with_reports base =
-    with_subcommand (with_subcommand (with_subcommand (with_subcommand (with_subcommand base root.top) check.top) show.top) types.top) outline.top
+-- the name of a subcommand
+abbrev pub name_of : Subcommand → Text
+name_of Root = codes "root"
+name_of Check = codes "check"
+name_of Show = codes "show"
+name_of Types = codes "types"
+name_of Outline = codes "outline"
+name_of Strings = codes "strings"
+name_of Token = codes "token"
+name_of Where = codes "where"
+name_of Rewrite = codes "rewrite"
+name_of Digest = codes "digest"
+name_of Compare = codes "compare"
+name_of Explain = codes "explain"
 
--- with those that look something up in a file
-abbrev pub with_lookups : App → App
-with_lookups base = with_subcommand (with_subcommand (with_subcommand base strings.top) token.top) where_is.top
+-- the arguments of a subcommand
+abbrev pub rules_of : Subcommand → List Rule
+-- `root [--bare] [--json] FILE`
+rules_of Root = file ∷ bare ∷ json ∷ []
+-- `check [--bare] [--budget N] [--files-from LIST] [-0] [-q] [--json] [--where] [FILE]..`; the ASCII codes of `0` and `q` are 48 and 113
+rules_of Check =
+    values (codes "FILE") ∷ bare ∷ number (codes "budget") ∷ option (codes "files-from")
+    ∷ record (new_rule (codes "null")) { short = Some 48; action = Some SetTrue } ∷ record (flag (codes "quiet")) { short = Some 113 }
+    ∷ json ∷ flag (codes "where") ∷ []
+-- `show [--bare] [--json] [--names] [--until-fault] FILE [TABLE]`
+rules_of Show = file ∷ bare ∷ json ∷ value (codes "part") ∷ flag (codes "names") ∷ flag (codes "until-fault") ∷ []
+-- `types [--bare] [--json] FILE`
+rules_of Types = file ∷ bare ∷ json ∷ []
+-- `outline [--bare] [--json] FILE [NAME]`
+rules_of Outline = file ∷ bare ∷ json ∷ value (codes "part") ∷ []
+-- `strings [--bare] FILE`
+rules_of Strings = file ∷ bare ∷ []
+-- `token [--bare] [--json] FILE HEX..`
+rules_of Token = file ∷ bare ∷ json ∷ required (values (codes "HEX")) ∷ []
+-- `where [--bare] [--json] FILE OFFSET`
+rules_of Where = file ∷ bare ∷ json ∷ second ∷ []
+-- `rewrite [--bare] FILE OUT`
+rules_of Rewrite = file ∷ bare ∷ second ∷ []
+-- `digest [--bare] FILE..`
+rules_of Digest = required (values (codes "FILE")) ∷ bare ∷ []
+-- `compare [--bare] [--json] [--ignore TABLE.COLUMN].. FILE OTHER`
+rules_of Compare = file ∷ bare ∷ json ∷ second ∷ record (option (codes "ignore")) { action = Some Append } ∷ []
+-- `explain [CODE]..`
+rules_of Explain = values (codes "CODE") ∷ []
 
--- and with those that write, compare and explain
-abbrev pub with_others : App → App
-with_others base = with_subcommand (with_subcommand (with_subcommand (with_subcommand base rewrite.top) digest.top) compare.top) explain.top
+-- a subcommand
+abbrev pub shape_of : Subcommand → Shape
+shape_of of = shape_with (name_of of) (rules_of of)
 
--- all subcommands; `clap` adds `help`
+-- the subcommands
+abbrev pub subcommands : List Subcommand
+subcommands = Root ∷ Check ∷ Show ∷ Types ∷ Outline ∷ Strings ∷ Token ∷ Where ∷ Rewrite ∷ Digest ∷ Compare ∷ Explain ∷ []
+
+-- the command line with its subcommands; `clap` adds `help`
 abbrev pub clim : App
-clim = with_others (with_lookups (with_reports without_subcommands))
+clim = fold (λ above of. with_subcommand above (shape_of of)) without_subcommands subcommands

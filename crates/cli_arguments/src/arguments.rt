@@ -1,16 +1,14 @@
 //! The command line, and what its arguments ask for.
-ghost use Rattle.std.specs.Prelude.{◌≡◌, ◌↔◌, IfOk, IsOkAnd, IsTrue, Some, [], codes, map, unwrap_or};
-ghost use Rattle.clap.specs.Words.{AddsSubcommand, FailsBy, all_of, app_of, fault_of, found_of, one_of, rows_of};
-ghost use Rattle.cli_arguments.specs.Asked.{Gives, HasFile, HasFirst, HasSecond};
+ghost use Rattle.std.specs.Prelude.{◌≡◌, ◌↔◌, IfOk, IsTrue, Some, [], codes, false, map, unwrap_or};
+ghost use Rattle.clap.specs.Words.{FailsBy, all_of, app_of, fault_of, found_of, one_of, rows_of, shape_of};
+ghost use Rattle.clap.specs.declared.Command.TheViews.{out-Command as fields_of};
+ghost use Rattle.cli_arguments.specs.Asked.{Gives};
 ghost use Rattle.cli_arguments.specs.CommandLine as line;
-ghost use Rattle.cli_arguments.specs.CommandLine.{clim};
 
+use crate::argument::arg_of;
 use crate::asked::{Ask, Subcommand};
 use crate::help::HELP;
-use crate::subcommands::{
-    check_file, compare_files, digest_file, explain_fault, print_outline, print_root,
-    print_strings, print_token, print_types, print_where, rewrite_file, show_tables,
-};
+use crate::subcommands::usage_of;
 use clap::{ArgMatches, Command, Error};
 use std::alloc::{AllocError, Global};
 
@@ -26,10 +24,7 @@ const LONG_VERSION: &str = "0.1.0\nproved and built with rattle-kit-13f logic da
 /// the user.
 pub fn ask<'a>(alloc: Global, words: &'a [&'a str]) -> Result<Ask<'a>, Error>
     ensures given { IfOk result (Gives (map (λ word. word.now) words.entry.now)) }
-    ensures file { IfOk result HasFile }
-    ensures first { IfOk result HasFirst }
-    ensures second { IfOk result HasSecond }
-    ensures refused { FailsBy (fault_of clim (map (λ word. word.now) words.entry.now)) result }
+    ensures refused { FailsBy (fault_of line.clim (map (λ word. word.now) words.entry.now)) result }
 {
     let matches = command(alloc)?.try_get_matches_from(words)?;
     let (name, given) = matches.subcommand().unwrap();
@@ -70,54 +65,30 @@ fn list<'a>(alloc: Global, given: &ArgMatches<'a>, id: &str) -> Result<Vec<&'a s
 
 /// The command line as `clap` parses it and shows it in help.
 fn command<'a>(alloc: Global) -> Result<Command<'a>, AllocError>
-    ensures { IfOk result (λ command. app_of command ≡ clim) }
+    ensures { IfOk result (λ command. app_of command ≡ line.clim) }
 {
-    let program = Command::new(alloc, "clim")
+    let mut program = Command::new(alloc, "clim")
         .version("0.1.0")
         .long_version(LONG_VERSION)
         .override_help(HELP)
         .subcommand_required(true);
-    let program = with_reports(alloc, program)?;
-    let program = with_lookups(alloc, program)?;
-    with_others(alloc, program)
+    for subcommand in Subcommand::ALL {
+        program = program.subcommand(command_of(alloc, *subcommand)?)?;
+    }
+    Ok(program)
 }
 
-/// The command with the subcommands that report on a whole file.
-fn with_reports<'a>(alloc: Global, program: Command<'a>) -> Result<Command<'a>, AllocError>
-    ensures { IfOk result (λ made. app_of made ≡ line.with_reports (app_of program.entry)) }
+/// A subcommand, with its arguments and its help.
+fn command_of<'a>(alloc: Global, subcommand: Subcommand) -> Result<Command<'a>, AllocError>
+    ensures shape { IfOk result (λ command. shape_of command ≡ line.shape_of subcommand) }
+    ensures local { IfOk result (λ command. (fields_of command).has_globals ≡ false) }
 {
-    let program = with(Ok(program), print_root::command(alloc));
-    let program = with(program, check_file::command(alloc));
-    let program = with(program, show_tables::command(alloc));
-    let program = with(program, print_types::command(alloc));
-    with(program, print_outline::command(alloc))
-}
-
-/// The command with those that look something up in a file.
-fn with_lookups<'a>(alloc: Global, program: Command<'a>) -> Result<Command<'a>, AllocError>
-    ensures { IfOk result (λ made. app_of made ≡ line.with_lookups (app_of program.entry)) }
-{
-    let program = with(Ok(program), print_strings::command(alloc));
-    let program = with(program, print_token::command(alloc));
-    with(program, print_where::command(alloc))
-}
-
-/// The command with those that write, compare and explain.
-fn with_others<'a>(alloc: Global, program: Command<'a>) -> Result<Command<'a>, AllocError>
-    ensures { IfOk result (λ made. app_of made ≡ line.with_others (app_of program.entry)) }
-{
-    let program = with(Ok(program), rewrite_file::command(alloc));
-    let program = with(program, digest_file::command(alloc));
-    let program = with(program, compare_files::command(alloc));
-    with(program, explain_fault::command(alloc))
-}
-
-/// A command with one more subcommand. Fails only if out of memory.
-fn with<'a>(
-    command: Result<Command<'a>, AllocError>,
-    subcommand: Result<Command<'a>, AllocError>,
-) -> Result<Command<'a>, AllocError>
-    ensures { IfOk result (λ made. IsOkAnd command.entry (λ base. IsOkAnd subcommand.entry (λ added. AddsSubcommand base added made))) }
-{
-    command?.subcommand(subcommand?)
+    let usage = usage_of(subcommand);
+    let mut command = Command::new(alloc, usage.name)
+        .about(usage.about)
+        .after_help(usage.output);
+    for argument in usage.arguments {
+        command = command.arg(arg_of(alloc, argument))?;
+    }
+    Ok(command)
 }

@@ -70,6 +70,22 @@ pub enum Subcommand {
 }
 
 impl Subcommand {
+    /// All subcommands, in the order of help.
+    pub(crate) const ALL: &'static [Subcommand] = &[
+        Subcommand::Root,
+        Subcommand::Check,
+        Subcommand::Show,
+        Subcommand::Types,
+        Subcommand::Outline,
+        Subcommand::Strings,
+        Subcommand::Token,
+        Subcommand::Where,
+        Subcommand::Rewrite,
+        Subcommand::Digest,
+        Subcommand::Compare,
+        Subcommand::Explain,
+    ];
+
     /// The subcommand with this name.
     pub fn named(word: &str) -> Option<Subcommand>
         ensures { result ≡ subcommand_named word.now }

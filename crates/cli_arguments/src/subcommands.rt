@@ -1,11 +1,20 @@
-//! The arguments of each subcommand and its help, one module for each.
-ghost use Rattle.std.specs.Prelude.{◌≡◌, IfOk, false};
-ghost use Rattle.clap.specs.Words.{app_of, rule_of};
-ghost use Rattle.clap.specs.declared.Command.TheViews.{out-Command as fields_of};
+//! The subcommands as rows of a table: the arguments of each and its help, one module for each.
+ghost use Rattle.std.specs.Prelude.{◌≡◌};
 ghost use Rattle.cli_arguments.specs.CommandLine as line;
 
-use clap::{Arg, ArgAction, Command};
-use std::alloc::{AllocError, Global};
+use crate::argument::Argument;
+use crate::asked::Subcommand;
+
+/// An argument: its id, its kind and its help.
+macro_rules! argument {
+    ($id:literal $kind:ident$(($name:literal))? $help:literal) => {
+        crate::argument::Argument {
+            id: $id,
+            kind: crate::argument::Kind::$kind$(($name))?,
+            help: $help,
+        }
+    };
+}
 
 pub(crate) mod check_file;
 pub(crate) mod compare_files;
@@ -20,93 +29,44 @@ pub(crate) mod print_where;
 pub(crate) mod rewrite_file;
 pub(crate) mod show_tables;
 
-/// The arguments of a subcommand that reads a file, and its help: what it does and what it prints.
-fn reader<'a>(
-    alloc: Global,
-    name: &'a str,
-    about: &'a str,
-    output: &'a str,
-) -> Result<Command<'a>, AllocError>
-    ensures app { IfOk result (λ command. app_of command ≡ line.reader name.now) }
-    ensures local { IfOk result (λ command. (fields_of command).has_globals ≡ false) }
-{
-    Command::new(alloc, name)
-        .about(about)
-        .after_help(output)
-        .arg(file(alloc))?
-        .arg(bare(alloc))
+/// A subcommand: its name, its arguments and its help.
+#[derive(Clone, Copy)]
+pub(crate) struct Usage<'a> {
+    /// The argument that selects it.
+    pub(crate) name: &'a str,
+    /// What it does, in a line.
+    pub(crate) about: &'a str,
+    /// Its arguments. Help shows them in this order.
+    pub(crate) arguments: &'a [Argument<'a>],
+    /// What it prints, with examples.
+    pub(crate) output: &'a str,
 }
 
-/// The arguments of a subcommand that prints a report on a file, as text or as JSON Lines, and its help.
-fn reporter<'a>(
-    alloc: Global,
-    name: &'a str,
-    about: &'a str,
-    output: &'a str,
-) -> Result<Command<'a>, AllocError>
-    ensures app { IfOk result (λ command. app_of command ≡ line.reporter name.now) }
-    ensures local { IfOk result (λ command. (fields_of command).has_globals ≡ false) }
+/// The arguments of a subcommand, and its help.
+pub(crate) fn usage_of<'a>(subcommand: Subcommand) -> Usage<'a>
+    ensures { line.shape result ≡ line.shape_of subcommand }
 {
-    reader(alloc, name, about, output)?.arg(json(alloc))
+    match subcommand {
+        Subcommand::Root => print_root::USAGE,
+        Subcommand::Check => check_file::USAGE,
+        Subcommand::Show => show_tables::USAGE,
+        Subcommand::Types => print_types::USAGE,
+        Subcommand::Outline => print_outline::USAGE,
+        Subcommand::Strings => print_strings::USAGE,
+        Subcommand::Token => print_token::USAGE,
+        Subcommand::Where => print_where::USAGE,
+        Subcommand::Rewrite => rewrite_file::USAGE,
+        Subcommand::Digest => digest_file::USAGE,
+        Subcommand::Compare => compare_files::USAGE,
+        Subcommand::Explain => explain_fault::USAGE,
+    }
 }
 
 /// `FILE`, the path of the file to read.
-fn file<'a>(alloc: Global) -> Arg<'a>
-    ensures rule { rule_of result ≡ line.file }
-    ensures local { result.global ≡ false }
-{
-    Arg::new(alloc, "FILE")
-        .required(true)
-        .action(ArgAction::Set)
-        .help("The file to read")
-}
+const FILE: Argument<'static> = argument!["FILE" Required("FILE") "The file to read"];
 
 /// `--bare`, the flag for a metadata root.
-fn bare<'a>(alloc: Global) -> Arg<'a>
-    ensures rule { rule_of result ≡ line.bare }
-    ensures local { result.global ≡ false }
-{
-    flag(alloc, "bare", "FILE is a metadata root, not a PE file")
-}
+const BARE: Argument<'static> = argument!["bare" Flag "FILE is a metadata root, not a PE file"];
 
 /// `--json`, the flag for JSON Lines.
-fn json<'a>(alloc: Global) -> Arg<'a>
-    ensures rule { rule_of result ≡ line.json }
-    ensures local { result.global ≡ false }
-{
-    flag(alloc, "json", "Print a JSON value on each line")
-}
-
-/// `--NAME`, a flag.
-fn flag<'a>(alloc: Global, name: &'a str, about: &'a str) -> Arg<'a>
-    ensures rule { rule_of result ≡ line.flag name.now }
-    ensures local { result.global ≡ false }
-{
-    Arg::new(alloc, name)
-        .long(name)
-        .action(ArgAction::SetTrue)
-        .help(about)
-}
-
-/// The value after the file; help shows it with this name.
-fn second<'a>(alloc: Global, name: &'a str, help: &'a str) -> Arg<'a>
-    ensures rule { rule_of result ≡ line.second }
-    ensures local { result.global ≡ false }
-{
-    Arg::new(alloc, "second")
-        .value_name(name)
-        .required(true)
-        .action(ArgAction::Set)
-        .help(help)
-}
-
-/// What alone to print of the file; help shows it with this name.
-fn part<'a>(alloc: Global, name: &'a str, about: &'a str) -> Arg<'a>
-    ensures rule { rule_of result ≡ line.part }
-    ensures local { result.global ≡ false }
-{
-    Arg::new(alloc, "part")
-        .value_name(name)
-        .action(ArgAction::Set)
-        .help(about)
-}
+const JSON: Argument<'static> = argument!["json" Flag "Print a JSON value on each line"];

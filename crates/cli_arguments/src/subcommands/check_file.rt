@@ -1,109 +1,20 @@
 //! `clim check`: checks files against the rules of the standard.
-ghost use Rattle.std.specs.Prelude.{◌≡◌, IfOk, false};
-ghost use Rattle.clap.specs.Words.{app_of, rule_of};
-ghost use Rattle.clap.specs.declared.Command.TheViews.{out-Command as fields_of};
-ghost use Rattle.cli_arguments.specs.CommandLine as line;
+use crate::subcommands::{BARE, JSON, Usage};
 
-use crate::subcommands::{bare, flag, json};
-use clap::{Arg, ArgAction, Command, value_parser};
-use std::alloc::{AllocError, Global};
-
-/// The arguments of the subcommand and its help.
-pub(crate) fn command<'a>(alloc: Global) -> Result<Command<'a>, AllocError>
-    ensures app { IfOk result (λ command. app_of command ≡ line.check) }
-    ensures local { IfOk result (λ command. (fields_of command).has_globals ≡ false) }
-{
-    let command = Command::new(alloc, "check")
-        .about("Check files against the rules of the standard")
-        .after_help(OUTPUT);
-    with_output(alloc, with_input(alloc, command)?)
-}
-
-/// The command with the arguments that say what to check.
-fn with_input<'a>(alloc: Global, command: Command<'a>) -> Result<Command<'a>, AllocError>
-    ensures app { IfOk result (λ made. app_of made ≡ line.check_input (app_of command.entry)) }
-    ensures local { (fields_of command.entry).has_globals ≡ false → IfOk result (λ made. (fields_of made).has_globals ≡ false) }
-{
-    command
-        .arg(files(alloc))?
-        .arg(bare(alloc))?
-        .arg(budget(alloc))?
-        .arg(files_from(alloc))?
-        .arg(null(alloc))
-}
-
-/// The command with the arguments that say what to print.
-fn with_output<'a>(alloc: Global, command: Command<'a>) -> Result<Command<'a>, AllocError>
-    ensures app { IfOk result (λ made. app_of made ≡ line.check_output (app_of command.entry)) }
-    ensures local { (fields_of command.entry).has_globals ≡ false → IfOk result (λ made. (fields_of made).has_globals ≡ false) }
-{
-    command.arg(quiet(alloc))?.arg(json(alloc))?.arg(flag(
-        alloc,
-        "where",
-        "Print what has the byte at the offset of the fault, and explain the fault",
-    ))
-}
-
-/// `FILE..`, the paths of the files to read; none if they are listed.
-fn files<'a>(alloc: Global) -> Arg<'a>
-    ensures rule { rule_of result ≡ line.files }
-    ensures local { result.global ≡ false }
-{
-    Arg::new(alloc, "FILE")
-        .num_args(1..)
-        .action(ArgAction::Append)
-        .help("The files to read")
-}
-
-/// `--files-from LIST`, the source of a list of files.
-fn files_from<'a>(alloc: Global) -> Arg<'a>
-    ensures rule { rule_of result ≡ line.files_from }
-    ensures local { result.global ≡ false }
-{
-    Arg::new(alloc, "files-from")
-        .long("files-from")
-        .value_name("-")
-        .action(ArgAction::Set)
-        .help("Read the names of the files from standard input, each ended by a NUL")
-}
-
-/// `-0`, the short form of `--files-from -`.
-fn null<'a>(alloc: Global) -> Arg<'a>
-    ensures rule { rule_of result ≡ line.null }
-    ensures local { result.global ≡ false }
-{
-    Arg::new(alloc, "null")
-        .short('0')
-        .action(ArgAction::SetTrue)
-        .help("The same as '--files-from -'")
-}
-
-/// `--budget N`, the largest number of signature blob bytes to check.
-fn budget<'a>(alloc: Global) -> Arg<'a>
-    ensures rule { rule_of result ≡ line.budget }
-    ensures local { result.global ≡ false }
-{
-    Arg::new(alloc, "budget")
-        .long("budget")
-        .value_name("N")
-        .value_parser(value_parser!(u64))
-        .action(ArgAction::Set)
-        .help("Check at most N bytes of signatures, or stop with exit status 3")
-}
-
-/// `-q` or `--quiet`, the flag to print nothing about faults.
-fn quiet<'a>(alloc: Global) -> Arg<'a>
-    ensures rule { rule_of result ≡ line.quiet }
-    ensures local { result.global ≡ false }
-{
-    Arg::new(alloc, "quiet")
-        .short('q')
-        .long("quiet")
-        .action(ArgAction::SetTrue)
-        .help("Print nothing about faults; only the exit status reports them")
-}
-
-const OUTPUT: &str = "\
+pub(crate) const USAGE: Usage<'static> = Usage {
+    name: "check",
+    about: "Check files against the rules of the standard",
+    arguments: &[
+        argument!["FILE" AnyNumber "The files to read"],
+        BARE,
+        argument!["budget" Number("N") "Check at most N bytes of signatures, or stop with exit status 3"],
+        argument!["files-from" Option("-") "Read the names of the files from standard input, each ended by a NUL"],
+        argument!["null" ShortFlag('0') "The same as '--files-from -'"],
+        argument!["quiet" EitherFlag('q') "Print nothing about faults; only the exit status reports them"],
+        JSON,
+        argument!["where" Flag "Print what has the byte at the offset of the fault, and explain the fault"],
+    ],
+    output: "\
 Prints 'ok' if FILE breaks no rule. Otherwise prints only the first fault, to standard error. The rules are
 those that 'clim explain' lists from 101 to 801, except 508 to 510. OFFSET is an offset in FILE. LAYER is one
 of these, with the sections whose rules it checks:
@@ -147,4 +58,5 @@ Examples:
   ok
   $ clim check one_module.dll one_module.dll
   one_module.dll: ok
-  one_module.dll: ok";
+  one_module.dll: ok",
+};

@@ -1,41 +1,17 @@
 //! `clim compare`: whether two files have the same metadata.
-ghost use Rattle.std.specs.Prelude.{◌≡◌, IfOk, false};
-ghost use Rattle.clap.specs.Words.{app_of, rule_of};
-ghost use Rattle.clap.specs.declared.Command.TheViews.{out-Command as fields_of};
-ghost use Rattle.cli_arguments.specs.CommandLine as line;
+use crate::subcommands::{BARE, FILE, JSON, Usage};
 
-use crate::subcommands::{reporter, second};
-use clap::{Arg, ArgAction, Command};
-use std::alloc::{AllocError, Global};
-
-/// The arguments of the subcommand and its help.
-pub(crate) fn command<'a>(alloc: Global) -> Result<Command<'a>, AllocError>
-    ensures app { IfOk result (λ command. app_of command ≡ line.compare) }
-    ensures local { IfOk result (λ command. (fields_of command).has_globals ≡ false) }
-{
-    reporter(
-        alloc,
-        "compare",
-        "Compare the metadata of two files",
-        OUTPUT,
-    )?
-    .arg(second(alloc, "OTHER", "The file to compare it with"))?
-    .arg(ignore(alloc))
-}
-
-/// `--ignore TABLE.COLUMN`, a column whose cells are left out.
-fn ignore<'a>(alloc: Global) -> Arg<'a>
-    ensures rule { rule_of result ≡ line.ignore }
-    ensures local { result.global ≡ false }
-{
-    Arg::new(alloc, "ignore")
-        .long("ignore")
-        .value_name("TABLE.COLUMN")
-        .action(ArgAction::Append)
-        .help("Do not compare the cells of this column")
-}
-
-const OUTPUT: &str = "\
+pub(crate) const USAGE: Usage<'static> = Usage {
+    name: "compare",
+    about: "Compare the metadata of two files",
+    arguments: &[
+        FILE,
+        BARE,
+        JSON,
+        argument!["second" Required("OTHER") "The file to compare it with"],
+        argument!["ignore" Repeated("TABLE.COLUMN") "Do not compare the cells of this column"],
+    ],
+    output: "\
 Prints 'equal' if both files have the same metadata. Then 'clim rewrite' writes the same bytes for both.
 Otherwise the exit status is 1, and the lines say what differs, each as 'WHAT: A | B' with A of FILE and B of
 OTHER. First comes the first of these that differs, if one does:
@@ -63,4 +39,5 @@ Examples:
   $ clim compare --bare --ignore Module.Mvid --ignore Module.Name one_module.root one_module.root
   equal
   $ clim compare --json --bare one_module.root one_module.root
-  {\"equal\":true}";
+  {\"equal\":true}",
+};

@@ -1,32 +1,16 @@
 //! `clim outline`: the declarations of an assembly, or of one type.
-ghost use Rattle.std.specs.Prelude.{◌≡◌, IfOk, false};
-ghost use Rattle.clap.specs.Words.{app_of};
-ghost use Rattle.clap.specs.declared.Command.TheViews.{out-Command as fields_of};
-ghost use Rattle.cli_arguments.specs.CommandLine as line;
+use crate::subcommands::{BARE, FILE, JSON, Usage};
 
-use crate::subcommands::{part, reporter};
-use clap::Command;
-use std::alloc::{AllocError, Global};
-
-/// The arguments of the subcommand and its help.
-pub(crate) fn command<'a>(alloc: Global) -> Result<Command<'a>, AllocError>
-    ensures app { IfOk result (λ command. app_of command ≡ line.outline) }
-    ensures local { IfOk result (λ command. (fields_of command).has_globals ≡ false) }
-{
-    reporter(
-        alloc,
-        "outline",
-        "Print the declarations of the assembly, or of one type, as ILAsm writes them",
-        OUTPUT,
-    )?
-    .arg(part(
-        alloc,
-        "NAME",
-        "The type to print alone, by its full name or token",
-    ))
-}
-
-const OUTPUT: &str = "\
+pub(crate) const USAGE: Usage<'static> = Usage {
+    name: "outline",
+    about: "Print the declarations of the assembly, or of one type, as ILAsm writes them",
+    arguments: &[
+        FILE,
+        BARE,
+        JSON,
+        argument!["part" Optional("NAME") "The type to print alone, by its full name or token"],
+    ],
+    output: "\
 There is a line for each declaration, in the notation of ILAsm (ECMA-335, II.5 to II.22). It ends with the token of its
 row in a comment. First come the assembly, what it refers to, the module, files, resources and exported types; then the
 types in the order of their rows, each with its fields, methods, events and properties, and accessors below these; then
@@ -57,4 +41,5 @@ Examples:
     .field private int32 b  // 04000002
     .method public void N.C::M() cil managed  // 06000001
   $ clim outline --bare two_types.root 02000001
-  .class private auto ansi <Module>  // 02000001";
+  .class private auto ansi <Module>  // 02000001",
+};

@@ -1,40 +1,16 @@
 //! `clim token`: the rows or the user strings that tokens name.
-ghost use Rattle.std.specs.Prelude.{◌≡◌, IfOk, false};
-ghost use Rattle.clap.specs.Words.{app_of, rule_of};
-ghost use Rattle.clap.specs.declared.Command.TheViews.{out-Command as fields_of};
-ghost use Rattle.cli_arguments.specs.CommandLine as line;
+use crate::subcommands::{BARE, FILE, JSON, Usage};
 
-use crate::subcommands::reporter;
-use clap::{Arg, ArgAction, Command};
-use std::alloc::{AllocError, Global};
-
-/// The arguments of the subcommand and its help.
-pub(crate) fn command<'a>(alloc: Global) -> Result<Command<'a>, AllocError>
-    ensures app { IfOk result (λ command. app_of command ≡ line.token) }
-    ensures local { IfOk result (λ command. (fields_of command).has_globals ≡ false) }
-{
-    reporter(
-        alloc,
-        "token",
-        "Print the row or the user string that each token names",
-        OUTPUT,
-    )?
-    .arg(tokens(alloc))
-}
-
-/// `HEX..`, the tokens, at least one.
-fn tokens<'a>(alloc: Global) -> Arg<'a>
-    ensures rule { rule_of result ≡ line.tokens }
-    ensures local { result.global ≡ false }
-{
-    Arg::new(alloc, "HEX")
-        .required(true)
-        .num_args(1..)
-        .action(ArgAction::Append)
-        .help("The tokens: one to eight hexadecimal digits each")
-}
-
-const OUTPUT: &str = "\
+pub(crate) const USAGE: Usage<'static> = Usage {
+    name: "token",
+    about: "Print the row or the user string that each token names",
+    arguments: &[
+        FILE,
+        BARE,
+        JSON,
+        argument!["HEX" Several "The tokens: one to eight hexadecimal digits each"],
+    ],
+    output: "\
 The high byte of HEX is the number of a table, and the other bytes are a row (ECMA-335, III.1.9). The output
 is the line of that row in 'clim show'. If the high byte is 70, HEX names an offset in the user strings
 (II.24.2.4). The output is then 'user TEXT FLAG'. In TEXT, a backslash and a unit that is not printable ASCII
@@ -55,4 +31,5 @@ Examples:
   user
   1: 0 \"a.dll\" {03020100-0504-0706-0809-0a0b0c0d0e0f} null null
   $ clim token --json --bare one_module.root 70000000
-  {\"token\":\"70000000\",\"text\":\"\",\"flag\":null}";
+  {\"token\":\"70000000\",\"text\":\"\",\"flag\":null}",
+};

@@ -1,32 +1,16 @@
 //! `clim where`: what has the byte at an offset of a file.
-ghost use Rattle.std.specs.Prelude.{◌≡◌, IfOk, false};
-ghost use Rattle.clap.specs.Words.{app_of};
-ghost use Rattle.clap.specs.declared.Command.TheViews.{out-Command as fields_of};
-ghost use Rattle.cli_arguments.specs.CommandLine as line;
+use crate::subcommands::{BARE, FILE, JSON, Usage};
 
-use crate::subcommands::{reporter, second};
-use clap::Command;
-use std::alloc::{AllocError, Global};
-
-/// The arguments of the subcommand and its help.
-pub(crate) fn command<'a>(alloc: Global) -> Result<Command<'a>, AllocError>
-    ensures app { IfOk result (λ command. app_of command ≡ line.where_is) }
-    ensures local { IfOk result (λ command. (fields_of command).has_globals ≡ false) }
-{
-    reporter(
-        alloc,
-        "where",
-        "Print what the byte at an offset belongs to: a header, a stream or a cell",
-        OUTPUT,
-    )?
-    .arg(second(
-        alloc,
-        "OFFSET",
-        "The offset: decimal, or hexadecimal after '0x'",
-    ))
-}
-
-const OUTPUT: &str = "\
+pub(crate) const USAGE: Usage<'static> = Usage {
+    name: "where",
+    about: "Print what the byte at an offset belongs to: a header, a stream or a cell",
+    arguments: &[
+        FILE,
+        BARE,
+        JSON,
+        argument!["second" Required("OFFSET") "The offset: decimal, or hexadecimal after '0x'"],
+    ],
+    output: "\
 There is a line 'START SIZE WHAT' for each structure that has the byte, the outermost first. START is its offset
 in FILE. OFFSET counts from the first byte of FILE, like the OFFSET of a fault. The structures are the headers of the
 PE file with their fields and data directories (ECMA-335, II.25.2), section headers and sections (II.25.3), the CLI
@@ -49,4 +33,5 @@ Examples:
   $ clim where --bare one_module.root 128
   0 144 root
   128 16 stream #GUID
-  128 16 guid of table 00 Module row 1 column 2 Mvid";
+  128 16 guid of table 00 Module row 1 column 2 Mvid",
+};

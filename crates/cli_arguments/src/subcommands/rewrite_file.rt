@@ -1,28 +1,15 @@
 //! `clim rewrite`: the canonical root of a file.
-ghost use Rattle.std.specs.Prelude.{◌≡◌, IfOk, false};
-ghost use Rattle.clap.specs.Words.{app_of};
-ghost use Rattle.clap.specs.declared.Command.TheViews.{out-Command as fields_of};
-ghost use Rattle.cli_arguments.specs.CommandLine as line;
+use crate::subcommands::{BARE, FILE, Usage};
 
-use crate::subcommands::{reader, second};
-use clap::Command;
-use std::alloc::{AllocError, Global};
-
-/// The arguments of the subcommand and its help.
-pub(crate) fn command<'a>(alloc: Global) -> Result<Command<'a>, AllocError>
-    ensures app { IfOk result (λ command. app_of command ≡ line.rewrite) }
-    ensures local { IfOk result (λ command. (fields_of command).has_globals ≡ false) }
-{
-    reader(
-        alloc,
-        "rewrite",
-        "Write the canonical metadata root of a file",
-        OUTPUT,
-    )?
-    .arg(second(alloc, "OUT", "The file to write"))
-}
-
-const OUTPUT: &str = "\
+pub(crate) const USAGE: Usage<'static> = Usage {
+    name: "rewrite",
+    about: "Write the canonical metadata root of a file",
+    arguments: &[
+        FILE,
+        BARE,
+        argument!["second" Required("OUT") "The file to write"],
+    ],
+    output: "\
 OUT becomes a metadata root without a PE file, which '--bare' reads. The canonical root is the one encoding of
 FILE's metadata that has the heaps in order of first use, each text, blob and GUID once, and the narrowest
 indexes (ECMA-335, II.24.2). Method bodies and resources are not in it.
@@ -39,4 +26,5 @@ Examples:
   $ clim rewrite one_module.dll out.root
   wrote 144 bytes
   $ clim check --bare out.root
-  ok";
+  ok",
+};

@@ -1,42 +1,18 @@
 //! `clim show`: the rows of all tables, or of one.
-ghost use Rattle.std.specs.Prelude.{◌≡◌, IfOk, false};
-ghost use Rattle.clap.specs.Words.{app_of};
-ghost use Rattle.clap.specs.declared.Command.TheViews.{out-Command as fields_of};
-ghost use Rattle.cli_arguments.specs.CommandLine as line;
+use crate::subcommands::{BARE, FILE, JSON, Usage};
 
-use crate::subcommands::{flag, part, reporter};
-use clap::Command;
-use std::alloc::{AllocError, Global};
-
-/// The arguments of the subcommand and its help.
-pub(crate) fn command<'a>(alloc: Global) -> Result<Command<'a>, AllocError>
-    ensures app { IfOk result (λ command. app_of command ≡ line.show) }
-    ensures local { IfOk result (λ command. (fields_of command).has_globals ≡ false) }
-{
-    reporter(
-        alloc,
-        "show",
-        "Print the rows of all tables, or of one",
-        OUTPUT,
-    )?
-    .arg(part(
-        alloc,
-        "TABLE",
-        "The table to print alone, by its name or number",
-    ))?
-    .arg(flag(
-        alloc,
-        "names",
-        "Print the name of each column before its cell",
-    ))?
-    .arg(flag(
-        alloc,
-        "until-fault",
-        "Print the rows before the first fault, too, and then the fault",
-    ))
-}
-
-const OUTPUT: &str = "\
+pub(crate) const USAGE: Usage<'static> = Usage {
+    name: "show",
+    about: "Print the rows of all tables, or of one",
+    arguments: &[
+        FILE,
+        BARE,
+        JSON,
+        argument!["part" Optional("TABLE") "The table to print alone, by its name or number"],
+        argument!["names" Flag "Print the name of each column before its cell"],
+        argument!["until-fault" Flag "Print the rows before the first fault, too, and then the fault"],
+    ],
+    output: "\
 For each table that has rows (ECMA-335, II.22) there is a line 'table NN NAME COUNT', with the number NN of the
 table in hexadecimal. Then there is a line for each row: its number and its cells. A cell is one of these:
   \"..\"  a text; a quote, a backslash and a byte that is not printable ASCII become \\x and two hexadecimal
@@ -86,4 +62,5 @@ Examples:
   04000002 Flags=1 Name=\"b\" Signature=<0608>
   $ clim show --json --bare two_types.root 06
   {\"table\":\"MethodDef\",\"row\":1,\"token\":\"06000001\",\"RVA\":0,\"ImplFlags\":0,\"Flags\":6,\"Name\":\"M\",\
-\"Signature\":{\"blob\":\"000001\",\"text\":\"method void *()\"},\"ParamList\":1}";
+\"Signature\":{\"blob\":\"000001\",\"text\":\"method void *()\"},\"ParamList\":1}",
+};

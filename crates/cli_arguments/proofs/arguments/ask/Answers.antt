@@ -1,18 +1,15 @@
-use Rattle.std.proofs.Common.{◌≡◌, ◌∙◌, List, [], ◌∷◌, true, Some, ap, map, option_map, refl, subst, sym, codes}
-use Rattle.std.specs.Prelude.{IsSome}
-use Rattle.std.specs.Borrow.{Bor}
+use Rattle.std.proofs.Common.{◌≡◌, ◌∙◌, List, [], true, Some, ap, map, option_map, refl, subst, sym, codes}
 use Rattle.clap.proofs.OnLiterals.{clap_on_literals}
-use Rattle.clap.proofs.WalkLemmas.{first_value-rows, one_text-rows, raw_values-rows}
+use Rattle.clap.proofs.WalkLemmas.{first_value-rows, one_text-rows}
 use Rattle.std.proofs.lemmas.Result.{err_from_is_err_and}
 use Rattle.std.specs.declared.num.ParseIntError.{ParseIntError}
 use Rattle.std.specs.Str.Parse.{ExplainsUnsignedError, HasUnsignedDigitsIfOk, ParsesUnsigned}
 use Rattle.clap.specs.declared.error.Error.{Error}
-use Rattle.clap.specs.Words.{App, HasKind, HasMatchesOf, Row, Text, fault_of, first_of, found_of, is_simple, is_simple_and_free, one_of, rows_of, subcommand_name_of, subcommand_of, subcommand_rows_of}
+use Rattle.clap.specs.Words.{App, HasKind, HasMatchesOf, Row, Text, fault_of, found_of, is_simple, is_simple_and_free, one_of, rows_of, subcommand_name_of, subcommand_of, subcommand_rows_of}
 use Rattle.clap.specs.declared.ArgMatches.{ArgMatches}
 use Rattle.cli_arguments.specs.CommandLine.{clim}
-use Rattle.cli_arguments.specs.Asked.{name_of}
-use Rattle.cli_arguments.proofs.ValuesGiven.{AllThere, compare_takes, file_first, has_values, is_known, rewrite_takes, values_in, where_takes}
-use Rattle.cli_arguments.proofs.Readings.{count_is, files_read, first_read, named_back, rows_met, flag_is, some_mapped}
+use Rattle.cli_arguments.proofs.KnownNames.{is_known}
+use Rattle.cli_arguments.proofs.Readings.{count_is, named_back, rows_met}
 use Rattle.cli_arguments.proofs.arguments.ask.Goals as goal
 
 clim_is_simple : is_simple clim ≡ true
@@ -88,38 +85,3 @@ returns-clause-given c =
       until_fault = c.flag-6.ensures;
       locates = c.flag-7.ensures;
     }
-
--- each value that the subcommand needs is there
-values_there : (c : goal.Joined-matches-5) → fault_of clim (map (λ word. word.now) c.args.words.now) ≡ []
-    → AllThere (values_in c.unwrap.result.0.now) (rows_of (found_of c.unwrap.result.1.now))
-values_there c none = has_values (map (λ word. word.now) c.args.words.now) _ (rows_of (found_of c.unwrap.result.1.now)) none (entered c)
-
-pub returns-clause-file : goal.returns-clause-file
-returns-clause-file c = λ other listed.
-    let found = found_of c.unwrap.result.1.now in
-    let word = named_back c.unwrap.result.0.now c.unwrap-2.result (sym c.named.ensures ∙ c.unwrap-2.ensures) in
-    let there = subst (λ (ids : List Text). AllThere ids (rows_of found)) (ap values_in word) (values_there c (returns-clause-refused c)) in
-    some_mapped (λ s. s.now) c.get_str.result (first_of (codes "FILE") (rows_of found)) (c.get_str.ensures ∙ first_value-rows found (codes "FILE"))
-    (file_first c.unwrap-2.result (rows_of found) other listed there)
-
--- the second value is there if the arguments name a subcommand that needs one
-second_there : (c : goal.Joined-matches-5) (name : Text) → c.unwrap.result.0.now ≡ name → values_in name ≡ codes "FILE" ∷ codes "second" ∷ []
-    → fault_of clim (map (λ word. word.now) c.args.words.now) ≡ [] → IsSome c.get_str-2.result
-second_there c name is takes none =
-    let found = found_of c.unwrap.result.1.now in
-    let there = subst (λ (ids : List Text). AllThere ids (rows_of found)) (ap values_in is ∙ takes) (values_there c none) in
-    some_mapped (λ s. s.now) c.get_str-2.result (first_of (codes "second") (rows_of found)) (c.get_str-2.ensures ∙ first_value-rows found (codes "second")) there.1.0
-
-pub returns-clause-second : goal.returns-clause-second
-returns-clause-second c =
-    let word = named_back c.unwrap.result.0.now c.unwrap-2.result (sym c.named.ensures ∙ c.unwrap-2.ensures) in (
-      (λ is. second_there c (codes "where") (word ∙ ap name_of is) where_takes (returns-clause-refused c)),
-      (λ is. second_there c (codes "rewrite") (word ∙ ap name_of is) rewrite_takes (returns-clause-refused c)),
-      (λ is. second_there c (codes "compare") (word ∙ ap name_of is) compare_takes (returns-clause-refused c)),
-    )
-
-pub returns-clause-first : goal.returns-clause-first
-returns-clause-first c =
-    let found = found_of c.unwrap.result.1.now in
-    first_read (codes "FILE") (rows_of found) _ _ (c.get_str.ensures ∙ first_value-rows found (codes "FILE"))
-    c.in_ok-list-4.ensures

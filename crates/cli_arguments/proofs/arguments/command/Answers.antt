@@ -1,18 +1,25 @@
-use Rattle.std.proofs.Common.{◌≡◌, ◌∙◌, ap, codes, true}
-use Rattle.std.proofs.lemmas.Result.{IfOk-weaker}
-use Rattle.clap.specs.Words.{app_of, new_app}
+use Rattle.std.proofs.Common.{◌≡◌, ◌∙◌, ap, ap₂, codes, sym, true}
+use Rattle.std.specs.List.{fold}
+use Rattle.std.proofs.lemmas.List.{take_all}
+use Rattle.std.proofs.lemmas.List.Sums.{fold_more}
+use Rattle.clap.specs.Words.{app_of, new_app, with_subcommand}
 use Rattle.clap.specs.Simple.{app_of_fields, on_top}
 use Rattle.cli_arguments.specs.CommandLine as line
+use Rattle.cli_arguments.proofs.arguments.command.Invariants.{with_one}
 use Rattle.cli_arguments.proofs.arguments.command.Goals as goal
 
-pub returns : goal.returns
-returns c =
+pub loop-subcommand-init : goal.loop-subcommand-init
+loop-subcommand-init c =
     let versioned : app_of c.version.result ≡ on_top (λ s. record s { has_version = true }) (new_app (codes "clim")) =
     ap app_of_fields c.version.ensures ∙ ap (on_top (λ s. record s { has_version = true })) c.new.ensures.app in
     let long : app_of c.override_help.result ≡ on_top (λ s. record s { has_version = true; has_long_version = true }) (new_app (codes "clim")) =
     ap app_of_fields c.override_help.ensures ∙ ap app_of_fields c.long_version.ensures ∙ ap (on_top (λ s. record s { has_long_version = true })) versioned in
-    let alone : app_of c.subcommand_required-program.result ≡ line.without_subcommands =
-    ap app_of_fields c.subcommand_required-program.ensures ∙ ap (on_top (λ s. record s { subcommand_required = true })) long in
-    IfOk-weaker c.with_others.result _ _
-    (λ made is. is ∙ ap line.with_others (c.in_ok-program-2.ensures ∙ ap line.with_lookups (c.in_ok-program.ensures ∙ ap line.with_reports alone)))
-    c.with_others.ensures
+    ap app_of_fields c.subcommand_required-program.ensures ∙ ap (on_top (λ s. record s { subcommand_required = true })) long
+
+pub loop-subcommand-preserved : goal.loop-subcommand-preserved
+loop-subcommand-preserved c =
+    c.in_ok-program.ensures.shape c.in_ok-command_of.ensures.local ∙ ap₂ with_subcommand c.loop-subcommand.invariant c.in_ok-command_of.ensures.shape
+    ∙ sym (fold_more with_one line.without_subcommands line.subcommands c.loop-subcommand.subcommand-index _ c.loop-subcommand-test.true)
+
+pub returns : goal.returns
+returns c = c.loop-subcommand.invariant ∙ ap (fold with_one line.without_subcommands) (take_all c.loop-subcommand.subcommand-index line.subcommands c.loop-subcommand-test.false)
