@@ -6,7 +6,7 @@ use Rattle.std.specs.Bool.{Decides}
 use Rattle.std.proofs.lemmas.Bool.{cases_eq, cases_lt}
 use denote.Enum.Bare.{same_true, true_same}
 use Rattle.table_schema.specs.declared.table.TableId.{TableId}
-use Rattle.table_schema.specs.declared.table.TableId.TheVariants.{TypeDef, TypeRef, TypeSpec, NestedClass}
+use Rattle.table_schema.specs.declared.table.TableId.TheVariants.{TypeDef, TypeRef, TypeSpec, NestedClass, Param}
 use Rattle.table_schema.specs.contracts.table.TableId as tables
 use Rattle.table_schema.specs.contracts.table.TableIdPartialEq.TheImpl as equal
 use Rattle.table_schema.specs.declared.token.Token.{Token}
@@ -25,7 +25,8 @@ use Rattle.metadata.specs.Names.{full_name}
 use Rattle.metadata.specs.Valid.{IsValid, MayRefer, nullable_at}
 use Rattle.navigation.specs.Nesting.{IsEnclosed, IsFirstNesting, IsNesting, IsScope, type_token}
 use Rattle.full_names.specs.Names.{IsChainText, IsOuter, IsOwnText, IsTypeDefText, IsTypeRefText}
-use Rattle.full_names.specs.Texts.{ArePiecesText, IsFullName, IsInnerName, IsNamed, IsPieceText, IsTypeSpecText}
+use Rattle.full_names.specs.Texts.{ArePiecesText, ArePositionsBefore, IsParamAt, IsParamText, spaced, IsFullName, IsInnerName, IsNamed, IsPieceText, IsTypeSpecText}
+use Rattle.full_names.proofs.ParamLemmas.{found_text}
 use Rattle.full_names.proofs.PieceLemmas.{same_signature, signature_of}
 use Rattle.full_names.proofs.PlainPieces.{ArePlain, IsPlain, text_is_plain}
 
@@ -206,14 +207,14 @@ is_text (Guid guid) of = absurd of
 is_text (Start start) of = absurd of
 is_text (Sig signature) of = absurd of
 
-own_def : (model : Metadata) → IsValid model → (row : ℕ) → HasRow model TypeDef row → HasText (IsOwnText model TypeDef row)
+pub own_def : (model : Metadata) → IsValid model → (row : ℕ) → HasRow model TypeDef row → HasText (IsOwnText model TypeDef row)
 unfolding cell_columns
 own_def model valid row there =
     let own = is_text (cell_in model TypeDef row 1) (valid.cells TypeDef row 1 there (omega arith)).of_kind in
     let space = is_text (cell_in model TypeDef row 2) (valid.cells TypeDef row 2 there (omega arith)).of_kind in
     (full_name space.0 own.0, (space.0, own.0, space.1, own.1, refl))
 
-own_ref : (model : Metadata) → IsValid model → (row : ℕ) → HasRow model TypeRef row → HasText (IsOwnText model TypeRef row)
+pub own_ref : (model : Metadata) → IsValid model → (row : ℕ) → HasRow model TypeRef row → HasText (IsOwnText model TypeRef row)
 unfolding cell_columns
 own_ref model valid row there =
     let own = is_text (cell_in model TypeRef row 1) (valid.cells TypeRef row 1 there (omega arith)).of_kind in
@@ -329,4 +330,104 @@ module _ (model : Metadata) (valid : IsValid model) where
             },
           )
     ]
+  ]
+
+-- ---- the names of parameters
+
+position_of : Cell → ℕ
+position_of (Number value) = value
+position_of cell = 0
+
+is_number : (cell : Cell) → IsOfKind kind.U16 cell → cell ≡ Number (position_of cell)
+unfolding position_of
+is_number (Number value) of = refl
+is_number (Text text) of = absurd of
+is_number (Ref reference) of = absurd of
+is_number (Bytes bytes) of = absurd of
+is_number (Guid guid) of = absurd of
+is_number (Start start) of = absurd of
+is_number (Sig signature) of = absurd of
+
+module _ (model : Metadata) (valid : IsValid model) (first past position : ℕ) where
+  param_number : (row : ℕ) → HasRow model Param row → cell_in model Param row 1 ≡ Number (position_of (cell_in model Param row 1))
+  unfolding cell_columns
+  param_number row there = is_number (cell_in model Param row 1) (valid.cells Param row 1 there (omega arith)).of_kind
+
+  param_own : (row : ℕ) → HasRow model Param row → (own : List ℕ) × (cell_in model Param row 2 ≡ Text own)
+  unfolding cell_columns
+  param_own row there = is_text (cell_in model Param row 2) (valid.cells Param row 2 there (omega arith)).of_kind
+
+  abbrev reaches : ℕ → Type 0
+  reaches row = (first ≤ row) × (row < past) × (position ≤ position_of (cell_in model Param row 1))
+
+  reaches_or_not : (row : ℕ) → reaches row ⊎ ¬ reaches row
+  reaches_or_not row = elim (cases_lt row first) [
+    | inl before ↦ inr (λ is. let from = is.0 in absurd (omega (arith, before, from)))
+    | inr from ↦ elim (cases_lt row past) [
+      | inr after ↦ inr (λ is. let to = is.1 in absurd (omega (arith, after, to)))
+      | inl to ↦ elim (cases_lt (position_of (cell_in model Param row 1)) position) [
+        | inl less ↦ inr (λ is. let least = is.2 in absurd (omega (arith, less, least)))
+        | inr least ↦ inl (from, to, least)
+      ]
+    ]
+  ]
+
+  -- the row at a position reaches it
+  at_reaches : (row : ℕ) → IsParamAt model first past position row → position_of (cell_in model Param row 1) ≡ position
+  unfolding position_of
+  at_reaches row at = ap position_of at.sequence
+
+  found_at : (row other : ℕ) → IsFound reaches (count_in model Param) row → IsParamAt model first past position other → row ≡ other
+  found_at row other found at =
+      let same = at_reaches other at in
+      elim (cases_lt other row) [
+        | inl before ↦ absurd (found.2 other at.there.0 before (at.from, at.to, omega (arith, same)))
+        | inr not ↦ elim (cases_lt row other) [
+          | inl after ↦
+              let small = at.before row found.0 found.1.0 after (position_of (cell_in model Param row 1)) (param_number row found.0) in
+              let least = found.1.2 in
+              absurd (omega (arith, small, least))
+          | inr equal ↦ omega (arith, not, equal)
+        ]
+      ]
+
+  param_before : (row : ℕ) → IsFound reaches (count_in model Param) row → ArePositionsBefore model first row position
+  unfolding position_of
+  param_before row found = λ other there from to value is. elim (cases_lt value position) [
+    | inl less ↦ less
+    | inr least ↦
+        let same = ap position_of is in
+        let within = found.1.1 in
+        absurd (found.2 other there.0 to (from, omega (arith, to, within), omega (arith, same, least)))
+  ]
+
+  pub param_text : HasText (IsParamText model first past position)
+  param_text = elim (first_row reaches reaches_or_not (count_in model Param)) [
+    | inl found ↦ elim (cases_eq (position_of (cell_in model Param found.0 1)) position) [
+      | inl same ↦
+          let own = param_own found.0 found.1.0 in (
+            spaced own.0,
+            found_text model first past position found.0 own.0 (record {
+              there = found.1.0;
+              from = found.1.1.0;
+              to = found.1.1.1;
+              sequence = param_number found.0 found.1.0 ∙ ap (λ (n : ℕ). Number n) same;
+              before = param_before found.0 found.1;
+            }) own.1,
+          )
+      | inr differs ↦ (
+        [],
+        record {
+          named = λ row at own is. absurd (differs (ap (λ (r : ℕ). position_of (cell_in model Param r 1)) (found_at found.0 row found.1 at) ∙ at_reaches row at));
+          unnamed = λ none. refl;
+        },
+      )
+    ]
+    | inr none ↦ (
+      [],
+      record {
+        named = λ row at own is. let same = at_reaches row at in absurd (none row at.there.0 at.there.1 (at.from, at.to, omega (arith, same)));
+        unnamed = λ none. refl;
+      },
+    )
   ]

@@ -8,7 +8,7 @@ ghost use Rattle.full_names.specs.Names.{Wrote};
 ghost use Rattle.full_names.specs.Texts.{IsInnerName, IsTypeSpecText};
 
 use crate::limit::Limit;
-use crate::names::{DEPTH, write_type_def, write_type_ref};
+use crate::names::{DEPTH, write_type_def_within, write_type_ref_within};
 use crate::parts::{write_left_out, write_number, write_signed, write_text};
 use navigation::ReadCells;
 use sig_text::{TextSink, write_signature};
@@ -17,9 +17,10 @@ use table_schema::{SigKind, TableId, Token};
 
 /// Writes the text of a token within the text of a TypeSpec. `..` stands for a TypeSpec, which may be the same one, and
 /// for a row that does not exist.
-fn write_inner_name<S: ReadCells, W: fmt::Write>(
+fn write_inner_name<S: ReadCells, W: fmt::Write, L: Limit<W>>(
     source: &S,
     token: Token,
+    limit: &L,
     out: &mut W,
 ) -> fmt::Result
     ensures { (model : Metadata) → S.shows source.now model
@@ -30,8 +31,8 @@ fn write_inner_name<S: ReadCells, W: fmt::Write>(
         return write_left_out(out);
     }
     match token.table {
-        TableId::TypeDef => write_type_def(source, token.row, out, DEPTH),
-        TableId::TypeRef => write_type_ref(source, token.row, out, DEPTH),
+        TableId::TypeDef => write_type_def_within(source, token.row, limit, out, DEPTH),
+        TableId::TypeRef => write_type_ref_within(source, token.row, limit, out, DEPTH),
         _ => write_left_out(out),
     }
 }
@@ -93,7 +94,7 @@ impl<S: ReadCells, W: fmt::Write, L: Limit<W>> TextSink for TypeSpecText<'_, '_,
         if self.limit.is_reached(self.writer) {
             return Some(());
         }
-        let written = write_inner_name(self.source, token, self.writer);
+        let written = write_inner_name(self.source, token, self.limit, self.writer);
         answer(&mut self.refused, written)
     }
 }

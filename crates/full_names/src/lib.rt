@@ -29,7 +29,9 @@ mod text_error;
 pub use flag_words::{FlagTable, FlagWord, words_of};
 pub use limit::{Limit, NoLimit};
 pub use methods::{write_method, write_method_within};
-pub use names::{DEPTH, write_type_def, write_type_ref};
+pub use names::{
+    DEPTH, write_type_def, write_type_def_within, write_type_ref, write_type_ref_within,
+};
 pub use navigation::{ReadCells, ReadMetadata};
 pub use row_names::{type_of_member, write_row_name};
 pub use signature_text::write_signature_text;

@@ -177,6 +177,10 @@ impl<S: ReadCells, W: fmt::Write, L: Limit<W>> MethodSink for MethodText<'_, '_,
     }
 
     fn param_name(&mut self, position: u32) -> Option<()> {
+        self.source.holds_one();
+        if self.limit.is_reached(self.writer) {
+            return Some(());
+        }
         let begin = begin(self.of.first, self.next, self.last, position);
         let (next, name) = param_at(self.source, begin, self.of.past, position);
         self.next = next;

@@ -47,7 +47,8 @@ pub fn write_method<S: ReadCells, W: fmt::Write>(
     write_method_within(alloc, source, row, &NoLimit, out)
 }
 
-/// Writes a method as [`write_method`] does, up to a limit: when it is reached, the names of types are passed over.
+/// Writes a method as [`write_method`] does, up to a limit: when it is reached, the names of types and of parameters are
+/// passed over.
 ///
 /// # Errors
 ///

@@ -3,6 +3,7 @@ ghost use Rattle.table_schema.specs.declared.table.TableId.TheVariants.{TypeDef,
 ghost use Rattle.metadata.specs.Metadata.{Metadata};
 ghost use Rattle.full_names.specs.Names.{IsOuter, IsOwnText, IsTypeDefText, IsTypeRefText, Wrote};
 
+use crate::limit::{Limit, NoLimit};
 use crate::parts::{write_left_out, write_own_name, write_slash};
 use navigation::{ReadCells, cells, enclosing_type, enclosing_type_ref};
 use std::fmt;
@@ -17,14 +18,23 @@ const NAME: usize = 1;
 /// The cell of a type's namespace (II.22.37, II.22.38).
 const NAMESPACE: usize = 2;
 
-/// Writes the name of a type of this module without those of the types that enclose it.
+/// Writes the name of a type of this module without those of the types that enclose it, unless the limit is reached.
 #[tactic(auto, unfolding(table_schema::specs::CellColumns::cell_columns))]
-fn write_own_def<S: ReadCells, W: fmt::Write>(source: &S, row: u32, out: &mut W) -> fmt::Result
+fn write_own_def<S: ReadCells, W: fmt::Write, L: Limit<W>>(
+    source: &S,
+    row: u32,
+    limit: &L,
+    out: &mut W,
+) -> fmt::Result
     requires first { 1 ≤ row }
     requires last { row ≤ S.row_count source.now TypeDef }
     ensures { (model : Metadata) → S.shows source.now model
         → OnOk result (Wrote W.write_str_gives out.old (IsOwnText model TypeDef row) out.new) }
 {
+    source.holds_one();
+    if limit.is_reached(out) {
+        return Ok(());
+    }
     let namespace = cells::text(source, TableId::TypeDef, row, NAMESPACE);
     let name = cells::text(source, TableId::TypeDef, row, NAME);
     write_own_name(out, namespace, name)
@@ -57,25 +67,51 @@ pub fn write_type_def<S: ReadCells, W: fmt::Write>(
     ensures { (model : Metadata) → S.shows source.now model
         → OnOk result (Wrote W.write_str_gives out.old (IsTypeDefText model depth row) out.new) }
 {
+    write_type_def_within(source, row, &NoLimit, out, depth)
+}
+
+/// Writes the name of a type as [`write_type_def`] does, up to a limit: when it is reached, the names of the types of the
+/// chain are passed over.
+pub fn write_type_def_within<S: ReadCells, W: fmt::Write, L: Limit<W>>(
+    source: &S,
+    row: u32,
+    limit: &L,
+    out: &mut W,
+    depth: u8,
+) -> fmt::Result
+    requires first { 1 ≤ row }
+    requires last { row ≤ S.row_count source.now TypeDef }
+    ensures { (model : Metadata) → S.shows source.now model
+        → OnOk result (Wrote W.write_str_gives out.old (IsTypeDefText model depth row) out.new) }
+{
     if depth == 0 {
         return write_left_out(out);
     }
     let Some(outer) = outer_type(source, row) else {
-        return write_own_def(source, row, out);
+        return write_own_def(source, row, limit, out);
     };
-    write_type_def(source, outer, out, depth - 1)?;
+    write_type_def_within(source, outer, limit, out, depth - 1)?;
     write_slash(out)?;
-    write_own_def(source, row, out)
+    write_own_def(source, row, limit, out)
 }
 
-/// Writes the name of a type of another module without those of the types that enclose it.
+/// Writes the name of a type of another module without those of the types that enclose it, unless the limit is reached.
 #[tactic(auto, unfolding(table_schema::specs::CellColumns::cell_columns))]
-fn write_own_ref<S: ReadCells, W: fmt::Write>(source: &S, row: u32, out: &mut W) -> fmt::Result
+fn write_own_ref<S: ReadCells, W: fmt::Write, L: Limit<W>>(
+    source: &S,
+    row: u32,
+    limit: &L,
+    out: &mut W,
+) -> fmt::Result
     requires first { 1 ≤ row }
     requires last { row ≤ S.row_count source.now TypeRef }
     ensures { (model : Metadata) → S.shows source.now model
         → OnOk result (Wrote W.write_str_gives out.old (IsOwnText model TypeRef row) out.new) }
 {
+    source.holds_one();
+    if limit.is_reached(out) {
+        return Ok(());
+    }
     let namespace = cells::text(source, TableId::TypeRef, row, NAMESPACE);
     let name = cells::text(source, TableId::TypeRef, row, NAME);
     write_own_name(out, namespace, name)
@@ -93,13 +129,30 @@ pub fn write_type_ref<S: ReadCells, W: fmt::Write>(
     ensures { (model : Metadata) → S.shows source.now model
         → OnOk result (Wrote W.write_str_gives out.old (IsTypeRefText model depth row) out.new) }
 {
+    write_type_ref_within(source, row, &NoLimit, out, depth)
+}
+
+/// Writes the name of a type as [`write_type_ref`] does, up to a limit: when it is reached, the names of the types of the
+/// chain are passed over.
+pub fn write_type_ref_within<S: ReadCells, W: fmt::Write, L: Limit<W>>(
+    source: &S,
+    row: u32,
+    limit: &L,
+    out: &mut W,
+    depth: u8,
+) -> fmt::Result
+    requires first { 1 ≤ row }
+    requires last { row ≤ S.row_count source.now TypeRef }
+    ensures { (model : Metadata) → S.shows source.now model
+        → OnOk result (Wrote W.write_str_gives out.old (IsTypeRefText model depth row) out.new) }
+{
     if depth == 0 {
         return write_left_out(out);
     }
     let Some(outer) = enclosing_type_ref(source, row) else {
-        return write_own_ref(source, row, out);
+        return write_own_ref(source, row, limit, out);
     };
-    write_type_ref(source, outer, out, depth - 1)?;
+    write_type_ref_within(source, outer, limit, out, depth - 1)?;
     write_slash(out)?;
-    write_own_ref(source, row, out)
+    write_own_ref(source, row, limit, out)
 }

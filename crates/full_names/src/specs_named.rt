@@ -8,7 +8,7 @@ ghost use Rattle.full_names.specs.Texts.{IsFullName, IsTypeSpecText};
 
 use crate::inner_names::{TypeSpecText, put_type_spec};
 use crate::limit::{Limit, NoLimit};
-use crate::names::{DEPTH, write_type_def, write_type_ref};
+use crate::names::{DEPTH, write_type_def_within, write_type_ref_within};
 use crate::parts::write_left_out;
 use crate::signature_bytes::bytes_of;
 use crate::text_error::TextError;
@@ -74,8 +74,8 @@ pub fn write_full_name<S: ReadCells, W: fmt::Write>(
     write_full_name_within(alloc, source, token, &NoLimit, out)
 }
 
-/// Writes the name of a type as [`write_full_name`] does, up to a limit: when it is reached, the names in a TypeSpec are
-/// passed over.
+/// Writes the name of a type as [`write_full_name`] does, up to a limit: when it is reached, the names of enclosing types
+/// and those in a TypeSpec are passed over.
 ///
 /// # Errors
 ///
@@ -98,8 +98,8 @@ pub fn write_full_name_within<S: ReadCells, W: fmt::Write, L: Limit<W>>(
         return Ok(write_left_out(out)?);
     }
     match token.table {
-        TableId::TypeDef => Ok(write_type_def(source, token.row, out, DEPTH)?),
-        TableId::TypeRef => Ok(write_type_ref(source, token.row, out, DEPTH)?),
+        TableId::TypeDef => Ok(write_type_def_within(source, token.row, limit, out, DEPTH)?),
+        TableId::TypeRef => Ok(write_type_ref_within(source, token.row, limit, out, DEPTH)?),
         TableId::TypeSpec => write_type_spec(alloc, source, token.row, limit, out),
         _ => Ok(write_left_out(out)?),
     }

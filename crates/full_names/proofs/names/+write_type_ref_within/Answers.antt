@@ -2,7 +2,7 @@ use Rattle.table_schema.specs.declared.table.TableId.TheVariants.{TypeRef}
 use Rattle.navigation.specs.Nesting.{IsScope}
 use Rattle.full_names.specs.Names.{IsOwnText}
 use Rattle.full_names.proofs.TextLemmas.{chain_left_out, chain_alone, chain_nested}
-use Rattle.full_names.proofs.names.+write_type_ref.Goals as goal
+use Rattle.full_names.proofs.names.+write_type_ref_within.Goals as goal
 
 pub returns-then-depth-eq0 : goal.returns-then-depth-eq0
 returns-then-depth-eq0 g t c = λ model shown.
@@ -11,9 +11,9 @@ returns-then-depth-eq0 g t c = λ model shown.
 
 pub returns : goal.returns
 returns g t c = λ model shown.
-    chain_nested g.W.Write.write_str_gives (IsScope model) (IsOwnText model TypeRef) c.args.out.now c.write_own_ref-2.result c.write_type_ref.new.out
+    chain_nested g.W.Write.write_str_gives (IsScope model) (IsOwnText model TypeRef) c.args.out.now c.write_own_ref-2.result c.write_type_ref_within.new.out
     c.write_slash.new.out c.write_own_ref-2.new.out c.args.row c.in-Some.outer c.args.depth c.if-depth-eq0.false (c.in-Some.ensures.sound model shown)
-    (c.in_ok-write_type_ref.ensures model shown) c.in_ok-write_slash.ensures (c.write_own_ref-2.ensures model shown)
+    (c.in_ok-write_type_ref_within.ensures model shown) c.in_ok-write_slash.ensures (c.write_own_ref-2.ensures model shown)
 
 pub returns-in_default : goal.returns-in_default
 returns-in_default g t c = λ model shown.
