@@ -1,4 +1,3 @@
-pub mod TaskFiles
 pub mod Explaining
 pub mod Outlining
 pub mod ShowingUntil

@@ -8,7 +8,7 @@ use Rattle.cli_files.specs.Numbers.{IsHexNumber}
 use Rattle.cli_faults.specs.declared.failure.Failure.{Failure}
 use Rattle.cli_reports.specs.declared.report.Form.{Form}
 use Rattle.cli.specs.Tasks.{AreTokens, IsSeveralTask, IsTokenTask, IsTokensTask}
-use Rattle.cli.specs.declared.task.Task.{Task}
+use Rattle.cli.specs.declared.task.FileTask.{FileTask}
 use Rattle.std.specs.Prelude.{Result}
 use Rattle.cli.proofs.Explaining.{one_more, take_more}
 
@@ -28,13 +28,13 @@ more_read words k d numbers more number lt before is value pushed = (
 )
 
 -- several arguments, or none
-pub several : (form : Form) (words : List (Bor (List ℕ))) (result : Result Task Failure) → (length words ≡ 1 → ⊥) → IsSeveralTask form words result → IsTokensTask form words result
+pub several : (form : Form) (words : List (Bor (List ℕ))) (result : Result FileTask Failure) → (length words ≡ 1 → ⊥) → IsSeveralTask form words result → IsTokensTask form words result
 several form [] result other is = is
 several form (word ∷ []) result other is = absurd (other refl)
 several form (word ∷ next ∷ more) result other is = is
 
 -- one argument
-pub one : (form : Form) (words : List (Bor (List ℕ))) (d : Bor (List ℕ)) (result : Result Task Failure) → length words ≡ 1 → IsTokenTask form (get_or words 0 d).now result
+pub one : (form : Form) (words : List (Bor (List ℕ))) (d : Bor (List ℕ)) (result : Result FileTask Failure) → length words ≡ 1 → IsTokenTask form (get_or words 0 d).now result
     → IsTokensTask form words result
 one form [] d result is task = absurd (omega (arith, is))
 one form (word ∷ []) d result is task = task

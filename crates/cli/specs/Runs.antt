@@ -1,6 +1,5 @@
 -- What a run of the program does with its arguments, and with what reading FILE gave.
-use Rattle.std.specs.Prelude.{◌≡◌, ◌≢◌, ℕ, List, ◌⊎◌, IfErr, IsSomeAnd, map, Option, Result, MatchResult}
-use Rattle.std.specs.Borrow.{Bor}
+use Rattle.std.specs.Prelude.{◌≡◌, ◌≢◌, ℕ, Bool, List, ◌⊎◌, IfErr, map, Option, Result, MatchResult}
 use Rattle.clap.specs.Words.{IsAmong, Text, fault_of}
 use Rattle.clap.specs.declared.error.kind.ErrorKind.{ErrorKind}
 use Rattle.clap.specs.declared.error.kind.ErrorKind.TheVariants as kind
@@ -9,6 +8,8 @@ use Rattle.cli_arguments.specs.Asked.{Gives}
 use Rattle.cli_arguments.specs.CommandLine.{clim}
 use Rattle.cli_faults.specs.declared.failure.Failure.{Failure}
 use Rattle.cli_faults.specs.Status.{IsOutput, status_of}
+use Rattle.cli.specs.declared.task.FileTask.{FileTask}
+use Rattle.cli.specs.declared.task.FileTask.TheVariants as work
 use Rattle.cli.specs.declared.task.Task.{Task}
 use Rattle.cli.specs.declared.task.Task.TheVariants as task
 use Rattle.cli_commands.specs.Commands.{IsChecked, IsDigesting, IsListed, IsLocated, IsMixed, IsOutlined, IsReported, IsRewriting, IsRunOn, StopsBy}
@@ -29,38 +30,36 @@ module _ {W : Type 0} (contents : W → Option (List ℕ)) (before after : W) wh
   abbrev pub EndsWith : (Outcome → Type 0) → ℕ → Type 0
   EndsWith run status = (outcome : Outcome) × run outcome × (status ≡ status_of_outcome outcome)
 
-  -- there is a file, and the run on it ends with this exit code
-  abbrev pub EndsOn : Option (Bor (List ℕ)) → ℕ → (List ℕ → Outcome → Type 0) → Type 0
-  EndsOn file status run = IsSomeAnd file (λ path. EndsWith (run path.now) status)
+  -- the run on what reading a file gave ends with this exit code
+  abbrev pub EndsOnRead : List ℕ → ℕ → (List ℕ → Outcome → Type 0) → Type 0
+  EndsOnRead path status run = EndsWith (IsRunOn contents before after path run) status
 
-  -- the same for what reading that file gave
-  abbrev pub EndsOnRead : Option (Bor (List ℕ)) → ℕ → (List ℕ → List ℕ → Outcome → Type 0) → Type 0
-  EndsOnRead file status run = EndsOn file status (λ path. IsRunOn contents before after path (run path))
+  -- the run of a task on the file at this path, over files of this kind, ends with this exit code
+  abbrev pub IsFileRunOf : {F : Type 0} → (F → Option (List ℕ)) → FileTask → List ℕ → Bool → ℕ → Type 0
+  IsFileRunOf file_contents (work.Print report form) path bare status = EndsOnRead path status (IsReported contents before after report form bare)
+  IsFileRunOf file_contents (work.ShowUntilFault table names) path bare status = EndsOnRead path status (IsShownUntilFault contents before after names table bare)
+  IsFileRunOf file_contents (work.Tokens numbers form) path bare status = EndsOnRead path status (AreReported contents before after numbers.items form bare)
+  IsFileRunOf file_contents work.CheckJson path bare status = EndsWith (IsCheckedAsJson contents before after bare path) status
+  IsFileRunOf file_contents work.CheckWhere path bare status = EndsOnRead path status (IsCheckedWhere contents before after bare)
+  IsFileRunOf file_contents (work.CheckWithin budget) path bare status = EndsOnRead path status (IsChecked contents before after budget bare)
+  IsFileRunOf file_contents (work.Rewrite out) path bare status =
+      EndsWith (λ outcome. IsRunOn contents before after path (IsRewriting contents before after file_contents out.now bare) outcome ⊎ IsMixed contents before after out.now outcome) status
+  IsFileRunOf file_contents (work.Outline form) path bare status = EndsOnRead path status (IsOutlined contents before after form bare)
+  IsFileRunOf file_contents (work.OutlineOf subject form) path bare status = EndsOnRead path status (IsTypeOutlined contents before after form subject bare)
+  IsFileRunOf file_contents work.Strings path bare status = EndsOnRead path status (IsListed contents before after bare)
+  IsFileRunOf file_contents (work.Where offset form) path bare status = EndsOnRead path status (IsLocated contents before after form offset bare)
+  IsFileRunOf file_contents work.Digest path bare status = EndsOnRead path status (IsDigesting contents before after path bare)
+  IsFileRunOf file_contents (work.Compare other options) path bare status =
+      EndsOnRead path status (λ left. IsRunOn contents before after other.now (λ right. IsComparing contents before after options.form options.ignored options.bare left right path other.now))
 
-  -- the run of a task, over files of this kind, ends with this exit code
+  -- the run of a task ends with this exit code
   abbrev pub IsRunOf : {F : Type 0} → (F → Option (List ℕ)) → Task → Ask → ℕ → Type 0
-  IsRunOf file_contents (task.Print report form) ask status = EndsOnRead ask.file status (λ path. IsReported contents before after report form ask.bare)
-  IsRunOf file_contents (task.ShowUntilFault table names) ask status =
-      EndsOnRead ask.file status (λ path. IsShownUntilFault contents before after names table ask.bare)
-  IsRunOf file_contents (task.Tokens numbers form) ask status =
-      EndsOnRead ask.file status (λ path. AreReported contents before after numbers.items form ask.bare)
-  IsRunOf file_contents task.CheckJson ask status = EndsOn ask.file status (λ path. IsCheckedAsJson contents before after ask.bare path)
-  IsRunOf file_contents task.CheckWhere ask status = EndsOnRead ask.file status (λ path. IsCheckedWhere contents before after ask.bare)
-  IsRunOf file_contents (task.CheckWithin budget) ask status = EndsOnRead ask.file status (λ path. IsChecked contents before after budget ask.bare)
+  IsRunOf file_contents (task.OnFile path made) ask status = IsFileRunOf file_contents made path.now ask.bare status
   IsRunOf file_contents (task.CheckEach budget) ask status =
       IsRunOnEach (EndsCheck budget ask.bare ask.quiet) contents before after (map (λ file. file.now) ask.files.items) status
   IsRunOf file_contents (task.CheckListed budget) ask status = IsRunOnList (EndsCheck budget ask.bare ask.quiet) contents before after status
-  IsRunOf file_contents (task.Rewrite out) ask status =
-      EndsOn ask.file status (λ path outcome. IsRunOn contents before after path (IsRewriting contents before after file_contents out.now ask.bare) outcome ⊎ IsMixed contents before after out.now outcome)
-  IsRunOf file_contents (task.Outline form) ask status = EndsOnRead ask.file status (λ path. IsOutlined contents before after form ask.bare)
-  IsRunOf file_contents (task.OutlineOf subject form) ask status = EndsOnRead ask.file status (λ path. IsTypeOutlined contents before after form subject ask.bare)
-  IsRunOf file_contents task.Strings ask status = EndsOnRead ask.file status (λ path. IsListed contents before after ask.bare)
-  IsRunOf file_contents (task.Where offset form) ask status = EndsOnRead ask.file status (λ path. IsLocated contents before after form offset ask.bare)
-  IsRunOf file_contents task.Digest ask status = EndsOnRead ask.file status (λ path. IsDigesting contents before after path ask.bare)
   IsRunOf file_contents task.DigestEach ask status =
       IsRunOnEach (EndsDigest ask.bare) contents before after (map (λ file. file.now) ask.files.items) status
-  IsRunOf file_contents (task.Compare other options) ask status =
-      EndsOnRead ask.file status (λ path left. IsRunOn contents before after other.now (λ right. IsComparing contents before after options.form options.ignored options.bare left right path other.now))
   IsRunOf file_contents (task.Explain words) ask status =
       EndsWith (λ outcome. IfErr outcome (λ stopped. (failure : Failure) × StopsBy failure stopped × IsOutput failure)) status
 

@@ -1,5 +1,5 @@
 -- What the arguments ask the program to do.
-use Rattle.std.specs.Prelude.{◌≡◌, ℕ, ◌%◌, ◌^◌, ◌||◌, Bool, true, false, List, [], ◌∷◌, ◌++◌, Option, Some, None, Result, Ok, Err, IfSome, IsOkAnd, MatchOption, MatchResult, codes, if◌then◌else◌, is_some, map}
+use Rattle.std.specs.Prelude.{◌≡◌, ℕ, ◌%◌, ◌^◌, ◌||◌, Bool, true, false, List, [], ◌∷◌, ◌++◌, Option, Some, None, Result, Ok, Err, IsOkAnd, MatchOption, MatchResult, codes, if◌then◌else◌, is_some, map}
 use Rattle.std.specs.List.{All}
 use Rattle.std.specs.Borrow.{Bor}
 use Rattle.std.specs.Str.{bytes_eq}
@@ -15,6 +15,8 @@ use Rattle.table_schema.specs.declared.table.TableId.{TableId}
 use Rattle.cli_reports.specs.declared.report.Report.TheVariants as report
 use Rattle.comparison.specs.declared.ignored.IgnoredColumns.{IgnoredColumns}
 use Rattle.cli.specs.Columns.{AreNamed, NamesSome}
+use Rattle.cli.specs.declared.task.FileTask.{FileTask}
+use Rattle.cli.specs.declared.task.FileTask.TheVariants as work
 use Rattle.cli.specs.declared.task.Task.{Task}
 use Rattle.cli.specs.declared.task.Task.TheVariants as task
 use Rattle.cli_files.specs.Names.{IsFullName, NamesCode, NamesTable}
@@ -54,9 +56,9 @@ IsNoOffset given (failed.Usage (wrong.NoOffset word)) = word.now ≡ given
 IsNoOffset given _ = ⊥
 
 -- the task is to print what the token names, in this form, if the argument is a token; else the failure says that it is not
-abbrev pub IsTokenTask : Form → List ℕ → Result Task Failure → Type 0
+abbrev pub IsTokenTask : Form → List ℕ → Result FileTask Failure → Type 0
 IsTokenTask form hex result =
-    MatchResult result (λ made. IsHexNumber hex × (made ≡ task.Print (report.Token (digits_value 16 hex)) form))
+    MatchResult result (λ made. IsHexNumber hex × (made ≡ work.Print (report.Token (digits_value 16 hex)) form))
     (λ failure. IsNoToken hex failure × (¬ IsHexNumber hex))
 
 -- this is the first of the arguments that names nothing
@@ -75,24 +77,24 @@ IsFirstNoToken words failure =
     (word : Bor (List ℕ)) × IsFirstUnknown (λ word. IsHexNumber word.now) words word × IsNoToken word.now failure
 
 -- the task is to print what each of these numbers names, in this form
-abbrev pub IsOnTokens : Form → List (Bor (List ℕ)) → Task → Type 0
-IsOnTokens form words (task.Tokens numbers asked) = AreTokens words numbers.items × (asked ≡ form)
+abbrev pub IsOnTokens : Form → List (Bor (List ℕ)) → FileTask → Type 0
+IsOnTokens form words (work.Tokens numbers asked) = AreTokens words numbers.items × (asked ≡ form)
 IsOnTokens form words _ = ⊥
 
 -- the task is to print what each of several tokens names; else the failure says which is not a token
-abbrev pub IsSeveralTask : Form → List (Bor (List ℕ)) → Result Task Failure → Type 0
+abbrev pub IsSeveralTask : Form → List (Bor (List ℕ)) → Result FileTask Failure → Type 0
 IsSeveralTask form words result = MatchResult result (IsOnTokens form words) (IsFirstNoToken words)
 
 -- the task is to print what one token names, or what each of several names
-abbrev pub IsTokensTask : Form → List (Bor (List ℕ)) → Result Task Failure → Type 0
+abbrev pub IsTokensTask : Form → List (Bor (List ℕ)) → Result FileTask Failure → Type 0
 IsTokensTask form (word ∷ []) result = IsTokenTask form word.now result
 IsTokensTask form words result = IsSeveralTask form words result
 
 -- the task is to print what has the byte if the argument is an offset; else the failure says that it is not
-abbrev pub IsWhereTask : Form → List ℕ → Result Task Failure → Type 0
+abbrev pub IsWhereTask : Form → Bor (List ℕ) → Result FileTask Failure → Type 0
 IsWhereTask form given result =
-    MatchResult result (λ made. (offset : ℕ) × IsOffset given offset × (made ≡ task.Where offset form))
-    (λ failure. IsNoOffset given failure × ((offset : ℕ) → ¬ IsOffset given offset))
+    MatchResult result (λ made. (offset : ℕ) × IsOffset given.now offset × (made ≡ work.Where offset form))
+    (λ failure. IsNoOffset given.now failure × ((offset : ℕ) → ¬ IsOffset given.now offset))
 
 -- whether columns are named, by whether the arguments have `--names`
 abbrev pub names_of : Bool → Names
@@ -108,13 +110,13 @@ abbrev pub NamesNoTable : Option (Bor (List ℕ)) → Failure → Type 0
 NamesNoTable part failure = MatchOption part ⊥ (λ given. IsNoTable given.now failure × ((table : TableId) → ¬ NamesTable given.now table))
 
 -- the task of the table that the argument names, or of all if there is no argument; else the failure says that it names none
-abbrev pub IsOnTable : (Option TableId → Task) → Option (Bor (List ℕ)) → Result Task Failure → Type 0
+abbrev pub IsOnTable : (Option TableId → FileTask) → Option (Bor (List ℕ)) → Result FileTask Failure → Type 0
 IsOnTable task_on part result = MatchResult result (λ made. (table : Option TableId) × IsTableNamed part table × (made ≡ task_on table)) (NamesNoTable part)
 
 -- the task of `show`, by whether the arguments have `--until-fault`, which prints text alone
-abbrev pub IsShowTask : Bool → Form → Names → Option (Bor (List ℕ)) → Result Task Failure → Type 0
-IsShowTask false form names part result = IsOnTable (λ table. task.Print (report_of names table) form) part result
-IsShowTask true Text names part result = IsOnTable (λ table. task.ShowUntilFault table names) part result
+abbrev pub IsShowTask : Bool → Form → Names → Option (Bor (List ℕ)) → Result FileTask Failure → Type 0
+IsShowTask false form names part result = IsOnTable (λ table. work.Print (report_of names table) form) part result
+IsShowTask true Text names part result = IsOnTable (λ table. work.ShowUntilFault table names) part result
 IsShowTask true JsonLines names part result = result ≡ Err (failed.Usage wrong.UntilFaultAsJson)
 
 -- the argument names this type: by its token, or else by its full name
@@ -123,9 +125,9 @@ NamesType word (subject.Row row) = IsTypeToken word × (row ≡ digits_value 16 
 NamesType word (subject.Named namespace name) = (¬ IsTypeToken word) × IsFullName word namespace.now name.now
 
 -- the task is to print the outline of the type that the argument names, or of all if there is none
-abbrev pub IsOutlineTask : Form → Option (Bor (List ℕ)) → Task → Type 0
+abbrev pub IsOutlineTask : Form → Option (Bor (List ℕ)) → FileTask → Type 0
 IsOutlineTask form part made =
-    MatchOption part (made ≡ task.Outline form) (λ given. (named : Subject) × NamesType given.now named × (made ≡ task.OutlineOf named form))
+    MatchOption part (made ≡ work.Outline form) (λ given. (named : Subject) × NamesType given.now named × (made ≡ work.OutlineOf named form))
 
 -- the argument names a fault
 abbrev pub NamesFault : Bor (List ℕ) → Type 0
@@ -143,14 +145,14 @@ IsExplainTask words result =
     (λ failure. (word : Bor (List ℕ)) × IsFirstUnknown NamesFault words word × IsNoCode word.now failure)
 
 -- the task of `check` for one file, with or without a budget
-abbrev pub task_on_one : Option ℕ → Task
-task_on_one None = task.Print report.Check Text
-task_on_one (Some bytes) = task.CheckWithin bytes
+abbrev pub check_task : Option ℕ → FileTask
+check_task None = work.Print report.Check Text
+check_task (Some bytes) = work.CheckWithin bytes
 
 -- the task of `check` for these files, which for one file prints what a quiet check does not
 abbrev pub task_on_files : Option ℕ → Bool → List (Bor (List ℕ)) → Result Task Failure
 task_on_files budget quiet [] = Err (failed.Usage wrong.NoFile)
-task_on_files budget quiet (file ∷ []) = Ok (if quiet then task.CheckEach budget else task_on_one budget)
+task_on_files budget quiet (file ∷ []) = Ok (if quiet then task.CheckEach budget else task.OnFile file (check_task budget))
 task_on_files budget quiet (file ∷ next ∷ more) = Ok (task.CheckEach budget)
 
 -- the task of `check` for a list of files, besides which no file may be given
@@ -161,7 +163,7 @@ task_on_list budget (file ∷ more) = Err (failed.Usage wrong.FilesAndList)
 -- the task of `check --json` for these files, of which there may be one
 abbrev pub json_task_on_files : List (Bor (List ℕ)) → Result Task Failure
 json_task_on_files [] = Err (failed.Usage wrong.NoFile)
-json_task_on_files (file ∷ []) = Ok task.CheckJson
+json_task_on_files (file ∷ []) = Ok (task.OnFile file work.CheckJson)
 json_task_on_files (file ∷ next ∷ more) = Err (failed.Usage wrong.JsonOfOneFile)
 
 -- the task of `check --json`, beside which there may be no list of files, no budget and no `-q`
@@ -173,7 +175,7 @@ json_task ask =
 -- the task of `check --where` for these files, of which there may be one
 abbrev pub where_task_on_files : List (Bor (List ℕ)) → Result Task Failure
 where_task_on_files [] = Err (failed.Usage wrong.NoFile)
-where_task_on_files (file ∷ []) = Ok task.CheckWhere
+where_task_on_files (file ∷ []) = Ok (task.OnFile file work.CheckWhere)
 where_task_on_files (file ∷ next ∷ more) = Err (failed.Usage wrong.WhereOfOneFile)
 
 -- the task of `check --where`, beside which there may be no list of files, no budget, no `-q` and no `--json`
@@ -196,34 +198,49 @@ IsCheckTask false JsonLines ask result = result ≡ json_task ask
 IsCheckTask false Text ask result = IsTextCheckTask ask result
 
 -- the task of `rewrite`, whose OUT may not be `-`
-abbrev pub rewrite_task : Bor (List ℕ) → Result Task Failure
-rewrite_task out = if bytes_eq out.now (codes "-") then Err (failed.Usage wrong.OutputIsDash) else Ok (task.Rewrite out)
+abbrev pub rewrite_task : Option (Bor (List ℕ)) → Result FileTask Failure
+rewrite_task None = Err (failed.Usage wrong.NoFile)
+rewrite_task (Some out) = if bytes_eq out.now (codes "-") then Err (failed.Usage wrong.OutputIsDash) else Ok (work.Rewrite out)
 
--- the task of `digest` for these files, of which there is at least one
-abbrev pub digest_task : List (Bor (List ℕ)) → Task
-digest_task (file ∷ next ∷ more) = task.DigestEach
-digest_task _ = task.Digest
+-- the task of `digest` for these files
+abbrev pub digest_task : List (Bor (List ℕ)) → Result Task Failure
+digest_task [] = Err (failed.Usage wrong.NoFile)
+digest_task (file ∷ []) = Ok (task.OnFile file work.Digest)
+digest_task (file ∷ next ∷ more) = Ok task.DigestEach
 
 -- the task is to compare with this file, besides the columns that the arguments name, in this form; else the failure
 -- reports the first argument that names none
-abbrev pub IsCompareTask : Form → Ask → Bor (List ℕ) → Result Task Failure → Type 0
+abbrev pub IsCompareTask : Form → Ask → Bor (List ℕ) → Result FileTask Failure → Type 0
 IsCompareTask form ask other result =
     MatchResult result
     (λ made. (ignored : IgnoredColumns) × AreNamed ask.ignored.items ignored
-    × (made ≡ task.Compare other (record { bare = ask.bare; form = form; ignored = ignored })))
+    × (made ≡ work.Compare other (record { bare = ask.bare; form = form; ignored = ignored })))
     (λ failure. (word : Bor (List ℕ)) × IsFirstUnknown NamesSome ask.ignored.items word × IsNoColumn word.now failure)
+
+-- the task takes the value after the file; a usage error if it is missing
+abbrev pub IsOnSecond : (Bor (List ℕ) → Result FileTask Failure → Type 0) → Option (Bor (List ℕ)) → Result FileTask Failure → Type 0
+IsOnSecond is_task second result = MatchOption second (result ≡ Err (failed.Usage wrong.NoFile)) (λ word. is_task word result)
+
+-- the task is this work on the file; a usage error if there is no such work, or no file
+abbrev pub task_on : Option (Bor (List ℕ)) → Result FileTask Failure → Result Task Failure
+task_on file (Err failure) = Err failure
+task_on None (Ok made) = Err (failed.Usage wrong.NoFile)
+task_on (Some file) (Ok made) = Ok (task.OnFile file made)
+
+abbrev pub IsOnFile : Option (Bor (List ℕ)) → (Result FileTask Failure → Type 0) → Result Task Failure → Type 0
+IsOnFile file is_task result = (made : Result FileTask Failure) × is_task made × (result ≡ task_on file made)
 
 -- the task of a subcommand
 abbrev pub IsTask : Subcommand → Ask → Result Task Failure → Type 0
-IsTask word.Root ask result = result ≡ Ok (task.Print report.Root (form_of ask.json))
+IsTask word.Root ask result = result ≡ task_on ask.file (Ok (work.Print report.Root (form_of ask.json)))
 IsTask word.Check ask result = IsCheckTask ask.locates (form_of ask.json) ask result
-IsTask word.Show ask result = IsShowTask ask.until_fault (form_of ask.json) (names_of ask.names) ask.part result
-IsTask word.Types ask result = result ≡ Ok (task.Print report.Types (form_of ask.json))
-IsTask word.Outline ask result = IsOkAnd result (IsOutlineTask (form_of ask.json) ask.part)
-IsTask word.Strings ask result = result ≡ Ok task.Strings
-IsTask word.Token ask result = IsTokensTask (form_of ask.json) ask.tokens.items result
-IsTask word.Where ask result = IfSome ask.second (λ word. IsWhereTask (form_of ask.json) word.now result)
-IsTask word.Rewrite ask result = IfSome ask.second (λ out. result ≡ rewrite_task out)
-IsTask word.Digest ask result = result ≡ Ok (digest_task ask.files.items)
-IsTask word.Compare ask result = IfSome ask.second (λ other. IsCompareTask (form_of ask.json) ask other result)
+IsTask word.Show ask result = IsOnFile ask.file (IsShowTask ask.until_fault (form_of ask.json) (names_of ask.names) ask.part) result
+IsTask word.Types ask result = result ≡ task_on ask.file (Ok (work.Print report.Types (form_of ask.json)))
+IsTask word.Outline ask result = IsOnFile ask.file (λ made. IsOkAnd made (IsOutlineTask (form_of ask.json) ask.part)) result
+IsTask word.Strings ask result = result ≡ task_on ask.file (Ok work.Strings)
+IsTask word.Token ask result = IsOnFile ask.file (IsTokensTask (form_of ask.json) ask.tokens.items) result
+IsTask word.Where ask result = IsOnFile ask.file (IsOnSecond (IsWhereTask (form_of ask.json)) ask.second) result
+IsTask word.Rewrite ask result = result ≡ task_on ask.file (rewrite_task ask.second)
+IsTask word.Digest ask result = result ≡ digest_task ask.files.items
+IsTask word.Compare ask result = IsOnFile ask.file (IsOnSecond (IsCompareTask (form_of ask.json) ask) ask.second) result
 IsTask word.Explain ask result = IsExplainTask ask.codes.items result

@@ -9,9 +9,12 @@ use table_schema::{TableId, cell_count};
 /// The largest length of an argument for which a name is looked for, in bytes. It bounds the time.
 const LONGEST: usize = 64;
 
-/// The number of edits from which on a name is too far from an argument.
-pub(crate) fn limit_of(word: &str) -> usize {
-    if word.len() > LONGEST {
+/// The largest length of a name that can be near, in bytes.
+pub(crate) const LONGEST_NAME: usize = 2 * LONGEST;
+
+/// The number of edits from which on a name is too far from a part of an argument, whose other parts have `others` bytes.
+pub(crate) fn limit_of(word: &str, others: usize) -> usize {
+    if word.len().saturating_add(others) > LONGEST {
         0
     } else {
         2 + word.len() / 3
@@ -21,7 +24,7 @@ pub(crate) fn limit_of(word: &str) -> usize {
 /// The number of edits (Levenshtein) that lead from an argument to a name, if it is below a limit and there is memory for it.
 /// Case does not matter. The empty name is far from all, and so is a name with far more bytes than the argument may have.
 pub(crate) fn edits_below(alloc: Global, word: &str, name: &str, limit: usize) -> Option<usize> {
-    if limit == 0 || name.is_empty() || name.len() > 2 * LONGEST {
+    if limit == 0 || name.is_empty() || name.len() > LONGEST_NAME {
         return None;
     }
     let word = word.to_ascii_lowercase(alloc).ok()?;
@@ -32,7 +35,7 @@ pub(crate) fn edits_below(alloc: Global, word: &str, name: &str, limit: usize) -
 
 /// The table whose name is nearest to an argument; `None` if all are far. Of several the first one.
 pub(crate) fn nearest_table(alloc: Global, word: &str) -> Option<TableId> {
-    let mut limit = limit_of(word);
+    let mut limit = limit_of(word, 0);
     let mut nearest = None;
     for table in TableId::all() {
         if let Some(edits) = edits_below(alloc, word, table.name(), limit) {
@@ -45,7 +48,7 @@ pub(crate) fn nearest_table(alloc: Global, word: &str) -> Option<TableId> {
 
 /// The rule whose name is nearest to an argument; `None` if all are far. Of several the first one.
 pub(crate) fn nearest_code(alloc: Global, word: &str) -> Option<FaultCode> {
-    let mut limit = limit_of(word);
+    let mut limit = limit_of(word, 0);
     let mut nearest = None;
     for code in all_codes() {
         if let Some(edits) = edits_below(alloc, word, Fault::new(*code, 0).name(), limit) {
@@ -58,7 +61,7 @@ pub(crate) fn nearest_code(alloc: Global, word: &str) -> Option<FaultCode> {
 
 /// The column of a table whose name is nearest to an argument; `None` if all are far. Of several the first one.
 fn nearest_in(alloc: Global, table: TableId, word: &str) -> Option<&'static str> {
-    let mut limit = limit_of(word);
+    let mut limit = limit_of(word, 0);
     let mut nearest = None;
     for cell_index in 0..cell_count(table) {
         let name = column_name(table, cell_index);
@@ -90,7 +93,7 @@ pub(crate) fn nearest_command(alloc: Global, words: &[&str]) -> Option<&'static 
     let ["help", word, ..] = words else {
         return None;
     };
-    let mut limit = limit_of(word);
+    let mut limit = limit_of(word, 0);
     let mut nearest = None;
     for command in COMMANDS.iter() {
         if let Some(edits) = edits_below(alloc, word, command, limit) {

@@ -1,15 +1,16 @@
 //! The type whose name is nearest to one that no type has.
-ghost use Rattle.std.specs.Prelude.{◌≤◌};
+ghost use Rattle.std.specs.Prelude.{◌≤◌, ◌<◌};
+ghost use Rattle.table_schema.specs.CellColumns.{cell_count};
 ghost use Rattle.table_schema.specs.declared.table.TableId.TheVariants.{TypeDef};
 ghost use Rattle.opening.specs.Views.{HasModel, row_count};
 
-use crate::nearest::{edits_below, limit_of};
+use crate::nearest::{LONGEST_NAME, edits_below, limit_of};
 use cli_faults::{Escaped, Stop};
 use cli_files::send_message;
 use cli_outline::Subject;
 use cli_reports::open;
 use cli_reports::type_lines::{NAME, NAMESPACE, text_of};
-use opening::{TableId, View};
+use opening::{ReadCells, TableId, View};
 use std::alloc::Global;
 use std::fmt;
 use std::io::Write;
@@ -49,16 +50,37 @@ impl fmt::Display for MissingType<'_> {
     }
 }
 
-/// The names of the type in a row of TypeDef.
-fn names_at<'a>(view: &View<'a>, row: u32) -> TypeName<'a>
+/// Whether a text of a row of TypeDef is as short as a name that can be near. It looks at no more bytes than that.
+fn is_short(view: &View<'_>, row: u32, cell: usize) -> bool
+    requires first { 1 ≤ row }
+    requires last { row ≤ row_count view.now TypeDef }
+    requires cell { cell < cell_count TypeDef }
+{
+    match (
+        view.index_in_heap(TableId::TypeDef, row, cell),
+        view.strings_heap(),
+    ) {
+        (Some(index), Some(heap)) if index > 0 => {
+            let mut near = heap.iter().skip(index as usize).take(LONGEST_NAME + 1);
+            near.any(|byte| *byte == 0)
+        }
+        _ => true,
+    }
+}
+
+/// The names of the type in a row of TypeDef; `None` if they are too long to be near.
+fn names_at<'a>(view: &View<'a>, row: u32) -> Option<TypeName<'a>>
     requires model { HasModel view.now }
     requires first { 1 ≤ row }
     requires last { row ≤ row_count view.now TypeDef }
 {
-    TypeName {
+    if !is_short(view, row, NAMESPACE) || !is_short(view, row, NAME) {
+        return None;
+    }
+    Some(TypeName {
         namespace: text_of(view, row, NAMESPACE),
         name: text_of(view, row, NAME),
-    }
+    })
 }
 
 /// The number of edits that lead from the names that are wanted to those of a type, if it is below a limit. If no
@@ -82,10 +104,12 @@ fn edits_to(
 fn nearest_type<'a>(alloc: Global, view: &View<'a>, wanted: TypeName<'_>) -> Option<TypeName<'a>>
     requires model { HasModel view.now }
 {
-    let mut limit = limit_of(wanted.name);
+    let mut limit = limit_of(wanted.name, wanted.namespace.len());
     let mut nearest = None;
     for earlier in 0..view.count(TableId::TypeDef) {
-        let found = names_at(view, earlier + 1);
+        let Some(found) = names_at(view, earlier + 1) else {
+            continue;
+        };
         if let Some(edits) = edits_to(alloc, wanted, found, limit) {
             limit = edits;
             nearest = Some(found);

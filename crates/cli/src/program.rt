@@ -1,19 +1,17 @@
-ghost use Rattle.std.specs.Prelude.{◌≡◌, ◌≢◌, ◌≤◌, IfErr, Ok, map};
+ghost use Rattle.std.specs.Prelude.{◌≡◌, ◌≢◌, ◌≤◌, IfErr, map};
 ghost use Rattle.std.specs.IoError.{error_kind};
 ghost use Rattle.std.specs.declared.io.ErrorKind.TheVariants as cause;
 ghost use Rattle.clap.specs.Words.{kind_of};
-ghost use Rattle.cli_arguments.specs.Asked.{HasFile, HasFirst, HasSecond};
 ghost use Rattle.cli_faults.specs.declared.failure.Failure.{Failure as Failed};
 ghost use Rattle.cli_faults.specs.Status.{IsOutput};
 ghost use Rattle.cli_commands.specs.Checks.{EndsCheck};
 ghost use Rattle.cli_commands.specs.Commands.{StopsBy};
 ghost use Rattle.cli_commands.specs.Several.{IsRunOnEach, IsRunOnList};
-ghost use Rattle.cli.specs.Runs.{Does, IsRunOf, IsUsage, Ran};
-ghost use Rattle.cli.specs.Tasks.{IsTask};
+ghost use Rattle.cli.specs.Runs.{Does, IsFileRunOf, IsRunOf, IsUsage, Ran};
 
 use crate::explain_fault::explain;
 use crate::outline_type::outline_type;
-use crate::task::{Task, task_of};
+use crate::task::{FileTask, Task, task_of};
 use crate::until_fault::show_until_fault;
 use crate::usage_text::usage_text;
 use clap::error::ErrorKind;
@@ -112,9 +110,6 @@ fn run<R: Files + Input + AllocGlobal, W: Write, E: Write>(
     out: &mut W,
     err: &mut E,
 ) -> u8
-    requires file { HasFile ask.now }
-    requires first { HasFirst ask.now }
-    requires second { HasSecond ask.now }
     ensures limit { result ≤ 3 }
     ensures does { Does W.contents out.old out.new R.File.contents ask.now result }
     ensures quiet { result ≡ 0 → err.new ≡ err.old }
@@ -125,7 +120,7 @@ fn run<R: Files + Input + AllocGlobal, W: Write, E: Write>(
     }
 }
 
-/// Runs the task that these arguments ask for, reports why it stopped early, and returns the exit code.
+/// Runs a task of these arguments, reports why it stopped early, and returns the exit code.
 fn run_task<R: Files + Input + AllocGlobal, W: Write, E: Write>(
     rt: &R,
     task: Task<'_>,
@@ -133,56 +128,69 @@ fn run_task<R: Files + Input + AllocGlobal, W: Write, E: Write>(
     out: &mut W,
     err: &mut E,
 ) -> u8
-    requires asked { IsTask ask.now.subcommand ask.now (Ok task) }
-    requires file { HasFile ask.now }
-    requires first { HasFirst ask.now }
     ensures limit { result ≤ 3 }
     ensures run { IsRunOf W.contents out.old out.new R.File.contents task.entry ask.now result }
     ensures quiet { result ≡ 0 → err.new ≡ err.old }
 {
-    let (alloc, file, bare) = (rt.alloc(), ask.file, ask.bare);
     match task {
-        Task::Print(report, form) => status(
-            alloc,
-            print_file(rt, report, form, file.unwrap(), bare, out),
-            err,
-        ),
-        Task::ShowUntilFault(table, names) => status(
-            alloc,
-            show_until_fault(rt, table, names, file.unwrap(), bare, out),
-            err,
-        ),
-        Task::Tokens(numbers, form) => status(
-            alloc,
-            print_tokens(rt, numbers.as_slice(), form, file.unwrap(), bare, out),
-            err,
-        ),
-        Task::CheckJson => status(alloc, check_json(rt, file.unwrap(), bare, out), err),
-        Task::CheckWhere => status(alloc, check_where(rt, file.unwrap(), bare, out), err),
-        Task::CheckWithin(budget) => {
-            status(alloc, check_file(rt, budget, file.unwrap(), bare, out), err)
-        }
+        Task::OnFile(file, task) => run_on_file(rt, task, file, ask.bare, out, err),
         Task::CheckEach(budget) => check_named(rt, ask, budget, out, err),
         Task::CheckListed(budget) => check_list(rt, ask, budget, out, err),
-        Task::Rewrite(path) => status(alloc, rewrite_file(rt, path, file.unwrap(), bare, out), err),
-        Task::Outline(form) => status(alloc, outline_file(rt, form, file.unwrap(), bare, out), err),
-        Task::OutlineOf(subject, form) => {
-            outline_type(rt, form, subject, file.unwrap(), bare, out, err)
+        Task::DigestEach => digest_files(rt, ask.files.as_slice(), ask.bare, out, err),
+        Task::Explain(words) => status(rt.alloc(), explain_words(rt.alloc(), words, out), err),
+    }
+}
+
+/// Runs a task on one file, reports why it stopped early, and returns the exit code.
+fn run_on_file<R: Files + Input + AllocGlobal, W: Write, E: Write>(
+    rt: &R,
+    task: FileTask<'_>,
+    file: &str,
+    bare: bool,
+    out: &mut W,
+    err: &mut E,
+) -> u8
+    ensures limit { result ≤ 3 }
+    ensures run { IsFileRunOf W.contents out.old out.new R.File.contents task.entry file.now bare result }
+    ensures quiet { result ≡ 0 → err.new ≡ err.old }
+{
+    let alloc = rt.alloc();
+    match task {
+        FileTask::Print(report, form) => {
+            status(alloc, print_file(rt, report, form, file, bare, out), err)
         }
-        Task::Strings => status(alloc, list_strings(rt, file.unwrap(), bare, out), err),
-        Task::Where(offset, form) => status(
-            alloc,
-            locate_in(rt, form, offset, file.unwrap(), bare, out),
-            err,
-        ),
-        Task::Digest => status(alloc, digest_file(rt, file.unwrap(), bare, out), err),
-        Task::DigestEach => digest_files(rt, ask.files.as_slice(), bare, out, err),
-        Task::Compare(other, options) => status(
-            alloc,
-            compare_files(rt, file.unwrap(), other, &options, out),
-            err,
-        ),
-        Task::Explain(words) => status(alloc, explain_words(alloc, words, out), err),
+        FileTask::ShowUntilFault(table, names) => {
+            status(
+                alloc,
+                show_until_fault(rt, table, names, file, bare, out),
+                err,
+            )
+        }
+        FileTask::Tokens(numbers, form) => {
+            status(
+                alloc,
+                print_tokens(rt, numbers.as_slice(), form, file, bare, out),
+                err,
+            )
+        }
+        FileTask::CheckJson => status(alloc, check_json(rt, file, bare, out), err),
+        FileTask::CheckWhere => status(alloc, check_where(rt, file, bare, out), err),
+        FileTask::CheckWithin(budget) => {
+            status(alloc, check_file(rt, budget, file, bare, out), err)
+        }
+        FileTask::Rewrite(path) => status(alloc, rewrite_file(rt, path, file, bare, out), err),
+        FileTask::Outline(form) => status(alloc, outline_file(rt, form, file, bare, out), err),
+        FileTask::OutlineOf(subject, form) => {
+            outline_type(rt, form, subject, file, bare, out, err)
+        }
+        FileTask::Strings => status(alloc, list_strings(rt, file, bare, out), err),
+        FileTask::Where(offset, form) => {
+            status(alloc, locate_in(rt, form, offset, file, bare, out), err)
+        }
+        FileTask::Digest => status(alloc, digest_file(rt, file, bare, out), err),
+        FileTask::Compare(other, options) => {
+            status(alloc, compare_files(rt, file, other, &options, out), err)
+        }
     }
 }
 

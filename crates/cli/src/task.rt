@@ -1,9 +1,8 @@
 //! What the arguments ask the program to do.
 ghost use Rattle.std.specs.Prelude.{◌≡◌, IfErr, IfOk};
-ghost use Rattle.cli_arguments.specs.Asked.{HasSecond};
 ghost use Rattle.cli_prefix.specs.Before.{report_of};
-ghost use Rattle.cli.specs.declared.task.Task.TheVariants as task;
-ghost use Rattle.cli.specs.Tasks.{AreTokens, IsCheckTask, IsCompareTask, IsExplainTask, IsOutlineTask, IsOnTable, IsShowTask, IsTableNamed, IsTask, IsFirstNoToken, IsSeveralTask, IsTextCheckTask, IsTokenTask, IsTokensTask, IsWhereTask, NamesNoTable, NamesType, digest_task, json_task, names_of, rewrite_task, task_on_files, task_on_list, task_on_one, where_task};
+ghost use Rattle.cli.specs.declared.task.FileTask.TheVariants as task;
+ghost use Rattle.cli.specs.Tasks.{AreTokens, IsCheckTask, IsCompareTask, IsExplainTask, IsOutlineTask, IsOnTable, IsShowTask, IsTableNamed, IsTask, IsFirstNoToken, IsOnSecond, IsSeveralTask, IsTextCheckTask, IsTokenTask, IsTokensTask, IsWhereTask, NamesNoTable, NamesType, check_task, digest_task, json_task, names_of, rewrite_task, task_on, task_on_files, task_on_list, where_task};
 
 use crate::columns::columns_of;
 use crate::nearest::{nearest_code, nearest_column, nearest_table};
@@ -24,66 +23,84 @@ use table_schema::TableId;
 const STANDARD_OUTPUT: &str = "-";
 
 /// What to do.
-#[derive(Debug, Drop)]
+#[derive(Drop)]
 pub(crate) enum Task<'a> {
-    /// Print something of a file, in this form.
-    Print(Report, Form),
-    /// Print the rows of a file that come before its first broken rule: those of one table, or of all.
-    ShowUntilFault(Option<TableId>, Names),
-    /// Print what each of these tokens names in a file, in this form.
-    Tokens(Vec<u32>, Form),
-    /// Check a file against the rules, and print a JSON value.
-    CheckJson,
-    /// Check a file against the rules, and print what has the byte at the offset of a fault.
-    CheckWhere,
-    /// Check a file against the rules. At most this number of signature blob bytes is checked.
-    CheckWithin(u64),
+    /// Work on the file at this path.
+    OnFile(&'a str, FileTask<'a>),
     /// Check each of several files against the rules, with at most this number of signature blob bytes for each.
     CheckEach(Option<u64>),
     /// The same for the files that the standard input lists.
     CheckListed(Option<u64>),
-    /// Write the canonical root of a file to this path.
-    Rewrite(&'a str),
-    /// Print the declarations of a file, in this form.
-    Outline(Form),
-    /// Print those of one type.
-    OutlineOf(Subject<'a>, Form),
-    /// Print the user strings of a file.
-    Strings,
-    /// Print what has the byte at this offset of a file, in this form.
-    Where(u64, Form),
-    /// Print the digest of the canonical root of a file.
-    Digest,
-    /// Print those of several files.
+    /// Print the digests of the canonical roots of several files.
     DigestEach,
-    /// Print what differs between a file and the one at this path.
-    Compare(&'a str, CompareOptions),
     /// Explain the faults that these arguments name, or list all if there is none.
     Explain(&'a [&'a str]),
 }
 
-/// The task of the arguments. It is known before the file is read.
+/// What to do with one file.
+#[derive(Drop)]
+pub(crate) enum FileTask<'a> {
+    /// Print something of it, in this form.
+    Print(Report, Form),
+    /// Print the rows that come before its first broken rule: those of one table, or of all.
+    ShowUntilFault(Option<TableId>, Names),
+    /// Print what each of these tokens names, in this form.
+    Tokens(Vec<u32>, Form),
+    /// Check it against the rules, and print a JSON value.
+    CheckJson,
+    /// Check it against the rules, and print what has the byte at the offset of a fault.
+    CheckWhere,
+    /// Check it against the rules. At most this number of signature blob bytes is checked.
+    CheckWithin(u64),
+    /// Write its canonical root to this path.
+    Rewrite(&'a str),
+    /// Print its declarations, in this form.
+    Outline(Form),
+    /// Print those of one type.
+    OutlineOf(Subject<'a>, Form),
+    /// Print its user strings.
+    Strings,
+    /// Print what has the byte at this offset, in this form.
+    Where(u64, Form),
+    /// Print the digest of its canonical root.
+    Digest,
+    /// Print what differs between it and the file at this path.
+    Compare(&'a str, CompareOptions),
+}
+
+/// The task of the arguments. It is known before the file is read. A value that is missing is a usage error.
 pub(crate) fn task_of<'a>(alloc: Global, ask: &'a Ask<'a>) -> Result<Task<'a>, Failure<'a>>
-    requires { HasSecond ask.now }
     ensures { IsTask ask.now.subcommand ask.now result }
 {
     let form = form_of(ask.json);
-    Ok(match ask.subcommand {
-        Subcommand::Root => Task::Print(Report::Root, form),
-        Subcommand::Check => return check_of(ask, form),
-        Subcommand::Show => return show_of(alloc, ask, form),
-        Subcommand::Types => Task::Print(Report::Types, form),
-        Subcommand::Outline => outline_of(ask.part, form),
-        Subcommand::Strings => Task::Strings,
-        Subcommand::Token => return tokens_of(alloc, ask.tokens.as_slice(), form),
-        Subcommand::Where => return where_of(ask.second.unwrap(), form),
-        Subcommand::Rewrite => return rewrite_of(ask.second.unwrap()),
+    match ask.subcommand {
+        Subcommand::Root => on_file(ask.file, Ok(FileTask::Print(Report::Root, form))),
+        Subcommand::Check => check_of(ask, form),
+        Subcommand::Show => on_file(ask.file, show_of(alloc, ask, form)),
+        Subcommand::Types => on_file(ask.file, Ok(FileTask::Print(Report::Types, form))),
+        Subcommand::Outline => on_file(ask.file, Ok(outline_of(ask.part, form))),
+        Subcommand::Strings => on_file(ask.file, Ok(FileTask::Strings)),
+        Subcommand::Token => on_file(ask.file, tokens_of(alloc, ask.tokens.as_slice(), form)),
+        Subcommand::Where => on_file(ask.file, where_of(ask.second, form)),
+        Subcommand::Rewrite => on_file(ask.file, rewrite_of(ask.second)),
         Subcommand::Digest => digest_of(ask.files.as_slice()),
-        Subcommand::Compare => {
-            return comparison_of(alloc, ask, ask.second.unwrap(), form);
-        }
-        Subcommand::Explain => return explanation_of(alloc, ask.codes.as_slice()),
-    })
+        Subcommand::Compare => on_file(ask.file, comparison_of(alloc, ask, form)),
+        Subcommand::Explain => explanation_of(alloc, ask.codes.as_slice()),
+    }
+}
+
+/// The task on the file that the arguments name.
+fn on_file<'a>(
+    file: Option<&'a str>,
+    task: Result<FileTask<'a>, Failure<'a>>,
+) -> Result<Task<'a>, Failure<'a>>
+    ensures { result ≡ task_on file.entry task.entry }
+{
+    match (task, file) {
+        (Ok(task), Some(file)) => Ok(Task::OnFile(file, task)),
+        (Ok(_), None) => Err(Failure::Usage(UsageError::NoFile)),
+        (Err(failure), _) => Err(failure),
+    }
 }
 
 /// The task of `check`.
@@ -108,7 +125,7 @@ fn json_check_of<'a>(ask: &'a Ask<'a>) -> Result<Task<'a>, Failure<'a>>
     }
     match ask.files.as_slice() {
         [] => Err(Failure::Usage(UsageError::NoFile)),
-        [_] => Ok(Task::CheckJson),
+        [file] => Ok(Task::OnFile(file, FileTask::CheckJson)),
         _ => Err(Failure::Usage(UsageError::JsonOfOneFile)),
     }
 }
@@ -122,7 +139,7 @@ fn where_check_of<'a>(ask: &'a Ask<'a>) -> Result<Task<'a>, Failure<'a>>
     }
     match ask.files.as_slice() {
         [] => Err(Failure::Usage(UsageError::NoFile)),
-        [_] => Ok(Task::CheckWhere),
+        [file] => Ok(Task::OnFile(file, FileTask::CheckWhere)),
         _ => Err(Failure::Usage(UsageError::WhereOfOneFile)),
     }
 }
@@ -140,12 +157,12 @@ fn text_check_of<'a>(ask: &'a Ask<'a>) -> Result<Task<'a>, Failure<'a>>
 }
 
 /// The task of `check` for one file.
-fn check_of_one(budget: Option<u64>) -> Task<'static>
-    ensures { result ≡ task_on_one budget }
+fn check_of_one<'a>(budget: Option<u64>) -> FileTask<'a>
+    ensures { result ≡ check_task budget }
 {
     match budget {
-        Some(budget) => Task::CheckWithin(budget),
-        None => Task::Print(Report::Check, Form::Text),
+        Some(budget) => FileTask::CheckWithin(budget),
+        None => FileTask::Print(Report::Check, Form::Text),
     }
 }
 
@@ -159,7 +176,7 @@ fn check_of_files<'a>(
 {
     match files {
         [] => Err(Failure::Usage(UsageError::NoFile)),
-        [_] if !quiet => Ok(check_of_one(budget)),
+        [file] if !quiet => Ok(Task::OnFile(file, check_of_one(budget))),
         _ => Ok(Task::CheckEach(budget)),
     }
 }
@@ -183,7 +200,7 @@ fn names_of(shown: bool) -> Names
 }
 
 /// The task of `show`.
-fn show_of<'a>(alloc: Global, ask: &'a Ask<'a>, form: Form) -> Result<Task<'a>, Failure<'a>>
+fn show_of<'a>(alloc: Global, ask: &'a Ask<'a>, form: Form) -> Result<FileTask<'a>, Failure<'a>>
     ensures { IsShowTask ask.now.until_fault form (names_of ask.now.names) ask.now.part result }
 {
     let names = names_of(ask.names);
@@ -202,11 +219,11 @@ fn whole_show_of<'a>(
     part: Option<&'a str>,
     names: Names,
     form: Form,
-) -> Result<Task<'a>, Failure<'a>>
+) -> Result<FileTask<'a>, Failure<'a>>
     ensures { IsOnTable (λ table. task.Print (report_of names table) form) part.entry result }
 {
     let table = table_named(alloc, part)?;
-    Ok(Task::Print(report_of(table, names), form))
+    Ok(FileTask::Print(report_of(table, names), form))
 }
 
 /// The task of `show --until-fault`.
@@ -214,11 +231,11 @@ fn until_fault_of<'a>(
     alloc: Global,
     part: Option<&'a str>,
     names: Names,
-) -> Result<Task<'a>, Failure<'a>>
+) -> Result<FileTask<'a>, Failure<'a>>
     ensures { IsOnTable (λ table. task.ShowUntilFault table names) part.entry result }
 {
     let table = table_named(alloc, part)?;
-    Ok(Task::ShowUntilFault(table, names))
+    Ok(FileTask::ShowUntilFault(table, names))
 }
 
 /// The table that the argument names; `None` if there is no argument.
@@ -236,12 +253,12 @@ fn table_named<'a>(alloc: Global, part: Option<&'a str>) -> Result<Option<TableI
 }
 
 /// The task of `outline`: print the type that the argument names, or all if there is no argument.
-fn outline_of<'a>(part: Option<&'a str>, form: Form) -> Task<'a>
+fn outline_of<'a>(part: Option<&'a str>, form: Form) -> FileTask<'a>
     ensures { IsOutlineTask form part.entry result }
 {
     match part {
-        Some(word) => Task::OutlineOf(type_named(word), form),
-        None => Task::Outline(form),
+        Some(word) => FileTask::OutlineOf(type_named(word), form),
+        None => FileTask::Outline(form),
     }
 }
 
@@ -257,7 +274,7 @@ fn type_named<'a>(word: &'a str) -> Subject<'a>
 }
 
 /// The task of `token` for these arguments: print what one token names, or what each of several names.
-fn tokens_of<'a>(alloc: Global, words: &[&'a str], form: Form) -> Result<Task<'a>, Failure<'a>>
+fn tokens_of<'a>(alloc: Global, words: &[&'a str], form: Form) -> Result<FileTask<'a>, Failure<'a>>
     ensures { IsTokensTask form words.now result }
 {
     match words {
@@ -271,19 +288,19 @@ fn several_tokens_of<'a>(
     alloc: Global,
     words: &[&'a str],
     form: Form,
-) -> Result<Task<'a>, Failure<'a>>
+) -> Result<FileTask<'a>, Failure<'a>>
     ensures { IsSeveralTask form words.now result }
 {
     let numbers = numbers_of(alloc, words)?;
-    Ok(Task::Tokens(numbers, form))
+    Ok(FileTask::Tokens(numbers, form))
 }
 
 /// The task of `token` for one argument.
-fn one_token_of<'a>(word: &'a str, form: Form) -> Result<Task<'a>, Failure<'a>>
+fn one_token_of<'a>(word: &'a str, form: Form) -> Result<FileTask<'a>, Failure<'a>>
     ensures { IsTokenTask form word.now result }
 {
     let number = token_of(word).ok_or(UsageError::NoToken(word))?;
-    Ok(Task::Print(Report::Token(number), form))
+    Ok(FileTask::Print(Report::Token(number), form))
 }
 
 /// The numbers of tokens.
@@ -308,33 +325,37 @@ fn numbers_of<'a>(alloc: Global, words: &[&'a str]) -> Result<Vec<u32>, Failure<
 }
 
 /// The task of `where` for this argument.
-fn where_of<'a>(word: &'a str, form: Form) -> Result<Task<'a>, Failure<'a>>
-    ensures { IsWhereTask form word.now result }
+fn where_of<'a>(word: Option<&'a str>, form: Form) -> Result<FileTask<'a>, Failure<'a>>
+    ensures { IsOnSecond (IsWhereTask form) word.entry result }
 {
+    let Some(word) = word else {
+        return Err(Failure::Usage(UsageError::NoFile));
+    };
     match offset_of(word) {
-        Some(offset) => Ok(Task::Where(offset, form)),
+        Some(offset) => Ok(FileTask::Where(offset, form)),
         None => Err(Failure::Usage(UsageError::NoOffset(word))),
     }
 }
 
 /// The task of `rewrite`. The standard output takes the line with the length, so it cannot be OUT.
-fn rewrite_of<'a>(out: &'a str) -> Result<Task<'a>, Failure<'a>>
+fn rewrite_of<'a>(out: Option<&'a str>) -> Result<FileTask<'a>, Failure<'a>>
     ensures { result ≡ rewrite_task out.entry }
 {
-    if out == STANDARD_OUTPUT {
-        Err(Failure::Usage(UsageError::OutputIsDash))
-    } else {
-        Ok(Task::Rewrite(out))
+    match out {
+        Some(out) if out == STANDARD_OUTPUT => Err(Failure::Usage(UsageError::OutputIsDash)),
+        Some(out) => Ok(FileTask::Rewrite(out)),
+        None => Err(Failure::Usage(UsageError::NoFile)),
     }
 }
 
-/// The task of `digest` for these files, of which there is at least one.
-fn digest_of(files: &[&str]) -> Task<'static>
+/// The task of `digest` for these files.
+fn digest_of<'a>(files: &[&'a str]) -> Result<Task<'a>, Failure<'a>>
     ensures { result ≡ digest_task files.now }
 {
     match files {
-        [_, _, ..] => Task::DigestEach,
-        _ => Task::Digest,
+        [] => Err(Failure::Usage(UsageError::NoFile)),
+        [file] => Ok(Task::OnFile(file, FileTask::Digest)),
+        _ => Ok(Task::DigestEach),
     }
 }
 
@@ -342,11 +363,13 @@ fn digest_of(files: &[&str]) -> Task<'static>
 fn comparison_of<'a>(
     alloc: Global,
     ask: &'a Ask<'a>,
-    other: &'a str,
     form: Form,
-) -> Result<Task<'a>, Failure<'a>>
-    ensures { IsCompareTask form ask.now other.entry result }
+) -> Result<FileTask<'a>, Failure<'a>>
+    ensures { IsOnSecond (IsCompareTask form ask.now) ask.now.second result }
 {
+    let Some(other) = ask.second else {
+        return Err(Failure::Usage(UsageError::NoFile));
+    };
     match columns_of(ask.ignored.as_slice()) {
         Ok(ignored) => {
             let options = CompareOptions {
@@ -354,7 +377,7 @@ fn comparison_of<'a>(
                 form,
                 ignored,
             };
-            Ok(Task::Compare(other, options))
+            Ok(FileTask::Compare(other, options))
         }
         Err(word) => Err(Failure::Usage(UsageError::NoColumn(word, nearest_column(alloc, word)))),
     }

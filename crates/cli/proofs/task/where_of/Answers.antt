@@ -1,8 +1,8 @@
 use Rattle.std.proofs.Common.{refl}
 use Rattle.cli.proofs.task.where_of.Goals as goal
 
-pub returns-in-Some : goal.returns-in-Some
-returns-in-Some c = (c.in-Some.offset, c.in-Some.ensures, refl)
+pub returns-in-Some-offset_of : goal.returns-in-Some-offset_of
+returns-in-Some-offset_of c = rw c.in-Some.is (c.in-Some-offset_of.offset, c.in-Some-offset_of.ensures, refl)
 
 pub returns-in-None : goal.returns-in-None
-returns-in-None c = (refl, c.in-None.ensures)
+returns-in-None c = rw c.in-Some.is (refl, c.in-None.ensures)
