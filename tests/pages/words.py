@@ -60,7 +60,6 @@ FIXED_IN = {
     # The method Rows::place is fixed.
     "crates/rows/": {"place"},
     # A definition of the library clap.
-    "crates/cli_arguments/proofs/": {"filled"},
 }
 # Forms of code that end with a name which is fixed there.
 FIXED_FORMS = [
