@@ -1,4 +1,3 @@
-use Rattle.std.proofs.Common.{arith}
 use Rattle.table_schema.specs.CellColumns.{cell_columns}
 use Rattle.cli.proofs.nearest_type.names_at.Goals as goal
 

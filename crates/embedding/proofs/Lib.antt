@@ -1,0 +1,4 @@
+pub mod Parts
+pub mod Words
+pub mod Kept
+pub mod Headers
