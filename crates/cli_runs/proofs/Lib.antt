@@ -1,0 +1,6 @@
+pub mod Comparing
+pub mod NamesListed
+pub mod Printings
+pub mod Reporting
+pub mod Rewritings
+pub mod Running
